@@ -1,0 +1,118 @@
+-- Bytes of a file, spans of them, and functions of bytes.
+use Rattle.std.specs.Prelude.{◌≡◌, ◌≢◌, ℕ, zero, suc, pred, ◌+◌, ◌-◌, ◌≤◌, ◌<◌, Bool, true, false, not, ◌&&◌, nat_le, if◌then◌else◌, Option, Some, None, IsSome}
+use Rattle.intervals.specs.Search.{first, all_pass}
+
+-- the greatest offset of a byte
+abbrev pub greatest : ℕ
+greatest = 9223372036854775807
+
+-- consecutive bytes, both ends included
+pub record Range : Type 0 where
+  pub lo : ℕ
+  pub hi : ℕ
+
+-- every byte of a file
+abbrev pub whole : Range
+whole = record { lo = 0; hi = greatest }
+
+-- the byte is one of the span
+abbrev pub is_in : Range → ℕ → Bool
+is_in s b = nat_le s.lo b && nat_le b s.hi
+
+-- how many bytes the span has
+abbrev pub size : Range → ℕ
+size s = s.hi + 1 - s.lo
+
+-- no byte has a value
+abbrev pub nothing : {V : Type 0} → ℕ → Option V
+nothing b = None
+
+-- f, but v at each byte of the span
+abbrev pub put : {V : Type 0} → (ℕ → Option V) → Range → Option V → ℕ → Option V
+put f s v b = if is_in s b then v else f b
+
+-- f has v at each byte of the span
+abbrev pub AllAre : {V : Type 0} → (ℕ → Option V) → Range → Option V → Type 0
+AllAre f s v = (b : ℕ) → s.lo ≤ b → b ≤ s.hi → f b ≡ v
+
+-- x is the value v
+abbrev pub has : {V : Type 0} → (V → V → Bool) → V → Option V → Bool
+has same v None = false
+has same v (Some w) = same w v
+
+-- a run of v begins at a byte whose neighbour below has x
+abbrev pub begins_after : {V : Type 0} → (V → V → Bool) → Option V → Option V → Bool
+begins_after same x None = false
+begins_after same x (Some v) = not (has same v x)
+
+-- a longest run of bytes with one value begins at the byte
+unfoldable pub is_start : {V : Type 0} → (V → V → Bool) → (ℕ → Option V) → ℕ → Bool
+is_start same f zero = begins_after same None (f zero)
+is_start same f (suc b) = begins_after same (f b) (f (suc b))
+
+-- how many begin below byte n. Not to be unfolded: the count goes byte by byte
+unfoldable pub starts_below : {V : Type 0} → (V → V → Bool) → (ℕ → Option V) → ℕ → ℕ
+starts_below same f zero = 0
+starts_below same f (suc n) = starts_below same f n + (if is_start same f n then 1 else 0)
+
+-- how many bytes a file can have: one more than the greatest offset
+unfoldable pub all_bytes : ℕ
+all_bytes = 9223372036854775808
+
+-- how many longest runs f has
+abbrev pub number_of_runs : {V : Type 0} → (V → V → Bool) → (ℕ → Option V) → ℕ
+number_of_runs same f = starts_below same f all_bytes
+
+-- the bytes from lo up to the last that still has v
+abbrev pub run_from : {V : Type 0} → (V → V → Bool) → (ℕ → Option V) → ℕ → V → Range
+run_from same f lo v = record { lo = lo; hi = pred (first (λ b. not (has same v (f b))) (lo + 1) (greatest - lo)) }
+
+-- the span is a longest run of bytes that have v
+pub record IsRun {V : Type 0} (f : ℕ → Option V) (s : Range) (v : V) : Type 0 where
+  pub ordered : s.lo ≤ s.hi
+  pub all : AllAre f s (Some v)
+  pub begins : (b : ℕ) → b + 1 ≡ s.lo → f b ≢ Some v
+  pub ends : f (s.hi + 1) ≢ Some v
+
+-- byte b has the barred value, or any value where none is named
+abbrev pub IsBarred : {V : Type 0} → (ℕ → Option V) → Option V → ℕ → Type 0
+IsBarred f None b = IsSome (f b)
+IsBarred f (Some v) b = f b ≡ Some v
+
+-- P holds at no byte of the span
+abbrev pub NoneIn : (ℕ → Type 0) → Range → Type 0
+NoneIn P s = (b : ℕ) → s.lo ≤ b → b ≤ s.hi → P b → ⊥
+
+-- b is the first byte of the span at which P holds
+pub record IsFirstIn (P : ℕ → Type 0) (s : Range) (b : ℕ) : Type 0 where
+  pub above : s.lo ≤ b
+  pub below : b ≤ s.hi
+  pub here : P b
+  pub none_before : (c : ℕ) → s.lo ≤ c → c < b → P c → ⊥
+
+-- the span contains `required`, lies in `within`, has no byte at which P holds, and grows at neither end
+pub record IsLargest (P : ℕ → Type 0) (required within s : Range) : Type 0 where
+  pub has_first : s.lo ≤ required.lo
+  pub has_last : required.hi ≤ s.hi
+  pub starts_within : within.lo ≤ s.lo
+  pub ends_within : s.hi ≤ within.hi
+  pub free : NoneIn P s
+  pub full_below : (b : ℕ) → b + 1 ≡ s.lo → within.lo ≤ b → P b
+  pub full_above : s.hi < within.hi → P (s.hi + 1)
+
+-- the largest span that contains `required`, lies in `within` and has no barred byte, found by search; `required` itself has none and lies there
+abbrev pub largest_around : (ℕ → Bool) → Range → Range → Range
+largest_around barred required within = record {
+  lo = first (λ l. all_pass (λ b. not (barred b)) l (required.lo - l)) within.lo (required.lo - within.lo);
+  hi = pred (first barred (required.hi + 1) (within.hi - required.hi));
+}
+
+-- what `largest_around` gives
+abbrev pub LargestIsLargest : Type 0
+LargestIsLargest =
+    (barred : ℕ → Bool) (required within : Range)
+    → required.lo ≤ required.hi
+    → within.lo ≤ required.lo
+    → required.hi ≤ within.hi
+    → NoneIn (λ b. barred b ≡ true) required
+    → IsLargest (λ b. barred b ≡ true) required within (largest_around barred required within)

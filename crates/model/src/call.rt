@@ -1,0 +1,22 @@
+//! Names of calls.
+use std::marker::Model;
+
+/// A call, by its node (1 to 64), the node's incarnation (from 1) and its number there (from 1).
+#[derive(Clone, Copy, Debug, PartialEq, Eq)]
+pub struct CallId {
+    pub node: u8,
+    pub incarnation: u16,
+    pub number: u32,
+}
+
+impl Model for CallId {
+    ghost use Rattle.model.specs.Limits.{CallFields, IsCall};
+
+    ghost Value = { CallFields };
+
+    ghost view = { λ c. record { node = c.node; incarnation = c.incarnation; number = c.number } };
+
+    ghost invariant = { λ c. IsCall (record { node = c.node; incarnation = c.incarnation; number = c.number }) };
+
+    ghost inverse = { λ c. record { node = c.node; incarnation = c.incarnation; number = c.number } };
+}

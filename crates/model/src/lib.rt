@@ -1,0 +1,12 @@
+//! The words of lock calls, and the one table that a single machine would keep.
+#![tactic(auto)]
+
+pub mod access;
+pub mod call;
+pub mod lock_info;
+pub mod mode;
+pub mod op;
+pub mod opened;
+pub mod owner;
+pub mod process;
+pub mod reply;

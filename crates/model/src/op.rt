@@ -1,0 +1,28 @@
+//! Operations.
+use crate::access::Access;
+use crate::mode::Mode;
+use crate::owner::Kind;
+
+/// What a process asks for.
+#[derive(Clone, Copy, Debug, PartialEq, Eq)]
+pub enum Op {
+    /// The process begins.
+    Spawn,
+    /// A descriptor of a file.
+    Open { file: u16, access: Access },
+    /// A lock on a segment, at once or not at all (POSIX.1-2017 `fcntl()`, F_SETLK).
+    Set {
+        fd: u8,
+        kind: Kind,
+        mode: Mode,
+        start: i64,
+        len: i64,
+    },
+    /// No lock on a segment (POSIX.1-2017 `fcntl()`, F_SETLK with F_UNLCK).
+    Unlock {
+        fd: u8,
+        kind: Kind,
+        start: i64,
+        len: i64,
+    },
+}

@@ -1,0 +1,24 @@
+//! Processes.
+use std::marker::Model;
+
+/// A process, by its node, the node's incarnation and its number there: nodes from 1 to 64,
+/// incarnations from 1, process numbers from 1 to 256.
+#[derive(Clone, Copy, Debug, PartialEq, Eq)]
+pub struct Process {
+    pub node: u8,
+    pub incarnation: u16,
+    pub pid: u16,
+}
+
+impl Model for Process {
+    ghost use Rattle.std.specs.Prelude.{◌≤◌};
+    ghost use Rattle.model.specs.Limits.{ProcessFields, IsProcess};
+
+    ghost Value = { ProcessFields };
+
+    ghost view = { λ p. record { node = p.node; incarnation = p.incarnation; pid = p.pid } };
+
+    ghost invariant = { λ p. IsProcess (record { node = p.node; incarnation = p.incarnation; pid = p.pid }) };
+
+    ghost inverse = { λ p. record { node = p.node; incarnation = p.incarnation; pid = p.pid } };
+}
