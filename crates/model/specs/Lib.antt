@@ -1,1 +1,6 @@
 pub mod Limits
+pub mod Owners
+pub mod Locks
+pub mod Descriptors
+pub mod Table
+pub mod Step

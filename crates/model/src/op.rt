@@ -9,7 +9,10 @@ pub enum Op {
     /// The process begins.
     Spawn,
     /// A descriptor of a file.
-    Open { file: u16, access: Access },
+    Open {
+        file: u16,
+        access: Access,
+    },
     /// A lock on a segment, at once or not at all (POSIX.1-2017 `fcntl()`, F_SETLK).
     Set {
         fd: u8,

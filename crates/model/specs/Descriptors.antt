@@ -1,0 +1,59 @@
+-- Processes of one node and their descriptors.
+use Rattle.std.specs.Prelude.{ℕ, Bool, true, false, not, ◌&&◌, ◌==◌, nat_lt, if◌then◌else◌, Option, Some, None, is_none, Result, Ok, Err}
+use Rattle.intervals.specs.Search.{first, some_passes}
+use Rattle.model.specs.declared.access.Access.{Access}
+use Rattle.model.specs.declared.opened.Opened.{Opened}
+use Rattle.model.specs.declared.reply.Reply.{Reply}
+use Rattle.model.specs.declared.reply.Reply.TheVariants.{Done, Fd, NoProcess, Exists, TooManyFiles}
+use Rattle.model.specs.Limits.{most_processes, most_descriptors, most_descriptions}
+
+-- which processes run on a node in one incarnation, and what each of their descriptors refers to
+pub record Processes : Type 0 where
+  pub runs : ℕ → Bool
+  pub opened : ℕ → ℕ → Option Opened
+
+abbrev pub no_processes : Processes
+no_processes = record { runs = λ pid. false; opened = λ pid fd. None }
+
+-- the process runs, or not, with these descriptors
+abbrev pub with_process : Processes → ℕ → Bool → (ℕ → Option Opened) → Processes
+with_process ps pid runs fds = record {
+  runs = λ q. if q == pid then runs else ps.runs q;
+  opened = λ q fd. if q == pid then fds fd else ps.opened q fd;
+}
+
+-- the descriptor refers to this, or to nothing
+abbrev pub with_descriptor : Processes → ℕ → ℕ → Option Opened → Processes
+with_descriptor ps pid fd o = record ps { opened = λ q k. if (q == pid) && (k == fd) then o else ps.opened q k }
+
+-- POSIX.1-2017 open(): the lowest descriptor that is free, or 64 where none is
+abbrev pub lowest_fd : Processes → ℕ → ℕ
+lowest_fd ps pid = first (λ fd. is_none (ps.opened pid fd)) 0 most_descriptors
+
+-- what the descriptor refers to is this description
+abbrev pub is_of : ℕ → Option Opened → Bool
+is_of d None = false
+is_of d (Some o) = o.description == d
+
+-- some process of the node has a descriptor of the description
+abbrev pub is_open : Processes → ℕ → Bool
+is_open ps d = some_passes (λ pid. some_passes (λ fd. is_of d (ps.opened pid fd)) 0 most_descriptors) 1 most_processes
+
+-- the lowest number, from 1, that no open description of the node has. While a process has a free descriptor there is one up to 16,384
+abbrev pub lowest_description : Processes → ℕ
+lowest_description ps = first (λ d. not (is_open ps d)) 1 most_descriptions
+
+-- a process begins, with no descriptors
+abbrev pub after_spawn : Processes → ℕ → Result (Processes × Reply) Reply
+after_spawn ps pid = if ps.runs pid then Err Exists else Ok (with_process ps pid true (λ fd. None), Done)
+
+-- the lowest free descriptor gets to refer to this, if there is one
+abbrev pub on_lowest_fd : Processes → ℕ → Opened → ℕ → Result (Processes × Reply) Reply
+on_lowest_fd ps pid o fd = if nat_lt fd most_descriptors then Ok (with_descriptor ps pid fd (Some o), Fd fd) else Err TooManyFiles
+
+-- POSIX.1-2017 open(): a new description on the lowest free descriptor
+abbrev pub after_open : Processes → ℕ → ℕ → Access → Result (Processes × Reply) Reply
+after_open ps pid file access =
+    if ps.runs pid
+    then on_lowest_fd ps pid (record { file = file; description = lowest_description ps; access = access }) (lowest_fd ps pid)
+    else Err NoProcess

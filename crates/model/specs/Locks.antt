@@ -1,0 +1,76 @@
+-- Locks of files: what each owner holds at each byte.
+use Rattle.std.specs.Prelude.{◌≡◌, ◌≢◌, ℕ, ◌≤◌, ◌<◌, ◌⊎◌, Bool, true, false, ◌&&◌, ◌==◌, if◌then◌else◌, Option, Some, None}
+use Rattle.std.specs.declared.cmp.Ordering.TheVariants.{Greater}
+use Rattle.intervals.specs.Bytes.{Range, nothing, put, number_of_runs, IsRun}
+use Rattle.model.specs.declared.mode.Mode.{Mode}
+use Rattle.model.specs.declared.mode.Mode.TheVariants.{Read, Write}
+use Rattle.model.specs.declared.owner.Owner.{Owner}
+use Rattle.model.specs.declared.lock_info.LockInfo.{LockInfo}
+use Rattle.model.specs.Owners.{same_mode, same_owner, owner_cmp}
+
+-- of one file: what each owner holds at each byte
+abbrev pub FileLocks : Type 0
+FileLocks = Owner → ℕ → Option Mode
+
+-- of each file
+abbrev pub Locks : Type 0
+Locks = ℕ → FileLocks
+
+abbrev pub no_locks : Locks
+no_locks file owner = nothing
+
+-- the locks, but for one owner and file these bytes
+abbrev pub replace : Locks → ℕ → Owner → (ℕ → Option Mode) → Locks
+replace h file owner bytes f o = if (file == f) && same_owner owner o then bytes else h f o
+
+-- the owner's bytes of the span get the mode, or are freed
+abbrev pub with_lock : Locks → ℕ → Owner → Range → Option Mode → Locks
+with_lock h file owner s mode = replace h file owner (put (h file owner) s mode)
+
+-- the owner holds nothing of the file
+abbrev pub without_owner : Locks → ℕ → Owner → Locks
+without_owner h file owner = replace h file owner nothing
+
+-- the owner holds nothing of any file
+abbrev pub without_owner_anywhere : Locks → Owner → Locks
+without_owner_anywhere h owner f o = if same_owner owner o then nothing else h f o
+
+-- how many regions an owner has
+abbrev pub regions : (ℕ → Option Mode) → ℕ
+regions bytes = number_of_runs same_mode bytes
+
+-- POSIX.1-2017 fcntl(): read locks share a byte, a write lock shares with none
+abbrev pub excludes : Mode → Mode → Bool
+excludes Read Read = false
+excludes Read Write = true
+excludes Write mode = true
+
+-- a byte with this lock is barred to the mode
+abbrev pub bars : Mode → Option Mode → Bool
+bars mode None = false
+bars mode (Some held) = excludes held mode
+
+-- no other owner's lock on the span excludes the mode
+abbrev pub IsFree : FileLocks → Owner → Range → Mode → Type 0
+IsFree h owner s mode = (other : Owner) (b : ℕ) → other ≢ owner → s.lo ≤ b → b ≤ s.hi → bars mode (h other b) ≡ false
+
+-- the lock is a region of its owner
+abbrev pub IsRegion : FileLocks → LockInfo → Type 0
+IsRegion h lock = IsRun (h lock.owner) lock.span lock.mode
+
+-- the lock is a region of another owner, and reaches into the span in a mode that excludes the other
+pub record Blocks (h : FileLocks) (owner : Owner) (s : Range) (mode : Mode) (lock : LockInfo) : Type 0 where
+  pub is_other : lock.owner ≢ owner
+  pub region : IsRegion h lock
+  pub conflicts : excludes lock.mode mode ≡ true
+  pub starts : lock.span.lo ≤ s.hi
+  pub ends : s.lo ≤ lock.span.hi
+
+-- a lock comes before or is the other: by first byte, then by owner
+abbrev pub IsNotAfter : LockInfo → LockInfo → Type 0
+IsNotAfter a b = (a.span.lo < b.span.lo) ⊎ ((a.span.lo ≡ b.span.lo) × (owner_cmp a.owner b.owner ≢ Greater))
+
+-- of the locks that block, the one that comes before the others
+pub record IsLowestBlocker (h : FileLocks) (owner : Owner) (s : Range) (mode : Mode) (lock : LockInfo) : Type 0 where
+  pub blocks : Blocks h owner s mode lock
+  pub lowest : (other : LockInfo) → Blocks h owner s mode other → IsNotAfter lock other

@@ -1,0 +1,43 @@
+-- Who may hold a lock, and in which order owners stand.
+use Rattle.std.specs.Prelude.{ℕ, Bool, true, false, ◌&&◌, ◌==◌}
+use Rattle.std.specs.declared.cmp.Ordering.{Ordering}
+use Rattle.std.specs.declared.cmp.Ordering.TheVariants.{Less, Equal, Greater}
+use Rattle.std.specs.Ordering.{nat_cmp, ordering_then}
+use Rattle.model.specs.declared.mode.Mode.{Mode}
+use Rattle.model.specs.declared.mode.Mode.TheVariants.{Read, Write}
+use Rattle.model.specs.declared.owner.Kind.{Kind}
+use Rattle.model.specs.declared.owner.Kind.TheVariants.{OfProcess, OfDescription}
+use Rattle.model.specs.declared.owner.Owner.{Owner}
+use Rattle.model.specs.declared.process.Process.{Process}
+
+abbrev pub same_mode : Mode → Mode → Bool
+same_mode Read Read = true
+same_mode Write Write = true
+same_mode _ _ = false
+
+abbrev pub same_kind : Kind → Kind → Bool
+same_kind OfProcess OfProcess = true
+same_kind OfDescription OfDescription = true
+same_kind _ _ = false
+
+abbrev pub same_owner : Owner → Owner → Bool
+same_owner a b = (a.node == b.node) && ((a.incarnation == b.incarnation) && (same_kind a.kind b.kind && (a.number == b.number)))
+
+-- the process as an owner of locks
+abbrev pub process_owner : Process → Owner
+process_owner p = record { node = p.node; incarnation = p.incarnation; kind = OfProcess; number = p.pid }
+
+-- Linux fcntl(2), F_OFD_SETLK: an open file description of the process's node owns locks of its own
+abbrev pub description_owner : Process → ℕ → Owner
+description_owner p d = record { node = p.node; incarnation = p.incarnation; kind = OfDescription; number = d }
+
+-- processes come before descriptions
+abbrev pub kind_cmp : Kind → Kind → Ordering
+kind_cmp OfProcess OfProcess = Equal
+kind_cmp OfProcess OfDescription = Less
+kind_cmp OfDescription OfProcess = Greater
+kind_cmp OfDescription OfDescription = Equal
+
+-- owners stand by node, by incarnation, processes before descriptions, and by number
+abbrev pub owner_cmp : Owner → Owner → Ordering
+owner_cmp a b = ordering_then (nat_cmp a.node b.node) (ordering_then (nat_cmp a.incarnation b.incarnation) (ordering_then (kind_cmp a.kind b.kind) (nat_cmp a.number b.number)))

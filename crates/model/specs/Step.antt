@@ -1,0 +1,38 @@
+-- What a single machine's fcntl() may answer, and what it then leaves.
+use Rattle.std.specs.Prelude.{◌≡◌, Result, Ok, Err, Some, None}
+use Rattle.model.specs.declared.mode.Mode.{Mode}
+use Rattle.model.specs.declared.process.Process.{Process}
+use Rattle.model.specs.declared.op.Op.{Op}
+use Rattle.model.specs.declared.op.Op.TheVariants.{Spawn, Open, Set, Unlock}
+use Rattle.model.specs.declared.reply.Reply.{Reply}
+use Rattle.model.specs.declared.reply.Reply.TheVariants.{Done, Again, NoLocks}
+use Rattle.model.specs.Locks.{IsFree, Blocks}
+use Rattle.model.specs.Descriptors.{after_spawn, after_open}
+use Rattle.model.specs.Table.{Table, Target, around, beside, target, lock_within, after_unlock}
+
+-- the answer and the new table are these
+abbrev pub Is : Table × Reply → Reply → Table → Type 0
+Is answer reply new = (reply ≡ answer.1) × (new ≡ answer.0)
+
+-- no other owner blocks the call
+abbrev pub Unblocked : Table → Target → Mode → Type 0
+Unblocked t c mode = IsFree (t.locks c.file) c.owner c.span mode
+
+-- the first test that fails decides; if none does, the call may be answered so
+abbrev pub AfterTests : Table → Result Target Reply → Reply → Table → (Target → Type 0) → Type 0
+AfterTests old (Err refusal) reply new Answer = Is (old, refusal) reply new
+AfterTests old (Ok c) reply new Answer = Answer c
+
+-- POSIX.1-2017 fcntl(), F_SETLK: where a lock of another owner blocks, one such lock is named; else the bytes are set
+abbrev pub SetStep : Table → Mode → Reply → Table → Target → Type 0
+SetStep old mode (Again lock) new c = Blocks (old.locks c.file) c.owner c.span mode lock × (new ≡ old)
+SetStep old mode Done new c = Unblocked old c mode × Is (lock_within old c (Some mode)) Done new
+SetStep old mode NoLocks new c = Unblocked old c mode × Is (lock_within old c (Some mode)) NoLocks new
+SetStep old mode _ new c = ⊥
+
+-- from the old table the call of the process may get this reply and leave the new one
+abbrev pub Step : Table → Process → Op → Reply → Table → Type 0
+Step old p Spawn reply new = Is (beside old p (after_spawn (around old p) p.pid)) reply new
+Step old p (Open file access) reply new = Is (beside old p (after_open (around old p) p.pid file access)) reply new
+Step old p (Set fd kind mode start len) reply new = AfterTests old (target old p (Some mode) fd kind start len) reply new (SetStep old mode reply new)
+Step old p (Unlock fd kind start len) reply new = Is (after_unlock old (target old p None fd kind start len)) reply new

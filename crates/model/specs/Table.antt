@@ -1,0 +1,136 @@
+-- The one table: who runs, what is open, and which byte is locked by whom.
+use Rattle.std.specs.Prelude.{ℕ, zero, suc, Bool, true, false, ◌&&◌, ◌==◌, nat_le, if◌then◌else◌, Option, Some, None, Result, Ok, Err, ℤ}
+use Rattle.intervals.specs.declared.span.SpanError.{SpanError}
+use Rattle.intervals.specs.declared.span.SpanError.TheVariants.{Invalid, Overflow}
+use Rattle.intervals.specs.Bytes.{Range, put}
+use Rattle.intervals.specs.Segment.{seg}
+use Rattle.model.specs.declared.mode.Mode.{Mode}
+use Rattle.model.specs.declared.mode.Mode.TheVariants.{Read, Write}
+use Rattle.model.specs.declared.owner.Kind.{Kind}
+use Rattle.model.specs.declared.owner.Kind.TheVariants.{OfProcess, OfDescription}
+use Rattle.model.specs.declared.owner.Owner.{Owner}
+use Rattle.model.specs.declared.access.Access.{Access}
+use Rattle.model.specs.declared.access.Access.TheVariants.{ReadOnly, WriteOnly, ReadWrite}
+use Rattle.model.specs.declared.process.Process.{Process}
+use Rattle.model.specs.declared.opened.Opened.{Opened}
+use Rattle.model.specs.declared.reply.Reply.{Reply}
+use Rattle.model.specs.declared.reply.Reply.TheVariants.{Done, NoProcess, BadFd, NoLocks, Invalid as InvalidReply, Overflow as OverflowReply}
+use Rattle.model.specs.Limits.{most_processes, most_descriptors, most_regions}
+use Rattle.model.specs.Owners.{process_owner, description_owner}
+use Rattle.model.specs.Locks.{Locks, no_locks, with_lock, without_owner, without_owner_anywhere, regions}
+use Rattle.model.specs.Descriptors.{Processes, no_processes, with_process, with_descriptor, is_open}
+
+-- the processes of each node in each incarnation, and the locks of each file
+pub record Table : Type 0 where
+  pub on : ℕ → ℕ → Processes
+  pub locks : Locks
+
+abbrev pub empty_table : Table
+empty_table = record { on = λ node incarnation. no_processes; locks = no_locks }
+
+-- the processes beside which this one runs
+abbrev pub around : Table → Process → Processes
+around t p = t.on p.node p.incarnation
+
+abbrev pub is_running : Table → Process → Bool
+is_running t p = (around t p).runs p.pid
+
+abbrev pub descriptor : Table → Process → ℕ → Option Opened
+descriptor t p fd = (around t p).opened p.pid fd
+
+-- the table, but these processes on that node
+abbrev pub with_processes : Table → Process → Processes → Table
+with_processes t p ps = record t { on = λ n i. if (n == p.node) && (i == p.incarnation) then ps else t.on n i }
+
+-- a call that concerns processes and descriptors alone: a refusal leaves the table as it was
+abbrev pub beside : Table → Process → Result (Processes × Reply) Reply → Table × Reply
+beside t p (Ok answer) = (with_processes t p answer.0, answer.1)
+beside t p (Err refusal) = (t, refusal)
+
+-- POSIX.1-2017 fcntl(): a read lock needs a descriptor open for reading, a write lock one open for writing
+abbrev pub permits : Access → Mode → Bool
+permits ReadOnly Read = true
+permits ReadOnly Write = false
+permits WriteOnly Read = false
+permits WriteOnly Write = true
+permits ReadWrite mode = true
+
+-- what a lock call needs the descriptor to be open for, if anything
+abbrev pub allows : Access → Option Mode → Bool
+allows access None = true
+allows access (Some mode) = permits access mode
+
+abbrev pub owner_of : Process → Kind → Opened → Owner
+owner_of p OfProcess o = process_owner p
+owner_of p OfDescription o = description_owner p o.description
+
+-- what a lock call is about: a file, the owner of the lock, and the bytes
+pub record Target : Type 0 where
+  pub file : ℕ
+  pub owner : Owner
+  pub span : Range
+
+-- a bad descriptor is told before a bad segment, and that before a descriptor that is not open for the mode
+abbrev pub target_at : Process → Option Mode → Kind → Option Opened → Result Range SpanError → Result Target Reply
+target_at p need kind None segment = Err BadFd
+target_at p need kind (Some o) (Err Invalid) = Err InvalidReply
+target_at p need kind (Some o) (Err Overflow) = Err OverflowReply
+target_at p need kind (Some o) (Ok span) = if allows o.access need then Ok (record { file = o.file; owner = owner_of p kind o; span = span }) else Err BadFd
+
+-- what a lock call is about, or the first of its tests that fails: the process, the descriptor, the segment, the open mode
+abbrev pub target : Table → Process → Option Mode → ℕ → Kind → ℤ → ℤ → Result Target Reply
+target t p need fd kind start len = if is_running t p then target_at p need kind (descriptor t p fd) (seg start len) else Err NoProcess
+
+-- how many regions the owner would have with the bytes set to the mode, or freed
+abbrev pub regions_with : Table → Target → Option Mode → ℕ
+regions_with t c mode = regions (put (t.locks c.file c.owner) c.span mode)
+
+-- the table with these bytes set or freed
+abbrev pub locked : Table → Target → Option Mode → Table
+locked t c mode = record t { locks = with_lock t.locks c.file c.owner c.span mode }
+
+-- the bytes are set or freed, unless the owner would have too many regions
+abbrev pub lock_within : Table → Target → Option Mode → Table × Reply
+lock_within t c mode = if nat_le (regions_with t c mode) most_regions then (locked t c mode, Done) else (t, NoLocks)
+
+abbrev pub after_unlock : Table → Result Target Reply → Table × Reply
+after_unlock t (Err refusal) = (t, refusal)
+after_unlock t (Ok c) = lock_within t c None
+
+-- Linux fcntl(2): the last close of a description drops its locks
+abbrev pub after_last_close : Table → Process → ℕ → Table
+after_last_close t p d = if is_open (around t p) d then t else record t { locks = without_owner_anywhere t.locks (description_owner p d) }
+
+-- POSIX.1-2017 close(), fcntl(): the descriptor goes, and all locks of the process on that file, whichever descriptor made them
+abbrev pub closed : Table → Process → ℕ → Opened → Table
+closed t p fd o =
+    after_last_close (record (with_processes t p (with_descriptor (around t p) p.pid fd None)) { locks = without_owner t.locks o.file (process_owner p) }) p o.description
+
+abbrev pub closed_if : Table → Process → ℕ → Option Opened → Table
+closed_if t p fd None = t
+closed_if t p fd (Some o) = closed t p fd o
+
+-- the descriptors below n are closed, one after the other
+unfoldable pub closed_below : Table → Process → ℕ → Table
+closed_below t p zero = t
+closed_below t p (suc n) =
+    let before = closed_below t p n in
+    closed_if before p n (descriptor before p n)
+
+-- POSIX.1-2017 _exit(): every descriptor is closed, and the process goes
+abbrev pub exited : Table → Process → Table
+exited t p =
+    let shut = closed_below t p most_descriptors in
+    with_processes shut p (with_process (around shut p) p.pid false (λ fd. None))
+
+abbrev pub exited_if : Table → Process → Table
+exited_if t p = if is_running t p then exited t p else t
+
+-- the processes of the node with numbers up to n exit, one after the other
+unfoldable pub exited_to : Table → ℕ → ℕ → ℕ → Table
+exited_to t node incarnation zero = t
+exited_to t node incarnation (suc n) = exited_if (exited_to t node incarnation n) (record { node = node; incarnation = incarnation; pid = suc n })
+
+-- the node fails: every process of that incarnation exits
+abbrev pub gone : Table → ℕ → ℕ → Table
+gone t node incarnation = exited_to t node incarnation most_processes
