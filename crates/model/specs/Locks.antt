@@ -1,12 +1,13 @@
 -- Locks of files: what each owner holds at each byte.
-use Rattle.std.specs.Prelude.{◌≡◌, ◌≢◌, ℕ, ◌≤◌, ◌<◌, ◌⊎◌, Bool, true, false, ◌&&◌, ◌==◌, if◌then◌else◌, Option, Some, None}
+use Rattle.std.specs.Prelude.{◌≡◌, ◌≢◌, ℕ, ◌≤◌, ◌<◌, ◌+◌, ◌⊎◌, Bool, true, false, not, ◌&&◌, ◌==◌, nat_le, if◌then◌else◌, Option, Some, None, MatchOption}
 use Rattle.std.specs.declared.cmp.Ordering.TheVariants.{Greater}
-use Rattle.intervals.specs.Bytes.{Range, nothing, put, number_of_runs, IsRun}
+use Rattle.intervals.specs.Search.{first_answer}
+use Rattle.intervals.specs.Bytes.{Range, greatest, nothing, put, is_start, number_of_runs, run_from, IsRun}
 use Rattle.model.specs.declared.mode.Mode.{Mode}
 use Rattle.model.specs.declared.mode.Mode.TheVariants.{Read, Write}
 use Rattle.model.specs.declared.owner.Owner.{Owner}
 use Rattle.model.specs.declared.lock_info.LockInfo.{LockInfo}
-use Rattle.model.specs.Owners.{same_mode, same_owner, owner_cmp}
+use Rattle.model.specs.Owners.{same_mode, same_owner, owner_cmp, owner_at, most_owners}
 
 -- of one file: what each owner holds at each byte
 abbrev pub FileLocks : Type 0
@@ -74,3 +75,35 @@ IsNotAfter a b = (a.span.lo < b.span.lo) ⊎ ((a.span.lo ≡ b.span.lo) × (owne
 pub record IsLowestBlocker (h : FileLocks) (owner : Owner) (s : Range) (mode : Mode) (lock : LockInfo) : Type 0 where
   pub blocks : Blocks h owner s mode lock
   pub lowest : (other : LockInfo) → Blocks h owner s mode other → IsNotAfter lock other
+
+-- the region of the owner that begins at byte lo with this mode, if it reaches into the span and excludes the other mode
+abbrev pub region_at : FileLocks → Range → Mode → Owner → ℕ → Option Mode → Option LockInfo
+region_at h s mode owner lo None = None
+region_at h s mode owner lo (Some held) =
+    let run = run_from same_mode (h owner) lo held in
+    if excludes held mode && (is_start same_mode (h owner) lo && nat_le s.lo run.hi)
+    then Some (record { owner = owner; mode = held; span = run })
+    else None
+
+-- the same, if it is another owner's
+abbrev pub blocking_at : FileLocks → Owner → Range → Mode → ℕ → Owner → Option LockInfo
+blocking_at h owner s mode lo other = if same_owner other owner then None else region_at h s mode other lo (h other lo)
+
+-- of the regions of the owner's node that block, the lowest: by first byte, then by owner
+unfoldable pub lowest_blocker : FileLocks → Owner → Range → Mode → Option LockInfo
+lowest_blocker h owner s mode =
+    first_answer (λ lo. first_answer (λ k. blocking_at h owner s mode lo (owner_at owner.node owner.incarnation k)) 0 most_owners) 0 (s.hi + 1)
+
+-- only this node has locks in the file, of owners that it can have, and none past the greatest offset
+pub record IsOfNode (h : FileLocks) (node incarnation : ℕ) : Type 0 where
+  pub is_own : (o : Owner) (b : ℕ) (mode : Mode) → h o b ≡ Some mode → (k : ℕ) × (k < most_owners) × (o ≡ owner_at node incarnation k)
+  pub ends : (o : Owner) (b : ℕ) → greatest < b → h o b ≡ None
+
+-- what `lowest_blocker` gives
+abbrev pub LowestIsLowest : Type 0
+LowestIsLowest =
+    (h : FileLocks) (owner : Owner) (s : Range) (mode : Mode)
+    → IsOfNode h owner.node owner.incarnation
+    → s.lo ≤ s.hi
+    → s.hi ≤ greatest
+    → MatchOption (lowest_blocker h owner s mode) (IsFree h owner s mode) (IsLowestBlocker h owner s mode)

@@ -1,5 +1,5 @@
 -- Who may hold a lock, and in which order owners stand.
-use Rattle.std.specs.Prelude.{ℕ, Bool, true, false, ◌&&◌, ◌==◌}
+use Rattle.std.specs.Prelude.{ℕ, ◌+◌, ◌-◌, Bool, true, false, ◌&&◌, ◌==◌, nat_lt, if◌then◌else◌}
 use Rattle.std.specs.declared.cmp.Ordering.{Ordering}
 use Rattle.std.specs.declared.cmp.Ordering.TheVariants.{Less, Equal, Greater}
 use Rattle.std.specs.Ordering.{nat_cmp, ordering_then}
@@ -9,6 +9,7 @@ use Rattle.model.specs.declared.owner.Kind.{Kind}
 use Rattle.model.specs.declared.owner.Kind.TheVariants.{OfProcess, OfDescription}
 use Rattle.model.specs.declared.owner.Owner.{Owner}
 use Rattle.model.specs.declared.process.Process.{Process}
+use Rattle.model.specs.Limits.{most_processes}
 
 abbrev pub same_mode : Mode → Mode → Bool
 same_mode Read Read = true
@@ -41,3 +42,14 @@ kind_cmp OfDescription OfDescription = Equal
 -- owners stand by node, by incarnation, processes before descriptions, and by number
 abbrev pub owner_cmp : Owner → Owner → Ordering
 owner_cmp a b = ordering_then (nat_cmp a.node b.node) (ordering_then (nat_cmp a.incarnation b.incarnation) (ordering_then (kind_cmp a.kind b.kind) (nat_cmp a.number b.number)))
+
+-- how many owners a node can have in one incarnation
+abbrev pub most_owners : ℕ
+most_owners = 16640
+
+-- the owner at the k-th place of the order of a node's owners, the first being 0
+abbrev pub owner_at : ℕ → ℕ → ℕ → Owner
+owner_at node incarnation k =
+    if nat_lt k most_processes
+    then record { node = node; incarnation = incarnation; kind = OfProcess; number = k + 1 }
+    else record { node = node; incarnation = incarnation; kind = OfDescription; number = k + 1 - most_processes }

@@ -3,10 +3,12 @@
 
 pub mod access;
 pub mod call;
+pub mod level;
 pub mod lock_info;
 pub mod mode;
 pub mod op;
 pub mod opened;
 pub mod owner;
+pub mod policy;
 pub mod process;
 pub mod reply;

@@ -1,0 +1,24 @@
+-- Entries of the journal.
+use Rattle.std.specs.Prelude.{◌≡◌, ℕ, List, Option, Some, None}
+use Rattle.model.specs.declared.call.CallId.{CallId}
+use Rattle.model.specs.declared.reply.Reply.{Reply}
+use Rattle.messages.specs.declared.message.Message.{Message}
+use Rattle.messages.specs.declared.event.Event.{Event}
+use Rattle.messages.specs.declared.event.Event.TheVariants.{Call, Deliver}
+
+pub record EntryFields : Type 0 where
+  pub event : Event
+  pub incarnation : ℕ
+  pub call : Option CallId
+  pub reply : Option (CallId × Reply)
+  pub sends : List Message
+
+-- a call has a name, of its own node; nothing else has one
+abbrev pub NamesItsCall : Event → Option CallId → Type 0
+NamesItsCall (Call node pid op) None = ⊥
+NamesItsCall (Call node pid op) (Some id) = id.node ≡ node
+NamesItsCall _ call = call ≡ None
+
+pub record IsEntry (e : EntryFields) : Type 0 where
+  pub named : NamesItsCall e.event e.call
+  pub no_incarnation : e.incarnation ≡ 0

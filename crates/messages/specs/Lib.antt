@@ -1,0 +1,5 @@
+pub mod Shapes
+pub mod Wants
+pub mod Messages
+pub mod Entries
+pub mod Refusals

@@ -1,0 +1,21 @@
+-- The numbers of refusals.
+use Rattle.std.specs.Prelude.{ℕ}
+use Rattle.messages.specs.declared.refusal.StepError.{StepError}
+use Rattle.messages.specs.declared.refusal.StepError.TheVariants as step
+use Rattle.messages.specs.declared.refusal.Refused.{Refused}
+use Rattle.messages.specs.declared.refusal.Refused.TheVariants.{NoMemory, Busy, Stranger, JournalFull, Spent}
+
+-- the number by which listings know it
+abbrev pub number_of : Refused → ℕ
+number_of NoMemory = 3
+number_of Busy = 13
+number_of Stranger = 14
+number_of JournalFull = 16
+number_of Spent = 19
+
+-- a refusal of one actor's step, among all
+abbrev pub refused_by : StepError → Refused
+refused_by step.NoMemory = NoMemory
+refused_by step.Busy = Busy
+refused_by step.Stranger = Stranger
+refused_by step.Spent = Spent

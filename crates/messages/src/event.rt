@@ -1,0 +1,12 @@
+//! Events.
+use crate::message::Message;
+use model::op::Op;
+
+/// What may happen. A loss is a message that no event delivers, a repeat a second delivery.
+#[derive(Clone, Copy, Debug, PartialEq, Eq)]
+pub enum Event {
+    /// A process of a node makes a call.
+    Call { node: u8, pid: u16, op: Op },
+    /// A message that was sent comes to its addressee.
+    Deliver(Message),
+}

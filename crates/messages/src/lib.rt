@@ -1,0 +1,11 @@
+//! Messages between nodes and token servers, events, and entries of the journal.
+#![tactic(auto)]
+
+pub mod entry;
+pub mod event;
+pub mod items;
+pub mod message;
+pub mod outcome;
+pub mod refusal;
+pub mod shape;
+pub mod wanted;

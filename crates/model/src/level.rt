@@ -1,0 +1,17 @@
+//! Levels of tokens.
+use intervals::span_map::Exact;
+
+/// What a token lets its node lock at a byte: read locks alone, or any.
+#[derive(Clone, Copy, Debug, PartialEq, Eq)]
+pub enum Level {
+    Shared,
+    Exclusive,
+}
+
+impl Exact for Level {
+    ghost use Rattle.model.specs.declared.level.Level.TheVariants.{Shared, Exclusive};
+    ghost use Rattle.std.specs.Prelude.{refl};
+    ghost use Rattle.std.proofs.lemmas.Bool.{false≢true};
+
+    ghost exact = { elim [ Shared ↦ elim [ Shared ↦ λ _. refl | Exclusive ↦ λ h. absurd (false≢true h) ] | Exclusive ↦ elim [ Shared ↦ λ h. absurd (false≢true h) | Exclusive ↦ λ _. refl ] ] };
+}

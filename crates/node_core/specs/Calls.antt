@@ -1,0 +1,51 @@
+-- A node takes a call of one of its processes.
+use Rattle.std.specs.Prelude.{ℕ, ◌+◌, Bool, true, not, ◌&&◌, nat_lt, if◌then◌else◌, [], ◌∷◌, ◌++◌, is_some, Option, Some, None, Result, Ok, Err}
+use Rattle.model.specs.declared.mode.Mode.{Mode}
+use Rattle.model.specs.declared.op.Op.{Op}
+use Rattle.model.specs.declared.op.Op.TheVariants.{Spawn, Open, Set, Unlock}
+use Rattle.model.specs.declared.reply.Reply.{Reply}
+use Rattle.model.specs.Limits.{most_processes}
+use Rattle.model.specs.Descriptors.{after_spawn, after_open}
+use Rattle.model.specs.Table.{Target, around, beside, target, after_unlock}
+use Rattle.messages.specs.Shapes.{ShapeFields}
+use Rattle.messages.specs.declared.refusal.StepError.{StepError}
+use Rattle.messages.specs.declared.refusal.StepError.TheVariants.{Busy, Stranger, Spent}
+use Rattle.messages.specs.declared.outcome.Outcome.{Outcome}
+use Rattle.messages.specs.Messages.{is_within, greatest_number}
+use Rattle.node_core.specs.declared.open_call.OpenCall.{OpenCall}
+use Rattle.node_core.specs.State.{NodeState, Effect, answered, open_call_of, process, id_of, outcome}
+use Rattle.node_core.specs.Try.{settled, tried}
+
+-- the number is one of a process
+abbrev pub is_pid : ℕ → Bool
+is_pid pid = is_within most_processes pid
+
+-- the file that the operation names is of the shape
+abbrev pub is_in_shape : ShapeFields → Op → Bool
+is_in_shape shape (Open file access) = is_within shape.files file
+is_in_shape shape _ = true
+
+-- a set that passes its first tests is open, and is tried
+abbrev pub lock_call : NodeState → ℕ → ℕ → Mode → Result Target Reply → Effect
+lock_call s number pid mode (Err refusal) = answered s number refusal
+lock_call s number pid mode (Ok target) =
+    let c : OpenCall = record { number = number; pid = pid; file = target.file; owner = target.owner; mode = mode; span = target.span } in
+    tried (record s { pending = s.pending ++ c ∷ [] }) c
+
+-- the call with that number: all but set are answered in the same step
+abbrev pub called : NodeState → ℕ → ℕ → Op → Effect
+called s number pid Spawn = settled s number (beside s.table (process s pid) (after_spawn (around s.table (process s pid)) pid))
+called s number pid (Open file access) = settled s number (beside s.table (process s pid) (after_open (around s.table (process s pid)) pid file access))
+called s number pid (Set fd kind mode start len) = lock_call s number pid mode (target s.table (process s pid) (Some mode) fd kind start len)
+called s number pid (Unlock fd kind start len) = settled s number (after_unlock s.table (target s.table (process s pid) None fd kind start len))
+
+-- the call takes the next number
+abbrev pub after_call : NodeState → ℕ → Op → NodeState × Outcome
+after_call s pid op = outcome (Some (id_of s (s.calls + 1))) (called (record s { calls = s.calls + 1 }) (s.calls + 1) pid op)
+
+-- a process has at most one open call
+abbrev pub call_rule : NodeState → ℕ → Op → Result (NodeState × Outcome) StepError
+call_rule s pid op =
+    if not (is_pid pid && is_in_shape s.shape op) then Err Stranger
+    else (if is_some (open_call_of s pid) then Err Busy
+    else (if nat_lt s.calls greatest_number then Ok (after_call s pid op) else Err Spent))

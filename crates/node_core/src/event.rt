@@ -1,0 +1,12 @@
+//! What a node takes.
+use messages::message::Message;
+use model::op::Op;
+
+/// What may happen at a node.
+#[derive(Clone, Copy, Debug, PartialEq, Eq)]
+pub enum NodeEvent {
+    /// A process of the node makes a call.
+    Call { pid: u16, op: Op },
+    /// A message comes.
+    Deliver(Message),
+}

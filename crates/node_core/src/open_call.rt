@@ -1,0 +1,15 @@
+//! Open calls.
+use intervals::span::Span;
+use model::mode::Mode;
+use model::owner::Owner;
+
+/// A `set` that has no reply yet: its number, its process, and the lock that it asks for.
+#[derive(Clone, Copy, Debug, PartialEq, Eq)]
+pub struct OpenCall {
+    pub number: u32,
+    pub pid: u16,
+    pub file: u16,
+    pub owner: Owner,
+    pub mode: Mode,
+    pub span: Span,
+}

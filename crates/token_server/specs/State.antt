@@ -1,0 +1,59 @@
+-- What a token server knows.
+use Rattle.std.specs.Prelude.{ℕ, Bool, not, ◌&&◌, ◌==◌, max, nat_le, if◌then◌else◌, List, [], filter, Option, Some, None}
+use Rattle.model.specs.declared.call.CallId.{CallId}
+use Rattle.token_set.specs.Tokens.{Token, no_token}
+use Rattle.messages.specs.Shapes.{ShapeFields}
+use Rattle.messages.specs.declared.message.Message.{Message}
+use Rattle.messages.specs.Messages.{same_call}
+use Rattle.token_server.specs.declared.held.Held.{Held}
+
+-- what the server knows of a node: its incarnation, its token, the number of its last command (0 at first), and that command while no answer has come
+pub record Row : Type 0 where
+  pub incarnation : ℕ
+  pub token : Token
+  pub number : ℕ
+  pub outstanding : Option Message
+
+-- of one file: a row for each node that asked, the greatest incarnation of each node known to be dead (0 at first), the requests that are queued, and the one that is served
+pub record ServerState : Type 0 where
+  pub shape : ShapeFields
+  pub file : ℕ
+  pub rows : ℕ → Option Row
+  pub dead : ℕ → ℕ
+  pub queue : List Held
+  pub active : Option Held
+
+abbrev pub first_server : ShapeFields → ℕ → ServerState
+first_server shape file = record { shape = shape; file = file; rows = λ node. None; dead = λ node. 0; queue = []; active = None }
+
+abbrev pub empty_row : ℕ → Row
+empty_row incarnation = record { incarnation = incarnation; token = no_token; number = 0; outstanding = None }
+
+abbrev pub with_row : ServerState → ℕ → Option Row → ServerState
+with_row s node row = record s { rows = λ n. if n == node then row else s.rows n }
+
+-- the request is of the call
+abbrev pub is_of_call : CallId → Held → Bool
+is_of_call call r = same_call r.call call
+
+-- the request is of the node, in that incarnation or an older one
+abbrev pub is_up_to : ℕ → ℕ → Held → Bool
+is_up_to node incarnation r = (r.call.node == node) && nat_le r.call.incarnation incarnation
+
+abbrev pub row_above : ℕ → Option Row → Option Row
+row_above incarnation None = None
+row_above incarnation (Some row) = if nat_le row.incarnation incarnation then None else Some row
+
+-- the request, unless it passes the test
+abbrev pub unless : (Held → Bool) → Option Held → Option Held
+unless drops None = None
+unless drops (Some r) = if drops r then None else Some r
+
+-- the node is known as dead up to that incarnation: its row and its requests of those incarnations are dropped
+abbrev pub forgotten : ServerState → ℕ → ℕ → ServerState
+forgotten s node incarnation = record s {
+  rows = λ n. if n == node then row_above incarnation (s.rows n) else s.rows n;
+  dead = λ n. if n == node then max (s.dead n) incarnation else s.dead n;
+  queue = filter (λ r. not (is_up_to node incarnation r)) s.queue;
+  active = unless (is_up_to node incarnation) s.active;
+}

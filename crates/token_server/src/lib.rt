@@ -1,0 +1,5 @@
+//! The token server of a file.
+#![tactic(auto)]
+
+pub mod event;
+pub mod held;

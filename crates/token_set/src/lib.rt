@@ -1,0 +1,2 @@
+//! Tokens: what a node may lock at each byte without asking.
+#![tactic(auto)]
