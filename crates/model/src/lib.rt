@@ -3,6 +3,7 @@
 
 pub mod access;
 pub mod call;
+pub mod equality;
 pub mod level;
 pub mod lock_info;
 pub mod mode;

@@ -1,0 +1,119 @@
+-- One history for every run.
+use Rattle.std.specs.Prelude.{◌≡◌, ℕ, ◌+◌, ◌≤◌, ◌<◌, List, [], ◌∷◌, slice_get, Option, Some, None}
+use Rattle.model.specs.declared.call.CallId.{CallId}
+use Rattle.model.specs.declared.op.Op.{Op}
+use Rattle.model.specs.declared.reply.Reply.{Reply}
+use Rattle.model.specs.declared.process.Process.{Process}
+use Rattle.model.specs.Limits.{IsProcess}
+use Rattle.model.specs.Table.{Table, empty_table, gone}
+use Rattle.model.specs.Step.{Step}
+use Rattle.messages.specs.Shapes.{ShapeFields, IsShape}
+use Rattle.messages.specs.declared.event.Event.TheVariants.{Call}
+use Rattle.messages.specs.declared.entry.Entry.{Entry}
+use Rattle.cluster_core.specs.declared.item.Item.{Item}
+use Rattle.cluster_core.specs.declared.item.Item.TheVariants.{Answered, Gone}
+use Rattle.cluster_core.specs.World.{WorldState, first_world}
+use Rattle.cluster_core.specs.Runs.{Leads}
+use Rattle.cluster_core.specs.Union.{union}
+
+abbrev pub position_of : Item → ℕ
+position_of (Answered at id pid op reply) = at
+position_of (Gone at node incarnation) = at
+
+-- the call that an item is of, if it is one of a call
+abbrev pub call_id : Item → Option CallId
+call_id (Answered at id pid op reply) = Some id
+call_id (Gone at node incarnation) = None
+
+abbrev pub caller : CallId → ℕ → Process
+caller id pid = record { node = id.node; incarnation = id.incarnation; pid = pid }
+
+-- an item leads from one table to the next: a call of a process as a single machine's fcntl() answers it, a failure by the exit of every process of the node
+abbrev pub ItemStep : Table → Item → Table → Type 0
+ItemStep old (Answered at id pid op reply) new = IsProcess (caller id pid) × Step old (caller id pid) op reply new
+ItemStep old (Gone at node incarnation) new = new ≡ gone old node incarnation
+
+-- the items lead from one table to the other
+abbrev pub Legal : Table → List Item → Table → Type 0
+Legal old [] new = old ≡ new
+Legal old (i ∷ is) new = (mid : Table) × ItemStep old i mid × Legal mid is new
+
+-- a history is legal: from the empty table it leads somewhere
+abbrev pub IsLegal : List Item → Type 0
+IsLegal h = (last : Table) × Legal empty_table h last
+
+-- positions rise strictly
+abbrev pub Rising : List Item → Type 0
+Rising h = (j k : ℕ) (a b : Item) → j < k → slice_get h j ≡ Some a → slice_get h k ≡ Some b → position_of a < position_of b
+
+-- the entry at a position, the first being 1
+abbrev pub EntryAt : List Entry → ℕ → Entry → Type 0
+EntryAt es at e = (k : ℕ) × (at ≡ k + 1) × (slice_get es k ≡ Some e)
+
+-- the entry at that position makes the call
+pub record IsCalledAt (es : List Entry) (id : CallId) (pid : ℕ) (op : Op) (at : ℕ) : Type 0 where
+  pub calling : Entry
+  pub there : EntryAt es at calling
+  pub is_call : calling.event ≡ Call id.node pid op
+  pub named : calling.call ≡ Some id
+
+-- the entry at that position answers the call
+pub record IsRepliedAt (es : List Entry) (id : CallId) (reply : Reply) (at : ℕ) : Type 0 where
+  pub replying : Entry
+  pub there : EntryAt es at replying
+  pub is_reply : replying.reply ≡ Some (id, reply)
+
+-- the open interval of a call: from the entry that makes it to the entry that answers it, both included
+pub record IsOpenAt (es : List Entry) (id : CallId) (pid : ℕ) (op : Op) (reply : Reply) (at : ℕ) : Type 0 where
+  pub call_at : ℕ
+  pub reply_at : ℕ
+  pub called : IsCalledAt es id pid op call_at
+  pub replied : IsRepliedAt es id reply reply_at
+  pub after : call_at ≤ at
+  pub before : at ≤ reply_at
+
+-- an item stands where it may: a call inside its open interval; nothing declares a node failed yet
+abbrev pub IsPlaced : List Entry → Item → Type 0
+IsPlaced es (Answered at id pid op reply) = IsOpenAt es id pid op reply at
+IsPlaced es (Gone at node incarnation) = ⊥
+
+-- the history has an item for this call, with this reply
+abbrev pub HasCall : List Item → CallId → Reply → Type 0
+HasCall h id reply = (k : ℕ) × (at : ℕ) × (pid : ℕ) × (op : Op) × (slice_get h k ≡ Some (Answered at id pid op reply))
+
+-- each answered call of the run stands in the history exactly once, inside its open interval, and nothing else stands there
+pub record Fits (es : List Entry) (h : List Item) : Type 0 where
+  pub rising : Rising h
+  pub placed : (k : ℕ) (i : Item) → slice_get h k ≡ Some i → IsPlaced es i
+  pub answered : (id : CallId) (reply : Reply) (at : ℕ) → IsRepliedAt es id reply at → HasCall h id reply
+  pub once : (j k : ℕ) (a b : Item) (id : CallId) → slice_get h j ≡ Some a → slice_get h k ≡ Some b → call_id a ≡ Some id → call_id b ≡ Some id → j ≡ k
+
+-- a call has at most one reply
+abbrev pub OneReply : List Entry → Type 0
+OneReply es = (id : CallId) (r q : Reply) (j k : ℕ) → IsRepliedAt es id r j → IsRepliedAt es id q k → j ≡ k
+
+-- a call is made once
+abbrev pub OneCall : List Entry → Type 0
+OneCall es = (id : CallId) (p q : ℕ) (o u : Op) (j k : ℕ) → IsCalledAt es id p o j → IsCalledAt es id q u k → j ≡ k
+
+-- the history fits the run, is legal, and its last table is the union of the live nodes
+pub record HasHistory (shape : ShapeFields) (es : List Entry) (h : List Item) : Type 0 where
+  pub world : WorldState
+  pub leads : Leads (first_world shape) es world
+  pub one_call : OneCall es
+  pub one_reply : OneReply es
+  pub fits : Fits es h
+  pub legal : Legal empty_table h (union world)
+
+-- a call stands at the entry of its reply
+abbrev pub StandsAtReply : List Entry → Item → Type 0
+StandsAtReply es (Answered at id pid op reply) = IsRepliedAt es id reply at
+StandsAtReply es (Gone at node incarnation) = ⊥
+
+-- the history has each call at its reply
+abbrev pub EachAtItsReply : List Entry → List Item → Type 0
+EachAtItsReply es h = (k : ℕ) (i : Item) → slice_get h k ≡ Some i → StandsAtReply es i
+
+-- for every run there is one history, the same for all nodes, files and calls
+abbrev pub EveryRunHasAHistory : Type 0
+EveryRunHasAHistory = (shape : ShapeFields) (es : List Entry) (w : WorldState) → IsShape shape → Leads (first_world shape) es w → (h : List Item) × HasHistory shape es h × EachAtItsReply es h

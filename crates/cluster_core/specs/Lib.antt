@@ -1,0 +1,5 @@
+pub mod World
+pub mod Next
+pub mod Runs
+pub mod Union
+pub mod Histories

@@ -1,0 +1,62 @@
+-- What an event does to the cluster.
+use Rattle.std.specs.Prelude.{ℕ, ◌+◌, Bool, not, ◌&&◌, ◌==◌, nat_le, if◌then◌else◌, ◌++◌, Result, Ok, Err}
+use Rattle.messages.specs.declared.refusal.StepError.{StepError}
+use Rattle.messages.specs.declared.refusal.Refused.{Refused}
+use Rattle.messages.specs.declared.refusal.Refused.TheVariants.{Stranger, JournalFull}
+use Rattle.messages.specs.Refusals.{refused_by}
+use Rattle.messages.specs.declared.message.Message.{Message}
+use Rattle.messages.specs.declared.event.Event.{Event}
+use Rattle.messages.specs.declared.event.Event.TheVariants.{Call, Deliver}
+use Rattle.messages.specs.declared.outcome.Outcome.{Outcome}
+use Rattle.messages.specs.declared.entry.Entry.{Entry}
+use Rattle.messages.specs.Messages.{Actor, ANode, AServer, addressee, is_among}
+use Rattle.node_core.specs.declared.event.NodeEvent.TheVariants as node
+use Rattle.node_core.specs.State.{NodeState}
+use Rattle.node_core.specs.Calls.{is_pid, is_in_shape}
+use Rattle.node_core.specs.Node.{node_rule}
+use Rattle.token_server.specs.declared.event.ServerEvent.TheVariants as server
+use Rattle.token_server.specs.State.{ServerState}
+use Rattle.token_server.specs.Server.{server_rule}
+use Rattle.cluster_core.specs.World.{WorldState, journal_limit, has_node}
+
+-- the event names a node, a process and a file of the shape, or a message that was sent
+abbrev pub is_known : WorldState → Event → Bool
+is_known w (Call n pid op) = has_node w n && (is_pid pid && is_in_shape w.shape op)
+is_known w (Deliver m) = is_among w.sent m
+
+abbrev pub entry : Event → Outcome → Entry
+entry event o = record { event = event; incarnation = 0; call = o.call; reply = o.reply; sends = o.sends }
+
+-- one more entry, with these messages
+abbrev pub recorded : WorldState → Event → Outcome → WorldState × Entry
+recorded w event o = (record w { sent = w.sent ++ o.sends; length = w.length + 1 }, entry event o)
+
+abbrev pub with_node : WorldState → ℕ → NodeState → WorldState
+with_node w n state = record w { nodes = λ m. if m == n then state else w.nodes m }
+
+abbrev pub with_server : WorldState → ℕ → ServerState → WorldState
+with_server w file state = record w { servers = λ f. if f == file then state else w.servers f }
+
+abbrev pub after_node : WorldState → Event → ℕ → Result (NodeState × Outcome) StepError → Result (WorldState × Entry) Refused
+after_node w event n (Ok done) = Ok (recorded (with_node w n done.0) event done.1)
+after_node w event n (Err e) = Err (refused_by e)
+
+abbrev pub after_server : WorldState → Event → ℕ → Result (ServerState × Outcome) StepError → Result (WorldState × Entry) Refused
+after_server w event file (Ok done) = Ok (recorded (with_server w file done.0) event done.1)
+after_server w event file (Err e) = Err (refused_by e)
+
+abbrev pub delivered : WorldState → Message → Actor → Result (WorldState × Entry) Refused
+delivered w m (ANode n) = after_node w (Deliver m) n (node_rule (w.nodes n) (node.Deliver m))
+delivered w m (AServer file) = after_server w (Deliver m) file (server_rule (w.servers file) (server.Deliver m))
+
+-- the one actor that takes the event does its step; all others stay
+abbrev pub taken : WorldState → Event → Result (WorldState × Entry) Refused
+taken w (Call n pid op) = after_node w (Call n pid op) n (node_rule (w.nodes n) (node.Call pid op))
+taken w (Deliver m) = delivered w m (addressee m)
+
+-- the world after the event and the entry that it makes, or the first of its refusals: a full journal, a stranger, and then those of the step
+abbrev pub next : WorldState → Event → Result (WorldState × Entry) Refused
+next w event =
+    if nat_le journal_limit w.length then Err JournalFull
+    else (if not (is_known w event) then Err Stranger
+    else taken w event)

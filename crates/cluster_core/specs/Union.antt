@@ -1,0 +1,13 @@
+-- The live nodes together as one table.
+use Rattle.std.specs.Prelude.{if◌then◌else◌}
+use Rattle.intervals.specs.Bytes.{nothing}
+use Rattle.model.specs.Descriptors.{no_processes}
+use Rattle.model.specs.Table.{Table}
+use Rattle.cluster_core.specs.World.{WorldState, is_live}
+
+-- the processes, descriptors and locks of all live nodes
+abbrev pub union : WorldState → Table
+union w = record {
+  on = λ node incarnation. if is_live w node incarnation then (w.nodes node).table.on node incarnation else no_processes;
+  locks = λ file owner. if is_live w owner.node owner.incarnation then (w.nodes owner.node).table.locks file owner else nothing;
+}

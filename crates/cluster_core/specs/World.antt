@@ -1,0 +1,35 @@
+-- The state of the cluster.
+use Rattle.std.specs.Prelude.{ℕ, Bool, ◌&&◌, ◌==◌, List, []}
+use Rattle.messages.specs.Shapes.{ShapeFields}
+use Rattle.messages.specs.declared.message.Message.{Message}
+use Rattle.messages.specs.Messages.{is_within}
+use Rattle.node_core.specs.State.{NodeState, first_node}
+use Rattle.token_server.specs.State.{ServerState, first_server}
+
+-- every actor's state, every message sent so far, and the number of entries so far
+pub record WorldState : Type 0 where
+  pub shape : ShapeFields
+  pub nodes : ℕ → NodeState
+  pub servers : ℕ → ServerState
+  pub sent : List Message
+  pub length : ℕ
+
+abbrev pub first_world : ShapeFields → WorldState
+first_world shape = record {
+  shape = shape;
+  nodes = λ node. first_node shape node 1;
+  servers = λ file. first_server shape file;
+  sent = [];
+  length = 0;
+}
+
+-- how many entries a journal may have
+abbrev pub journal_limit : ℕ
+journal_limit = 1048576
+
+abbrev pub has_node : WorldState → ℕ → Bool
+has_node w node = is_within w.shape.nodes node
+
+-- this incarnation of the node is live
+abbrev pub is_live : WorldState → ℕ → ℕ → Bool
+is_live w node incarnation = has_node w node && (incarnation == (w.nodes node).incarnation)

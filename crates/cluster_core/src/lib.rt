@@ -1,0 +1,4 @@
+//! The whole cluster: the world, its runs, and their history in one table.
+#![tactic(auto)]
+
+pub mod item;
