@@ -4,3 +4,4 @@ pub mod Find
 pub mod Same
 pub mod Starts
 pub mod Around
+pub mod Split
