@@ -5,3 +5,6 @@ pub mod Same
 pub mod Starts
 pub mod Around
 pub mod Split
+pub mod SearchLaws
+pub mod SpanLaws
+pub mod SpanSearch
