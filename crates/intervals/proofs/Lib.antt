@@ -1,0 +1,10 @@
+pub mod Join
+pub mod Runs
+pub mod Find
+pub mod Same
+pub mod Starts
+pub mod Around
+pub mod Split
+pub mod SearchLaws
+pub mod SpanLaws
+pub mod SpanSearch

@@ -1,3 +1,5 @@
 pub mod Search
 pub mod Bytes
 pub mod Segment
+pub mod Runs
+pub mod Laws

@@ -1,0 +1,133 @@
+//! A span map as a sorted vector of runs.
+ghost use Rattle.std.specs.Prelude.{◌≡◌, ◌≤◌, ◌<◌, ◌+◌, ℕ, IfOk, OnOk, OnErr, IsTrue, ◌↔◌, MatchOption, Some, None};
+ghost use Rattle.intervals.specs.Bytes.{greatest, put, IsBarred, NoneIn, IsFirstIn, IsLargest, IsRun};
+ghost use Rattle.intervals.specs.Runs.{bytes_of, value_at};
+
+use crate::run::{Run, highest_free, is_barred, lowest_free, spliced, split_before};
+use crate::span::Span;
+use crate::span_map::{Exact, NoMemory, SpanMap};
+use std::alloc::Global;
+use std::marker::Model;
+
+/// A map from bytes to values, as a sorted vector of longest runs. A look-up halves the runs until it
+/// is at the byte, and then reads only those up to the answer; `set`, `clear` and `copy` copy each run
+/// once, into memory that is asked for once.
+#[derive(Drop)]
+pub struct VecMap<V> {
+    runs: Vec<Run<V>>,
+}
+
+impl<V> Model for VecMap<V> {
+    ghost use Rattle.std.specs.Prelude.{List, ◌+◌};
+    ghost use Rattle.intervals.specs.declared.run.Run.{Run};
+    ghost use Rattle.intervals.specs.Bytes.{greatest};
+    ghost use Rattle.intervals.specs.Runs.{AreRuns, EndsBelow};
+
+    ghost Value = { List (Run V) };
+
+    ghost view = { λ m. m.runs.items };
+
+    ghost invariant = { λ m. AreRuns m.runs.items × EndsBelow m.runs.items (greatest + 1) };
+}
+
+impl<V: Exact> VecMap<V> {
+    // The run that has the byte.
+    fn run_of(&self, byte: u64) -> Option<Run<V>>
+        ensures { MatchOption result (value_at self.now byte ≡ None) (λ run. IsRun (value_at self.now) (bytes_of run) run.value × (run.lo ≤ byte) × (byte ≤ run.hi) × (run.hi ≤ greatest)) }
+    {
+        let (_, rest) = split_before(&self.runs, byte);
+        match rest.first() {
+            Some(run) if run.lo <= byte => Some(*run),
+            _ => None,
+        }
+    }
+}
+
+impl<V: Exact> SpanMap<V> for VecMap<V> {
+    ghost at = { value_at };
+
+    fn new(alloc: Global) -> Self {
+        VecMap {
+            runs: Vec::new(alloc),
+        }
+    }
+
+    fn set(&mut self, span: Span, value: V) -> Result<(), NoMemory> {
+        self.runs = spliced(*self.runs.allocator(), &self.runs, span, Some(value))?;
+        Ok(())
+    }
+
+    fn clear(&mut self, span: Span) -> Result<(), NoMemory> {
+        self.runs = spliced(*self.runs.allocator(), &self.runs, span, None)?;
+        Ok(())
+    }
+
+    fn get(&self, byte: u64) -> Option<V> {
+        self.run_of(byte).map(|run| run.value)
+    }
+
+    fn is_empty(&self) -> bool {
+        self.runs.is_empty()
+    }
+
+    fn covers(&self, span: Span, value: V) -> bool {
+        match self.run_of(span.lo) {
+            Some(run) => span.hi <= run.hi && run.value == value,
+            None => false,
+        }
+    }
+
+    fn first_where(&self, span: Span, bar: Option<V>) -> Option<u64>
+        ensures { MatchOption result (NoneIn (IsBarred (value_at self.now) bar) span) (λ b. IsFirstIn (IsBarred (value_at self.now) bar) span b) }
+    {
+        let (_, rest) = split_before(&self.runs, span.lo);
+        for run in rest {
+            if run.lo > span.hi {
+                break;
+            }
+            if is_barred(bar, run.value) {
+                return Some(run.lo.max(span.lo));
+            }
+        }
+        None
+    }
+
+    fn run_at(&self, byte: u64) -> Option<(Span, V)> {
+        let run = self.run_of(byte)?;
+        Some((
+            Span {
+                lo: run.lo,
+                hi: run.hi,
+            },
+            run.value,
+        ))
+    }
+
+    fn starts(&self) -> usize {
+        self.runs.len()
+    }
+
+    fn largest_around(&self, required: Span, within: Span, bar: Option<V>) -> Span
+        requires starts_within { within.lo ≤ required.lo }
+        requires ends_within { required.hi ≤ within.hi }
+        requires free { NoneIn (IsBarred (value_at self.now) bar) required }
+        ensures { IsLargest (IsBarred (value_at self.now) bar) required within result }
+    {
+        let (below, _) = split_before(&self.runs, required.lo);
+        let (_, above) = split_before(&self.runs, required.hi + 1);
+        Span {
+            lo: lowest_free(below, within.lo, required.lo, bar),
+            hi: highest_free(above, required.hi, within.hi, bar),
+        }
+    }
+
+    fn copy(&self) -> Result<Self, NoMemory> {
+        Ok(VecMap {
+            runs: Vec::from_slice(*self.runs.allocator(), &self.runs)?,
+        })
+    }
+
+    fn same(&self, other: &Self) -> bool {
+        self.runs == other.runs
+    }
+}
