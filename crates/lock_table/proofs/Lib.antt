@@ -1,0 +1,5 @@
+pub mod Orders
+pub mod RowLemmas
+pub mod FileRows
+pub mod SameRows
+pub mod BlockerLemmas
