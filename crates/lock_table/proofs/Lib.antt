@@ -3,3 +3,4 @@ pub mod RowLemmas
 pub mod FileRows
 pub mod SameRows
 pub mod BlockerLemmas
+pub mod ListingLemmas

@@ -54,7 +54,7 @@ pub owners_total : IsTotalOrder owner_cmp
 owners_total = then_total (on_total (λ (o : Owner). o.node) nat_cmp_total) (then_total (on_total (λ (o : Owner). o.incarnation) nat_cmp_total) (then_total (on_total (λ (o : Owner). o.kind) kind_total) (on_total (λ (o : Owner). o.number) nat_cmp_total)))
 
 -- what the parts of an order by one thing and then by another say
-then_equal : (p q : Ordering) → ordering_then p q ≡ Equal → (p ≡ Equal) × (q ≡ Equal)
+pub then_equal : (p q : Ordering) → ordering_then p q ≡ Equal → (p ≡ Equal) × (q ≡ Equal)
 then_equal Less q h = absurd cc
 then_equal Equal q h = (refl, h)
 then_equal Greater q h = absurd cc

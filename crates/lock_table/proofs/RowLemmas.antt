@@ -232,3 +232,9 @@ rows-insert (s ∷ rest) zero r gap some rows = (some, gap, rows)
 rows-insert (s ∷ rest) (suc i) r gap some rows =
     let after : row_cmp r s.file s.owner ≡ Greater = back_greater place_cmp places_total (s.file, s.owner) (r.file, r.owner) gap.0 in
     (rows.0, all_after-insert rest i s.file s.owner r rows.1 after, rows-insert rest i r gap.1 some rows.2)
+
+-- each row holds some byte
+pub row_holds : (l : List Row) (i : ℕ) (r : Row) → AreRows l → i < length l → r ≡ get_or l i r → HoldsSome (value_at r.spans)
+row_holds [] i r rows lt is = absurd (omega arith)
+row_holds (s ∷ rest) zero r rows lt is = rw is rows.0
+row_holds (s ∷ rest) (suc i) r rows lt is = row_holds rest i r rows.2 (omega arith) is

@@ -4,6 +4,7 @@
 pub mod error;
 pub mod laws;
 pub mod lock_table;
+pub mod order;
 pub mod row;
 
 pub use model::lock_info::LockInfo;

@@ -1,15 +1,16 @@
 //! The record locks of one node.
-ghost use Rattle.std.specs.Prelude.{◌≡◌, ◌⊎◌, ◌≤◌, ◌<◌, All, IfOk, IfSome, IsSomeAnd, IsTrue, ◌↔◌, OnOk, OnErr, Err, Some, None, MatchOption, MatchResult};
+ghost use Rattle.std.specs.Prelude.{◌≡◌, ◌≤◌, ◌<◌, All, IfOk, IsTrue, ◌↔◌, OnOk, OnErr, Err, Some, None, MatchOption, MatchResult};
 ghost use Rattle.std.specs.List.{AllZip};
 ghost use Rattle.intervals.specs.Bytes.{put};
 ghost use Rattle.intervals.specs.Runs.{value_at};
 ghost use Rattle.model.specs.Limits.{most_regions};
-ghost use Rattle.model.specs.Locks.{no_locks, replace, with_lock, without_owner, regions, IsFree, IsNotAfter, IsLowestBlocker};
+ghost use Rattle.model.specs.Locks.{no_locks, replace, with_lock, without_owner, regions, IsFree, IsLowestBlocker};
 ghost use Rattle.lock_table.specs.declared.error.LockError.TheVariants.{NoLocks};
 ghost use Rattle.lock_table.specs.Rows.{held, AreRows, IsRowAt, IsGap, HoldsSome, IsSameRow};
 ghost use Rattle.lock_table.specs.Listing.{IsListing};
 
 use crate::error::LockError;
+use crate::order::{cmp_regions, lowest_of};
 use crate::row::{Row, Spans};
 use intervals::span::Span;
 use intervals::span_map::{NoMemory, SpanMap};
@@ -75,32 +76,6 @@ fn same_rows(rows: &[Row], others: &[Row]) -> bool
         }
     }
     true
-}
-
-// The lock that comes first, by first byte and then by owner.
-fn lower(a: LockInfo, b: LockInfo) -> LockInfo
-    ensures either { (result ≡ a) ⊎ (result ≡ b) }
-    ensures first { IsNotAfter result a }
-    ensures second { IsNotAfter result b }
-{
-    if b.span.lo < a.span.lo || (b.span.lo == a.span.lo && b.owner < a.owner) {
-        b
-    } else {
-        a
-    }
-}
-
-// The one of those there are that comes first.
-fn lowest_of(a: Option<LockInfo>, b: Option<LockInfo>) -> Option<LockInfo>
-    ensures either { (result ≡ a) ⊎ (result ≡ b) }
-    ensures first { IfSome a (λ lock. IsSomeAnd result (λ least. IsNotAfter least lock)) }
-    ensures second { IfSome b (λ lock. IsSomeAnd result (λ least. IsNotAfter least lock)) }
-{
-    match (a, b) {
-        (Some(x), Some(y)) => Some(lower(x, y)),
-        (Some(_), None) => a,
-        (None, _) => b,
-    }
 }
 
 impl LockTable {
@@ -246,7 +221,7 @@ impl LockTable {
         for row in rows_of(&self.rows, file) {
             row.push_regions(&mut locks)?;
         }
-        locks.sort_unstable_by_key(|lock| (lock.span.lo, lock.owner));
+        locks.sort_unstable_by(cmp_regions);
         Ok(locks)
     }
 }
