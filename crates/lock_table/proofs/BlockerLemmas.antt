@@ -1,8 +1,8 @@
 -- Locks that block, and locks that are put together from those of rows.
-use Rattle.std.proofs.Common.{◌≡◌, ◌≢◌, ℕ, ◌+◌, ◌-◌, ◌<◌, ◌≤◌, ◌⊎◌, Bool, true, false, ◌&&◌, eqb, eq-eqb, max, length, get_or, take, List, [], ◌∷◌, ◌++◌, Option, Some, None, IsSome, IfSome, IsSomeAnd, MatchOption, refl, ap, sym, ◌∙◌, subst, inl, inr, arith}
+use Rattle.std.proofs.Common.{◌≡◌, ◌≢◌, ℕ, ◌+◌, ◌-◌, ◌<◌, ◌≤◌, ◌⊎◌, true, false, ◌&&◌, eqb, eq-eqb, max, length, get_or, take, List, [], ◌∷◌, ◌++◌, Option, Some, None, IfSome, IsSomeAnd, MatchOption, refl, ap, sym, ◌∙◌, subst, inl, inr, arith}
 use Rattle.std.specs.List.{All}
-use Rattle.std.specs.declared.cmp.Ordering.TheVariants.{Less, Equal, Greater}
-use Rattle.std.proofs.lemmas.Bool.{cases_lt, cases_order, cases_Bool, and_parts, and_from, and_right, both_ways, false≢true, eqb-true}
+use Rattle.std.specs.declared.cmp.Ordering.TheVariants.{Less, Greater}
+use Rattle.std.proofs.lemmas.Bool.{cases_lt, cases_order, cases_Bool, and_from, and_right, both_ways, false≢true}
 use Rattle.std.proofs.lemmas.List.{take_more}
 use Rattle.intervals.specs.Bytes.{Range, nothing, IsRun, IsBarred, NoneIn}
 use Rattle.intervals.specs.Runs.{value_at}
@@ -17,7 +17,7 @@ use Rattle.lock_table.specs.Regions.{bar_of, IsFirstRegion}
 use Rattle.lock_table.specs.Rows.{held, row_cmp, AllAfter, AreRows, locks_of}
 use Rattle.lock_table.specs.Blockers.{IsBlockerOf}
 use Rattle.lock_table.proofs.Orders.{owner_exact, owner_refl, owners_total, owner_equal, owner_not_greater, not_greater_trans, cases_not_greater, back_greater, place_cmp, places_total, back_less}
-use Rattle.lock_table.proofs.RowLemmas.{is_of, is_of_less, row_place}
+use Rattle.lock_table.proofs.RowLemmas.{is_of, is_of_less}
 use Rattle.lock_table.proofs.FileRows.{rows-take}
 
 -- a row's own locks

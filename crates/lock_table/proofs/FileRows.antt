@@ -1,14 +1,12 @@
 -- The rows of one file among the others.
-use Rattle.std.proofs.Common.{◌≡◌, ℕ, zero, suc, ◌+◌, ◌-◌, ◌<◌, ◌≤◌, true, false, ◌&&◌, eqb, ne_eqb, leb, ltb, length, get_or, take, drop, List, [], ◌∷◌, ◌++◌, Option, Some, None, refl, sym, ap, ◌∙◌, subst, inl, inr, arith, min}
+use Rattle.std.proofs.Common.{◌≡◌, ℕ, zero, suc, ◌+◌, ◌-◌, ◌<◌, ◌≤◌, true, false, eqb, ne_eqb, leb, ltb, length, get_or, take, drop, List, [], ◌∷◌, refl, sym, ◌∙◌, inl, inr, arith}
 use Rattle.std.specs.List.{AllWithin, All}
 use Rattle.std.specs.List.Sorted.{IsNonDecreasingBy}
 use Rattle.std.specs.declared.cmp.Ordering.TheVariants.{Less, Greater}
 use Rattle.std.proofs.lemmas.Bool.{and_left, ltb-true, ltb-false, leb-true, leb-false, lt-ltb, cases_lt}
 use Rattle.std.proofs.lemmas.List.{length-take, length-drop, get_or-take, get_or-drop}
-use Rattle.intervals.specs.Bytes.{nothing}
-use Rattle.intervals.specs.Runs.{value_at}
 use Rattle.model.specs.declared.owner.Owner.{Owner}
-use Rattle.model.specs.Owners.{same_owner, owner_cmp}
+use Rattle.model.specs.Owners.{same_owner}
 use Rattle.lock_table.specs.declared.row.Row.{Row}
 use Rattle.lock_table.specs.Rows.{held, row_cmp, AllAfter, AreRows}
 

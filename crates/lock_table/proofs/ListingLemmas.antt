@@ -1,29 +1,28 @@
 -- Lists of regions.
-use Rattle.std.proofs.Common.{◌≡◌, ◌≢◌, ℕ, zero, suc, ◌+◌, ◌-◌, ◌<◌, ◌≤◌, ◌⊎◌, Bool, true, false, ◌&&◌, eqb, eq-eqb, ne_eqb, length, get_or, List, [], ◌∷◌, ◌++◌, Option, Some, None, IsSome, refl, ap, sym, ◌∙◌, subst, inl, inr, arith, append_assoc}
-use Rattle.std.specs.List.{All, AllByRecursion, AllPairs, Contains, IsDistinct}
+use Rattle.std.proofs.Common.{◌≡◌, ◌≢◌, ℕ, zero, suc, ◌+◌, ◌-◌, ◌<◌, ◌≤◌, true, false, eqb, eq-eqb, ne_eqb, length, get_or, List, [], ◌∷◌, ◌++◌, Some, None, refl, ap, sym, ◌∙◌, subst, inl, inr, arith, append_assoc}
+use Rattle.std.specs.List.{All, AllByRecursion, Contains, IsDistinct}
 use Rattle.std.specs.List.Sorted.{IsPermutation, IsSortedBy}
-use Rattle.std.specs.Ordering.{is_lt, nat_cmp}
+use Rattle.std.specs.Ordering.{is_lt}
 use Rattle.std.specs.Cmp.{IsTotalOrder, IsStrictWeakOrder}
 use Rattle.std.specs.declared.cmp.Ordering.{Ordering}
 use Rattle.std.specs.declared.cmp.Ordering.TheVariants.{Less, Equal, Greater}
 use Rattle.std.proofs.lemmas.Bool.{cases_lt, cases_Bool, and_parts, and_from, and_left, and_right, both_ways, false≢true, eqb-true}
 use Rattle.std.proofs.lemmas.Cmp.{then_total, on_total, nat_cmp_total}
 use Rattle.std.proofs.lemmas.List.{append-nil}
-use Rattle.std.proofs.lemmas.List.Elements.{All-nil, All-append, All-push, All-weaker, All-contains, All-from_recursion, recursion_from_All, Contains-append_left, Contains-append_right, Contains-push}
+use Rattle.std.proofs.lemmas.List.Elements.{All-nil, All-append, All-push, All-weaker, All-from_recursion, recursion_from_All, Contains-append_left, Contains-append_right, Contains-push}
 use Rattle.std.proofs.lemmas.List.Sorted.{ranks_by, sorted_far, All-permutation, Contains-permutation}
 use Rattle.std.proofs.lemmas.Map.Keys.{IsDistinct-IsPermutation}
-use Rattle.intervals.specs.Bytes.{Range, nothing, IsRun, IsBarred}
+use Rattle.intervals.specs.Bytes.{nothing, IsRun}
 use Rattle.intervals.specs.Runs.{value_at}
 use Rattle.model.specs.declared.mode.Mode.{Mode}
-use Rattle.model.specs.declared.owner.Owner.{Owner}
 use Rattle.model.specs.declared.lock_info.LockInfo.{LockInfo}
-use Rattle.model.specs.Owners.{same_owner, owner_cmp}
-use Rattle.model.specs.Locks.{FileLocks, IsRegion, IsNotAfter}
+use Rattle.model.specs.Owners.{same_owner}
+use Rattle.model.specs.Locks.{FileLocks, IsRegion}
 use Rattle.lock_table.specs.declared.row.Row.{Row}
 use Rattle.lock_table.specs.Regions.{rest_from, IsFirstRegion}
 use Rattle.lock_table.specs.Rows.{locks_of, NothingFrom}
 use Rattle.lock_table.specs.Listing.{IsBefore, IsListing, lock_cmp, same_start, ListsRegions}
-use Rattle.lock_table.proofs.Orders.{owner_exact, owner_refl, owners_total, owner_equal, owner_not_greater, nat_cmp_less, nat_cmp_equal, then_less, then_equal, back_less}
+use Rattle.lock_table.proofs.Orders.{owner_exact, owner_refl, owners_total, owner_equal, nat_cmp_less, nat_cmp_equal, then_less, then_equal, back_less}
 use Rattle.lock_table.proofs.BlockerLemmas.{IsJoin, region_left, region_right, region_cases, owners_apart, region_own, own_region, region_one, lock_one}
 
 -- the order of locks
@@ -111,6 +110,7 @@ listing_from h xs ys lists moved sorted = record {
   where
     once : IsDistinct same_start ys
     once = IsDistinct-IsPermutation same_start same_start_comm xs ys moved lists.once
+
     before : (a b : LockInfo) → is_lt (lock_cmp b a) ≡ false → same_start a b ≡ false → IsBefore a b
     before a b not_less differ = go (lock_cmp b a) refl
       where
@@ -198,16 +198,20 @@ module _ (r : Row) (from : ℕ) (old new : List LockInfo) (l : Listed r from old
 
 -- with nothing left, they are the row's regions
 pub listed-end : (r : Row) (from : ℕ) (old new : List LockInfo) → Listed r from old new → NothingFrom (value_at r.spans) from → (more : List LockInfo) × (new ≡ old ++ more) × ListsRegions (locks_of r) more
-listed-end r from old new l none = (l.more, l.is, record {
-  regions = All-weaker (λ (x : LockInfo). (x.owner ≡ r.owner) × IsRun (value_at r.spans) x.span x.mode × (x.span.lo < from)) (IsRegion (locks_of r)) (λ x h. own_region r x h.0 h.1) l.more l.each;
-  complete = λ x region.
-      let own = region_own r x region in
-      elim (cases_lt x.span.lo from) [
-        | inl lt ↦ l.complete x own.0 own.1 lt
-        | inr le ↦
-            let here = own.1.all x.span.lo (omega arith) own.1.ordered in
-            let empty = none x.span.lo le in
-            absurd cc
-      ];
-  once = l.once;
-})
+listed-end r from old new l none = (
+  l.more,
+  l.is,
+  record {
+    regions = All-weaker (λ (x : LockInfo). (x.owner ≡ r.owner) × IsRun (value_at r.spans) x.span x.mode × (x.span.lo < from)) (IsRegion (locks_of r)) (λ x h. own_region r x h.0 h.1) l.more l.each;
+    complete = λ x region.
+        let own = region_own r x region in
+        elim (cases_lt x.span.lo from) [
+          | inl lt ↦ l.complete x own.0 own.1 lt
+          | inr le ↦
+              let here = own.1.all x.span.lo (omega arith) own.1.ordered in
+              let empty = none x.span.lo le in
+              absurd cc
+        ];
+    once = l.once;
+  },
+)

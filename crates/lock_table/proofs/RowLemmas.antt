@@ -1,10 +1,10 @@
 -- What edits of the rows do to the locks.
-use Rattle.std.proofs.Common.{◌≡◌, ℕ, zero, suc, ◌+◌, ◌<◌, ◌≤◌, ◌⊎◌, Bool, true, false, ◌&&◌, eqb, eq-eqb, leb, ltb, length, get_or, set, take, drop, List, [], ◌∷◌, ◌++◌, Result, Ok, Err, MatchResult, refl, sym, ap, ◌∙◌, subst, inl, inr, arith, add-one}
+use Rattle.std.proofs.Common.{◌≡◌, ℕ, zero, suc, ◌<◌, ◌≤◌, Bool, true, false, ◌&&◌, eqb, eq-eqb, length, get_or, set, List, [], ◌∷◌, Result, Ok, Err, MatchResult, refl, sym, ◌∙◌, inl, inr, arith, add-one}
 use Rattle.std.specs.List.{insert, remove, AllWithin}
 use Rattle.std.specs.List.Sorted.{IsSortedBy, IsNonDecreasingBy, IsBinarySearchResult, IsSearchInRange}
 use Rattle.std.specs.Ordering.{is_lt, ordering_index}
 use Rattle.std.specs.declared.cmp.Ordering.TheVariants.{Less, Equal, Greater}
-use Rattle.std.proofs.lemmas.Bool.{cases_Bool, and_parts, and_from, and_right, eqb-true, both_ways, ltb-true, leb-false, leb-true}
+use Rattle.std.proofs.lemmas.Bool.{cases_Bool, and_parts, and_from, eqb-true, both_ways}
 use Rattle.std.proofs.lemmas.List.Sorted.{searchable_from_sorted}
 use Rattle.intervals.specs.Bytes.{nothing}
 use Rattle.intervals.specs.Runs.{value_at}
@@ -13,7 +13,7 @@ use Rattle.model.specs.Locks.{replace}
 use Rattle.model.specs.Owners.{same_owner}
 use Rattle.lock_table.specs.declared.row.Row.{Row}
 use Rattle.lock_table.specs.Rows.{held, row_cmp, HoldsSome, AllAfter, AreRows, IsRowAt, IsGap}
-use Rattle.lock_table.proofs.Orders.{Place, place_cmp, places_total, place_equal, place_itself, owner_exact, owner_refl, back_less, back_greater, greater_trans}
+use Rattle.lock_table.proofs.Orders.{place_cmp, places_total, place_equal, place_itself, owner_exact, owner_refl, back_less, back_greater, greater_trans}
 
 -- the row is of this owner in this file
 abbrev pub is_of : Row → ℕ → Owner → Bool

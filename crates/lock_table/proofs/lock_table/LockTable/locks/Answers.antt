@@ -1,11 +1,10 @@
-use Rattle.std.proofs.Common.{◌≡◌, List, length, take, ap, rules, arith}
+use Rattle.std.proofs.Common.{◌≡◌, ap, rules}
 use Rattle.std.specs.Ordering.{is_lt}
 use Rattle.std.proofs.lemmas.List.{take_all}
 use Rattle.std.proofs.lemmas.Fn.{always_returns_same}
 use Rattle.model.specs.declared.lock_info.LockInfo.{LockInfo}
-use Rattle.lock_table.specs.declared.row.Row.{Row}
 use Rattle.lock_table.specs.Rows.{held}
-use Rattle.lock_table.specs.Listing.{lock_cmp, ListsRegions}
+use Rattle.lock_table.specs.Listing.{lock_cmp}
 use Rattle.lock_table.proofs.BlockerLemmas.{rows_step}
 use Rattle.lock_table.proofs.RowLemmas.{row_holds}
 use Rattle.lock_table.proofs.ListingLemmas.{lists_none, lists_join, listing_from, locks_weak}

@@ -1,4 +1,4 @@
-use Rattle.std.proofs.Common.{refl, arith}
+use Rattle.std.proofs.Common.{arith}
 use Rattle.lock_table.specs.Rows.{IsRowAt, IsGap}
 use Rattle.lock_table.proofs.RowLemmas.{held-set, held-insert, rows-set, rows-insert, place_below, gap_within, place_of}
 use Rattle.lock_table.proofs.lock_table.LockTable.replace_spans.Goals as goal

@@ -1,4 +1,4 @@
-use Rattle.std.proofs.Common.{◌≡◌, ◌+◌, ap}
+use Rattle.std.proofs.Common.{◌≡◌, ap}
 use Rattle.intervals.specs.Bytes.{Range}
 use Rattle.lock_table.proofs.ListingLemmas.{listed-start, listed-more, listed-end}
 use Rattle.lock_table.proofs.row.Row.push_regions.Goals as goal
