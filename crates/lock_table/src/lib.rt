@@ -4,9 +4,12 @@
 pub mod error;
 pub mod laws;
 pub mod lock_table;
-pub mod order;
+mod order;
 pub mod row;
 
 pub use model::lock_info::LockInfo;
 pub use model::mode::Mode;
 pub use model::owner::{Kind, Owner};
+
+#[cfg(test)]
+mod tests;

@@ -7,7 +7,7 @@ use model::lock_info::LockInfo;
 use std::cmp::Ordering;
 
 /// Where a region stands to the other.
-pub fn cmp_regions(a: &LockInfo, b: &LockInfo) -> Ordering
+pub(crate) fn cmp_regions(a: &LockInfo, b: &LockInfo) -> Ordering
     ensures { result ≡ lock_cmp a.now b.now }
 {
     a.span.lo.cmp(&b.span.lo).then(a.owner.cmp(&b.owner))
@@ -23,7 +23,7 @@ fn lower(a: LockInfo, b: LockInfo) -> LockInfo
 }
 
 /// The one of those there are that comes first.
-pub fn lowest_of(a: Option<LockInfo>, b: Option<LockInfo>) -> Option<LockInfo>
+pub(crate) fn lowest_of(a: Option<LockInfo>, b: Option<LockInfo>) -> Option<LockInfo>
     ensures either { (result ≡ a) ⊎ (result ≡ b) }
     ensures first { IfSome a (λ lock. IsSomeAnd result (λ least. IsNotAfter least lock)) }
     ensures second { IfSome b (λ lock. IsSomeAnd result (λ least. IsNotAfter least lock)) }

@@ -16,7 +16,7 @@ use model::owner::Owner;
 use std::cmp::Ordering;
 
 /// The bytes that one owner holds in one file, each with its mode.
-pub type Spans = VecMap<Mode>;
+pub(crate) type Spans = VecMap<Mode>;
 
 /// What one owner holds in one file.
 #[derive(Drop)]
@@ -38,7 +38,7 @@ fn bar(mode: Mode) -> Option<Mode>
 
 impl Row {
     /// Where the row stands to the place of an owner in a file: by file, then by owner.
-    pub fn cmp_place(&self, file: u16, owner: Owner) -> Ordering
+    pub(crate) fn cmp_place(&self, file: u16, owner: Owner) -> Ordering
         ensures { result ≡ row_cmp self.now file owner }
     {
         self.file.cmp(&file).then(self.owner.cmp(&owner))
@@ -48,7 +48,7 @@ impl Row {
     ///
     /// # Errors
     /// `NoMemory`.
-    pub fn copy(&self) -> Result<Self, NoMemory>
+    pub(crate) fn copy(&self) -> Result<Self, NoMemory>
         ensures { IfOk result (λ copy. copy ≡ self.now) }
     {
         Ok(Row {
@@ -59,7 +59,7 @@ impl Row {
     }
 
     /// Whether both are of one owner and one file, and hold the same bytes in the same modes.
-    pub fn same(&self, other: &Self) -> bool
+    pub(crate) fn same(&self, other: &Self) -> bool
         ensures { IsTrue result ↔ IsSameRow self.now other.now }
     {
         self.file == other.file && self.owner == other.owner && self.spans.same(&other.spans)
@@ -96,7 +96,7 @@ impl Row {
 
     /// The lowest region of the row that blocks the mode in the span for an owner; none blocks the
     /// row's own.
-    pub fn blocker(&self, owner: Owner, span: Span, mode: Mode) -> Option<LockInfo>
+    pub(crate) fn blocker(&self, owner: Owner, span: Span, mode: Mode) -> Option<LockInfo>
         ensures { IsBlockerOf (locks_of self.now) owner span mode result }
     {
         if self.owner == owner {
@@ -109,7 +109,7 @@ impl Row {
     ///
     /// # Errors
     /// `NoMemory`, and then some regions may have been added.
-    pub fn push_regions(&self, locks: &mut Vec<LockInfo>) -> Result<(), NoMemory>
+    pub(crate) fn push_regions(&self, locks: &mut Vec<LockInfo>) -> Result<(), NoMemory>
         requires { IsBounded (value_at self.now.spans) }
         ensures { OnOk result ((more : List LockInfo) × (locks.new.items ≡ locks.old.items ++ more) × ListsRegions (locks_of self.now) more) }
     {
