@@ -1,0 +1,307 @@
+-- Locks that block, and locks that are put together from those of rows.
+use Rattle.std.proofs.Common.{◌≡◌, ◌≢◌, ℕ, ◌+◌, ◌-◌, ◌<◌, ◌≤◌, ◌⊎◌, true, false, ◌&&◌, eqb, eq-eqb, max, length, get_or, take, List, [], ◌∷◌, ◌++◌, Option, Some, None, IfSome, IsSomeAnd, MatchOption, refl, ap, sym, ◌∙◌, subst, inl, inr, arith}
+use Rattle.std.specs.List.{All}
+use Rattle.std.specs.declared.cmp.Ordering.TheVariants.{Less, Greater}
+use Rattle.std.proofs.lemmas.Bool.{cases_lt, cases_order, cases_Bool, and_from, and_right, both_ways, false≢true}
+use Rattle.std.proofs.lemmas.List.{take_more}
+use Rattle.intervals.specs.Bytes.{Range, nothing, IsRun, IsBarred, NoneIn}
+use Rattle.intervals.specs.Runs.{value_at}
+use Rattle.model.specs.declared.mode.Mode.{Mode}
+use Rattle.model.specs.declared.mode.Mode.TheVariants.{Read, Write}
+use Rattle.model.specs.declared.owner.Owner.{Owner}
+use Rattle.model.specs.declared.lock_info.LockInfo.{LockInfo}
+use Rattle.model.specs.Owners.{same_owner, owner_cmp}
+use Rattle.model.specs.Locks.{FileLocks, excludes, bars, IsFree, IsRegion, Blocks, IsNotAfter, IsLowestBlocker}
+use Rattle.lock_table.specs.declared.row.Row.{Row}
+use Rattle.lock_table.specs.Regions.{bar_of, IsFirstRegion}
+use Rattle.lock_table.specs.Rows.{held, row_cmp, AllAfter, AreRows, locks_of}
+use Rattle.lock_table.specs.Blockers.{IsBlockerOf}
+use Rattle.lock_table.proofs.Orders.{owner_exact, owner_refl, owners_total, owner_equal, owner_not_greater, not_greater_trans, cases_not_greater, back_greater, place_cmp, places_total, back_less}
+use Rattle.lock_table.proofs.RowLemmas.{is_of, is_of_less}
+use Rattle.lock_table.proofs.FileRows.{rows-take}
+
+-- a row's own locks
+pub locks_own : (r : Row) → locks_of r r.owner ≡ value_at r.spans
+locks_own r = let itself : ((eqb r.file r.file) && same_owner r.owner r.owner) ≡ true = and_from (eqb r.file r.file) (same_owner r.owner r.owner) (eq-eqb r.file r.file refl) (owner_refl r.owner) in rw itself refl
+
+pub locks_other : (r : Row) (o : Owner) → same_owner r.owner o ≡ false → locks_of r o ≡ nothing
+locks_other r o differ = rw (and_right (eqb r.file r.file) (same_owner r.owner o) differ) refl
+
+nothing_region : (s : Range) (m : Mode) → IsRun nothing s m → ⊥
+nothing_region s m run = let e = run.all s.lo (omega arith) run.ordered in absurd cc
+
+differ_from : (a b : Owner) → a ≢ b → same_owner a b ≡ false
+differ_from a b differ = elim (cases_Bool (same_owner a b)) [ inl same ↦ absurd (differ (owner_exact a b same)) | inr other ↦ other ]
+
+-- a region of a row is of its owner, and a region of its bytes
+pub region_own : (r : Row) (x : LockInfo) → IsRegion (locks_of r) x → (x.owner ≡ r.owner) × IsRun (value_at r.spans) x.span x.mode
+region_own r x region = elim (cases_Bool (same_owner r.owner x.owner)) [
+  | inl same ↦
+      let e : r.owner ≡ x.owner = owner_exact _ _ same in
+      let run : IsRun (locks_of r r.owner) x.span x.mode = subst (λ (o : Owner). IsRun (locks_of r o) x.span x.mode) (sym e) region in
+      (sym e, subst (λ (f : ℕ → Option Mode). IsRun f x.span x.mode) (locks_own r) run)
+  | inr differ ↦ absurd (nothing_region x.span x.mode (subst (λ (f : ℕ → Option Mode). IsRun f x.span x.mode) (locks_other r x.owner differ) region))
+]
+
+pub own_region : (r : Row) (x : LockInfo) → x.owner ≡ r.owner → IsRun (value_at r.spans) x.span x.mode → IsRegion (locks_of r) x
+own_region r x e run =
+    let here : IsRun (locks_of r r.owner) x.span x.mode = subst (λ (f : ℕ → Option Mode). IsRun f x.span x.mode) (sym (locks_own r)) run in
+    subst (λ (o : Owner). IsRun (locks_of r o) x.span x.mode) (sym e) here
+
+-- a byte is barred where its mode excludes
+barred_from : (f : ℕ → Option Mode) (b : ℕ) (mode m : Mode) → f b ≡ Some m → excludes m mode ≡ true → IsBarred f (bar_of mode) b
+barred_from f b Read Read e h = absurd (false≢true h)
+barred_from f b Read Write e h = e
+barred_from f b Write Read e h = rw e refl
+barred_from f b Write Write e h = rw e refl
+
+excluded_from : (f : ℕ → Option Mode) (b : ℕ) (mode m : Mode) → f b ≡ Some m → IsBarred f (bar_of mode) b → excludes m mode ≡ true
+excluded_from f b Read Read e h = absurd cc
+excluded_from f b Read Write e h = refl
+excluded_from f b Write Read e h = refl
+excluded_from f b Write Write e h = refl
+
+bars_none : (mode : Mode) (x : Option Mode) → ((m : Mode) → x ≡ Some m → excludes m mode ≡ false) → bars mode x ≡ false
+bars_none mode None h = refl
+bars_none mode (Some m) h = h m refl
+
+-- two regions of one function of bytes that begin at one byte are one
+pub region_one : (f : ℕ → Option Mode) (s t : Range) (m n : Mode) → IsRun f s m → IsRun f t n → s.lo ≡ t.lo → (s.hi ≡ t.hi) × (m ≡ n)
+region_one f s t m n p q e =
+    let at_s : f s.lo ≡ Some m = p.all s.lo (omega arith) p.ordered in
+    let at_t : f t.lo ≡ Some n = q.all t.lo (omega arith) q.ordered in
+    let here : f s.lo ≡ f t.lo = ap f e in
+    let modes : m ≡ n = cc in
+    let ordered_s = p.ordered in
+    let ordered_t = q.ordered in
+    let ends : s.hi ≡ t.hi = elim (cases_order s.hi t.hi) [
+      | inl same ↦ same
+      | inr (inl lt) ↦ let past : f (s.hi + 1) ≡ Some n = q.all (s.hi + 1) (omega arith) (omega arith) in absurd (p.ends (past ∙ ap Some (sym modes)))
+      | inr (inr lt) ↦ let past : f (t.hi + 1) ≡ Some m = p.all (t.hi + 1) (omega arith) (omega arith) in absurd (q.ends (past ∙ ap Some modes))
+    ] in
+    (ends, modes)
+
+pub lock_one : (a b : LockInfo) → a.owner ≡ b.owner → a.mode ≡ b.mode → a.span.lo ≡ b.span.lo → a.span.hi ≡ b.span.hi → a ≡ b
+lock_one a b owners modes los his = λ i. record { owner = owners i; mode = modes i; span = record { lo = los i; hi = his i } }
+
+-- two regions of one owner that begin at one byte are one
+pub same_region : (h : FileLocks) (a b : LockInfo) → IsRegion h a → IsRegion h b → a.owner ≡ b.owner → a.span.lo ≡ b.span.lo → a ≡ b
+same_region h a b p q owners los =
+    let r : IsRun (h b.owner) a.span a.mode = subst (λ (o : Owner). IsRun (h o) a.span a.mode) owners p in
+    let same = region_one (h b.owner) a.span b.span a.mode b.mode r q los in
+    lock_one a b owners same.1 los same.0
+
+-- each of two locks that come before or are the other is the other
+pub lowest_one : (h : FileLocks) (owner : Owner) (s : Range) (mode : Mode) (a b : LockInfo) → IsLowestBlocker h owner s mode a → IsLowestBlocker h owner s mode b → a ≡ b
+lowest_one h owner s mode a b p q = elim (p.lowest b q.blocks) [
+  | inl less ↦ elim (q.lowest a p.blocks) [ inl more ↦ absurd (omega arith) | inr same ↦ absurd (omega (arith, same.0)) ]
+  | inr first ↦ elim (q.lowest a p.blocks) [
+    | inl more ↦ absurd (omega (arith, first.0))
+    | inr second ↦ elim (cases_not_greater (owner_cmp a.owner b.owner) first.1) [
+      | inl less ↦ absurd (second.1 (back_greater owner_cmp owners_total a.owner b.owner less))
+      | inr equal ↦ same_region h a b p.blocks.region q.blocks.region (owner_equal a.owner b.owner equal) first.0
+    ]
+  ]
+]
+
+-- to come before or be the other is an order
+pub not_after_trans : (a b c : LockInfo) → IsNotAfter a b → IsNotAfter b c → IsNotAfter a c
+not_after_trans a b c (inl p) (inl q) = inl (omega arith)
+not_after_trans a b c (inl p) (inr q) = inl (omega (arith, q.0))
+not_after_trans a b c (inr p) (inl q) = inl (omega (arith, p.0))
+not_after_trans a b c (inr p) (inr q) = inr (p.0 ∙ q.0, not_greater_trans owner_cmp owners_total a.owner b.owner c.owner p.1 q.1)
+
+-- each owner has in k what it has in g, or what it has in h, and nothing in the other
+abbrev pub IsJoin : FileLocks → FileLocks → FileLocks → Type 0
+IsJoin g h k = (o : Owner) → ((k o ≡ g o) × (h o ≡ nothing)) ⊎ ((k o ≡ h o) × (g o ≡ nothing))
+
+module _ (g h k : FileLocks) (join : IsJoin g h k) where
+  moved : (f e : ℕ → Option Mode) (s : Range) (m : Mode) → f ≡ e → IsRun f s m → IsRun e s m
+  moved f e s m is run = subst (λ (u : ℕ → Option Mode). IsRun u s m) is run
+
+  pub region_left : (x : LockInfo) → IsRegion g x → IsRegion k x
+  region_left x region = elim (join x.owner) [
+    | inl e ↦ moved (g x.owner) (k x.owner) x.span x.mode (sym e.0) region
+    | inr e ↦ absurd (nothing_region x.span x.mode (moved (g x.owner) nothing x.span x.mode e.1 region))
+  ]
+
+  pub region_right : (x : LockInfo) → IsRegion h x → IsRegion k x
+  region_right x region = elim (join x.owner) [
+    | inl e ↦ absurd (nothing_region x.span x.mode (moved (h x.owner) nothing x.span x.mode e.1 region))
+    | inr e ↦ moved (h x.owner) (k x.owner) x.span x.mode (sym e.0) region
+  ]
+
+  pub region_cases : (x : LockInfo) → IsRegion k x → IsRegion g x ⊎ IsRegion h x
+  region_cases x region = elim (join x.owner) [
+    | inl e ↦ inl (moved (k x.owner) (g x.owner) x.span x.mode e.0 region)
+    | inr e ↦ inr (moved (k x.owner) (h x.owner) x.span x.mode e.0 region)
+  ]
+
+  -- no owner has regions in both
+  pub owners_apart : (x y : LockInfo) → IsRegion g x → IsRegion h y → same_owner x.owner y.owner ≡ false
+  owners_apart x y p q = differ_from x.owner y.owner (λ same. elim (join x.owner) [
+    | inl e ↦ nothing_region y.span y.mode (moved (h y.owner) nothing y.span y.mode (ap h (sym same) ∙ e.1) q)
+    | inr e ↦ nothing_region x.span x.mode (moved (g x.owner) nothing x.span x.mode e.1 p)
+  ])
+
+-- a span that has bytes and is free has no lock that blocks
+free_blocks : (h : FileLocks) (owner : Owner) (s : Range) (mode : Mode) (x : LockInfo) → s.lo ≤ s.hi → IsFree h owner s mode → Blocks h owner s mode x → ⊥
+free_blocks h owner s mode x order free blocks =
+    let starts = blocks.starts in
+    let ends = blocks.ends in
+    let ordered = blocks.region.ordered in
+    let here : h x.owner (max x.span.lo s.lo) ≡ Some x.mode = blocks.region.all (max x.span.lo s.lo) (omega arith) (omega arith) in
+    let barred : bars mode (h x.owner (max x.span.lo s.lo)) ≡ false = free x.owner (max x.span.lo s.lo) blocks.is_other (omega arith) (omega arith) in
+    both_ways (excludes x.mode mode) (rw here at barred) blocks.conflicts
+
+module _ (g h k : FileLocks) (join : IsJoin g h k) (owner : Owner) (s : Range) (mode : Mode) where
+  after : (e : FileLocks) (a : Option LockInfo) (z y : LockInfo) → s.lo ≤ s.hi → IsBlockerOf e owner s mode a → IfSome a (λ x. IsSomeAnd (Some z) (λ w. IsNotAfter w x)) → Blocks e owner s mode y → IsNotAfter z y
+  after e None z y order p first blocks = absurd (free_blocks e owner s mode y order p.answer blocks)
+  after e (Some x) z y order p first blocks = not_after_trans z x y first (p.answer.lowest y blocks)
+
+  -- the lowest of two blockers blocks where both are joined
+  pub blocker_join : (a b c : Option LockInfo) → IsBlockerOf g owner s mode a → IsBlockerOf h owner s mode b → ((c ≡ a) ⊎ (c ≡ b)) → IfSome a (λ x. IsSomeAnd c (λ z. IsNotAfter z x)) → IfSome b (λ x. IsSomeAnd c (λ z. IsNotAfter z x)) → IsBlockerOf k owner s mode c
+  blocker_join None None None p q either first second = record {
+    answer = λ other byte differ lo hi. elim (join other) [
+      | inl e ↦ rw (ap (λ (f : ℕ → Option Mode). f byte) e.0) (p.answer other byte differ lo hi)
+      | inr e ↦ rw (ap (λ (f : ℕ → Option Mode). f byte) e.0) (q.answer other byte differ lo hi)
+    ];
+    ordered = λ some. absurd cc;
+  }
+  blocker_join (Some x) b None p q either first second = absurd first
+  blocker_join None (Some y) None p q either first second = absurd second
+  blocker_join a b (Some z) p q either first second =
+      let order : s.lo ≤ s.hi = elim either [ inl e ↦ p.ordered (rw (← e) refl) | inr e ↦ q.ordered (rw (← e) refl) ] in
+      record {
+        answer = record {
+          blocks = elim either [
+            | inl e ↦ let low : IsLowestBlocker g owner s mode z = rw (← e) at p.answer in record { is_other = low.blocks.is_other; region = region_left g h k join z low.blocks.region; conflicts = low.blocks.conflicts; starts = low.blocks.starts; ends = low.blocks.ends }
+            | inr e ↦ let low : IsLowestBlocker h owner s mode z = rw (← e) at q.answer in record { is_other = low.blocks.is_other; region = region_right g h k join z low.blocks.region; conflicts = low.blocks.conflicts; starts = low.blocks.starts; ends = low.blocks.ends }
+          ];
+          lowest = λ y blocks. elim (region_cases g h k join y blocks.region) [
+            | inl left ↦ after g a z y order p first (record { is_other = blocks.is_other; region = left; conflicts = blocks.conflicts; starts = blocks.starts; ends = blocks.ends })
+            | inr right ↦ after h b z y order q second (record { is_other = blocks.is_other; region = right; conflicts = blocks.conflicts; starts = blocks.starts; ends = blocks.ends })
+          ];
+        };
+        ordered = λ some. order;
+      }
+
+-- with no locks nothing blocks
+pub blocker_none : (owner : Owner) (s : Range) (mode : Mode) → IsBlockerOf (λ o. nothing) owner s mode None
+blocker_none owner s mode = record { answer = λ other byte differ lo hi. refl; ordered = λ some. absurd cc }
+
+-- the row's own locks don't block its owner
+pub own_free : (r : Row) (owner : Owner) (s : Range) (mode : Mode) → r.owner ≡ owner → IsFree (locks_of r) owner s mode
+own_free r owner s mode e other byte differ lo hi =
+    let apart_here : same_owner r.owner other ≡ false = differ_from r.owner other (λ same. differ (sym same ∙ e)) in
+    rw (ap (λ (f : ℕ → Option Mode). f byte) (locks_other r other apart_here)) refl
+
+module _ (r : Row) (owner : Owner) (s : Range) (mode : Mode) (differ : r.owner ≢ owner) where
+  row_free : NoneIn (IsBarred (value_at r.spans) (bar_of mode)) s → IsFree (locks_of r) owner s mode
+  row_free none other byte apart lo hi = elim (cases_Bool (same_owner r.owner other)) [
+    | inl same ↦
+        let here : locks_of r other byte ≡ value_at r.spans byte = ap (λ (o : Owner). locks_of r o byte) (sym (owner_exact r.owner other same)) ∙ ap (λ (f : ℕ → Option Mode). f byte) (locks_own r) in
+        rw here (bars_none mode (value_at r.spans byte) (λ m is. elim (cases_Bool (excludes m mode)) [
+          | inl ex ↦ absurd (none byte lo hi (barred_from (value_at r.spans) byte mode m is ex))
+          | inr other ↦ other
+        ]))
+    | inr apart_here ↦ rw (ap (λ (f : ℕ → Option Mode). f byte) (locks_other r other apart_here)) refl
+  ]
+
+  -- no region that blocks begins before the one that has the first barred byte
+  none_lower : (x y : LockInfo) → IsFirstRegion r s (bar_of mode) x → Blocks (locks_of r) owner s mode y → x.span.lo ≤ y.span.lo
+  none_lower x y is_first blocks =
+      let f = value_at r.spans in
+      let run = (region_own r y blocks.region).1 in
+      let starts = blocks.starts in
+      let ends = blocks.ends in
+      let ordered = run.ordered in
+      let byte = is_first.byte in
+      let above = is_first.first.above in
+      let below = is_first.first.below in
+      let in_start = is_first.starts in
+      let in_end = is_first.ends in
+      elim (cases_lt y.span.lo x.span.lo) [
+        | inl lt ↦ elim (cases_lt y.span.hi byte) [
+          | inl short ↦
+              let here : f (max y.span.lo s.lo) ≡ Some y.mode = run.all (max y.span.lo s.lo) (omega arith) (omega arith) in
+              absurd (is_first.first.none_before (max y.span.lo s.lo) (omega arith) (omega arith) (barred_from f (max y.span.lo s.lo) mode y.mode here blocks.conflicts))
+          | inr long ↦
+              let there : f byte ≡ Some y.mode = run.all byte (omega arith) long in
+              let there' : f byte ≡ Some x.mode = is_first.region.all byte in_start in_end in
+              let same : y.mode ≡ x.mode = cc in
+              let before : f (x.span.lo - 1) ≡ Some y.mode = run.all (x.span.lo - 1) (omega arith) (omega arith) in
+              absurd (is_first.region.begins (x.span.lo - 1) (omega arith) (before ∙ ap Some same))
+        ]
+        | inr le ↦ le
+      ]
+
+  row_lowest : (x : LockInfo) → IsFirstRegion r s (bar_of mode) x → IsLowestBlocker (locks_of r) owner s mode x
+  row_lowest x is_first =
+      let f = value_at r.spans in
+      let above = is_first.first.above in
+      let below = is_first.first.below in
+      let in_start = is_first.starts in
+      let in_end = is_first.ends in
+      let there : f is_first.byte ≡ Some x.mode = is_first.region.all is_first.byte in_start in_end in
+      record {
+        blocks = record {
+          is_other = λ e. differ (sym is_first.owner ∙ e);
+          region = own_region r x is_first.owner is_first.region;
+          conflicts = excluded_from f is_first.byte mode x.mode there is_first.first.here;
+          starts = omega arith;
+          ends = omega arith;
+        };
+        lowest = λ y blocks. not_after x y (none_lower x y is_first blocks) (is_first.owner ∙ sym (region_own r y blocks.region).0);
+      }
+    where
+      not_after : (x y : LockInfo) → x.span.lo ≤ y.span.lo → x.owner ≡ y.owner → IsNotAfter x y
+      not_after x y le same = elim (cases_lt x.span.lo y.span.lo) [
+        | inl lt ↦ inl lt
+        | inr ge ↦ inr (omega arith, rw same (owner_not_greater y.owner))
+      ]
+
+  -- what blocks in one row
+  pub row_blocker : (found : Option LockInfo) → MatchOption found (NoneIn (IsBarred (value_at r.spans) (bar_of mode)) s) (IsFirstRegion r s (bar_of mode)) → IsBlockerOf (locks_of r) owner s mode found
+  row_blocker None none = record { answer = row_free none; ordered = λ some. absurd cc }
+  row_blocker (Some x) is_first =
+      let above = is_first.first.above in
+      let below = is_first.first.below in
+      record { answer = row_lowest x is_first; ordered = λ some. omega arith }
+
+-- a last row of another owner than asked
+other_held : (l : List Row) (r : Row) (f : ℕ) (o : Owner) → is_of r f o ≡ false → held (l ++ r ∷ []) f o ≡ held l f o
+unfolding held
+other_held [] r f o differ = rw differ refl
+other_held (s ∷ l) r f o differ = rw (other_held l r f o differ) refl
+
+all_after_last : (f : ℕ) (o : Owner) (l : List Row) (r : Row) → AllAfter f o (l ++ r ∷ []) → row_cmp r f o ≡ Greater
+all_after_last f o [] r h = h.0
+all_after_last f o (s ∷ l) r h = all_after_last f o l r h.1
+
+-- the last row has the locks of its place, and those before it none
+last_held : (l : List Row) (r : Row) → AreRows (l ++ r ∷ []) → (held (l ++ r ∷ []) r.file r.owner ≡ value_at r.spans) × (held l r.file r.owner ≡ nothing)
+unfolding held
+last_held [] r rows = let itself : is_of r r.file r.owner ≡ true = and_from (eqb r.file r.file) (same_owner r.owner r.owner) (eq-eqb r.file r.file refl) (owner_refl r.owner) in (rw itself refl, refl)
+last_held (s ∷ l) r rows =
+    let more = last_held l r rows.2 in
+    let before : row_cmp s r.file r.owner ≡ Less = back_less place_cmp places_total (r.file, r.owner) (s.file, s.owner) (all_after_last s.file s.owner l r rows.1) in
+    let differ = is_of_less s r.file r.owner before in
+    (rw differ more.0, rw differ more.1)
+
+rows_join : (l : List Row) (r : Row) (f : ℕ) → AreRows (l ++ r ∷ []) → r.file ≡ f → IsJoin (held l f) (locks_of r) (held (l ++ r ∷ []) f)
+rows_join l r f rows file o = elim (cases_Bool (same_owner r.owner o)) [
+  | inl same ↦
+      let e : r.owner ≡ o = owner_exact _ _ same in
+      let last = last_held l r rows in
+      inr (rw (← file, ← e) (last.0 ∙ sym (locks_own r)), rw (← file, ← e) last.1)
+  | inr differ ↦ inl (other_held l r f o (and_right (eqb r.file f) (same_owner r.owner o) differ), locks_other r o differ)
+]
+
+-- one row more of a file's rows
+pub rows_step : (l : List Row) (i : ℕ) (r : Row) (f : ℕ) → AreRows l → All (λ (s : Row). s.file ≡ f) l → i < length l → r ≡ get_or l i r → IsJoin (held (take i l) f) (locks_of r) (held (take (i + 1) l) f)
+rows_step l i r f rows files lt is =
+    let next : take (i + 1) l ≡ take i l ++ r ∷ [] = take_more l i r lt ∙ rw (← is) refl in
+    let order : AreRows (take i l ++ r ∷ []) = subst AreRows next (rows-take l (i + 1) rows) in
+    let file : r.file ≡ f = rw (← is) at (files i r lt) in
+    subst (λ (m : List Row). IsJoin (held (take i l) f) (locks_of r) (held m f)) (sym next) (rows_join (take i l) r f order file)

@@ -1,0 +1,6 @@
+pub mod Orders
+pub mod RowLemmas
+pub mod FileRows
+pub mod SameRows
+pub mod BlockerLemmas
+pub mod ListingLemmas

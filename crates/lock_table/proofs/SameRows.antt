@@ -1,0 +1,101 @@
+-- Rows that hold the same locks.
+use Rattle.std.proofs.Common.{◌≡◌, ℕ, ◌+◌, ◌<◌, ◌≤◌, ◌⊎◌, true, false, eqb, eq-eqb, List, [], ◌∷◌, drop, length, get_or, refl, sym, ◌∙◌, inl, inr, arith}
+use Rattle.std.specs.List.{AllZip}
+use Rattle.std.specs.declared.cmp.Ordering.{Ordering}
+use Rattle.std.specs.declared.cmp.Ordering.TheVariants.{Less, Equal, Greater}
+use Rattle.std.proofs.lemmas.Bool.{cases_Bool, and_from}
+use Rattle.std.proofs.lemmas.List.{drop_more, drop_all}
+use Rattle.intervals.specs.Bytes.{nothing}
+use Rattle.intervals.specs.Runs.{value_at}
+use Rattle.model.specs.declared.owner.Owner.{Owner}
+use Rattle.model.specs.Owners.{same_owner}
+use Rattle.lock_table.specs.declared.row.Row.{Row}
+use Rattle.lock_table.specs.Rows.{held, row_cmp, AllAfter, AreRows, IsSameRow}
+use Rattle.lock_table.proofs.Orders.{place_cmp, places_total, place_equal, owner_refl, back_greater}
+use Rattle.lock_table.proofs.RowLemmas.{is_of, row_place, all_after_trans, held-none}
+
+-- what is read at i is the first of the rest
+pub drop_read : {A : Type 0} (l : List A) (i : ℕ) (x : A) → i < length l → x ≡ get_or l i x → drop i l ≡ x ∷ drop (i + 1) l
+drop_read l i x lt is = drop_more l i x lt ∙ rw (← is) refl
+
+-- the first row has the locks of its place
+pub held_first : (r : Row) (rest : List Row) → held (r ∷ rest) r.file r.owner ≡ value_at r.spans
+unfolding held
+held_first r rest = let itself : is_of r r.file r.owner ≡ true = and_from (eqb r.file r.file) (same_owner r.owner r.owner) (eq-eqb r.file r.file refl) (owner_refl r.owner) in rw itself refl
+
+-- rows that are the same one by one hold the same locks
+pub same_held : (a b : List Row) → AllZip IsSameRow a b → (f : ℕ) (o : Owner) → held a f o ≡ held b f o
+unfolding held
+same_held [] [] h f o = refl
+same_held [] (s ∷ b) h f o = absurd h
+same_held (r ∷ a) [] h f o = absurd h
+same_held (r ∷ a) (s ∷ b) h f o = rw (h.0.file, h.0.owner, h.0.bytes, same_held a b h.1 f o) refl
+
+cases_ordering : (o : Ordering) → (o ≡ Less) ⊎ ((o ≡ Equal) ⊎ (o ≡ Greater))
+cases_ordering Less = inl refl
+cases_ordering Equal = inr (inl refl)
+cases_ordering Greater = inr (inr refl)
+
+-- past the first row, at another place
+held_past : (r : Row) (rest : List Row) (f : ℕ) (o : Owner) → is_of r f o ≡ false → held (r ∷ rest) f o ≡ held rest f o
+unfolding held
+held_past r rest f o differ = rw differ refl
+
+-- and rows that hold the same locks are the same one by one
+pub held_same : (a b : List Row) → AreRows a → AreRows b → ((f : ℕ) (o : Owner) → held a f o ≡ held b f o) → AllZip IsSameRow a b
+unfolding held
+held_same [] [] p q e = tt
+held_same [] (s ∷ b) p q e = absurd (q.0.some (sym (held_first s b) ∙ sym (e s.file s.owner)))
+held_same (r ∷ a) [] p q e = absurd (p.0.some (sym (held_first r a) ∙ e r.file r.owner))
+held_same (r ∷ a) (s ∷ b) p q e = elim (cases_ordering (row_cmp r s.file s.owner)) [
+  | inl less ↦
+      let after : row_cmp s r.file r.owner ≡ Greater = back_greater place_cmp places_total (r.file, r.owner) (s.file, s.owner) less in
+      let all : AllAfter r.file r.owner (s ∷ b) = (after, all_after_trans s.file r.file s.owner r.owner b after q.1) in
+      absurd (p.0.some (sym (held_first r a) ∙ e r.file r.owner ∙ held-none (s ∷ b) r.file r.owner all))
+  | inr (inl equal) ↦
+      let at = place_equal (r.file, r.owner) (s.file, s.owner) equal in
+      let bytes : value_at r.spans ≡ value_at s.spans = sym (held_first r a) ∙ e r.file r.owner ∙ rw (at.0, at.1) (held_first s b) in
+      (record { file = at.0; owner = at.1; bytes = bytes }, held_same a b p.2 q.2 (λ f o. rest at.0 at.1 f o))
+  | inr (inr greater) ↦
+      let all : AllAfter s.file s.owner (r ∷ a) = (greater, all_after_trans r.file s.file r.owner s.owner a greater p.1) in
+      absurd (q.0.some (sym (held_first s b) ∙ sym (e s.file s.owner) ∙ held-none (r ∷ a) s.file s.owner all))
+]
+  where
+    rest : r.file ≡ s.file → r.owner ≡ s.owner → (f : ℕ) (o : Owner) → held a f o ≡ held b f o
+    rest files owners f o = elim (cases_Bool (is_of r f o)) [
+      | inl this ↦
+          let at = row_place r f o this in
+          let first : held a f o ≡ nothing = rw (← at.0, ← at.1) (held-none a r.file r.owner p.1) in
+          let second : held b f o ≡ nothing = rw (← at.0, ← at.1, files, owners) (held-none b s.file s.owner q.1) in
+          first ∙ sym second
+      | inr differ ↦
+          let other : is_of s f o ≡ false = rw (← files, ← owners) differ in
+          sym (held_past r a f o differ) ∙ e f o ∙ held_past s b f o other
+    ]
+
+-- whether rows are the same one by one is whether those that are left are
+pub record Left (a b : List Row) (i : ℕ) : Type 0 where
+  pub to : AllZip IsSameRow (drop i a) (drop i b) → AllZip IsSameRow a b
+  pub from : AllZip IsSameRow a b → AllZip IsSameRow (drop i a) (drop i b)
+
+pub left-start : (a b : List Row) → Left a b 0
+left-start a b = record { to = λ h. h; from = λ h. h }
+
+module _ (a b : List Row) (i : ℕ) (x y : Row) (in_a : i < length a) (in_b : i < length b) (is_x : x ≡ get_or a i x) (is_y : y ≡ get_or b i y) (left : Left a b i) where
+  pub left-more : IsSameRow x y → Left a b (i + 1)
+  left-more same = record {
+    to = λ h. left.to (rw (drop_read a i x in_a is_x, drop_read b i y in_b is_y) (same, h));
+    from = λ h. (rw (drop_read a i x in_a is_x, drop_read b i y in_b is_y) at (left.from h)).1;
+  }
+
+  pub left-differ : (IsSameRow x y → ⊥) → AllZip IsSameRow a b → ⊥
+  left-differ differ h = differ (rw (drop_read a i x in_a is_x, drop_read b i y in_b is_y) at (left.from h)).0
+
+pub left-end : (a b : List Row) (i : ℕ) → length a ≤ i → length b ≤ i → Left a b i → AllZip IsSameRow a b
+left-end a b i le_a le_b left = left.to (rw (drop_all i a le_a, drop_all i b le_b) tt)
+
+pub same_length : (a b : List Row) → AllZip IsSameRow a b → length a ≡ length b
+same_length [] [] h = refl
+same_length [] (s ∷ b) h = absurd h
+same_length (r ∷ a) [] h = absurd h
+same_length (r ∷ a) (s ∷ b) h = let e = same_length a b h.1 in omega arith

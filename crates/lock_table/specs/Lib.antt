@@ -1,0 +1,4 @@
+pub mod Regions
+pub mod Rows
+pub mod Blockers
+pub mod Listing

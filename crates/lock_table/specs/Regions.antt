@@ -1,0 +1,26 @@
+-- Regions of one row.
+use Rattle.std.specs.Prelude.{◌≡◌, ℕ, ◌≤◌, Option, Some, None}
+use Rattle.intervals.specs.Bytes.{Range, greatest, IsBarred, IsFirstIn, IsRun}
+use Rattle.intervals.specs.Runs.{value_at}
+use Rattle.model.specs.declared.mode.Mode.{Mode}
+use Rattle.model.specs.declared.mode.Mode.TheVariants.{Read, Write}
+use Rattle.model.specs.declared.lock_info.LockInfo.{LockInfo}
+use Rattle.lock_table.specs.declared.row.Row.{Row}
+
+-- the mode that excludes the other on a byte, or none where each does
+abbrev pub bar_of : Mode → Option Mode
+bar_of Read = Some Write
+bar_of Write = None
+
+-- the bytes from the first on
+abbrev pub rest_from : ℕ → Range
+rest_from first = record { lo = first; hi = greatest }
+
+-- the lock is the row's region that has the first barred byte of the span
+pub record IsFirstRegion (r : Row) (within : Range) (bar : Option Mode) (lock : LockInfo) : Type 0 where
+  pub owner : lock.owner ≡ r.owner
+  pub region : IsRun (value_at r.spans) lock.span lock.mode
+  pub byte : ℕ
+  pub first : IsFirstIn (IsBarred (value_at r.spans) bar) within byte
+  pub starts : lock.span.lo ≤ byte
+  pub ends : byte ≤ lock.span.hi

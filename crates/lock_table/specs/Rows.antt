@@ -1,0 +1,66 @@
+-- The rows of a lock table, and the locks that they hold.
+use Rattle.std.specs.Prelude.{◌≡◌, ◌≢◌, ℕ, zero, suc, ◌<◌, ◌≤◌, Option, None, List, [], ◌∷◌}
+use Rattle.std.specs.Ordering.{nat_cmp, ordering_then}
+use Rattle.std.specs.declared.cmp.Ordering.{Ordering}
+use Rattle.std.specs.declared.cmp.Ordering.TheVariants.{Less, Equal, Greater}
+use Rattle.intervals.specs.Bytes.{greatest, nothing}
+use Rattle.intervals.specs.Runs.{value_at}
+use Rattle.model.specs.Locks.{FileLocks, Locks, no_locks, replace}
+use Rattle.model.specs.Owners.{owner_cmp}
+use Rattle.model.specs.declared.mode.Mode.{Mode}
+use Rattle.model.specs.declared.owner.Owner.{Owner}
+use Rattle.lock_table.specs.declared.row.Row.{Row}
+
+-- the locks that the rows hold: of an owner in a file those of its first row
+unfoldable pub held : List Row → Locks
+held [] = no_locks
+held (r ∷ rest) = replace (held rest) r.file r.owner (value_at r.spans)
+
+-- where a row stands to the place of an owner in a file: by file, then by owner
+abbrev pub row_cmp : Row → ℕ → Owner → Ordering
+row_cmp r file owner = ordering_then (nat_cmp r.file file) (owner_cmp r.owner owner)
+
+-- no byte past the greatest offset is held
+abbrev pub IsBounded : (ℕ → Option Mode) → Type 0
+IsBounded f = (b : ℕ) → greatest < b → f b ≡ None
+
+-- no byte from the first on is held
+abbrev pub NothingFrom : (ℕ → Option Mode) → ℕ → Type 0
+NothingFrom f first = (b : ℕ) → first ≤ b → f b ≡ None
+
+-- some byte is held, and none past the greatest offset
+pub record HoldsSome (f : ℕ → Option Mode) : Type 0 where
+  pub some : f ≢ nothing
+  pub bounded : IsBounded f
+
+-- each row stands after the place of the owner in the file
+abbrev pub AllAfter : ℕ → Owner → List Row → Type 0
+AllAfter file owner [] = Unit {0}
+AllAfter file owner (r ∷ rest) = (row_cmp r file owner ≡ Greater) × AllAfter file owner rest
+
+-- rows stand by file and then by owner, each owner has one at most in a file, and each row holds some byte
+abbrev pub AreRows : List Row → Type 0
+AreRows [] = Unit {0}
+AreRows (r ∷ rest) = HoldsSome (value_at r.spans) × AllAfter r.file r.owner rest × AreRows rest
+
+-- the row at place i is that of the owner in the file
+abbrev pub IsRowAt : List Row → ℕ → ℕ → Owner → Type 0
+IsRowAt [] i file owner = ⊥
+IsRowAt (r ∷ rest) zero file owner = row_cmp r file owner ≡ Equal
+IsRowAt (r ∷ rest) (suc i) file owner = (row_cmp r file owner ≡ Less) × IsRowAt rest i file owner
+
+-- no row is of the owner in the file, and one would stand at place i
+abbrev pub IsGap : List Row → ℕ → ℕ → Owner → Type 0
+IsGap rows zero file owner = AllAfter file owner rows
+IsGap [] (suc i) file owner = ⊥
+IsGap (r ∷ rest) (suc i) file owner = (row_cmp r file owner ≡ Less) × IsGap rest i file owner
+
+-- the locks of one row, in its file
+abbrev pub locks_of : Row → FileLocks
+locks_of r = replace no_locks r.file r.owner (value_at r.spans) r.file
+
+-- both rows are of one owner in one file, and hold the same
+pub record IsSameRow (a b : Row) : Type 0 where
+  pub file : a.file ≡ b.file
+  pub owner : a.owner ≡ b.owner
+  pub bytes : value_at a.spans ≡ value_at b.spans

@@ -1,0 +1,36 @@
+//! Why locks stay as they are.
+use std::alloc::{AllocError, AllocFailed};
+use thiserror::Error;
+
+/// Why a call left the locks as they were.
+#[derive(Clone, Copy, Debug, PartialEq, Eq, Error)]
+pub enum LockError {
+    /// A request for memory was refused.
+    #[error("no memory")]
+    NoMemory,
+    /// The owner would have more than 1,024 regions in the file (POSIX.1-2017 `fcntl()`, ENOLCK).
+    #[error("too many regions of one owner in one file")]
+    NoLocks,
+}
+
+impl From<AllocError> for LockError {
+    ghost use Rattle.std.specs.Prelude.{◌≡◌};
+    ghost use Rattle.lock_table.specs.declared.error.LockError.TheVariants.{NoMemory};
+
+    ghost from_gives = { λ error made. made ≡ NoMemory };
+
+    fn from(_error: AllocError) -> Self {
+        LockError::NoMemory
+    }
+}
+
+impl<T: Drop> From<AllocFailed<T>> for LockError {
+    ghost use Rattle.std.specs.Prelude.{◌≡◌};
+    ghost use Rattle.lock_table.specs.declared.error.LockError.TheVariants.{NoMemory};
+
+    ghost from_gives = { λ error made. made ≡ NoMemory };
+
+    fn from(_error: AllocFailed<T>) -> Self {
+        LockError::NoMemory
+    }
+}

@@ -1,0 +1,15 @@
+//! The record locks of one node.
+#![tactic(auto)]
+
+pub mod error;
+pub mod laws;
+pub mod lock_table;
+mod order;
+pub mod row;
+
+pub use model::lock_info::LockInfo;
+pub use model::mode::Mode;
+pub use model::owner::{Kind, Owner};
+
+#[cfg(test)]
+mod tests;

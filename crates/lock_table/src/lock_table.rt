@@ -1,0 +1,227 @@
+//! The record locks of one node.
+ghost use Rattle.std.specs.Prelude.{◌≡◌, ◌≤◌, ◌<◌, All, IfOk, IsTrue, ◌↔◌, OnOk, OnErr, Err, Some, None, MatchOption, MatchResult};
+ghost use Rattle.std.specs.List.{AllZip};
+ghost use Rattle.intervals.specs.Bytes.{put};
+ghost use Rattle.intervals.specs.Runs.{value_at};
+ghost use Rattle.model.specs.Limits.{most_regions};
+ghost use Rattle.model.specs.Locks.{no_locks, replace, with_lock, without_owner, regions, IsFree, IsLowestBlocker};
+ghost use Rattle.lock_table.specs.declared.error.LockError.TheVariants.{NoLocks};
+ghost use Rattle.lock_table.specs.Rows.{held, AreRows, IsRowAt, IsGap, HoldsSome, IsSameRow};
+ghost use Rattle.lock_table.specs.Listing.{IsListing};
+
+use crate::error::LockError;
+use crate::order::{cmp_regions, lowest_of};
+use crate::row::{Row, Spans};
+use intervals::span::Span;
+use intervals::span_map::{NoMemory, SpanMap};
+use model::lock_info::LockInfo;
+use model::mode::Mode;
+use model::owner::Owner;
+use std::alloc::Global;
+use std::marker::Model;
+
+/// The most regions that one owner may have in one file: 1,024.
+pub const MOST_REGIONS: usize = 1024;
+
+/// The record locks of one node: what each owner holds at each byte of each file, by mode. An owner
+/// has at most 1,024 regions in a file, a region being a longest run of bytes in one mode. A call
+/// that answers an error leaves the locks as they were.
+#[derive(Drop)]
+pub struct LockTable {
+    rows: Vec<Row>,
+}
+
+impl Model for LockTable {
+    ghost use Rattle.std.specs.Prelude.{List};
+    ghost use Rattle.lock_table.specs.declared.row.Row.{Row};
+    ghost use Rattle.lock_table.specs.Rows.{AreRows};
+
+    ghost Value = { List Row };
+
+    ghost view = { λ t. t.rows.items };
+
+    ghost invariant = { λ t. AreRows t.rows.items };
+}
+
+// The place of the row of an owner in a file, or where one belongs.
+fn position(rows: &[Row], file: u16, owner: Owner) -> Result<usize, usize>
+    requires { AreRows rows.now }
+    ensures { MatchResult result (λ i. IsRowAt rows.now i file owner) (λ i. IsGap rows.now i file owner) }
+{
+    rows.binary_search_by(|row| row.cmp_place(file, owner))
+}
+
+// The rows of a file.
+fn rows_of(rows: &[Row], file: u16) -> &[Row]
+    requires { AreRows rows.now }
+    ensures rows { AreRows result.now }
+    ensures file { All (λ row. row.file ≡ file) result.now }
+    ensures held { held result.now file ≡ held rows.now file }
+{
+    let start = rows.partition_point(|row| row.file < file);
+    let end = rows.partition_point(|row| row.file <= file);
+    &rows[start..end]
+}
+
+// Whether the rows are the same one by one.
+fn same_rows(rows: &[Row], others: &[Row]) -> bool
+    ensures { IsTrue result ↔ AllZip IsSameRow rows.now others.now }
+{
+    if rows.len() != others.len() {
+        return false;
+    }
+    for (i, row) in rows.iter().enumerate() {
+        if !row.same(&others[i]) {
+            return false;
+        }
+    }
+    true
+}
+
+impl LockTable {
+    /// The table with no locks.
+    pub fn new(alloc: Global) -> Self
+        ensures { held result ≡ no_locks }
+    {
+        LockTable {
+            rows: Vec::new(alloc),
+        }
+    }
+
+    /// An equal table.
+    ///
+    /// # Errors
+    /// `NoMemory`.
+    pub fn copy(&self) -> Result<Self, NoMemory>
+        ensures { IfOk result (λ copy. copy ≡ self.now) }
+    {
+        let mut rows = Vec::new(*self.rows.allocator());
+        for row in &self.rows {
+            rows.push(row.copy()?)?;
+        }
+        Ok(LockTable { rows })
+    }
+
+    /// Whether both have the same locks.
+    pub fn same(&self, other: &Self) -> bool
+        ensures { IsTrue result ↔ (held self.now ≡ held other.now) }
+    {
+        same_rows(&self.rows, &other.rows)
+    }
+
+    // A copy of what an owner holds in a file.
+    fn spans_of(&self, file: u16, owner: Owner) -> Result<Spans, NoMemory>
+        ensures { IfOk result (λ spans. value_at spans ≡ held self.now file owner) }
+    {
+        match position(&self.rows, file, owner) {
+            Ok(i) => Ok(self.rows[i].spans.copy()?),
+            Err(_) => Ok(Spans::new(*self.rows.allocator())),
+        }
+    }
+
+    // Puts spans that hold some byte in place of what an owner holds in a file.
+    fn replace_spans(&mut self, file: u16, owner: Owner, spans: Spans) -> Result<(), NoMemory>
+        requires { HoldsSome (value_at spans) }
+        ensures ok { OnOk result (held self.new ≡ replace (held self.old) file owner (value_at spans)) }
+        ensures err { OnErr result (self.new ≡ self.old) }
+    {
+        match position(&self.rows, file, owner) {
+            Ok(i) => {
+                let row = &mut self.rows[i];
+                row.spans = spans;
+            }
+            Err(i) => self.rows.insert(i, Row { file, owner, spans })?,
+        }
+        Ok(())
+    }
+
+    // Puts spans in place of what an owner holds in a file, unless they are too many.
+    fn keep(&mut self, file: u16, owner: Owner, spans: Spans) -> Result<(), LockError>
+        ensures ok { OnOk result (held self.new ≡ replace (held self.old) file owner (value_at spans)) }
+        ensures few { OnOk result (regions (value_at spans) ≤ most_regions) }
+        ensures many { result ≡ Err NoLocks → most_regions < regions (value_at spans) }
+        ensures err { OnErr result (self.new ≡ self.old) }
+    {
+        if spans.starts() > MOST_REGIONS {
+            return Err(LockError::NoLocks);
+        }
+        if spans.is_empty() {
+            self.drop_owner(owner, file);
+        } else {
+            self.replace_spans(file, owner, spans)?;
+        }
+        Ok(())
+    }
+
+    /// Gives each byte of the span the mode for this owner (POSIX.1-2017 `fcntl()`, F_SETLK with
+    /// F_RDLCK or F_WRLCK), whatever other owners hold: a caller that wants no two locks to conflict
+    /// asks `blocker` first.
+    ///
+    /// # Errors
+    /// `NoLocks` where the owner would then have more than 1,024 regions in the file (ENOLCK);
+    /// `NoMemory`.
+    pub fn set(&mut self, owner: Owner, file: u16, span: Span, mode: Mode) -> Result<(), LockError>
+        ensures ok { OnOk result (held self.new ≡ with_lock (held self.old) file owner span (Some mode)) }
+        ensures few { OnOk result (regions (put (held self.old file owner) span (Some mode)) ≤ most_regions) }
+        ensures many { result ≡ Err NoLocks → most_regions < regions (put (held self.old file owner) span (Some mode)) }
+        ensures err { OnErr result (self.new ≡ self.old) }
+    {
+        let mut spans = self.spans_of(file, owner)?;
+        spans.set(span, mode)?;
+        self.keep(file, owner, spans)
+    }
+
+    /// Takes each byte of the span from this owner (POSIX.1-2017 `fcntl()`, F_SETLK with F_UNLCK).
+    ///
+    /// # Errors
+    /// `NoLocks` where the owner would then have more than 1,024 regions in the file (ENOLCK), since
+    /// a region can be cut in two; `NoMemory`.
+    pub fn unlock(&mut self, owner: Owner, file: u16, span: Span) -> Result<(), LockError>
+        ensures ok { OnOk result (held self.new ≡ with_lock (held self.old) file owner span None) }
+        ensures few { OnOk result (regions (put (held self.old file owner) span None) ≤ most_regions) }
+        ensures many { result ≡ Err NoLocks → most_regions < regions (put (held self.old file owner) span None) }
+        ensures err { OnErr result (self.new ≡ self.old) }
+    {
+        let mut spans = self.spans_of(file, owner)?;
+        spans.clear(span)?;
+        self.keep(file, owner, spans)
+    }
+
+    /// Takes each byte of a file from an owner. Takes no memory.
+    pub fn drop_owner(&mut self, owner: Owner, file: u16)
+        ensures { held self.new ≡ without_owner (held self.old) file owner }
+    {
+        if let Ok(i) = position(&self.rows, file, owner) {
+            self.rows.remove(i);
+        }
+    }
+
+    /// The region of another owner that blocks the mode in the span (POSIX.1-2017 `fcntl()`,
+    /// F_GETLK): of those that block the one with the lowest first byte, and of those with one first
+    /// byte the one of the lowest owner. `None` where no byte of the span is held in a mode that
+    /// excludes this one. Takes no memory.
+    pub fn blocker(&self, owner: Owner, file: u16, span: Span, mode: Mode) -> Option<LockInfo>
+        ensures { MatchOption result (IsFree (held self.now file) owner span mode) (λ lock. IsLowestBlocker (held self.now file) owner span mode lock) }
+    {
+        let mut lowest = None;
+        for row in rows_of(&self.rows, file) {
+            lowest = lowest_of(lowest, row.blocker(owner, span, mode));
+        }
+        lowest
+    }
+
+    /// The regions of a file, by first byte and then by owner.
+    ///
+    /// # Errors
+    /// `NoMemory`.
+    pub fn locks(&self, file: u16) -> Result<Vec<LockInfo>, NoMemory>
+        ensures { IfOk result (λ locks. IsListing (held self.now file) locks.items) }
+    {
+        let mut locks = Vec::new(*self.rows.allocator());
+        for row in rows_of(&self.rows, file) {
+            row.push_regions(&mut locks)?;
+        }
+        locks.sort_unstable_by(cmp_regions);
+        Ok(locks)
+    }
+}

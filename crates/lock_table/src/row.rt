@@ -1,0 +1,124 @@
+//! Rows of a lock table.
+ghost use Rattle.std.specs.Prelude.{◌≡◌, ℕ, ◌++◌, List, None, IsTrue, ◌↔◌, IfOk, OnOk, MatchOption};
+ghost use Rattle.intervals.specs.Bytes.{IsBarred, NoneIn};
+ghost use Rattle.intervals.specs.Runs.{value_at};
+ghost use Rattle.lock_table.specs.Rows.{row_cmp, IsSameRow, locks_of, IsBounded, NothingFrom};
+ghost use Rattle.lock_table.specs.Regions.{bar_of, rest_from, IsFirstRegion};
+ghost use Rattle.lock_table.specs.Blockers.{IsBlockerOf};
+ghost use Rattle.lock_table.specs.Listing.{ListsRegions};
+
+use intervals::span::{GREATEST, Span};
+use intervals::span_map::{NoMemory, SpanMap};
+use intervals::vec_map::VecMap;
+use model::lock_info::LockInfo;
+use model::mode::Mode;
+use model::owner::Owner;
+use std::cmp::Ordering;
+
+/// The bytes that one owner holds in one file, each with its mode.
+pub(crate) type Spans = VecMap<Mode>;
+
+/// What one owner holds in one file.
+#[derive(Drop)]
+pub struct Row {
+    pub(crate) file: u16,
+    pub(crate) owner: Owner,
+    pub(crate) spans: Spans,
+}
+
+// The mode that excludes the other on a byte; `None` where each does.
+fn bar(mode: Mode) -> Option<Mode>
+    ensures { result ≡ bar_of mode }
+{
+    match mode {
+        Mode::Read => Some(Mode::Write),
+        Mode::Write => None,
+    }
+}
+
+impl Row {
+    /// Where the row stands to the place of an owner in a file: by file, then by owner.
+    pub(crate) fn cmp_place(&self, file: u16, owner: Owner) -> Ordering
+        ensures { result ≡ row_cmp self.now file owner }
+    {
+        self.file.cmp(&file).then(self.owner.cmp(&owner))
+    }
+
+    /// An equal row.
+    ///
+    /// # Errors
+    /// `NoMemory`.
+    pub(crate) fn copy(&self) -> Result<Self, NoMemory>
+        ensures { IfOk result (λ copy. copy ≡ self.now) }
+    {
+        Ok(Row {
+            file: self.file,
+            owner: self.owner,
+            spans: self.spans.copy()?,
+        })
+    }
+
+    /// Whether both are of one owner and one file, and hold the same bytes in the same modes.
+    pub(crate) fn same(&self, other: &Self) -> bool
+        ensures { IsTrue result ↔ IsSameRow self.now other.now }
+    {
+        self.file == other.file && self.owner == other.owner && self.spans.same(&other.spans)
+    }
+
+    // The region with the lowest byte of the span that has the mode `bar`, or any mode where that is
+    // `None`.
+    fn first_region(&self, within: Span, bar: Option<Mode>) -> Option<LockInfo>
+        ensures { MatchOption result (NoneIn (IsBarred (value_at self.now.spans) bar) within) (IsFirstRegion self.now within bar) }
+    {
+        let byte = self.spans.first_where(within, bar)?;
+        let (span, mode) = self.spans.run_at(byte)?;
+        Some(LockInfo {
+            owner: self.owner,
+            mode,
+            span,
+        })
+    }
+
+    // The first region with a byte from `from` on.
+    fn region_from(&self, from: u64) -> Option<LockInfo>
+        requires { IsBounded (value_at self.now.spans) }
+        ensures { MatchOption result (NothingFrom (value_at self.now.spans) from) (IsFirstRegion self.now (rest_from from) None) }
+    {
+        if from > GREATEST {
+            return None;
+        }
+        let rest = Span {
+            lo: from,
+            hi: GREATEST,
+        };
+        self.first_region(rest, None)
+    }
+
+    /// The lowest region of the row that blocks the mode in the span for an owner; none blocks the
+    /// row's own.
+    pub(crate) fn blocker(&self, owner: Owner, span: Span, mode: Mode) -> Option<LockInfo>
+        ensures { IsBlockerOf (locks_of self.now) owner span mode result }
+    {
+        if self.owner == owner {
+            return None;
+        }
+        self.first_region(span, bar(mode))
+    }
+
+    /// Adds each region, from the lowest on.
+    ///
+    /// # Errors
+    /// `NoMemory`, and then some regions may have been added.
+    pub(crate) fn push_regions(&self, locks: &mut Vec<LockInfo>) -> Result<(), NoMemory>
+        requires { IsBounded (value_at self.now.spans) }
+        ensures { OnOk result ((more : List LockInfo) × (locks.new.items ≡ locks.old.items ++ more) × ListsRegions (locks_of self.now) more) }
+    {
+        let mut from = 0;
+        while let Some(region) = self.region_from(from) {
+            let span = region.span;
+            locks.push(region)?;
+            from = span.hi + 1;
+        }
+        Ok(())
+    }
+}
