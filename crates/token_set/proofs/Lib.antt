@@ -1,0 +1,4 @@
+pub mod SearchLaws
+pub mod AroundLaws
+pub mod TokenLaws
+pub mod Grants

@@ -1,2 +1,5 @@
 //! Tokens: what a node may lock at each byte without asking.
 #![tactic(auto)]
+
+pub mod desired;
+pub mod set;
