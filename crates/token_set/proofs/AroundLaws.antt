@@ -140,7 +140,7 @@ largest_around-or p q required within order starts ends free_p free_q =
     let l = largest_is_largest p required within order starts ends free_p in
     let m = largest_is_largest q required (largest_around p required within) order l.has_first l.has_last free_q in
     sym (largest_around-is (λ b. p b || q b) required within _ order
-      (IsLargest-iff (λ b. (p b ≡ true) ⊎ (q b ≡ true)) (λ b. (p b || q b) ≡ true) required within _
-        (λ b either. elim either [ inl left ↦ or_left _ _ left | inr right ↦ or_right _ _ right ])
-        (λ b. or_cases _ _)
-        (IsLargest-or (λ b. p b ≡ true) (λ b. q b ≡ true) required within _ _ order l m)))
+    (IsLargest-iff (λ b. (p b ≡ true) ⊎ (q b ≡ true)) (λ b. (p b || q b) ≡ true) required within _
+    (λ b either. elim either [ inl left ↦ or_left _ _ left | inr right ↦ or_right _ _ right ])
+    (λ b. or_cases _ _)
+    (IsLargest-or (λ b. p b ≡ true) (λ b. q b ≡ true) required within _ _ order l m)))

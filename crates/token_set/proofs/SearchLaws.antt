@@ -40,8 +40,10 @@ later passes lo n k no_lo f = record {
   where
     below : (k : ℕ) → lo + 1 ≤ k → lo ≤ k
     below k h = omega arith
+
     reach : (k : ℕ) → k ≤ lo + 1 + n → k ≤ lo + suc n
     reach k h = omega arith
+
     inside : (k : ℕ) → k < lo + suc n → k < lo + 1 + n
     inside k h = omega arith
 
@@ -50,8 +52,8 @@ unfolding first
 first_is_first passes lo zero = at_end passes lo
 first_is_first passes lo (suc n) =
     elim (passes lo) as (λ b. passes lo ≡ b → IsFirst passes lo (suc n) (elim b [ true ↦ lo | false ↦ first passes (lo + 1) n ]))
-      [ true ↦ λ h. at_once passes lo (suc n) h | false ↦ λ h. later passes lo n (first passes (lo + 1) n) h (first_is_first passes (lo + 1) n) ]
-      refl
+    [ true ↦ λ h. at_once passes lo (suc n) h | false ↦ λ h. later passes lo n (first passes (lo + 1) n) h (first_is_first passes (lo + 1) n) ]
+    refl
 
 -- the first number that passes is the only one
 pub first-unique : (passes : ℕ → Bool) (lo n j k : ℕ) → IsFirst passes lo n j → IsFirst passes lo n k → j ≡ k
@@ -146,6 +148,7 @@ some_passes-more passes lo n = same_tests (some_passes passes lo (n + 1)) (some_
           | inl lt ↦ or_left _ _ (some_passes-from passes lo n _ f.above lt f.here)
           | inr ge ↦ or_right (some_passes passes lo n) (passes (lo + n)) (rw (let last : lo + n ≡ first passes lo (n + 1) = omega (arith, f.below) in last) f.here)
         ]
+
     together : (some_passes passes lo n || passes (lo + n)) ≡ true → some_passes passes lo (n + 1) ≡ true
     together one = elim (or_cases _ _ one) [
       | inl some ↦

@@ -3,3 +3,7 @@
 
 pub mod desired;
 pub mod set;
+
+pub use model::level::Level;
+pub use model::mode::Mode;
+pub use model::policy::Policy;
