@@ -2,9 +2,13 @@
 use Rattle.std.specs.Prelude.{◌≡◌, ℕ, zero, suc, pred, ◌+◌, ◌-◌, ◌<◌, ◌≤◌, ◌⊎◌, Bool, true, false, not, ◌||◌}
 use Rattle.std.proofs.Common.{refl, ap, sym, ◌∙◌, inl, inr, add-one, arith}
 use Rattle.std.proofs.lemmas.Bool.{both_ways, cases_lt, cases_order, not-true, not-false, or_cases, or_left, or_right}
-use Rattle.intervals.specs.Search.{first, all_pass, IsFirst}
+use Rattle.intervals.specs.Search.{some_passes, all_pass, IsFirst}
 use Rattle.intervals.specs.Bytes.{Range, NoneIn, IsLargest, largest_around, LargestIsLargest}
-use Rattle.token_set.proofs.SearchLaws.{first_is_first, all_pass-each, all_pass-first}
+use Rattle.token_set.proofs.SearchLaws.{first_is_first, some_passes-first, some_passes-zero, some_passes-more, all_pass-each, all_pass-first}
+
+or_false : (t : Bool) → (t || false) ≡ t
+or_false true = refl
+or_false false = refl
 
 -- two spans with the same ends are one
 pub range_is : (s t : Range) → s.lo ≡ t.lo → s.hi ≡ t.hi → s ≡ t
@@ -122,9 +126,9 @@ largest_around-same p q required within same =
     let functions : p ≡ q = λ i b. same b i in
     ap (λ f. largest_around f required within) functions
 
--- without a barred byte it is as large as it may be
-pub largest_around-free : (barred : ℕ → Bool) (required within : Range) → required.lo ≤ required.hi → within.lo ≤ required.lo → required.hi ≤ within.hi → NoneIn (λ b. barred b ≡ true) within → largest_around barred required within ≡ within
-largest_around-free barred required within order starts ends free = sym (largest_around-is barred required within within order (record {
+-- without a byte of the kind it is as large as it may be
+pub IsLargest-whole : (P : ℕ → Type 0) (required within : Range) → within.lo ≤ required.lo → required.hi ≤ within.hi → NoneIn P within → IsLargest P required within within
+IsLargest-whole P required within starts ends free = record {
   has_first = starts;
   has_last = ends;
   starts_within = omega arith;
@@ -132,7 +136,12 @@ largest_around-free barred required within order starts ends free = sym (largest
   free = free;
   full_below = λ b next le. absurd (omega arith);
   full_above = λ lt. absurd (omega arith);
-}))
+}
+
+-- without a barred byte too
+pub largest_around-free : (barred : ℕ → Bool) (required within : Range) → required.lo ≤ required.hi → within.lo ≤ required.lo → required.hi ≤ within.hi → NoneIn (λ b. barred b ≡ true) within → largest_around barred required within ≡ within
+largest_around-free barred required within order starts ends free =
+    sym (largest_around-is barred required within within order (IsLargest-whole (λ b. barred b ≡ true) required within starts ends free))
 
 -- the largest span for two tests: that for the second, within the largest for the first
 pub largest_around-or : (p q : ℕ → Bool) (required within : Range) → required.lo ≤ required.hi → within.lo ≤ required.lo → required.hi ≤ within.hi → NoneIn (λ b. p b ≡ true) required → NoneIn (λ b. q b ≡ true) required → largest_around (λ b. p b || q b) required within ≡ largest_around q required (largest_around p required within)
@@ -144,3 +153,23 @@ largest_around-or p q required within order starts ends free_p free_q =
     (λ b either. elim either [ inl left ↦ or_left _ _ left | inr right ↦ or_right _ _ right ])
     (λ b. or_cases _ _)
     (IsLargest-or (λ b. p b ≡ true) (λ b. q b ≡ true) required within _ _ order l m)))
+
+module _ (test : ℕ → ℕ → Bool) (lo : ℕ) (required within : Range) (order : required.lo ≤ required.hi) (starts : within.lo ≤ required.lo) (ends : required.hi ≤ within.hi) where
+  -- of no tests
+  pub largest_around-zero : largest_around (λ b. some_passes (λ k. test k b) lo 0) required within ≡ within
+  largest_around-zero = largest_around-free _ required within order starts ends (λ b above below. both_ways _ (some_passes-zero (λ k. test k b) lo))
+
+  -- of one more test: within the span for the tests before it
+  pub largest_around-more : (n : ℕ) → ((k : ℕ) → lo ≤ k → k < lo + (n + 1) → NoneIn (λ b. test k b ≡ true) required) → largest_around (λ b. some_passes (λ k. test k b) lo (n + 1)) required within ≡ largest_around (test (lo + n)) required (largest_around (λ b. some_passes (λ k. test k b) lo n) required within)
+  largest_around-more n free =
+      largest_around-same (λ b. some_passes (λ k. test k b) lo (n + 1)) (λ b. some_passes (λ k. test k b) lo n || test (lo + n) b) required within (λ b. some_passes-more (λ k. test k b) lo n)
+      ∙ largest_around-or (λ b. some_passes (λ k. test k b) lo n) (test (lo + n)) required within order starts ends
+      (λ b above below some.
+      let one = some_passes-first (λ k. test k b) lo n some in
+      free _ one.above (omega (arith, one.below)) b above below one.here)
+      (free (lo + n) (omega arith) (omega arith))
+
+  -- and of one that no byte passes: the same span
+  pub largest_around-skip : (n : ℕ) → ((b : ℕ) → test (lo + n) b ≡ false) → largest_around (λ b. some_passes (λ k. test k b) lo (n + 1)) required within ≡ largest_around (λ b. some_passes (λ k. test k b) lo n) required within
+  largest_around-skip n none =
+      largest_around-same _ _ required within (λ b. some_passes-more (λ k. test k b) lo n ∙ ap (λ t. some_passes (λ k. test k b) lo n || t) (none b) ∙ or_false _)
