@@ -1,0 +1,108 @@
+-- The largest span that has no byte of a kind.
+use Rattle.std.specs.Prelude.{◌≡◌, ℕ, ◌+◌, ◌<◌, ◌≤◌, ◌⊎◌, Bool, true, false, ◌||◌}
+use Rattle.std.proofs.Common.{refl, ap, sym, ◌∙◌, inl, inr, arith}
+use Rattle.std.proofs.lemmas.Bool.{both_ways, cases_lt, or_cases, or_left, or_right}
+use Rattle.intervals.specs.Search.{some_passes}
+use Rattle.intervals.specs.Bytes.{Range, NoneIn, IsLargest, largest_around}
+use Rattle.intervals.proofs.SpanLaws.{largest_is_one}
+use Rattle.intervals.proofs.SpanSearch.{largest_is_largest}
+use Rattle.token_set.proofs.SearchLaws.{some_passes-first, some_passes-zero, some_passes-more}
+
+or_false : (t : Bool) → (t || false) ≡ t
+or_false true = refl
+or_false false = refl
+
+-- the bytes of one kind are of the other
+pub IsLargest-iff : (P Q : ℕ → Type 0) (required within s : Range) → ((b : ℕ) → P b → Q b) → ((b : ℕ) → Q b → P b) → IsLargest P required within s → IsLargest Q required within s
+IsLargest-iff P Q required within s to from l = record {
+  has_first = l.has_first;
+  has_last = l.has_last;
+  starts_within = l.starts_within;
+  ends_within = l.ends_within;
+  free = λ b lo hi q. l.free b lo hi (from b q);
+  full_below = λ b next le. to b (l.full_below b next le);
+  full_above = λ lt. to _ (l.full_above lt);
+}
+
+-- the largest span for two kinds: that for one of them, within the largest for the other
+pub IsLargest-or : (P Q : ℕ → Type 0) (required within s t : Range) → required.lo ≤ required.hi → IsLargest P required within s → IsLargest Q required s t → IsLargest (λ b. P b ⊎ Q b) required within t
+IsLargest-or P Q required within s t order l m = record {
+  has_first = m.has_first;
+  has_last = m.has_last;
+  starts_within = omega (arith, l.starts_within, m.starts_within);
+  ends_within = omega (arith, l.ends_within, m.ends_within);
+  free = λ b lo hi either. elim either [
+    | inl p ↦ l.free b (omega (arith, m.starts_within)) (omega (arith, m.ends_within)) p
+    | inr q ↦ m.free b lo hi q
+  ];
+  full_below = λ b next le. elim (cases_lt b s.lo) [
+    | inl lt ↦ inl (l.full_below b (omega (arith, m.starts_within)) le)
+    | inr ge ↦ inr (m.full_below b next ge)
+  ];
+  full_above = λ lt. elim (cases_lt t.hi s.hi) [
+    | inl less ↦ inr (m.full_above less)
+    | inr ge ↦ inl (rw (let same : t.hi ≡ s.hi = omega (arith, m.ends_within) in same) (l.full_above (omega arith)))
+  ];
+}
+
+-- what is the largest span is what `largest_around` gives
+pub largest_around-is : (barred : ℕ → Bool) (required within s : Range) → required.lo ≤ required.hi → IsLargest (λ b. barred b ≡ true) required within s → s ≡ largest_around barred required within
+largest_around-is barred required within s order l =
+    let starts : within.lo ≤ required.lo = omega (arith, l.starts_within, l.has_first) in
+    let ends : required.hi ≤ within.hi = omega (arith, l.ends_within, l.has_last) in
+    let free : NoneIn (λ b. barred b ≡ true) required = λ b lo hi. l.free b (omega (arith, l.has_first)) (omega (arith, l.has_last)) in
+    largest_is_one (λ b. barred b ≡ true) required within order s _ l (largest_is_largest barred required within order starts ends free)
+
+-- the same tests have the same largest span
+pub largest_around-same : (p q : ℕ → Bool) (required within : Range) → ((b : ℕ) → p b ≡ q b) → largest_around p required within ≡ largest_around q required within
+largest_around-same p q required within same =
+    let functions : p ≡ q = λ i b. same b i in
+    ap (λ f. largest_around f required within) functions
+
+-- without a byte of the kind it is as large as it may be
+pub IsLargest-whole : (P : ℕ → Type 0) (required within : Range) → within.lo ≤ required.lo → required.hi ≤ within.hi → NoneIn P within → IsLargest P required within within
+IsLargest-whole P required within starts ends free = record {
+  has_first = starts;
+  has_last = ends;
+  starts_within = omega arith;
+  ends_within = omega arith;
+  free = free;
+  full_below = λ b next le. absurd (omega arith);
+  full_above = λ lt. absurd (omega arith);
+}
+
+-- without a barred byte too
+pub largest_around-free : (barred : ℕ → Bool) (required within : Range) → required.lo ≤ required.hi → within.lo ≤ required.lo → required.hi ≤ within.hi → NoneIn (λ b. barred b ≡ true) within → largest_around barred required within ≡ within
+largest_around-free barred required within order starts ends free =
+    sym (largest_around-is barred required within within order (IsLargest-whole (λ b. barred b ≡ true) required within starts ends free))
+
+-- the largest span for two tests: that for the second, within the largest for the first
+pub largest_around-or : (p q : ℕ → Bool) (required within : Range) → required.lo ≤ required.hi → within.lo ≤ required.lo → required.hi ≤ within.hi → NoneIn (λ b. p b ≡ true) required → NoneIn (λ b. q b ≡ true) required → largest_around (λ b. p b || q b) required within ≡ largest_around q required (largest_around p required within)
+largest_around-or p q required within order starts ends free_p free_q =
+    let l = largest_is_largest p required within order starts ends free_p in
+    let m = largest_is_largest q required (largest_around p required within) order l.has_first l.has_last free_q in
+    sym (largest_around-is (λ b. p b || q b) required within _ order
+    (IsLargest-iff (λ b. (p b ≡ true) ⊎ (q b ≡ true)) (λ b. (p b || q b) ≡ true) required within _
+    (λ b either. elim either [ inl left ↦ or_left _ _ left | inr right ↦ or_right _ _ right ])
+    (λ b. or_cases _ _)
+    (IsLargest-or (λ b. p b ≡ true) (λ b. q b ≡ true) required within _ _ order l m)))
+
+module _ (test : ℕ → ℕ → Bool) (lo : ℕ) (required within : Range) (order : required.lo ≤ required.hi) (starts : within.lo ≤ required.lo) (ends : required.hi ≤ within.hi) where
+  -- of no tests
+  pub largest_around-zero : largest_around (λ b. some_passes (λ k. test k b) lo 0) required within ≡ within
+  largest_around-zero = largest_around-free _ required within order starts ends (λ b above below. both_ways _ (some_passes-zero (λ k. test k b) lo))
+
+  -- of one more test: within the span for the tests before it
+  pub largest_around-more : (n : ℕ) → ((k : ℕ) → lo ≤ k → k < lo + (n + 1) → NoneIn (λ b. test k b ≡ true) required) → largest_around (λ b. some_passes (λ k. test k b) lo (n + 1)) required within ≡ largest_around (test (lo + n)) required (largest_around (λ b. some_passes (λ k. test k b) lo n) required within)
+  largest_around-more n free =
+      largest_around-same (λ b. some_passes (λ k. test k b) lo (n + 1)) (λ b. some_passes (λ k. test k b) lo n || test (lo + n) b) required within (λ b. some_passes-more (λ k. test k b) lo n)
+      ∙ largest_around-or (λ b. some_passes (λ k. test k b) lo n) (test (lo + n)) required within order starts ends
+      (λ b above below some.
+      let one = some_passes-first (λ k. test k b) lo n some in
+      free _ one.above (omega (arith, one.below)) b above below one.here)
+      (free (lo + n) (omega arith) (omega arith))
+
+  -- and of one that no byte passes: the same span
+  pub largest_around-skip : (n : ℕ) → ((b : ℕ) → test (lo + n) b ≡ false) → largest_around (λ b. some_passes (λ k. test k b) lo (n + 1)) required within ≡ largest_around (λ b. some_passes (λ k. test k b) lo n) required within
+  largest_around-skip n none =
+      largest_around-same _ _ required within (λ b. some_passes-more (λ k. test k b) lo n ∙ ap (λ t. some_passes (λ k. test k b) lo n || t) (none b) ∙ or_false _)
