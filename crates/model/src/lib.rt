@@ -3,6 +3,7 @@
 
 pub mod access;
 pub mod call;
+pub mod change;
 pub mod lock_info;
 pub mod mode;
 pub mod op;
