@@ -101,9 +101,14 @@ some_passes-none passes lo n f = met (first passes lo n) (first-none passes lo n
     met : (k : ℕ) → k ≡ lo + n → nat_lt k (lo + n) ≡ false
     met k k_is = grind (arith, nat_tests, k_is)
 
--- a number that passes, where one does
-pub passes-at : (passes : ℕ → Bool) (lo n : ℕ) → some_passes passes lo n ≡ true → (k : ℕ) × (lo ≤ k) × (k < lo + n) × (passes k ≡ true)
-passes-at passes lo n some = met (first passes lo n) (first_is_first passes lo n) some
+-- k is one of the n numbers from lo, and passes
+pub record Passes (passes : ℕ → Bool) (lo n k : ℕ) : Type 0 where
+  pub least : lo ≤ k
+  pub below : k < lo + n
+  pub here : passes k ≡ true
+
+pub first-passes : (passes : ℕ → Bool) (lo n : ℕ) → some_passes passes lo n ≡ true → Passes passes lo n (first passes lo n)
+first-passes passes lo n some = met (first passes lo n) (first_is_first passes lo n) some
   where
-    met : (k : ℕ) → IsFirst passes lo n k → nat_lt k (lo + n) ≡ true → (k : ℕ) × (lo ≤ k) × (k < lo + n) × (passes k ≡ true)
-    met k k_first lt = let below : k < lo + n = grind (arith, nat_tests, lt) in (k, k_first.least, below, k_first.here below)
+    met : (k : ℕ) → IsFirst passes lo n k → nat_lt k (lo + n) ≡ true → Passes passes lo n k
+    met k k_first lt = let under : k < lo + n = grind (arith, nat_tests, lt) in record { least = k_first.least; below = under; here = k_first.here under }

@@ -1,7 +1,7 @@
 -- The table after one more change.
-use Rattle.std.specs.Prelude.{◌≡◌, ℕ, ◌+◌, ◌<◌, Bool, true, false, ◌&&◌, ◌==◌, if◌then◌else◌, length, List, [], ◌∷◌, ◌++◌, fold, Option, Some, None, refl}
+use Rattle.std.specs.Prelude.{◌≡◌, ℕ, ◌+◌, ◌<◌, ◌≤◌, Bool, true, false, ◌&&◌, ◌==◌, if◌then◌else◌, length, List, [], ◌∷◌, ◌++◌, fold, Option, Some, None, refl}
 use Rattle.std.proofs.Common.{ap, sym, ◌∙◌, take, get_or, subst, inl, inr}
-use Rattle.std.proofs.lemmas.List.{take_more}
+use Rattle.std.proofs.lemmas.List.{take_more, take_all}
 use Rattle.std.proofs.lemmas.Bool.{cases_Bool, and_parts, eqb-true, both_ways}
 use Rattle.intervals.specs.Bytes.{nothing, put}
 use Rattle.model.specs.declared.mode.Mode.{Mode}
@@ -32,6 +32,10 @@ table_of-none = refl
 -- one more change of the list
 pub table_of-take : (changes : List Change) (i : ℕ) (c : Change) → i < length changes → c ≡ get_or changes i c → table_of (take (i + 1) changes) ≡ changed (table_of (take i changes)) c
 table_of-take changes i c h is = ap table_of (take_more changes i c h ∙ ap (λ d. take i changes ++ d ∷ []) (sym is)) ∙ table_of-push (take i changes) c
+
+-- all of the list
+pub table_of-whole : (changes : List Change) (i : ℕ) → length changes ≤ i → table_of (take i changes) ≡ table_of changes
+table_of-whole changes i h = ap table_of (take_all i changes h)
 
 -- processes under a choice
 runs-if : (b : Bool) (x y : Processes) (pid : ℕ) → (if b then x else y).runs pid ≡ (if b then x.runs pid else y.runs pid)
@@ -194,3 +198,28 @@ sound-changed t c sound keeps = record {
   idle = λ n i pid fd h. let p : Process = record { node = n; incarnation = i; pid = pid } in descriptor-changed t c p fd ∙ idle-after t c p fd sound keeps (sym (is_running-changed t c p) ∙ h);
   numbers = λ n i pid fd o h. let p : Process = record { node = n; incarnation = i; pid = pid } in numbers-after t c p fd o sound keeps (sym (descriptor-changed t c p fd) ∙ h);
 }
+
+-- one change more is read
+pub is_running-take : (changes : List Change) (i : ℕ) (c : Change) (p : Process) (before : Bool) → before ≡ is_running (table_of (take i changes)) p → i < length changes → c ≡ get_or changes i c → runs_after c p before ≡ is_running (table_of (take (i + 1) changes)) p
+is_running-take changes i c p before so_far h is =
+    ap (runs_after c p) so_far
+    ∙ sym (is_running-changed (table_of (take i changes)) c p)
+    ∙ ap (λ (t : Table). is_running t p) (sym (table_of-take changes i c h is))
+
+pub descriptor-take : (changes : List Change) (i : ℕ) (c : Change) (p : Process) (fd : ℕ) (before : Option Opened) → before ≡ descriptor (table_of (take i changes)) p fd → i < length changes → c ≡ get_or changes i c → descriptor_after c p fd before ≡ descriptor (table_of (take (i + 1) changes)) p fd
+descriptor-take changes i c p fd before so_far h is =
+    ap (descriptor_after c p fd) so_far
+    ∙ sym (descriptor-changed (table_of (take i changes)) c p fd)
+    ∙ ap (λ (t : Table). descriptor t p fd) (sym (table_of-take changes i c h is))
+
+pub bytes-take : (changes : List Change) (i : ℕ) (c : Change) (file : ℕ) (owner : Owner) (before : ℕ → Option Mode) → before ≡ (table_of (take i changes)).locks file owner → i < length changes → c ≡ get_or changes i c → bytes_after c file owner before ≡ (table_of (take (i + 1) changes)).locks file owner
+bytes-take changes i c file owner before so_far h is =
+    ap (bytes_after c file owner) so_far
+    ∙ sym (bytes-changed (table_of (take i changes)) c file owner)
+    ∙ ap (λ (t : Table). t.locks file owner) (sym (table_of-take changes i c h is))
+
+pub byte-take : (changes : List Change) (i : ℕ) (c : Change) (file : ℕ) (owner : Owner) (b : ℕ) (before : Option Mode) → before ≡ (table_of (take i changes)).locks file owner b → i < length changes → c ≡ get_or changes i c → bytes_after c file owner (λ k. before) b ≡ (table_of (take (i + 1) changes)).locks file owner b
+byte-take changes i c file owner b before so_far h is =
+    ap (λ (m : Option Mode). bytes_after c file owner (λ k. m) b) so_far
+    ∙ sym (bytes_after-at c file owner ((table_of (take i changes)).locks file owner) b)
+    ∙ ap (λ (f : ℕ → Option Mode). f b) (bytes-take changes i c file owner ((table_of (take i changes)).locks file owner) refl h is)

@@ -6,6 +6,7 @@ pub mod call;
 pub mod change;
 pub mod lock_info;
 pub mod mode;
+pub mod one_table;
 pub mod op;
 pub mod opened;
 pub mod owner;
