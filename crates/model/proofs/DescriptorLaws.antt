@@ -1,12 +1,12 @@
 -- A process with a free descriptor can open a file.
-use Rattle.std.specs.Prelude.{◌≡◌, ◌≢◌, ℕ, suc, ◌+◌, ◌-◌, ◌*◌, ◌<◌, ◌≤◌, Bool, true, false, not, ◌==◌, Option, Some, None, is_none, refl}
+use Rattle.std.specs.Prelude.{◌≡◌, ◌≢◌, ℕ, suc, ◌+◌, ◌-◌, ◌*◌, ◌<◌, ◌≤◌, Bool, true, false, not, ◌==◌, Option, Some, None, is_none, is_some, refl}
 use Rattle.std.proofs.Common.{arith, ap, sym, ◌∙◌, inl, inr}
 use Rattle.std.proofs.lemmas.Bool.{cases_lt, cases_Bool, eqb-true, both_ways}
 use Rattle.intervals.specs.Search.{first, some_passes, IsFirst}
 use Rattle.model.specs.declared.opened.Opened.{Opened}
 use Rattle.model.specs.Limits.{IsNumber, most_processes, most_descriptors, most_descriptions}
 use Rattle.model.specs.Descriptors.{Processes, lowest_fd, is_of, is_open, lowest_description}
-use Rattle.model.proofs.SearchLaws.{first_is_first, first-passes}
+use Rattle.model.proofs.SearchLaws.{first_is_first, first-passes, some_passes-none}
 use Rattle.model.proofs.Pigeons.{Placed, no_hole}
 
 -- the first process and descriptor of the node that refer to the description
@@ -92,6 +92,17 @@ lowest_description-number ps pid fd pid_in fd_in free = met (lowest_description 
       | inl lt ↦ absurd (not_all_open ps pid fd pid_in fd_in free (λ d d_in. opens (is_open ps d) (f.none_before d d_in.0 (past d k d_in lt))))
       | inr le ↦ (f.least, le)
     ]
+
+-- a process with no descriptors refers to none
+pub none_refers : (opened : ℕ → Option Opened) (d n : ℕ) → ((fd : ℕ) → opened fd ≡ None) → some_passes (λ fd. is_of d (opened fd)) 0 n ≡ false
+none_refers opened d n none = some_passes-none (λ fd. is_of d (opened fd)) 0 n n (record { all = λ j above below. ap (is_of d) (none j) }) (omega arith)
+
+-- a test for nothing
+pub is_none-by : (b : Bool) (o : Option Opened) → not b ≡ is_some o → b ≡ is_none o
+is_none-by true None h = refl
+is_none-by true (Some o) h = absurd (cc)
+is_none-by false None h = absurd (cc)
+is_none-by false (Some o) h = refl
 
 -- the lowest free descriptor is free
 pub lowest_fd-free : (ps : Processes) (pid : ℕ) → lowest_fd ps pid < most_descriptors → ps.opened pid (lowest_fd ps pid) ≡ None

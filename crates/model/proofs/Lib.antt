@@ -3,3 +3,4 @@ pub mod OwnerLaws
 pub mod TableLaws
 pub mod Pigeons
 pub mod DescriptorLaws
+pub mod StepLaws

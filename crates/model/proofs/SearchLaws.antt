@@ -77,12 +77,12 @@ first-found passes lo n i f above below is = met (first passes lo n) (first_is_f
     ]
 
 -- with none that passes it is the number after them
-pub first-none : (passes : ℕ → Bool) (lo n : ℕ) → Failed passes lo (lo + n) → first passes lo n ≡ lo + n
-first-none passes lo n f = met (first passes lo n) (first_is_first passes lo n)
+pub first-none : (passes : ℕ → Bool) (lo n i : ℕ) → Failed passes lo i → lo + n ≤ i → first passes lo n ≡ lo + n
+first-none passes lo n i f far = met (first passes lo n) (first_is_first passes lo n)
   where
     met : (k : ℕ) → IsFirst passes lo n k → k ≡ lo + n
     met k k_first = elim (cases_lt k (lo + n)) [
-      | inl lt ↦ absurd (both_ways (passes k) (f.all k k_first.least lt) (k_first.here lt))
+      | inl lt ↦ absurd (both_ways (passes k) (f.all k k_first.least (omega arith)) (k_first.here lt))
       | inr le ↦ let within = k_first.within in omega arith
     ]
 
@@ -95,8 +95,8 @@ some_passes-found passes lo n i above below is = met (first passes lo n) (first_
       | inr le ↦ absurd (both_ways (passes i) (k_first.none_before i above (omega arith)) is)
     ]
 
-pub some_passes-none : (passes : ℕ → Bool) (lo n : ℕ) → Failed passes lo (lo + n) → some_passes passes lo n ≡ false
-some_passes-none passes lo n f = met (first passes lo n) (first-none passes lo n f)
+pub some_passes-none : (passes : ℕ → Bool) (lo n i : ℕ) → Failed passes lo i → lo + n ≤ i → some_passes passes lo n ≡ false
+some_passes-none passes lo n i f far = met (first passes lo n) (first-none passes lo n i f far)
   where
     met : (k : ℕ) → k ≡ lo + n → nat_lt k (lo + n) ≡ false
     met k k_is = grind (arith, nat_tests, k_is)

@@ -1,5 +1,5 @@
 -- The table after one more change.
-use Rattle.std.specs.Prelude.{◌≡◌, ℕ, ◌+◌, ◌<◌, ◌≤◌, Bool, true, false, ◌&&◌, ◌==◌, if◌then◌else◌, length, List, [], ◌∷◌, ◌++◌, fold, Option, Some, None, refl}
+use Rattle.std.specs.Prelude.{◌≡◌, ℕ, ◌+◌, ◌<◌, ◌≤◌, Bool, true, false, ◌&&◌, ◌==◌, if◌then◌else◌, length, List, [], ◌∷◌, ◌++◌, fold, Option, Some, None, IfSome, refl}
 use Rattle.std.proofs.Common.{ap, sym, ◌∙◌, take, get_or, subst, inl, inr}
 use Rattle.std.proofs.lemmas.List.{take_more, take_all}
 use Rattle.std.proofs.lemmas.Bool.{cases_Bool, and_parts, eqb-true, both_ways}
@@ -223,3 +223,21 @@ byte-take changes i c file owner b before so_far h is =
     ap (λ (m : Option Mode). bytes_after c file owner (λ k. m) b) so_far
     ∙ sym (bytes_after-at c file owner ((table_of (take i changes)).locks file owner) b)
     ∙ ap (λ (f : ℕ → Option Mode). f b) (bytes-take changes i c file owner ((table_of (take i changes)).locks file owner) refl h is)
+
+-- all changes are read
+pub is_running-whole : (changes all : List Change) (i : ℕ) (p : Process) (runs : Bool) → runs ≡ is_running (table_of (take i changes)) p → length changes ≤ i → changes ≡ all → runs ≡ is_running (table_of all) p
+is_running-whole changes all i p runs so_far h same = so_far ∙ ap (λ (t : Table). is_running t p) (table_of-whole changes i h ∙ ap table_of same)
+
+pub descriptor-whole : (changes all : List Change) (i : ℕ) (p : Process) (fd : ℕ) (o : Option Opened) → o ≡ descriptor (table_of (take i changes)) p fd → length changes ≤ i → changes ≡ all → o ≡ descriptor (table_of all) p fd
+descriptor-whole changes all i p fd o so_far h same = so_far ∙ ap (λ (t : Table). descriptor t p fd) (table_of-whole changes i h ∙ ap table_of same)
+
+pub bytes-whole : (changes all : List Change) (i : ℕ) (file : ℕ) (owner : Owner) (bytes : ℕ → Option Mode) → bytes ≡ (table_of (take i changes)).locks file owner → length changes ≤ i → changes ≡ all → bytes ≡ (table_of all).locks file owner
+bytes-whole changes all i file owner bytes so_far h same = so_far ∙ ap (λ (t : Table). t.locks file owner) (table_of-whole changes i h ∙ ap table_of same)
+
+-- what a sound table says of a process that doesn't run, and of a descriptor
+pub idle-in : (t : Table) (p : Process) (runs : Bool) → IsSound t → runs ≡ is_running t p → runs ≡ false → (fd : ℕ) → descriptor t p fd ≡ None
+idle-in t p runs sound is h fd = sound.idle p.node p.incarnation p.pid fd (sym is ∙ h)
+
+pub number-in : (t : Table) (p : Process) (fd : ℕ) (o : Option Opened) → IsSound t → o ≡ descriptor t p fd → IfSome o (λ x. IsNumber most_descriptions x.description)
+number-in t p fd None sound is = tt
+number-in t p fd (Some x) sound is = sound.numbers p.node p.incarnation p.pid fd x (sym is)

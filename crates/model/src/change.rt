@@ -1,5 +1,7 @@
 //! Changes of the one table.
-ghost use Rattle.std.specs.Prelude.{◌≡◌};
+ghost use Rattle.std.specs.Prelude.{◌≡◌, OnOk};
+ghost use Rattle.intervals.specs.Bytes.{put};
+ghost use Rattle.intervals.specs.Runs.{value_at};
 ghost use Rattle.model.specs.OneTable.{runs_after, descriptor_after, bytes_after};
 
 use crate::mode::Mode;
@@ -7,6 +9,9 @@ use crate::opened::Opened;
 use crate::owner::Owner;
 use crate::process::Process;
 use intervals::span::Span;
+use intervals::span_map::{NoMemory, SpanMap};
+use intervals::vec_map::VecMap;
+use std::alloc::Global;
 
 /// What a call changes in the one table.
 #[derive(Clone, Copy, Debug, PartialEq, Eq)]
@@ -64,5 +69,33 @@ impl Change {
             Change::DropsAnywhere { owner: holder } if *holder == owner => None,
             _ => before,
         }
+    }
+
+    /// Makes the change in what the owner holds of the file.
+    pub fn apply(&self, alloc: Global, file: u16, owner: Owner, bytes: &mut VecMap<Mode>) -> Result<(), NoMemory>
+        ensures { OnOk result (value_at bytes.new ≡ bytes_after self.now file owner (value_at bytes.old)) }
+    {
+        match self {
+            Change::Locks { file: changed, owner: holder, span, mode } if *changed == file && *holder == owner => put(bytes, *span, *mode),
+            Change::Drops { file: changed, owner: holder } if *changed == file && *holder == owner => {
+                *bytes = VecMap::new(alloc);
+                Ok(())
+            }
+            Change::DropsAnywhere { owner: holder } if *holder == owner => {
+                *bytes = VecMap::new(alloc);
+                Ok(())
+            }
+            _ => Ok(()),
+        }
+    }
+}
+
+// Gives each byte of the span the mode, or none.
+pub(crate) fn put(bytes: &mut VecMap<Mode>, span: Span, mode: Option<Mode>) -> Result<(), NoMemory>
+    ensures { OnOk result (value_at bytes.new ≡ put (value_at bytes.old) span mode) }
+{
+    match mode {
+        Some(mode) => bytes.set(span, mode),
+        None => bytes.clear(span),
     }
 }

@@ -4,6 +4,7 @@
 pub mod access;
 pub mod call;
 pub mod change;
+pub mod lock_call;
 pub mod lock_info;
 pub mod mode;
 pub mod one_table;

@@ -1,11 +1,11 @@
 //! The one table that a single machine would keep.
-ghost use Rattle.std.specs.Prelude.{◌≡◌, ◌≤◌, ◌<◌, IfOk, OnOk, OnErr, Some, None, is_none, Bool, true};
-ghost use Rattle.intervals.specs.Search.{first, some_passes};
-ghost use Rattle.model.specs.declared.op.Op.TheVariants.{Spawn, Open, Set, Unlock};
-ghost use Rattle.model.specs.Limits.{most_descriptors};
+ghost use Rattle.std.specs.Prelude.{◌≡◌, ℕ, false, IfOk, IfSome, OnOk, OnErr};
+ghost use Rattle.intervals.specs.Search.{some_passes};
+ghost use Rattle.model.specs.declared.op.Op.TheVariants.{Spawn, Open};
+ghost use Rattle.model.specs.Limits.{IsNumber, most_descriptors, most_descriptions};
 ghost use Rattle.model.specs.Descriptors.{is_of, is_open, lowest_fd, lowest_description};
-ghost use Rattle.model.specs.Table.{Table, empty_table, around, is_running, descriptor};
-ghost use Rattle.model.specs.OneTable.{changed, table_of, IsSound, KeepsSound};
+ghost use Rattle.model.specs.Table.{empty_table, around, is_running, descriptor};
+ghost use Rattle.model.specs.OneTable.{changed, table_of, KeepsSound};
 ghost use Rattle.model.specs.Step.{Step};
 
 use crate::access::Access;
@@ -69,7 +69,8 @@ impl OneTable {
 
     /// Whether the process runs.
     pub fn is_running(&self, process: Process) -> bool
-        ensures { result ≡ is_running (table_of self.now) process }
+        ensures value { result ≡ is_running (table_of self.now) process }
+        ensures idle { result ≡ false → (fd : ℕ) → descriptor (table_of self.now) process fd ≡ None }
     {
         let mut runs = false;
         for change in &self.changes {
@@ -80,7 +81,8 @@ impl OneTable {
 
     /// What the descriptor of the process refers to; `None` where it has no such descriptor.
     pub fn descriptor(&self, process: Process, fd: u8) -> Option<Opened>
-        ensures { result ≡ descriptor (table_of self.now) process fd }
+        ensures value { result ≡ descriptor (table_of self.now) process fd }
+        ensures number { IfSome result (λ opened. IsNumber most_descriptions opened.description) }
     {
         let mut opened = None;
         for change in &self.changes {
@@ -108,5 +110,83 @@ impl OneTable {
     {
         self.changes.push(change)?;
         Ok(())
+    }
+
+    // Whether a descriptor of the process refers to the description.
+    fn refers_to(&self, process: Process, description: u16) -> bool
+        ensures { result ≡ some_passes (λ fd. is_of description (descriptor (table_of self.now) process fd)) 0 most_descriptors }
+    {
+        for fd in 0..MOST_DESCRIPTORS {
+            if is_of(description, self.descriptor(process, fd)) {
+                return true;
+            }
+        }
+        false
+    }
+
+    // Whether a process beside this one, or this one, has a descriptor of the description.
+    fn is_open(&self, process: Process, description: u16) -> bool
+        ensures { result ≡ is_open (around (table_of self.now) process) description }
+    {
+        for pid in 1..MOST_PROCESSES + 1 {
+            let other = Process { node: process.node, incarnation: process.incarnation, pid };
+            if self.is_running(other) && self.refers_to(other, description) {
+                return true;
+            }
+        }
+        false
+    }
+
+    // The lowest descriptor that the process has free, or 64.
+    fn lowest_fd(&self, process: Process) -> u8
+        ensures { result ≡ lowest_fd (around (table_of self.now) process) process.pid }
+    {
+        for fd in 0..MOST_DESCRIPTORS {
+            if self.descriptor(process, fd).is_none() {
+                return fd;
+            }
+        }
+        MOST_DESCRIPTORS
+    }
+
+    // The lowest number that no open description beside the process has, or 16,385.
+    fn lowest_description(&self, process: Process) -> u16
+        ensures { result ≡ lowest_description (around (table_of self.now) process) }
+    {
+        for description in 1..MOST_DESCRIPTIONS + 1 {
+            if !self.is_open(process, description) {
+                return description;
+            }
+        }
+        MOST_DESCRIPTIONS + 1
+    }
+
+    // The process begins.
+    fn spawn(&mut self, process: Process) -> Result<Reply, NoMemory>
+        ensures ok { IfOk result (λ reply. Step (table_of self.old) process Spawn reply (table_of self.new)) }
+        ensures err { OnErr result (self.new ≡ self.old) }
+    {
+        if self.is_running(process) {
+            return Ok(Reply::Exists);
+        }
+        self.change(Change::Runs { process, runs: true })?;
+        Ok(Reply::Done)
+    }
+
+    // The process gets a descriptor of the file.
+    fn open(&mut self, process: Process, file: u16, access: Access) -> Result<Reply, NoMemory>
+        ensures ok { IfOk result (λ reply. Step (table_of self.old) process (Open file access) reply (table_of self.new)) }
+        ensures err { OnErr result (self.new ≡ self.old) }
+    {
+        if !self.is_running(process) {
+            return Ok(Reply::NoProcess);
+        }
+        let fd = self.lowest_fd(process);
+        if fd >= MOST_DESCRIPTORS {
+            return Ok(Reply::TooManyFiles);
+        }
+        let opened = Opened { file, description: self.lowest_description(process), access };
+        self.change(Change::Refers { process, fd, opened: Some(opened) })?;
+        Ok(Reply::Fd(fd))
     }
 }
