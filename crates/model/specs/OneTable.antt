@@ -2,6 +2,7 @@
 use Rattle.std.specs.Prelude.{◌≡◌, ℕ, Bool, true, false, ◌&&◌, ◌==◌, if◌then◌else◌, List, fold, Option, Some, None}
 use Rattle.intervals.specs.Bytes.{nothing, put}
 use Rattle.model.specs.declared.mode.Mode.{Mode}
+use Rattle.model.specs.declared.mode.Mode.TheVariants.{Read, Write}
 use Rattle.model.specs.declared.owner.Owner.{Owner}
 use Rattle.model.specs.declared.opened.Opened.{Opened}
 use Rattle.model.specs.declared.process.Process.{Process}
@@ -60,3 +61,8 @@ KeepsSound t (Refers p fd (Some o)) = (is_running t p ≡ true) × IsNumber most
 KeepsSound t (Locks file owner span mode) = Unit {0}
 KeepsSound t (Drops file owner) = Unit {0}
 KeepsSound t (DropsAnywhere owner) = Unit {0}
+
+-- the value of a byte that is barred to the mode, or any where it is none
+abbrev pub bar_of : Mode → Option Mode
+bar_of Read = Some Write
+bar_of Write = None

@@ -1,21 +1,25 @@
 //! The one table that a single machine would keep.
 ghost use Rattle.std.specs.Prelude.{◌≡◌, ℕ, false, IfOk, IfSome, OnOk, OnErr};
 ghost use Rattle.intervals.specs.Search.{some_passes};
-ghost use Rattle.model.specs.declared.op.Op.TheVariants.{Spawn, Open};
+ghost use Rattle.intervals.specs.Runs.{value_at};
+ghost use Rattle.model.specs.declared.op.Op.TheVariants.{Spawn, Open, Unlock};
 ghost use Rattle.model.specs.Limits.{IsNumber, most_descriptors, most_descriptions};
 ghost use Rattle.model.specs.Descriptors.{is_of, is_open, lowest_fd, lowest_description};
-ghost use Rattle.model.specs.Table.{empty_table, around, is_running, descriptor};
-ghost use Rattle.model.specs.OneTable.{changed, table_of, KeepsSound};
-ghost use Rattle.model.specs.Step.{Step};
+ghost use Rattle.model.specs.Table.{empty_table, around, is_running, descriptor, allows, owner_of, target, regions_with, lock_within};
+ghost use Rattle.model.specs.OneTable.{changed, table_of, KeepsSound, bar_of};
+ghost use Rattle.model.specs.Step.{Is, Step};
 
 use crate::access::Access;
-use crate::change::Change;
+use crate::change::{Change, put};
+use crate::lock_call::LockCall;
 use crate::mode::Mode;
 use crate::opened::Opened;
-use crate::owner::Owner;
+use crate::owner::{Kind, Owner};
 use crate::process::Process;
 use crate::reply::Reply;
-use intervals::span_map::NoMemory;
+use intervals::span::{Span, SpanError};
+use intervals::span_map::{NoMemory, SpanMap};
+use intervals::vec_map::VecMap;
 use std::alloc::Global;
 use std::marker::Model;
 
@@ -27,6 +31,9 @@ const MOST_DESCRIPTORS: u8 = 64;
 
 /// Open file descriptions of a node.
 const MOST_DESCRIPTIONS: u16 = 16_384;
+
+/// Regions of an owner in a file.
+const MOST_REGIONS: usize = 1024;
 
 /// The one table, as the changes that made it, oldest first. It is plain and slow, and answers
 /// calls as a single machine may answer them.
@@ -54,6 +61,44 @@ fn is_of(description: u16, opened: Option<Opened>) -> bool
     match opened {
         Some(opened) => opened.description == description,
         None => false,
+    }
+}
+
+// Whether a descriptor is open for what a lock call needs, if anything.
+fn allows(access: Access, need: Option<Mode>) -> bool
+    ensures { result ≡ allows access need }
+{
+    match need {
+        Some(Mode::Read) => access != Access::WriteOnly,
+        Some(Mode::Write) => access != Access::ReadOnly,
+        None => true,
+    }
+}
+
+// The owner of a lock of the kind by a descriptor that refers to this.
+fn owner_of(process: Process, kind: Kind, opened: Opened) -> Owner
+    requires { IsNumber most_descriptions opened.description }
+    ensures { result ≡ owner_of process kind opened }
+{
+    let number = match kind {
+        Kind::OfProcess => process.pid,
+        Kind::OfDescription => opened.description,
+    };
+    Owner {
+        node: process.node,
+        incarnation: process.incarnation,
+        kind,
+        number,
+    }
+}
+
+// The value of a byte that is barred to the mode; any where it is `None`.
+fn bar(mode: Mode) -> Option<Mode>
+    ensures { result ≡ bar_of mode }
+{
+    match mode {
+        Mode::Read => Some(Mode::Write),
+        Mode::Write => None,
     }
 }
 
@@ -188,5 +233,88 @@ impl OneTable {
         let opened = Opened { file, description: self.lowest_description(process), access };
         self.change(Change::Refers { process, fd, opened: Some(opened) })?;
         Ok(Reply::Fd(fd))
+    }
+
+    // What a lock call is about, or the answer by the first of its tests that fails: the process,
+    // the descriptor, the segment, the open mode.
+    fn target(
+        &self,
+        process: Process,
+        need: Option<Mode>,
+        fd: u8,
+        kind: Kind,
+        start: i64,
+        len: i64,
+    ) -> Result<LockCall, Reply>
+        ensures { result ≡ target (table_of self.now) process need fd kind start len }
+    {
+        if !self.is_running(process) {
+            return Err(Reply::NoProcess);
+        }
+        let Some(opened) = self.descriptor(process, fd) else {
+            return Err(Reply::BadFd);
+        };
+        let span = match Span::from_flock(start, len) {
+            Ok(span) => span,
+            Err(SpanError::Invalid) => return Err(Reply::Invalid),
+            Err(SpanError::Overflow) => return Err(Reply::Overflow),
+        };
+        if !allows(opened.access, need) {
+            return Err(Reply::BadFd);
+        }
+        Ok(LockCall {
+            file: opened.file,
+            owner: owner_of(process, kind, opened),
+            span,
+        })
+    }
+
+    // What the owner holds of the file.
+    fn bytes_of(&self, file: u16, owner: Owner) -> Result<VecMap<Mode>, NoMemory>
+        ensures { IfOk result (λ bytes. value_at bytes ≡ (table_of self.now).locks file owner) }
+    {
+        let alloc = *self.changes.allocator();
+        let mut bytes = VecMap::new(alloc);
+        for change in &self.changes {
+            change.apply(alloc, file, owner, &mut bytes)?;
+        }
+        Ok(bytes)
+    }
+
+    // How many regions the owner would have with the bytes set or freed.
+    fn regions_with(&self, call: LockCall, mode: Option<Mode>) -> Result<usize, NoMemory>
+        ensures { IfOk result (λ count. count ≡ regions_with (table_of self.now) call mode) }
+    {
+        let mut bytes = self.bytes_of(call.file, call.owner)?;
+        put(&mut bytes, call.span, mode)?;
+        Ok(bytes.starts())
+    }
+
+    // The bytes are set or freed, unless the owner would have too many regions.
+    fn lock_within(&mut self, call: LockCall, mode: Option<Mode>) -> Result<Reply, NoMemory>
+        ensures ok { IfOk result (λ reply. Is (lock_within (table_of self.old) call mode) reply (table_of self.new)) }
+        ensures err { OnErr result (self.new ≡ self.old) }
+    {
+        if self.regions_with(call, mode)? > MOST_REGIONS {
+            return Ok(Reply::NoLocks);
+        }
+        self.change(Change::Locks {
+            file: call.file,
+            owner: call.owner,
+            span: call.span,
+            mode,
+        })?;
+        Ok(Reply::Done)
+    }
+
+    // No lock on a segment.
+    fn unlock(&mut self, process: Process, fd: u8, kind: Kind, start: i64, len: i64) -> Result<Reply, NoMemory>
+        ensures ok { IfOk result (λ reply. Step (table_of self.old) process (Unlock fd kind start len) reply (table_of self.new)) }
+        ensures err { OnErr result (self.new ≡ self.old) }
+    {
+        match self.target(process, None, fd, kind, start, len) {
+            Ok(call) => self.lock_within(call, None),
+            Err(refusal) => Ok(refusal),
+        }
     }
 }
