@@ -4,3 +4,4 @@ pub mod TableLaws
 pub mod Pigeons
 pub mod DescriptorLaws
 pub mod StepLaws
+pub mod BlockLaws

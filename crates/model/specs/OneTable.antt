@@ -1,6 +1,6 @@
 -- The one table as the changes that made it.
-use Rattle.std.specs.Prelude.{◌≡◌, ℕ, Bool, true, false, ◌&&◌, ◌==◌, if◌then◌else◌, List, fold, Option, Some, None}
-use Rattle.intervals.specs.Bytes.{nothing, put}
+use Rattle.std.specs.Prelude.{◌≡◌, ◌≢◌, ℕ, ◌≤◌, Bool, true, false, ◌&&◌, ◌==◌, if◌then◌else◌, List, fold, Option, Some, None}
+use Rattle.intervals.specs.Bytes.{Range, nothing, put}
 use Rattle.model.specs.declared.mode.Mode.{Mode}
 use Rattle.model.specs.declared.mode.Mode.TheVariants.{Read, Write}
 use Rattle.model.specs.declared.owner.Owner.{Owner}
@@ -10,7 +10,7 @@ use Rattle.model.specs.declared.change.Change.{Change}
 use Rattle.model.specs.declared.change.Change.TheVariants.{Runs, Refers, Locks, Drops, DropsAnywhere}
 use Rattle.model.specs.Limits.{IsNumber, IsHost, most_descriptions}
 use Rattle.model.specs.Owners.{same_owner}
-use Rattle.model.specs.Locks.{with_lock, without_owner, without_owner_anywhere}
+use Rattle.model.specs.Locks.{FileLocks, bars, with_lock, without_owner, without_owner_anywhere}
 use Rattle.model.specs.Descriptors.{with_process, with_descriptor}
 use Rattle.model.specs.Table.{Table, empty_table, around, is_running, with_processes}
 
@@ -66,3 +66,15 @@ KeepsSound t (DropsAnywhere owner) = Unit {0}
 abbrev pub bar_of : Mode → Option Mode
 bar_of Read = Some Write
 bar_of Write = None
+
+-- no byte of the span has a lock that bars the mode
+abbrev pub IsUnbarred : (ℕ → Option Mode) → Range → Mode → Type 0
+IsUnbarred bytes s mode = (b : ℕ) → s.lo ≤ b → b ≤ s.hi → bars mode (bytes b) ≡ false
+
+-- the owner to whom the change gives bytes of the file, if it is another, bars the mode at no byte of the span
+abbrev pub IsFreeOf : FileLocks → Change → ℕ → Owner → Range → Mode → Type 0
+IsFreeOf h (Locks f o span held) file owner s mode = f ≡ file → o ≢ owner → IsUnbarred (h o) s mode
+IsFreeOf h (Runs p runs) file owner s mode = Unit {0}
+IsFreeOf h (Refers p fd opened) file owner s mode = Unit {0}
+IsFreeOf h (Drops f o) file owner s mode = Unit {0}
+IsFreeOf h (DropsAnywhere o) file owner s mode = Unit {0}

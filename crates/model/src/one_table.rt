@@ -1,17 +1,19 @@
 //! The one table that a single machine would keep.
-ghost use Rattle.std.specs.Prelude.{◌≡◌, ℕ, false, IfOk, IfSome, OnOk, OnErr};
+ghost use Rattle.std.specs.Prelude.{◌≡◌, ◌≢◌, ℕ, false, MatchOption, IfOk, IfSome, OnOk, OnErr};
 ghost use Rattle.intervals.specs.Search.{some_passes};
 ghost use Rattle.intervals.specs.Runs.{value_at};
-ghost use Rattle.model.specs.declared.op.Op.TheVariants.{Spawn, Open, Unlock};
+ghost use Rattle.model.specs.declared.op.Op.TheVariants.{Spawn, Open, Set, Unlock};
 ghost use Rattle.model.specs.Limits.{IsNumber, most_descriptors, most_descriptions};
+ghost use Rattle.model.specs.Locks.{IsFree, Blocks};
 ghost use Rattle.model.specs.Descriptors.{is_of, is_open, lowest_fd, lowest_description};
 ghost use Rattle.model.specs.Table.{empty_table, around, is_running, descriptor, allows, owner_of, target, regions_with, lock_within};
-ghost use Rattle.model.specs.OneTable.{changed, table_of, KeepsSound, bar_of};
+ghost use Rattle.model.specs.OneTable.{changed, table_of, KeepsSound, bar_of, IsUnbarred, IsFreeOf};
 ghost use Rattle.model.specs.Step.{Is, Step};
 
 use crate::access::Access;
 use crate::change::{Change, put};
 use crate::lock_call::LockCall;
+use crate::lock_info::LockInfo;
 use crate::mode::Mode;
 use crate::opened::Opened;
 use crate::owner::{Kind, Owner};
@@ -315,6 +317,58 @@ impl OneTable {
         match self.target(process, None, fd, kind, start, len) {
             Ok(call) => self.lock_within(call, None),
             Err(refusal) => Ok(refusal),
+        }
+    }
+
+    // A region of the owner, another than the call's, that blocks.
+    fn block_of(&self, owner: Owner, call: LockCall, mode: Mode) -> Result<Option<LockInfo>, NoMemory>
+        requires { owner ≢ call.owner }
+        ensures { IfOk result (λ found. MatchOption found (IsUnbarred ((table_of self.now).locks call.file owner) call.span mode) (λ lock. Blocks ((table_of self.now).locks call.file) call.owner call.span mode lock)) }
+    {
+        let bytes = self.bytes_of(call.file, owner)?;
+        let Some(byte) = bytes.first_where(call.span, bar(mode)) else {
+            return Ok(None);
+        };
+        let Some((span, held)) = bytes.run_at(byte) else {
+            return Ok(None);
+        };
+        Ok(Some(LockInfo { owner, mode: held, span }))
+    }
+
+    // A region that blocks, of the owner to whom the change gives bytes of the call's file.
+    fn block_in(&self, change: &Change, call: LockCall, mode: Mode) -> Result<Option<LockInfo>, NoMemory>
+        ensures { IfOk result (λ found. MatchOption found (IsFreeOf ((table_of self.now).locks call.file) change.now call.file call.owner call.span mode) (λ lock. Blocks ((table_of self.now).locks call.file) call.owner call.span mode lock)) }
+    {
+        match change {
+            Change::Locks { file, owner, .. } if *file == call.file && *owner != call.owner => self.block_of(*owner, call, mode),
+            _ => Ok(None),
+        }
+    }
+
+    // A region of another owner that blocks.
+    fn block(&self, call: LockCall, mode: Mode) -> Result<Option<LockInfo>, NoMemory>
+        ensures { IfOk result (λ found. MatchOption found (IsFree ((table_of self.now).locks call.file) call.owner call.span mode) (λ lock. Blocks ((table_of self.now).locks call.file) call.owner call.span mode lock)) }
+    {
+        for change in &self.changes {
+            if let Some(lock) = self.block_in(change, call, mode)? {
+                return Ok(Some(lock));
+            }
+        }
+        Ok(None)
+    }
+
+    // A lock on a segment.
+    fn set(&mut self, process: Process, fd: u8, kind: Kind, mode: Mode, start: i64, len: i64) -> Result<Reply, NoMemory>
+        ensures ok { IfOk result (λ reply. Step (table_of self.old) process (Set fd kind mode start len) reply (table_of self.new)) }
+        ensures err { OnErr result (self.new ≡ self.old) }
+    {
+        let call = match self.target(process, Some(mode), fd, kind, start, len) {
+            Ok(call) => call,
+            Err(refusal) => return Ok(refusal),
+        };
+        match self.block(call, mode)? {
+            Some(lock) => Ok(Reply::Again(lock)),
+            None => self.lock_within(call, Some(mode)),
         }
     }
 }
