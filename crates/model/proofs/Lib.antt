@@ -5,3 +5,4 @@ pub mod Pigeons
 pub mod DescriptorLaws
 pub mod StepLaws
 pub mod BlockLaws
+pub mod FailLaws

@@ -1,12 +1,12 @@
 //! The one table that a single machine would keep.
-ghost use Rattle.std.specs.Prelude.{◌≡◌, ◌≢◌, ℕ, false, MatchOption, IfOk, IfSome, OnOk, OnErr};
+ghost use Rattle.std.specs.Prelude.{◌≡◌, ◌≢◌, ℕ, false, MatchOption, IfOk, IfSome, IsTrue, OnOk, OnErr};
 ghost use Rattle.intervals.specs.Search.{some_passes};
 ghost use Rattle.intervals.specs.Runs.{value_at};
 ghost use Rattle.model.specs.declared.op.Op.TheVariants.{Spawn, Open, Set, Unlock};
-ghost use Rattle.model.specs.Limits.{IsNumber, most_descriptors, most_descriptions};
+ghost use Rattle.model.specs.Limits.{IsNumber, IsHost, most_descriptors, most_descriptions};
 ghost use Rattle.model.specs.Locks.{IsFree, Blocks};
 ghost use Rattle.model.specs.Descriptors.{is_of, is_open, lowest_fd, lowest_description};
-ghost use Rattle.model.specs.Table.{empty_table, around, is_running, descriptor, allows, owner_of, target, regions_with, lock_within};
+ghost use Rattle.model.specs.Table.{empty_table, around, is_running, descriptor, allows, owner_of, target, regions_with, lock_within, closed, closed_if, exited, exited_if, gone};
 ghost use Rattle.model.specs.OneTable.{changed, table_of, KeepsSound, bar_of, IsUnbarred, IsFreeOf};
 ghost use Rattle.model.specs.Step.{Is, Step};
 
@@ -15,6 +15,7 @@ use crate::change::{Change, put};
 use crate::lock_call::LockCall;
 use crate::lock_info::LockInfo;
 use crate::mode::Mode;
+use crate::op::Op;
 use crate::opened::Opened;
 use crate::owner::{Kind, Owner};
 use crate::process::Process;
@@ -24,6 +25,9 @@ use intervals::span_map::{NoMemory, SpanMap};
 use intervals::vec_map::VecMap;
 use std::alloc::Global;
 use std::marker::Model;
+
+/// Nodes of a cluster.
+const MOST_NODES: u8 = 64;
 
 /// Processes of a node.
 const MOST_PROCESSES: u16 = 256;
@@ -147,6 +151,53 @@ impl OneTable {
             mode = change.mode_after(file, owner, byte, mode);
         }
         mode
+    }
+
+    /// Answers a call of the process. A segment is tested before the open mode of its descriptor;
+    /// where locks of several owners block, one of them is named. A call that is refused leaves the
+    /// table as it was.
+    ///
+    /// # Errors
+    /// `NoMemory` where there is no memory for the call; the table is as before.
+    pub fn step(&mut self, process: Process, op: Op) -> Result<Reply, NoMemory>
+        ensures ok { IfOk result (λ reply. Step (table_of self.old) process op reply (table_of self.new)) }
+        ensures err { OnErr result (self.new ≡ self.old) }
+    {
+        match op {
+            Op::Spawn => self.spawn(process),
+            Op::Open { file, access } => self.open(process, file, access),
+            Op::Set {
+                fd,
+                kind,
+                mode,
+                start,
+                len,
+            } => self.set(process, fd, kind, mode, start, len),
+            Op::Unlock {
+                fd,
+                kind,
+                start,
+                len,
+            } => self.unlock(process, fd, kind, start, len),
+        }
+    }
+
+    /// The node fails: every process of that incarnation exits. Of a node past 64, a node 0 or an
+    /// incarnation 0 no process runs, so nothing changes.
+    ///
+    /// # Errors
+    /// `NoMemory` where there is no memory for the changes; the table is as before.
+    pub fn fail(&mut self, node: u8, incarnation: u16) -> Result<(), NoMemory>
+        ensures ok { OnOk result (table_of self.new ≡ gone (table_of self.old) node incarnation) }
+        ensures err { OnErr result (self.new ≡ self.old) }
+    {
+        if !self.is_host(node, incarnation) {
+            return Ok(());
+        }
+        let mut next = self.copy()?;
+        next.exit_all(node, incarnation)?;
+        *self = next;
+        Ok(())
     }
 
     // Makes a change.
@@ -370,5 +421,94 @@ impl OneTable {
             Some(lock) => Ok(Reply::Again(lock)),
             None => self.lock_within(call, Some(mode)),
         }
+    }
+
+    // An equal table.
+    fn copy(&self) -> Result<Self, NoMemory>
+        ensures { IfOk result (λ copy. copy ≡ self.now) }
+    {
+        Ok(OneTable {
+            changes: Vec::from_slice(*self.changes.allocator(), &self.changes)?,
+        })
+    }
+
+    // Whether a node can have that number and incarnation; else no process of it runs.
+    fn is_host(&self, node: u8, incarnation: u16) -> bool
+        ensures host { IsTrue result → IsHost node incarnation }
+        ensures none { result ≡ false → (pid : ℕ) → ((table_of self.now).on node incarnation).runs pid ≡ false }
+    {
+        let _ = &self.changes;
+        1 <= node && node <= MOST_NODES && 1 <= incarnation
+    }
+
+    // The descriptor is closed.
+    fn close(&mut self, process: Process, fd: u8, opened: Opened) -> Result<(), NoMemory>
+        requires { IsNumber most_descriptions opened.description }
+        ensures { OnOk result (table_of self.new ≡ closed (table_of self.old) process fd opened) }
+    {
+        self.change(Change::Refers {
+            process,
+            fd,
+            opened: None,
+        })?;
+        self.change(Change::Drops {
+            file: opened.file,
+            owner: owner_of(process, Kind::OfProcess, opened),
+        })?;
+        if !self.is_open(process, opened.description) {
+            self.change(Change::DropsAnywhere {
+                owner: owner_of(process, Kind::OfDescription, opened),
+            })?;
+        }
+        Ok(())
+    }
+
+    // The descriptor is closed, if there is one.
+    fn close_if(&mut self, process: Process, fd: u8) -> Result<(), NoMemory>
+        ensures { OnOk result (table_of self.new ≡ closed_if (table_of self.old) process fd (descriptor (table_of self.old) process fd)) }
+    {
+        match self.descriptor(process, fd) {
+            Some(opened) => self.close(process, fd, opened),
+            None => Ok(()),
+        }
+    }
+
+    // The process exits.
+    fn exit(&mut self, process: Process) -> Result<(), NoMemory>
+        ensures { OnOk result (table_of self.new ≡ exited (table_of self.old) process) }
+    {
+        for fd in 0..MOST_DESCRIPTORS {
+            self.close_if(process, fd)?;
+        }
+        self.change(Change::Runs {
+            process,
+            runs: false,
+        })?;
+        Ok(())
+    }
+
+    // The process exits, if it runs.
+    fn exit_if(&mut self, process: Process) -> Result<(), NoMemory>
+        ensures { OnOk result (table_of self.new ≡ exited_if (table_of self.old) process) }
+    {
+        if self.is_running(process) {
+            self.exit(process)?;
+        }
+        Ok(())
+    }
+
+    // Every process of the node exits.
+    fn exit_all(&mut self, node: u8, incarnation: u16) -> Result<(), NoMemory>
+        requires { IsHost node incarnation }
+        ensures { OnOk result (table_of self.new ≡ gone (table_of self.old) node incarnation) }
+    {
+        for pid in 1..MOST_PROCESSES + 1 {
+            self.exit_if(Process {
+                node,
+                incarnation,
+                pid,
+            })?;
+        }
+        Ok(())
     }
 }
