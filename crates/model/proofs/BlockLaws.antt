@@ -1,18 +1,17 @@
 -- Regions that block a lock.
-use Rattle.std.specs.Prelude.{◌≡◌, ◌≢◌, ℕ, ◌+◌, ◌<◌, ◌≤◌, ◌⊎◌, Bool, true, false, ◌&&◌, ◌==◌, if◌then◌else◌, length, List, [], Option, Some, None, IsSome, refl}
-use Rattle.std.proofs.Common.{arith, ap, sym, ◌∙◌, inl, inr, take, get_or, subst}
+use Rattle.std.specs.Prelude.{◌≡◌, ◌≢◌, ℕ, ◌+◌, ◌<◌, ◌≤◌, ◌⊎◌, true, false, ◌&&◌, ◌==◌, length, List, [], Option, Some, None, IsSome, refl}
+use Rattle.std.proofs.Common.{arith, ap, sym, ◌∙◌, inl, inr, take, get_or}
 use Rattle.std.proofs.lemmas.Bool.{cases_Bool, and_parts, eqb-true}
 use Rattle.intervals.specs.Bytes.{Range, IsBarred, NoneIn, IsFirstIn, IsRun}
 use Rattle.model.specs.declared.mode.Mode.{Mode}
 use Rattle.model.specs.declared.mode.Mode.TheVariants.{Read, Write}
 use Rattle.model.specs.declared.owner.Owner.{Owner}
-use Rattle.model.specs.declared.lock_info.LockInfo.{LockInfo}
 use Rattle.model.specs.declared.change.Change.{Change}
 use Rattle.model.specs.declared.change.Change.TheVariants.{Runs, Refers, Locks, Drops, DropsAnywhere}
 use Rattle.model.specs.Owners.{same_owner}
 use Rattle.model.specs.Locks.{FileLocks, excludes, bars, IsFree, Blocks}
 use Rattle.model.specs.Table.{Table}
-use Rattle.model.specs.OneTable.{changed, table_of, bytes_after, bar_of, IsUnbarred, IsFreeOf}
+use Rattle.model.specs.OneTable.{table_of, bytes_after, bar_of, IsUnbarred, IsFreeOf}
 use Rattle.model.proofs.OwnerLaws.{owner_exact}
 use Rattle.model.proofs.TableLaws.{table_of-none, table_of-take, table_of-whole, bytes-changed}
 
@@ -82,17 +81,21 @@ none-after h (DropsAnywhere o) file owner other s mode bytes b free ne lo hi non
 ]
 
 pub cleared-more : (all changes : List Change) (i : ℕ) (c : Change) (file : ℕ) (owner : Owner) (s : Range) (mode : Mode) → Cleared all (take i changes) file owner s mode → i < length changes → c ≡ get_or changes i c → IsFreeOf ((table_of all).locks file) c file owner s mode → Cleared all (take (i + 1) changes) file owner s mode
-cleared-more all changes i c file owner s mode seen below is free = record { free = λ other b ne lo hi. elim (seen.free other b ne lo hi) [
-  | inl ok ↦ inl ok
-  | inr none ↦ elim (none-after ((table_of all).locks file) c file owner other s mode ((table_of (take i changes)).locks file other) b free ne lo hi none) [
+cleared-more all changes i c file owner s mode seen below is free = record {
+  free = λ other b ne lo hi. elim (seen.free other b ne lo hi) [
     | inl ok ↦ inl ok
-    | inr still ↦ inr (ap (λ (t : Table). t.locks file other b) (table_of-take changes i c below is) ∙ ap (λ (f : ℕ → Option Mode). f b) (bytes-changed (table_of (take i changes)) c file other) ∙ still)
-  ]
-] }
+    | inr none ↦ elim (none-after ((table_of all).locks file) c file owner other s mode ((table_of (take i changes)).locks file other) b free ne lo hi none) [
+      | inl ok ↦ inl ok
+      | inr still ↦ inr (ap (λ (t : Table). t.locks file other b) (table_of-take changes i c below is) ∙ ap (λ (f : ℕ → Option Mode). f b) (bytes-changed (table_of (take i changes)) c file other) ∙ still)
+    ]
+  ];
+}
 
 -- all changes are seen
 pub cleared-whole : (all changes : List Change) (i : ℕ) (file : ℕ) (owner : Owner) (s : Range) (mode : Mode) → Cleared all (take i changes) file owner s mode → length changes ≤ i → changes ≡ all → IsFree ((table_of all).locks file) owner s mode
-cleared-whole all changes i file owner s mode seen h same = cleared-end all file owner s mode (record { free = λ other b ne lo hi. elim (seen.free other b ne lo hi) [
-  | inl ok ↦ inl ok
-  | inr none ↦ inr (sym (ap (λ (t : Table). t.locks file other b) (table_of-whole changes i h ∙ ap table_of same)) ∙ none)
-] })
+cleared-whole all changes i file owner s mode seen h same = cleared-end all file owner s mode (record {
+  free = λ other b ne lo hi. elim (seen.free other b ne lo hi) [
+    | inl ok ↦ inl ok
+    | inr none ↦ inr (sym (ap (λ (t : Table). t.locks file other b) (table_of-whole changes i h ∙ ap table_of same)) ∙ none)
+  ];
+})

@@ -1,13 +1,13 @@
 -- A process with a free descriptor can open a file.
-use Rattle.std.specs.Prelude.{◌≡◌, ◌≢◌, ℕ, suc, ◌+◌, ◌-◌, ◌*◌, ◌<◌, ◌≤◌, Bool, true, false, not, ◌==◌, Option, Some, None, is_none, is_some, refl}
+use Rattle.std.specs.Prelude.{◌≡◌, ℕ, ◌+◌, ◌-◌, ◌*◌, ◌<◌, ◌≤◌, Bool, true, false, not, Option, Some, None, is_none, is_some, refl}
 use Rattle.std.proofs.Common.{arith, ap, sym, ◌∙◌, inl, inr}
-use Rattle.std.proofs.lemmas.Bool.{cases_lt, cases_Bool, eqb-true, both_ways}
+use Rattle.std.proofs.lemmas.Bool.{cases_lt, eqb-true}
 use Rattle.intervals.specs.Search.{first, some_passes, IsFirst}
 use Rattle.model.specs.declared.opened.Opened.{Opened}
 use Rattle.model.specs.Limits.{IsNumber, most_processes, most_descriptors, most_descriptions}
 use Rattle.model.specs.Descriptors.{Processes, lowest_fd, is_of, is_open, lowest_description}
 use Rattle.model.proofs.SearchLaws.{first_is_first, first-passes, some_passes-none}
-use Rattle.model.proofs.Pigeons.{Placed, no_hole}
+use Rattle.model.proofs.Pigeons.{no_hole}
 
 -- the first process and descriptor of the node that refer to the description
 pid_of : Processes → ℕ → ℕ
@@ -30,6 +30,7 @@ open_refers ps d h =
   where
     at_most : (k : ℕ) → k < 1 + 256 → k ≤ 256
     at_most k h = omega arith
+
     below : (k : ℕ) → k < 0 + 64 → k < 64
     below k h = omega arith
 
@@ -73,8 +74,10 @@ not_all_open ps pid fd pid_in fd_in free all = no_hole 16384 (λ k. slot (pid_of
   where
     number : (k : ℕ) → k < 16384 → IsNumber 16384 (k + 1)
     number k h = (omega arith, omega arith)
+
     of : (k : ℕ) → k < 16384 → Refers ps (k + 1) (pid_of ps (k + 1)) (fd_of ps (k + 1))
     of k h = open_refers ps (k + 1) (all (k + 1) (number k h))
+
     less : (j k : ℕ) → j + 1 ≡ k + 1 → j ≡ k
     less j k e = omega arith
 
@@ -84,9 +87,11 @@ lowest_description-number ps pid fd pid_in fd_in free = met (lowest_description 
   where
     past : (d k : ℕ) → IsNumber 16384 d → 16384 < k → d < k
     past d k h lt = let q = h.1 in omega arith
+
     opens : (b : Bool) → not b ≡ false → b ≡ true
     opens true h = refl
     opens false h = absurd (cc)
+
     met : (k : ℕ) → IsFirst (λ d. not (is_open ps d)) 1 most_descriptions k → IsNumber most_descriptions k
     met k f = elim (cases_lt 16384 k) [
       | inl lt ↦ absurd (not_all_open ps pid fd pid_in fd_in free (λ d d_in. opens (is_open ps d) (f.none_before d d_in.0 (past d k d_in lt))))
@@ -110,6 +115,7 @@ lowest_fd-free ps pid h = is_free (ps.opened pid (lowest_fd ps pid)) ((first_is_
   where
     more : (k : ℕ) → k < 64 → k < 0 + 64
     more k lt = omega arith
+
     is_free : (o : Option Opened) → is_none o ≡ true → o ≡ None
     is_free None e = refl
     is_free (Some o) e = absurd (cc)

@@ -1,7 +1,7 @@
 -- As many places as numbers: none of them is free where each number has its own.
 use Rattle.std.specs.Prelude.{◌≡◌, ◌≢◌, ℕ, zero, suc, ◌<◌, ◌==◌, if◌then◌else◌, refl}
 use Rattle.std.proofs.Common.{arith, sym, ◌∙◌, inl, inr}
-use Rattle.std.proofs.lemmas.Bool.{cases_Bool, cases_eq, eq-eqb, eqb-true, both_ways}
+use Rattle.std.proofs.lemmas.Bool.{cases_Bool, cases_eq, eq-eqb, eqb-true}
 
 -- each number below n has a place below n of its own, and none is at the hole
 pub record Placed (n : ℕ) (place : ℕ → ℕ) (hole : ℕ) : Type 0 where
@@ -54,8 +54,10 @@ fewer n place hole p = record {
   where
     one_more : (k : ℕ) → k < n → k < suc n
     one_more k h = omega arith
+
     last : n < suc n
     last = omega arith
+
     not_last : (k : ℕ) → k < n → k ≡ n → ⊥
     not_last k h e = omega arith
 

@@ -1,7 +1,7 @@
 -- What `first` gives.
 use Rattle.std.specs.Prelude.{◌≡◌, ℕ, zero, suc, ◌+◌, ◌<◌, ◌≤◌, Bool, true, false, nat_lt, refl}
-use Rattle.std.proofs.Common.{arith, ap, sym, ◌∙◌, inl, inr}
-use Rattle.std.proofs.lemmas.Bool.{cases_order, cases_lt, cases_Bool, both_ways}
+use Rattle.std.proofs.Common.{arith, ap, ◌∙◌, inl, inr}
+use Rattle.std.proofs.lemmas.Bool.{cases_order, cases_lt, both_ways}
 use Rattle.std.proofs.lemmas.Bool.Decides.{nat_tests}
 use Rattle.intervals.specs.Search.{first, some_passes, IsFirst, FirstIsFirst}
 
@@ -40,8 +40,10 @@ later passes lo n k no_lo f = record {
   where
     below : (k : ℕ) → lo + 1 ≤ k → lo ≤ k
     below k h = omega arith
+
     reach : (k : ℕ) → k ≤ lo + 1 + n → k ≤ lo + suc n
     reach k h = omega arith
+
     inside : (k : ℕ) → k < lo + suc n → k < lo + 1 + n
     inside k h = omega arith
 
@@ -50,8 +52,8 @@ unfolding first
 first_is_first passes lo zero = at_end passes lo
 first_is_first passes lo (suc n) =
     elim (passes lo) as (λ b. passes lo ≡ b → IsFirst passes lo (suc n) (elim b [ true ↦ lo | false ↦ first passes (lo + 1) n ]))
-      [ true ↦ λ h. at_once passes lo (suc n) h | false ↦ λ h. later passes lo n (first passes (lo + 1) n) h (first_is_first passes (lo + 1) n) ]
-      refl
+    [ true ↦ λ h. at_once passes lo (suc n) h | false ↦ λ h. later passes lo n (first passes (lo + 1) n) h (first_is_first passes (lo + 1) n) ]
+    refl
 
 -- the numbers from lo that come before i don't pass
 pub record Failed (passes : ℕ → Bool) (lo i : ℕ) : Type 0 where

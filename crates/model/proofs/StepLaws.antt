@@ -1,17 +1,17 @@
 -- Steps of the one table that are made by changes.
-use Rattle.std.specs.Prelude.{◌≡◌, ℕ, ◌<◌, ◌≤◌, true, false, nat_lt, Option, Some, None, refl}
-use Rattle.std.proofs.Common.{arith, ap, sym, ◌∙◌}
+use Rattle.std.specs.Prelude.{◌≡◌, ℕ, ◌<◌, true, nat_lt, Some, refl}
+use Rattle.std.proofs.Common.{arith}
 use Rattle.std.proofs.lemmas.Bool.Decides.{nat_tests}
 use Rattle.model.specs.declared.access.Access.{Access}
 use Rattle.model.specs.declared.opened.Opened.{Opened}
 use Rattle.model.specs.declared.process.Process.{Process}
-use Rattle.model.specs.declared.change.Change.TheVariants.{Runs, Refers}
-use Rattle.model.specs.declared.op.Op.TheVariants.{Spawn, Open}
-use Rattle.model.specs.declared.reply.Reply.TheVariants.{Done, Fd, NoProcess, Exists, TooManyFiles}
+use Rattle.model.specs.declared.change.Change.TheVariants.{Refers}
+use Rattle.model.specs.declared.op.Op.TheVariants.{Open}
+use Rattle.model.specs.declared.reply.Reply.TheVariants.{Fd}
 use Rattle.model.specs.Limits.{IsNumber, most_processes, most_descriptors, most_descriptions}
-use Rattle.model.specs.Descriptors.{lowest_fd, lowest_description, on_lowest_fd}
-use Rattle.model.specs.Table.{Table, around, is_running, descriptor, beside}
-use Rattle.model.specs.OneTable.{changed, KeepsSound}
+use Rattle.model.specs.Descriptors.{lowest_fd, lowest_description}
+use Rattle.model.specs.Table.{Table, around, is_running}
+use Rattle.model.specs.OneTable.{changed}
 use Rattle.model.specs.Step.{Step}
 use Rattle.model.proofs.DescriptorLaws.{lowest_fd-free, lowest_description-number}
 

@@ -114,7 +114,7 @@ bytes-changed t (Runs q runs) file owner = refl
 bytes-changed t (Refers q k o) file owner = refl
 bytes-changed t (Locks f o span mode) file owner =
     if-with ((f == file) && same_owner o owner) (put (t.locks f o) span mode) (put (t.locks file owner) span mode) (t.locks file owner)
-      (λ h. let parts = and_parts _ _ h in ap (λ (g : ℕ). put (t.locks g o) span mode) (eqb-true _ _ parts.0) ∙ ap (λ (a : Owner). put (t.locks file a) span mode) (owner_exact _ _ parts.1))
+    (λ h. let parts = and_parts _ _ h in ap (λ (g : ℕ). put (t.locks g o) span mode) (eqb-true _ _ parts.0) ∙ ap (λ (a : Owner). put (t.locks file a) span mode) (owner_exact _ _ parts.1))
 bytes-changed t (Drops f o) file owner = refl
 bytes-changed t (DropsAnywhere o) file owner = refl
 

@@ -17,7 +17,10 @@ use std::alloc::Global;
 #[derive(Clone, Copy, Debug, PartialEq, Eq)]
 pub enum Change {
     /// The process begins or ends, and has no descriptors.
-    Runs { process: Process, runs: bool },
+    Runs {
+        process: Process,
+        runs: bool,
+    },
     /// The descriptor refers to this, or to nothing.
     Refers {
         process: Process,
@@ -32,52 +35,101 @@ pub enum Change {
         mode: Option<Mode>,
     },
     /// The owner holds nothing of the file.
-    Drops { file: u16, owner: Owner },
+    Drops {
+        file: u16,
+        owner: Owner,
+    },
     /// The owner holds nothing of any file.
-    DropsAnywhere { owner: Owner },
+    DropsAnywhere {
+        owner: Owner,
+    },
 }
 
 impl Change {
-    /// Whether the process runs after the change, by whether it did before.
-    pub fn runs_after(&self, process: Process, before: bool) -> bool
+    // Whether the process runs after the change, by whether it did before.
+    pub(crate) fn runs_after(&self, process: Process, before: bool) -> bool
         ensures { result ≡ runs_after self.now process before }
     {
         match self {
-            Change::Runs { process: changed, runs } if process == *changed => *runs,
+            Change::Runs {
+                process: changed,
+                runs,
+            } if process == *changed => *runs,
             _ => before,
         }
     }
 
-    /// What the descriptor of the process refers to after the change, by what it did before.
-    pub fn descriptor_after(&self, process: Process, fd: u8, before: Option<Opened>) -> Option<Opened>
+    // What the descriptor of the process refers to after the change, by what it did before.
+    pub(crate) fn descriptor_after(
+        &self,
+        process: Process,
+        fd: u8,
+        before: Option<Opened>,
+    ) -> Option<Opened>
         ensures { result ≡ descriptor_after self.now process fd before }
     {
         match self {
-            Change::Runs { process: changed, .. } if process == *changed => None,
-            Change::Refers { process: changed, fd: at, opened } if process == *changed && fd == *at => *opened,
+            Change::Runs {
+                process: changed,
+                ..
+            } if process == *changed => None,
+            Change::Refers {
+                process: changed,
+                fd: at,
+                opened,
+            } if process == *changed && fd == *at => *opened,
             _ => before,
         }
     }
 
-    /// How the owner's byte of the file is locked after the change, by how it was before.
-    pub fn mode_after(&self, file: u16, owner: Owner, byte: u64, before: Option<Mode>) -> Option<Mode>
+    // How the owner's byte of the file is locked after the change, by how it was before.
+    pub(crate) fn mode_after(
+        &self,
+        file: u16,
+        owner: Owner,
+        byte: u64,
+        before: Option<Mode>,
+    ) -> Option<Mode>
         ensures { result ≡ bytes_after self.now file owner (λ b. before) byte }
     {
         match self {
-            Change::Locks { file: changed, owner: holder, span, mode } if *changed == file && *holder == owner && span.lo <= byte && byte <= span.hi => *mode,
-            Change::Drops { file: changed, owner: holder } if *changed == file && *holder == owner => None,
+            Change::Locks {
+                file: changed,
+                owner: holder,
+                span,
+                mode,
+            } if *changed == file && *holder == owner && span.lo <= byte && byte <= span.hi =>
+                *mode,
+            Change::Drops {
+                file: changed,
+                owner: holder,
+            } if *changed == file && *holder == owner => None,
             Change::DropsAnywhere { owner: holder } if *holder == owner => None,
             _ => before,
         }
     }
 
-    /// Makes the change in what the owner holds of the file.
-    pub fn apply(&self, alloc: Global, file: u16, owner: Owner, bytes: &mut VecMap<Mode>) -> Result<(), NoMemory>
+    // Makes the change in what the owner holds of the file.
+    pub(crate) fn apply(
+        &self,
+        alloc: Global,
+        file: u16,
+        owner: Owner,
+        bytes: &mut VecMap<Mode>,
+    ) -> Result<(), NoMemory>
         ensures { OnOk result (value_at bytes.new ≡ bytes_after self.now file owner (value_at bytes.old)) }
     {
         match self {
-            Change::Locks { file: changed, owner: holder, span, mode } if *changed == file && *holder == owner => put(bytes, *span, *mode),
-            Change::Drops { file: changed, owner: holder } if *changed == file && *holder == owner => {
+            Change::Locks {
+                file: changed,
+                owner: holder,
+                span,
+                mode,
+            } if *changed == file && *holder == owner => put(bytes, *span, *mode),
+            Change::Drops {
+                file: changed,
+                owner: holder,
+            } if *changed == file && *holder == owner => {
                 *bytes = VecMap::new(alloc);
                 Ok(())
             }

@@ -4,7 +4,7 @@ use Rattle.intervals.specs.Runs.{value_at}
 use Rattle.model.specs.declared.mode.Mode.{Mode}
 use Rattle.model.specs.Table.{Target}
 use Rattle.model.specs.OneTable.{table_of, bar_of, IsUnbarred}
-use Rattle.model.proofs.BlockLaws.{unbarred, block-found, barred_some}
+use Rattle.model.proofs.BlockLaws.{unbarred}
 use Rattle.model.proofs.one_table.OneTable.block_of.Goals as goal
 
 pub returns-in_default : goal.returns-in_default

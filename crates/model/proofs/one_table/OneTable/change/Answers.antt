@@ -1,5 +1,5 @@
 use Rattle.std.proofs.Common.{◌∙◌, ap}
-use Rattle.model.specs.OneTable.{changed, table_of, IsSound, KeepsSound}
+use Rattle.model.specs.OneTable.{changed, table_of}
 use Rattle.model.proofs.TableLaws.{table_of-push, sound-changed}
 use Rattle.model.proofs.one_table.OneTable.change.Goals as goal
 

@@ -1,4 +1,4 @@
-use Rattle.std.proofs.Common.{◌∙◌, sym, arith}
+use Rattle.std.proofs.Common.{◌∙◌, arith}
 use Rattle.model.proofs.FailLaws.{exited_before-first, exited_before-more, exited_before-whole}
 use Rattle.model.proofs.one_table.OneTable.exit_all.Goals as goal
 

@@ -1,4 +1,4 @@
-use Rattle.std.proofs.Common.{◌≡◌, ◌∙◌, ap, sym, subst, arith, ℕ, Bool, true, false, List}
+use Rattle.std.proofs.Common.{◌≡◌, ◌∙◌, sym, subst, arith, ℕ, Bool, true, false, List}
 use Rattle.model.specs.declared.process.Process.{Process}
 use Rattle.model.specs.declared.change.Change.{Change}
 use Rattle.intervals.specs.Search.{some_passes}

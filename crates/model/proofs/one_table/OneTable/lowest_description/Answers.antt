@@ -1,8 +1,5 @@
-use Rattle.std.proofs.Common.{◌≡◌, ◌∙◌, ap, sym, arith}
+use Rattle.std.proofs.Common.{◌∙◌, ap, sym, arith}
 use Rattle.std.specs.Prelude.{not}
-use Rattle.model.specs.Descriptors.{is_open}
-use Rattle.model.specs.Table.{around}
-use Rattle.model.specs.OneTable.{table_of}
 use Rattle.model.proofs.SearchLaws.{failed-start, failed-more, first-found, first-none}
 use Rattle.model.proofs.one_table.OneTable.lowest_description.Goals as goal
 

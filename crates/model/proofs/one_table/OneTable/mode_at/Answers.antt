@@ -1,5 +1,4 @@
-use Rattle.std.proofs.Common.{◌∙◌, ap, sym, List}
-use Rattle.model.specs.declared.change.Change.{Change}
+use Rattle.std.proofs.Common.{◌∙◌, ap, sym}
 use Rattle.model.specs.Table.{Table}
 use Rattle.model.specs.OneTable.{table_of}
 use Rattle.model.proofs.TableLaws.{table_of-none, table_of-whole, byte-take}

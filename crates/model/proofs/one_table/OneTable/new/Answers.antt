@@ -1,5 +1,5 @@
 use Rattle.std.proofs.Common.{◌∙◌, ap}
-use Rattle.model.specs.OneTable.{table_of, IsSound}
+use Rattle.model.specs.OneTable.{table_of}
 use Rattle.model.proofs.TableLaws.{table_of-none, sound-empty}
 use Rattle.model.proofs.one_table.OneTable.new.Goals as goal
 

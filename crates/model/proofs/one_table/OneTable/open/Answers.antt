@@ -1,9 +1,9 @@
-use Rattle.std.proofs.Common.{◌≡◌, ◌∙◌, sym, rules, true, ℕ, Some, subst}
+use Rattle.std.proofs.Common.{◌∙◌, sym, rules, ℕ, Some, subst}
 use Rattle.model.specs.declared.op.Op.TheVariants.{Open}
 use Rattle.model.specs.declared.reply.Reply.TheVariants.{Fd}
 use Rattle.model.specs.declared.change.Change.TheVariants.{Refers}
 use Rattle.model.specs.Limits.{IsNumber, most_processes}
-use Rattle.model.specs.Table.{Table, is_running}
+use Rattle.model.specs.Table.{Table}
 use Rattle.model.specs.OneTable.{table_of, changed}
 use Rattle.model.specs.Step.{Step}
 use Rattle.model.proofs.StepLaws.{open-done, open-sound}

@@ -1,6 +1,4 @@
 use Rattle.std.proofs.Common.{◌≡◌, ◌∙◌, ap, sym, arith}
-use Rattle.std.specs.Prelude.{Option}
-use Rattle.model.specs.declared.opened.Opened.{Opened}
 use Rattle.model.specs.Descriptors.{is_of}
 use Rattle.model.specs.Table.{descriptor}
 use Rattle.model.specs.OneTable.{table_of}
