@@ -4,15 +4,16 @@ use Rattle.intervals.specs.Bytes.{Range, nothing, put}
 use Rattle.model.specs.declared.mode.Mode.{Mode}
 use Rattle.model.specs.declared.mode.Mode.TheVariants.{Read, Write}
 use Rattle.model.specs.declared.owner.Owner.{Owner}
+use Rattle.model.specs.declared.lock_info.LockInfo.{LockInfo}
 use Rattle.model.specs.declared.opened.Opened.{Opened}
 use Rattle.model.specs.declared.process.Process.{Process}
 use Rattle.model.specs.declared.change.Change.{Change}
 use Rattle.model.specs.declared.change.Change.TheVariants.{Runs, Refers, Locks, Drops, DropsAnywhere}
 use Rattle.model.specs.Limits.{IsNumber, IsHost, most_descriptions}
 use Rattle.model.specs.Owners.{same_owner}
-use Rattle.model.specs.Locks.{FileLocks, bars, with_lock, without_owner, without_owner_anywhere}
+use Rattle.model.specs.Locks.{FileLocks, bars, Blocks, with_lock, without_owner, without_owner_anywhere}
 use Rattle.model.specs.Descriptors.{with_process, with_descriptor}
-use Rattle.model.specs.Table.{Table, empty_table, around, is_running, with_processes}
+use Rattle.model.specs.Table.{Table, Target, empty_table, around, is_running, with_processes}
 
 -- what the change makes of the table
 abbrev pub changed : Table → Change → Table
@@ -78,3 +79,7 @@ IsFreeOf h (Runs p runs) file owner s mode = Unit {0}
 IsFreeOf h (Refers p fd opened) file owner s mode = Unit {0}
 IsFreeOf h (Drops f o) file owner s mode = Unit {0}
 IsFreeOf h (DropsAnywhere o) file owner s mode = Unit {0}
+
+-- the lock is a region of another owner that blocks the call
+abbrev pub BlocksCall : Table → Target → Mode → LockInfo → Type 0
+BlocksCall t call mode lock = Blocks (t.locks call.file) call.owner call.span mode lock

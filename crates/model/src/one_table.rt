@@ -4,11 +4,10 @@ ghost use Rattle.intervals.specs.Search.{some_passes};
 ghost use Rattle.intervals.specs.Runs.{value_at};
 ghost use Rattle.model.specs.declared.op.Op.TheVariants.{Spawn, Open, Set, Unlock};
 ghost use Rattle.model.specs.Limits.{IsNumber, IsHost, most_descriptors, most_descriptions};
-ghost use Rattle.model.specs.Locks.{IsFree, Blocks};
 ghost use Rattle.model.specs.Descriptors.{is_of, is_open, lowest_fd, lowest_description};
 ghost use Rattle.model.specs.Table.{empty_table, around, is_running, descriptor, allows, owner_of, target, regions_with, lock_within, closed, closed_if, exited, exited_if, gone};
-ghost use Rattle.model.specs.OneTable.{changed, table_of, KeepsSound, bar_of, IsUnbarred, IsFreeOf};
-ghost use Rattle.model.specs.Step.{Is, Step};
+ghost use Rattle.model.specs.OneTable.{changed, table_of, KeepsSound, bar_of, IsUnbarred, IsFreeOf, BlocksCall};
+ghost use Rattle.model.specs.Step.{Is, Step, Unblocked};
 
 use crate::access::Access;
 use crate::change::{Change, put};
@@ -212,7 +211,8 @@ impl OneTable {
 
     // Whether a descriptor of the process refers to the description.
     fn refers_to(&self, process: Process, description: u16) -> bool
-        ensures { result ≡ some_passes (λ fd. is_of description (descriptor (table_of self.now) process fd)) 0 most_descriptors }
+        ensures { result ≡ some_passes (λ fd. is_of description (descriptor (table_of self.now) process fd))
+            0 most_descriptors }
     {
         for fd in 0..MOST_DESCRIPTORS {
             if is_of(description, self.descriptor(process, fd)) {
@@ -280,7 +280,8 @@ impl OneTable {
 
     // The process gets a descriptor of the file.
     fn open(&mut self, process: Process, file: u16, access: Access) -> Result<Reply, NoMemory>
-        ensures ok { IfOk result (λ reply. Step (table_of self.old) process (Open file access) reply (table_of self.new)) }
+        ensures ok { IfOk result (λ reply.
+            Step (table_of self.old) process (Open file access) reply (table_of self.new)) }
         ensures err { OnErr result (self.new ≡ self.old) }
     {
         if !self.is_running(process) {
@@ -384,7 +385,8 @@ impl OneTable {
         start: i64,
         len: i64,
     ) -> Result<Reply, NoMemory>
-        ensures ok { IfOk result (λ reply. Step (table_of self.old) process (Unlock fd kind start len) reply (table_of self.new)) }
+        ensures ok { IfOk result (λ reply.
+            Step (table_of self.old) process (Unlock fd kind start len) reply (table_of self.new)) }
         ensures err { OnErr result (self.new ≡ self.old) }
     {
         match self.target(process, None, fd, kind, start, len) {
@@ -401,7 +403,9 @@ impl OneTable {
         mode: Mode,
     ) -> Result<Option<LockInfo>, NoMemory>
         requires { owner ≢ call.owner }
-        ensures { IfOk result (λ found. MatchOption found (IsUnbarred ((table_of self.now).locks call.file owner) call.span mode) (λ lock. Blocks ((table_of self.now).locks call.file) call.owner call.span mode lock)) }
+        ensures { IfOk result (λ found. MatchOption found
+            (IsUnbarred ((table_of self.now).locks call.file owner) call.span mode)
+            (BlocksCall (table_of self.now) call mode)) }
     {
         let bytes = self.bytes_of(call.file, owner)?;
         let Some(byte) = bytes.first_where(call.span, bar(mode)) else {
@@ -424,7 +428,9 @@ impl OneTable {
         call: LockCall,
         mode: Mode,
     ) -> Result<Option<LockInfo>, NoMemory>
-        ensures { IfOk result (λ found. MatchOption found (IsFreeOf ((table_of self.now).locks call.file) change.now call.file call.owner call.span mode) (λ lock. Blocks ((table_of self.now).locks call.file) call.owner call.span mode lock)) }
+        ensures { IfOk result (λ found. MatchOption found
+            (IsFreeOf ((table_of self.now).locks call.file) change.now call.file call.owner call.span mode)
+            (BlocksCall (table_of self.now) call mode)) }
     {
         match change {
             Change::Locks { file, owner, .. } if *file == call.file && *owner != call.owner =>
@@ -435,7 +441,9 @@ impl OneTable {
 
     // A region of another owner that blocks.
     fn block(&self, call: LockCall, mode: Mode) -> Result<Option<LockInfo>, NoMemory>
-        ensures { IfOk result (λ found. MatchOption found (IsFree ((table_of self.now).locks call.file) call.owner call.span mode) (λ lock. Blocks ((table_of self.now).locks call.file) call.owner call.span mode lock)) }
+        ensures { IfOk result (λ found. MatchOption found
+            (Unblocked (table_of self.now) call mode)
+            (BlocksCall (table_of self.now) call mode)) }
     {
         for change in &self.changes {
             if let Some(lock) = self.block_in(change, call, mode)? {
@@ -455,7 +463,8 @@ impl OneTable {
         start: i64,
         len: i64,
     ) -> Result<Reply, NoMemory>
-        ensures ok { IfOk result (λ reply. Step (table_of self.old) process (Set fd kind mode start len) reply (table_of self.new)) }
+        ensures ok { IfOk result (λ reply.
+            Step (table_of self.old) process (Set fd kind mode start len) reply (table_of self.new)) }
         ensures err { OnErr result (self.new ≡ self.old) }
     {
         let call = match self.target(process, Some(mode), fd, kind, start, len) {
@@ -510,7 +519,8 @@ impl OneTable {
 
     // The descriptor is closed, if there is one.
     fn close_if(&mut self, process: Process, fd: u8) -> Result<(), NoMemory>
-        ensures { OnOk result (table_of self.new ≡ closed_if (table_of self.old) process fd (descriptor (table_of self.old) process fd)) }
+        ensures { OnOk result (table_of self.new
+            ≡ closed_if (table_of self.old) process fd (descriptor (table_of self.old) process fd)) }
     {
         match self.descriptor(process, fd) {
             Some(opened) => self.close(process, fd, opened),
