@@ -1,0 +1,22 @@
+//! What lock calls are about.
+use crate::owner::Owner;
+use intervals::span::Span;
+use std::marker::Model;
+
+/// What a lock call is about: a file, the owner of the lock, and the bytes.
+#[derive(Clone, Copy, Debug, PartialEq, Eq)]
+pub struct LockCall {
+    pub file: u16,
+    pub owner: Owner,
+    pub span: Span,
+}
+
+impl Model for LockCall {
+    ghost use Rattle.model.specs.Table.{Target};
+
+    ghost Value = { Target };
+
+    ghost view = { λ c. record { file = c.file; owner = c.owner; span = c.span } };
+
+    ghost inverse = { λ t. record { file = t.file; owner = t.owner; span = t.span } };
+}

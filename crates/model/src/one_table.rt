@@ -1,0 +1,856 @@
+//! The one table that a single machine would keep.
+ghost use Rattle.std.specs.Prelude.{◌≡◌, ◌≢◌, ℕ, false, MatchOption, IfOk, IfSome, IsTrue, OnOk, OnErr};
+ghost use Rattle.intervals.specs.Search.{some_passes};
+ghost use Rattle.intervals.specs.Runs.{value_at};
+ghost use Rattle.model.specs.declared.op.Op.TheVariants.{Spawn, Open, Set, Unlock};
+ghost use Rattle.model.specs.Limits.{IsNumber, IsHost, most_descriptors, most_descriptions};
+ghost use Rattle.model.specs.Descriptors.{is_of, is_open, lowest_fd, lowest_description};
+ghost use Rattle.model.specs.Table.{empty_table, around, is_running, descriptor, allows, owner_of, target, regions_with, lock_within, closed, closed_if, exited, exited_if, gone};
+ghost use Rattle.model.specs.OneTable.{changed, table_of, KeepsSound, bar_of, IsUnbarred, IsFreeOf, BlocksCall};
+ghost use Rattle.model.specs.Step.{Is, Step, Unblocked};
+
+use crate::access::Access;
+use crate::change::{Change, put};
+use crate::lock_call::LockCall;
+use crate::lock_info::LockInfo;
+use crate::mode::Mode;
+use crate::op::Op;
+use crate::opened::Opened;
+use crate::owner::{Kind, Owner};
+use crate::process::Process;
+use crate::reply::Reply;
+use intervals::span::{Span, SpanError};
+use intervals::span_map::{NoMemory, SpanMap};
+use intervals::vec_map::VecMap;
+use std::alloc::Global;
+use std::marker::Model;
+
+/// Nodes of a cluster.
+const MOST_NODES: u8 = 64;
+
+/// Processes of a node.
+const MOST_PROCESSES: u16 = 256;
+
+/// Descriptors of a process.
+const MOST_DESCRIPTORS: u8 = 64;
+
+/// Open file descriptions of a node.
+const MOST_DESCRIPTIONS: u16 = 16_384;
+
+/// Regions of an owner in a file.
+const MOST_REGIONS: usize = 1024;
+
+/// The one table, as the changes that made it, oldest first. It is plain and slow, and answers
+/// calls as a single machine may answer them.
+#[derive(Drop)]
+pub struct OneTable {
+    changes: Vec<Change>,
+}
+
+impl Model for OneTable {
+    ghost use Rattle.std.specs.Prelude.{List};
+    ghost use Rattle.model.specs.declared.change.Change.{Change};
+    ghost use Rattle.model.specs.OneTable.{table_of, IsSound};
+
+    ghost Value = { List Change };
+
+    ghost view = { λ t. t.changes.items };
+
+    ghost invariant = { λ t. IsSound (table_of t.changes.items) };
+}
+
+// Whether what a descriptor refers to is this description.
+fn is_of(description: u16, opened: Option<Opened>) -> bool
+    ensures { result ≡ is_of description opened }
+{
+    match opened {
+        Some(opened) => opened.description == description,
+        None => false,
+    }
+}
+
+// Whether a descriptor is open for what a lock call needs, if anything.
+fn allows(access: Access, need: Option<Mode>) -> bool
+    ensures { result ≡ allows access need }
+{
+    match need {
+        Some(Mode::Read) => access != Access::WriteOnly,
+        Some(Mode::Write) => access != Access::ReadOnly,
+        None => true,
+    }
+}
+
+// The owner of a lock of the kind by a descriptor that refers to this.
+fn owner_of(process: Process, kind: Kind, opened: Opened) -> Owner
+    requires { IsNumber most_descriptions opened.description }
+    ensures { result ≡ owner_of process kind opened }
+{
+    let number = match kind {
+        Kind::OfProcess => process.pid,
+        Kind::OfDescription => opened.description,
+    };
+    Owner {
+        node: process.node,
+        incarnation: process.incarnation,
+        kind,
+        number,
+    }
+}
+
+// The value of a byte that is barred to the mode; any where it is `None`.
+fn bar(mode: Mode) -> Option<Mode>
+    ensures { result ≡ bar_of mode }
+{
+    match mode {
+        Mode::Read => Some(Mode::Write),
+        Mode::Write => None,
+    }
+}
+
+impl OneTable {
+    /// The table in which no process runs, nothing is open and no byte is locked.
+    pub fn new(alloc: Global) -> Self
+        ensures { table_of result ≡ empty_table }
+    {
+        OneTable {
+            changes: Vec::new(alloc),
+        }
+    }
+
+    /// Whether the process runs.
+    pub fn is_running(&self, process: Process) -> bool
+        ensures value { result ≡ is_running (table_of self.now) process }
+        ensures idle { result ≡ false → (fd : ℕ) → descriptor (table_of self.now) process fd ≡ None }
+    {
+        let mut runs = false;
+        for change in &self.changes {
+            runs = change.runs_after(process, runs);
+        }
+        runs
+    }
+
+    /// What the descriptor of the process refers to; `None` where it has no such descriptor.
+    pub fn descriptor(&self, process: Process, fd: u8) -> Option<Opened>
+        ensures value { result ≡ descriptor (table_of self.now) process fd }
+        ensures number { IfSome result (λ opened. IsNumber most_descriptions opened.description) }
+    {
+        let mut opened = None;
+        for change in &self.changes {
+            opened = change.descriptor_after(process, fd, opened);
+        }
+        opened
+    }
+
+    /// How the owner has locked the byte of the file; `None` where it has not.
+    pub fn mode_at(&self, file: u16, owner: Owner, byte: u64) -> Option<Mode>
+        ensures { result ≡ (table_of self.now).locks file owner byte }
+    {
+        let mut mode = None;
+        for change in &self.changes {
+            mode = change.mode_after(file, owner, byte, mode);
+        }
+        mode
+    }
+
+    /// Answers a call of the process. A segment is tested before the open mode of its descriptor;
+    /// where locks of several owners block, one of them is named. A call that is refused leaves the
+    /// table as it was.
+    ///
+    /// # Errors
+    /// `NoMemory` where there is no memory for the call; the table is as before.
+    pub fn step(&mut self, process: Process, op: Op) -> Result<Reply, NoMemory>
+        ensures ok { IfOk result (λ reply. Step (table_of self.old) process op reply (table_of self.new)) }
+        ensures err { OnErr result (self.new ≡ self.old) }
+    {
+        match op {
+            Op::Spawn => self.spawn(process),
+            Op::Open { file, access } => self.open(process, file, access),
+            Op::Set {
+                fd,
+                kind,
+                mode,
+                start,
+                len,
+            } => self.set(process, fd, kind, mode, start, len),
+            Op::Unlock {
+                fd,
+                kind,
+                start,
+                len,
+            } => self.unlock(process, fd, kind, start, len),
+        }
+    }
+
+    /// The node fails: every process of that incarnation exits. Of a node past 64, a node 0 or an
+    /// incarnation 0 no process runs, so nothing changes.
+    ///
+    /// # Errors
+    /// `NoMemory` where there is no memory for the changes; the table is as before.
+    pub fn fail(&mut self, node: u8, incarnation: u16) -> Result<(), NoMemory>
+        ensures ok { OnOk result (table_of self.new ≡ gone (table_of self.old) node incarnation) }
+        ensures err { OnErr result (self.new ≡ self.old) }
+    {
+        if !self.is_host(node, incarnation) {
+            return Ok(());
+        }
+        let mut next = self.copy()?;
+        next.exit_all(node, incarnation)?;
+        *self = next;
+        Ok(())
+    }
+
+    // Makes a change.
+    fn change(&mut self, change: Change) -> Result<(), NoMemory>
+        requires { KeepsSound (table_of self.old) change }
+        ensures ok { OnOk result (table_of self.new ≡ changed (table_of self.old) change) }
+        ensures err { OnErr result (self.new ≡ self.old) }
+    {
+        self.changes.push(change)?;
+        Ok(())
+    }
+
+    // Whether a descriptor of the process refers to the description.
+    fn refers_to(&self, process: Process, description: u16) -> bool
+        ensures { result ≡ some_passes (λ fd. is_of description (descriptor (table_of self.now) process fd))
+            0 most_descriptors }
+    {
+        for fd in 0..MOST_DESCRIPTORS {
+            if is_of(description, self.descriptor(process, fd)) {
+                return true;
+            }
+        }
+        false
+    }
+
+    // Whether a process beside this one, or this one, has a descriptor of the description.
+    fn is_open(&self, process: Process, description: u16) -> bool
+        ensures { result ≡ is_open (around (table_of self.now) process) description }
+    {
+        for pid in 1..MOST_PROCESSES + 1 {
+            let other = Process {
+                node: process.node,
+                incarnation: process.incarnation,
+                pid,
+            };
+            if self.is_running(other) && self.refers_to(other, description) {
+                return true;
+            }
+        }
+        false
+    }
+
+    // The lowest descriptor that the process has free, or 64.
+    fn lowest_fd(&self, process: Process) -> u8
+        ensures { result ≡ lowest_fd (around (table_of self.now) process) process.pid }
+    {
+        for fd in 0..MOST_DESCRIPTORS {
+            if self.descriptor(process, fd).is_none() {
+                return fd;
+            }
+        }
+        MOST_DESCRIPTORS
+    }
+
+    // The lowest number that no open description beside the process has, or 16,385.
+    fn lowest_description(&self, process: Process) -> u16
+        ensures { result ≡ lowest_description (around (table_of self.now) process) }
+    {
+        for description in 1..MOST_DESCRIPTIONS + 1 {
+            if !self.is_open(process, description) {
+                return description;
+            }
+        }
+        MOST_DESCRIPTIONS + 1
+    }
+
+    // The process begins.
+    fn spawn(&mut self, process: Process) -> Result<Reply, NoMemory>
+        ensures ok { IfOk result (λ reply. Step (table_of self.old) process Spawn reply (table_of self.new)) }
+        ensures err { OnErr result (self.new ≡ self.old) }
+    {
+        if self.is_running(process) {
+            return Ok(Reply::Exists);
+        }
+        self.change(Change::Runs {
+            process,
+            runs: true,
+        })?;
+        Ok(Reply::Done)
+    }
+
+    // The process gets a descriptor of the file.
+    fn open(&mut self, process: Process, file: u16, access: Access) -> Result<Reply, NoMemory>
+        ensures ok { IfOk result (λ reply.
+            Step (table_of self.old) process (Open file access) reply (table_of self.new)) }
+        ensures err { OnErr result (self.new ≡ self.old) }
+    {
+        if !self.is_running(process) {
+            return Ok(Reply::NoProcess);
+        }
+        let fd = self.lowest_fd(process);
+        if fd >= MOST_DESCRIPTORS {
+            return Ok(Reply::TooManyFiles);
+        }
+        let opened = Opened {
+            file,
+            description: self.lowest_description(process),
+            access,
+        };
+        self.change(Change::Refers {
+            process,
+            fd,
+            opened: Some(opened),
+        })?;
+        Ok(Reply::Fd(fd))
+    }
+
+    // What a lock call is about, or the answer by the first of its tests that fails: the process,
+    // the descriptor, the segment, the open mode.
+    fn target(
+        &self,
+        process: Process,
+        need: Option<Mode>,
+        fd: u8,
+        kind: Kind,
+        start: i64,
+        len: i64,
+    ) -> Result<LockCall, Reply>
+        ensures { result ≡ target (table_of self.now) process need fd kind start len }
+    {
+        if !self.is_running(process) {
+            return Err(Reply::NoProcess);
+        }
+        let Some(opened) = self.descriptor(process, fd) else {
+            return Err(Reply::BadFd);
+        };
+        let span = match Span::from_flock(start, len) {
+            Ok(span) => span,
+            Err(SpanError::Invalid) => return Err(Reply::Invalid),
+            Err(SpanError::Overflow) => return Err(Reply::Overflow),
+        };
+        if !allows(opened.access, need) {
+            return Err(Reply::BadFd);
+        }
+        Ok(LockCall {
+            file: opened.file,
+            owner: owner_of(process, kind, opened),
+            span,
+        })
+    }
+
+    // What the owner holds of the file.
+    fn bytes_of(&self, file: u16, owner: Owner) -> Result<VecMap<Mode>, NoMemory>
+        ensures { IfOk result (λ bytes. value_at bytes ≡ (table_of self.now).locks file owner) }
+    {
+        let alloc = *self.changes.allocator();
+        let mut bytes = VecMap::new(alloc);
+        for change in &self.changes {
+            change.apply(alloc, file, owner, &mut bytes)?;
+        }
+        Ok(bytes)
+    }
+
+    // How many regions the owner would have with the bytes set or freed.
+    fn regions_with(&self, call: LockCall, mode: Option<Mode>) -> Result<usize, NoMemory>
+        ensures { IfOk result (λ count. count ≡ regions_with (table_of self.now) call mode) }
+    {
+        let mut bytes = self.bytes_of(call.file, call.owner)?;
+        put(&mut bytes, call.span, mode)?;
+        Ok(bytes.starts())
+    }
+
+    // The bytes are set or freed, unless the owner would have too many regions.
+    fn lock_within(&mut self, call: LockCall, mode: Option<Mode>) -> Result<Reply, NoMemory>
+        ensures ok { IfOk result (λ reply. Is (lock_within (table_of self.old) call mode) reply (table_of self.new)) }
+        ensures err { OnErr result (self.new ≡ self.old) }
+    {
+        if self.regions_with(call, mode)? > MOST_REGIONS {
+            return Ok(Reply::NoLocks);
+        }
+        self.change(Change::Locks {
+            file: call.file,
+            owner: call.owner,
+            span: call.span,
+            mode,
+        })?;
+        Ok(Reply::Done)
+    }
+
+    // No lock on a segment.
+    fn unlock(
+        &mut self,
+        process: Process,
+        fd: u8,
+        kind: Kind,
+        start: i64,
+        len: i64,
+    ) -> Result<Reply, NoMemory>
+        ensures ok { IfOk result (λ reply.
+            Step (table_of self.old) process (Unlock fd kind start len) reply (table_of self.new)) }
+        ensures err { OnErr result (self.new ≡ self.old) }
+    {
+        match self.target(process, None, fd, kind, start, len) {
+            Ok(call) => self.lock_within(call, None),
+            Err(refusal) => Ok(refusal),
+        }
+    }
+
+    // A region of the owner, another than the call's, that blocks.
+    fn block_of(
+        &self,
+        owner: Owner,
+        call: LockCall,
+        mode: Mode,
+    ) -> Result<Option<LockInfo>, NoMemory>
+        requires { owner ≢ call.owner }
+        ensures { IfOk result (λ found. MatchOption found
+            (IsUnbarred ((table_of self.now).locks call.file owner) call.span mode)
+            (BlocksCall (table_of self.now) call mode)) }
+    {
+        let bytes = self.bytes_of(call.file, owner)?;
+        let Some(byte) = bytes.first_where(call.span, bar(mode)) else {
+            return Ok(None);
+        };
+        let Some((span, held)) = bytes.run_at(byte) else {
+            return Ok(None);
+        };
+        Ok(Some(LockInfo {
+            owner,
+            mode: held,
+            span,
+        }))
+    }
+
+    // A region that blocks, of the owner to whom the change gives bytes of the call's file.
+    fn block_in(
+        &self,
+        change: &Change,
+        call: LockCall,
+        mode: Mode,
+    ) -> Result<Option<LockInfo>, NoMemory>
+        ensures { IfOk result (λ found. MatchOption found
+            (IsFreeOf ((table_of self.now).locks call.file) change.now call.file call.owner call.span mode)
+            (BlocksCall (table_of self.now) call mode)) }
+    {
+        match change {
+            Change::Locks { file, owner, .. } if *file == call.file && *owner != call.owner =>
+                self.block_of(*owner, call, mode),
+            _ => Ok(None),
+        }
+    }
+
+    // A region of another owner that blocks.
+    fn block(&self, call: LockCall, mode: Mode) -> Result<Option<LockInfo>, NoMemory>
+        ensures { IfOk result (λ found. MatchOption found
+            (Unblocked (table_of self.now) call mode)
+            (BlocksCall (table_of self.now) call mode)) }
+    {
+        for change in &self.changes {
+            if let Some(lock) = self.block_in(change, call, mode)? {
+                return Ok(Some(lock));
+            }
+        }
+        Ok(None)
+    }
+
+    // A lock on a segment.
+    fn set(
+        &mut self,
+        process: Process,
+        fd: u8,
+        kind: Kind,
+        mode: Mode,
+        start: i64,
+        len: i64,
+    ) -> Result<Reply, NoMemory>
+        ensures ok { IfOk result (λ reply.
+            Step (table_of self.old) process (Set fd kind mode start len) reply (table_of self.new)) }
+        ensures err { OnErr result (self.new ≡ self.old) }
+    {
+        let call = match self.target(process, Some(mode), fd, kind, start, len) {
+            Ok(call) => call,
+            Err(refusal) => return Ok(refusal),
+        };
+        match self.block(call, mode)? {
+            Some(lock) => Ok(Reply::Again(lock)),
+            None => self.lock_within(call, Some(mode)),
+        }
+    }
+
+    // An equal table.
+    fn copy(&self) -> Result<Self, NoMemory>
+        ensures { IfOk result (λ copy. copy ≡ self.now) }
+    {
+        Ok(OneTable {
+            changes: Vec::from_slice(*self.changes.allocator(), &self.changes)?,
+        })
+    }
+
+    // Whether a node can have that number and incarnation; else no process of it runs.
+    fn is_host(&self, node: u8, incarnation: u16) -> bool
+        ensures host { IsTrue result → IsHost node incarnation }
+        ensures none { result ≡ false → (pid : ℕ) → ((table_of self.now).on node incarnation).runs pid ≡ false }
+    {
+        let _ = &self.changes;
+        1 <= node && node <= MOST_NODES && 1 <= incarnation
+    }
+
+    // The descriptor is closed.
+    fn close(&mut self, process: Process, fd: u8, opened: Opened) -> Result<(), NoMemory>
+        requires { IsNumber most_descriptions opened.description }
+        ensures { OnOk result (table_of self.new ≡ closed (table_of self.old) process fd opened) }
+    {
+        self.change(Change::Refers {
+            process,
+            fd,
+            opened: None,
+        })?;
+        self.change(Change::Drops {
+            file: opened.file,
+            owner: owner_of(process, Kind::OfProcess, opened),
+        })?;
+        if !self.is_open(process, opened.description) {
+            self.change(Change::DropsAnywhere {
+                owner: owner_of(process, Kind::OfDescription, opened),
+            })?;
+        }
+        Ok(())
+    }
+
+    // The descriptor is closed, if there is one.
+    fn close_if(&mut self, process: Process, fd: u8) -> Result<(), NoMemory>
+        ensures { OnOk result (table_of self.new
+            ≡ closed_if (table_of self.old) process fd (descriptor (table_of self.old) process fd)) }
+    {
+        match self.descriptor(process, fd) {
+            Some(opened) => self.close(process, fd, opened),
+            None => Ok(()),
+        }
+    }
+
+    // The process exits.
+    fn exit(&mut self, process: Process) -> Result<(), NoMemory>
+        ensures { OnOk result (table_of self.new ≡ exited (table_of self.old) process) }
+    {
+        for fd in 0..MOST_DESCRIPTORS {
+            self.close_if(process, fd)?;
+        }
+        self.change(Change::Runs {
+            process,
+            runs: false,
+        })?;
+        Ok(())
+    }
+
+    // The process exits, if it runs.
+    fn exit_if(&mut self, process: Process) -> Result<(), NoMemory>
+        ensures { OnOk result (table_of self.new ≡ exited_if (table_of self.old) process) }
+    {
+        if self.is_running(process) {
+            self.exit(process)?;
+        }
+        Ok(())
+    }
+
+    // Every process of the node exits.
+    fn exit_all(&mut self, node: u8, incarnation: u16) -> Result<(), NoMemory>
+        requires { IsHost node incarnation }
+        ensures { OnOk result (table_of self.new ≡ gone (table_of self.old) node incarnation) }
+    {
+        for pid in 1..MOST_PROCESSES + 1 {
+            self.exit_if(Process {
+                node,
+                incarnation,
+                pid,
+            })?;
+        }
+        Ok(())
+    }
+}
+
+#[cfg(test)]
+mod tests {
+    use super::*;
+    use std::test::Fail;
+
+    const FIRST: Process = Process {
+        node: 1,
+        incarnation: 1,
+        pid: 1,
+    };
+
+    const SECOND: Process = Process {
+        node: 1,
+        incarnation: 1,
+        pid: 2,
+    };
+
+    const ELSEWHERE: Process = Process {
+        node: 2,
+        incarnation: 1,
+        pid: 256,
+    };
+
+    const FIRST_OWNER: Owner = Owner {
+        node: 1,
+        incarnation: 1,
+        kind: Kind::OfProcess,
+        number: 1,
+    };
+
+    fn open(access: Access) -> Op {
+        Op::Open { file: 1, access }
+    }
+
+    fn set(fd: u8, mode: Mode, start: i64, len: i64) -> Op {
+        Op::Set {
+            fd,
+            kind: Kind::OfProcess,
+            mode,
+            start,
+            len,
+        }
+    }
+
+    fn unlock(fd: u8, start: i64, len: i64) -> Op {
+        Op::Unlock {
+            fd,
+            kind: Kind::OfProcess,
+            start,
+            len,
+        }
+    }
+
+    // The table in which both processes of the node run and have the file open.
+    fn two_processes(rt: &impl AllocGlobal) -> Result<OneTable, Fail> {
+        let mut table = OneTable::new(rt.alloc());
+        for process in [FIRST, SECOND] {
+            table.step(process, Op::Spawn)?;
+            table.step(process, open(Access::ReadWrite))?;
+        }
+        Ok(table)
+    }
+
+    #[test]
+    fn unlocks_the_middle_of_a_lock(rt: HostRuntime) -> Result<(), Fail> {
+        let mut table = OneTable::new(rt.alloc());
+        assert_eq!(rt; table.step(FIRST, Op::Spawn)?, Reply::Done);
+        assert_eq!(rt; table.step(FIRST, open(Access::ReadWrite))?, Reply::Fd(0));
+        assert_eq!(rt;
+            table.step(FIRST, set(0, Mode::Write, 0, 100))?,
+            Reply::Done
+        );
+        assert_eq!(rt; table.step(FIRST, unlock(0, 40, 20))?, Reply::Done);
+        for (byte, mode) in [
+            (0, Some(Mode::Write)),
+            (39, Some(Mode::Write)),
+            (40, None),
+            (59, None),
+            (60, Some(Mode::Write)),
+            (99, Some(Mode::Write)),
+            (100, None),
+        ] {
+            assert_eq!(rt; table.mode_at(1, FIRST_OWNER, byte), mode, "at {byte}");
+        }
+        assert_eq!(rt; table.mode_at(2, FIRST_OWNER, 0), None);
+        Ok(())
+    }
+
+    #[test]
+    fn names_the_whole_region_that_blocks(rt: HostRuntime) -> Result<(), Fail> {
+        let mut table = OneTable::new(rt.alloc());
+        for process in [FIRST, SECOND] {
+            assert_eq!(rt; table.step(process, Op::Spawn)?, Reply::Done);
+            assert_eq!(rt; table.step(process, open(Access::ReadWrite))?, Reply::Fd(0));
+        }
+        assert_eq!(rt;
+            table.step(FIRST, set(0, Mode::Write, 0, 100))?,
+            Reply::Done
+        );
+        let blocks = LockInfo {
+            owner: FIRST_OWNER,
+            mode: Mode::Write,
+            span: Span { lo: 0, hi: 99 },
+        };
+        assert_eq!(rt;
+            table.step(SECOND, set(0, Mode::Read, 99, 5))?,
+            Reply::Again(blocks)
+        );
+        assert_eq!(rt;
+            table.step(SECOND, set(0, Mode::Read, 100, 5))?,
+            Reply::Done
+        );
+        Ok(())
+    }
+
+    #[test]
+    fn answers_by_the_first_test_that_fails(rt: HostRuntime) -> Result<(), Fail> {
+        let mut table = OneTable::new(rt.alloc());
+        for (op, reply) in [
+            (open(Access::ReadOnly), Reply::NoProcess),
+            (set(9, Mode::Read, -1, 0), Reply::NoProcess),
+            (unlock(9, -1, 0), Reply::NoProcess),
+            (Op::Spawn, Reply::Done),
+            (Op::Spawn, Reply::Exists),
+            (open(Access::ReadOnly), Reply::Fd(0)),
+            (open(Access::WriteOnly), Reply::Fd(1)),
+            (set(2, Mode::Read, -1, 0), Reply::BadFd),
+            (unlock(2, -1, 0), Reply::BadFd),
+            (set(0, Mode::Write, -1, 0), Reply::Invalid),
+            (set(0, Mode::Write, 5, -6), Reply::Invalid),
+            (set(0, Mode::Write, i64::MAX, 2), Reply::Overflow),
+            (set(0, Mode::Write, 0, 1), Reply::BadFd),
+            (set(1, Mode::Read, 0, 1), Reply::BadFd),
+            (set(0, Mode::Read, i64::MAX, 1), Reply::Done),
+            (set(1, Mode::Write, 0, 1), Reply::Done),
+            (unlock(0, 5, -6), Reply::Invalid),
+            (unlock(0, 0, 0), Reply::Done),
+        ] {
+            assert_eq!(rt; table.step(FIRST, op)?, reply);
+        }
+        Ok(())
+    }
+
+    #[test]
+    fn gives_the_lowest_numbers(rt: HostRuntime) -> Result<(), Fail> {
+        let mut table = two_processes(&rt)?;
+        for fd in 1..64 {
+            assert_eq!(rt; table.step(FIRST, open(Access::ReadOnly))?, Reply::Fd(fd));
+            let opened = Opened {
+                file: 1,
+                description: fd as u16 + 2,
+                access: Access::ReadOnly,
+            };
+            assert_eq!(rt; table.descriptor(FIRST, fd), Some(opened));
+        }
+        assert_eq!(rt;
+            table.step(FIRST, open(Access::ReadOnly))?,
+            Reply::TooManyFiles
+        );
+        assert_eq!(rt; table.descriptor(FIRST, 64), None);
+        assert_eq!(rt; table.step(SECOND, open(Access::ReadOnly))?, Reply::Fd(1));
+        assert_eq!(rt;
+            table.descriptor(SECOND, 1).map(|opened| opened.description),
+            Some(66)
+        );
+        assert_eq!(rt; table.step(ELSEWHERE, Op::Spawn)?, Reply::Done);
+        assert_eq!(rt;
+            table.step(ELSEWHERE, open(Access::ReadOnly))?,
+            Reply::Fd(0)
+        );
+        assert_eq!(rt;
+            table
+                .descriptor(ELSEWHERE, 0)
+                .map(|opened| opened.description),
+            Some(1)
+        );
+        Ok(())
+    }
+
+    #[test]
+    fn keeps_process_and_description_locks_apart(rt: HostRuntime) -> Result<(), Fail> {
+        let mut table = two_processes(&rt)?;
+        assert_eq!(rt;
+            table.step(SECOND, set(0, Mode::Read, 10, 10))?,
+            Reply::Done
+        );
+        let by_description = Op::Set {
+            fd: 0,
+            kind: Kind::OfDescription,
+            mode: Mode::Write,
+            start: 15,
+            len: 1,
+        };
+        let blocks = LockInfo {
+            owner: Owner {
+                number: 2,
+                ..FIRST_OWNER
+            },
+            mode: Mode::Read,
+            span: Span { lo: 10, hi: 19 },
+        };
+        assert_eq!(rt; table.step(SECOND, by_description)?, Reply::Again(blocks));
+        assert_eq!(rt; table.step(SECOND, unlock(0, 15, 1))?, Reply::Done);
+        assert_eq!(rt; table.step(SECOND, by_description)?, Reply::Done);
+        let blocks = LockInfo {
+            owner: Owner {
+                kind: Kind::OfDescription,
+                number: 2,
+                ..FIRST_OWNER
+            },
+            mode: Mode::Write,
+            span: Span { lo: 15, hi: 15 },
+        };
+        assert_eq!(rt;
+            table.step(SECOND, set(0, Mode::Read, 15, 0))?,
+            Reply::Again(blocks)
+        );
+        Ok(())
+    }
+
+    #[test]
+    fn refuses_one_region_too_many(rt: HostRuntime) -> Result<(), Fail> {
+        let mut table = two_processes(&rt)?;
+        for place in 0..1024u16 {
+            assert_eq!(rt;
+                table.step(FIRST, set(0, Mode::Read, 2 * place as i64, 1))?,
+                Reply::Done
+            );
+        }
+        assert_eq!(rt;
+            table.step(FIRST, set(0, Mode::Read, 2048, 1))?,
+            Reply::NoLocks
+        );
+        assert_eq!(rt; table.mode_at(1, FIRST_OWNER, 2048), None);
+        assert_eq!(rt; table.step(FIRST, set(0, Mode::Read, 1, 1))?, Reply::Done);
+        assert_eq!(rt;
+            table.step(FIRST, set(0, Mode::Read, 2048, 1))?,
+            Reply::Done
+        );
+        assert_eq!(rt; table.step(FIRST, unlock(0, 1, 1))?, Reply::NoLocks);
+        assert_eq!(rt; table.mode_at(1, FIRST_OWNER, 1), Some(Mode::Read));
+        Ok(())
+    }
+
+    #[test]
+    fn fails_one_incarnation(rt: HostRuntime) -> Result<(), Fail> {
+        let mut table = two_processes(&rt)?;
+        let later = Process {
+            incarnation: 2,
+            ..FIRST
+        };
+        for process in [ELSEWHERE, later] {
+            table.step(process, Op::Spawn)?;
+        }
+        let by_description = Op::Set {
+            fd: 0,
+            kind: Kind::OfDescription,
+            mode: Mode::Write,
+            start: 10,
+            len: 1,
+        };
+        table.step(FIRST, set(0, Mode::Write, 0, 5))?;
+        table.step(SECOND, by_description)?;
+        for (node, incarnation) in [(0, 1), (65, 1), (1, 0)] {
+            table.fail(node, incarnation)?;
+        }
+        assert!(rt; table.is_running(FIRST) && table.is_running(SECOND));
+        table.fail(1, 1)?;
+        assert!(rt; !table.is_running(FIRST) && !table.is_running(SECOND));
+        assert!(rt; table.is_running(ELSEWHERE) && table.is_running(later));
+        assert_eq!(rt; table.mode_at(1, FIRST_OWNER, 0), None);
+        let description = Owner {
+            kind: Kind::OfDescription,
+            number: 2,
+            ..FIRST_OWNER
+        };
+        assert_eq!(rt; table.mode_at(1, description, 10), None);
+        assert_eq!(rt; table.step(SECOND, Op::Spawn)?, Reply::Done);
+        assert_eq!(rt; table.step(SECOND, open(Access::ReadOnly))?, Reply::Fd(0));
+        assert_eq!(rt;
+            table.descriptor(SECOND, 0).map(|opened| opened.description),
+            Some(1)
+        );
+        Ok(())
+    }
+}
