@@ -1,5 +1,5 @@
 -- Who a message is for and from, and when two messages are one.
-use Rattle.std.specs.Prelude.{◌≡◌, ℕ, Bool, true, false, ◌&&◌, ◌==◌, nat_le, ◌↔◌, IsTrue, List, [], None}
+use Rattle.std.specs.Prelude.{◌≡◌, ℕ, Bool, true, false, ◌&&◌, ◌==◌, nat_le, ◌↔◌, IsTrue, List, None}
 use Rattle.std.specs.List.{list_any}
 use Rattle.intervals.specs.Bytes.{Range}
 use Rattle.model.specs.Owners.{same_mode}
