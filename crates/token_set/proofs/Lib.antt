@@ -1,0 +1,3 @@
+pub mod SearchLaws
+pub mod AroundLaws
+pub mod TokenLaws

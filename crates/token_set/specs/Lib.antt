@@ -1,1 +1,2 @@
 pub mod Tokens
+pub mod Sets

@@ -1,2 +1,9 @@
 //! Tokens: what a node may lock at each byte without asking.
 #![tactic(auto)]
+
+pub mod desired;
+pub mod set;
+
+pub use model::level::Level;
+pub use model::mode::Mode;
+pub use model::policy::Policy;

@@ -1,0 +1,158 @@
+-- What `first`, `some_passes` and `all_pass` say of the numbers that they go over.
+use Rattle.std.specs.Prelude.{◌≡◌, ℕ, zero, suc, ◌+◌, ◌<◌, ◌≤◌, Bool, true, false, not, ◌||◌, nat_lt}
+use Rattle.std.specs.Cmp.{both_ways as same_tests}
+use Rattle.std.proofs.Common.{refl, ap, ◌∙◌, inl, inr, arith}
+use Rattle.std.proofs.lemmas.Bool.{both_ways, cases_lt, cases_order, not-true, not-false, not_from_true, not_from_false, false_from_ne_true, ltb-true, lt-ltb, or_cases, or_left, or_right}
+use Rattle.intervals.specs.Search.{first, some_passes, all_pass, IsFirst, FirstIsFirst}
+
+none : (j lo : ℕ) → lo ≤ j → j < lo → ⊥
+none j lo above below = omega arith
+
+-- it is lo, if that passes
+at_once : (passes : ℕ → Bool) (lo n : ℕ) → passes lo ≡ true → IsFirst passes lo n lo
+at_once passes lo n yes_lo = record {
+  least = omega arith;
+  within = omega arith;
+  none_before = λ j above below. absurd (none j lo above below);
+  here = λ h. yes_lo;
+}
+
+-- no number is left
+at_end : (passes : ℕ → Bool) (lo : ℕ) → IsFirst passes lo 0 lo
+at_end passes lo = record {
+  least = omega arith;
+  within = omega arith;
+  none_before = λ j above below. absurd (none j lo above below);
+  here = λ h. absurd (too_far h);
+}
+  where
+    too_far : lo < lo + 0 → ⊥
+    too_far h = omega arith
+
+-- or it is the first of the numbers after lo
+later : (passes : ℕ → Bool) (lo n k : ℕ) → passes lo ≡ false → IsFirst passes (lo + 1) n k → IsFirst passes lo (suc n) k
+later passes lo n k no_lo f = record {
+  least = below k f.least;
+  within = reach k f.within;
+  none_before = λ j above under. grind (arith, no_lo, f.none_before j, above, under);
+  here = λ h. f.here (inside k h);
+}
+  where
+    below : (k : ℕ) → lo + 1 ≤ k → lo ≤ k
+    below k h = omega arith
+
+    reach : (k : ℕ) → k ≤ lo + 1 + n → k ≤ lo + suc n
+    reach k h = omega arith
+
+    inside : (k : ℕ) → k < lo + suc n → k < lo + 1 + n
+    inside k h = omega arith
+
+pub first_is_first : FirstIsFirst
+unfolding first
+first_is_first passes lo zero = at_end passes lo
+first_is_first passes lo (suc n) =
+    elim (passes lo) as (λ b. passes lo ≡ b → IsFirst passes lo (suc n) (elim b [ true ↦ lo | false ↦ first passes (lo + 1) n ]))
+    [ true ↦ λ h. at_once passes lo (suc n) h | false ↦ λ h. later passes lo n (first passes (lo + 1) n) h (first_is_first passes (lo + 1) n) ]
+    refl
+
+-- the first number that passes is the only one
+pub first-unique : (passes : ℕ → Bool) (lo n j k : ℕ) → IsFirst passes lo n j → IsFirst passes lo n k → j ≡ k
+first-unique passes lo n j k f g = elim (cases_order j k) [
+  | inl same ↦ same
+  | inr other ↦ elim other [
+    | inl lt ↦ absurd (both_ways _ (g.none_before j f.least lt) (f.here (omega (arith, g.within))))
+    | inr gt ↦ absurd (both_ways _ (f.none_before k g.least gt) (g.here (omega (arith, f.within))))
+  ]
+]
+
+-- what is the first is what `first` gives
+pub first-is : (passes : ℕ → Bool) (lo n k : ℕ) → IsFirst passes lo n k → first passes lo n ≡ k
+first-is passes lo n k f = first-unique passes lo n _ k (first_is_first passes lo n) f
+
+-- where some pass, the first does
+pub some_passes-first : (passes : ℕ → Bool) (lo n : ℕ) → some_passes passes lo n ≡ true → record { above : lo ≤ first passes lo n; below : first passes lo n < lo + n; here : passes (first passes lo n) ≡ true }
+some_passes-first passes lo n some =
+    let f = first_is_first passes lo n in
+    let below = ltb-true _ _ some in
+    record { above = f.least; below = below; here = f.here below }
+
+-- a number that passes
+pub some_passes-from : (passes : ℕ → Bool) (lo n k : ℕ) → lo ≤ k → k < lo + n → passes k ≡ true → some_passes passes lo n ≡ true
+some_passes-from passes lo n k above below here = elim (cases_lt (first passes lo n) (lo + n)) [
+  | inl lt ↦ lt-ltb _ _ lt
+  | inr ge ↦ absurd (both_ways _ ((first_is_first passes lo n).none_before k above (omega arith)) here)
+]
+
+-- where none pass, no number does
+pub some_passes-none : (passes : ℕ → Bool) (lo n k : ℕ) → some_passes passes lo n ≡ false → lo ≤ k → k < lo + n → passes k ≡ false
+some_passes-none passes lo n k none above below =
+    false_from_ne_true _ (λ here. both_ways _ none (some_passes-from passes lo n k above below here))
+
+-- no number that passes
+pub none_passes-from : (passes : ℕ → Bool) (lo n : ℕ) → ((k : ℕ) → lo ≤ k → k < lo + n → passes k ≡ false) → some_passes passes lo n ≡ false
+none_passes-from passes lo n none = false_from_ne_true _ (λ some.
+    let f = some_passes-first passes lo n some in
+    both_ways _ (none _ f.above f.below) f.here)
+
+-- where all pass, each does
+pub all_pass-each : (passes : ℕ → Bool) (lo n k : ℕ) → all_pass passes lo n ≡ true → lo ≤ k → k < lo + n → passes k ≡ true
+all_pass-each passes lo n k all above below =
+    not-false _ (some_passes-none (λ j. not (passes j)) lo n k (not-true _ all) above below)
+
+-- each passes
+pub all_pass-from : (passes : ℕ → Bool) (lo n : ℕ) → ((k : ℕ) → lo ≤ k → k < lo + n → passes k ≡ true) → all_pass passes lo n ≡ true
+all_pass-from passes lo n each =
+    not_from_false _ (none_passes-from (λ j. not (passes j)) lo n (λ k above below. not_from_true _ (each k above below)))
+
+-- one that does not pass
+pub all_pass-fails : (passes : ℕ → Bool) (lo n k : ℕ) → lo ≤ k → k < lo + n → passes k ≡ false → all_pass passes lo n ≡ false
+all_pass-fails passes lo n k above below here = false_from_ne_true _ (λ all. both_ways _ here (all_pass-each passes lo n k all above below))
+
+-- where not all pass, the first that does not
+pub all_pass-first : (passes : ℕ → Bool) (lo n : ℕ) → all_pass passes lo n ≡ false → record { place : ℕ; above : lo ≤ place; below : place < lo + n; here : passes place ≡ false }
+all_pass-first passes lo n none =
+    let f = some_passes-first (λ k. not (passes k)) lo n (not-false _ none) in
+    record { place = first (λ k. not (passes k)) lo n; above = f.above; below = f.below; here = not-true _ f.here }
+
+-- the same tests have the same first number
+pub first-same : (p q : ℕ → Bool) (lo n : ℕ) → ((k : ℕ) → lo ≤ k → k < lo + n → p k ≡ q k) → first p lo n ≡ first q lo n
+first-same p q lo n same =
+    let f = first_is_first q lo n in
+    first-is p lo n (first q lo n) (record {
+      least = f.least;
+      within = f.within;
+      none_before = λ j above below. same j above (omega (arith, f.within)) ∙ f.none_before j above below;
+      here = λ below. same _ f.least below ∙ f.here below;
+    })
+
+-- and so pass for some
+pub some_passes-same : (p q : ℕ → Bool) (lo n : ℕ) → ((k : ℕ) → lo ≤ k → k < lo + n → p k ≡ q k) → some_passes p lo n ≡ some_passes q lo n
+some_passes-same p q lo n same = ap (λ k. nat_lt k (lo + n)) (first-same p q lo n same)
+
+-- and for all
+pub all_pass-same : (p q : ℕ → Bool) (lo n : ℕ) → ((k : ℕ) → lo ≤ k → k < lo + n → p k ≡ q k) → all_pass p lo n ≡ all_pass q lo n
+all_pass-same p q lo n same = ap not (some_passes-same (λ k. not (p k)) (λ k. not (q k)) lo n (λ k above below. ap not (same k above below)))
+
+-- of no numbers none passes
+pub some_passes-zero : (passes : ℕ → Bool) (lo : ℕ) → some_passes passes lo 0 ≡ false
+some_passes-zero passes lo = none_passes-from passes lo 0 (λ k above below. absurd (omega arith))
+
+-- one more number passes too
+pub some_passes-more : (passes : ℕ → Bool) (lo n : ℕ) → some_passes passes lo (n + 1) ≡ (some_passes passes lo n || passes (lo + n))
+some_passes-more passes lo n = same_tests (some_passes passes lo (n + 1)) (some_passes passes lo n || passes (lo + n)) apart together
+  where
+    apart : some_passes passes lo (n + 1) ≡ true → (some_passes passes lo n || passes (lo + n)) ≡ true
+    apart some =
+        let f = some_passes-first passes lo (n + 1) some in
+        elim (cases_lt (first passes lo (n + 1)) (lo + n)) [
+          | inl lt ↦ or_left _ _ (some_passes-from passes lo n _ f.above lt f.here)
+          | inr ge ↦ or_right (some_passes passes lo n) (passes (lo + n)) (rw (let last : lo + n ≡ first passes lo (n + 1) = omega (arith, f.below) in last) f.here)
+        ]
+
+    together : (some_passes passes lo n || passes (lo + n)) ≡ true → some_passes passes lo (n + 1) ≡ true
+    together one = elim (or_cases _ _ one) [
+      | inl some ↦
+          let f = some_passes-first passes lo n some in
+          some_passes-from passes lo (n + 1) _ f.above (omega (arith, f.below)) f.here
+      | inr last ↦ some_passes-from passes lo (n + 1) (lo + n) (omega arith) (omega arith) last
+    ]

@@ -1,0 +1,111 @@
+-- What the words of tokens say of each byte.
+use Rattle.std.specs.Prelude.{◌≡◌, ℕ, ◌+◌, ◌-◌, ◌<◌, ◌≤◌, Bool, true, false, Option, Some, None, is_none, is_some, IsSome, MatchOption}
+use Rattle.std.proofs.Common.{refl, sym, ap, inl, inr, arith}
+use Rattle.std.proofs.lemmas.Bool.{both_ways, cases_lt, cases_Bool}
+use Rattle.intervals.specs.Bytes.{Range, greatest, AllAre, IsBarred, NoneIn, IsFirstIn, IsLargest, size}
+use Rattle.model.specs.declared.mode.Mode.{Mode}
+use Rattle.model.specs.declared.mode.Mode.TheVariants.{Read, Write}
+use Rattle.model.specs.declared.level.Level.{Level}
+use Rattle.model.specs.declared.level.Level.TheVariants.{Shared, Exclusive}
+use Rattle.token_set.specs.Tokens.{Token, no_token, serves, covers, level_conflicts, conflicts, holds_nothing}
+use Rattle.token_set.specs.Sets.{bar_of, HasLevels}
+use Rattle.token_set.proofs.SearchLaws.{some_passes-from, some_passes-first, none_passes-from, some_passes-none, all_pass-from, all_pass-each, all_pass-fails}
+use Rattle.token_set.proofs.AroundLaws.{IsLargest-iff}
+
+none_is : (x : Option Level) → is_none x ≡ true → x ≡ None
+none_is None h = refl
+none_is (Some level) h = cc
+
+-- no byte has a level
+pub holds_nothing-no_token : (t : Token) → t ≡ no_token → holds_nothing t ≡ true
+holds_nothing-no_token t e = all_pass-from _ _ _ (λ b above below. ap (λ f. is_none (f b)) e)
+
+-- and that is all it says, where no byte past the greatest offset has one
+pub no_token-from : (t : Token) → holds_nothing t ≡ true → ((b : ℕ) → greatest < b → t b ≡ None) → t ≡ no_token
+no_token-from t h bounded = λ i b. none_at b i
+  where
+    none_at : (b : ℕ) → t b ≡ None
+    none_at b = elim (cases_lt greatest b) [
+      | inl past ↦ bounded b past
+      | inr le ↦ none_is (t b) (all_pass-each (λ b. is_none (t b)) 0 9223372036854775808 b h (omega arith) (omega arith))
+    ]
+
+-- each byte of the span serves the mode
+pub covers-from : (t : Token) (s : Range) (mode : Mode) → ((b : ℕ) → s.lo ≤ b → b ≤ s.hi → serves (t b) mode ≡ true) → covers t s mode ≡ true
+covers-from t s mode each = all_pass-from (λ b. serves (t b) mode) s.lo (size s) (λ b above below. each b above (omega arith))
+
+pub covers-each : (t : Token) (s : Range) (mode : Mode) (b : ℕ) → covers t s mode ≡ true → s.lo ≤ b → b ≤ s.hi → serves (t b) mode ≡ true
+covers-each t s mode b all above below = all_pass-each (λ b. serves (t b) mode) s.lo (size s) b all above (omega arith)
+
+serves-read : (x : Option Level) → IsSome x → serves x Read ≡ true
+serves-read None h = h
+serves-read (Some Shared) h = refl
+serves-read (Some Exclusive) h = refl
+
+read-serves : (x : Option Level) → serves x Read ≡ true → IsSome x
+read-serves None h = h
+read-serves (Some level) h = refl
+
+write-serves : (x : Option Level) → serves x Write ≡ true → x ≡ Some Exclusive
+write-serves None h = cc
+write-serves (Some Shared) h = cc
+write-serves (Some Exclusive) h = refl
+
+-- for read each byte has a level
+pub covers-read : (t : Token) (s : Range) → HasLevels t s → covers t s Read ≡ true
+covers-read t s h = covers-from t s Read (λ b above below. serves-read (t b) (h b above below))
+
+pub read-covers : (t : Token) (s : Range) → covers t s Read ≡ true → HasLevels t s
+read-covers t s h b above below = read-serves (t b) (covers-each t s Read b h above below)
+
+-- for write each is exclusive
+pub covers-write : (t : Token) (s : Range) → AllAre t s (Some Exclusive) → covers t s Write ≡ true
+covers-write t s h = covers-from t s Write (λ b above below. ap (λ x. serves x Write) (h b above below))
+
+pub write-covers : (t : Token) (s : Range) → covers t s Write ≡ true → AllAre t s (Some Exclusive)
+write-covers t s h b above below = write-serves (t b) (covers-each t s Write b h above below)
+
+some_conflicts : (x : Option Level) → IsSome x → level_conflicts x Write ≡ true
+some_conflicts None h = h
+some_conflicts (Some Shared) h = refl
+some_conflicts (Some Exclusive) h = refl
+
+conflicts_some : (x : Option Level) → level_conflicts x Write ≡ true → IsSome x
+conflicts_some None h = h
+conflicts_some (Some level) h = refl
+
+conflicts_exclusive : (x : Option Level) → level_conflicts x Read ≡ true → x ≡ Some Exclusive
+conflicts_exclusive None h = cc
+conflicts_exclusive (Some Shared) h = cc
+conflicts_exclusive (Some Exclusive) h = refl
+
+-- a byte conflicts with the mode exactly where it is barred for it
+pub conflicts-barred : (t : Token) (mode : Mode) (b : ℕ) → IsBarred t (bar_of mode) b → level_conflicts (t b) mode ≡ true
+conflicts-barred t Read b h = ap (λ x. level_conflicts x Read) h
+conflicts-barred t Write b h = some_conflicts (t b) h
+
+pub barred-conflicts : (t : Token) (mode : Mode) (b : ℕ) → level_conflicts (t b) mode ≡ true → IsBarred t (bar_of mode) b
+barred-conflicts t Read b h = conflicts_exclusive (t b) h
+barred-conflicts t Write b h = conflicts_some (t b) h
+
+-- a byte of the span that conflicts
+pub conflicts-from : (t : Token) (s : Range) (mode : Mode) (b : ℕ) → s.lo ≤ b → b ≤ s.hi → level_conflicts (t b) mode ≡ true → conflicts t s mode ≡ true
+conflicts-from t s mode b above below = some_passes-from (λ b. level_conflicts (t b) mode) s.lo (size s) b above (omega arith)
+
+-- no byte of it does
+pub conflicts-none : (t : Token) (s : Range) (mode : Mode) → NoneIn (λ b. level_conflicts (t b) mode ≡ true) s → conflicts t s mode ≡ false
+conflicts-none t s mode none = none_passes-from (λ b. level_conflicts (t b) mode) s.lo (size s) (λ b above below.
+    elim (cases_Bool (level_conflicts (t b) mode)) [ inl here ↦ absurd (none b above (omega arith) here) | inr free ↦ free ])
+
+-- where none does, each byte is free
+pub none-conflicts : (t : Token) (s : Range) (mode : Mode) → conflicts t s mode ≡ false → NoneIn (λ b. level_conflicts (t b) mode ≡ true) s
+none-conflicts t s mode none b above below = both_ways _ (some_passes-none (λ b. level_conflicts (t b) mode) s.lo (size s) b none above (omega arith))
+
+-- what `first_where` answers says whether the span conflicts
+pub conflicts-found : (t : Token) (s : Range) (mode : Mode) (found : Option ℕ) → MatchOption found (NoneIn (IsBarred t (bar_of mode)) s) (λ b. IsFirstIn (IsBarred t (bar_of mode)) s b) → is_some found ≡ conflicts t s mode
+conflicts-found t s mode None none = sym (conflicts-none t s mode (λ b above below here. none b above below (barred-conflicts t mode b here)))
+conflicts-found t s mode (Some b) f = sym (conflicts-from t s mode b f.above f.below (conflicts-barred t mode b f.here))
+
+-- the largest span without a barred byte is the largest without one that conflicts
+pub largest-conflicts : (t : Token) (mode : Mode) (required within s : Range) → IsLargest (IsBarred t (bar_of mode)) required within s → IsLargest (λ b. level_conflicts (t b) mode ≡ true) required within s
+largest-conflicts t mode required within s = IsLargest-iff _ _ required within s (conflicts-barred t mode) (barred-conflicts t mode)

@@ -1,0 +1,31 @@
+-- What a token set keeps: runs of levels, and the token that they are.
+use Rattle.std.specs.Prelude.{◌≡◌, ◌≢◌, ℕ, ◌<◌, ◌≤◌, Option, Some, None, IsSome, List}
+use Rattle.intervals.specs.declared.vec_map.Run.{Run}
+use Rattle.intervals.specs.Bytes.{Range, AllAre}
+use Rattle.intervals.specs.Runs.{value_at}
+use Rattle.model.specs.declared.mode.Mode.{Mode}
+use Rattle.model.specs.declared.mode.Mode.TheVariants.{Read, Write}
+use Rattle.model.specs.declared.level.Level.{Level}
+use Rattle.model.specs.declared.level.Level.TheVariants.{Exclusive}
+use Rattle.token_set.specs.Tokens.{Token}
+
+-- the token of a token set
+abbrev pub token_of : List (Run Level) → Token
+token_of = value_at
+
+-- the level that stands in the way of the mode at another node: an exclusive one, or any
+abbrev pub bar_of : Mode → Option Level
+bar_of Read = Some Exclusive
+bar_of Write = None
+
+-- each byte of the span has a level
+abbrev pub HasLevels : Token → Range → Type 0
+HasLevels t s = (b : ℕ) → s.lo ≤ b → b ≤ s.hi → IsSome (t b)
+
+-- s is the first of the exclusive bytes in the span
+pub record IsFirstExclusive (t : Token) (span s : Range) : Type 0 where
+  pub starts_within : span.lo ≤ s.lo
+  pub ordered : s.lo ≤ s.hi
+  pub ends_within : s.hi ≤ span.hi
+  pub here : AllAre t s (Some Exclusive)
+  pub none_before : (b : ℕ) → span.lo ≤ b → b < s.lo → t b ≢ Some Exclusive

@@ -1,0 +1,285 @@
+//! The token of one node for one file.
+ghost use Rattle.std.specs.Prelude.{◌≡◌, ◌≢◌, ◌≤◌, ◌<◌, ℕ, true, None, Some, IfOk, OnOk, OnErr, IsTrue, ◌↔◌, MatchOption};
+ghost use Rattle.intervals.specs.Bytes.{greatest, IsLargest, NoneIn, largest_around};
+ghost use Rattle.token_set.specs.Tokens.{no_token, covers, raised, conflicts, level_conflicts, holds_nothing};
+ghost use Rattle.token_set.specs.Sets.{token_of, bar_of, HasLevels, IsFirstExclusive};
+
+use intervals::span::Span;
+use intervals::span_map::{NoMemory, SpanMap};
+use intervals::vec_map::VecMap;
+use model::level::Level;
+use model::mode::Mode;
+use std::alloc::Global;
+use std::marker::Model;
+
+/// The level of each byte.
+pub type Levels = VecMap<Level>;
+
+/// The token of one node for one file: the level of each byte, or none where the node may lock
+/// nothing without asking. A call that answers `NoMemory` leaves the token as it was.
+#[derive(Drop)]
+pub struct TokenSet {
+    levels: Levels,
+}
+
+impl Model for TokenSet {
+    ghost use Rattle.std.specs.Prelude.{List};
+    ghost use Rattle.intervals.specs.declared.vec_map.Run.{Run};
+    ghost use Rattle.model.specs.declared.level.Level.{Level};
+
+    ghost Value = { List (Run Level) };
+
+    ghost view = { λ t. t.levels };
+}
+
+// The level that stands in the way of the mode at another node, or any where it is `None`.
+fn bar_of(mode: Mode) -> Option<Level>
+    ensures { result ≡ bar_of mode }
+{
+    match mode {
+        Mode::Read => Some(Level::Exclusive),
+        Mode::Write => None,
+    }
+}
+
+// The first of the exclusive bytes in the span.
+fn first_exclusive(levels: &Levels, span: Span) -> Option<Span>
+    ensures { MatchOption result (NoneIn (λ b. token_of levels.now b ≡ Some Level.Exclusive) span) (IsFirstExclusive (token_of levels.now) span) }
+{
+    let lo = levels.first_where(span, Some(Level::Exclusive))?;
+    let (run, _) = levels.run_at(lo)?;
+    Some(Span {
+        lo,
+        hi: run.hi.min(span.hi),
+    })
+}
+
+// The levels with each byte of the span that has none raised to shared.
+fn shared(levels: &Levels, span: Span) -> Result<Levels, NoMemory>
+    ensures { IfOk result (λ new. token_of new ≡ raised (token_of levels.now) span Mode.Read) }
+{
+    let mut new = levels.copy()?;
+    new.set(span, Level::Shared)?;
+    let mut lo = span.lo;
+    while lo <= span.hi {
+        let rest = Span { lo, hi: span.hi };
+        let Some(exclusive) = first_exclusive(levels, rest) else {
+            break;
+        };
+        new.set(exclusive, Level::Exclusive)?;
+        lo = exclusive.hi + 1;
+    }
+    Ok(new)
+}
+
+// Whether each byte of the span has a level.
+fn has_levels(levels: &Levels, span: Span) -> bool
+    ensures { IsTrue result ↔ HasLevels (token_of levels.now) span }
+{
+    let mut lo = span.lo;
+    while let Some((run, _)) = levels.run_at(lo) {
+        if span.hi <= run.hi {
+            return true;
+        }
+        lo = run.hi + 1;
+    }
+    false
+}
+
+impl TokenSet {
+    /// The token that has no byte.
+    pub fn new(alloc: Global) -> Self
+        ensures { token_of result ≡ no_token }
+    {
+        TokenSet {
+            levels: Levels::new(alloc),
+        }
+    }
+
+    /// Raises each byte of the span: for write to exclusive, for read to shared where it has no
+    /// level, so that an exclusive byte stays exclusive.
+    ///
+    /// # Errors
+    /// `NoMemory` where a request for memory was refused.
+    pub fn grant(&mut self, span: Span, mode: Mode) -> Result<(), NoMemory>
+        ensures ok { OnOk result (token_of self.new ≡ raised (token_of self.old) span mode) }
+        ensures err { OnErr result (self.new ≡ self.old) }
+    {
+        match mode {
+            Mode::Read => self.levels = shared(&self.levels, span)?,
+            Mode::Write => self.levels.set(span, Level::Exclusive)?,
+        }
+        Ok(())
+    }
+
+    /// Whether the node may lock each byte of the span in the mode without asking: a read lock where
+    /// the byte has a level, a write lock where it is exclusive.
+    pub fn covers(&self, span: Span, mode: Mode) -> bool
+        ensures { result ≡ covers (token_of self.now) span mode }
+    {
+        match mode {
+            Mode::Read => has_levels(&self.levels, span),
+            Mode::Write => self.levels.covers(span, Level::Exclusive),
+        }
+    }
+
+    /// Whether no byte has a level.
+    pub fn holds_nothing(&self) -> bool
+        ensures { result ≡ holds_nothing (token_of self.now) }
+    {
+        self.levels.is_empty()
+    }
+
+    /// Whether some byte of the span stands in the way of the mode at another node: an exclusive one
+    /// of either mode, a shared one of write.
+    pub fn conflicts(&self, span: Span, mode: Mode) -> bool
+        ensures { result ≡ conflicts (token_of self.now) span mode }
+    {
+        self.levels.first_where(span, bar_of(mode)).is_some()
+    }
+
+    /// The largest span that contains `required`, lies in `within`, and has no byte that stands in
+    /// the way of the mode at another node.
+    pub fn free_around(&self, required: Span, within: Span, mode: Mode) -> Span
+        requires starts_within { within.lo ≤ required.lo }
+        requires ends_within { required.hi ≤ within.hi }
+        requires free { NoneIn (λ b. level_conflicts (token_of self.now b) mode ≡ true) required }
+        ensures largest { IsLargest (λ b. level_conflicts (token_of self.now b) mode ≡ true) required within result }
+        ensures value { result ≡ largest_around (λ b. level_conflicts (token_of self.now b) mode) required within }
+    {
+        let _ = &required.lo; // tells the proof that the span has a byte
+        self.levels.largest_around(required, within, bar_of(mode))
+    }
+
+    /// An equal token set.
+    ///
+    /// # Errors
+    /// `NoMemory` where a request for memory was refused.
+    pub fn copy(&self) -> Result<Self, NoMemory>
+        ensures { IfOk result (λ copy. copy ≡ self.now) }
+    {
+        Ok(TokenSet {
+            levels: self.levels.copy()?,
+        })
+    }
+
+    /// Whether both have the same level at each byte.
+    pub fn same(&self, other: &Self) -> bool
+        ensures { IsTrue result ↔ (token_of self.now ≡ token_of other.now) }
+    {
+        self.levels.same(&other.levels)
+    }
+}
+
+#[cfg(test)]
+mod tests {
+    use super::*;
+    use intervals::span::GREATEST;
+    use std::test::Fail;
+
+    #[test]
+    fn a_new_token_has_no_byte(rt: HostRuntime) {
+        let whole = Span {
+            lo: 0,
+            hi: GREATEST,
+        };
+        let token = TokenSet::new(rt.alloc());
+        assert!(rt; token.holds_nothing());
+        assert!(rt; !token.covers(whole, Mode::Read));
+        assert!(rt; !token.conflicts(whole, Mode::Write));
+    }
+
+    #[test]
+    fn a_grant_for_read_lowers_no_byte(rt: HostRuntime) -> Result<(), Fail> {
+        let mut token = TokenSet::new(rt.alloc());
+        token.grant(Span { lo: 10, hi: 19 }, Mode::Write)?;
+        token.grant(Span { lo: 25, hi: 26 }, Mode::Write)?;
+        token.grant(Span { lo: 5, hi: 29 }, Mode::Read)?;
+        assert!(rt; !token.holds_nothing());
+        for (lo, hi, read, write) in [
+            (5, 29, true, false),
+            (4, 29, false, false),
+            (5, 30, false, false),
+            (10, 19, true, true),
+            (9, 19, true, false),
+            (10, 20, true, false),
+            (25, 26, true, true),
+            (24, 26, true, false),
+            (25, 27, true, false),
+        ] {
+            let span = Span { lo, hi };
+            assert_eq!(rt; token.covers(span, Mode::Read), read, "read {lo} to {hi}");
+            assert_eq!(rt;
+                token.covers(span, Mode::Write),
+                write,
+                "write {lo} to {hi}"
+            );
+        }
+        Ok(())
+    }
+
+    #[test]
+    fn a_byte_conflicts_by_its_level(rt: HostRuntime) -> Result<(), Fail> {
+        let mut token = TokenSet::new(rt.alloc());
+        token.grant(Span { lo: 0, hi: 9 }, Mode::Read)?;
+        token.grant(Span { lo: 20, hi: 29 }, Mode::Write)?;
+        for (lo, hi, read, write) in [
+            (0, 9, false, true),
+            (9, 19, false, true),
+            (10, 19, false, false),
+            (10, 20, true, true),
+            (29, 40, true, true),
+            (30, GREATEST, false, false),
+        ] {
+            let span = Span { lo, hi };
+            assert_eq!(rt;
+                token.conflicts(span, Mode::Read),
+                read,
+                "read {lo} to {hi}"
+            );
+            assert_eq!(rt;
+                token.conflicts(span, Mode::Write),
+                write,
+                "write {lo} to {hi}"
+            );
+        }
+        Ok(())
+    }
+
+    #[test]
+    fn the_free_span_ends_beside_bytes_that_conflict(rt: HostRuntime) -> Result<(), Fail> {
+        let mut token = TokenSet::new(rt.alloc());
+        token.grant(Span { lo: 10, hi: 19 }, Mode::Write)?;
+        token.grant(Span { lo: 40, hi: 49 }, Mode::Read)?;
+        let required = Span { lo: 25, hi: 29 };
+        let within = Span {
+            lo: 0,
+            hi: GREATEST,
+        };
+        assert!(rt; !token.conflicts(required, Mode::Read));
+        assert!(rt; !token.conflicts(required, Mode::Write));
+        let read = token.free_around(required, within, Mode::Read);
+        let write = token.free_around(required, within, Mode::Write);
+        assert_eq!(rt; (read.lo, read.hi), (20, GREATEST));
+        assert_eq!(rt; (write.lo, write.hi), (20, 39));
+        let close = token.free_around(required, Span { lo: 22, hi: 30 }, Mode::Write);
+        assert_eq!(rt; (close.lo, close.hi), (22, 30));
+        Ok(())
+    }
+
+    #[test]
+    fn tokens_are_the_same_by_their_bytes(rt: HostRuntime) -> Result<(), Fail> {
+        let mut token = TokenSet::new(rt.alloc());
+        token.grant(Span { lo: 0, hi: 4 }, Mode::Read)?;
+        token.grant(Span { lo: 5, hi: 9 }, Mode::Read)?;
+        let mut other = TokenSet::new(rt.alloc());
+        other.grant(Span { lo: 0, hi: 9 }, Mode::Read)?;
+        assert!(rt; token.same(&other));
+        let copy = token.copy()?;
+        assert!(rt; copy.same(&token));
+        other.grant(Span { lo: 9, hi: 9 }, Mode::Write)?;
+        assert!(rt; !token.same(&other));
+        assert!(rt; !copy.same(&other));
+        Ok(())
+    }
+}
