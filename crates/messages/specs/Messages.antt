@@ -5,8 +5,8 @@ use Rattle.intervals.specs.Bytes.{Range}
 use Rattle.model.specs.Owners.{same_mode}
 use Rattle.model.specs.declared.call.CallId.{CallId}
 use Rattle.messages.specs.Wants.{Wants}
-pub use Rattle.messages.specs.declared.actor.Actor.{Actor}
-pub use Rattle.messages.specs.declared.actor.Actor.TheVariants.{Node as ANode, Server as AServer}
+use Rattle.messages.specs.declared.actor.Actor.{Actor}
+use Rattle.messages.specs.declared.actor.Actor.TheVariants.{Node as ANode, Server as AServer}
 use Rattle.messages.specs.declared.message.Urgency.{Urgency}
 use Rattle.messages.specs.declared.message.Urgency.TheVariants.{Now, Waits}
 use Rattle.messages.specs.declared.message.Message.{Message}
