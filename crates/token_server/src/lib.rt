@@ -6,3 +6,4 @@ pub mod clients;
 pub mod event;
 pub mod held;
 pub mod row;
+pub mod server;
