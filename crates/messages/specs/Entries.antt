@@ -5,7 +5,7 @@ use Rattle.model.specs.declared.reply.Reply.{Reply}
 use Rattle.messages.specs.declared.message.Message.{Message}
 use Rattle.messages.specs.declared.outcome.Outcome.{Outcome}
 use Rattle.messages.specs.declared.event.Event.{Event}
-use Rattle.messages.specs.declared.event.Event.TheVariants.{Call, Deliver}
+use Rattle.messages.specs.declared.event.Event.TheVariants.{Call}
 
 pub record EntryFields : Type 0 where
   pub event : Event

@@ -1,12 +1,12 @@
 -- Who a message is for and from, and when two messages are one.
-use Rattle.std.specs.Prelude.{◌≡◌, ℕ, Bool, true, false, ◌&&◌, ◌==◌, nat_le, ◌↔◌, IsTrue, List, [], None}
+use Rattle.std.specs.Prelude.{◌≡◌, ℕ, Bool, true, false, ◌&&◌, ◌==◌, nat_le, ◌↔◌, IsTrue, List, None}
 use Rattle.std.specs.List.{list_any}
 use Rattle.intervals.specs.Bytes.{Range}
 use Rattle.model.specs.Owners.{same_mode}
 use Rattle.model.specs.declared.call.CallId.{CallId}
 use Rattle.messages.specs.Wants.{Wants}
-pub use Rattle.messages.specs.declared.actor.Actor.{Actor}
-pub use Rattle.messages.specs.declared.actor.Actor.TheVariants.{Node as ANode, Server as AServer}
+use Rattle.messages.specs.declared.actor.Actor.{Actor}
+use Rattle.messages.specs.declared.actor.Actor.TheVariants.{Node as ANode, Server as AServer}
 use Rattle.messages.specs.declared.message.Urgency.{Urgency}
 use Rattle.messages.specs.declared.message.Urgency.TheVariants.{Now, Waits}
 use Rattle.messages.specs.declared.message.Message.{Message}

@@ -87,5 +87,45 @@ impl Message {
 /// That messages are compared by value, as the rules do, is equality.
 pub fn same_message_is_equality()
     ensures { SameMessageIsEquality }
-{
+{}
+
+#[cfg(test)]
+mod tests {
+    use super::*;
+
+    fn grant(number: u32) -> Message {
+        Message::Grant {
+            file: 7,
+            number,
+            call: CallId {
+                node: 3,
+                incarnation: 1,
+                number: 9,
+            },
+            mode: Mode::Write,
+            span: Span { lo: 0, hi: 9 },
+        }
+    }
+
+    #[test]
+    fn go_to_their_actor(rt: HostRuntime) {
+        let message = grant(1);
+        assert_eq!(rt; message.addressee(), Actor::Node(3));
+        assert_eq!(rt; message.file(), 7);
+        let call = message.call();
+        assert_eq!(rt; call.number, 9);
+        let taken = Message::Taken {
+            file: 7,
+            number: 1,
+            call,
+        };
+        assert_eq!(rt; taken.addressee(), Actor::Server(7));
+        assert_eq!(rt; taken.file(), 7);
+    }
+
+    #[test]
+    fn are_one_by_value(rt: HostRuntime) {
+        assert!(rt; grant(1).same(&grant(1)));
+        assert!(rt; !grant(1).same(&grant(2)));
+    }
 }

@@ -1,0 +1,2 @@
+pub mod ClientLaws
+pub mod HeldLaws

@@ -1,4 +1,7 @@
 //! Requests that a server holds.
+ghost use Rattle.std.specs.Prelude.{◌≡◌};
+ghost use Rattle.token_server.specs.State.{is_of_call, is_up_to};
+
 use messages::message::Urgency;
 use messages::wanted::Wanted;
 use model::call::CallId;
@@ -11,4 +14,20 @@ pub struct Held {
     pub urgency: Urgency,
     pub mode: Mode,
     pub wanted: Wanted,
+}
+
+impl Held {
+    /// Whether the request is of the call.
+    pub fn is_of_call(&self, call: CallId) -> bool
+        ensures { result ≡ is_of_call call self.now }
+    {
+        self.call == call
+    }
+
+    /// Whether the request is of the node, in that incarnation or an older one.
+    pub fn is_up_to(&self, node: u8, incarnation: u16) -> bool
+        ensures { result ≡ is_up_to node incarnation self.now }
+    {
+        self.call.node == node && self.call.incarnation <= incarnation
+    }
 }

@@ -1,0 +1,84 @@
+-- What the code keeps of a server, and the state that it stands for.
+use Rattle.std.specs.Prelude.{◌≡◌, ℕ, zero, suc, ◌+◌, ◌<◌, ◌==◌, if◌then◌else◌, List, length, slice_get, Option, Some, None}
+use Rattle.intervals.specs.Bytes.{Range}
+use Rattle.model.specs.declared.mode.Mode.{Mode}
+use Rattle.model.specs.Limits.{IsNumber}
+use Rattle.token_set.specs.Tokens.{raised}
+use Rattle.token_set.specs.Sets.{token_of}
+use Rattle.messages.specs.declared.message.Message.{Message}
+use Rattle.messages.specs.Shapes.{ShapeFields}
+use Rattle.token_server.specs.declared.held.Held.{Held}
+use Rattle.token_server.specs.declared.row.Row.{Row as KeptRow}
+use Rattle.token_server.specs.declared.client.Client.{Client}
+use Rattle.token_server.specs.State.{Row, ServerState}
+
+-- the row in the rules
+abbrev pub row_state : ℕ → KeptRow → Row
+row_state incarnation row = record { incarnation = incarnation; token = token_of row.token; number = row.number; outstanding = row.outstanding }
+
+-- the row of a node whose incarnations up to `dead` are known to be dead: it is of the next one
+abbrev pub row_seen : ℕ → Option KeptRow → Option Row
+row_seen dead None = None
+row_seen dead (Some row) = Some (row_state (dead + 1) row)
+
+-- the rows say the same
+abbrev pub SameRow : KeptRow → KeptRow → Type 0
+SameRow a b = (token_of a.token ≡ token_of b.token) × (a.number ≡ b.number) × (a.outstanding ≡ b.outstanding)
+
+abbrev pub row_of : Option Client → Option Row
+row_of None = None
+row_of (Some client) = row_seen client.dead client.row
+
+abbrev pub dead_of : Option Client → ℕ
+dead_of None = 0
+dead_of (Some client) = client.dead
+
+-- the same is known of both
+abbrev pub SameKnown : Option Client → Option Client → Type 0
+SameKnown a b = (row_of a ≡ row_of b) × (dead_of a ≡ dead_of b)
+
+-- the same is known of each two
+abbrev pub SameClients : List Client → List Client → Type 0
+SameClients clients others = (k : ℕ) → k < length clients → SameKnown (slice_get clients k) (slice_get others k)
+
+-- nodes are numbered from 1
+abbrev pub client_at : List Client → ℕ → Option Client
+client_at clients zero = None
+client_at clients (suc k) = slice_get clients k
+
+-- the row of each node
+unfoldable pub rows_of : List Client → ℕ → Option Row
+rows_of clients node = row_of (client_at clients node)
+
+-- the greatest incarnation of each node known to be dead
+unfoldable pub deaths_of : List Client → ℕ → ℕ
+deaths_of clients node = dead_of (client_at clients node)
+
+-- the row once its command is answered
+abbrev pub answered : Row → Row
+answered row = record row { outstanding = None }
+
+-- the row once a command has given its node the span
+abbrev pub given : Range → Mode → Message → Row → Row
+given span mode command row = record row { token = raised row.token span mode; number = row.number + 1; outstanding = Some command }
+
+-- rows, but f changes that of the node
+abbrev pub with_change : ℕ → (Option Row → Option Row) → (ℕ → Option Row) → ℕ → Option Row
+with_change node f rows n = if n == node then f (rows n) else rows n
+
+-- of one file: what it knows of each node, from node 1 on; the requests that are queued, and the one that is served
+pub record ServerParts : Type 0 where
+  pub shape : ShapeFields
+  pub file : ℕ
+  pub clients : List Client
+  pub queue : List Held
+  pub active : Option Held
+
+-- there is a client for each node, and the file is one of the cluster's
+pub record IsServer (p : ServerParts) : Type 0 where
+  pub each_node : length p.clients ≡ p.shape.nodes
+  pub file_in : IsNumber p.shape.files p.file
+
+-- the state that the parts stand for
+abbrev pub server_state : ServerParts → ServerState
+server_state p = record { shape = p.shape; file = p.file; rows = rows_of p.clients; dead = deaths_of p.clients; queue = p.queue; active = p.active }

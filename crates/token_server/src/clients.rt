@@ -1,0 +1,164 @@
+//! The nodes of a cluster, as a token server knows them.
+ghost use Rattle.std.specs.Prelude.{◌≡◌, ℕ, ◌+◌, ◌<◌, ◌↔◌, ◌==◌, if◌then◌else◌, max, length, All, IsTrue, IfOk, IfSome, OnOk, OnErr, MatchOption, Some, None};
+ghost use Rattle.std.specs.Option.{option_map};
+ghost use Rattle.model.specs.Limits.{IsNumber};
+ghost use Rattle.messages.specs.Messages.{greatest_number};
+ghost use Rattle.token_server.specs.State.{empty_row, row_above};
+ghost use Rattle.token_server.specs.Parts.{row_state, rows_of, deaths_of, answered, given, with_change, SameClients};
+
+use crate::client::Client;
+use crate::row::Row;
+use intervals::span::Span;
+use intervals::span_map::NoMemory;
+use messages::message::Message;
+use model::mode::Mode;
+use std::alloc::Global;
+use std::marker::Model;
+
+/// Each node of a cluster, from node 1 on, as the server of a file knows it.
+#[derive(Drop)]
+pub struct Clients {
+    clients: Vec<Client>,
+}
+
+impl Model for Clients {
+    ghost use Rattle.std.specs.Prelude.{List};
+    ghost use Rattle.token_server.specs.declared.client.Client.{Client};
+
+    ghost Value = { List Client };
+
+    ghost view = { λ c. c.clients.items };
+}
+
+// So many nodes of which nothing is known yet.
+fn unknown(alloc: Global, nodes: u8) -> Result<Vec<Client>, NoMemory>
+    ensures unknown { IfOk result (λ clients. All (λ client. client ≡ record { dead = 0; row = None }) clients.items) }
+    ensures len { IfOk result (λ clients. length clients.items ≡ nodes) }
+{
+    let mut clients = Vec::new(alloc);
+    for _node in 0..nodes {
+        clients.push(Client::new())?;
+    }
+    Ok(clients)
+}
+
+// Equal clients.
+fn copies(alloc: Global, clients: &[Client]) -> Result<Vec<Client>, NoMemory>
+    ensures { IfOk result (λ copies. copies.items ≡ clients.now) }
+{
+    let mut copies = Vec::new(alloc);
+    for client in clients {
+        copies.push(client.copy()?)?;
+    }
+    Ok(copies)
+}
+
+// Whether the same is known of each two.
+fn same_each(one: &[Client], other: &[Client]) -> bool
+    requires { length one.now ≡ length other.now }
+    ensures { IsTrue result ↔ SameClients one.now other.now }
+{
+    for i in 0..one.len() {
+        if !one[i].same(&other[i]) {
+            return false;
+        }
+    }
+    true
+}
+
+impl Clients {
+    /// So many nodes of which nothing is known yet.
+    ///
+    /// # Errors
+    /// `NoMemory` where a request for memory was refused.
+    pub fn new(alloc: Global, nodes: u8) -> Result<Clients, NoMemory>
+        ensures rows { IfOk result (λ clients. rows_of clients ≡ (λ node. None)) }
+        ensures deaths { IfOk result (λ clients. deaths_of clients ≡ (λ node. 0)) }
+        ensures len { IfOk result (λ clients. length clients ≡ nodes) }
+    {
+        Ok(Clients {
+            clients: unknown(alloc, nodes)?,
+        })
+    }
+
+    /// The greatest incarnation of a node known to be dead.
+    pub fn dead(&self, node: u8) -> u16
+        requires { IsNumber (length self.now) node }
+        ensures { result ≡ deaths_of self.now node }
+    {
+        self.clients[usize::from(node) - 1].dead
+    }
+
+    /// The row of a node, of the incarnation after the dead ones.
+    pub fn row(&self, node: u8) -> Option<&Row>
+        requires { IsNumber (length self.now) node }
+        ensures { MatchOption result (rows_of self.now node ≡ None) (λ row. rows_of self.now node ≡ Some (row_state (deaths_of self.now node + 1) row.now)) }
+    {
+        self.clients[usize::from(node) - 1].row.as_ref()
+    }
+
+    /// The incarnations of a node up to this one are known to be dead: a row of one of them goes.
+    pub fn forget(&mut self, node: u8, incarnation: u16)
+        requires { IsNumber (length self.old) node }
+        ensures rows { rows_of self.new ≡ with_change node (row_above incarnation) (rows_of self.old) }
+        ensures deaths { deaths_of self.new ≡ (λ n. if n == node then max (deaths_of self.old n) incarnation else deaths_of self.old n) }
+        ensures len { length self.new ≡ length self.old }
+    {
+        self.clients[usize::from(node) - 1].forget(incarnation);
+    }
+
+    /// A row of the incarnation after the dead ones, that has got no command yet.
+    pub fn add_row(&mut self, alloc: Global, node: u8)
+        requires { IsNumber (length self.old) node }
+        ensures rows { rows_of self.new ≡ with_change node (λ row. Some (empty_row (deaths_of self.old node + 1))) (rows_of self.old) }
+        ensures deaths { deaths_of self.new ≡ deaths_of self.old }
+        ensures len { length self.new ≡ length self.old }
+    {
+        self.clients[usize::from(node) - 1].add_row(alloc);
+    }
+
+    /// The command to the node is answered.
+    pub fn answer(&mut self, node: u8)
+        requires { IsNumber (length self.old) node }
+        ensures rows { rows_of self.new ≡ with_change node (option_map answered) (rows_of self.old) }
+        ensures deaths { deaths_of self.new ≡ deaths_of self.old }
+        ensures len { length self.new ≡ length self.old }
+    {
+        self.clients[usize::from(node) - 1].answer();
+    }
+
+    /// The next command to the node, which gives it the span in the mode.
+    ///
+    /// # Errors
+    /// `NoMemory` where a request for memory was refused; all stays as it was.
+    pub fn give(&mut self, node: u8, span: Span, mode: Mode, command: Message) -> Result<(), NoMemory>
+        requires node_in { IsNumber (length self.old) node }
+        requires room { IfSome (rows_of self.old node) (λ row. row.number < greatest_number) }
+        ensures rows { OnOk result (rows_of self.new ≡ with_change node (option_map (given span mode command)) (rows_of self.old)) }
+        ensures deaths { OnOk result (deaths_of self.new ≡ deaths_of self.old) }
+        ensures len { OnOk result (length self.new ≡ length self.old) }
+        ensures err { OnErr result (self.new ≡ self.old) }
+    {
+        self.clients[usize::from(node) - 1].give(span, mode, command)
+    }
+
+    /// Equal clients.
+    ///
+    /// # Errors
+    /// `NoMemory` where a request for memory was refused.
+    pub fn copy(&self) -> Result<Clients, NoMemory>
+        ensures { IfOk result (λ copy. copy ≡ self.now) }
+    {
+        Ok(Clients {
+            clients: copies(*self.clients.allocator(), &self.clients)?,
+        })
+    }
+
+    /// Whether the same is known of each node, of as many.
+    pub fn same(&self, other: &Clients) -> bool
+        requires { length self.now ≡ length other.now }
+        ensures { IsTrue result ↔ ((rows_of self.now ≡ rows_of other.now) × (deaths_of self.now ≡ deaths_of other.now)) }
+    {
+        same_each(&self.clients, &other.clients)
+    }
+}
