@@ -1,0 +1,6 @@
+pub mod Join
+pub mod Runs
+pub mod Find
+pub mod Same
+pub mod Starts
+pub mod Around

@@ -4,3 +4,4 @@ pub mod Locks
 pub mod Descriptors
 pub mod Table
 pub mod Step
+pub mod OneTable

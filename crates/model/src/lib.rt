@@ -3,9 +3,11 @@
 
 pub mod access;
 pub mod call;
+pub mod change;
 pub mod level;
 pub mod lock_info;
 pub mod mode;
+pub mod one_table;
 pub mod op;
 pub mod opened;
 pub mod owner;

@@ -1,0 +1,202 @@
+-- What a list of runs has at a byte.
+use Rattle.std.proofs.Common.{◌≡◌, ℕ, zero, suc, ◌+◌, ◌-◌, ◌<◌, ◌≤◌, ◌⊎◌, Bool, true, false, max, min, length, get_or, set, drop, drop-cons, add-one, ◌∙◌, List, [], ◌∷◌, ◌++◌, Option, Some, None, refl, ap, sym, inl, inr, arith}
+use Rattle.std.proofs.lemmas.Bool.{cases_lt, cases_Bool, and_parts}
+use Rattle.std.proofs.lemmas.Bool.Decides.{nat_tests}
+use Rattle.std.proofs.lemmas.Grind.{common_steps}
+use Rattle.intervals.specs.declared.vec_map.Run.{Run}
+use Rattle.intervals.specs.Bytes.{put}
+use Rattle.intervals.specs.Runs.{bytes_of, value_at, Follows, AreRuns, EndsBelow}
+use Rattle.intervals.proofs.Join.{EndBefore, Within, over, joins, join}
+
+-- the runs end below each greater number too
+pub ends_below_le : {V : Type 0} (l : List (Run V)) (m n : ℕ) → m ≤ n → EndsBelow l m → EndsBelow l n
+ends_below_le [] m n le h = tt
+ends_below_le (r ∷ rest) m n le h = (omega arith, ends_below_le rest m n le h.1)
+
+-- past the runs there is no value
+pub at-past : {V : Type 0} (l : List (Run V)) (b : ℕ) → EndsBelow l b → value_at l b ≡ None
+unfolding value_at
+at-past [] b h = refl
+at-past (r ∷ rest) b h = grind (arith, nat_tests, at-past rest b h.1)
+
+-- one more run at the end
+pub at-append : {V : Type 0} (l : List (Run V)) (s : Run V) (b : ℕ) → EndsBelow l s.lo → value_at (l ++ s ∷ []) b ≡ put (value_at l) (bytes_of s) (Some s.value) b
+unfolding value_at
+at-append [] s b h = refl
+at-append (r ∷ rest) s b h = grind (arith, nat_tests, at-append rest s b h.1)
+
+-- r is followed by what it was followed by, if one more run comes at the end
+follows-join : {V : Type 0} (eq : V → V → Bool) (r t : Run V) (rest : List (Run V)) (s : Run V) → Follows r (t ∷ rest) → Follows r (join eq (t ∷ rest) s)
+unfolding join
+follows-join eq r t [] s h = elim (cases_Bool (joins eq t s)) [ inl side ↦ rw side h | inr apart ↦ rw apart h ]
+follows-join eq r t (u ∷ rest) s h = h
+
+-- the runs end below the byte past the one that was added
+pub ends_below-join : {V : Type 0} (eq : V → V → Bool) (l : List (Run V)) (s : Run V) → EndsBelow l s.lo → s.lo ≤ s.hi → EndsBelow (join eq l s) (s.hi + 1)
+unfolding join
+ends_below-join eq [] s below order = (omega arith, tt)
+ends_below-join eq (r ∷ []) s below order = elim (cases_Bool (joins eq r s)) [ inl side ↦ rw side (omega arith, tt) | inr apart ↦ rw apart (omega arith, (omega arith, tt)) ]
+ends_below-join eq (r ∷ t ∷ rest) s below order = (omega arith, ends_below-join eq (t ∷ rest) s below.1 order)
+
+module _ {V : Type 0} (eq : V → V → Bool) (exact : (a b : V) → eq a b ≡ true → a ≡ b) (reflexive : (a : V) → eq a a ≡ true) where
+  -- runs that do not join follow each other
+  follows_apart : (r s : Run V) → r.hi < s.lo → joins eq r s ≡ false → Follows r (s ∷ [])
+  follows_apart r s lt apart = (lt, λ beside same. grind (arith, nat_tests, reflexive r.value))
+
+  -- one more run leaves runs
+  pub runs-join : (l : List (Run V)) (s : Run V) → AreRuns l → EndsBelow l s.lo → s.lo ≤ s.hi → AreRuns (join eq l s)
+  unfolding join
+  runs-join [] s runs below order = (order, tt, tt)
+  runs-join (r ∷ []) s runs below order = elim (cases_Bool (joins eq r s)) [
+    | inl side ↦ rw side (omega arith, tt, tt)
+    | inr apart ↦ rw apart (runs.0, follows_apart r s below.0 apart, (order, tt, tt))
+  ]
+  runs-join (r ∷ t ∷ rest) s runs below order = (runs.0, follows-join eq r t rest s runs.1, runs-join (t ∷ rest) s runs.2 below.1 order)
+
+  -- and sets its bytes alone
+  pub at-join : (l : List (Run V)) (s : Run V) (b : ℕ) → AreRuns l → EndsBelow l s.lo → s.lo ≤ s.hi → value_at (join eq l s) b ≡ put (value_at l) (bytes_of s) (Some s.value) b
+  unfolding join value_at
+  at-join [] s b runs below order = refl
+  at-join (r ∷ []) s b runs below order = elim (cases_Bool (joins eq r s)) [
+    | inl side ↦ rw side (let same : r.value ≡ s.value = exact _ _ (and_parts _ _ side).1 in grind (arith, nat_tests))
+    | inr apart ↦ rw apart (grind (arith, nat_tests))
+  ]
+  at-join (r ∷ t ∷ rest) s b runs below order = grind (arith, nat_tests, at-join (t ∷ rest) s b runs.2 below.1 order)
+
+-- the last run ends below n
+pub last_below : {V : Type 0} (l : List (Run V)) (n i : ℕ) (last : Run V) → EndsBelow l n → i + 1 ≡ length l → last ≡ get_or l i last → last.hi < n
+last_below [] n i last h e is = absurd (omega arith)
+last_below (r ∷ []) n zero last h e is = rw is h.0
+last_below (r ∷ []) n (suc i) last h e is = absurd (omega arith)
+last_below (r ∷ t ∷ rest) n zero last h e is = absurd (omega arith)
+last_below (r ∷ t ∷ rest) n (suc i) last h e is = last_below (t ∷ rest) n i last h.1 (omega arith) is
+
+-- a run that the last one takes up
+pub join_last : {V : Type 0} (eq : V → V → Bool) (l : List (Run V)) (s : Run V) (i : ℕ) (last : Run V) → i + 1 ≡ length l → last ≡ get_or l i last → joins eq last s ≡ true → join eq l s ≡ set l i (record last { hi = s.hi })
+unfolding join
+join_last eq [] s i last e is side = absurd (omega arith)
+join_last eq (r ∷ []) s zero last e is side = let beside : joins eq r s ≡ true = rw is at side in rw (beside, is) refl
+join_last eq (r ∷ []) s (suc i) last e is side = absurd (omega arith)
+join_last eq (r ∷ t ∷ rest) s zero last e is side = absurd (omega arith)
+join_last eq (r ∷ t ∷ rest) s (suc i) last e is side = ap (λ x. r ∷ x) (join_last eq (t ∷ rest) s i last (omega arith) is side)
+
+-- a run that comes after the last one
+pub join_apart : {V : Type 0} (eq : V → V → Bool) (l : List (Run V)) (s : Run V) (i : ℕ) (last : Run V) → i + 1 ≡ length l → last ≡ get_or l i last → joins eq last s ≡ false → join eq l s ≡ l ++ s ∷ []
+unfolding join
+join_apart eq [] s i last e is apart = refl
+join_apart eq (r ∷ []) s zero last e is apart = let beside : joins eq r s ≡ false = rw is at apart in rw beside refl
+join_apart eq (r ∷ []) s (suc i) last e is apart = absurd (omega arith)
+join_apart eq (r ∷ t ∷ rest) s zero last e is apart = absurd (omega arith)
+join_apart eq (r ∷ t ∷ rest) s (suc i) last e is apart = ap (λ x. r ∷ x) (join_apart eq (t ∷ rest) s i last (omega arith) is apart)
+
+-- the first run
+pub join_first : {V : Type 0} (eq : V → V → Bool) (l : List (Run V)) (s : Run V) → length l ≡ 0 → join eq l s ≡ l ++ s ∷ []
+unfolding join
+join_first eq [] s e = refl
+join_first eq (r ∷ rest) s e = absurd (omega arith)
+
+-- writing back what is there
+pub set_self : {A : Type 0} (l : List A) (i : ℕ) (x : A) → i < length l → x ≡ get_or l i x → set l i x ≡ l
+set_self [] i x lt is = refl
+set_self (y ∷ l) zero x lt is = ap (λ z. z ∷ l) is
+set_self (y ∷ l) (suc i) x lt is = ap (λ z. y ∷ z) (set_self l i x (omega arith) is)
+
+-- the first runs end where the rest begin, after n
+end_before_next : {V : Type 0} (l rest : List (Run V)) (r : Run V) (m n : ℕ) → Follows r rest → EndsBelow l m → m ≤ max (r.hi + 1) n → EndBefore l rest n
+end_before_next l [] r m n h below le = tt
+end_before_next l (s ∷ rest) r m n h below le = ends_below_le l m _ (omega arith) below
+
+-- what has a value at b is not below b
+pub at-below : {V : Type 0} (l : List (Run V)) (b n : ℕ) → EndsBelow l n → n ≤ b → value_at l b ≡ None
+at-below l b n h le = at-past l b (ends_below_le l n b le h)
+
+-- at the start `rest` is all of runs
+pub within_start : {V : Type 0} (from to : ℕ) (runs new : List (Run V)) → AreRuns new → AreRuns runs → EndsBelow new from → from ≤ to → Within from to runs new new runs
+within_start from to [] new made left below order = record {
+  made = made;
+  left = left;
+  below = ends_below_le new from to order below;
+  before = tt;
+  inside = λ b lo hi. rw (at-below new b from below lo) refl;
+  under = λ b lt. refl;
+}
+within_start from to (r ∷ runs) new made left below order = record {
+  made = made;
+  left = left;
+  below = ends_below_le new from to order below;
+  before = ends_below_le new from _ (omega arith) below;
+  inside = λ b lo hi. rw (at-below new b from below lo) refl;
+  under = λ b lt. refl;
+}
+
+-- a run that is outside
+pub within_skip : {V : Type 0} (from to : ℕ) (runs old new rest : List (Run V)) (r : Run V) → Within from to runs old new (r ∷ rest) → (r.hi < from) ⊎ (to ≤ max r.lo from) → Within from to runs old new rest
+unfolding value_at
+within_skip from to runs old new rest r w outside = record {
+  made = w.made;
+  left = w.left.2;
+  below = w.below;
+  before = end_before_next new rest r _ from w.left.1 w.before (omega (arith, w.left.0));
+  inside = λ b lo hi. grind (arith, nat_tests, w.inside b lo hi);
+  under = w.under;
+}
+
+-- a run that has bytes inside
+pub within_more : {V : Type 0} (from to : ℕ) (runs old new rest more : List (Run V)) (r s : Run V) → Within from to runs old new (r ∷ rest) → s.lo ≡ max r.lo from → s.hi ≡ min r.hi (to - 1) → s.value ≡ r.value → s.lo < to → s.lo ≤ r.hi → AreRuns more → EndsBelow more (s.hi + 1) → ((b : ℕ) → value_at more b ≡ put (value_at new) (bytes_of s) (Some s.value) b) → Within from to runs old more rest
+unfolding value_at
+within_more from to runs old new rest more r s w first last same lt le made below bytes =
+    let before : EndsBelow new s.lo = ends_below_le new _ _ (omega arith) w.before in
+    record {
+      made = made;
+      left = w.left.2;
+      below = ends_below_le _ _ _ (omega arith) below;
+      before = end_before_next _ rest r _ from w.left.1 below (omega arith);
+      inside = λ b lo hi. grind (arith, nat_tests, w.inside b lo hi, bytes b, at-below new b s.lo before);
+      under = λ b lt. grind (arith, nat_tests, w.under b lt, bytes b);
+    }
+
+-- what is read at i is the first of the rest
+pub drop_read : {A : Type 0} (l : List A) (i : ℕ) (x : A) → i < length l → x ≡ get_or l i x → drop i l ≡ x ∷ drop (i + 1) l
+drop_read l i x lt is = drop-cons l i x lt ∙ rw (← is, add-one) refl
+
+-- past the end there is no rest
+pub drop_all : {A : Type 0} (l : List A) (i : ℕ) → length l ≤ i → drop i l ≡ []
+drop_all l i le = grind (arith, common_steps)
+
+over_nothing : {V : Type 0} (x : Option V) → over x None ≡ x
+over_nothing None = refl
+over_nothing (Some v) = refl
+
+-- with no rest left, `new` has what runs have
+pub within_end : {V : Type 0} (from to : ℕ) (runs old new : List (Run V)) (b : ℕ) → Within from to runs old new [] → from ≤ b → b < to → value_at new b ≡ value_at runs b
+unfolding value_at
+within_end from to runs old new b w lo hi = sym (w.inside b lo hi ∙ over_nothing (value_at new b))
+
+module _ {V : Type 0} (eq : V → V → Bool) (exact : (a b : V) → eq a b ≡ true → a ≡ b) (reflexive : (a : V) → eq a a ≡ true) where
+  -- what one more run leaves
+  pub joined : (l new : List (Run V)) (s : Run V) → AreRuns l → EndsBelow l s.lo → s.lo ≤ s.hi → new ≡ join eq l s → record { made : AreRuns new; below : EndsBelow new (s.hi + 1); bytes : (b : ℕ) → value_at new b ≡ put (value_at l) (bytes_of s) (Some s.value) b }
+  joined l new s made below rises e = record {
+    made = rw e (runs-join eq exact reflexive l s made below rises);
+    below = rw e (ends_below-join eq l s below rises);
+    bytes = λ b. rw e (at-join eq exact reflexive l s b made below rises);
+  }
+
+-- what is below lo, then the value, and then what is above hi
+pub spliced_bytes : {V : Type 0} (runs first middle last : List (Run V)) (lo hi all : ℕ) (value : Option V) → lo ≤ hi → ((b : ℕ) → 0 ≤ b → b < lo → value_at first b ≡ value_at runs b) → ((b : ℕ) → value_at middle b ≡ put (value_at first) (record { lo = lo; hi = hi }) value b) → ((b : ℕ) → hi + 1 ≤ b → b < all → value_at last b ≡ value_at runs b) → ((b : ℕ) → b < hi + 1 → value_at last b ≡ value_at middle b) → EndsBelow last all → EndsBelow runs all → (b : ℕ) → value_at last b ≡ put (value_at runs) (record { lo = lo; hi = hi }) value b
+spliced_bytes runs first middle last lo hi all value order below here above under last_ends runs_end b = elim (cases_lt hi b) [
+  | inl past ↦ elim (cases_lt b all) [
+    | inl lt ↦ let e = above b (omega arith) lt in grind (arith, nat_tests)
+    | inr ge ↦ let none = at-below last b all last_ends ge in let nothing = at-below runs b all runs_end ge in grind (arith, nat_tests)
+  ]
+  | inr le ↦ let e = under b (omega arith) in let m = here b in elim (cases_lt b lo) [
+    | inl lt ↦ let f = below b (omega arith) lt in grind (arith, nat_tests)
+    | inr ge ↦ grind (arith, nat_tests)
+  ]
+]
+
+-- no value, where there was none
+pub put_none : {V : Type 0} (l : List (Run V)) (lo hi b : ℕ) → EndsBelow l lo → value_at l b ≡ put (value_at l) (record { lo = lo; hi = hi }) None b
+put_none l lo hi b ends = elim (cases_lt b lo) [
+  | inl lt ↦ grind (arith, nat_tests)
+  | inr ge ↦ let none = at-below l b lo ends ge in grind (arith, nat_tests)
+]

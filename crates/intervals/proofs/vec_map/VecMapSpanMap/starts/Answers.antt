@@ -1,0 +1,8 @@
+use Rattle.std.proofs.Common.{arith}
+use Rattle.intervals.proofs.Starts.{number_of_runs-length}
+use Rattle.intervals.proofs.vec_map.VecMapSpanMap.starts.Goals as goal
+
+pub returns : goal.returns
+returns g c =
+    let count = number_of_runs-length g.V.PartialEq.eq g.met.V.Exact.exact g.met.V.Eq.laws.refl _ c.self.invariant.0 c.self.invariant.1 in
+    rw (← c.self.view_is, count) (omega arith)
