@@ -1,3 +1,5 @@
 mod Places
 mod Entries
 mod Fitting
+mod Targets
+mod NodeTables
