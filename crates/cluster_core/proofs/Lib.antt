@@ -3,3 +3,4 @@ mod Entries
 mod Fitting
 mod Targets
 mod NodeTables
+mod Tries
