@@ -4,3 +4,5 @@ mod Fitting
 mod Targets
 mod NodeTables
 mod Tries
+mod Nodes
+mod Moves

@@ -31,11 +31,10 @@ pub record IsReady (t : Table) (p : Process) (op : Op) (c : OpenCall) : Type 0 w
   pub is_set : op ≡ Set fd kind c.mode start len
   pub passes : target t p (Some c.mode) fd kind start len ≡ Ok (target_of c)
 
--- the node goes on: its name and its count of calls stay, and its table follows
+-- the node goes on: its name stays, and its table follows
 pub record Continues (s u : NodeState) : Type 0 where
   pub node : u.node ≡ s.node
   pub incarnation : u.incarnation ≡ s.incarnation
-  pub calls : u.calls ≡ s.calls
   pub follows : Follows s.table u.table s.node s.incarnation
 
 -- the call is answered as the node's table may answer it, and is open no longer
@@ -62,25 +61,27 @@ pub record IsOpened (s : NodeState) (number pid : ℕ) (op : Op) (u : NodeState)
 -- what a try of an open call comes to
 pub record Tried (s : NodeState) (number pid : ℕ) (op : Op) (u : NodeState) (o : Option (CallId × Reply)) : Type 0 where
   pub continues : Continues s u
+  pub calls : u.calls ≡ s.calls
   pub ends : IsAnswered s number pid op u o ⊎ (IsSilent s u o × (u.pending ≡ s.pending))
 
 -- what a new call comes to
 pub record Taken (s : NodeState) (number pid : ℕ) (op : Op) (u : NodeState) (o : Option (CallId × Reply)) : Type 0 where
   pub continues : Continues s u
+  pub calls : u.calls ≡ s.calls
   pub ends : IsAnswered s number pid op u o ⊎ IsOpened s number pid op u o
 
 same_continues : (s : NodeState) (pending : List OpenCall) → IsOwn s.table s.node s.incarnation → Continues s (record s { pending = pending })
-same_continues s pending own = record { node = refl; incarnation = refl; calls = refl; follows = same_follows s.table s.node s.incarnation own }
+same_continues s pending own = record { node = refl; incarnation = refl; follows = same_follows s.table s.node s.incarnation own }
 
 -- the table's answer
 settled_continues : (s : NodeState) (number : ℕ) (answer : Table × Reply) → Follows s.table answer.0 s.node s.incarnation → Continues s (settled s number answer).state
-settled_continues s number answer follows = record { node = refl; incarnation = refl; calls = refl; follows = follows }
+settled_continues s number answer follows = record { node = refl; incarnation = refl; follows = follows }
 
 settled_answers : (s : NodeState) (number pid : ℕ) (op : Op) (answer : Table × Reply) → Step s.table (process s pid) op answer.1 answer.0 → IsAnswered s number pid op (settled s number answer).state (settled s number answer).reply
 settled_answers s number pid op answer step = record { reply = answer.1; is_reply = refl; step = step; closed = refl }
 
 settled_taken : (s : NodeState) (number pid : ℕ) (op : Op) (answer : Table × Reply) → Step s.table (process s pid) op answer.1 answer.0 → Follows s.table answer.0 s.node s.incarnation → Taken s number pid op (settled s number answer).state (settled s number answer).reply
-settled_taken s number pid op answer step follows = record { continues = settled_continues s number answer follows; ends = inl (settled_answers s number pid op answer step) }
+settled_taken s number pid op answer step follows = record { continues = settled_continues s number answer follows; calls = refl; ends = inl (settled_answers s number pid op answer step) }
 
 -- a set that passes its tests is answered as its answer says
 set_step : (t : Table) (p : Process) (op : Op) (c : OpenCall) (reply : Reply) (u : Table) → IsReady t p op c → SetStep t c.mode reply u (target_of c) → Step t p op reply u
@@ -114,6 +115,7 @@ module _ (law : LowestIsLowest) where
       elim (lowest_blocker h c.owner c.span c.mode) as (λ x. MatchOption x (IsFree h c.owner c.span c.mode) (IsLowestBlocker h c.owner c.span c.mode) → Tried s c.number c.pid op (tried_against s c x).state (tried_against s c x).reply) [
         | Some lock ↦ λ found. record {
             continues = same_continues s (without_call s c.number).pending own;
+            calls = refl;
             ends = inl (record { reply = Again lock; is_reply = refl; step = set_step s.table p op c (Again lock) s.table ready (found.blocks, refl); closed = refl });
           }
         | None ↦ λ free.
@@ -121,9 +123,10 @@ module _ (law : LowestIsLowest) where
           elim (covers (s.files c.file).token c.span c.mode) as (λ b. Tried s c.number c.pid op (out b).state (out b).reply) [
             | true ↦ record {
                 continues = settled_continues s c.number answer (lock_follows s.table s.node s.incarnation (target_of c) (Some c.mode) is own);
+                calls = refl;
                 ends = inl (settled_answers s c.number c.pid op answer (set_step s.table p op c answer.1 answer.0 ready (lock_step s.table (target_of c) c.mode free)));
               }
-            | false ↦ record { continues = same_continues s s.pending own; ends = inr (record { no_reply = refl; table = refl }, refl) }
+            | false ↦ record { continues = same_continues s s.pending own; calls = refl; ends = inr (record { no_reply = refl; table = refl }, refl) }
           ]
       ] (law h c.owner c.span c.mode (of_owner s.table s.node s.incarnation c.file c.owner.node c.owner.incarnation is.owner.node_is is.owner.incarnation_is own) is.span.ordered is.span.ends)
 
@@ -144,6 +147,7 @@ module _ (law : LowestIsLowest) where
       elim found as (λ x. found ≡ x → Taken s number pid op (lock_call s number pid mode x).state (lock_call s number pid mode x).reply) [
         | Err refusal ↦ λ h. record {
             continues = same_continues s (without_call s number).pending own;
+            calls = refl;
             ends = inl (record {
               reply = refusal;
               is_reply = refl;
@@ -157,7 +161,8 @@ module _ (law : LowestIsLowest) where
           let ready : IsReady s.table p op c = record { fd = fd; kind = kind; start = start; len = len; is_set = refl; passes = h } in
           let t = tried_ends next c op pid_in own (record { fd = fd; kind = kind; start = start; len = len; is_set = refl; passes = h }) in
           record {
-            continues = record { node = t.continues.node; incarnation = t.continues.incarnation; calls = t.continues.calls; follows = t.continues.follows };
+            continues = record { node = t.continues.node; incarnation = t.continues.incarnation; follows = t.continues.follows };
+            calls = t.calls;
             ends = elim t.ends [
               | inl a ↦ inl (record { reply = a.reply; is_reply = a.is_reply; step = a.step; closed = a.closed ∙ closed_again s.pending c })
               | inr q ↦ inr (record { silent = record { no_reply = q.0.no_reply; table = q.0.table }; call = c; number_is = refl; pid_is = refl; ready = ready; pending = q.1 })
