@@ -6,3 +6,4 @@ mod NodeTables
 mod Tries
 mod Nodes
 mod Moves
+mod Unions
