@@ -7,3 +7,4 @@ mod Tries
 mod Nodes
 mod Moves
 mod Unions
+mod Worlds
