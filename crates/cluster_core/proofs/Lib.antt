@@ -8,3 +8,4 @@ mod Nodes
 mod Moves
 mod Unions
 mod Worlds
+mod Runs

@@ -84,7 +84,7 @@ module _ (law : LowestIsLowest) (past : List Entry) (s : NodeState) (event : Eve
   still = record { node = refl; incarnation = refl; follows = same_follows s.table s.node s.incarnation holds.own }
 
   -- nothing but messages
-  quiet_receives : (e : Effect) → e.state ≡ s → e.reply ≡ None → Receives past s e.state (said e)
+  pub quiet_receives : (e : Effect) → e.state ≡ s → e.reply ≡ None → Receives past s e.state (said e)
   quiet_receives e same none =
       let P : NodeState → Type 0 = λ u. Receives past s u (said e) in
       subst P (sym same) (record {

@@ -8,11 +8,11 @@ use Rattle.model.specs.declared.owner.Owner.{Owner}
 use Rattle.model.specs.Limits.{IsNumber}
 use Rattle.model.specs.Owners.{owner_at}
 use Rattle.model.specs.Descriptors.{Processes, no_processes}
-use Rattle.model.specs.Table.{Table}
-use Rattle.messages.specs.Shapes.{served_nodes}
+use Rattle.model.specs.Table.{Table, empty_table}
+use Rattle.messages.specs.Shapes.{ShapeFields, served_nodes}
 use Rattle.messages.specs.Messages.{is_within}
 use Rattle.node_core.specs.State.{NodeState}
-use Rattle.cluster_core.specs.World.{WorldState, has_node, is_live}
+use Rattle.cluster_core.specs.World.{WorldState, first_world, has_node, is_live}
 use Rattle.cluster_core.specs.Union.{union}
 use Rattle.cluster_core.proofs.NodeTables.{IsOwn}
 
@@ -21,6 +21,17 @@ pub union_same : (w v : WorldState) → v.shape ≡ w.shape → ((n : ℕ) → (
 union_same w v shape incarnations tables = λ i. record {
   on = λ n k. if is_within (shape i).nodes n && (k == incarnations n i) then (tables n i).on n k else no_processes;
   locks = λ file owner. if is_within (shape i).nodes owner.node && (owner.incarnation == incarnations owner.node i) then (tables owner.node i).locks file owner else nothing;
+}
+
+if_both : {A : Type 0} (b : Bool) (x : A) → x ≡ (if b then x else x)
+if_both true x = refl
+if_both false x = refl
+
+-- at first it is empty
+pub union_first : (shape : ShapeFields) → empty_table ≡ union (first_world shape)
+union_first shape = λ i. record {
+  on = λ n k. if_both (is_live (first_world shape) n k) no_processes i;
+  locks = λ file owner. if_both (is_live (first_world shape) owner.node owner.incarnation) nothing i;
 }
 
 -- the only node
