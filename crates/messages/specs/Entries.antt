@@ -3,6 +3,7 @@ use Rattle.std.specs.Prelude.{◌≡◌, ℕ, List, Option, Some, None}
 use Rattle.model.specs.declared.call.CallId.{CallId}
 use Rattle.model.specs.declared.reply.Reply.{Reply}
 use Rattle.messages.specs.declared.message.Message.{Message}
+use Rattle.messages.specs.declared.outcome.Outcome.{Outcome}
 use Rattle.messages.specs.declared.event.Event.{Event}
 use Rattle.messages.specs.declared.event.Event.TheVariants.{Call, Deliver}
 
@@ -22,3 +23,7 @@ NamesItsCall _ call = call ≡ None
 pub record IsEntry (e : EntryFields) : Type 0 where
   pub named : NamesItsCall e.event e.call
   pub no_incarnation : e.incarnation ≡ 0
+
+-- the entry of an event with this outcome; so far no event names an incarnation
+abbrev pub entry_of : Event → Outcome → EntryFields
+entry_of event outcome = record { event = event; incarnation = 0; call = outcome.call; reply = outcome.reply; sends = outcome.sends }

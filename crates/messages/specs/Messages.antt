@@ -5,16 +5,13 @@ use Rattle.intervals.specs.Bytes.{Range}
 use Rattle.model.specs.Owners.{same_mode}
 use Rattle.model.specs.declared.call.CallId.{CallId}
 use Rattle.messages.specs.Wants.{Wants}
+pub use Rattle.messages.specs.declared.actor.Actor.{Actor}
+pub use Rattle.messages.specs.declared.actor.Actor.TheVariants.{Node as ANode, Server as AServer}
 use Rattle.messages.specs.declared.message.Urgency.{Urgency}
 use Rattle.messages.specs.declared.message.Urgency.TheVariants.{Now, Waits}
 use Rattle.messages.specs.declared.message.Message.{Message}
 use Rattle.messages.specs.declared.message.Message.TheVariants.{Request, Grant, Taken}
 use Rattle.messages.specs.declared.outcome.Outcome.{Outcome}
-
--- an actor: a node, or the server of a file
-pub data Actor : Type 0 where
-  ANode : ℕ → Actor
-  AServer : ℕ → Actor
 
 -- who takes the message
 abbrev pub addressee : Message → Actor

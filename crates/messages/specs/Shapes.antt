@@ -19,3 +19,7 @@ most_files = 256
 pub record IsShape (s : ShapeFields) : Type 0 where
   pub nodes_in : IsNumber served_nodes s.nodes
   pub files_in : IsNumber most_files s.files
+
+-- a cluster may have so many nodes and files
+abbrev pub IsServed : ℕ → ℕ → Type 0
+IsServed nodes files = IsNumber served_nodes nodes × IsNumber most_files files

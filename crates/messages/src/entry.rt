@@ -1,7 +1,11 @@
 //! Entries of the journal.
+ghost use Rattle.std.specs.Prelude.{◌≡◌, ◌↔◌, IsTrue};
+ghost use Rattle.messages.specs.Entries.{NamesItsCall, entry_of};
+
 use crate::event::Event;
 use crate::items::Items;
 use crate::message::Message;
+use crate::outcome::Outcome;
 use model::call::CallId;
 use model::reply::Reply;
 use std::marker::Model;
@@ -25,4 +29,89 @@ impl Model for Entry {
     ghost view = { λ e. record { event = e.event; incarnation = e.incarnation; call = e.call; reply = e.reply; sends = e.sends } };
 
     ghost invariant = { λ e. IsEntry (record { event = e.event; incarnation = e.incarnation; call = e.call; reply = e.reply; sends = e.sends }) };
+}
+
+impl Entry {
+    /// The entry of an event that gave this outcome, where no event names an incarnation.
+    pub fn new(event: Event, outcome: Outcome) -> Entry
+        requires { NamesItsCall event outcome.call }
+        ensures { result ≡ entry_of event outcome }
+    {
+        Entry {
+            event,
+            incarnation: 0,
+            call: outcome.call,
+            reply: outcome.reply,
+            sends: outcome.sends,
+        }
+    }
+
+    pub fn event(&self) -> Event
+        ensures { result ≡ self.now.event }
+    {
+        self.event
+    }
+
+    /// The incarnation of the node where the event names one, else 0.
+    pub fn incarnation(&self) -> u16
+        ensures { result ≡ self.now.incarnation }
+    {
+        self.incarnation
+    }
+
+    /// The name that the call took, where the event is a call.
+    pub fn call(&self) -> Option<CallId>
+        ensures value { result ≡ self.now.call }
+        ensures named { NamesItsCall self.now.event result }
+    {
+        self.call
+    }
+
+    /// The call that is answered, and its reply.
+    pub fn reply(&self) -> Option<(CallId, Reply)>
+        ensures { result ≡ self.now.reply }
+    {
+        self.reply
+    }
+
+    /// The messages that are sent, in the order in which the rules name them.
+    pub fn sends(&self) -> &[Message]
+        ensures { result.now ≡ self.now.sends }
+    {
+        self.sends.as_slice()
+    }
+
+    /// Whether both say the same.
+    pub fn same(&self, other: &Entry) -> bool
+        ensures { IsTrue result ↔ (self.now ≡ other.now) }
+    {
+        if !self.event.same(&other.event) || self.incarnation != other.incarnation {
+            return false;
+        }
+        if !same_names(&self.call, &other.call) || !same_replies(&self.reply, &other.reply) {
+            return false;
+        }
+        same_messages(self.sends.as_slice(), other.sends.as_slice())
+    }
+}
+
+// Whether both are the same messages in the same order.
+fn same_messages(one: &[Message], other: &[Message]) -> bool
+    ensures { IsTrue result ↔ (one.now ≡ other.now) }
+{
+    one == other
+}
+
+// Whether both name the same call, or none.
+fn same_names(one: &Option<CallId>, other: &Option<CallId>) -> bool
+    ensures { IsTrue result ↔ (one.now ≡ other.now) }
+{
+    one == other
+}
+
+// Whether both are the same reply to the same call, or none.
+fn same_replies(one: &Option<(CallId, Reply)>, other: &Option<(CallId, Reply)>) -> bool
+    ensures { IsTrue result ↔ (one.now ≡ other.now) }
+{
+    one == other
 }

@@ -1,4 +1,6 @@
 //! Events.
+ghost use Rattle.std.specs.Prelude.{◌≡◌, ◌↔◌, IsTrue};
+
 use crate::message::Message;
 use model::op::Op;
 
@@ -9,4 +11,13 @@ pub enum Event {
     Call { node: u8, pid: u16, op: Op },
     /// A message that was sent comes to its addressee.
     Deliver(Message),
+}
+
+impl Event {
+    /// Whether both are one and the same event.
+    pub fn same(&self, other: &Event) -> bool
+        ensures { IsTrue result ↔ (self.now ≡ other.now) }
+    {
+        self == other
+    }
 }

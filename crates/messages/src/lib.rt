@@ -1,6 +1,7 @@
 //! Messages between nodes and token servers, events, and entries of the journal.
 #![tactic(auto)]
 
+pub mod actor;
 pub mod entry;
 pub mod event;
 pub mod items;

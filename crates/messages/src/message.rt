@@ -1,4 +1,8 @@
 //! Messages between nodes and token servers.
+ghost use Rattle.std.specs.Prelude.{◌≡◌, ◌↔◌, IsTrue};
+ghost use Rattle.messages.specs.Messages.{addressee, call_of, file_of, SameMessageIsEquality};
+
+use crate::actor::Actor;
 use crate::wanted::Wanted;
 use intervals::span::Span;
 use model::call::CallId;
@@ -37,4 +41,51 @@ pub enum Message {
         number: u32,
         call: CallId,
     },
+}
+
+impl Message {
+    /// Who takes the message.
+    pub fn addressee(&self) -> Actor
+        ensures { result ≡ addressee self.now }
+    {
+        match self {
+            Message::Request { file, .. } | Message::Taken { file, .. } => Actor::Server(*file),
+            Message::Grant { call, .. } => Actor::Node(call.node),
+        }
+    }
+
+    /// The call that the message names.
+    pub fn call(&self) -> CallId
+        ensures { result ≡ call_of self.now }
+    {
+        match self {
+            Message::Request { call, .. } => *call,
+            Message::Grant { call, .. } => *call,
+            Message::Taken { call, .. } => *call,
+        }
+    }
+
+    /// The file that the message is about.
+    pub fn file(&self) -> u16
+        ensures { result ≡ file_of self.now }
+    {
+        match self {
+            Message::Request { file, .. } => *file,
+            Message::Grant { file, .. } => *file,
+            Message::Taken { file, .. } => *file,
+        }
+    }
+
+    /// Whether both are one and the same message.
+    pub fn same(&self, other: &Message) -> bool
+        ensures { IsTrue result ↔ (self.now ≡ other.now) }
+    {
+        self == other
+    }
+}
+
+/// That messages are compared by value, as the rules do, is equality.
+pub fn same_message_is_equality()
+    ensures { SameMessageIsEquality }
+{
 }

@@ -1,4 +1,7 @@
 //! Outcomes of steps.
+ghost use Rattle.std.specs.Prelude.{◌≡◌};
+ghost use Rattle.messages.specs.Messages.{sending};
+
 use crate::items::Items;
 use crate::message::Message;
 use model::call::CallId;
@@ -11,4 +14,17 @@ pub struct Outcome {
     pub call: Option<CallId>,
     pub reply: Option<(CallId, Reply)>,
     pub sends: Items<Message>,
+}
+
+impl Outcome {
+    /// No call is named and nothing is answered; these messages are sent.
+    pub fn sending(sends: Items<Message>) -> Outcome
+        ensures { result ≡ sending sends }
+    {
+        Outcome {
+            call: None,
+            reply: None,
+            sends,
+        }
+    }
 }

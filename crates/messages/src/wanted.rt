@@ -1,4 +1,6 @@
 //! Ranges of token requests.
+ghost use Rattle.std.specs.Prelude.{◌≡◌, ◌≤◌};
+
 use intervals::span::Span;
 use std::marker::Model;
 
@@ -21,4 +23,15 @@ impl Model for Wanted {
     ghost invariant = { λ w. (w.desired.lo ≤ w.required.lo) × (w.required.hi ≤ w.desired.hi) };
 
     ghost inverse = { λ w. record { required = w.required; desired = w.desired } };
+}
+
+impl Wanted {
+    /// What a request needs, and what it would like to have with that.
+    pub fn new(required: Span, desired: Span) -> Wanted
+        requires starts_within { desired.lo ≤ required.lo }
+        requires ends_within { required.hi ≤ desired.hi }
+        ensures { result ≡ record { required = required; desired = desired } }
+    {
+        Wanted { required, desired }
+    }
 }

@@ -1,5 +1,6 @@
 pub mod Limits
 pub mod Owners
+pub mod Equality
 pub mod Locks
 pub mod Descriptors
 pub mod Table

@@ -4,6 +4,7 @@
 pub mod access;
 pub mod call;
 pub mod change;
+pub mod equality;
 pub mod level;
 pub mod lock_info;
 pub mod mode;

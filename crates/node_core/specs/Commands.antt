@@ -9,7 +9,9 @@ use Rattle.messages.specs.declared.refusal.StepError.TheVariants.{Stranger}
 use Rattle.messages.specs.declared.message.Message.{Message}
 use Rattle.messages.specs.declared.message.Message.TheVariants.{Grant, Taken}
 use Rattle.messages.specs.declared.outcome.Outcome.{Outcome}
-use Rattle.messages.specs.Messages.{Actor, ANode, AServer, addressee, call_of, file_of, is_within}
+use Rattle.messages.specs.declared.actor.Actor.{Actor}
+use Rattle.messages.specs.declared.actor.Actor.TheVariants.{Node as ANode, Server as AServer}
+use Rattle.messages.specs.Messages.{addressee, call_of, file_of, is_within}
 use Rattle.node_core.specs.State.{FileState, NodeState, Effect, with_file, quiet, sent, outcome, open_call}
 use Rattle.node_core.specs.Try.{tried_if}
 

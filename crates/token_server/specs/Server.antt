@@ -7,7 +7,9 @@ use Rattle.messages.specs.declared.refusal.StepError.TheVariants.{Stranger}
 use Rattle.messages.specs.declared.message.Message.{Message}
 use Rattle.messages.specs.declared.message.Message.TheVariants.{Request, Grant, Taken}
 use Rattle.messages.specs.declared.outcome.Outcome.{Outcome}
-use Rattle.messages.specs.Messages.{Actor, ANode, AServer, addressee, call_of, is_within, sending}
+use Rattle.messages.specs.declared.actor.Actor.{Actor}
+use Rattle.messages.specs.declared.actor.Actor.TheVariants.{Node as ANode, Server as AServer}
+use Rattle.messages.specs.Messages.{addressee, call_of, is_within, sending}
 use Rattle.token_server.specs.declared.held.Held.{Held}
 use Rattle.token_server.specs.declared.event.ServerEvent.{ServerEvent}
 use Rattle.token_server.specs.declared.event.ServerEvent.TheVariants.{Deliver}
