@@ -8,7 +8,6 @@ use Rattle.model.specs.declared.op.Op.{Op}
 use Rattle.model.specs.declared.process.Process.{Process}
 use Rattle.model.specs.declared.reply.Reply.{Reply}
 use Rattle.model.specs.Limits.{IsProcess}
-use Rattle.model.specs.Locks.{LowestIsLowest}
 use Rattle.messages.specs.declared.message.Message.{Message}
 use Rattle.messages.specs.declared.message.Message.TheVariants.{Request, Grant, Taken}
 use Rattle.messages.specs.declared.event.Event.{Event}
@@ -75,7 +74,7 @@ pub record Receives (past : List Entry) (s u : NodeState) (e : Entry) : Type 0 w
   pub moves : Moves past s u e
   pub idle : s.pending ≡ [] → (u.pending ≡ []) × IsSilent s u e.reply
 
-module _ (law : LowestIsLowest) (past : List Entry) (s : NodeState) (event : Event) (holds : Holds past s) where
+module _ (past : List Entry) (s : NodeState) (event : Event) (holds : Holds past s) where
   -- the entry of an effect that names no call
   abbrev said : Effect → Entry
   said e = entry event (outcome None e).1
@@ -116,7 +115,7 @@ module _ (law : LowestIsLowest) (past : List Entry) (s : NodeState) (event : Eve
         | Some c ↦ λ h.
           let o = (found_open (IsOpen past s) call.number s.pending c holds.waiting h).0 in
           let u = (tried next c).state in
-          let t = tried_ends law next c o.op o.is_process.pid_in holds.own (record { fd = o.ready.fd; kind = o.ready.kind; start = o.ready.start; len = o.ready.len; is_set = o.ready.is_set; passes = o.ready.passes }) in
+          let t = tried_ends next c o.op o.is_process.pid_in holds.own (record { fd = o.ready.fd; kind = o.ready.kind; start = o.ready.start; len = o.ready.len; is_set = o.ready.is_set; passes = o.ready.passes }) in
           let g : Continues s u = record { node = t.continues.node; incarnation = t.continues.incarnation; follows = t.continues.follows } in
           record {
             moves = elim t.ends [
@@ -144,7 +143,7 @@ module _ (law : LowestIsLowest) (past : List Entry) (s : NodeState) (event : Eve
   delivered_receives (Taken file number call) = quiet_receives (quiet s) refl refl
 
 -- a new call
-module _ (law : LowestIsLowest) (past : List Entry) (s : NodeState) (node pid : ℕ) (op : Op) (holds : Holds past s) (named : s.node ≡ node) (is_process : IsProcess (process s pid)) (known : (id : CallId) (reply : Reply) (at : ℕ) → IsRepliedAt past id reply at → IsNamed past id) where
+module _ (past : List Entry) (s : NodeState) (node pid : ℕ) (op : Op) (holds : Holds past s) (named : s.node ≡ node) (is_process : IsProcess (process s pid)) (known : (id : CallId) (reply : Reply) (at : ℕ) → IsRepliedAt past id reply at → IsNamed past id) where
   new_entry : Entry
   new_entry = entry (Call node pid op) (after_call s pid op).1
 
@@ -161,7 +160,7 @@ module _ (law : LowestIsLowest) (past : List Entry) (s : NodeState) (node pid : 
       let id = id_of s number in
       let e = entry (Call node pid op) (after_call s pid op).1 in
       let u = (called counted number pid op).state in
-      let t = called_ends law counted number pid op is_process.pid_in holds.own in
+      let t = called_ends counted number pid op is_process.pid_in holds.own in
       let g : Continues s u = record { node = t.continues.node; incarnation = t.continues.incarnation; follows = t.continues.follows } in
       let here : Called (past ++ e ∷ []) id pid op = called-last past e id pid op (ap (λ n. Call n pid op) (sym named)) refl not_named in
       let fresh : Unanswered past id = λ reply at r. not_named (known id reply at r) in

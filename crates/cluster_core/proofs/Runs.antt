@@ -9,9 +9,8 @@ use Rattle.model.specs.declared.call.CallId.{CallId}
 use Rattle.model.specs.declared.op.Op.{Op}
 use Rattle.model.specs.declared.process.Process.{Process}
 use Rattle.model.specs.Limits.{IsNumber, IsHost, IsProcess, most_nodes, most_processes}
-use Rattle.model.specs.Locks.{LowestIsLowest}
 use Rattle.messages.specs.Shapes.{ShapeFields, IsShape, served_nodes}
-use Rattle.messages.specs.Messages.{ANode, AServer, addressee, call_of, file_of, is_within, sending}
+use Rattle.messages.specs.Messages.{addressee, call_of, file_of, is_within, sending}
 use Rattle.messages.specs.declared.refusal.StepError.{StepError}
 use Rattle.messages.specs.declared.refusal.StepError.TheVariants as step
 use Rattle.messages.specs.declared.refusal.Refused.{Refused}
@@ -92,7 +91,7 @@ node_next : (past : List Entry) (w : WorldState) (event : Event) (n : ℕ) (r : 
 node_next past w event n (Ok done) p good h = subst (After past) (ok_is _ p h) (good done refl)
 node_next past w event n (Err e) p good h = absurd (cc)
 
-module _ (law : LowestIsLowest) (past : List Entry) (w : WorldState) (g : Good past w) where
+module _ (past : List Entry) (w : WorldState) (g : Good past w) where
   -- a process that may call
   process_in : (n pid : ℕ) (op : Op) → is_known w (Call n pid op) ≡ true → IsProcess (process (w.nodes n) pid)
   process_in n pid op known =
@@ -119,15 +118,15 @@ module _ (law : LowestIsLowest) (past : List Entry) (w : WorldState) (g : Good p
       let s = w.nodes n in
       let r = after_call s pid op in
       node_good past w n r.0 (Call n pid op) r.1 g
-        (call_moves law past s n pid op (g.holds n) (g.named n) (process_in n pid op known) (replied_named past (history_of past) g.fitting))
+        (call_moves past s n pid op (g.holds n) (g.named n) (process_in n pid op known) (replied_named past (history_of past) g.fitting))
         (λ strange. absurd (both_ways (has_node w n) strange (and_parts (has_node w n) (is_pid pid && is_in_shape w.shape op) known).0))
 
   message_good : (n : ℕ) (m : Message) (done : NodeState × Outcome) → deliver_rule (w.nodes n) m ≡ Ok done → After past (recorded (with_node w n done.0) (Deliver m) done.1)
   message_good n m done h =
       let s = w.nodes n in
       let P : NodeState × Outcome → Type 0 = λ d. After past (recorded (with_node w n d.0) (Deliver m) d.1) in
-      let received = delivered_receives law past s (Deliver m) (g.holds n) m in
-      let silent = quiet_receives law past s (Deliver m) (g.holds n) (quiet s) refl refl in
+      let received = delivered_receives past s (Deliver m) (g.holds n) m in
+      let silent = quiet_receives past s (Deliver m) (g.holds n) (quiet s) refl refl in
       elim (taken_message (not (is_node s.node (addressee m) && is_within s.shape.files (file_of m))) ((call_of m).incarnation == s.incarnation) (outcome None (delivered s m)) (outcome None (quiet s)) done step.Stranger h) [
         | inl is ↦ subst P is (node_good past w n (delivered s m).state (Deliver m) (outcome None (delivered s m)).1 g received.moves (λ strange. received.idle (g.strangers n strange)))
         | inr is ↦ subst P is (node_good past w n s (Deliver m) (outcome None (quiet s)).1 g silent.moves (λ strange. silent.idle (g.strangers n strange)))
@@ -175,19 +174,19 @@ good_first shape is = record {
 }
 
 -- each run keeps it
-good_run : LowestIsLowest → (past es : List Entry) (w v : WorldState) → Good past w → Leads w es v → Good (past ++ es) v
-good_run law past [] w v g l =
+good_run : (past es : List Entry) (w v : WorldState) → Good past w → Leads w es v → Good (past ++ es) v
+good_run past [] w v g l =
     let P : List Entry → Type 0 = λ xs. Good xs v in
     subst P (sym (append-nil past)) (subst (Good past) l g)
-good_run law past (e ∷ es) w v g l =
+good_run past (e ∷ es) w v g l =
     let P : List Entry → Type 0 = λ xs. Good xs v in
-    subst P (append_assoc past (e ∷ []) es) (good_run law (past ++ e ∷ []) es l.0 v (next_good law past w g e.event (l.0, e) l.1) l.2)
+    subst P (append_assoc past (e ∷ []) es) (good_run (past ++ e ∷ []) es l.0 v (next_good past w g e.event (l.0, e) l.1) l.2)
 
 -- its history has each call at its reply
-pub has_history : LowestIsLowest → (shape : ShapeFields) (es : List Entry) (w : WorldState) → IsShape shape → Leads (first_world shape) es w → HasHistory shape es (history_of es) × EachAtItsReply es (history_of es)
-has_history law shape es w is l =
-    let g = good_run law [] es (first_world shape) w (good_first shape is) l in
+pub has_history : (shape : ShapeFields) (es : List Entry) (w : WorldState) → IsShape shape → Leads (first_world shape) es w → HasHistory shape es (history_of es) × EachAtItsReply es (history_of es)
+has_history shape es w is l =
+    let g = good_run [] es (first_world shape) w (good_first shape is) l in
     (record { world = w; leads = l; one_call = g.one_call; one_reply = g.one_reply; fits = fits es (history_of es) g.one_reply g.fitting; legal = g.legal }, each_at_its_reply es (history_of es) g.fitting)
 
-pub every_run : LowestIsLowest → EveryRunHasAHistory
-every_run law shape es w is l = let h = has_history law shape es w is l in (history_of es, h.0, h.1)
+pub every_run : EveryRunHasAHistory
+every_run shape es w is l = let h = has_history shape es w is l in (history_of es, h.0, h.1)

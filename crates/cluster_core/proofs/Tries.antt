@@ -11,7 +11,8 @@ use Rattle.model.specs.declared.op.Op.TheVariants.{Spawn, Open, Set, Unlock}
 use Rattle.model.specs.declared.reply.Reply.{Reply}
 use Rattle.model.specs.declared.reply.Reply.TheVariants.{Done, Again, NoLocks}
 use Rattle.model.specs.Limits.{IsNumber, most_processes, most_regions}
-use Rattle.model.specs.Locks.{IsOfNode, IsFree, IsLowestBlocker, LowestIsLowest, lowest_blocker}
+use Rattle.model.specs.Locks.{IsOfNode, IsFree, IsLowestBlocker, lowest_blocker}
+use Rattle.model.proofs.BlockerLaws.{lowest_is_lowest}
 use Rattle.model.specs.Descriptors.{after_spawn, after_open}
 use Rattle.model.specs.Table.{Table, Target, around, beside, target, lock_within, locked, regions_with, after_unlock}
 use Rattle.model.specs.Step.{Step, SetStep, AfterTests, Unblocked}
@@ -104,75 +105,74 @@ of_owner : (t : Table) (node incarnation file n i : ℕ) → n ≡ node → i �
 of_owner t node incarnation file n i same_node same_incarnation own =
     subst (λ (k : ℕ). IsOfNode (t.locks file) k i) (sym same_node) (subst (λ (k : ℕ). IsOfNode (t.locks file) node k) (sym same_incarnation) (own.locks file))
 
-module _ (law : LowestIsLowest) where
-  -- an open call is tried
-  pub tried_ends : (s : NodeState) (c : OpenCall) (op : Op) → IsNumber most_processes c.pid → IsOwn s.table s.node s.incarnation → IsReady s.table (process s c.pid) op c → Tried s c.number c.pid op (tried s c).state (tried s c).reply
-  tried_ends s c op pid_in own ready =
-      let h = s.table.locks c.file in
-      let p = process s c.pid in
-      let is = target_own s.table s.node s.incarnation c.pid (Some c.mode) ready.fd ready.kind ready.start ready.len (target_of c) pid_in own ready.passes in
-      let answer = lock_within s.table (target_of c) (Some c.mode) in
-      elim (lowest_blocker h c.owner c.span c.mode) as (λ x. MatchOption x (IsFree h c.owner c.span c.mode) (IsLowestBlocker h c.owner c.span c.mode) → Tried s c.number c.pid op (tried_against s c x).state (tried_against s c x).reply) [
-        | Some lock ↦ λ found. record {
-            continues = same_continues s (without_call s c.number).pending own;
-            calls = refl;
-            ends = inl (record { reply = Again lock; is_reply = refl; step = set_step s.table p op c (Again lock) s.table ready (found.blocks, refl); closed = refl });
-          }
-        | None ↦ λ free.
-          let out : Bool → Effect = λ b. if b then settled s c.number answer else requested s c in
-          elim (covers (s.files c.file).token c.span c.mode) as (λ b. Tried s c.number c.pid op (out b).state (out b).reply) [
-            | true ↦ record {
-                continues = settled_continues s c.number answer (lock_follows s.table s.node s.incarnation (target_of c) (Some c.mode) is own);
-                calls = refl;
-                ends = inl (settled_answers s c.number c.pid op answer (set_step s.table p op c answer.1 answer.0 ready (lock_step s.table (target_of c) c.mode free)));
-              }
-            | false ↦ record { continues = same_continues s s.pending own; calls = refl; ends = inr (record { no_reply = refl; table = refl }, refl) }
-          ]
-      ] (law h c.owner c.span c.mode (of_owner s.table s.node s.incarnation c.file c.owner.node c.owner.incarnation is.owner.node_is is.owner.incarnation_is own) is.span.ordered is.span.ends)
+-- an open call is tried
+pub tried_ends : (s : NodeState) (c : OpenCall) (op : Op) → IsNumber most_processes c.pid → IsOwn s.table s.node s.incarnation → IsReady s.table (process s c.pid) op c → Tried s c.number c.pid op (tried s c).state (tried s c).reply
+tried_ends s c op pid_in own ready =
+    let h = s.table.locks c.file in
+    let p = process s c.pid in
+    let is = target_own s.table s.node s.incarnation c.pid (Some c.mode) ready.fd ready.kind ready.start ready.len (target_of c) pid_in own ready.passes in
+    let answer = lock_within s.table (target_of c) (Some c.mode) in
+    elim (lowest_blocker h c.owner c.span c.mode) as (λ x. MatchOption x (IsFree h c.owner c.span c.mode) (IsLowestBlocker h c.owner c.span c.mode) → Tried s c.number c.pid op (tried_against s c x).state (tried_against s c x).reply) [
+      | Some lock ↦ λ found. record {
+          continues = same_continues s (without_call s c.number).pending own;
+          calls = refl;
+          ends = inl (record { reply = Again lock; is_reply = refl; step = set_step s.table p op c (Again lock) s.table ready (found.blocks, refl); closed = refl });
+        }
+      | None ↦ λ free.
+        let out : Bool → Effect = λ b. if b then settled s c.number answer else requested s c in
+        elim (covers (s.files c.file).token c.span c.mode) as (λ b. Tried s c.number c.pid op (out b).state (out b).reply) [
+          | true ↦ record {
+              continues = settled_continues s c.number answer (lock_follows s.table s.node s.incarnation (target_of c) (Some c.mode) is own);
+              calls = refl;
+              ends = inl (settled_answers s c.number c.pid op answer (set_step s.table p op c answer.1 answer.0 ready (lock_step s.table (target_of c) c.mode free)));
+            }
+          | false ↦ record { continues = same_continues s s.pending own; calls = refl; ends = inr (record { no_reply = refl; table = refl }, refl) }
+        ]
+    ] (lowest_is_lowest h c.owner c.span c.mode (of_owner s.table s.node s.incarnation c.file c.owner.node c.owner.incarnation is.owner.node_is is.owner.incarnation_is own) is.span.ordered is.span.ends)
 
-  -- a call that is closed again was not there
-  closed_again : (pending : List OpenCall) (c : OpenCall) → filter (λ d. not (d.number == c.number)) (pending ++ c ∷ []) ≡ filter (λ d. not (d.number == c.number)) pending
-  closed_again pending c =
-      let kept = filter (λ (d : OpenCall). not (d.number == c.number)) pending in
-      let drop : Bool → List OpenCall = λ b. if not b then c ∷ [] else [] in
-      filter-append (λ (d : OpenCall). not (d.number == c.number)) pending (c ∷ [])
-      ∙ ap (λ b. kept ++ drop b) (eq-eqb c.number c.number refl)
-      ∙ append-nil kept
+-- a call that is closed again was not there
+closed_again : (pending : List OpenCall) (c : OpenCall) → filter (λ d. not (d.number == c.number)) (pending ++ c ∷ []) ≡ filter (λ d. not (d.number == c.number)) pending
+closed_again pending c =
+    let kept = filter (λ (d : OpenCall). not (d.number == c.number)) pending in
+    let drop : Bool → List OpenCall = λ b. if not b then c ∷ [] else [] in
+    filter-append (λ (d : OpenCall). not (d.number == c.number)) pending (c ∷ [])
+    ∙ ap (λ b. kept ++ drop b) (eq-eqb c.number c.number refl)
+    ∙ append-nil kept
 
-  set_taken : (s : NodeState) (number pid fd : ℕ) (kind : Kind) (mode : Mode) (start len : ℤ) → IsNumber most_processes pid → IsOwn s.table s.node s.incarnation → Taken s number pid (Set fd kind mode start len) (called s number pid (Set fd kind mode start len)).state (called s number pid (Set fd kind mode start len)).reply
-  set_taken s number pid fd kind mode start len pid_in own =
-      let p = process s pid in
-      let op = Set fd kind mode start len in
-      let found = target s.table p (Some mode) fd kind start len in
-      elim found as (λ x. found ≡ x → Taken s number pid op (lock_call s number pid mode x).state (lock_call s number pid mode x).reply) [
-        | Err refusal ↦ λ h. record {
-            continues = same_continues s (without_call s number).pending own;
-            calls = refl;
-            ends = inl (record {
-              reply = refusal;
-              is_reply = refl;
-              step = let Q : Result Target Reply → Type 0 = λ x. AfterTests s.table x refusal s.table (SetStep s.table mode refusal s.table) in subst Q (sym h) (refl, refl);
-              closed = refl;
-            });
-          }
-        | Ok about ↦ λ h.
-          let c : OpenCall = record { number = number; pid = pid; file = about.file; owner = about.owner; mode = mode; span = about.span } in
-          let next = record s { pending = s.pending ++ c ∷ [] } in
-          let ready : IsReady s.table p op c = record { fd = fd; kind = kind; start = start; len = len; is_set = refl; passes = h } in
-          let t = tried_ends next c op pid_in own (record { fd = fd; kind = kind; start = start; len = len; is_set = refl; passes = h }) in
-          record {
-            continues = record { node = t.continues.node; incarnation = t.continues.incarnation; follows = t.continues.follows };
-            calls = t.calls;
-            ends = elim t.ends [
-              | inl a ↦ inl (record { reply = a.reply; is_reply = a.is_reply; step = a.step; closed = a.closed ∙ closed_again s.pending c })
-              | inr q ↦ inr (record { silent = record { no_reply = q.0.no_reply; table = q.0.table }; call = c; number_is = refl; pid_is = refl; ready = ready; pending = q.1 })
-            ];
-          }
-      ] refl
+set_taken : (s : NodeState) (number pid fd : ℕ) (kind : Kind) (mode : Mode) (start len : ℤ) → IsNumber most_processes pid → IsOwn s.table s.node s.incarnation → Taken s number pid (Set fd kind mode start len) (called s number pid (Set fd kind mode start len)).state (called s number pid (Set fd kind mode start len)).reply
+set_taken s number pid fd kind mode start len pid_in own =
+    let p = process s pid in
+    let op = Set fd kind mode start len in
+    let found = target s.table p (Some mode) fd kind start len in
+    elim found as (λ x. found ≡ x → Taken s number pid op (lock_call s number pid mode x).state (lock_call s number pid mode x).reply) [
+      | Err refusal ↦ λ h. record {
+          continues = same_continues s (without_call s number).pending own;
+          calls = refl;
+          ends = inl (record {
+            reply = refusal;
+            is_reply = refl;
+            step = let Q : Result Target Reply → Type 0 = λ x. AfterTests s.table x refusal s.table (SetStep s.table mode refusal s.table) in subst Q (sym h) (refl, refl);
+            closed = refl;
+          });
+        }
+      | Ok about ↦ λ h.
+        let c : OpenCall = record { number = number; pid = pid; file = about.file; owner = about.owner; mode = mode; span = about.span } in
+        let next = record s { pending = s.pending ++ c ∷ [] } in
+        let ready : IsReady s.table p op c = record { fd = fd; kind = kind; start = start; len = len; is_set = refl; passes = h } in
+        let t = tried_ends next c op pid_in own (record { fd = fd; kind = kind; start = start; len = len; is_set = refl; passes = h }) in
+        record {
+          continues = record { node = t.continues.node; incarnation = t.continues.incarnation; follows = t.continues.follows };
+          calls = t.calls;
+          ends = elim t.ends [
+            | inl a ↦ inl (record { reply = a.reply; is_reply = a.is_reply; step = a.step; closed = a.closed ∙ closed_again s.pending c })
+            | inr q ↦ inr (record { silent = record { no_reply = q.0.no_reply; table = q.0.table }; call = c; number_is = refl; pid_is = refl; ready = ready; pending = q.1 })
+          ];
+        }
+    ] refl
 
-  -- a call is taken
-  pub called_ends : (s : NodeState) (number pid : ℕ) (op : Op) → IsNumber most_processes pid → IsOwn s.table s.node s.incarnation → Taken s number pid op (called s number pid op).state (called s number pid op).reply
-  called_ends s number pid Spawn pid_in own = settled_taken s number pid Spawn (beside s.table (process s pid) (after_spawn (around s.table (process s pid)) pid)) (refl, refl) (spawn_follows s.table s.node s.incarnation pid own)
-  called_ends s number pid (Open file access) pid_in own = settled_taken s number pid (Open file access) (beside s.table (process s pid) (after_open (around s.table (process s pid)) pid file access)) (refl, refl) (open_follows s.table s.node s.incarnation pid file access pid_in own)
-  called_ends s number pid (Set fd kind mode start len) pid_in own = set_taken s number pid fd kind mode start len pid_in own
-  called_ends s number pid (Unlock fd kind start len) pid_in own = settled_taken s number pid (Unlock fd kind start len) (after_unlock s.table (target s.table (process s pid) None fd kind start len)) (refl, refl) (unlock_follows s.table s.node s.incarnation pid fd kind start len pid_in own)
+-- a call is taken
+pub called_ends : (s : NodeState) (number pid : ℕ) (op : Op) → IsNumber most_processes pid → IsOwn s.table s.node s.incarnation → Taken s number pid op (called s number pid op).state (called s number pid op).reply
+called_ends s number pid Spawn pid_in own = settled_taken s number pid Spawn (beside s.table (process s pid) (after_spawn (around s.table (process s pid)) pid)) (refl, refl) (spawn_follows s.table s.node s.incarnation pid own)
+called_ends s number pid (Open file access) pid_in own = settled_taken s number pid (Open file access) (beside s.table (process s pid) (after_open (around s.table (process s pid)) pid file access)) (refl, refl) (open_follows s.table s.node s.incarnation pid file access pid_in own)
+called_ends s number pid (Set fd kind mode start len) pid_in own = set_taken s number pid fd kind mode start len pid_in own
+called_ends s number pid (Unlock fd kind start len) pid_in own = settled_taken s number pid (Unlock fd kind start len) (after_unlock s.table (target s.table (process s pid) None fd kind start len)) (refl, refl) (unlock_follows s.table s.node s.incarnation pid fd kind start len pid_in own)
