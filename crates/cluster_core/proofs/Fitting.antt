@@ -13,8 +13,8 @@ use Rattle.cluster_core.specs.declared.item.Item.{Item}
 use Rattle.cluster_core.specs.declared.item.Item.TheVariants.{Answered, Gone}
 use Rattle.cluster_core.specs.Histories.{position_of, call_id, Rising, EntryAt, IsCalledAt, IsRepliedAt, IsOpenAt, IsPlaced, HasCall, Fits, OneReply, StandsAtReply, EachAtItsReply}
 use Rattle.cluster_core.specs.Placement.{is_named, called_by, find_call, item_of, items_at, history_from, history_of}
-use Rattle.cluster_core.proofs.Places.{get_keeps, get_last, get_push}
-use Rattle.cluster_core.proofs.Entries.{IsNamed, named_push, entry_within, called_keeps, called_last, replied_keeps, replied_last, replied_push, replied_within, none_replied}
+use Rattle.cluster_core.proofs.Places.{slice_get-keeps, slice_get-last, slice_get-push}
+use Rattle.cluster_core.proofs.Entries.{IsNamed, named-push, entry_at-within, called_at-keeps, called_at-last, replied_at-keeps, replied_at-last, replied_at-push, replied_at-within, none_replied}
 
 pub call_is : (a b : CallId) → same_call a b ≡ true → a ≡ b
 call_is a b h =
@@ -62,12 +62,12 @@ pub record Called (es : List Entry) (id : CallId) (pid : ℕ) (op : Op) : Type 0
   pub found : find_call es id ≡ Some (pid, op)
 
 pub called-keeps : (es fs : List Entry) (id : CallId) (pid : ℕ) (op : Op) → Called es id pid op → Called (es ++ fs) id pid op
-called-keeps es fs id pid op c = record { at = c.at; there = called_keeps es fs id pid op c.at c.there; found = find_call-keeps es fs id (pid, op) c.found }
+called-keeps es fs id pid op c = record { at = c.at; there = called_at-keeps es fs id pid op c.at c.there; found = find_call-keeps es fs id (pid, op) c.found }
 
 pub called-last : (es : List Entry) (e : Entry) (id : CallId) (pid : ℕ) (op : Op) → e.event ≡ Call id.node pid op → e.call ≡ Some id → (IsNamed es id → ⊥) → Called (es ++ e ∷ []) id pid op
 called-last es e id pid op event named fresh = record {
   at = length es + 1;
-  there = called_last es e id pid op event named;
+  there = called_at-last es e id pid op event named;
   found =
       find_call-after es (e ∷ []) id fresh
       ∙ ap (λ b. cond b (called_by e.event None) None) (is_named-itself id e.call named)
@@ -79,13 +79,13 @@ abbrev pub IsExact : List Entry → Item → Type 0
 IsExact es (Answered at id pid op reply) = (call_at : ℕ) × IsCalledAt es id pid op call_at × (call_at ≤ at) × IsRepliedAt es id reply at
 IsExact es (Gone at node incarnation) = ⊥
 
-exact_keeps : (es fs : List Entry) (i : Item) → IsExact es i → IsExact (es ++ fs) i
-exact_keeps es fs (Answered at id pid op reply) x = (x.0, called_keeps es fs id pid op x.0 x.1, x.2, replied_keeps es fs id reply at x.3)
-exact_keeps es fs (Gone at node incarnation) x = x
+exact-keeps : (es fs : List Entry) (i : Item) → IsExact es i → IsExact (es ++ fs) i
+exact-keeps es fs (Answered at id pid op reply) x = (x.0, called_at-keeps es fs id pid op x.0 x.1, x.2, replied_at-keeps es fs id reply at x.3)
+exact-keeps es fs (Gone at node incarnation) x = x
 
-exact_within : (es : List Entry) (i : Item) → IsExact es i → position_of i ≤ length es
-exact_within es (Answered at id pid op reply) x = replied_within es id reply at x.3
-exact_within es (Gone at node incarnation) x = absurd x
+exact-within : (es : List Entry) (i : Item) → IsExact es i → position_of i ≤ length es
+exact-within es (Answered at id pid op reply) x = replied_at-within es id reply at x.3
+exact-within es (Gone at node incarnation) x = absurd x
 
 -- each answered call stands in the history, at its reply, and nothing else does
 pub record Fitting (es : List Entry) (h : List Item) : Type 0 where
@@ -110,14 +110,14 @@ same_reply : (a b : CallId) (r s : Reply) → ◌≡◌ {A = Option (CallId × R
 same_reply a b r s h = let both : ◌≡◌ {A = CallId × Reply} (a, r) (b, s) = cc in (ap (λ (x : CallId × Reply). x.0) both, ap (λ (x : CallId × Reply). x.1) both)
 
 has_call-keeps : (h g : List Item) (id : CallId) (reply : Reply) → HasCall h id reply → HasCall (h ++ g) id reply
-has_call-keeps h g id reply c = (c.0, c.1, c.2, c.3, get_keeps h g c.0 (Answered c.1 id c.2 c.3 reply) c.4)
+has_call-keeps h g id reply c = (c.0, c.1, c.2, c.3, slice_get-keeps h g c.0 (Answered c.1 id c.2 c.3 reply) c.4)
 
 -- an entry with no reply adds no item
 fitting_none : (es : List Entry) (h : List Item) (e : Entry) → e.reply ≡ None → Fitting es h → Fitting (es ++ e ∷ []) h
 fitting_none es h e n f = record {
   rising = f.rising;
-  exact = λ k i g. exact_keeps es (e ∷ []) i (f.exact k i g);
-  answered = λ id reply at r. elim (replied_push es e id reply at r) [
+  exact = λ k i g. exact-keeps es (e ∷ []) i (f.exact k i g);
+  answered = λ id reply at r. elim (replied_at-push es e id reply at r) [
     | inl old ↦ f.answered id reply at old
     | inr new ↦ absurd (no_reply e.reply (id, reply) n new.1)
   ];
@@ -127,34 +127,34 @@ fitting_none es h e n f = record {
 fitting_one : (es : List Entry) (h : List Item) (e : Entry) (id : CallId) (pid : ℕ) (op : Op) (reply : Reply) → e.reply ≡ Some (id, reply) → Called (es ++ e ∷ []) id pid op → Fitting es h → Fitting (es ++ e ∷ []) (h ++ Answered (length es + 1) id pid op reply ∷ [])
 fitting_one es h e id pid op reply is c f =
     let new : Item = Answered (length es + 1) id pid op reply in
-    let here : IsExact (es ++ e ∷ []) new = (c.at, c.there, called_within, replied_last es e id reply is) in
+    let here : IsExact (es ++ e ∷ []) new = (c.at, c.there, called_within, replied_at-last es e id reply is) in
     record {
-      rising = λ j k a b lt x y. elim (get_push h new k b y) [
-        | inl old_b ↦ elim (get_push h new j a x) [
+      rising = λ j k a b lt x y. elim (slice_get-push h new k b y) [
+        | inl old_b ↦ elim (slice_get-push h new j a x) [
             | inl old_a ↦ f.rising j k a b lt old_a old_b
             | inr last_a ↦ absurd (too_far j k b lt last_a.0 old_b)
           ]
-        | inr last_b ↦ elim (get_push h new j a x) [
-            | inl old_a ↦ below a b (exact_within es a (f.exact j a old_a)) (ap position_of (sym last_b.1))
+        | inr last_b ↦ elim (slice_get-push h new j a x) [
+            | inl old_a ↦ below a b (exact-within es a (f.exact j a old_a)) (ap position_of (sym last_b.1))
             | inr last_a ↦ absurd (both_last j k lt last_a.0 last_b.0)
           ]
       ];
-      exact = λ k i g. elim (get_push h new k i g) [
-        | inl old ↦ exact_keeps es (e ∷ []) i (f.exact k i old)
+      exact = λ k i g. elim (slice_get-push h new k i g) [
+        | inl old ↦ exact-keeps es (e ∷ []) i (f.exact k i old)
         | inr last ↦ subst (IsExact (es ++ e ∷ [])) last.1 here
       ];
-      answered = λ other r at said. elim (replied_push es e other r at said) [
+      answered = λ other r at said. elim (replied_at-push es e other r at said) [
         | inl old ↦ has_call-keeps h (new ∷ []) other r (f.answered other r at old)
         | inr last ↦
           let both = same_reply id other reply r (sym is ∙ last.1) in
           let P : CallId → Type 0 = λ x. HasCall (h ++ new ∷ []) x r in
           let Q : Reply → Type 0 = λ x. HasCall (h ++ new ∷ []) id x in
-          subst P both.0 (subst Q both.1 (length h, length es + 1, pid, op, get_last h new))
+          subst P both.0 (subst Q both.1 (length h, length es + 1, pid, op, slice_get-last h new))
       ];
     }
   where
     called_within : c.at ≤ length es + 1
-    called_within = let w = entry_within (es ++ e ∷ []) c.at c.there.calling c.there.there in let long = simp length-append at w in omega arith
+    called_within = let w = entry_at-within (es ++ e ∷ []) c.at c.there.calling c.there.there in let long = simp length-append at w in omega arith
     too_far : (j k : ℕ) (b : Item) → j < k → j ≡ length h → slice_get h k ≡ Some b → ⊥
     too_far j k b lt last old = let w = slice_get_within h k b old in omega arith
     below : (a b : Item) → position_of a ≤ length es → position_of b ≡ length es + 1 → position_of a < position_of b
@@ -167,9 +167,9 @@ abbrev pub Answers : List Entry → Option (CallId × Reply) → Type 0
 Answers es None = Unit {0}
 Answers es (Some r) = (pid : ℕ) × (op : Op) × Called es r.0 pid op
 
-pub fitting_push : (es : List Entry) (h : List Item) (e : Entry) (o : Option (CallId × Reply)) → e.reply ≡ o → Answers (es ++ e ∷ []) o → Fitting es h → Fitting (es ++ e ∷ []) (h ++ items_at (es ++ e ∷ []) (length es + 1) o)
-fitting_push es h e None is a f = subst (Fitting (es ++ e ∷ [])) (sym (append-nil h)) (fitting_none es h e is f)
-fitting_push es h e (Some r) is a f =
+pub fitting-push : (es : List Entry) (h : List Item) (e : Entry) (o : Option (CallId × Reply)) → e.reply ≡ o → Answers (es ++ e ∷ []) o → Fitting es h → Fitting (es ++ e ∷ []) (h ++ items_at (es ++ e ∷ []) (length es + 1) o)
+fitting-push es h e None is a f = subst (Fitting (es ++ e ∷ [])) (sym (append-nil h)) (fitting_none es h e is f)
+fitting-push es h e (Some r) is a f =
     let P : Option (ℕ × Op) → Type 0 = λ x. Fitting (es ++ e ∷ []) (h ++ item_of (length es + 1) r.0 r.1 x) in
     subst P (sym a.2.found) (fitting_one es h e r.0 a.0 a.1 r.1 is a.2 f)
 

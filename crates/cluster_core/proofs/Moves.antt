@@ -20,18 +20,18 @@ use Rattle.node_core.specs.Calls.{called, after_call}
 use Rattle.node_core.specs.Commands.{remembered, in_order, before, after_grant, granted, delivered}
 use Rattle.cluster_core.specs.Histories.{IsRepliedAt}
 use Rattle.cluster_core.specs.Next.{entry}
-use Rattle.cluster_core.proofs.Entries.{IsNamed, Unanswered, unanswered_push, named_push}
+use Rattle.cluster_core.proofs.Entries.{IsNamed, Unanswered, unanswered-push, named-push}
 use Rattle.cluster_core.proofs.Fitting.{Called, called-keeps, called-last}
 use Rattle.cluster_core.proofs.NodeTables.{IsOwn, same_follows}
 use Rattle.cluster_core.proofs.Tries.{IsReady, Continues, IsAnswered, IsSilent, IsOpened, Tried, tried_ends, called_ends}
-use Rattle.cluster_core.proofs.Nodes.{IsOpen, Holds, Moves, IsExplained, open_continues, opened, all_wait, others_wait, found_open}
+use Rattle.cluster_core.proofs.Nodes.{IsOpen, Holds, Moves, IsExplained, open-continues, opened, all_wait, others_wait, found_open}
 
 none_is : (o : Option CallId) (id : CallId) → o ≡ None → o ≡ Some id → ⊥
 none_is o id n h = cc
 
 -- an entry that names no call counts none
 same_numbers : (past : List Entry) (e : Entry) (s u : NodeState) → Continues s u → u.calls ≡ s.calls → e.call ≡ None → Holds past s → (id : CallId) → IsNamed (past ++ e ∷ []) id → id.node ≡ u.node → id.incarnation ≡ u.incarnation → id.number ≤ u.calls
-same_numbers past e s u g calls none holds id named node incarnation = elim (named_push past e id named) [
+same_numbers past e s u g calls none holds id named node incarnation = elim (named-push past e id named) [
   | inl old ↦ let below = holds.numbers id old (node ∙ g.node) (incarnation ∙ g.incarnation) in omega arith
   | inr new ↦ absurd (none_is e.call id none new)
 ]
@@ -171,11 +171,11 @@ module _ (past : List Entry) (s : NodeState) (node pid : ℕ) (op : Op) (holds :
             | inl a ↦ All-same (IsOpen (past ++ e ∷ []) u) u.pending (without_call s number).pending a.closed (others_wait past e s u number a.reply g a.is_reply holds.waiting)
             | inr o ↦
               let c = o.call in
-              let opens : IsOpen (past ++ e ∷ []) s c = opened past e s number pid op c o.number_is o.pid_is o.ready is_process here (unanswered_push past e id fresh (λ reply h. none_reply e.reply id reply o.silent.no_reply h)) in
+              let opens : IsOpen (past ++ e ∷ []) s c = opened past e s number pid op c o.number_is o.pid_is o.ready is_process here (unanswered-push past e id fresh (λ reply h. none_reply e.reply id reply o.silent.no_reply h)) in
               All-same (IsOpen (past ++ e ∷ []) u) u.pending (s.pending ++ c ∷ []) o.pending
-                (All-push (IsOpen (past ++ e ∷ []) u) s.pending c (all_wait past e s u s.pending g o.silent.no_reply holds.waiting) (open_continues (past ++ e ∷ []) s u c g opens))
+                (All-push (IsOpen (past ++ e ∷ []) u) s.pending c (all_wait past e s u s.pending g o.silent.no_reply holds.waiting) (open-continues (past ++ e ∷ []) s u c g opens))
           ];
-          numbers = λ other n same_node same_incarnation. elim (named_push past e other n) [
+          numbers = λ other n same_node same_incarnation. elim (named-push past e other n) [
             | inl old ↦ let below = holds.numbers other old (same_node ∙ g.node) (same_incarnation ∙ g.incarnation) in let calls = t.calls in omega arith
             | inr new ↦ let is : number ≡ other.number = ap (λ (x : CallId). x.number) (some_is id other new) in let calls = t.calls in omega arith
           ];

@@ -16,7 +16,7 @@ use Rattle.messages.specs.declared.entry.Entry.{Entry}
 use Rattle.node_core.specs.declared.open_call.OpenCall.{OpenCall}
 use Rattle.node_core.specs.State.{NodeState, without_call, process, id_of, target_of}
 use Rattle.cluster_core.specs.Histories.{IsCalledAt, IsRepliedAt, caller}
-use Rattle.cluster_core.proofs.Entries.{IsNamed, Unanswered, unanswered_push, named_push, named_called, none_named}
+use Rattle.cluster_core.proofs.Entries.{IsNamed, Unanswered, unanswered-push, named-push, named_called, none_named}
 use Rattle.cluster_core.proofs.Fitting.{Called, called-keeps, called-last}
 use Rattle.cluster_core.proofs.NodeTables.{IsOwn, GoesOn, Follows, own_empty, same_follows, target_goes_on}
 use Rattle.cluster_core.proofs.Tries.{IsReady, Continues, IsAnswered, IsSilent, IsOpened, Tried, Taken}
@@ -42,30 +42,30 @@ pub same_process : (s u : NodeState) (pid : ℕ) → u.node ≡ s.node → u.inc
 same_process s u pid node incarnation = λ i. record { node = node i; incarnation = incarnation i; pid = pid }
 
 -- an open call stays open while the run goes on and does not answer it
-pub open_push : (past : List Entry) (e : Entry) (s : NodeState) (c : OpenCall) → ((reply : Reply) → e.reply ≡ Some (id_of s c.number, reply) → ⊥) → IsOpen past s c → IsOpen (past ++ e ∷ []) s c
-open_push past e s c other o = record {
+pub open-push : (past : List Entry) (e : Entry) (s : NodeState) (c : OpenCall) → ((reply : Reply) → e.reply ≡ Some (id_of s c.number, reply) → ⊥) → IsOpen past s c → IsOpen (past ++ e ∷ []) s c
+open-push past e s c other o = record {
   op = o.op;
   ready = o.ready;
   is_process = o.is_process;
   called = called-keeps past (e ∷ []) (id_of s c.number) c.pid o.op o.called;
-  unanswered = unanswered_push past e (id_of s c.number) o.unanswered other;
+  unanswered = unanswered-push past e (id_of s c.number) o.unanswered other;
 }
 
 -- and while its node goes on
-pub ready_continues : (s u : NodeState) (pid : ℕ) (op : Op) (c : OpenCall) → Continues s u → IsReady s.table (process s pid) op c → IsReady u.table (process u pid) op c
-ready_continues s u pid op c g r =
+pub ready-continues : (s u : NodeState) (pid : ℕ) (op : Op) (c : OpenCall) → Continues s u → IsReady s.table (process s pid) op c → IsReady u.table (process u pid) op c
+ready-continues s u pid op c g r =
     let P : Process → Type 0 = λ p. IsReady u.table p op c in
     subst P (sym (same_process s u pid g.node g.incarnation)) (record {
       fd = r.fd; kind = r.kind; start = r.start; len = r.len; is_set = r.is_set;
       passes = target_goes_on s.table u.table s.node s.incarnation pid (Some c.mode) r.fd r.kind r.start r.len (target_of c) g.follows.goes_on r.passes;
     })
 
-pub open_continues : (past : List Entry) (s u : NodeState) (c : OpenCall) → Continues s u → IsOpen past s c → IsOpen past u c
-open_continues past s u c g o =
+pub open-continues : (past : List Entry) (s u : NodeState) (c : OpenCall) → Continues s u → IsOpen past s c → IsOpen past u c
+open-continues past s u c g o =
     let same = sym (same_id s u c.number g.node g.incarnation) in
     record {
       op = o.op;
-      ready = ready_continues s u c.pid o.op c g o.ready;
+      ready = ready-continues s u c.pid o.op c g o.ready;
       is_process = subst (λ (p : Process). IsProcess p) (sym (same_process s u c.pid g.node g.incarnation)) o.is_process;
       called = subst (λ (id : CallId). Called past id c.pid o.op) same o.called;
       unanswered = subst (λ (id : CallId). Unanswered past id) same o.unanswered;
@@ -78,7 +78,7 @@ all_wait past e s u calls g none waiting = All-weaker (IsOpen past s) (IsOpen (p
     silent : (id : CallId) (reply : Reply) → e.reply ≡ Some (id, reply) → ⊥
     silent id reply h = let n = none in cc
     each : (c : OpenCall) → IsOpen past s c → IsOpen (past ++ e ∷ []) u c
-    each c o = open_continues (past ++ e ∷ []) s u c g (open_push past e s c (silent (id_of s c.number)) o)
+    each c o = open-continues (past ++ e ∷ []) s u c g (open-push past e s c (silent (id_of s c.number)) o)
 
 same_name : (o : Option (CallId × Reply)) (a b : CallId) (r q : Reply) → o ≡ Some (a, r) → o ≡ Some (b, q) → a ≡ b
 same_name o a b r q x y = let both : ◌≡◌ {A = CallId × Reply} (a, r) (b, q) = cc in ap (λ (p : CallId × Reply). p.0) both
@@ -98,7 +98,7 @@ others_wait past e s u number reply g is waiting =
     other : (c : OpenCall) → not (c.number == number) ≡ true → (r : Reply) → e.reply ≡ Some (id_of s c.number, r) → ⊥
     other c h r said = apart c h (ap (λ (id : CallId). id.number) (same_name e.reply (id_of s c.number) (id_of s number) r reply said is))
     each : (c : OpenCall) → IsOpen past s c → not (c.number == number) ≡ true → IsOpen (past ++ e ∷ []) u c
-    each c o h = open_continues (past ++ e ∷ []) s u c g (open_push past e s c (other c h) o)
+    each c o h = open-continues (past ++ e ∷ []) s u c g (open-push past e s c (other c h) o)
     All-both : ((c : OpenCall) → IsOpen past s c → not (c.number == number) ≡ true → IsOpen (past ++ e ∷ []) u c) → (cs : List OpenCall) → All (IsOpen past s) cs → All (λ c. not (c.number == number) ≡ true) cs → All (IsOpen (past ++ e ∷ []) u) cs
     All-both f cs a b k d lt = f _ (a k d lt) (b k d lt)
 
