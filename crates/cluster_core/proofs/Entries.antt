@@ -1,14 +1,21 @@
 -- Calls and replies of a run that goes on by one entry.
-use Rattle.std.proofs.Common.{◌≡◌, ℕ, zero, suc, ◌+◌, ◌<◌, ◌≤◌, Bool, true, false, cond, ◌⊎◌, inl, inr, refl, sym, ◌∙◌, ap, subst, arith, List, [], ◌∷◌, ◌++◌, length, slice_get, Option, Some, None}
-use Rattle.std.proofs.lemmas.Option.{slice_get_within}
+use Rattle.std.proofs.Common.{◌≡◌, ℕ, ◌+◌, ◌≤◌, ◌⊎◌, inl, inr, refl, sym, ◌∙◌, ap, arith, List, [], ◌∷◌, ◌++◌, length, slice_get, Option, Some, None}
+use Rattle.std.proofs.lemmas.Option.{slice_get_within, none-some}
 use Rattle.model.specs.declared.call.CallId.{CallId}
 use Rattle.model.specs.declared.op.Op.{Op}
 use Rattle.model.specs.declared.reply.Reply.{Reply}
-use Rattle.messages.specs.declared.event.Event.{Event}
-use Rattle.messages.specs.declared.event.Event.TheVariants.{Call, Deliver}
+use Rattle.messages.specs.declared.event.Event.TheVariants.{Call}
 use Rattle.messages.specs.declared.entry.Entry.{Entry}
 use Rattle.cluster_core.specs.Histories.{EntryAt, IsCalledAt, IsRepliedAt, OneCall, OneReply}
 use Rattle.cluster_core.proofs.Places.{slice_get-keeps, slice_get-last, slice_get-push}
+
+-- an answer that is not there
+pub not_there : {A : Type 0} (o : Option A) (x : A) → o ≡ None → o ≡ Some x → ⊥
+not_there o x n h = none-some x (sym n ∙ h)
+
+-- two answers that are one
+pub same_answer : (o : Option (CallId × Reply)) (a b : CallId) (r q : Reply) → o ≡ Some (a, r) → o ≡ Some (b, q) → (a ≡ b) × (r ≡ q)
+same_answer o a b r q x y = let both : ◌≡◌ {A = CallId × Reply} (a, r) (b, q) = cc in (ap (λ (p : CallId × Reply). p.0) both, ap (λ (p : CallId × Reply). p.1) both)
 
 pub entry_at-keeps : (es fs : List Entry) (at : ℕ) (e : Entry) → EntryAt es at e → EntryAt (es ++ fs) at e
 entry_at-keeps es fs at e h = (h.0, h.1, slice_get-keeps es fs h.0 e h.2)
@@ -81,26 +88,26 @@ unanswered-push es e id none new reply at r = elim (replied_at-push es e id repl
 pub one_call-push : (es : List Entry) (e : Entry) → OneCall es → ((id : CallId) → e.call ≡ Some id → IsNamed es id → ⊥) → OneCall (es ++ e ∷ [])
 one_call-push es e one fresh id p q o u j k a b = elim (called_at-push es e id p o j a) [
   | inl first ↦ elim (called_at-push es e id q u k b) [
-      | inl second ↦ one id p q o u j k first second
-      | inr second ↦ absurd (fresh id second.1 (named_called es id p o j first))
-    ]
+    | inl second ↦ one id p q o u j k first second
+    | inr second ↦ absurd (fresh id second.1 (named_called es id p o j first))
+  ]
   | inr first ↦ elim (called_at-push es e id q u k b) [
-      | inl second ↦ absurd (fresh id first.1 (named_called es id q u k second))
-      | inr second ↦ first.0 ∙ sym second.0
-    ]
+    | inl second ↦ absurd (fresh id first.1 (named_called es id q u k second))
+    | inr second ↦ first.0 ∙ sym second.0
+  ]
 ]
 
 -- a call has one reply
 pub one_reply-push : (es : List Entry) (e : Entry) → OneReply es → ((id : CallId) (reply : Reply) → e.reply ≡ Some (id, reply) → Unanswered es id) → OneReply (es ++ e ∷ [])
 one_reply-push es e one fresh id r q j k a b = elim (replied_at-push es e id r j a) [
   | inl first ↦ elim (replied_at-push es e id q k b) [
-      | inl second ↦ one id r q j k first second
-      | inr second ↦ absurd (fresh id q second.1 r j first)
-    ]
+    | inl second ↦ one id r q j k first second
+    | inr second ↦ absurd (fresh id q second.1 r j first)
+  ]
   | inr first ↦ elim (replied_at-push es e id q k b) [
-      | inl second ↦ absurd (fresh id r first.1 q k second)
-      | inr second ↦ first.0 ∙ sym second.0
-    ]
+    | inl second ↦ absurd (fresh id r first.1 q k second)
+    | inr second ↦ first.0 ∙ sym second.0
+  ]
 ]
 
 -- in the empty run nothing is called or answered

@@ -1,5 +1,5 @@
 -- The history grows with the run, each call at its reply.
-use Rattle.std.proofs.Common.{◌≡◌, ℕ, zero, suc, ◌+◌, ◌<◌, ◌≤◌, Bool, true, false, cond, ◌⊎◌, inl, inr, refl, sym, ◌∙◌, ap, subst, arith, List, [], ◌∷◌, ◌++◌, length, length-append, append-nil, append_assoc, slice_get, Option, Some, None}
+use Rattle.std.proofs.Common.{◌≡◌, ℕ, zero, suc, ◌+◌, ◌<◌, ◌≤◌, Bool, true, false, cond, inl, inr, refl, sym, ◌∙◌, ap, subst, arith, List, [], ◌∷◌, ◌++◌, length, length-append, append-nil, append_assoc, slice_get, Option, Some, None}
 use Rattle.std.proofs.lemmas.Option.{slice_get_within}
 use Rattle.std.proofs.lemmas.Bool.{and_parts, and_from, eqb-true, eq-eqb, cases_order, false≢true}
 use Rattle.model.specs.declared.call.CallId.{CallId}
@@ -11,10 +11,10 @@ use Rattle.messages.specs.declared.entry.Entry.{Entry}
 use Rattle.messages.specs.Messages.{same_call}
 use Rattle.cluster_core.specs.declared.item.Item.{Item}
 use Rattle.cluster_core.specs.declared.item.Item.TheVariants.{Answered, Gone}
-use Rattle.cluster_core.specs.Histories.{position_of, call_id, Rising, EntryAt, IsCalledAt, IsRepliedAt, IsOpenAt, IsPlaced, HasCall, Fits, OneReply, StandsAtReply, EachAtItsReply}
+use Rattle.cluster_core.specs.Histories.{position_of, call_id, Rising, IsCalledAt, IsRepliedAt, IsPlaced, HasCall, Fits, OneReply, StandsAtReply, EachAtItsReply}
 use Rattle.cluster_core.specs.Placement.{is_named, called_by, find_call, item_of, items_at, history_from, history_of}
 use Rattle.cluster_core.proofs.Places.{slice_get-keeps, slice_get-last, slice_get-push}
-use Rattle.cluster_core.proofs.Entries.{IsNamed, named-push, entry_at-within, called_at-keeps, called_at-last, replied_at-keeps, replied_at-last, replied_at-push, replied_at-within, none_replied}
+use Rattle.cluster_core.proofs.Entries.{not_there, same_answer, IsNamed, entry_at-within, called_at-keeps, called_at-last, replied_at-keeps, replied_at-last, replied_at-push, replied_at-within, none_replied}
 
 pub call_is : (a b : CallId) → same_call a b ≡ true → a ≡ b
 call_is a b h =
@@ -103,12 +103,6 @@ fitting_empty = record {
     none : (k : ℕ) (i : Item) → slice_get [] k ≡ Some i → ⊥
     none k i h = cc
 
-no_reply : {A : Type 0} (o : Option A) (x : A) → o ≡ None → o ≡ Some x → ⊥
-no_reply o x n h = cc
-
-same_reply : (a b : CallId) (r s : Reply) → ◌≡◌ {A = Option (CallId × Reply)} (Some (a, r)) (Some (b, s)) → (a ≡ b) × (r ≡ s)
-same_reply a b r s h = let both : ◌≡◌ {A = CallId × Reply} (a, r) (b, s) = cc in (ap (λ (x : CallId × Reply). x.0) both, ap (λ (x : CallId × Reply). x.1) both)
-
 has_call-keeps : (h g : List Item) (id : CallId) (reply : Reply) → HasCall h id reply → HasCall (h ++ g) id reply
 has_call-keeps h g id reply c = (c.0, c.1, c.2, c.3, slice_get-keeps h g c.0 (Answered c.1 id c.2 c.3 reply) c.4)
 
@@ -119,7 +113,7 @@ fitting_none es h e n f = record {
   exact = λ k i g. exact-keeps es (e ∷ []) i (f.exact k i g);
   answered = λ id reply at r. elim (replied_at-push es e id reply at r) [
     | inl old ↦ f.answered id reply at old
-    | inr new ↦ absurd (no_reply e.reply (id, reply) n new.1)
+    | inr new ↦ absurd (not_there e.reply (id, reply) n new.1)
   ];
 }
 
@@ -131,13 +125,13 @@ fitting_one es h e id pid op reply is c f =
     record {
       rising = λ j k a b lt x y. elim (slice_get-push h new k b y) [
         | inl old_b ↦ elim (slice_get-push h new j a x) [
-            | inl old_a ↦ f.rising j k a b lt old_a old_b
-            | inr last_a ↦ absurd (too_far j k b lt last_a.0 old_b)
-          ]
+          | inl old_a ↦ f.rising j k a b lt old_a old_b
+          | inr last_a ↦ absurd (too_far j k b lt last_a.0 old_b)
+        ]
         | inr last_b ↦ elim (slice_get-push h new j a x) [
-            | inl old_a ↦ below a b (exact-within es a (f.exact j a old_a)) (ap position_of (sym last_b.1))
-            | inr last_a ↦ absurd (both_last j k lt last_a.0 last_b.0)
-          ]
+          | inl old_a ↦ below a b (exact-within es a (f.exact j a old_a)) (ap position_of (sym last_b.1))
+          | inr last_a ↦ absurd (both_last j k lt last_a.0 last_b.0)
+        ]
       ];
       exact = λ k i g. elim (slice_get-push h new k i g) [
         | inl old ↦ exact-keeps es (e ∷ []) i (f.exact k i old)
@@ -146,19 +140,22 @@ fitting_one es h e id pid op reply is c f =
       answered = λ other r at said. elim (replied_at-push es e other r at said) [
         | inl old ↦ has_call-keeps h (new ∷ []) other r (f.answered other r at old)
         | inr last ↦
-          let both = same_reply id other reply r (sym is ∙ last.1) in
-          let P : CallId → Type 0 = λ x. HasCall (h ++ new ∷ []) x r in
-          let Q : Reply → Type 0 = λ x. HasCall (h ++ new ∷ []) id x in
-          subst P both.0 (subst Q both.1 (length h, length es + 1, pid, op, slice_get-last h new))
+            let both = same_answer e.reply id other reply r is last.1 in
+            let P : CallId → Type 0 = λ x. HasCall (h ++ new ∷ []) x r in
+            let Q : Reply → Type 0 = λ x. HasCall (h ++ new ∷ []) id x in
+            subst P both.0 (subst Q both.1 (length h, length es + 1, pid, op, slice_get-last h new))
       ];
     }
   where
     called_within : c.at ≤ length es + 1
     called_within = let w = entry_at-within (es ++ e ∷ []) c.at c.there.calling c.there.there in let long = simp length-append at w in omega arith
+
     too_far : (j k : ℕ) (b : Item) → j < k → j ≡ length h → slice_get h k ≡ Some b → ⊥
     too_far j k b lt last old = let w = slice_get_within h k b old in omega arith
+
     below : (a b : Item) → position_of a ≤ length es → position_of b ≡ length es + 1 → position_of a < position_of b
     below a b w is_at = omega arith
+
     both_last : (j k : ℕ) → j < k → j ≡ length h → k ≡ length h → ⊥
     both_last j k lt x y = omega arith
 
@@ -182,7 +179,7 @@ history_from-push past (d ∷ ds) e =
     let first = items_at (past ++ d ∷ []) (length past + 1) d.reply in
     let moved : (past ++ d ∷ []) ++ ds ≡ past ++ d ∷ ds = append_assoc past (d ∷ []) ds in
     ap (λ xs. first ++ xs) (history_from-push (past ++ d ∷ []) ds e
-      ∙ ap (λ (p : List Entry). history_from (past ++ d ∷ []) ds ++ items_at (p ++ e ∷ []) (length p + 1) e.reply) moved)
+    ∙ ap (λ (p : List Entry). history_from (past ++ d ∷ []) ds ++ items_at (p ++ e ∷ []) (length p + 1) e.reply) moved)
     ∙ sym (append_assoc first (history_from (past ++ d ∷ []) ds) (items_at ((past ++ d ∷ ds) ++ e ∷ []) (length (past ++ d ∷ ds) + 1) e.reply))
 
 pub history_of-push : (es : List Entry) (e : Entry) → history_of (es ++ e ∷ []) ≡ history_of es ++ items_at (es ++ e ∷ []) (length es + 1) e.reply
@@ -219,8 +216,8 @@ fits es h one f = record {
       elim (cases_order j k) [
         | inl equal ↦ equal
         | inr apart ↦ elim apart [
-            | inl lt ↦ absurd (let rises = f.rising j k a b lt x y in omega arith)
-            | inr gt ↦ absurd (let rises = f.rising k j b a gt y x in omega arith)
-          ]
+          | inl lt ↦ absurd (let rises = f.rising j k a b lt x y in omega arith)
+          | inr gt ↦ absurd (let rises = f.rising k j b a gt y x in omega arith)
+        ]
       ];
 }

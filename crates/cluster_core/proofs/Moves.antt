@@ -1,11 +1,11 @@
 -- Each step of a node keeps what holds of it.
-use Rattle.std.proofs.Common.{◌≡◌, ℕ, ◌+◌, ◌<◌, ◌≤◌, Bool, true, false, if◌then◌else◌, ◌==◌, ◌&&◌, ◌⊎◌, inl, inr, refl, sym, ◌∙◌, ap, subst, arith, nat_le, List, [], ◌∷◌, ◌++◌, find, All, Option, Some, None}
+use Rattle.std.proofs.Common.{◌≡◌, ℕ, ◌+◌, ◌≤◌, Bool, true, false, if◌then◌else◌, ◌==◌, ◌&&◌, inl, inr, refl, sym, ◌∙◌, ap, subst, arith, nat_le, List, [], ◌∷◌, ◌++◌, find, Option, Some, None}
+use Rattle.std.proofs.lemmas.Option.{same_Some}
 use Rattle.std.proofs.lemmas.List.Elements.{All-same, All-push}
 use Rattle.intervals.specs.Bytes.{Range}
 use Rattle.model.specs.declared.mode.Mode.{Mode}
 use Rattle.model.specs.declared.call.CallId.{CallId}
 use Rattle.model.specs.declared.op.Op.{Op}
-use Rattle.model.specs.declared.process.Process.{Process}
 use Rattle.model.specs.declared.reply.Reply.{Reply}
 use Rattle.model.specs.Limits.{IsProcess}
 use Rattle.messages.specs.declared.message.Message.{Message}
@@ -17,23 +17,20 @@ use Rattle.node_core.specs.declared.open_call.OpenCall.{OpenCall}
 use Rattle.node_core.specs.State.{NodeState, Effect, quiet, without_call, process, id_of, outcome}
 use Rattle.node_core.specs.Try.{tried, tried_if}
 use Rattle.node_core.specs.Calls.{called, after_call}
-use Rattle.node_core.specs.Commands.{remembered, in_order, before, after_grant, granted, delivered}
+use Rattle.node_core.specs.Commands.{remembered, before, after_grant, granted, delivered}
 use Rattle.cluster_core.specs.Histories.{IsRepliedAt}
 use Rattle.cluster_core.specs.Next.{entry}
-use Rattle.cluster_core.proofs.Entries.{IsNamed, Unanswered, unanswered-push, named-push}
+use Rattle.cluster_core.proofs.Entries.{not_there, IsNamed, Unanswered, unanswered-push, named-push}
 use Rattle.cluster_core.proofs.Fitting.{Called, called-keeps, called-last}
 use Rattle.cluster_core.proofs.NodeTables.{IsOwn, same_follows}
-use Rattle.cluster_core.proofs.Tries.{IsReady, Continues, IsAnswered, IsSilent, IsOpened, Tried, tried_ends, called_ends}
-use Rattle.cluster_core.proofs.Nodes.{IsOpen, Holds, Moves, IsExplained, open-continues, opened, all_wait, others_wait, found_open}
-
-none_is : (o : Option CallId) (id : CallId) → o ≡ None → o ≡ Some id → ⊥
-none_is o id n h = cc
+use Rattle.cluster_core.proofs.Tries.{Continues, IsAnswered, IsSilent, tried_ends, called_ends}
+use Rattle.cluster_core.proofs.Nodes.{IsOpen, Holds, Moves, open-continues, opened, all_wait, others_wait, found_open}
 
 -- an entry that names no call counts none
 same_numbers : (past : List Entry) (e : Entry) (s u : NodeState) → Continues s u → u.calls ≡ s.calls → e.call ≡ None → Holds past s → (id : CallId) → IsNamed (past ++ e ∷ []) id → id.node ≡ u.node → id.incarnation ≡ u.incarnation → id.number ≤ u.calls
 same_numbers past e s u g calls none holds id named node incarnation = elim (named-push past e id named) [
   | inl old ↦ let below = holds.numbers id old (node ∙ g.node) (incarnation ∙ g.incarnation) in omega arith
-  | inr new ↦ absurd (none_is e.call id none new)
+  | inr new ↦ absurd (not_there e.call id none new)
 ]
 
 -- a step that names no call and answers none
@@ -46,7 +43,7 @@ silent_moves past e s u g calls pending none silent holds = record {
   };
   node = g.node;
   incarnation = g.incarnation;
-  fresh = λ id h. absurd (none_is e.call id none h);
+  fresh = λ id h. absurd (not_there e.call id none h);
   ends = inr silent;
 }
 
@@ -60,9 +57,14 @@ answer_moves past e s u c o g calls none a holds = record {
   };
   node = g.node;
   incarnation = g.incarnation;
-  fresh = λ id h. absurd (none_is e.call id none h);
+  fresh = λ id h. absurd (not_there e.call id none h);
   ends = inl (record {
-    number = c.number; pid = c.pid; op = o.op; reply = a.reply; is_reply = a.is_reply; is_process = o.is_process;
+    number = c.number;
+    pid = c.pid;
+    op = o.op;
+    reply = a.reply;
+    is_reply = a.is_reply;
+    is_process = o.is_process;
     called = called-keeps past (e ∷ []) (id_of s c.number) c.pid o.op o.called;
     fresh = o.unanswered;
     step = a.step;
@@ -107,23 +109,23 @@ module _ (past : List Entry) (s : NodeState) (event : Event) (holds : Holds past
       let found = find (λ c. c.number == call.number) s.pending in
       elim found as (λ x. found ≡ x → Receives past s (tried_if next x).state (e x)) [
         | None ↦ λ h.
-          let silent : IsSilent s next None = record { no_reply = refl; table = refl } in
-          record {
-            moves = silent_moves past (e None) s next (record { node = refl; incarnation = refl; follows = same_follows s.table s.node s.incarnation holds.own }) refl refl refl silent holds;
-            idle = λ none. (none, silent);
-          }
+            let silent : IsSilent s next None = record { no_reply = refl; table = refl } in
+            record {
+              moves = silent_moves past (e None) s next (record { node = refl; incarnation = refl; follows = same_follows s.table s.node s.incarnation holds.own }) refl refl refl silent holds;
+              idle = λ none. (none, silent);
+            }
         | Some c ↦ λ h.
-          let o = (found_open (IsOpen past s) call.number s.pending c holds.waiting h).0 in
-          let u = (tried next c).state in
-          let t = tried_ends next c o.op o.is_process.pid_in holds.own (record { fd = o.ready.fd; kind = o.ready.kind; start = o.ready.start; len = o.ready.len; is_set = o.ready.is_set; passes = o.ready.passes }) in
-          let g : Continues s u = record { node = t.continues.node; incarnation = t.continues.incarnation; follows = t.continues.follows } in
-          record {
-            moves = elim t.ends [
-              | inl a ↦ answer_moves past (e (Some c)) s u c o g t.calls refl (record { reply = a.reply; is_reply = a.is_reply; step = a.step; closed = a.closed }) holds
-              | inr q ↦ silent_moves past (e (Some c)) s u g t.calls q.1 refl (record { no_reply = q.0.no_reply; table = q.0.table }) holds
-            ];
-            idle = λ none. absurd (found_none (λ d. d.number == call.number) s.pending c none h);
-          }
+            let o = (found_open (IsOpen past s) call.number s.pending c holds.waiting h).0 in
+            let u = (tried next c).state in
+            let t = tried_ends next c o.op o.is_process.pid_in holds.own (record { fd = o.ready.fd; kind = o.ready.kind; start = o.ready.start; len = o.ready.len; is_set = o.ready.is_set; passes = o.ready.passes }) in
+            let g : Continues s u = record { node = t.continues.node; incarnation = t.continues.incarnation; follows = t.continues.follows } in
+            record {
+              moves = elim t.ends [
+                | inl a ↦ answer_moves past (e (Some c)) s u c o g t.calls refl (record { reply = a.reply; is_reply = a.is_reply; step = a.step; closed = a.closed }) holds
+                | inr q ↦ silent_moves past (e (Some c)) s u g t.calls q.1 refl (record { no_reply = q.0.no_reply; table = q.0.table }) holds
+              ];
+              idle = λ none. absurd (found_none (λ d. d.number == call.number) s.pending c none h);
+            }
       ] refl
 
   pub delivered_receives : (m : Message) → Receives past s (delivered s m).state (said (delivered s m))
@@ -137,6 +139,7 @@ module _ (past : List Entry) (s : NodeState) (event : Event) (holds : Holds past
     where
       again : Bool → Effect
       again b = if b then remembered s (s.files file).answer else quiet s
+
       both : Bool → Effect
       both b = if b then granted s file number call mode span else again ((number == (s.files file).last) && nat_le 1 number)
   delivered_receives (Request file call urgency mode wanted) = quiet_receives (quiet s) refl refl
@@ -144,14 +147,8 @@ module _ (past : List Entry) (s : NodeState) (event : Event) (holds : Holds past
 
 -- a new call
 module _ (past : List Entry) (s : NodeState) (node pid : ℕ) (op : Op) (holds : Holds past s) (named : s.node ≡ node) (is_process : IsProcess (process s pid)) (known : (id : CallId) (reply : Reply) (at : ℕ) → IsRepliedAt past id reply at → IsNamed past id) where
-  new_entry : Entry
-  new_entry = entry (Call node pid op) (after_call s pid op).1
-
   not_named : IsNamed past (id_of s (s.calls + 1)) → ⊥
   not_named n = let below = holds.numbers (id_of s (s.calls + 1)) n refl refl in absurd (omega arith)
-
-  some_is : (a b : CallId) → ◌≡◌ {A = Option CallId} (Some a) (Some b) → a ≡ b
-  some_is a b h = cc
 
   pub call_moves : Moves past s (after_call s pid op).0 (entry (Call node pid op) (after_call s pid op).1)
   call_moves =
@@ -170,26 +167,23 @@ module _ (past : List Entry) (s : NodeState) (node pid : ℕ) (op : Op) (holds :
           waiting = elim t.ends [
             | inl a ↦ All-same (IsOpen (past ++ e ∷ []) u) u.pending (without_call s number).pending a.closed (others_wait past e s u number a.reply g a.is_reply holds.waiting)
             | inr o ↦
-              let c = o.call in
-              let opens : IsOpen (past ++ e ∷ []) s c = opened past e s number pid op c o.number_is o.pid_is o.ready is_process here (unanswered-push past e id fresh (λ reply h. none_reply e.reply id reply o.silent.no_reply h)) in
-              All-same (IsOpen (past ++ e ∷ []) u) u.pending (s.pending ++ c ∷ []) o.pending
+                let c = o.call in
+                let opens : IsOpen (past ++ e ∷ []) s c = opened past e s number pid op c o.number_is o.pid_is o.ready is_process here (unanswered-push past e id fresh (λ reply h. not_there e.reply (id, reply) o.silent.no_reply h)) in
+                All-same (IsOpen (past ++ e ∷ []) u) u.pending (s.pending ++ c ∷ []) o.pending
                 (All-push (IsOpen (past ++ e ∷ []) u) s.pending c (all_wait past e s u s.pending g o.silent.no_reply holds.waiting) (open-continues (past ++ e ∷ []) s u c g opens))
           ];
           numbers = λ other n same_node same_incarnation. elim (named-push past e other n) [
             | inl old ↦ let below = holds.numbers other old (same_node ∙ g.node) (same_incarnation ∙ g.incarnation) in let calls = t.calls in omega arith
-            | inr new ↦ let is : number ≡ other.number = ap (λ (x : CallId). x.number) (some_is id other new) in let calls = t.calls in omega arith
+            | inr new ↦ let is : number ≡ other.number = ap (λ (x : CallId). x.number) (same_Some id other new) in let calls = t.calls in omega arith
           ];
         };
         node = g.node;
         incarnation = g.incarnation;
         fresh = λ other h.
-            let is = some_is id other h in
+            let is = same_Some id other h in
             (ap (λ (x : CallId). x.node) (sym is), λ n. not_named (subst (λ (x : CallId). IsNamed past x) (sym is) n));
         ends = elim t.ends [
           | inl a ↦ inl (record { number = number; pid = pid; op = op; reply = a.reply; is_reply = a.is_reply; is_process = is_process; called = here; fresh = fresh; step = a.step })
           | inr o ↦ inr (record { no_reply = o.silent.no_reply; table = o.silent.table })
         ];
       }
-    where
-      none_reply : (o : Option (CallId × Reply)) (name : CallId) (reply : Reply) → o ≡ None → o ≡ Some (name, reply) → ⊥
-      none_reply o name reply n h = cc

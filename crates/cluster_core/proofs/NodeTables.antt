@@ -1,8 +1,9 @@
 -- The table of a node: its own processes and locks, and what calls make of it.
-use Rattle.std.proofs.Common.{◌≡◌, ℕ, zero, suc, ◌+◌, ◌-◌, ◌<◌, ◌≤◌, Bool, true, false, cond, if◌then◌else◌, ◌&&◌, ◌==◌, ◌⊎◌, inl, inr, refl, sym, ◌∙◌, ap, subst, arith, ℤ, nat_le, nat_lt, Option, Some, None, Result, Ok, Err}
+use Rattle.std.proofs.Common.{◌≡◌, ℕ, ◌<◌, ◌≤◌, Bool, true, false, if◌then◌else◌, ◌&&◌, ◌==◌, ◌⊎◌, inl, inr, refl, sym, ◌∙◌, ap, subst, arith, ℤ, nat_le, nat_lt, Option, Some, None, Ok, Err}
 use Rattle.std.proofs.lemmas.Bool.{and_parts, and_from, eqb-true, eq-eqb, cases_Bool, both_ways}
 use Rattle.std.proofs.lemmas.Bool.Decides.{nat_tests}
-use Rattle.intervals.specs.Bytes.{Range, greatest, nothing, put, is_in}
+use Rattle.std.proofs.lemmas.Option.{none-some, same_Some}
+use Rattle.intervals.specs.Bytes.{Range, greatest, put, is_in}
 use Rattle.model.specs.declared.mode.Mode.{Mode}
 use Rattle.model.specs.declared.owner.Kind.{Kind}
 use Rattle.model.specs.declared.owner.Owner.{Owner}
@@ -13,12 +14,12 @@ use Rattle.model.specs.declared.reply.Reply.{Reply}
 use Rattle.model.specs.declared.reply.Reply.TheVariants.{Done, Fd, Exists, NoProcess, TooManyFiles, NoLocks}
 use Rattle.model.specs.Limits.{IsNumber, most_processes, most_descriptors, most_descriptions, most_regions}
 use Rattle.model.specs.Owners.{same_owner, owner_at, most_owners}
-use Rattle.model.specs.Locks.{Locks, FileLocks, IsOfNode, with_lock, replace}
+use Rattle.model.specs.Locks.{Locks, IsOfNode, with_lock}
 use Rattle.model.specs.Descriptors.{Processes, no_processes, with_process, with_descriptor, lowest_fd, lowest_description, after_spawn, after_open, on_lowest_fd}
-use Rattle.model.specs.Table.{Table, Target, empty_table, is_running, descriptor, target, beside, with_processes, lock_within, locked, regions_with, after_unlock}
+use Rattle.model.specs.Table.{Table, Target, empty_table, target, beside, with_processes, lock_within, locked, regions_with, after_unlock}
 use Rattle.model.proofs.OwnerLaws.{owner_exact}
 use Rattle.model.proofs.DescriptorLaws.{lowest_description-number, lowest_fd-free}
-use Rattle.cluster_core.proofs.Targets.{IsTarget, IsSpan, target_is, target-keeps}
+use Rattle.cluster_core.proofs.Targets.{IsTarget, target_is, target-keeps}
 
 -- only the node's own processes and locks stand in the table, with numbers that they can have
 pub record IsOwn (t : Table) (node incarnation : ℕ) : Type 0 where
@@ -42,14 +43,11 @@ same_goes_on ps = record { runs = λ pid h. h; opened = λ pid fd o runs h. h }
 pub same_follows : (t : Table) (node incarnation : ℕ) → IsOwn t node incarnation → Follows t t node incarnation
 same_follows t node incarnation own = record { own = own; goes_on = same_goes_on (t.on node incarnation) }
 
-none_some : {A : Type 0} (x : A) → ◌≡◌ {A = Option A} None (Some x) → ⊥
-none_some x h = cc
-
 pub own_empty : (node incarnation : ℕ) → IsOwn empty_table node incarnation
 own_empty node incarnation = record {
   others = λ n i h. refl;
-  descriptions = λ pid fd o h. absurd (none_some o h);
-  locks = λ file. record { is_own = λ o b mode h. absurd (none_some mode h); ends = λ o b h. refl };
+  descriptions = λ pid fd o h. absurd (none-some o h);
+  locks = λ file. record { is_own = λ o b mode h. absurd (none-some mode h); ends = λ o b h. refl };
 }
 
 -- processes of the node
@@ -92,7 +90,7 @@ spawn_follows t node incarnation pid own =
     let new = with_process ps pid true (λ fd. None) in
     elim (ps.runs pid) as (λ b. ps.runs pid ≡ b → Follows t (beside t p (if b then Err Exists else Ok (new, Done))).0 node incarnation) [
       | true ↦ λ h. same_follows t node incarnation own
-      | false ↦ λ h. follows_with t node incarnation pid new own (λ q fd o e. elim (chosen (q == pid) None (ps.opened q fd) (Some o) e) [ inl none ↦ absurd (none_some o none) | inr old ↦ own.descriptions q fd o old ]) (spawned_goes_on ps pid h)
+      | false ↦ λ h. follows_with t node incarnation pid new own (λ q fd o e. elim (chosen (q == pid) None (ps.opened q fd) (Some o) e) [ inl none ↦ absurd (none-some o none) | inr old ↦ own.descriptions q fd o old ]) (spawned_goes_on ps pid h)
     ] refl
 
 -- a descriptor opens
@@ -101,15 +99,12 @@ opened_goes_on ps pid fd o free = record {
   runs = λ q h. h;
   opened = λ q k w runs h. elim (cases_Bool ((q == pid) && (k == fd))) [
     | inl same ↦
-      let parts = and_parts _ _ same in
-      let at : ps.opened q k ≡ ps.opened pid fd = ap (λ n. ps.opened n k) (eqb-true q pid parts.0) ∙ ap (ps.opened pid) (eqb-true k fd parts.1) in
-      absurd (none_some w (sym free ∙ sym at ∙ h))
+        let parts = and_parts _ _ same in
+        let at : ps.opened q k ≡ ps.opened pid fd = ap (λ n. ps.opened n k) (eqb-true q pid parts.0) ∙ ap (ps.opened pid) (eqb-true k fd parts.1) in
+        absurd (none-some w (sym free ∙ sym at ∙ h))
     | inr other ↦ rw other h
   ];
 }
-
-same_some : {A : Type 0} (x y : A) → ◌≡◌ {A = Option A} (Some x) (Some y) → x ≡ y
-same_some x y h = cc
 
 pub open_follows : (t : Table) (node incarnation pid file : ℕ) (access : Access) → IsNumber most_processes pid → IsOwn t node incarnation → Follows t (beside t (record { node = node; incarnation = incarnation; pid = pid }) (after_open (t.on node incarnation) pid file access)).0 node incarnation
 open_follows t node incarnation pid file access pid_in own =
@@ -120,16 +115,16 @@ open_follows t node incarnation pid file access pid_in own =
     let new = with_descriptor ps pid fd (Some o) in
     elim (ps.runs pid) as (λ b. Follows t (beside t p (if b then on_lowest_fd ps pid o fd else Err NoProcess)).0 node incarnation) [
       | true ↦ elim (nat_lt fd most_descriptors) as (λ b. nat_lt fd most_descriptors ≡ b → Follows t (beside t p (if b then Ok (new, Fd fd) else Err TooManyFiles)).0 node incarnation) [
-          | true ↦ λ h.
+        | true ↦ λ h.
             let lt : fd < most_descriptors = below fd h in
             let free = lowest_fd-free ps pid lt in
             let number = lowest_description-number ps pid fd pid_in lt free in
             follows_with t node incarnation pid new own (λ q k w e. elim (chosen ((q == pid) && (k == fd)) (Some o) (ps.opened q k) (Some w) e) [
-              | inl this ↦ subst (λ (x : Opened). IsNumber most_descriptions x.description) (same_some o w this) number
+              | inl this ↦ subst (λ (x : Opened). IsNumber most_descriptions x.description) (same_Some o w this) number
               | inr old ↦ own.descriptions q k w old
             ]) (opened_goes_on ps pid fd o free)
-          | false ↦ λ h. same_follows t node incarnation own
-        ] refl
+        | false ↦ λ h. same_follows t node incarnation own
+      ] refl
       | false ↦ same_follows t node incarnation own
     ]
   where
@@ -162,13 +157,13 @@ lock_follows t node incarnation c mode is own =
     let out : Bool → Table × Reply = λ b. if b then (locked t c mode, Done) else (t, NoLocks) in
     elim (nat_le (regions_with t c mode) most_regions) as (λ b. Follows t (out b).0 node incarnation) [
       | true ↦ record {
-          own = record {
-            others = own.others;
-            descriptions = own.descriptions;
-            locks = λ f. locked_of_node t.locks c.file f c.owner c.span mode node incarnation is.owner.place is.owner.place_in is.owner.is is.span.ends own.locks;
-          };
-          goes_on = same_goes_on (t.on node incarnation);
-        }
+        own = record {
+          others = own.others;
+          descriptions = own.descriptions;
+          locks = λ f. locked_of_node t.locks c.file f c.owner c.span mode node incarnation is.owner.place is.owner.place_in is.owner.is is.span.ends own.locks;
+        };
+        goes_on = same_goes_on (t.on node incarnation);
+      }
       | false ↦ same_follows t node incarnation own
     ]
 

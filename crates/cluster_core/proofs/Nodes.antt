@@ -1,25 +1,20 @@
 -- What holds of a node after each run, and what its steps make of that.
-use Rattle.std.proofs.Common.{◌≡◌, ℕ, ◌+◌, ◌<◌, ◌≤◌, Bool, true, false, not, if◌then◌else◌, ◌==◌, ◌⊎◌, inl, inr, refl, sym, ◌∙◌, ap, subst, arith, List, [], ◌∷◌, ◌++◌, length, filter, find, All, Option, Some, None}
-use Rattle.std.proofs.lemmas.Bool.{eqb-true, eq-eqb, both_ways, cases_Bool}
-use Rattle.std.proofs.lemmas.List.Elements.{All-nil, All-head, All-tail, All-same, All-push, All-filter, All-weaker, filter_passes}
+use Rattle.std.proofs.Common.{◌≡◌, ℕ, ◌≤◌, Bool, true, false, not, if◌then◌else◌, ◌==◌, ◌⊎◌, refl, sym, ◌∙◌, ap, subst, List, [], ◌∷◌, ◌++◌, filter, find, All, Some, None}
+use Rattle.std.proofs.lemmas.Bool.{eqb-true, eq-eqb, both_ways}
+use Rattle.std.proofs.lemmas.List.Elements.{All-head, All-tail, All-filter, All-weaker, filter_passes}
 use Rattle.model.specs.declared.call.CallId.{CallId}
 use Rattle.model.specs.declared.op.Op.{Op}
 use Rattle.model.specs.declared.process.Process.{Process}
 use Rattle.model.specs.declared.reply.Reply.{Reply}
-use Rattle.model.specs.Limits.{IsNumber, IsProcess, most_processes}
-use Rattle.model.specs.Locks.{LowestIsLowest}
-use Rattle.model.specs.Table.{Table}
+use Rattle.model.specs.Limits.{IsProcess}
 use Rattle.model.specs.Step.{Step}
-use Rattle.messages.specs.declared.event.Event.{Event}
-use Rattle.messages.specs.declared.event.Event.TheVariants.{Call, Deliver}
 use Rattle.messages.specs.declared.entry.Entry.{Entry}
 use Rattle.node_core.specs.declared.open_call.OpenCall.{OpenCall}
 use Rattle.node_core.specs.State.{NodeState, without_call, process, id_of, target_of}
-use Rattle.cluster_core.specs.Histories.{IsCalledAt, IsRepliedAt, caller}
-use Rattle.cluster_core.proofs.Entries.{IsNamed, Unanswered, unanswered-push, named-push, named_called, none_named}
-use Rattle.cluster_core.proofs.Fitting.{Called, called-keeps, called-last}
-use Rattle.cluster_core.proofs.NodeTables.{IsOwn, GoesOn, Follows, own_empty, same_follows, target_goes_on}
-use Rattle.cluster_core.proofs.Tries.{IsReady, Continues, IsAnswered, IsSilent, IsOpened, Tried, Taken}
+use Rattle.cluster_core.proofs.Entries.{not_there, same_answer, IsNamed, Unanswered, unanswered-push}
+use Rattle.cluster_core.proofs.Fitting.{Called, called-keeps}
+use Rattle.cluster_core.proofs.NodeTables.{IsOwn, target_goes_on}
+use Rattle.cluster_core.proofs.Tries.{IsReady, Continues, IsSilent}
 
 -- an open call: it passes its tests, stands in the run, and is not answered there
 pub record IsOpen (past : List Entry) (s : NodeState) (c : OpenCall) : Type 0 where
@@ -56,7 +51,11 @@ pub ready-continues : (s u : NodeState) (pid : ℕ) (op : Op) (c : OpenCall) →
 ready-continues s u pid op c g r =
     let P : Process → Type 0 = λ p. IsReady u.table p op c in
     subst P (sym (same_process s u pid g.node g.incarnation)) (record {
-      fd = r.fd; kind = r.kind; start = r.start; len = r.len; is_set = r.is_set;
+      fd = r.fd;
+      kind = r.kind;
+      start = r.start;
+      len = r.len;
+      is_set = r.is_set;
       passes = target_goes_on s.table u.table s.node s.incarnation pid (Some c.mode) r.fd r.kind r.start r.len (target_of c) g.follows.goes_on r.passes;
     })
 
@@ -75,13 +74,8 @@ open-continues past s u c g o =
 pub all_wait : (past : List Entry) (e : Entry) (s u : NodeState) (calls : List OpenCall) → Continues s u → e.reply ≡ None → All (IsOpen past s) calls → All (IsOpen (past ++ e ∷ []) u) calls
 all_wait past e s u calls g none waiting = All-weaker (IsOpen past s) (IsOpen (past ++ e ∷ []) u) each calls waiting
   where
-    silent : (id : CallId) (reply : Reply) → e.reply ≡ Some (id, reply) → ⊥
-    silent id reply h = let n = none in cc
     each : (c : OpenCall) → IsOpen past s c → IsOpen (past ++ e ∷ []) u c
-    each c o = open-continues (past ++ e ∷ []) s u c g (open-push past e s c (silent (id_of s c.number)) o)
-
-same_name : (o : Option (CallId × Reply)) (a b : CallId) (r q : Reply) → o ≡ Some (a, r) → o ≡ Some (b, q) → a ≡ b
-same_name o a b r q x y = let both : ◌≡◌ {A = CallId × Reply} (a, r) (b, q) = cc in ap (λ (p : CallId × Reply). p.0) both
+    each c o = open-continues (past ++ e ∷ []) s u c g (open-push past e s c (λ reply h. not_there e.reply (id_of s c.number, reply) none h) o)
 
 -- the open calls but for the one that is answered
 pub others_wait : (past : List Entry) (e : Entry) (s u : NodeState) (number : ℕ) (reply : Reply) → Continues s u → e.reply ≡ Some (id_of s number, reply) → All (IsOpen past s) s.pending → All (IsOpen (past ++ e ∷ []) u) (without_call s number).pending
@@ -95,10 +89,13 @@ others_wait past e s u number reply g is waiting =
         opposite : (b : Bool) → not b ≡ true → b ≡ false
         opposite true x = absurd (cc)
         opposite false x = refl
+
     other : (c : OpenCall) → not (c.number == number) ≡ true → (r : Reply) → e.reply ≡ Some (id_of s c.number, r) → ⊥
-    other c h r said = apart c h (ap (λ (id : CallId). id.number) (same_name e.reply (id_of s c.number) (id_of s number) r reply said is))
+    other c h r said = apart c h (ap (λ (id : CallId). id.number) (same_answer e.reply (id_of s c.number) (id_of s number) r reply said is).0)
+
     each : (c : OpenCall) → IsOpen past s c → not (c.number == number) ≡ true → IsOpen (past ++ e ∷ []) u c
     each c o h = open-continues (past ++ e ∷ []) s u c g (open-push past e s c (other c h) o)
+
     All-both : ((c : OpenCall) → IsOpen past s c → not (c.number == number) ≡ true → IsOpen (past ++ e ∷ []) u c) → (cs : List OpenCall) → All (IsOpen past s) cs → All (λ c. not (c.number == number) ≡ true) cs → All (IsOpen (past ++ e ∷ []) u) cs
     All-both f cs a b k d lt = f _ (a k d lt) (b k d lt)
 
@@ -108,8 +105,8 @@ found_open P number [] c a h = absurd (cc)
 found_open P number (d ∷ ds) c a h =
     elim (d.number == number) as (λ b. (d.number == number) ≡ b → (if b then Some d else find (λ x. x.number == number) ds) ≡ Some c → P c × (c.number ≡ number)) [
       | true ↦ λ t f.
-        let same : d ≡ c = cc in
-        (subst P same (All-head P d ds a), ap (λ (x : OpenCall). x.number) (sym same) ∙ eqb-true d.number number t)
+          let same : d ≡ c = cc in
+          (subst P same (All-head P d ds a), ap (λ (x : OpenCall). x.number) (sym same) ∙ eqb-true d.number number t)
       | false ↦ λ t f. found_open P number ds c (All-tail P d ds a) f
     ] refl h
 

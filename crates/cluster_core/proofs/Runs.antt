@@ -1,21 +1,15 @@
 -- Every run has a history.
-use Rattle.std.proofs.Common.{◌≡◌, ℕ, ◌+◌, ◌≤◌, Bool, true, false, not, if◌then◌else◌, ◌&&◌, ◌==◌, ◌⊎◌, inl, inr, refl, sym, ◌∙◌, ap, subst, arith, nat_le, nat_lt, is_some, List, [], ◌∷◌, ◌++◌, append-nil, append_assoc, Option, Some, None, Result, Ok, Err}
+use Rattle.std.proofs.Common.{◌≡◌, ℕ, Bool, true, false, not, if◌then◌else◌, ◌&&◌, ◌==◌, ◌⊎◌, inl, inr, refl, sym, subst, arith, nat_le, nat_lt, is_some, List, [], ◌∷◌, ◌++◌, append-nil, append_assoc, Option, Some, None, Result, Ok, Err}
 use Rattle.std.proofs.lemmas.Bool.{and_parts, both_ways}
 use Rattle.std.proofs.lemmas.Bool.Decides.{nat_tests}
 use Rattle.std.proofs.lemmas.List.Elements.{All-nil}
-use Rattle.intervals.specs.Bytes.{Range}
-use Rattle.model.specs.declared.mode.Mode.{Mode}
-use Rattle.model.specs.declared.call.CallId.{CallId}
 use Rattle.model.specs.declared.op.Op.{Op}
-use Rattle.model.specs.declared.process.Process.{Process}
-use Rattle.model.specs.Limits.{IsNumber, IsHost, IsProcess, most_nodes, most_processes}
+use Rattle.model.specs.Limits.{IsNumber, IsProcess, most_nodes, most_processes}
 use Rattle.messages.specs.Shapes.{ShapeFields, IsShape, served_nodes}
-use Rattle.messages.specs.Messages.{addressee, call_of, file_of, is_within, sending}
+use Rattle.messages.specs.Messages.{addressee, call_of, file_of, is_within}
 use Rattle.messages.specs.declared.refusal.StepError.{StepError}
 use Rattle.messages.specs.declared.refusal.StepError.TheVariants as step
-use Rattle.messages.specs.declared.refusal.Refused.{Refused}
 use Rattle.messages.specs.declared.refusal.Refused.TheVariants.{Stranger, JournalFull}
-use Rattle.messages.specs.Refusals.{refused_by}
 use Rattle.messages.specs.declared.message.Message.{Message}
 use Rattle.messages.specs.declared.message.Message.TheVariants.{Request, Grant, Taken}
 use Rattle.messages.specs.declared.event.Event.{Event}
@@ -24,18 +18,16 @@ use Rattle.messages.specs.declared.entry.Entry.{Entry}
 use Rattle.messages.specs.declared.outcome.Outcome.{Outcome}
 use Rattle.node_core.specs.declared.event.NodeEvent.TheVariants as node
 use Rattle.node_core.specs.State.{NodeState, quiet, outcome, process, open_call_of}
-use Rattle.node_core.specs.Calls.{is_pid, is_in_shape, after_call, call_rule}
+use Rattle.node_core.specs.Calls.{is_pid, is_in_shape, after_call}
 use Rattle.node_core.specs.Commands.{delivered, is_node, deliver_rule}
 use Rattle.node_core.specs.Node.{node_rule}
 use Rattle.token_server.specs.declared.event.ServerEvent.TheVariants as server
 use Rattle.token_server.specs.State.{ServerState}
 use Rattle.token_server.specs.Serve.{serve}
 use Rattle.token_server.specs.Server.{change, then_serve, as_outcome, server_rule}
-use Rattle.cluster_core.specs.declared.item.Item.{Item}
 use Rattle.cluster_core.specs.World.{WorldState, first_world, journal_limit, has_node}
-use Rattle.cluster_core.specs.Next.{is_known, entry, recorded, with_node, with_server, after_node, after_server, taken, next}
+use Rattle.cluster_core.specs.Next.{is_known, recorded, with_node, after_node, after_server, taken, next}
 use Rattle.cluster_core.specs.Runs.{Leads}
-use Rattle.cluster_core.specs.Union.{union}
 use Rattle.cluster_core.specs.Histories.{HasHistory, EachAtItsReply, EveryRunHasAHistory}
 use Rattle.cluster_core.specs.Placement.{history_of}
 use Rattle.cluster_core.proofs.Entries.{none_named, none_called, none_replied}
@@ -43,7 +35,7 @@ use Rattle.cluster_core.proofs.Fitting.{fitting_empty, fits, each_at_its_reply}
 use Rattle.cluster_core.proofs.Targets.{ok_is}
 use Rattle.cluster_core.proofs.NodeTables.{own_empty}
 use Rattle.cluster_core.proofs.Nodes.{IsOpen}
-use Rattle.cluster_core.proofs.Moves.{Receives, delivered_receives, quiet_receives, call_moves}
+use Rattle.cluster_core.proofs.Moves.{delivered_receives, quiet_receives, call_moves}
 use Rattle.cluster_core.proofs.Unions.{union_first}
 use Rattle.cluster_core.proofs.Worlds.{Good, replied_named, server_good, node_good}
 
@@ -106,6 +98,7 @@ module _ (past : List Entry) (w : WorldState) (g : Good past w) where
       number most k h =
           let tests = and_parts (nat_le 1 k) (nat_le k most) h in
           (grind (arith, nat_tests, tests.0), grind (arith, nat_tests, tests.1))
+
       within : (nodes k : ℕ) → IsNumber served_nodes nodes → is_within nodes k ≡ true → IsNumber most_nodes k
       within nodes k few h =
           let most = few.1 in
@@ -118,8 +111,8 @@ module _ (past : List Entry) (w : WorldState) (g : Good past w) where
       let s = w.nodes n in
       let r = after_call s pid op in
       node_good past w n r.0 (Call n pid op) r.1 g
-        (call_moves past s n pid op (g.holds n) (g.named n) (process_in n pid op known) (replied_named past (history_of past) g.fitting))
-        (λ strange. absurd (both_ways (has_node w n) strange (and_parts (has_node w n) (is_pid pid && is_in_shape w.shape op) known).0))
+      (call_moves past s n pid op (g.holds n) (g.named n) (process_in n pid op known) (replied_named past (history_of past) g.fitting))
+      (λ strange. absurd (both_ways (has_node w n) strange (and_parts (has_node w n) (is_pid pid && is_in_shape w.shape op) known).0))
 
   message_good : (n : ℕ) (m : Message) (done : NodeState × Outcome) → deliver_rule (w.nodes n) m ≡ Ok done → After past (recorded (with_node w n done.0) (Deliver m) done.1)
   message_good n m done h =
@@ -137,7 +130,7 @@ module _ (past : List Entry) (w : WorldState) (g : Good past w) where
       let s = w.nodes n in
       let P : NodeState × Outcome → Type 0 = λ d. After past (recorded (with_node w n d.0) (Call n pid op) d.1) in
       node_next past w (Call n pid op) n (node_rule s (node.Call pid op)) p
-        (λ done is. subst P (taken_call (not (is_pid pid && is_in_shape s.shape op)) (is_some (open_call_of s pid)) (nat_lt s.calls 4294967295) (after_call s pid op) done step.Stranger step.Busy step.Spent is) (call_good n pid op known)) h
+      (λ done is. subst P (taken_call (not (is_pid pid && is_in_shape s.shape op)) (is_some (open_call_of s pid)) (nat_lt s.calls 4294967295) (after_call s pid op) done step.Stranger step.Busy step.Spent is) (call_good n pid op known)) h
   taken_good (Deliver (Grant file number call mode span)) p known h =
       let m = Grant file number call mode span in
       node_next past w (Deliver m) call.node (node_rule (w.nodes call.node) (node.Deliver m)) p (λ done is. message_good call.node m done is) h

@@ -1,5 +1,5 @@
 -- What a lock call that passes its tests is about: an owner that the node can have, and bytes that a file can have.
-use Rattle.std.proofs.Common.{◌≡◌, ℕ, zero, suc, ◌+◌, ◌-◌, ◌<◌, ◌≤◌, Bool, true, false, cond, if◌then◌else◌, refl, sym, ◌∙◌, ap, subst, arith, ℤ, pos, negsuc, nat_le, nat_lt, Option, Some, None, Result, Ok, Err}
+use Rattle.std.proofs.Common.{◌≡◌, ℕ, zero, suc, ◌+◌, ◌-◌, ◌<◌, ◌≤◌, Bool, true, false, if◌then◌else◌, refl, sym, subst, arith, ℤ, pos, negsuc, nat_le, nat_lt, Option, Some, None, Result, Ok, Err}
 use Rattle.std.proofs.lemmas.Bool.Decides.{nat_tests}
 use Rattle.intervals.specs.declared.span.SpanError.{SpanError}
 use Rattle.intervals.specs.declared.span.SpanError.TheVariants.{Invalid, Overflow}
@@ -11,7 +11,6 @@ use Rattle.model.specs.declared.owner.Kind.TheVariants.{OfProcess, OfDescription
 use Rattle.model.specs.declared.owner.Owner.{Owner}
 use Rattle.model.specs.declared.opened.Opened.{Opened}
 use Rattle.model.specs.declared.process.Process.{Process}
-use Rattle.model.specs.declared.reply.Reply.{Reply}
 use Rattle.model.specs.declared.reply.Reply.TheVariants.{NoProcess, BadFd}
 use Rattle.model.specs.Limits.{IsNumber, most_processes, most_descriptions}
 use Rattle.model.specs.Owners.{owner_at, most_owners, process_owner, description_owner}

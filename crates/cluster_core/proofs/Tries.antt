@@ -1,5 +1,5 @@
 -- What a node makes of a call: it answers as its own table may, or leaves the call open.
-use Rattle.std.proofs.Common.{◌≡◌, ℕ, ◌+◌, ◌≤◌, Bool, true, false, not, if◌then◌else◌, ◌==◌, ◌⊎◌, inl, inr, refl, sym, ◌∙◌, ap, subst, ℤ, nat_le, List, [], ◌∷◌, ◌++◌, filter, append-nil, Option, Some, None, MatchOption, Result, Ok, Err}
+use Rattle.std.proofs.Common.{◌≡◌, ℕ, Bool, true, false, not, if◌then◌else◌, ◌==◌, ◌⊎◌, inl, inr, refl, sym, ◌∙◌, ap, subst, ℤ, nat_le, List, [], ◌∷◌, ◌++◌, filter, append-nil, Option, Some, None, MatchOption, Result, Ok, Err}
 use Rattle.std.proofs.lemmas.Bool.{eq-eqb}
 use Rattle.std.proofs.lemmas.List.Elements.{filter-append}
 use Rattle.model.specs.declared.mode.Mode.{Mode}
@@ -21,7 +21,7 @@ use Rattle.node_core.specs.declared.open_call.OpenCall.{OpenCall}
 use Rattle.node_core.specs.State.{NodeState, Effect, without_call, process, id_of, target_of}
 use Rattle.node_core.specs.Try.{settled, requested, tried, tried_against}
 use Rattle.node_core.specs.Calls.{called, lock_call}
-use Rattle.cluster_core.proofs.NodeTables.{IsOwn, GoesOn, Follows, same_follows, spawn_follows, open_follows, lock_follows, unlock_follows, target_own, target_goes_on}
+use Rattle.cluster_core.proofs.NodeTables.{IsOwn, Follows, same_follows, spawn_follows, open_follows, lock_follows, unlock_follows, target_own}
 
 -- the open call is this set of its process, and passes its tests
 pub record IsReady (t : Table) (p : Process) (op : Op) (c : OpenCall) : Type 0 where
@@ -114,20 +114,20 @@ tried_ends s c op pid_in own ready =
     let answer = lock_within s.table (target_of c) (Some c.mode) in
     elim (lowest_blocker h c.owner c.span c.mode) as (λ x. MatchOption x (IsFree h c.owner c.span c.mode) (IsLowestBlocker h c.owner c.span c.mode) → Tried s c.number c.pid op (tried_against s c x).state (tried_against s c x).reply) [
       | Some lock ↦ λ found. record {
-          continues = same_continues s (without_call s c.number).pending own;
-          calls = refl;
-          ends = inl (record { reply = Again lock; is_reply = refl; step = set_step s.table p op c (Again lock) s.table ready (found.blocks, refl); closed = refl });
-        }
+        continues = same_continues s (without_call s c.number).pending own;
+        calls = refl;
+        ends = inl (record { reply = Again lock; is_reply = refl; step = set_step s.table p op c (Again lock) s.table ready (found.blocks, refl); closed = refl });
+      }
       | None ↦ λ free.
-        let out : Bool → Effect = λ b. if b then settled s c.number answer else requested s c in
-        elim (covers (s.files c.file).token c.span c.mode) as (λ b. Tried s c.number c.pid op (out b).state (out b).reply) [
-          | true ↦ record {
+          let out : Bool → Effect = λ b. if b then settled s c.number answer else requested s c in
+          elim (covers (s.files c.file).token c.span c.mode) as (λ b. Tried s c.number c.pid op (out b).state (out b).reply) [
+            | true ↦ record {
               continues = settled_continues s c.number answer (lock_follows s.table s.node s.incarnation (target_of c) (Some c.mode) is own);
               calls = refl;
               ends = inl (settled_answers s c.number c.pid op answer (set_step s.table p op c answer.1 answer.0 ready (lock_step s.table (target_of c) c.mode free)));
             }
-          | false ↦ record { continues = same_continues s s.pending own; calls = refl; ends = inr (record { no_reply = refl; table = refl }, refl) }
-        ]
+            | false ↦ record { continues = same_continues s s.pending own; calls = refl; ends = inr (record { no_reply = refl; table = refl }, refl) }
+          ]
     ] (lowest_is_lowest h c.owner c.span c.mode (of_owner s.table s.node s.incarnation c.file c.owner.node c.owner.incarnation is.owner.node_is is.owner.incarnation_is own) is.span.ordered is.span.ends)
 
 -- a call that is closed again was not there
@@ -146,28 +146,28 @@ set_taken s number pid fd kind mode start len pid_in own =
     let found = target s.table p (Some mode) fd kind start len in
     elim found as (λ x. found ≡ x → Taken s number pid op (lock_call s number pid mode x).state (lock_call s number pid mode x).reply) [
       | Err refusal ↦ λ h. record {
-          continues = same_continues s (without_call s number).pending own;
-          calls = refl;
-          ends = inl (record {
-            reply = refusal;
-            is_reply = refl;
-            step = let Q : Result Target Reply → Type 0 = λ x. AfterTests s.table x refusal s.table (SetStep s.table mode refusal s.table) in subst Q (sym h) (refl, refl);
-            closed = refl;
-          });
-        }
+        continues = same_continues s (without_call s number).pending own;
+        calls = refl;
+        ends = inl (record {
+          reply = refusal;
+          is_reply = refl;
+          step = let Q : Result Target Reply → Type 0 = λ x. AfterTests s.table x refusal s.table (SetStep s.table mode refusal s.table) in subst Q (sym h) (refl, refl);
+          closed = refl;
+        });
+      }
       | Ok about ↦ λ h.
-        let c : OpenCall = record { number = number; pid = pid; file = about.file; owner = about.owner; mode = mode; span = about.span } in
-        let next = record s { pending = s.pending ++ c ∷ [] } in
-        let ready : IsReady s.table p op c = record { fd = fd; kind = kind; start = start; len = len; is_set = refl; passes = h } in
-        let t = tried_ends next c op pid_in own (record { fd = fd; kind = kind; start = start; len = len; is_set = refl; passes = h }) in
-        record {
-          continues = record { node = t.continues.node; incarnation = t.continues.incarnation; follows = t.continues.follows };
-          calls = t.calls;
-          ends = elim t.ends [
-            | inl a ↦ inl (record { reply = a.reply; is_reply = a.is_reply; step = a.step; closed = a.closed ∙ closed_again s.pending c })
-            | inr q ↦ inr (record { silent = record { no_reply = q.0.no_reply; table = q.0.table }; call = c; number_is = refl; pid_is = refl; ready = ready; pending = q.1 })
-          ];
-        }
+          let c : OpenCall = record { number = number; pid = pid; file = about.file; owner = about.owner; mode = mode; span = about.span } in
+          let next = record s { pending = s.pending ++ c ∷ [] } in
+          let ready : IsReady s.table p op c = record { fd = fd; kind = kind; start = start; len = len; is_set = refl; passes = h } in
+          let t = tried_ends next c op pid_in own (record { fd = fd; kind = kind; start = start; len = len; is_set = refl; passes = h }) in
+          record {
+            continues = record { node = t.continues.node; incarnation = t.continues.incarnation; follows = t.continues.follows };
+            calls = t.calls;
+            ends = elim t.ends [
+              | inl a ↦ inl (record { reply = a.reply; is_reply = a.is_reply; step = a.step; closed = a.closed ∙ closed_again s.pending c })
+              | inr q ↦ inr (record { silent = record { no_reply = q.0.no_reply; table = q.0.table }; call = c; number_is = refl; pid_is = refl; ready = ready; pending = q.1 })
+            ];
+          }
     ] refl
 
 -- a call is taken

@@ -1,5 +1,5 @@
 -- The union of the nodes' tables, where there is one node.
-use Rattle.std.proofs.Common.{◌≡◌, ℕ, ◌≤◌, Bool, true, false, if◌then◌else◌, ◌&&◌, ◌==◌, refl, sym, ◌∙◌, ap, subst, arith, nat_le, nat_lt, ◌⊎◌, inl, inr, Option, Some, None}
+use Rattle.std.proofs.Common.{◌≡◌, ℕ, ◌≤◌, Bool, true, false, if◌then◌else◌, ◌&&◌, ◌==◌, refl, sym, ◌∙◌, ap, arith, nat_le, nat_lt, inl, inr, Some, None}
 use Rattle.std.proofs.lemmas.Bool.{and_parts, and_from, eqb-true, eq-eqb, cases_Bool, both_ways}
 use Rattle.std.proofs.lemmas.Bool.Decides.{nat_tests}
 use Rattle.intervals.specs.Bytes.{nothing}
@@ -7,11 +7,10 @@ use Rattle.model.specs.declared.mode.Mode.{Mode}
 use Rattle.model.specs.declared.owner.Owner.{Owner}
 use Rattle.model.specs.Limits.{IsNumber}
 use Rattle.model.specs.Owners.{owner_at}
-use Rattle.model.specs.Descriptors.{Processes, no_processes}
+use Rattle.model.specs.Descriptors.{no_processes}
 use Rattle.model.specs.Table.{Table, empty_table}
 use Rattle.messages.specs.Shapes.{ShapeFields, served_nodes}
 use Rattle.messages.specs.Messages.{is_within}
-use Rattle.node_core.specs.State.{NodeState}
 use Rattle.cluster_core.specs.World.{WorldState, first_world, has_node, is_live}
 use Rattle.cluster_core.specs.Union.{union}
 use Rattle.cluster_core.proofs.NodeTables.{IsOwn}
@@ -49,12 +48,15 @@ none_held t n i file o own other = λ j b. at b j
   where
     node_at : (k : ℕ) → (owner_at n i k).node ≡ n
     node_at k = elim (cases_Bool (nat_lt k 256)) [ inl h ↦ rw h refl | inr h ↦ rw h refl ]
+
     incarnation_at : (k : ℕ) → (owner_at n i k).incarnation ≡ i
     incarnation_at k = elim (cases_Bool (nat_lt k 256)) [ inl h ↦ rw h refl | inr h ↦ rw h refl ]
+
     held : (b : ℕ) (mode : Mode) → t.locks file o b ≡ Some mode → ⊥
     held b mode h =
         let is = (own.locks file).is_own o b mode h in
         other (ap (λ (x : Owner). x.node) is.2 ∙ node_at is.0) (ap (λ (x : Owner). x.incarnation) is.2 ∙ incarnation_at is.0)
+
     at : (b : ℕ) → None ≡ t.locks file o b
     at b = elim (t.locks file o b) as (λ x. t.locks file o b ≡ x → None ≡ x) [ None ↦ λ h. refl | Some mode ↦ λ h. absurd (held b mode h) ] refl
 
@@ -72,9 +74,9 @@ module _ (w : WorldState) (n : ℕ) (few : IsNumber served_nodes w.shape.nodes) 
   on_same m k = elim (cases_Bool (is_live w m k)) [
     | inl live ↦ rw live (ap (λ (j : ℕ). (w.nodes j).table.on m k) (only m (and_parts (has_node w m) (k == (w.nodes m).incarnation) live).0))
     | inr dead ↦ rw dead (elim (cases_Bool ((m == (w.nodes n).node) && (k == (w.nodes n).incarnation))) [
-        | inl same ↦ let parts = and_parts _ _ same in absurd (not_live m k dead (eqb-true _ _ parts.0) (eqb-true _ _ parts.1))
-        | inr other ↦ sym (own.others m k other)
-      ])
+      | inl same ↦ let parts = and_parts _ _ same in absurd (not_live m k dead (eqb-true _ _ parts.0) (eqb-true _ _ parts.1))
+      | inr other ↦ sym (own.others m k other)
+    ])
   ]
 
   locks_same : (file : ℕ) (o : Owner) → (union w).locks file o ≡ (w.nodes n).table.locks file o

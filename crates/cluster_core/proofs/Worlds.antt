@@ -1,32 +1,31 @@
 -- What holds of the cluster after each run.
-use Rattle.std.proofs.Common.{◌≡◌, ℕ, ◌+◌, ◌≤◌, Bool, true, false, if◌then◌else◌, ◌==◌, ◌⊎◌, inl, inr, refl, sym, ◌∙◌, ap, subst, arith, List, [], ◌∷◌, ◌++◌, length, All, Option, Some, None}
+use Rattle.std.proofs.Common.{◌≡◌, ℕ, ◌+◌, true, false, if◌then◌else◌, ◌==◌, inl, inr, refl, sym, ◌∙◌, ap, subst, List, [], ◌∷◌, ◌++◌, length, Option, Some, None}
 use Rattle.std.proofs.lemmas.Bool.{eqb-true, eq-eqb, cases_Bool, both_ways}
 use Rattle.std.proofs.lemmas.List.Elements.{All-weaker}
 use Rattle.model.specs.declared.call.CallId.{CallId}
 use Rattle.model.specs.declared.op.Op.{Op}
 use Rattle.model.specs.declared.process.Process.{Process}
 use Rattle.model.specs.declared.reply.Reply.{Reply}
-use Rattle.model.specs.Limits.{IsNumber, IsProcess}
+use Rattle.model.specs.Limits.{IsNumber}
 use Rattle.model.specs.Table.{Table, empty_table}
 use Rattle.model.specs.Step.{Step}
 use Rattle.messages.specs.Shapes.{served_nodes}
 use Rattle.messages.specs.declared.event.Event.{Event}
 use Rattle.messages.specs.declared.entry.Entry.{Entry}
 use Rattle.messages.specs.declared.outcome.Outcome.{Outcome}
-use Rattle.node_core.specs.declared.open_call.OpenCall.{OpenCall}
 use Rattle.node_core.specs.State.{NodeState, process, id_of}
 use Rattle.token_server.specs.State.{ServerState}
 use Rattle.cluster_core.specs.declared.item.Item.{Item}
-use Rattle.cluster_core.specs.declared.item.Item.TheVariants.{Answered, Gone}
+use Rattle.cluster_core.specs.declared.item.Item.TheVariants.{Answered}
 use Rattle.cluster_core.specs.World.{WorldState, has_node}
 use Rattle.cluster_core.specs.Next.{entry, recorded, with_node, with_server}
 use Rattle.cluster_core.specs.Union.{union}
 use Rattle.cluster_core.specs.Histories.{IsRepliedAt, OneCall, OneReply, Legal, HasCall}
 use Rattle.cluster_core.specs.Placement.{items_at, item_of, history_of}
-use Rattle.cluster_core.proofs.Entries.{IsNamed, Unanswered, named-push, named_called, one_call-push, one_reply-push}
-use Rattle.cluster_core.proofs.Fitting.{Called, Fitting, Answers, IsExact, fitting-push, history_of-push}
+use Rattle.cluster_core.proofs.Entries.{not_there, same_answer, IsNamed, Unanswered, named-push, named_called, one_call-push, one_reply-push}
+use Rattle.cluster_core.proofs.Fitting.{Fitting, Answers, IsExact, fitting-push, history_of-push}
 use Rattle.cluster_core.proofs.Tries.{IsSilent}
-use Rattle.cluster_core.proofs.Nodes.{IsOpen, Holds, Moves, IsExplained, open-push}
+use Rattle.cluster_core.proofs.Nodes.{IsOpen, Holds, Moves, open-push}
 use Rattle.cluster_core.proofs.Unions.{union_same, union_alone}
 
 -- the actors after a run, and the run itself
@@ -60,12 +59,6 @@ unmentioned past e s no_call no_reply holds = record {
   numbers = λ id n node incarnation. elim (named-push past e id n) [ inl old ↦ holds.numbers id old node incarnation | inr new ↦ absurd (no_call id new node) ];
 }
 
-none_some : {A : Type 0} (o : Option A) (x : A) → o ≡ None → o ≡ Some x → ⊥
-none_some o x n h = cc
-
-same_reply : (o : Option (CallId × Reply)) (a b : CallId) (r q : Reply) → o ≡ Some (a, r) → o ≡ Some (b, q) → a ≡ b
-same_reply o a b r q x y = let both : ◌≡◌ {A = CallId × Reply} (a, r) (b, q) = cc in ap (λ (p : CallId × Reply). p.0) both
-
 -- a step of a server
 module _ (past : List Entry) (w : WorldState) (file : ℕ) (t : ServerState) (event : Event) (o : Outcome) (no_call : o.call ≡ None) (no_reply : o.reply ≡ None) (g : Good past w) where
   pub server_good : Good (past ++ entry event o ∷ []) (recorded (with_server w file t) event o).0
@@ -77,10 +70,10 @@ module _ (past : List Entry) (w : WorldState) (file : ℕ) (t : ServerState) (ev
         few = g.few;
         named = g.named;
         incarnations = g.incarnations;
-        holds = λ n. unmentioned past e (w.nodes n) (λ id h same. none_some o.call id no_call h) (λ id reply h same. none_some o.reply (id, reply) no_reply h) (g.holds n);
+        holds = λ n. unmentioned past e (w.nodes n) (λ id h same. not_there o.call id no_call h) (λ id reply h same. not_there o.reply (id, reply) no_reply h) (g.holds n);
         strangers = g.strangers;
-        one_call = one_call-push past e g.one_call (λ id h n. none_some o.call id no_call h);
-        one_reply = one_reply-push past e g.one_reply (λ id reply h. absurd (none_some o.reply (id, reply) no_reply h));
+        one_call = one_call-push past e g.one_call (λ id h n. not_there o.call id no_call h);
+        one_reply = one_reply-push past e g.one_reply (λ id reply h. absurd (not_there o.reply (id, reply) no_reply h));
         fitting = subst (Fitting (past ++ e ∷ [])) (sym (history_of-push past e)) (fitting-push past (history_of past) e e.reply refl (subst (Answers (past ++ e ∷ [])) (sym no_reply) tt) g.fitting);
         legal =
             let P : List Item → Type 0 = λ is. Legal empty_table is (union v) in
@@ -112,15 +105,15 @@ module _ (past : List Entry) (w : WorldState) (n : ℕ) (u : NodeState) (event :
   other_reply : (m : ℕ) → (m ≡ n → ⊥) → (id : CallId) (reply : Reply) → made.reply ≡ Some (id, reply) → id.node ≡ (w.nodes m).node → ⊥
   other_reply m other id reply h same = elim moves.ends [
     | inl x ↦
-      let is = same_reply made.reply id (id_of before x.number) reply x.reply h x.is_reply in
-      other (sym (g.named m) ∙ sym same ∙ ap (λ (c : CallId). c.node) is ∙ g.named n)
-    | inr silent ↦ none_some made.reply (id, reply) silent.no_reply h
+        let is = (same_answer made.reply id (id_of before x.number) reply x.reply h x.is_reply).0 in
+        other (sym (g.named m) ∙ sym same ∙ ap (λ (c : CallId). c.node) is ∙ g.named n)
+    | inr silent ↦ not_there made.reply (id, reply) silent.no_reply h
   ]
 
   fresh_reply : (id : CallId) (reply : Reply) → made.reply ≡ Some (id, reply) → Unanswered past id
   fresh_reply id reply h = elim moves.ends [
-    | inl x ↦ subst (Unanswered past) (sym (same_reply made.reply id (id_of before x.number) reply x.reply h x.is_reply)) x.fresh
-    | inr silent ↦ absurd (none_some made.reply (id, reply) silent.no_reply h)
+    | inl x ↦ subst (Unanswered past) (sym (same_answer made.reply id (id_of before x.number) reply x.reply h x.is_reply).0) x.fresh
+    | inr silent ↦ absurd (not_there made.reply (id, reply) silent.no_reply h)
   ]
 
   answers : Answers (past ++ made ∷ []) made.reply
@@ -158,12 +151,12 @@ module _ (past : List Entry) (w : WorldState) (n : ℕ) (u : NodeState) (event :
       let P : Option (CallId × Reply) → Type 0 = λ r. Legal (union w) (items_at (past ++ made ∷ []) (length past + 1) r) (union later) in
       elim moves.ends [
         | inl x ↦
-          let id = id_of before x.number in
-          let Q : Option (ℕ × Op) → Type 0 = λ c. Legal (union w) (item_of (length past + 1) id x.reply c) (union later) in
-          elim (cases_Bool (has_node w n)) [
-            | inl there ↦ subst P (sym x.is_reply) (subst Q (sym x.called.found) (union later, (x.is_process, union_steps (process before x.pid) x.op x.reply there x.step), refl))
-            | inr not_there ↦ absurd (none_some made.reply (id, x.reply) (strange not_there).1.no_reply x.is_reply)
-          ]
+            let id = id_of before x.number in
+            let Q : Option (ℕ × Op) → Type 0 = λ c. Legal (union w) (item_of (length past + 1) id x.reply c) (union later) in
+            elim (cases_Bool (has_node w n)) [
+              | inl there ↦ subst P (sym x.is_reply) (subst Q (sym x.called.found) (union later, (x.is_process, union_steps (process before x.pid) x.op x.reply there x.step), refl))
+              | inr stranger ↦ absurd (not_there made.reply (id, x.reply) (strange stranger).1.no_reply x.is_reply)
+            ]
         | inr silent ↦ subst P (sym silent.no_reply) (sym (union_stays silent.table))
       ]
 

@@ -7,5 +7,4 @@ ghost use Rattle.cluster_core.specs.Histories.{EveryRunHasAHistory};
 /// of the live nodes.
 pub fn every_run_has_a_history()
     ensures { EveryRunHasAHistory }
-{
-}
+{}
