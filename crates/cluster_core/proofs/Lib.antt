@@ -1,0 +1,11 @@
+mod Places
+mod Entries
+mod Fitting
+mod Targets
+mod NodeTables
+mod Tries
+mod Nodes
+mod Moves
+mod Unions
+mod Worlds
+mod Runs

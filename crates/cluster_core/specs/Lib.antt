@@ -3,3 +3,4 @@ pub mod Next
 pub mod Runs
 pub mod Union
 pub mod Histories
+pub mod Placement

@@ -2,3 +2,4 @@
 #![tactic(auto)]
 
 pub mod item;
+pub mod laws;

@@ -6,3 +6,6 @@ pub mod DescriptorLaws
 pub mod StepLaws
 pub mod BlockLaws
 pub mod FailLaws
+pub mod AnswerLaws
+pub mod RunLaws
+pub mod BlockerLaws

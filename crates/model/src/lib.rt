@@ -3,9 +3,10 @@
 
 pub mod access;
 pub mod call;
-pub mod equality;
-pub mod level;
 pub mod change;
+pub mod equality;
+pub mod laws;
+pub mod level;
 pub mod lock_call;
 pub mod lock_info;
 pub mod mode;

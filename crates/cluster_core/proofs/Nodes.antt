@@ -1,0 +1,141 @@
+-- What holds of a node after each run, and what its steps make of that.
+use Rattle.std.proofs.Common.{◌≡◌, ℕ, ◌≤◌, Bool, true, false, not, if◌then◌else◌, ◌==◌, ◌⊎◌, refl, sym, ◌∙◌, ap, subst, List, [], ◌∷◌, ◌++◌, filter, find, All, Some, None}
+use Rattle.std.proofs.lemmas.Bool.{eqb-true, eq-eqb, both_ways}
+use Rattle.std.proofs.lemmas.List.Elements.{All-head, All-tail, All-filter, All-weaker, filter_passes}
+use Rattle.model.specs.declared.call.CallId.{CallId}
+use Rattle.model.specs.declared.op.Op.{Op}
+use Rattle.model.specs.declared.process.Process.{Process}
+use Rattle.model.specs.declared.reply.Reply.{Reply}
+use Rattle.model.specs.Limits.{IsProcess}
+use Rattle.model.specs.Step.{Step}
+use Rattle.messages.specs.declared.entry.Entry.{Entry}
+use Rattle.node_core.specs.declared.open_call.OpenCall.{OpenCall}
+use Rattle.node_core.specs.State.{NodeState, without_call, process, id_of, target_of}
+use Rattle.cluster_core.proofs.Entries.{not_there, same_answer, IsNamed, Unanswered, unanswered-push}
+use Rattle.cluster_core.proofs.Fitting.{Called, called-keeps}
+use Rattle.cluster_core.proofs.NodeTables.{IsOwn, target_goes_on}
+use Rattle.cluster_core.proofs.Tries.{IsReady, Continues, IsSilent}
+
+-- an open call: it passes its tests, stands in the run, and is not answered there
+pub record IsOpen (past : List Entry) (s : NodeState) (c : OpenCall) : Type 0 where
+  pub op : Op
+  pub ready : IsReady s.table (process s c.pid) op c
+  pub is_process : IsProcess (process s c.pid)
+  pub called : Called past (id_of s c.number) c.pid op
+  pub unanswered : Unanswered past (id_of s c.number)
+
+-- what holds of a node after a run
+pub record Holds (past : List Entry) (s : NodeState) : Type 0 where
+  pub own : IsOwn s.table s.node s.incarnation
+  pub waiting : All (IsOpen past s) s.pending
+  pub numbers : (id : CallId) → IsNamed past id → id.node ≡ s.node → id.incarnation ≡ s.incarnation → id.number ≤ s.calls
+
+pub same_id : (s u : NodeState) (number : ℕ) → u.node ≡ s.node → u.incarnation ≡ s.incarnation → id_of u number ≡ id_of s number
+same_id s u number node incarnation = λ i. record { node = node i; incarnation = incarnation i; number = number }
+
+pub same_process : (s u : NodeState) (pid : ℕ) → u.node ≡ s.node → u.incarnation ≡ s.incarnation → process u pid ≡ process s pid
+same_process s u pid node incarnation = λ i. record { node = node i; incarnation = incarnation i; pid = pid }
+
+-- an open call stays open while the run goes on and does not answer it
+pub open-push : (past : List Entry) (e : Entry) (s : NodeState) (c : OpenCall) → ((reply : Reply) → e.reply ≡ Some (id_of s c.number, reply) → ⊥) → IsOpen past s c → IsOpen (past ++ e ∷ []) s c
+open-push past e s c other o = record {
+  op = o.op;
+  ready = o.ready;
+  is_process = o.is_process;
+  called = called-keeps past (e ∷ []) (id_of s c.number) c.pid o.op o.called;
+  unanswered = unanswered-push past e (id_of s c.number) o.unanswered other;
+}
+
+-- and while its node goes on
+pub ready-continues : (s u : NodeState) (pid : ℕ) (op : Op) (c : OpenCall) → Continues s u → IsReady s.table (process s pid) op c → IsReady u.table (process u pid) op c
+ready-continues s u pid op c g r =
+    let P : Process → Type 0 = λ p. IsReady u.table p op c in
+    subst P (sym (same_process s u pid g.node g.incarnation)) (record {
+      fd = r.fd;
+      kind = r.kind;
+      start = r.start;
+      len = r.len;
+      is_set = r.is_set;
+      passes = target_goes_on s.table u.table s.node s.incarnation pid (Some c.mode) r.fd r.kind r.start r.len (target_of c) g.follows.goes_on r.passes;
+    })
+
+pub open-continues : (past : List Entry) (s u : NodeState) (c : OpenCall) → Continues s u → IsOpen past s c → IsOpen past u c
+open-continues past s u c g o =
+    let same = sym (same_id s u c.number g.node g.incarnation) in
+    record {
+      op = o.op;
+      ready = ready-continues s u c.pid o.op c g o.ready;
+      is_process = subst (λ (p : Process). IsProcess p) (sym (same_process s u c.pid g.node g.incarnation)) o.is_process;
+      called = subst (λ (id : CallId). Called past id c.pid o.op) same o.called;
+      unanswered = subst (λ (id : CallId). Unanswered past id) same o.unanswered;
+    }
+
+-- the open calls after an entry that answers none of them
+pub all_wait : (past : List Entry) (e : Entry) (s u : NodeState) (calls : List OpenCall) → Continues s u → e.reply ≡ None → All (IsOpen past s) calls → All (IsOpen (past ++ e ∷ []) u) calls
+all_wait past e s u calls g none waiting = All-weaker (IsOpen past s) (IsOpen (past ++ e ∷ []) u) each calls waiting
+  where
+    each : (c : OpenCall) → IsOpen past s c → IsOpen (past ++ e ∷ []) u c
+    each c o = open-continues (past ++ e ∷ []) s u c g (open-push past e s c (λ reply h. not_there e.reply (id_of s c.number, reply) none h) o)
+
+-- the open calls but for the one that is answered
+pub others_wait : (past : List Entry) (e : Entry) (s u : NodeState) (number : ℕ) (reply : Reply) → Continues s u → e.reply ≡ Some (id_of s number, reply) → All (IsOpen past s) s.pending → All (IsOpen (past ++ e ∷ []) u) (without_call s number).pending
+others_wait past e s u number reply g is waiting =
+    let test : OpenCall → Bool = λ c. not (c.number == number) in
+    All-both each (filter test s.pending) (All-filter test (IsOpen past s) s.pending waiting) (filter_passes test s.pending)
+  where
+    apart : (c : OpenCall) → not (c.number == number) ≡ true → c.number ≡ number → ⊥
+    apart c h same = both_ways (c.number == number) (opposite (c.number == number) h) (eq-eqb c.number number same)
+      where
+        opposite : (b : Bool) → not b ≡ true → b ≡ false
+        opposite true x = absurd (cc)
+        opposite false x = refl
+
+    other : (c : OpenCall) → not (c.number == number) ≡ true → (r : Reply) → e.reply ≡ Some (id_of s c.number, r) → ⊥
+    other c h r said = apart c h (ap (λ (id : CallId). id.number) (same_answer e.reply (id_of s c.number) (id_of s number) r reply said is).0)
+
+    each : (c : OpenCall) → IsOpen past s c → not (c.number == number) ≡ true → IsOpen (past ++ e ∷ []) u c
+    each c o h = open-continues (past ++ e ∷ []) s u c g (open-push past e s c (other c h) o)
+
+    All-both : ((c : OpenCall) → IsOpen past s c → not (c.number == number) ≡ true → IsOpen (past ++ e ∷ []) u c) → (cs : List OpenCall) → All (IsOpen past s) cs → All (λ c. not (c.number == number) ≡ true) cs → All (IsOpen (past ++ e ∷ []) u) cs
+    All-both f cs a b k d lt = f _ (a k d lt) (b k d lt)
+
+-- an open call that is found is one of those
+pub found_open : (P : OpenCall → Type 0) (number : ℕ) (calls : List OpenCall) (c : OpenCall) → All P calls → find (λ d. d.number == number) calls ≡ Some c → P c × (c.number ≡ number)
+found_open P number [] c a h = absurd (cc)
+found_open P number (d ∷ ds) c a h =
+    elim (d.number == number) as (λ b. (d.number == number) ≡ b → (if b then Some d else find (λ x. x.number == number) ds) ≡ Some c → P c × (c.number ≡ number)) [
+      | true ↦ λ t f.
+          let same : d ≡ c = cc in
+          (subst P same (All-head P d ds a), ap (λ (x : OpenCall). x.number) (sym same) ∙ eqb-true d.number number t)
+      | false ↦ λ t f. found_open P number ds c (All-tail P d ds a) f
+    ] refl h
+
+-- what an entry says of calls of this node: it answers one of them by a step of its table, or leaves the table
+pub record IsExplained (past : List Entry) (s u : NodeState) (e : Entry) : Type 0 where
+  pub number : ℕ
+  pub pid : ℕ
+  pub op : Op
+  pub reply : Reply
+  pub is_reply : e.reply ≡ Some (id_of s number, reply)
+  pub is_process : IsProcess (process s pid)
+  pub called : Called (past ++ e ∷ []) (id_of s number) pid op
+  pub fresh : Unanswered past (id_of s number)
+  pub step : Step s.table (process s pid) op reply u.table
+
+-- a step of a node with its entry
+pub record Moves (past : List Entry) (s u : NodeState) (e : Entry) : Type 0 where
+  pub holds : Holds (past ++ e ∷ []) u
+  pub node : u.node ≡ s.node
+  pub incarnation : u.incarnation ≡ s.incarnation
+  pub fresh : (id : CallId) → e.call ≡ Some id → (id.node ≡ s.node) × (IsNamed past id → ⊥)
+  pub ends : IsExplained past s u e ⊎ IsSilent s u e.reply
+
+-- a call that opens
+pub opened : (past : List Entry) (e : Entry) (s : NodeState) (number pid : ℕ) (op : Op) (c : OpenCall) → c.number ≡ number → c.pid ≡ pid → IsReady s.table (process s pid) op c → IsProcess (process s pid) → Called (past ++ e ∷ []) (id_of s number) pid op → Unanswered (past ++ e ∷ []) (id_of s number) → IsOpen (past ++ e ∷ []) s c
+opened past e s number pid op c number_is pid_is ready is_process called unanswered = record {
+  op = op;
+  ready = subst (λ (k : ℕ). IsReady s.table (process s k) op c) (sym pid_is) ready;
+  is_process = subst (λ (k : ℕ). IsProcess (process s k)) (sym pid_is) is_process;
+  called = subst (λ (k : ℕ). Called (past ++ e ∷ []) (id_of s c.number) k op) (sym pid_is) (subst (λ (k : ℕ). Called (past ++ e ∷ []) (id_of s k) pid op) (sym number_is) called);
+  unanswered = subst (λ (k : ℕ). Unanswered (past ++ e ∷ []) (id_of s k)) (sym number_is) unanswered;
+}
