@@ -156,9 +156,3 @@ pub nothing_is_empty : {V : Type 0} (l : List (Run V)) → AreRuns l → (value_
 unfolding value_at
 nothing_is_empty [] runs = (λ e. refl, λ e. refl)
 nothing_is_empty (r ∷ rest) runs = (λ e. let some = first-some r rest r.lo (omega arith) runs.0 in let none : value_at (r ∷ rest) r.lo ≡ None = ap (λ f. f r.lo) e in absurd cc, λ e. absurd (omega arith))
-
--- nor past the greatest offset
-pub value_at-past : {V : Type 0} (l : List (Run V)) (n b : ℕ) → EndsBelow l n → n ≤ b → value_at l b ≡ None
-unfolding value_at
-value_at-past [] n b h le = refl
-value_at-past (r ∷ rest) n b h le = let later = value_at-past rest n b h.1 le in grind (arith, nat_tests)
