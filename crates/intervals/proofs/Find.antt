@@ -3,7 +3,7 @@ use Rattle.std.proofs.Common.{◌≡◌, ℕ, zero, suc, ◌+◌, ◌<◌, ◌�
 use Rattle.std.proofs.lemmas.Bool.{cases_lt}
 use Rattle.std.proofs.Math.Seq.{drop-nil}
 use Rattle.std.proofs.lemmas.Bool.Decides.{nat_tests}
-use Rattle.intervals.specs.declared.vec_map.Run.{Run}
+use Rattle.intervals.specs.declared.run.Run.{Run}
 use Rattle.intervals.specs.Bytes.{Range, IsRun, IsBarred, IsFirstIn, NoneIn, nothing}
 use Rattle.intervals.specs.Runs.{bytes_of, value_at, IsBarredValue, Follows, AreRuns, EndsBelow}
 
@@ -53,7 +53,7 @@ first-is_run r rest runs = record {
 }
 
 -- a longest run of the rest is one of all
-lift-is_run : {V : Type 0} (r : Run V) (rest : List (Run V)) (s : Range) (v : V) → AreRuns (r ∷ rest) → IsRun (value_at rest) s v → IsRun (value_at (r ∷ rest)) s v
+pub lift-is_run : {V : Type 0} (r : Run V) (rest : List (Run V)) (s : Range) (v : V) → AreRuns (r ∷ rest) → IsRun (value_at rest) s v → IsRun (value_at (r ∷ rest)) s v
 lift-is_run r rest s v runs run =
     let above : r.hi < s.lo = elim (cases_lt r.hi s.lo) [
       | inl lt ↦ lt
@@ -137,6 +137,10 @@ left-first runs rest r bar s left are run order low high barred =
       none_before = λ c from to hit. not_barred-none (value_at (r ∷ rest)) bar c (before-none r rest c are (omega arith)) (left c from (omega arith) hit);
     }
 
+-- the runs that are left begin above the span
+pub left-stop : {V : Type 0} (runs rest : List (Run V)) (r : Run V) (bar : Option V) (s : Range) → BarredLeft runs (r ∷ rest) bar s → AreRuns (r ∷ rest) → s.hi < r.lo → NoneIn (IsBarred (value_at runs) bar) s
+left-stop runs rest r bar s left are above b low high barred = not_barred-none (value_at (r ∷ rest)) bar b (before-none r rest b are (omega arith)) (left b low high barred)
+
 -- nothing left, nothing barred
 pub left-none : {V : Type 0} (runs : List (Run V)) (bar : Option V) (s : Range) → BarredLeft runs [] bar s → NoneIn (IsBarred (value_at runs) bar) s
 left-none runs bar s left b low high barred = not_barred-none (value_at []) bar b (value_at-none b) (left b low high barred)
@@ -152,9 +156,3 @@ pub nothing_is_empty : {V : Type 0} (l : List (Run V)) → AreRuns l → (value_
 unfolding value_at
 nothing_is_empty [] runs = (λ e. refl, λ e. refl)
 nothing_is_empty (r ∷ rest) runs = (λ e. let some = first-some r rest r.lo (omega arith) runs.0 in let none : value_at (r ∷ rest) r.lo ≡ None = ap (λ f. f r.lo) e in absurd cc, λ e. absurd (omega arith))
-
--- nor past the greatest offset
-pub value_at-past : {V : Type 0} (l : List (Run V)) (n b : ℕ) → EndsBelow l n → n ≤ b → value_at l b ≡ None
-unfolding value_at
-value_at-past [] n b h le = refl
-value_at-past (r ∷ rest) n b h le = let later = value_at-past rest n b h.1 le in grind (arith, nat_tests)
