@@ -6,7 +6,8 @@ use Rattle.intervals.specs.Search.{first, some_passes, IsFirst}
 use Rattle.model.specs.declared.opened.Opened.{Opened}
 use Rattle.model.specs.Limits.{IsNumber, most_processes, most_descriptors, most_descriptions}
 use Rattle.model.specs.Descriptors.{Processes, lowest_fd, is_of, is_open, lowest_description}
-use Rattle.model.proofs.SearchLaws.{first_is_first, first-passes, some_passes-none}
+use Rattle.intervals.proofs.SearchLaws.{first_is_first}
+use Rattle.model.proofs.SearchLaws.{first-passes, some_passes-none}
 use Rattle.model.proofs.Pigeons.{no_hole}
 
 -- the first process and descriptor of the node that refer to the description
