@@ -3,7 +3,7 @@ use Rattle.std.proofs.Common.{◌≡◌, ℕ, zero, suc, ◌+◌, ◌<◌, ◌�
 use Rattle.std.proofs.lemmas.Bool.{cases_lt}
 use Rattle.std.proofs.Math.Seq.{drop-nil}
 use Rattle.std.proofs.lemmas.Bool.Decides.{nat_tests}
-use Rattle.intervals.specs.declared.vec_map.Run.{Run}
+use Rattle.intervals.specs.declared.run.Run.{Run}
 use Rattle.intervals.specs.Bytes.{Range, IsRun, IsBarred, IsFirstIn, NoneIn, nothing}
 use Rattle.intervals.specs.Runs.{bytes_of, value_at, IsBarredValue, Follows, AreRuns, EndsBelow}
 
@@ -53,7 +53,7 @@ first-is_run r rest runs = record {
 }
 
 -- a longest run of the rest is one of all
-lift-is_run : {V : Type 0} (r : Run V) (rest : List (Run V)) (s : Range) (v : V) → AreRuns (r ∷ rest) → IsRun (value_at rest) s v → IsRun (value_at (r ∷ rest)) s v
+pub lift-is_run : {V : Type 0} (r : Run V) (rest : List (Run V)) (s : Range) (v : V) → AreRuns (r ∷ rest) → IsRun (value_at rest) s v → IsRun (value_at (r ∷ rest)) s v
 lift-is_run r rest s v runs run =
     let above : r.hi < s.lo = elim (cases_lt r.hi s.lo) [
       | inl lt ↦ lt
@@ -136,6 +136,10 @@ left-first runs rest r bar s left are run order low high barred =
       here = barred-some (value_at runs) bar (max r.lo s.lo) r.value (run.all (max r.lo s.lo) (omega arith) (omega arith)) barred;
       none_before = λ c from to hit. not_barred-none (value_at (r ∷ rest)) bar c (before-none r rest c are (omega arith)) (left c from (omega arith) hit);
     }
+
+-- the runs that are left begin above the span
+pub left-stop : {V : Type 0} (runs rest : List (Run V)) (r : Run V) (bar : Option V) (s : Range) → BarredLeft runs (r ∷ rest) bar s → AreRuns (r ∷ rest) → s.hi < r.lo → NoneIn (IsBarred (value_at runs) bar) s
+left-stop runs rest r bar s left are above b low high barred = not_barred-none (value_at (r ∷ rest)) bar b (before-none r rest b are (omega arith)) (left b low high barred)
 
 -- nothing left, nothing barred
 pub left-none : {V : Type 0} (runs : List (Run V)) (bar : Option V) (s : Range) → BarredLeft runs [] bar s → NoneIn (IsBarred (value_at runs) bar) s

@@ -1,6 +1,6 @@
 -- Runs put one after another.
 use Rattle.std.proofs.Common.{◌≡◌, ℕ, ◌+◌, ◌<◌, ◌≤◌, Bool, max, ◌&&◌, ◌==◌, if◌then◌else◌, Option, Some, None, List, [], ◌∷◌}
-use Rattle.intervals.specs.declared.vec_map.Run.{Run}
+use Rattle.intervals.specs.declared.run.Run.{Run}
 use Rattle.intervals.specs.Runs.{value_at, AreRuns, EndsBelow}
 
 -- r and s are side by side and have one value

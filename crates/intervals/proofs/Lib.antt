@@ -4,3 +4,7 @@ pub mod Find
 pub mod Same
 pub mod Starts
 pub mod Around
+pub mod Split
+pub mod SearchLaws
+pub mod SpanLaws
+pub mod SpanSearch

@@ -3,10 +3,11 @@ use Rattle.std.proofs.Common.{◌≡◌, ℕ, zero, suc, ◌+◌, ◌-◌, ◌<�
 use Rattle.std.proofs.lemmas.Bool.{cases_lt, cases_Bool, and_parts}
 use Rattle.std.proofs.lemmas.Bool.Decides.{nat_tests}
 use Rattle.std.proofs.lemmas.Grind.{common_steps}
-use Rattle.intervals.specs.declared.vec_map.Run.{Run}
+use Rattle.intervals.specs.declared.run.Run.{Run}
 use Rattle.intervals.specs.Bytes.{put}
 use Rattle.intervals.specs.Runs.{bytes_of, value_at, Follows, AreRuns, EndsBelow}
 use Rattle.intervals.proofs.Join.{EndBefore, Within, over, joins, join}
+use Rattle.intervals.proofs.Find.{before-none}
 
 -- the runs end below each greater number too
 pub ends_below_le : {V : Type 0} (l : List (Run V)) (m n : ℕ) → m ≤ n → EndsBelow l m → EndsBelow l n
@@ -155,6 +156,17 @@ within_more from to runs old new rest more r s w first last same lt le made belo
       under = λ b lt. grind (arith, nat_tests, w.under b lt, bytes b);
     }
 
+over_nothing : {V : Type 0} (x : Option V) → over x None ≡ x
+over_nothing None = refl
+over_nothing (Some v) = refl
+
+-- no run that is left has bytes inside
+pub within_stop : {V : Type 0} (from to : ℕ) (runs old new rest : List (Run V)) (r : Run V) (b : ℕ) → Within from to runs old new (r ∷ rest) → to ≤ max r.lo from → from ≤ b → b < to → value_at new b ≡ value_at runs b
+within_stop from to runs old new rest r b w outside lo hi =
+    let none = before-none r rest b w.left (omega arith) in
+    let inside = w.inside b lo hi in
+    sym (inside ∙ rw none (over_nothing (value_at new b)))
+
 -- what is read at i is the first of the rest
 pub drop_read : {A : Type 0} (l : List A) (i : ℕ) (x : A) → i < length l → x ≡ get_or l i x → drop i l ≡ x ∷ drop (i + 1) l
 drop_read l i x lt is = drop-cons l i x lt ∙ rw (← is, add-one) refl
@@ -162,10 +174,6 @@ drop_read l i x lt is = drop-cons l i x lt ∙ rw (← is, add-one) refl
 -- past the end there is no rest
 pub drop_all : {A : Type 0} (l : List A) (i : ℕ) → length l ≤ i → drop i l ≡ []
 drop_all l i le = grind (arith, common_steps)
-
-over_nothing : {V : Type 0} (x : Option V) → over x None ≡ x
-over_nothing None = refl
-over_nothing (Some v) = refl
 
 -- with no rest left, `new` has what runs have
 pub within_end : {V : Type 0} (from to : ℕ) (runs old new : List (Run V)) (b : ℕ) → Within from to runs old new [] → from ≤ b → b < to → value_at new b ≡ value_at runs b

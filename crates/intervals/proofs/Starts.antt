@@ -2,7 +2,7 @@
 use Rattle.std.proofs.Common.{◌≡◌, ℕ, zero, suc, ◌+◌, ◌<◌, ◌≤◌, ◌≢◌, Bool, true, false, ◌||◌, eqb, ltb, if◌then◌else◌, length, List, [], ◌∷◌, Option, Some, None, refl, ap, sym, ◌∙◌, inl, inr, arith}
 use Rattle.std.proofs.lemmas.Bool.{cases_lt, cases_order, cases_Bool}
 use Rattle.std.proofs.lemmas.Bool.Decides.{nat_tests}
-use Rattle.intervals.specs.declared.vec_map.Run.{Run}
+use Rattle.intervals.specs.declared.run.Run.{Run}
 use Rattle.intervals.specs.Bytes.{greatest, begins_after, is_start, starts_below, all_bytes, number_of_runs}
 use Rattle.intervals.specs.Runs.{value_at, Follows, AreRuns, EndsBelow}
 use Rattle.intervals.proofs.Find.{after-none, before-none, first-some, first-other, next-other, value_at-none}

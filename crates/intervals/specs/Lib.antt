@@ -2,3 +2,4 @@ pub mod Search
 pub mod Bytes
 pub mod Segment
 pub mod Runs
+pub mod Laws

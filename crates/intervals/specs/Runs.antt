@@ -1,6 +1,6 @@
 -- Runs of bytes that have one value, and what a list of them has at each byte.
 use Rattle.std.specs.Prelude.{◌≡◌, ℕ, ◌+◌, ◌<◌, ◌≤◌, ◌≢◌, if◌then◌else◌, Option, Some, None, List, [], ◌∷◌}
-use Rattle.intervals.specs.declared.vec_map.Run.{Run}
+use Rattle.intervals.specs.declared.run.Run.{Run}
 use Rattle.intervals.specs.Bytes.{Range, is_in}
 
 -- the bytes of a run
@@ -31,3 +31,22 @@ AreRuns (r ∷ rest) = (r.lo ≤ r.hi) × Follows r rest × AreRuns rest
 abbrev pub EndsBelow : {V : Type 0} → List (Run V) → ℕ → Type 0
 EndsBelow [] n = Unit {0}
 EndsBelow (r ∷ rest) n = (r.hi < n) × EndsBelow rest n
+
+-- the first run, if there is one, ends at byte n or above
+abbrev pub EndsFrom : {V : Type 0} → List (Run V) → ℕ → Type 0
+EndsFrom [] n = Unit {0}
+EndsFrom (r ∷ rest) n = n ≤ r.hi
+
+-- P holds at no byte from lo on and below `from`, but at the one below lo, or that one is below `low`
+pub record IsLowestFree (P : ℕ → Type 0) (low from lo : ℕ) : Type 0 where
+  pub above : low ≤ lo
+  pub below : lo ≤ from
+  pub free : (b : ℕ) → lo ≤ b → b < from → P b → ⊥
+  pub full_below : (b : ℕ) → b + 1 ≡ lo → low ≤ b → P b
+
+-- P holds at no byte above `to` and up to hi, but at the one above hi, or that one is above `high`
+pub record IsHighestFree (P : ℕ → Type 0) (to high hi : ℕ) : Type 0 where
+  pub above : to ≤ hi
+  pub below : hi ≤ high
+  pub free : (b : ℕ) → to < b → b ≤ hi → P b → ⊥
+  pub full_above : hi < high → P (hi + 1)

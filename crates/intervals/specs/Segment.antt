@@ -1,5 +1,5 @@
 -- The bytes that a lock call names.
-use Rattle.std.specs.Prelude.{ℕ, zero, suc, ◌+◌, ◌-◌, not, ℤ, pos, negsuc, nat_le, if◌then◌else◌, Result, Ok, Err}
+use Rattle.std.specs.Prelude.{ℕ, zero, suc, ◌+◌, ◌-◌, ℤ, pos, negsuc, nat_le, if◌then◌else◌, Result, Ok, Err}
 use Rattle.intervals.specs.Bytes.{Range, greatest}
 use Rattle.intervals.specs.declared.span.SpanError.{SpanError}
 use Rattle.intervals.specs.declared.span.SpanError.TheVariants.{Invalid, Overflow}

@@ -1,14 +1,16 @@
 -- The largest span that has no byte of a kind.
-use Rattle.std.specs.Prelude.{◌≡◌, ℕ, zero, suc, pred, ◌+◌, ◌-◌, ◌<◌, ◌≤◌, ◌⊎◌, Bool, true, false, not, ◌||◌}
-use Rattle.std.proofs.Common.{refl, ap, sym, ◌∙◌, inl, inr, add-one, arith}
-use Rattle.std.proofs.lemmas.Bool.{both_ways, cases_lt, cases_order, not-true, not-false, or_cases, or_left, or_right}
-use Rattle.intervals.specs.Search.{first, all_pass, IsFirst}
-use Rattle.intervals.specs.Bytes.{Range, NoneIn, IsLargest, largest_around, LargestIsLargest}
-use Rattle.token_set.proofs.SearchLaws.{first_is_first, all_pass-each, all_pass-first}
+use Rattle.std.specs.Prelude.{◌≡◌, ℕ, ◌+◌, ◌<◌, ◌≤◌, ◌⊎◌, Bool, true, false, ◌||◌}
+use Rattle.std.proofs.Common.{refl, ap, sym, ◌∙◌, inl, inr, arith}
+use Rattle.std.proofs.lemmas.Bool.{both_ways, cases_lt, or_cases, or_left, or_right}
+use Rattle.intervals.specs.Search.{some_passes}
+use Rattle.intervals.specs.Bytes.{Range, NoneIn, IsLargest, largest_around}
+use Rattle.intervals.proofs.SpanLaws.{largest_is_one}
+use Rattle.intervals.proofs.SpanSearch.{largest_is_largest}
+use Rattle.token_set.proofs.SearchLaws.{some_passes-first, some_passes-zero, some_passes-more}
 
--- two spans with the same ends are one
-pub range_is : (s t : Range) → s.lo ≡ t.lo → s.hi ≡ t.hi → s ≡ t
-range_is s t lo hi = λ i. record { lo = lo i; hi = hi i }
+or_false : (t : Bool) → (t || false) ≡ t
+or_false true = refl
+or_false false = refl
 
 -- the bytes of one kind are of the other
 pub IsLargest-iff : (P Q : ℕ → Type 0) (required within s : Range) → ((b : ℕ) → P b → Q b) → ((b : ℕ) → Q b → P b) → IsLargest P required within s → IsLargest Q required within s
@@ -21,27 +23,6 @@ IsLargest-iff P Q required within s to from l = record {
   full_below = λ b next le. to b (l.full_below b next le);
   full_above = λ lt. to _ (l.full_above lt);
 }
-
-module _ (P : ℕ → Type 0) (required within : Range) (order : required.lo ≤ required.hi) where
-  starts_same : (s t : Range) → IsLargest P required within s → IsLargest P required within t → s.lo < t.lo → ⊥
-  starts_same s t l m lt =
-      l.free (t.lo - 1) (omega arith) (omega (arith, l.has_last, m.has_first)) (m.full_below (t.lo - 1) (omega arith) (omega (arith, l.starts_within)))
-
-  ends_same : (s t : Range) → IsLargest P required within s → IsLargest P required within t → s.hi < t.hi → ⊥
-  ends_same s t l m lt =
-      m.free (s.hi + 1) (omega (arith, m.has_first, l.has_last)) (omega arith) (l.full_above (omega (arith, m.ends_within)))
-
-  -- there is one largest span
-  pub IsLargest-unique : (s t : Range) → IsLargest P required within s → IsLargest P required within t → s ≡ t
-  IsLargest-unique s t l m = range_is s t
-      (elim (cases_order s.lo t.lo) [
-        | inl same ↦ same
-        | inr other ↦ elim other [ inl lt ↦ absurd (starts_same s t l m lt) | inr gt ↦ absurd (starts_same t s m l gt) ]
-      ])
-      (elim (cases_order s.hi t.hi) [
-        | inl same ↦ same
-        | inr other ↦ elim other [ inl lt ↦ absurd (ends_same s t l m lt) | inr gt ↦ absurd (ends_same t s m l gt) ]
-      ])
 
 -- the largest span for two kinds: that for one of them, within the largest for the other
 pub IsLargest-or : (P Q : ℕ → Type 0) (required within s t : Range) → required.lo ≤ required.hi → IsLargest P required within s → IsLargest Q required s t → IsLargest (λ b. P b ⊎ Q b) required within t
@@ -64,57 +45,13 @@ IsLargest-or P Q required within s t order l m = record {
   ];
 }
 
--- the number below the first is the last before it
-pred-add : (k : ℕ) → 0 < k → pred k + 1 ≡ k
-pred-add zero h = absurd (omega arith)
-pred-add (suc k) h = add-one k
-
-module _ (barred : ℕ → Bool) (required within : Range) (order : required.lo ≤ required.hi) (starts : within.lo ≤ required.lo) (ends : required.hi ≤ within.hi) where
-  free_from : ℕ → Bool
-  free_from l = all_pass (λ b. not (barred b)) l (required.lo - l)
-
-  module _ (free : NoneIn (λ b. barred b ≡ true) required) (low above : ℕ) (f : IsFirst (λ l. all_pass (λ b. not (barred b)) l (required.lo - l)) within.lo (required.lo - within.lo) low) (g : IsFirst barred (required.hi + 1) (within.hi - required.hi) above) where
-    free_below : (b : ℕ) → low ≤ b → b < required.lo → barred b ≡ true → ⊥
-    free_below b ge lt = both_ways _ (not-true _ (all_pass-each (λ b. not (barred b)) low (required.lo - low) b (f.here (omega arith)) ge (omega arith)))
-
-    barred_below : (b : ℕ) → b + 1 ≡ low → within.lo ≤ b → barred b ≡ true
-    barred_below b next le =
-        let one = all_pass-first (λ b. not (barred b)) b (required.lo - b) (f.none_before b le (omega arith)) in
-        elim (cases_lt one.place low) [
-          | inl lt ↦ rw (let here : b ≡ one.place = omega (arith, one.above) in here) (not-false _ one.here)
-          | inr ge ↦ absurd (free_below one.place ge (omega (arith, one.below, f.within)) (not-false _ one.here))
-        ]
-
-    around : (hi : ℕ) → hi + 1 ≡ above → IsLargest (λ b. barred b ≡ true) required within (record { lo = low; hi = hi })
-    around hi e = record {
-      has_first = omega (arith, f.within);
-      has_last = omega (arith, g.least);
-      starts_within = f.least;
-      ends_within = omega (arith, g.within);
-      free = λ b ge le. elim (cases_lt b required.lo) [
-        | inl lt ↦ free_below b ge lt
-        | inr in_low ↦ elim (cases_lt required.hi b) [
-          | inl past ↦ both_ways _ (g.none_before b (omega arith) (omega arith))
-          | inr in_high ↦ free b in_low in_high
-        ]
-      ];
-      full_below = barred_below;
-      full_above = λ lt. rw e (g.here (omega arith));
-    }
-
-pub largest_is_largest : LargestIsLargest
-largest_is_largest barred required within order starts ends free =
-    let f = first_is_first (λ l. all_pass (λ b. not (barred b)) l (required.lo - l)) within.lo (required.lo - within.lo) in
-    let g = first_is_first barred (required.hi + 1) (within.hi - required.hi) in
-    around barred required within order starts ends free _ _ f g _ (pred-add _ (omega (arith, g.least)))
-
 -- what is the largest span is what `largest_around` gives
 pub largest_around-is : (barred : ℕ → Bool) (required within s : Range) → required.lo ≤ required.hi → IsLargest (λ b. barred b ≡ true) required within s → s ≡ largest_around barred required within
 largest_around-is barred required within s order l =
     let starts : within.lo ≤ required.lo = omega (arith, l.starts_within, l.has_first) in
     let ends : required.hi ≤ within.hi = omega (arith, l.ends_within, l.has_last) in
     let free : NoneIn (λ b. barred b ≡ true) required = λ b lo hi. l.free b (omega (arith, l.has_first)) (omega (arith, l.has_last)) in
-    IsLargest-unique (λ b. barred b ≡ true) required within order s _ l (largest_is_largest barred required within order starts ends free)
+    largest_is_one (λ b. barred b ≡ true) required within order s _ l (largest_is_largest barred required within order starts ends free)
 
 -- the same tests have the same largest span
 pub largest_around-same : (p q : ℕ → Bool) (required within : Range) → ((b : ℕ) → p b ≡ q b) → largest_around p required within ≡ largest_around q required within
@@ -122,9 +59,9 @@ largest_around-same p q required within same =
     let functions : p ≡ q = λ i b. same b i in
     ap (λ f. largest_around f required within) functions
 
--- without a barred byte it is as large as it may be
-pub largest_around-free : (barred : ℕ → Bool) (required within : Range) → required.lo ≤ required.hi → within.lo ≤ required.lo → required.hi ≤ within.hi → NoneIn (λ b. barred b ≡ true) within → largest_around barred required within ≡ within
-largest_around-free barred required within order starts ends free = sym (largest_around-is barred required within within order (record {
+-- without a byte of the kind it is as large as it may be
+pub IsLargest-whole : (P : ℕ → Type 0) (required within : Range) → within.lo ≤ required.lo → required.hi ≤ within.hi → NoneIn P within → IsLargest P required within within
+IsLargest-whole P required within starts ends free = record {
   has_first = starts;
   has_last = ends;
   starts_within = omega arith;
@@ -132,7 +69,12 @@ largest_around-free barred required within order starts ends free = sym (largest
   free = free;
   full_below = λ b next le. absurd (omega arith);
   full_above = λ lt. absurd (omega arith);
-}))
+}
+
+-- without a barred byte too
+pub largest_around-free : (barred : ℕ → Bool) (required within : Range) → required.lo ≤ required.hi → within.lo ≤ required.lo → required.hi ≤ within.hi → NoneIn (λ b. barred b ≡ true) within → largest_around barred required within ≡ within
+largest_around-free barred required within order starts ends free =
+    sym (largest_around-is barred required within within order (IsLargest-whole (λ b. barred b ≡ true) required within starts ends free))
 
 -- the largest span for two tests: that for the second, within the largest for the first
 pub largest_around-or : (p q : ℕ → Bool) (required within : Range) → required.lo ≤ required.hi → within.lo ≤ required.lo → required.hi ≤ within.hi → NoneIn (λ b. p b ≡ true) required → NoneIn (λ b. q b ≡ true) required → largest_around (λ b. p b || q b) required within ≡ largest_around q required (largest_around p required within)
@@ -144,3 +86,23 @@ largest_around-or p q required within order starts ends free_p free_q =
     (λ b either. elim either [ inl left ↦ or_left _ _ left | inr right ↦ or_right _ _ right ])
     (λ b. or_cases _ _)
     (IsLargest-or (λ b. p b ≡ true) (λ b. q b ≡ true) required within _ _ order l m)))
+
+module _ (test : ℕ → ℕ → Bool) (lo : ℕ) (required within : Range) (order : required.lo ≤ required.hi) (starts : within.lo ≤ required.lo) (ends : required.hi ≤ within.hi) where
+  -- of no tests
+  pub largest_around-zero : largest_around (λ b. some_passes (λ k. test k b) lo 0) required within ≡ within
+  largest_around-zero = largest_around-free _ required within order starts ends (λ b above below. both_ways _ (some_passes-zero (λ k. test k b) lo))
+
+  -- of one more test: within the span for the tests before it
+  pub largest_around-more : (n : ℕ) → ((k : ℕ) → lo ≤ k → k < lo + (n + 1) → NoneIn (λ b. test k b ≡ true) required) → largest_around (λ b. some_passes (λ k. test k b) lo (n + 1)) required within ≡ largest_around (test (lo + n)) required (largest_around (λ b. some_passes (λ k. test k b) lo n) required within)
+  largest_around-more n free =
+      largest_around-same (λ b. some_passes (λ k. test k b) lo (n + 1)) (λ b. some_passes (λ k. test k b) lo n || test (lo + n) b) required within (λ b. some_passes-more (λ k. test k b) lo n)
+      ∙ largest_around-or (λ b. some_passes (λ k. test k b) lo n) (test (lo + n)) required within order starts ends
+      (λ b above below some.
+      let one = some_passes-first (λ k. test k b) lo n some in
+      free _ one.above (omega (arith, one.below)) b above below one.here)
+      (free (lo + n) (omega arith) (omega arith))
+
+  -- and of one that no byte passes: the same span
+  pub largest_around-skip : (n : ℕ) → ((b : ℕ) → test (lo + n) b ≡ false) → largest_around (λ b. some_passes (λ k. test k b) lo (n + 1)) required within ≡ largest_around (λ b. some_passes (λ k. test k b) lo n) required within
+  largest_around-skip n none =
+      largest_around-same _ _ required within (λ b. some_passes-more (λ k. test k b) lo n ∙ ap (λ t. some_passes (λ k. test k b) lo n || t) (none b) ∙ or_false _)

@@ -1,59 +1,10 @@
 -- What `first`, `some_passes` and `all_pass` say of the numbers that they go over.
-use Rattle.std.specs.Prelude.{◌≡◌, ℕ, zero, suc, ◌+◌, ◌<◌, ◌≤◌, Bool, true, false, not, ◌||◌, nat_lt}
+use Rattle.std.specs.Prelude.{◌≡◌, ℕ, ◌+◌, ◌<◌, ◌≤◌, Bool, true, false, not, ◌||◌, nat_lt}
 use Rattle.std.specs.Cmp.{both_ways as same_tests}
-use Rattle.std.proofs.Common.{refl, ap, ◌∙◌, inl, inr, arith}
+use Rattle.std.proofs.Common.{ap, ◌∙◌, inl, inr, arith}
 use Rattle.std.proofs.lemmas.Bool.{both_ways, cases_lt, cases_order, not-true, not-false, not_from_true, not_from_false, false_from_ne_true, ltb-true, lt-ltb, or_cases, or_left, or_right}
-use Rattle.intervals.specs.Search.{first, some_passes, all_pass, IsFirst, FirstIsFirst}
-
-none : (j lo : ℕ) → lo ≤ j → j < lo → ⊥
-none j lo above below = omega arith
-
--- it is lo, if that passes
-at_once : (passes : ℕ → Bool) (lo n : ℕ) → passes lo ≡ true → IsFirst passes lo n lo
-at_once passes lo n yes_lo = record {
-  least = omega arith;
-  within = omega arith;
-  none_before = λ j above below. absurd (none j lo above below);
-  here = λ h. yes_lo;
-}
-
--- no number is left
-at_end : (passes : ℕ → Bool) (lo : ℕ) → IsFirst passes lo 0 lo
-at_end passes lo = record {
-  least = omega arith;
-  within = omega arith;
-  none_before = λ j above below. absurd (none j lo above below);
-  here = λ h. absurd (too_far h);
-}
-  where
-    too_far : lo < lo + 0 → ⊥
-    too_far h = omega arith
-
--- or it is the first of the numbers after lo
-later : (passes : ℕ → Bool) (lo n k : ℕ) → passes lo ≡ false → IsFirst passes (lo + 1) n k → IsFirst passes lo (suc n) k
-later passes lo n k no_lo f = record {
-  least = below k f.least;
-  within = reach k f.within;
-  none_before = λ j above under. grind (arith, no_lo, f.none_before j, above, under);
-  here = λ h. f.here (inside k h);
-}
-  where
-    below : (k : ℕ) → lo + 1 ≤ k → lo ≤ k
-    below k h = omega arith
-
-    reach : (k : ℕ) → k ≤ lo + 1 + n → k ≤ lo + suc n
-    reach k h = omega arith
-
-    inside : (k : ℕ) → k < lo + suc n → k < lo + 1 + n
-    inside k h = omega arith
-
-pub first_is_first : FirstIsFirst
-unfolding first
-first_is_first passes lo zero = at_end passes lo
-first_is_first passes lo (suc n) =
-    elim (passes lo) as (λ b. passes lo ≡ b → IsFirst passes lo (suc n) (elim b [ true ↦ lo | false ↦ first passes (lo + 1) n ]))
-    [ true ↦ λ h. at_once passes lo (suc n) h | false ↦ λ h. later passes lo n (first passes (lo + 1) n) h (first_is_first passes (lo + 1) n) ]
-    refl
+use Rattle.intervals.specs.Search.{first, some_passes, all_pass, IsFirst}
+use Rattle.intervals.proofs.SearchLaws.{first_is_first}
 
 -- the first number that passes is the only one
 pub first-unique : (passes : ℕ → Bool) (lo n j k : ℕ) → IsFirst passes lo n j → IsFirst passes lo n k → j ≡ k

@@ -1,5 +1,5 @@
 -- What the words of tokens say of each byte.
-use Rattle.std.specs.Prelude.{◌≡◌, ℕ, ◌+◌, ◌-◌, ◌<◌, ◌≤◌, Bool, true, false, Option, Some, None, is_none, is_some, IsSome, MatchOption}
+use Rattle.std.specs.Prelude.{◌≡◌, ℕ, ◌<◌, ◌≤◌, true, false, Option, Some, None, is_none, is_some, IsSome, MatchOption}
 use Rattle.std.proofs.Common.{refl, sym, ap, inl, inr, arith}
 use Rattle.std.proofs.lemmas.Bool.{both_ways, cases_lt, cases_Bool}
 use Rattle.intervals.specs.Bytes.{Range, greatest, AllAre, IsBarred, NoneIn, IsFirstIn, IsLargest, size}
@@ -9,7 +9,7 @@ use Rattle.model.specs.declared.level.Level.{Level}
 use Rattle.model.specs.declared.level.Level.TheVariants.{Shared, Exclusive}
 use Rattle.token_set.specs.Tokens.{Token, no_token, serves, covers, level_conflicts, conflicts, holds_nothing}
 use Rattle.token_set.specs.Sets.{bar_of, HasLevels}
-use Rattle.token_set.proofs.SearchLaws.{some_passes-from, some_passes-first, none_passes-from, some_passes-none, all_pass-from, all_pass-each, all_pass-fails}
+use Rattle.token_set.proofs.SearchLaws.{some_passes-from, none_passes-from, some_passes-none, all_pass-from, all_pass-each}
 use Rattle.token_set.proofs.AroundLaws.{IsLargest-iff}
 
 none_is : (x : Option Level) → is_none x ≡ true → x ≡ None

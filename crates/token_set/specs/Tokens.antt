@@ -1,5 +1,5 @@
 -- Tokens: what a node may lock at each byte without asking.
-use Rattle.std.specs.Prelude.{◌≡◌, ℕ, ◌≤◌, Bool, true, false, if◌then◌else◌, Option, Some, None, is_none}
+use Rattle.std.specs.Prelude.{ℕ, Bool, true, false, if◌then◌else◌, Option, Some, None, is_none}
 use Rattle.intervals.specs.Search.{some_passes, all_pass}
 use Rattle.intervals.specs.Bytes.{Range, greatest, whole, is_in, size}
 use Rattle.model.specs.declared.mode.Mode.{Mode}

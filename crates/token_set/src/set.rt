@@ -1,6 +1,6 @@
 //! The token of one node for one file.
-ghost use Rattle.std.specs.Prelude.{◌≡◌, ◌≢◌, ◌≤◌, ◌<◌, ℕ, true, None, Some, IfOk, OnOk, OnErr, IsTrue, ◌↔◌, MatchOption};
-ghost use Rattle.intervals.specs.Bytes.{greatest, IsLargest, NoneIn, largest_around};
+ghost use Rattle.std.specs.Prelude.{◌≡◌, ◌≤◌, true, Some, IfOk, OnOk, OnErr, IsTrue, ◌↔◌, MatchOption};
+ghost use Rattle.intervals.specs.Bytes.{IsLargest, NoneIn, largest_around};
 ghost use Rattle.token_set.specs.Tokens.{no_token, covers, raised, conflicts, level_conflicts, holds_nothing};
 ghost use Rattle.token_set.specs.Sets.{token_of, bar_of, HasLevels, IsFirstExclusive};
 
@@ -12,22 +12,22 @@ use model::mode::Mode;
 use std::alloc::Global;
 use std::marker::Model;
 
-/// The level of each byte.
-pub type Levels = VecMap<Level>;
+// The level of each byte.
+type Levels = VecMap<Level>;
 
 /// The token of one node for one file: the level of each byte, or none where the node may lock
-/// nothing without asking. A call that answers `NoMemory` leaves the token as it was.
+/// nothing without asking. A call that answers `NoMemory` leaves the token as it was. (Byte-range
+/// tokens: Schmuck and Haskin, FAST 2002.)
 #[derive(Drop)]
 pub struct TokenSet {
     levels: Levels,
 }
 
 impl Model for TokenSet {
-    ghost use Rattle.std.specs.Prelude.{List};
-    ghost use Rattle.intervals.specs.declared.vec_map.Run.{Run};
+    ghost use Rattle.intervals.specs.declared.vec_map.VecMap.{VecMap};
     ghost use Rattle.model.specs.declared.level.Level.{Level};
 
-    ghost Value = { List (Run Level) };
+    ghost Value = { VecMap Level };
 
     ghost view = { λ t. t.levels };
 }

@@ -1,9 +1,10 @@
-use Rattle.std.proofs.Common.{◌≡◌, ℕ, arith}
-use Rattle.intervals.specs.Bytes.{Range, put}
+use Rattle.std.proofs.Common.{◌≡◌, ◌≤◌, ◌<◌, ◌+◌, ℕ, sym, ◌∙◌, arith}
+use Rattle.intervals.specs.Bytes.{Range, greatest, put}
 use Rattle.intervals.specs.Runs.{value_at}
 use Rattle.intervals.proofs.Runs.{ends_below_le, spliced_bytes, put_none}
-use Rattle.intervals.proofs.vec_map.spliced.Goals as goal
-use Rattle.intervals.proofs.vec_map.spliced.Goals.{in-Some+in_ok-append, in_default}
+use Rattle.intervals.proofs.Split.{at-back}
+use Rattle.intervals.proofs.run.spliced.Goals as goal
+use Rattle.intervals.proofs.run.spliced.Goals.{in-Some+in_ok-append, in_default}
 
 pub append_within-requires-2-clause-below : goal.append_within-requires-2-clause-below
 append_within-requires-2-clause-below g c =
@@ -22,4 +23,7 @@ returns-clause-bytes g c =
       | in-Some+in_ok-append w ↦ rw (w.new-is, w.in-Some.is) (w.in_ok-append.ensures.bytes b)
       | in_default w ↦ rw (w.new-is, w.in_default.is) (put_none _ _ _ b first.below)
     ] in
-    rw (← c.span.view_is) (spliced_bytes _ _ _ _ _ _ _ _ c.span.invariant.0 first.inside middle last.inside last.under last.below c.requires.bounded)
+    let split = c.split_before.ensures in
+    let above : (b : ℕ) → span.hi + 1 ≤ b → b < greatest + 1 → value_at c.append_within-2.new.new.items b ≡ value_at c.args.runs.now b = λ b lo hi.
+    rw split.whole (last.inside b lo hi ∙ sym (at-back c.split_before.result.0.now c.split_before.result.1.now (span.hi + 1) b split.ended lo)) in
+    rw (← c.span.view_is) (spliced_bytes _ _ _ _ _ _ _ _ c.span.invariant.0 first.inside middle above last.under last.below c.requires.bounded)
