@@ -187,8 +187,7 @@ impl Server {
         requires { IsNumber self.now.shape.nodes node }
         ensures { result ≡ (not (node == request.now.call.node) && row_conflicts (rows_of self.now.clients node) request.now.wanted.required request.now.mode) }
     {
-        node != request.call.node
-            && self.clients.conflicts(node, request.wanted.required, request.mode)
+        !request.is_of_node(node) && self.clients.conflicts(node, request.required(), request.mode)
     }
 
     // The least other node whose row conflicts with what the request needs.
@@ -209,10 +208,10 @@ impl Server {
         requires { self.now.shape.nodes < conflicting_node (server_state self.now) request.now }
         ensures { result ≡ granted_span (server_state self.now) request.now }
     {
-        let required = request.wanted.required;
-        let mut span = request.wanted.desired;
+        let required = request.required();
+        let mut span = request.desired();
         for place in 0..self.shape.nodes() {
-            if place + 1 != request.call.node {
+            if !request.is_of_node(place + 1) {
                 span = self.clients.free_around(place + 1, required, span, request.mode);
             }
         }
