@@ -1,2 +1,3 @@
 pub mod ClientLaws
 pub mod HeldLaws
+pub mod GrantLaws

@@ -1,9 +1,11 @@
 //! The nodes of a cluster, as a token server knows them.
-ghost use Rattle.std.specs.Prelude.{◌≡◌, ℕ, ◌+◌, ◌<◌, ◌↔◌, ◌==◌, if◌then◌else◌, max, length, All, IsTrue, IfOk, IfSome, OnOk, OnErr, MatchOption, Some, None};
+ghost use Rattle.std.specs.Prelude.{◌≡◌, ℕ, ◌+◌, ◌<◌, ◌≤◌, ◌↔◌, false, ◌==◌, if◌then◌else◌, max, length, All, IsTrue, IfOk, IfSome, OnOk, OnErr, MatchOption, Some, None};
 ghost use Rattle.std.specs.Option.{option_map};
+ghost use Rattle.intervals.specs.Bytes.{largest_around};
 ghost use Rattle.model.specs.Limits.{IsNumber};
 ghost use Rattle.messages.specs.Messages.{greatest_number};
 ghost use Rattle.token_server.specs.State.{empty_row, row_above};
+ghost use Rattle.token_server.specs.Serve.{row_conflicts, row_conflicts_at};
 ghost use Rattle.token_server.specs.Parts.{row_state, rows_of, deaths_of, answered, given, with_change, SameClients};
 
 use crate::client::Client;
@@ -95,6 +97,33 @@ impl Clients {
         ensures { MatchOption result (rows_of self.now node ≡ None) (λ row. rows_of self.now node ≡ Some (row_state (deaths_of self.now node + 1) row.now)) }
     {
         self.clients[usize::from(node) - 1].row.as_ref()
+    }
+
+    /// Whether the row of a node conflicts with the mode at some byte of the span.
+    pub fn conflicts(&self, node: u8, span: Span, mode: Mode) -> bool
+        requires { IsNumber (length self.now) node }
+        ensures { result ≡ row_conflicts (rows_of self.now node) span mode }
+    {
+        match self.row(node) {
+            Some(row) => row.token.conflicts(span, mode),
+            None => false,
+        }
+    }
+
+    /// The largest span that contains `required`, lies in `within`, and has no byte at which the row
+    /// of a node conflicts with the mode.
+    pub fn free_around(&self, node: u8, required: Span, within: Span, mode: Mode) -> Span
+        requires node_in { IsNumber (length self.now) node }
+        requires starts_within { within.lo ≤ required.lo }
+        requires ends_within { required.hi ≤ within.hi }
+        requires free { row_conflicts (rows_of self.now node) required mode ≡ false }
+        ensures { result ≡ largest_around (λ b. row_conflicts_at (rows_of self.now node) b mode) required within }
+    {
+        let _ = &required.lo; // tells the proof that the span has a byte
+        match self.row(node) {
+            Some(row) => row.token.free_around(required, within, mode),
+            None => within,
+        }
     }
 
     /// The incarnations of a node up to this one are known to be dead: a row of one of them goes.

@@ -1,7 +1,8 @@
 //! Requests that a server holds.
-ghost use Rattle.std.specs.Prelude.{◌≡◌};
+ghost use Rattle.std.specs.Prelude.{◌≡◌, ◌≤◌, ◌==◌};
 ghost use Rattle.token_server.specs.State.{is_of_call, is_up_to};
 
+use intervals::span::Span;
 use messages::message::Urgency;
 use messages::wanted::Wanted;
 use model::call::CallId;
@@ -22,6 +23,32 @@ impl Held {
         ensures { result ≡ is_of_call call self.now }
     {
         self.call == call
+    }
+
+    /// Whether the request is of the node.
+    pub fn is_of_node(&self, node: u8) -> bool
+        ensures { result ≡ (node == self.now.call.node) }
+    {
+        node == self.call.node
+    }
+
+    /// The bytes that the request needs.
+    pub fn required(&self) -> Span
+        ensures value { result ≡ self.now.wanted.required }
+        ensures ordered { result.lo ≤ result.hi }
+    {
+        let required = self.wanted.required;
+        let _ = &required.lo; // tells the proof that the span has a byte
+        required
+    }
+
+    /// The bytes that it would like to have, which contain those.
+    pub fn desired(&self) -> Span
+        ensures value { result ≡ self.now.wanted.desired }
+        ensures starts_before { result.lo ≤ self.now.wanted.required.lo }
+        ensures ends_after { self.now.wanted.required.hi ≤ result.hi }
+    {
+        self.wanted.desired
     }
 
     /// Whether the request is of the node, in that incarnation or an older one.

@@ -1,13 +1,14 @@
 //! The token server of a file.
-ghost use Rattle.std.specs.Prelude.{◌≡◌, ◌≢◌, ◌+◌, ◌<◌, ◌≤◌, ◌↔◌, not, ◌&&◌, ◌||◌, ◌==◌, if◌then◌else◌, IsTrue, IsFalse, IsSome, IfSome, OnNone, IfOk, IfErr, OnOk, filter, Some, None, Ok, Err};
+ghost use Rattle.std.specs.Prelude.{◌≡◌, ◌≢◌, ◌+◌, ◌<◌, ◌≤◌, ◌↔◌, not, ◌&&◌, ◌||◌, ◌==◌, if◌then◌else◌, IsTrue, IsFalse, false, IsSome, IfSome, IfNone, IfOk, IfErr, OnOk, [], ◌∷◌, filter, Some, None, Ok, Err};
 ghost use Rattle.std.specs.List.{list_any};
+ghost use Rattle.std.specs.Option.{option_map};
 ghost use Rattle.model.specs.Limits.{IsNumber};
 ghost use Rattle.intervals.specs.Bytes.{largest_around};
-ghost use Rattle.messages.specs.Messages.{addressee, call_of, is_within};
-ghost use Rattle.token_server.specs.State.{first_server, is_of_call, is_up_to, unless, forgotten};
+ghost use Rattle.messages.specs.Messages.{greatest_number, addressee, call_of, is_within};
+ghost use Rattle.token_server.specs.State.{first_server, is_of_call, is_up_to, unless, with_row, forgotten};
 ghost use Rattle.token_server.specs.Serve.{admitted, row_conflicts, row_conflicts_at, granted_span, conflicting_node, granted_to, serve};
 ghost use Rattle.token_server.specs.Server.{server_rule, with_a_row, is_active, enqueued, asked, is_grant, taken_if, delivered, is_server};
-ghost use Rattle.token_server.specs.Parts.{server_state, rows_of, deaths_of};
+ghost use Rattle.token_server.specs.Parts.{server_state, rows_of, deaths_of, given};
 
 use crate::clients::Clients;
 use crate::event::ServerEvent;
@@ -150,7 +151,7 @@ impl Server {
     fn awaits(&self, call: CallId, number: u32) -> bool
         requires { IsNumber self.now.shape.nodes call.node }
         ensures row { IfSome (rows_of self.now.clients call.node) (λ row. result ≡ ((row.incarnation == call.incarnation) && is_grant number row.outstanding)) }
-        ensures none { OnNone (rows_of self.now.clients call.node) (IsFalse result) }
+        ensures none { IfNone (rows_of self.now.clients call.node) (IsFalse result) }
     {
         let Some(row) = self.clients.row(call.node) else {
             return false;
@@ -186,13 +187,7 @@ impl Server {
         requires { IsNumber self.now.shape.nodes node }
         ensures { result ≡ (not (node == request.now.call.node) && row_conflicts (rows_of self.now.clients node) request.now.wanted.required request.now.mode) }
     {
-        if node == request.call.node {
-            return false;
-        }
-        match self.clients.row(node) {
-            Some(row) => row.token.conflicts(request.wanted.required, request.mode),
-            None => false,
-        }
+        !request.is_of_node(node) && self.clients.conflicts(node, request.required(), request.mode)
     }
 
     // The least other node whose row conflicts with what the request needs.
@@ -208,33 +203,31 @@ impl Server {
         None
     }
 
-    // The span without the bytes that another node's row bars, and those beyond them.
-    fn narrowed(&self, node: u8, request: &Held, within: Span) -> Span
-        requires node_in { IsNumber self.now.shape.nodes node }
-        requires starts_within { within.lo ≤ request.now.wanted.required.lo }
-        requires ends_within { request.now.wanted.required.hi ≤ within.hi }
-        requires free { (not (node == request.now.call.node) && row_conflicts (rows_of self.now.clients node) request.now.wanted.required request.now.mode) ≡ false }
-        ensures { result ≡ largest_around (λ b. not (node == request.now.call.node) && row_conflicts_at (rows_of self.now.clients node) b request.now.mode) request.now.wanted.required within }
-    {
-        if node == request.call.node {
-            return within;
-        }
-        match self.clients.row(node) {
-            Some(row) => row.token.free_around(request.wanted.required, within, request.mode),
-            None => within,
-        }
-    }
-
     // The span that a request is granted: the largest that it would like to have.
     fn granted_span(&self, request: &Held) -> Span
         requires { self.now.shape.nodes < conflicting_node (server_state self.now) request.now }
         ensures { result ≡ granted_span (server_state self.now) request.now }
     {
-        let mut span = request.wanted.desired;
+        let required = request.required();
+        let mut span = request.desired();
         for place in 0..self.shape.nodes() {
-            span = self.narrowed(place + 1, request, span);
+            if !request.is_of_node(place + 1) {
+                span = self.clients.free_around(place + 1, required, span, request.mode);
+            }
         }
         span
+    }
+
+    // Sends the request's node the next command, which gives it the span.
+    fn send(&mut self, alloc: Global, request: &Held, span: Span, command: &Message) -> Result<Items<Message>, NoMemory>
+        requires node_in { IsNumber self.old.shape.nodes request.now.call.node }
+        requires room { IfSome (rows_of self.old.clients request.now.call.node) (λ row. row.number < greatest_number) }
+        ensures state { OnOk result (server_state self.new ≡ with_row (server_state self.old) request.now.call.node (option_map (given span request.now.mode command.now) (rows_of self.old.clients request.now.call.node))) }
+        ensures sends { IfOk result (λ sends. sends ≡ command.now ∷ []) }
+    {
+        let sends = Items::one(alloc, *command)?;
+        self.clients.give(request.call.node, span, request.mode, *command)?;
+        Ok(sends)
     }
 
     // Gives the request's node the granted span, unless a command to it is under way.
@@ -261,9 +254,7 @@ impl Server {
             mode: request.mode,
             span,
         };
-        let sends = Items::one(alloc, command)?;
-        self.clients.give(node, span, request.mode, command)?;
-        Ok(sends)
+        Ok(self.send(alloc, request, span, &command)?)
     }
 
     // Serves a request: it is granted, unless another node's row conflicts with it.
@@ -428,7 +419,7 @@ fn is_grant(command: &Option<Message>, number: u32) -> bool
     ensures { result ≡ is_grant number command.now }
 {
     match command {
-        Some(command) => command.is_grant(number),
-        None => false,
+        Some(Message::Grant { number: own, .. }) => *own == number,
+        _ => false,
     }
 }

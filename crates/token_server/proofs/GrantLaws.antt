@@ -1,0 +1,138 @@
+-- What the span that a request is granted is.
+use Rattle.std.specs.Prelude.{◌≡◌, ◌≢◌, ℕ, ◌+◌, ◌<◌, ◌≤◌, Bool, true, false, not, ◌&&◌, ◌==◌, if◌then◌else◌, Option, Some, None}
+use Rattle.std.proofs.Common.{refl, sym, ap, ◌∙◌, inl, inr, arith, subst}
+use Rattle.std.proofs.lemmas.Bool.{both_ways, and_parts}
+use Rattle.intervals.specs.Search.{first, IsFirst, some_passes}
+use Rattle.intervals.specs.Bytes.{Range, NoneIn, largest_around}
+use Rattle.intervals.proofs.SearchLaws.{first_is_first}
+use Rattle.intervals.proofs.SpanSearch.{largest_is_largest}
+use Rattle.token_set.specs.Tokens.{conflicts, level_conflicts}
+use Rattle.token_set.proofs.SearchLaws.{first-is, some_passes-first}
+use Rattle.token_set.proofs.TokenLaws.{none-conflicts}
+use Rattle.token_set.proofs.AroundLaws.{largest_around-free, largest_around-zero, largest_around-more, largest_around-skip, largest_around-same}
+use Rattle.model.specs.declared.mode.Mode.{Mode}
+use Rattle.token_server.specs.declared.held.Held.{Held}
+use Rattle.token_server.specs.State.{Row, ServerState}
+use Rattle.token_server.specs.Serve.{row_conflicts, row_conflicts_at, is_taken, granted_span, conflicting_node}
+
+-- another node's row conflicts with what the request needs
+abbrev pub conflicts_at : ServerState → Held → ℕ → Bool
+conflicts_at s r n = not (n == r.call.node) && row_conflicts (s.rows n) r.wanted.required r.mode
+
+-- at the byte
+abbrev pub conflicts_at_byte : ServerState → Held → ℕ → ℕ → Bool
+conflicts_at_byte s r n b = not (n == r.call.node) && row_conflicts_at (s.rows n) b r.mode
+
+-- the span before the rows of the nodes up to k, and what it stands between
+pub record IsNarrowed (s : ServerState) (r : Held) (k : ℕ) (span : Range) : Type 0 where
+  pub order : r.wanted.required.lo ≤ r.wanted.required.hi
+  pub starts : r.wanted.desired.lo ≤ r.wanted.required.lo
+  pub ends : r.wanted.required.hi ≤ r.wanted.desired.hi
+  pub value : span ≡ largest_around (λ b. some_passes (λ n. conflicts_at_byte s r n b) 1 k) r.wanted.required r.wanted.desired
+
+-- the first of the numbers from 1 that passes
+pub first-next : (passes : ℕ → Bool) (nodes place : ℕ) → place < nodes → ((n : ℕ) → 1 ≤ n → n ≤ place → passes n ≡ false) → passes (place + 1) ≡ true → first passes 1 nodes ≡ place + 1
+first-next passes nodes place below before here = first-is passes 1 nodes (place + 1) (record {
+  least = omega arith;
+  within = omega arith;
+  none_before = λ j above under. before j above (omega arith);
+  here = λ within. here;
+})
+
+-- none of them does
+pub first-none : (passes : ℕ → Bool) (nodes place : ℕ) → nodes ≤ place → ((n : ℕ) → 1 ≤ n → n ≤ place → passes n ≡ false) → nodes < first passes 1 nodes
+first-none passes nodes place end before =
+    let f : first passes 1 nodes ≡ 1 + nodes = first-is passes 1 nodes (1 + nodes) (record {
+      least = omega arith;
+      within = omega arith;
+      none_before = λ j above under. before j above (omega arith);
+      here = λ within. absurd (omega arith);
+    }) in
+    omega arith
+
+-- the same of a row behind a reference
+pub free_around-some : (row : Option Row) (there : Row) (span : Range) (mode : Mode) → row_conflicts row span mode ≡ false → row ≡ Some there → NoneIn (λ b. level_conflicts (there.token b) mode ≡ true) span
+free_around-some row there span mode free is =
+    none-conflicts there.token span mode (ap (λ row. row_conflicts row span mode) (sym is) ∙ free)
+
+-- a row conflicts at no byte of a span with which it does not conflict
+pub row_free : (row : Option Row) (span : Range) (mode : Mode) → row_conflicts row span mode ≡ false → NoneIn (λ b. row_conflicts_at row b mode ≡ true) span
+row_free None span mode free b above below here = both_ways _ free here
+row_free (Some row) span mode free b above below here = none-conflicts row.token span mode free b above below here
+
+-- without a row the span is as large as it may be
+pub free_around-none : (row : Option Row) (required within : Range) (mode : Mode) → required.lo ≤ required.hi → within.lo ≤ required.lo → required.hi ≤ within.hi → row ≡ None → within ≡ largest_around (λ b. row_conflicts_at row b mode) required within
+free_around-none row required within mode order starts ends none =
+    sym (largest_around-free (λ b. row_conflicts_at row b mode) required within order starts ends (λ b above below here. both_ways _ (ap (λ row. row_conflicts_at row b mode) none) here))
+
+-- no row of another node conflicts, where no node is found whose row does
+no_conflict : (s : ServerState) (r : Held) → s.shape.nodes < conflicting_node s r → (n : ℕ) → 1 ≤ n → n ≤ s.shape.nodes → conflicts_at s r n ≡ false
+no_conflict s r none n above within = (first_is_first (conflicts_at s r) 1 s.shape.nodes).none_before n above (omega arith)
+
+-- nor at any byte of what the request needs
+none_at_byte : (s : ServerState) (r : Held) (n : ℕ) → conflicts_at s r n ≡ false → NoneIn (λ b. conflicts_at_byte s r n b ≡ true) r.wanted.required
+none_at_byte s r n free b above below here =
+    elim (not (n == r.call.node)) as (λ t. (t && row_conflicts (s.rows n) r.wanted.required r.mode) ≡ false → (t && row_conflicts_at (s.rows n) b r.mode) ≡ true → ⊥)
+    [ true ↦ λ free here. row_free (s.rows n) r.wanted.required r.mode free b above below here | false ↦ λ free here. both_ways _ free here ]
+    free here
+
+-- before any row the span is what the request would like to have
+pub narrowed-start : (s : ServerState) (r : Held) → r.wanted.required.lo ≤ r.wanted.required.hi → r.wanted.desired.lo ≤ r.wanted.required.lo → r.wanted.required.hi ≤ r.wanted.desired.hi → IsNarrowed s r 0 r.wanted.desired
+narrowed-start s r order starts ends = record {
+  order = order;
+  starts = starts;
+  ends = ends;
+  value = sym (largest_around-zero (conflicts_at_byte s r) 1 r.wanted.required r.wanted.desired order starts ends);
+}
+
+-- it still holds what the request needs
+pub narrowed-holds : (s : ServerState) (r : Held) (k : ℕ) (span : Range) → s.shape.nodes < conflicting_node s r → k ≤ s.shape.nodes → IsNarrowed s r k span → (span.lo ≤ r.wanted.required.lo) × (r.wanted.required.hi ≤ span.hi)
+narrowed-holds s r k span none within n =
+    let free : NoneIn (λ b. some_passes (λ n. conflicts_at_byte s r n b) 1 k ≡ true) r.wanted.required = λ b above below some.
+        let one = some_passes-first (λ n. conflicts_at_byte s r n b) 1 k some in
+        none_at_byte s r _ (no_conflict s r none _ one.above (omega (arith, one.below))) b above below one.here in
+    let l = largest_is_largest _ r.wanted.required r.wanted.desired n.order n.starts n.ends free in
+    rw n.value (l.has_first, l.has_last)
+
+-- one more row of another node
+pub narrowed-more : (s : ServerState) (r : Held) (k : ℕ) (span next : Range) → s.shape.nodes < conflicting_node s r → k < s.shape.nodes → IsNarrowed s r k span → (k + 1 == r.call.node) ≡ false → next ≡ largest_around (λ b. row_conflicts_at (s.rows (k + 1)) b r.mode) r.wanted.required span → IsNarrowed s r (k + 1) next
+narrowed-more s r k span next none within n other made = record {
+  order = n.order;
+  starts = n.starts;
+  ends = n.ends;
+  value =
+      made
+      ∙ largest_around-same (λ b. row_conflicts_at (s.rows (k + 1)) b r.mode) (conflicts_at_byte s r (1 + k)) r.wanted.required span same
+      ∙ ap (λ span. largest_around (conflicts_at_byte s r (1 + k)) r.wanted.required span) n.value
+      ∙ sym (largest_around-more (conflicts_at_byte s r) 1 r.wanted.required r.wanted.desired n.order n.starts n.ends k (λ j above below. none_at_byte s r j (no_conflict s r none j above (omega arith))));
+}
+  where
+    next_is : k + 1 ≡ 1 + k
+    next_is = omega arith
+
+    same : (b : ℕ) → row_conflicts_at (s.rows (k + 1)) b r.mode ≡ conflicts_at_byte s r (1 + k) b
+    same b = ap (λ t. not t && row_conflicts_at (s.rows (k + 1)) b r.mode) (sym other) ∙ ap (λ n. conflicts_at_byte s r n b) next_is
+
+-- the row of its own node
+pub narrowed-skip : (s : ServerState) (r : Held) (k : ℕ) (span : Range) → IsNarrowed s r k span → (k + 1 == r.call.node) ≡ true → IsNarrowed s r (k + 1) span
+narrowed-skip s r k span n own = record {
+  order = n.order;
+  starts = n.starts;
+  ends = n.ends;
+  value = n.value ∙ sym (largest_around-skip (conflicts_at_byte s r) 1 r.wanted.required r.wanted.desired n.order n.starts n.ends k none);
+}
+  where
+    next_is : k + 1 ≡ 1 + k
+    next_is = omega arith
+
+    none : (b : ℕ) → conflicts_at_byte s r (1 + k) b ≡ false
+    none b = ap (λ n. conflicts_at_byte s r n b) (sym next_is) ∙ ap (λ t. not t && row_conflicts_at (s.rows (k + 1)) b r.mode) own
+
+-- what the next row has to be free of
+pub narrowed-free : (s : ServerState) (r : Held) (k : ℕ) → s.shape.nodes < conflicting_node s r → k < s.shape.nodes → (k + 1 == r.call.node) ≡ false → row_conflicts (s.rows (k + 1)) r.wanted.required r.mode ≡ false
+narrowed-free s r k none within other =
+    ap (λ t. not t && row_conflicts (s.rows (k + 1)) r.wanted.required r.mode) (sym other) ∙ no_conflict s r none (k + 1) (omega arith) (omega arith)
+
+-- after the last row it is the granted span
+pub narrowed-end : (s : ServerState) (r : Held) (k : ℕ) (span : Range) → IsNarrowed s r k span → k ≡ s.shape.nodes → span ≡ granted_span s r
+narrowed-end s r k span n end = n.value ∙ ap (λ k. largest_around (λ b. some_passes (λ n. conflicts_at_byte s r n b) 1 k) r.wanted.required r.wanted.desired) end

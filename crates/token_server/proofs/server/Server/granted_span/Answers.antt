@@ -1,0 +1,43 @@
+use Rattle.std.specs.Prelude.{◌≡◌, ◌≤◌, ◌<◌, ◌==◌, ◌+◌, true, false}
+use Rattle.std.proofs.Common.{sym, ap, ◌∙◌, arith}
+use Rattle.token_server.specs.Parts.{ServerParts, server_state}
+use Rattle.token_server.proofs.GrantLaws.{IsNarrowed, narrowed-start, narrowed-holds, narrowed-free, narrowed-more, narrowed-skip, narrowed-end}
+use Rattle.token_server.proofs.server.Server.granted_span.Goals.{then-not-is_of_node, else-not-is_of_node}
+use Rattle.token_server.proofs.server.Server.granted_span.Goals as goal
+
+pub loop-place-init : goal.loop-place-init
+loop-place-init c =
+    let s = server_state c.args.self.now in
+    let r = c.args.request.now in
+    rw c.desired-span.ensures.value (narrowed-start s r (rw (← c.required-required.ensures.value) c.required-required.ensures.ordered) (rw (← c.desired-span.ensures.value) c.desired-span.ensures.starts_before) (rw (← c.desired-span.ensures.value) c.desired-span.ensures.ends_after))
+
+pub free_around-span-requires-clause-starts_within : goal.free_around-span-requires-clause-starts_within
+free_around-span-requires-clause-starts_within c =
+    let nodes : c.nodes-place-end.result ≡ c.args.self.now.shape.nodes = c.nodes-place-end.ensures.value ∙ ap (λ (p : ServerParts). p.shape.nodes) c.self.view_is in
+    rw c.required-required.ensures.value (narrowed-holds _ _ c.loop-place.place _ c.requires (omega arith) c.loop-place.invariant).0
+
+pub free_around-span-requires-clause-ends_within : goal.free_around-span-requires-clause-ends_within
+free_around-span-requires-clause-ends_within c =
+    let nodes : c.nodes-place-end.result ≡ c.args.self.now.shape.nodes = c.nodes-place-end.ensures.value ∙ ap (λ (p : ServerParts). p.shape.nodes) c.self.view_is in
+    rw c.required-required.ensures.value (narrowed-holds _ _ c.loop-place.place _ c.requires (omega arith) c.loop-place.invariant).1
+
+pub free_around-span-requires-clause-free : goal.free_around-span-requires-clause-free
+free_around-span-requires-clause-free c =
+    let nodes : c.nodes-place-end.result ≡ c.args.self.now.shape.nodes = c.nodes-place-end.ensures.value ∙ ap (λ (p : ServerParts). p.shape.nodes) c.self.view_is in
+    let clients : c.self.inside.clients ≡ c.args.self.now.clients = ap (λ (p : ServerParts). p.clients) c.self.view_is in
+    rw (c.required-required.ensures.value, clients) (narrowed-free (server_state c.args.self.now) c.args.request.now c.loop-place.place c.requires (omega arith) (sym c.is_of_node.ensures ∙ c.if-not-is_of_node.true))
+
+pub loop-place-preserved : goal.loop-place-preserved
+loop-place-preserved c =
+    let s = server_state c.args.self.now in
+    let r = c.args.request.now in
+    let nodes : c.nodes-place-end.result ≡ c.args.self.now.shape.nodes = c.nodes-place-end.ensures.value ∙ ap (λ (p : ServerParts). p.shape.nodes) c.self.view_is in
+    elim c.if-not-is_of_node.branch [
+      | then-not-is_of_node w ↦ rw w.span-is (narrowed-more s r c.loop-place.place c.loop-place.span _ c.requires (omega arith) c.loop-place.invariant (sym c.is_of_node.ensures ∙ w.if-not-is_of_node.true) (rw (← c.self.view_is, ← c.required-required.ensures.value) w.free_around-span.ensures))
+      | else-not-is_of_node w ↦ rw w.span-is (narrowed-skip s r c.loop-place.place c.loop-place.span c.loop-place.invariant (sym c.is_of_node.ensures ∙ w.if-not-is_of_node.false))
+    ]
+
+pub returns : goal.returns
+returns c =
+    let nodes : c.nodes-place-end.result ≡ c.args.self.now.shape.nodes = c.nodes-place-end.ensures.value ∙ ap (λ (p : ServerParts). p.shape.nodes) c.self.view_is in
+    narrowed-end (server_state c.args.self.now) c.args.request.now c.loop-place.place c.loop-place.span c.loop-place.invariant (omega arith)
