@@ -57,7 +57,7 @@ starts_below same f (suc n) = starts_below same f n + (if is_start same f n then
 
 -- how many bytes a file can have: one more than the greatest offset
 unfoldable pub all_bytes : ℕ
-all_bytes = 9223372036854775808
+all_bytes = greatest + 1
 
 -- how many longest runs f has
 abbrev pub number_of_runs : {V : Type 0} → (V → V → Bool) → (ℕ → Option V) → ℕ

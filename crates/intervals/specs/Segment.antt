@@ -8,7 +8,7 @@ use Rattle.intervals.specs.declared.span.SpanError.TheVariants.{Invalid, Overflo
 abbrev pub up_to : ℕ → ℕ → Result Range SpanError
 up_to lo hi = if nat_le hi greatest then Ok (record { lo = lo; hi = hi }) else Err Overflow
 
--- POSIX.1-2017 fcntl(), l_start and l_len: `len` bytes from `start`; with 0 all to the greatest offset; with a negative `len` the bytes before `start`
+-- POSIX.1-2017 fcntl(), l_start and l_len: `len` bytes from `start`; with 0 all to the greatest offset; with a negative `len` the bytes before `start`. That a negative `start` is Invalid by itself is this project's choice
 abbrev pub seg : ℤ → ℤ → Result Range SpanError
 seg (negsuc s) len = Err Invalid
 seg (pos s) (pos zero) = if nat_le s greatest then Ok (record { lo = s; hi = greatest }) else Err Overflow

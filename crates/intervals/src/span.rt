@@ -43,7 +43,8 @@ pub enum SpanError {
 impl Span {
     /// The bytes that a lock call names: `len` bytes from `start` on; with `len` 0 all from `start`
     /// to the greatest offset; with a negative `len` the bytes before `start`. (POSIX.1-2017
-    /// `fcntl()`, `l_start` and `l_len` with `l_whence` SEEK_SET.)
+    /// `fcntl()`, `l_start` and `l_len` with `l_whence` SEEK_SET; that a negative `start` is refused by
+    /// itself is this project's choice.)
     ///
     /// # Errors
     /// `Invalid` where `start` is negative or the segment begins before byte 0, which is tested

@@ -11,9 +11,9 @@ use Rattle.model.specs.declared.mode.Mode.TheVariants.{Read, Write}
 use Rattle.model.specs.declared.owner.Owner.{Owner}
 use Rattle.model.specs.declared.lock_info.LockInfo.{LockInfo}
 use Rattle.model.specs.Owners.{same_owner, owner_cmp}
-use Rattle.model.specs.Locks.{FileLocks, excludes, bars, IsFree, IsRegion, Blocks, IsNotAfter, IsLowestBlocker}
+use Rattle.model.specs.Locks.{bar_of, FileLocks, excludes, bars, IsFree, IsRegion, Blocks, IsNotAfter, IsLowestBlocker}
 use Rattle.lock_table.specs.declared.row.Row.{Row}
-use Rattle.lock_table.specs.Regions.{bar_of, IsFirstRegion}
+use Rattle.lock_table.specs.Regions.{IsFirstRegion}
 use Rattle.lock_table.specs.Rows.{held, row_cmp, AllAfter, AreRows, locks_of}
 use Rattle.lock_table.specs.Blockers.{IsBlockerOf}
 use Rattle.lock_table.proofs.Orders.{owner_exact, owner_refl, owners_total, owner_equal, owner_not_greater, not_greater_trans, cases_not_greater, back_greater, place_cmp, places_total, back_less}

@@ -3,14 +3,8 @@ use Rattle.std.specs.Prelude.{◌≡◌, ℕ, ◌≤◌, Option, Some, None}
 use Rattle.intervals.specs.Bytes.{Range, greatest, IsBarred, IsFirstIn, IsRun}
 use Rattle.intervals.specs.Runs.{value_at}
 use Rattle.model.specs.declared.mode.Mode.{Mode}
-use Rattle.model.specs.declared.mode.Mode.TheVariants.{Read, Write}
 use Rattle.model.specs.declared.lock_info.LockInfo.{LockInfo}
 use Rattle.lock_table.specs.declared.row.Row.{Row}
-
--- the mode that excludes the other on a byte, or none where each does
-abbrev pub bar_of : Mode → Option Mode
-bar_of Read = Some Write
-bar_of Write = None
 
 -- the bytes from the first on
 abbrev pub rest_from : ℕ → Range

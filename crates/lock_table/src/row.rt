@@ -3,7 +3,7 @@ ghost use Rattle.std.specs.Prelude.{◌≡◌, ℕ, ◌++◌, List, None, IsTrue
 ghost use Rattle.intervals.specs.Bytes.{IsBarred, NoneIn};
 ghost use Rattle.intervals.specs.Runs.{value_at};
 ghost use Rattle.lock_table.specs.Rows.{row_cmp, IsSameRow, locks_of, IsBounded, NothingFrom};
-ghost use Rattle.lock_table.specs.Regions.{bar_of, rest_from, IsFirstRegion};
+ghost use Rattle.lock_table.specs.Regions.{rest_from, IsFirstRegion};
 ghost use Rattle.lock_table.specs.Blockers.{IsBlockerOf};
 ghost use Rattle.lock_table.specs.Listing.{ListsRegions};
 
@@ -24,16 +24,6 @@ pub struct Row {
     pub(crate) file: u16,
     pub(crate) owner: Owner,
     pub(crate) spans: Spans,
-}
-
-// The mode that excludes the other on a byte; `None` where each does.
-fn bar(mode: Mode) -> Option<Mode>
-    ensures { result ≡ bar_of mode }
-{
-    match mode {
-        Mode::Read => Some(Mode::Write),
-        Mode::Write => None,
-    }
 }
 
 impl Row {
@@ -102,7 +92,7 @@ impl Row {
         if self.owner == owner {
             return None;
         }
-        self.first_region(span, bar(mode))
+        self.first_region(span, mode.bar())
     }
 
     /// Adds each region, from the lowest on.

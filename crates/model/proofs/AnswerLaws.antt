@@ -3,7 +3,7 @@ use Rattle.std.specs.Prelude.{◌≡◌, ℕ, ◌+◌, ◌<◌, ◌≤◌, Bool,
 use Rattle.std.proofs.Common.{arith}
 use Rattle.std.proofs.lemmas.Bool.{ltb-true, ltb-false}
 use Rattle.intervals.specs.Search.{first, some_passes, first_answer, IsFirst}
-use Rattle.model.proofs.SearchLaws.{first_is_first}
+use Rattle.intervals.proofs.SearchLaws.{first_is_first}
 
 -- x is f's answer at k, and f has none at the numbers from lo that come before k
 pub record IsFirstAnswer {A : Type 0} (f : ℕ → Option A) (lo n : ℕ) (x : A) (k : ℕ) : Type 0 where

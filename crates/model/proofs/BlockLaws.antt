@@ -9,9 +9,9 @@ use Rattle.model.specs.declared.owner.Owner.{Owner}
 use Rattle.model.specs.declared.change.Change.{Change}
 use Rattle.model.specs.declared.change.Change.TheVariants.{Runs, Refers, Locks, Drops, DropsAnywhere}
 use Rattle.model.specs.Owners.{same_owner}
-use Rattle.model.specs.Locks.{FileLocks, excludes, bars, IsFree, Blocks}
+use Rattle.model.specs.Locks.{bar_of, FileLocks, excludes, bars, IsFree, Blocks}
 use Rattle.model.specs.Table.{Table}
-use Rattle.model.specs.OneTable.{table_of, bytes_after, bar_of, IsUnbarred, IsFreeOf}
+use Rattle.model.specs.OneTable.{table_of, bytes_after, IsUnbarred, IsFreeOf}
 use Rattle.model.proofs.OwnerLaws.{owner_exact}
 use Rattle.model.proofs.TableLaws.{table_of-none, table_of-take, table_of-whole, bytes-changed}
 

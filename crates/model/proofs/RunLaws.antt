@@ -7,7 +7,7 @@ use Rattle.intervals.specs.Bytes.{Range, greatest, has, begins_after, is_start, 
 use Rattle.model.specs.declared.mode.Mode.{Mode}
 use Rattle.model.specs.declared.mode.Mode.TheVariants.{Read, Write}
 use Rattle.model.specs.Owners.{same_mode}
-use Rattle.model.proofs.SearchLaws.{first_is_first}
+use Rattle.intervals.proofs.SearchLaws.{first_is_first}
 
 -- it has the mode exactly where it is that
 pub has_true : (x : Option Mode) (v : Mode) → has same_mode v x ≡ true → x ≡ Some v

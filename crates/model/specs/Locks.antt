@@ -9,7 +9,7 @@ use Rattle.model.specs.declared.owner.Owner.{Owner}
 use Rattle.model.specs.declared.lock_info.LockInfo.{LockInfo}
 use Rattle.model.specs.Owners.{same_mode, same_owner, owner_cmp, owner_at, most_owners}
 
--- of one file: what each owner holds at each byte
+-- of one file: what each owner holds at each byte; no byte past the greatest offset is ever held
 abbrev pub FileLocks : Type 0
 FileLocks = Owner → ℕ → Option Mode
 
@@ -50,6 +50,11 @@ excludes Write mode = true
 abbrev pub bars : Mode → Option Mode → Bool
 bars mode None = false
 bars mode (Some held) = excludes held mode
+
+-- the mode of a lock that excludes the mode; none where each does
+abbrev pub bar_of : Mode → Option Mode
+bar_of Read = Some Write
+bar_of Write = None
 
 -- no other owner's lock on the span excludes the mode
 abbrev pub IsFree : FileLocks → Owner → Range → Mode → Type 0

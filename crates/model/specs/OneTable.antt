@@ -2,7 +2,6 @@
 use Rattle.std.specs.Prelude.{◌≡◌, ◌≢◌, ℕ, ◌≤◌, Bool, true, false, ◌&&◌, ◌==◌, if◌then◌else◌, List, fold, Option, Some, None}
 use Rattle.intervals.specs.Bytes.{Range, nothing, put}
 use Rattle.model.specs.declared.mode.Mode.{Mode}
-use Rattle.model.specs.declared.mode.Mode.TheVariants.{Read, Write}
 use Rattle.model.specs.declared.owner.Owner.{Owner}
 use Rattle.model.specs.declared.lock_info.LockInfo.{LockInfo}
 use Rattle.model.specs.declared.opened.Opened.{Opened}
@@ -62,11 +61,6 @@ KeepsSound t (Refers p fd (Some o)) = (is_running t p ≡ true) × IsNumber most
 KeepsSound t (Locks file owner span mode) = Unit {0}
 KeepsSound t (Drops file owner) = Unit {0}
 KeepsSound t (DropsAnywhere owner) = Unit {0}
-
--- the value of a byte that is barred to the mode, or any where it is none
-abbrev pub bar_of : Mode → Option Mode
-bar_of Read = Some Write
-bar_of Write = None
 
 -- no byte of the span has a lock that bars the mode
 abbrev pub IsUnbarred : (ℕ → Option Mode) → Range → Mode → Type 0

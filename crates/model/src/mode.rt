@@ -9,6 +9,21 @@ pub enum Mode {
     Write,
 }
 
+impl Mode {
+    ghost use Rattle.std.specs.Prelude.{◌≡◌};
+    ghost use Rattle.model.specs.Locks.{bar_of};
+
+    /// The mode of locks that exclude this one on a byte; `None` where locks of either mode do.
+    pub fn bar(self) -> Option<Mode>
+        ensures { result ≡ bar_of self }
+    {
+        match self {
+            Mode::Read => Some(Mode::Write),
+            Mode::Write => None,
+        }
+    }
+}
+
 impl Exact for Mode {
     ghost use Rattle.model.specs.declared.mode.Mode.TheVariants.{Read, Write};
     ghost use Rattle.std.specs.Prelude.{refl};

@@ -6,7 +6,7 @@ ghost use Rattle.model.specs.declared.op.Op.TheVariants.{Spawn, Open, Set, Unloc
 ghost use Rattle.model.specs.Limits.{IsNumber, IsHost, most_descriptors, most_descriptions};
 ghost use Rattle.model.specs.Descriptors.{is_of, is_open, lowest_fd, lowest_description};
 ghost use Rattle.model.specs.Table.{empty_table, around, is_running, descriptor, allows, owner_of, target, regions_with, lock_within, closed, closed_if, exited, exited_if, gone};
-ghost use Rattle.model.specs.OneTable.{changed, table_of, KeepsSound, bar_of, IsUnbarred, IsFreeOf, BlocksCall};
+ghost use Rattle.model.specs.OneTable.{changed, table_of, KeepsSound, IsUnbarred, IsFreeOf, BlocksCall};
 ghost use Rattle.model.specs.Step.{Is, Step, Unblocked};
 
 use crate::access::Access;
@@ -94,16 +94,6 @@ fn owner_of(process: Process, kind: Kind, opened: Opened) -> Owner
         incarnation: process.incarnation,
         kind,
         number,
-    }
-}
-
-// The value of a byte that is barred to the mode; any where it is `None`.
-fn bar(mode: Mode) -> Option<Mode>
-    ensures { result ≡ bar_of mode }
-{
-    match mode {
-        Mode::Read => Some(Mode::Write),
-        Mode::Write => None,
     }
 }
 
@@ -408,7 +398,7 @@ impl OneTable {
             (BlocksCall (table_of self.now) call mode)) }
     {
         let bytes = self.bytes_of(call.file, owner)?;
-        let Some(byte) = bytes.first_where(call.span, bar(mode)) else {
+        let Some(byte) = bytes.first_where(call.span, mode.bar()) else {
             return Ok(None);
         };
         let Some((span, held)) = bytes.run_at(byte) else {

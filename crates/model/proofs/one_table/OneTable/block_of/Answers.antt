@@ -3,7 +3,8 @@ use Rattle.intervals.specs.Bytes.{NoneIn, IsBarred}
 use Rattle.intervals.specs.Runs.{value_at}
 use Rattle.model.specs.declared.mode.Mode.{Mode}
 use Rattle.model.specs.Table.{Target}
-use Rattle.model.specs.OneTable.{table_of, bar_of, IsUnbarred}
+use Rattle.model.specs.Locks.{bar_of}
+use Rattle.model.specs.OneTable.{table_of, IsUnbarred}
 use Rattle.model.proofs.BlockLaws.{unbarred}
 use Rattle.model.proofs.one_table.OneTable.block_of.Goals as goal
 
