@@ -13,3 +13,5 @@ pub mod opened;
 pub mod owner;
 pub mod process;
 pub mod reply;
+#[cfg(test)]
+mod tests;
