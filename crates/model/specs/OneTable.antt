@@ -26,6 +26,7 @@ changed t (DropsAnywhere owner) = record t { locks = without_owner_anywhere t.lo
 unfoldable pub table_of : List Change → Table
 table_of changes = fold changed empty_table changes
 
+-- the two are one process
 abbrev pub same_process : Process → Process → Bool
 same_process p q = (p.node == q.node) && ((p.incarnation == q.incarnation) && (p.pid == q.pid))
 

@@ -17,3 +17,5 @@ pub mod owner;
 pub mod policy;
 pub mod process;
 pub mod reply;
+#[cfg(test)]
+mod tests;
