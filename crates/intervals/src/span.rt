@@ -10,7 +10,7 @@ pub const GREATEST: u64 = 9_223_372_036_854_775_807;
 
 /// Consecutive bytes of a file, from `lo` to `hi`, both included. A span is never empty, and none
 /// ends past the greatest offset.
-#[derive(Clone, Copy, Debug, PartialEq, Eq)]
+#[derive(Clone, Copy, Debug, PartialEq, Eq, Hash)]
 pub struct Span {
     pub lo: u64,
     pub hi: u64,

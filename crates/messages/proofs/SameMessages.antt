@@ -10,7 +10,7 @@ pub same_message-is-equality : SameMessageIsEquality
 same_message-is-equality a b = grind (arith, common_steps)
 
 -- the derived `==` of messages compares them by value
-message_eq : (a b : Message) → derived.ghosts.eq a b ≡ same_message a b
+pub message_eq : (a b : Message) → derived.ghosts.eq a b ≡ same_message a b
 message_eq a b = search rules
 
 -- and so is equality

@@ -9,7 +9,7 @@ use model::call::CallId;
 use model::mode::Mode;
 
 /// What a request does where a lock blocks it: it is denied, or it waits.
-#[derive(Clone, Copy, Debug, PartialEq, Eq)]
+#[derive(Clone, Copy, Debug, PartialEq, Eq, Hash)]
 pub enum Urgency {
     Now,
     Waits,
@@ -17,7 +17,7 @@ pub enum Urgency {
 
 /// A message, with the file that it is about. `call` is the call of the node that asks, `number` the
 /// number of the server's command to that node, from 1.
-#[derive(Clone, Copy, Debug, PartialEq, Eq)]
+#[derive(Clone, Copy, Debug, PartialEq, Eq, Hash)]
 pub enum Message {
     /// A node asks the server for a token.
     Request {

@@ -2,7 +2,7 @@
 use std::marker::Model;
 
 /// A call, by its node (1 to 64), the node's incarnation (from 1) and its number there (from 1).
-#[derive(Clone, Copy, Debug, PartialEq, Eq)]
+#[derive(Clone, Copy, Debug, PartialEq, Eq, Hash)]
 pub struct CallId {
     pub node: u8,
     pub incarnation: u16,

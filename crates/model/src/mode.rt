@@ -3,7 +3,7 @@ use intervals::span_map::Exact;
 
 /// How a byte is locked. A read lock is shared, a write lock is exclusive. (POSIX.1-2017
 /// `fcntl()`, F_RDLCK and F_WRLCK.)
-#[derive(Clone, Copy, Debug, PartialEq, Eq)]
+#[derive(Clone, Copy, Debug, PartialEq, Eq, Hash)]
 pub enum Mode {
     Read,
     Write,
