@@ -1,11 +1,12 @@
-mod Places
-mod Entries
-mod Fitting
-mod Targets
-mod NodeTables
-mod Tries
-mod Nodes
-mod Moves
-mod Unions
-mod Worlds
-mod Runs
+pub mod KnownMessages
+pub mod Places
+pub mod Entries
+pub mod Fitting
+pub mod Targets
+pub mod NodeTables
+pub mod Tries
+pub mod Nodes
+pub mod Moves
+pub mod Unions
+pub mod Worlds
+pub mod Runs

@@ -26,10 +26,6 @@ use Rattle.cluster_core.proofs.NodeTables.{IsOwn, same_follows}
 use Rattle.cluster_core.proofs.Tries.{Continues, IsAnswered, IsSilent, tried_ends, called_ends}
 use Rattle.cluster_core.proofs.Nodes.{IsOpen, Holds, Moves, open-continues, opened, all_wait, others_wait, found_open}
 
--- the table of a node that goes on is its own
-own_continues : (s u : NodeState) → Continues s u → IsOwn u.table u.node u.incarnation
-own_continues s u g = subst (λ (i : ℕ). IsOwn u.table u.node i) (sym g.incarnation) (subst (λ (n : ℕ). IsOwn u.table n s.incarnation) (sym g.node) g.follows.own)
-
 -- an entry that names no call counts none
 same_numbers : (past : List Entry) (e : Entry) (s u : NodeState) → Continues s u → u.calls ≡ s.calls → e.call ≡ None → Holds past s → (id : CallId) → IsNamed (past ++ e ∷ []) id → id.node ≡ u.node → id.incarnation ≡ u.incarnation → id.number ≤ u.calls
 same_numbers past e s u g calls none holds id named node incarnation = elim (named-push past e id named) [
@@ -41,7 +37,7 @@ same_numbers past e s u g calls none holds id named node incarnation = elim (nam
 pub silent_moves : (past : List Entry) (e : Entry) (s u : NodeState) → Continues s u → u.calls ≡ s.calls → u.pending ≡ s.pending → e.call ≡ None → IsSilent s u e.reply → Holds past s → Moves past s u e
 silent_moves past e s u g calls pending none silent holds = record {
   holds = record {
-    own = own_continues s u g;
+    own = subst (λ (i : ℕ). IsOwn u.table u.node i) (sym g.incarnation) (subst (λ (n : ℕ). IsOwn u.table n s.incarnation) (sym g.node) g.follows.own);
     waiting = All-same (IsOpen (past ++ e ∷ []) u) u.pending s.pending pending (all_wait past e s u s.pending g silent.no_reply holds.waiting);
     numbers = same_numbers past e s u g calls none holds;
   };
@@ -55,7 +51,7 @@ silent_moves past e s u g calls pending none silent holds = record {
 answer_moves : (past : List Entry) (e : Entry) (s u : NodeState) (c : OpenCall) (o : IsOpen past s c) → Continues s u → u.calls ≡ s.calls → e.call ≡ None → IsAnswered s c.number c.pid o.op u e.reply → Holds past s → Moves past s u e
 answer_moves past e s u c o g calls none a holds = record {
   holds = record {
-    own = own_continues s u g;
+    own = subst (λ (i : ℕ). IsOwn u.table u.node i) (sym g.incarnation) (subst (λ (n : ℕ). IsOwn u.table n s.incarnation) (sym g.node) g.follows.own);
     waiting = All-same (IsOpen (past ++ e ∷ []) u) u.pending (without_call s c.number).pending a.closed (others_wait past e s u c.number a.reply g a.is_reply holds.waiting);
     numbers = same_numbers past e s u g calls none holds;
   };
@@ -74,10 +70,6 @@ answer_moves past e s u c o g calls none a holds = record {
     step = a.step;
   });
 }
-
--- no call is open, and none is found
-found_none : (test : OpenCall → Bool) (calls : List OpenCall) (c : OpenCall) → calls ≡ [] → find test calls ≡ Some c → ⊥
-found_none test calls c none h = let e : find test [] ≡ Some c = subst (λ (x : List OpenCall). find test x ≡ Some c) none h in cc
 
 -- what a message does, and that it does little where no call is open
 pub record Receives (past : List Entry) (s u : NodeState) (e : Entry) : Type 0 where
@@ -104,6 +96,9 @@ module _ (past : List Entry) (s : NodeState) (event : Event) (holds : Holds past
   pub remembered_receives : (answer : Option Message) → Receives past s (remembered s answer).state (said (remembered s answer))
   remembered_receives None = quiet_receives (quiet s) refl refl
   remembered_receives (Some m) = quiet_receives (remembered s (Some m)) refl refl
+
+  found_none : (test : OpenCall → Bool) (calls : List OpenCall) (c : OpenCall) → calls ≡ [] → find test calls ≡ Some c → ⊥
+  found_none test calls c none h = let e : find test [] ≡ Some c = subst (λ (x : List OpenCall). find test x ≡ Some c) none h in cc
 
   -- a grant: the call that it was for is tried
   pub granted_receives : (file number : ℕ) (call : CallId) (mode : Mode) (span : Range) → Receives past s (granted s file number call mode span).state (said (granted s file number call mode span))
@@ -136,6 +131,7 @@ module _ (past : List Entry) (s : NodeState) (event : Event) (holds : Holds past
   pub delivered_receives : (m : Message) → Receives past s (delivered s m).state (said (delivered s m))
   delivered_receives (Grant file number call mode span) =
       let f = s.files file in
+      let effect = granted s file number call mode span in
       elim (number == f.last + 1) as (λ b. Receives past s (both b).state (said (both b))) [
         | true ↦ granted_receives file number call mode span
         | false ↦ elim ((number == f.last) && nat_le 1 number) as (λ b. Receives past s (again b).state (said (again b))) [ true ↦ remembered_receives f.answer | false ↦ quiet_receives (quiet s) refl refl ]
@@ -167,7 +163,7 @@ module _ (past : List Entry) (s : NodeState) (node pid : ℕ) (op : Op) (holds :
       let fresh : Unanswered past id = λ reply at r. not_named (known id reply at r) in
       record {
         holds = record {
-          own = own_continues s u g;
+          own = subst (λ (i : ℕ). IsOwn u.table u.node i) (sym g.incarnation) (subst (λ (n : ℕ). IsOwn u.table n s.incarnation) (sym g.node) g.follows.own);
           waiting = elim t.ends [
             | inl a ↦ All-same (IsOpen (past ++ e ∷ []) u) u.pending (without_call s number).pending a.closed (others_wait past e s u number a.reply g a.is_reply holds.waiting)
             | inr o ↦

@@ -114,6 +114,10 @@ StandsAtReply es (Gone at node incarnation) = ⊥
 abbrev pub EachAtItsReply : List Entry → List Item → Type 0
 EachAtItsReply es h = (k : ℕ) (i : Item) → slice_get h k ≡ Some i → StandsAtReply es i
 
--- for every run there is one history, the same for all nodes, files and calls
+-- one history, the same for all nodes, files and calls, with each call at its reply
+abbrev pub HasOneHistory : ShapeFields → List Entry → Type 0
+HasOneHistory shape es = (h : List Item) × HasHistory shape es h × EachAtItsReply es h
+
+-- every run has one
 abbrev pub EveryRunHasAHistory : Type 0
-EveryRunHasAHistory = (shape : ShapeFields) (es : List Entry) (w : WorldState) → IsShape shape → Leads (first_world shape) es w → (h : List Item) × HasHistory shape es h × EachAtItsReply es h
+EveryRunHasAHistory = (shape : ShapeFields) (es : List Entry) (w : WorldState) → IsShape shape → Leads (first_world shape) es w → HasOneHistory shape es

@@ -19,12 +19,17 @@ use Rattle.node_core.specs.Node.{node_rule}
 use Rattle.token_server.specs.declared.event.ServerEvent.TheVariants as server
 use Rattle.token_server.specs.State.{ServerState}
 use Rattle.token_server.specs.Server.{server_rule}
-use Rattle.cluster_core.specs.World.{WorldState, journal_limit, has_node}
+use Rattle.cluster_core.specs.World.{WorldState, journal_limit, has_node, has_file}
 
--- the event names a node, a process and a file of the shape, or a message that was sent
+-- the actor is one of the shape
+abbrev pub has_actor : WorldState → Actor → Bool
+has_actor w (ANode n) = has_node w n
+has_actor w (AServer file) = has_file w file
+
+-- the event names a node, a process and a file of the shape, or a message that was sent to one
 abbrev pub is_known : WorldState → Event → Bool
 is_known w (Call n pid op) = has_node w n && (is_pid pid && is_in_shape w.shape op)
-is_known w (Deliver m) = is_among w.sent m
+is_known w (Deliver m) = has_actor w (addressee m) && is_among w.sent m
 
 abbrev pub entry : Event → Outcome → Entry
 entry event o = record { event = event; incarnation = 0; call = o.call; reply = o.reply; sends = o.sends }

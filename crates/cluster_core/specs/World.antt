@@ -30,6 +30,9 @@ journal_limit = 1048576
 abbrev pub has_node : WorldState → ℕ → Bool
 has_node w node = is_within w.shape.nodes node
 
+abbrev pub has_file : WorldState → ℕ → Bool
+has_file w file = is_within w.shape.files file
+
 -- this incarnation of the node is live
 abbrev pub is_live : WorldState → ℕ → ℕ → Bool
 is_live w node incarnation = has_node w node && (incarnation == (w.nodes node).incarnation)

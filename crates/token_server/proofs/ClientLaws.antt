@@ -151,3 +151,9 @@ same_clients b clients others these those e f long tells =
     let here : SameClients these those → SameClients clients others = λ same. rw (← e, ← f) same in
     let back : SameClients clients others → SameClients these those = λ same. rw (e, f) same in
     (λ t. same_rows clients others long (here (tells.0 t)), λ same. tells.1 (back (same_known clients others same)))
+
+-- no other node has a row
+pub rows_of-past : (clients : List Client) (node : ℕ) → length clients < node → rows_of clients node ≡ None
+unfolding rows_of
+rows_of-past clients zero past = refl
+rows_of-past clients (suc k) past = ap row_of (slice_get_past clients k (omega arith))

@@ -1,5 +1,5 @@
 //! The nodes of a cluster, as a token server knows them.
-ghost use Rattle.std.specs.Prelude.{◌≡◌, ℕ, ◌+◌, ◌<◌, ◌≤◌, ◌↔◌, false, ◌==◌, if◌then◌else◌, max, length, All, IsTrue, IfOk, IfSome, OnOk, OnErr, MatchOption, Some, None};
+ghost use Rattle.std.specs.Prelude.{◌≡◌, ℕ, ◌+◌, ◌<◌, ◌≤◌, ◌↔◌, false, ◌==◌, if◌then◌else◌, max, length, All, IsTrue, IfOk, IfSome, OnSome, OnOk, OnErr, MatchOption, Some, None};
 ghost use Rattle.std.specs.Option.{option_map};
 ghost use Rattle.intervals.specs.Bytes.{largest_around};
 ghost use Rattle.model.specs.Limits.{IsNumber};
@@ -93,9 +93,13 @@ impl Clients {
 
     /// The row of a node, of the incarnation after the dead ones.
     pub fn row(&self, node: u8) -> Option<&Row>
-        requires { IsNumber (length self.now) node }
-        ensures { MatchOption result (rows_of self.now node ≡ None) (λ row. rows_of self.now node ≡ Some (row_state (deaths_of self.now node + 1) row.now)) }
+        requires { 1 ≤ node }
+        ensures row { MatchOption result (rows_of self.now node ≡ None) (λ row. rows_of self.now node ≡ Some (row_state (deaths_of self.now node + 1) row.now)) }
+        ensures within { OnSome result (node ≤ length self.now) }
     {
+        if usize::from(node) > self.clients.len() {
+            return None;
+        }
         self.clients[usize::from(node) - 1].row.as_ref()
     }
 

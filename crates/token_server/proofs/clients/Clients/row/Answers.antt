@@ -1,10 +1,17 @@
-use Rattle.std.specs.Prelude.{◌-◌}
-use Rattle.std.proofs.Common.{ap}
-use Rattle.token_server.proofs.ClientLaws.{rows_of-read, deaths_of-read, row_read}
+use Rattle.std.specs.Prelude.{length, ◌-◌, ◌<◌}
+use Rattle.std.proofs.Common.{ap, arith}
+use Rattle.model.specs.Limits.{IsNumber}
+use Rattle.token_server.proofs.ClientLaws.{rows_of-read, deaths_of-read, rows_of-past, row_read}
 use Rattle.token_server.proofs.clients.Clients.row.Goals as goal
 
-pub returns : goal.returns
-returns c =
-    let rows = rows_of-read _ c.args.node _ _ (rw c.self.view_is c.requires) (ap (λ n. n - 1) c.from.ensures) c.index.ensures in
-    let dead = deaths_of-read _ c.args.node _ _ (rw c.self.view_is c.requires) (ap (λ n. n - 1) c.from.ensures) c.index.ensures in
+pub returns-then-from-len-clause-row : goal.returns-then-from-len-clause-row
+returns-then-from-len-clause-row c =
+    let past : length c.self.inside.clients.items < c.args.node = omega arith in
+    rw (← c.self.view_is) (rows_of-past c.self.inside.clients.items c.args.node past)
+
+pub returns-clause-row : goal.returns-clause-row
+returns-clause-row c =
+    let within : IsNumber (length c.self.inside.clients.items) c.args.node = (c.requires, omega arith) in
+    let rows = rows_of-read c.self.inside.clients.items c.args.node _ _ within (ap (λ n. n - 1) c.from-2.ensures) c.index.ensures in
+    let dead = deaths_of-read c.self.inside.clients.items c.args.node _ _ within (ap (λ n. n - 1) c.from-2.ensures) c.index.ensures in
     rw (← c.self.view_is, rows, dead) (row_read c.as_ref.result _ _ c.as_ref.ensures.value)
