@@ -1,6 +1,0 @@
-pub mod World
-pub mod Next
-pub mod Runs
-pub mod Union
-pub mod Histories
-pub mod Placement

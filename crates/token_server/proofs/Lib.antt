@@ -1,3 +1,0 @@
-pub mod ClientLaws
-pub mod HeldLaws
-pub mod GrantLaws

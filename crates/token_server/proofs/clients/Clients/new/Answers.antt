@@ -1,8 +1,0 @@
-use Rattle.token_server.proofs.ClientLaws.{rows_of-new, deaths_of-new}
-use Rattle.token_server.proofs.clients.Clients.new.Goals as goal
-
-pub returns-clause-rows : goal.returns-clause-rows
-returns-clause-rows c = rows_of-new _ c.in_ok-unknown.ensures.unknown
-
-pub returns-clause-deaths : goal.returns-clause-deaths
-returns-clause-deaths c = deaths_of-new _ c.in_ok-unknown.ensures.unknown

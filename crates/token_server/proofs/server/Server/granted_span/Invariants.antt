@@ -1,6 +1,0 @@
-use Rattle.token_server.specs.Parts.{server_state}
-use Rattle.token_server.proofs.GrantLaws.{IsNarrowed}
-use Rattle.token_server.proofs.server.Server.granted_span.Given as goal
-
-abbrev pub invariant-loop-place : goal.invariant-loop-place
-invariant-loop-place l = IsNarrowed (server_state l.self) l.request l.place l.span

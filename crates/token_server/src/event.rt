@@ -1,9 +1,0 @@
-//! What a token server takes.
-use messages::message::Message;
-
-/// What may happen at a server.
-#[derive(Clone, Copy, Debug, PartialEq, Eq)]
-pub enum ServerEvent {
-    /// A message comes.
-    Deliver(Message),
-}
