@@ -1,7 +1,7 @@
 -- What is known of the nodes after a change of one.
-use Rattle.std.specs.Prelude.{◌≡◌, ◌≢◌, ℕ, zero, suc, ◌+◌, ◌-◌, ◌<◌, ◌≤◌, max, Bool, true, false, ◌==◌, if◌then◌else◌, cond, ◌⊎◌, ◌↔◌, IsTrue, List, [], ◌∷◌, ◌++◌, All, length, slice_get, slice_set, slice_index_or, Option, Some, None, MatchOption}
+use Rattle.std.specs.Prelude.{◌≡◌, ◌≢◌, ℕ, zero, suc, ◌+◌, ◌-◌, ◌<◌, Bool, true, false, ◌==◌, if◌then◌else◌, cond, ◌↔◌, IsTrue, List, [], ◌∷◌, All, length, slice_get, slice_set, slice_index_or, Option, Some, None, MatchOption}
 use Rattle.std.specs.Option.{option_copied}
-use Rattle.std.proofs.Common.{Bor, refl, sym, ap, subst, ◌∙◌, inl, inr, arith, rules}
+use Rattle.std.proofs.Common.{Bor, refl, sym, ap, subst, ◌∙◌, inl, inr, arith}
 use Rattle.std.proofs.lemmas.Bool.Decides.{eqb_tells}
 use Rattle.std.proofs.lemmas.Bool.{cases_lt}
 use Rattle.std.proofs.lemmas.Option.{slice_get_read, slice_get_past, slice_get-get_or}
@@ -54,13 +54,13 @@ client_at-set_other clients node place (suc k) new within e apart =
 changed : {A : Type 0} (f : Option Client → A) (g : A → A) (clients : List Client) (node place : ℕ) (client new : Client) → IsNumber (length clients) node → place ≡ node - 1 → client ≡ slice_index_or clients place client → f (Some new) ≡ g (f (Some client)) → (n : ℕ) → f (client_at (slice_set clients place new) n) ≡ (if n == node then g (f (client_at clients n)) else f (client_at clients n))
 changed {A} f g clients node place client new within e read made n = elim (eqb_tells n node) [
   | inl same ↦
-    let there : f (client_at (slice_set clients place new) n) ≡ f (Some new) = ap (λ k. f (client_at (slice_set clients place new) k)) same.1 ∙ ap f (client_at-set_same clients node place new within e) in
-    let before : f (client_at clients n) ≡ f (Some client) = ap (λ k. f (client_at clients k)) same.1 ∙ ap f (client_at-read clients node place client within e read) in
-    let test : (if n == node then g (f (client_at clients n)) else f (client_at clients n)) ≡ g (f (client_at clients n)) = ap (λ b. cond b (g (f (client_at clients n))) (f (client_at clients n))) same.0 in
-    there ∙ made ∙ ap g (sym before) ∙ sym test
+      let there : f (client_at (slice_set clients place new) n) ≡ f (Some new) = ap (λ k. f (client_at (slice_set clients place new) k)) same.1 ∙ ap f (client_at-set_same clients node place new within e) in
+      let before : f (client_at clients n) ≡ f (Some client) = ap (λ k. f (client_at clients k)) same.1 ∙ ap f (client_at-read clients node place client within e read) in
+      let test : (if n == node then g (f (client_at clients n)) else f (client_at clients n)) ≡ g (f (client_at clients n)) = ap (λ b. cond b (g (f (client_at clients n))) (f (client_at clients n))) same.0 in
+      there ∙ made ∙ ap g (sym before) ∙ sym test
   | inr apart ↦
-    let test : (if n == node then g (f (client_at clients n)) else f (client_at clients n)) ≡ f (client_at clients n) = ap (λ b. cond b (g (f (client_at clients n))) (f (client_at clients n))) apart.0 in
-    ap f (client_at-set_other clients node place n new within e apart.1) ∙ sym test
+      let test : (if n == node then g (f (client_at clients n)) else f (client_at clients n)) ≡ f (client_at clients n) = ap (λ b. cond b (g (f (client_at clients n))) (f (client_at clients n))) apart.0 in
+      ap f (client_at-set_other clients node place n new within e apart.1) ∙ sym test
 ]
 
 -- the rows after a change of one client
@@ -93,12 +93,11 @@ pub deaths_of-read : (clients : List Client) (node place : ℕ) (client : Client
 unfolding deaths_of
 deaths_of-read clients node place client within e read = ap dead_of (client_at-read clients node place client within e read)
 
-
 known_at : {A : Type 0} (f : Option Client → A) (clients : List Client) → All (λ client. client ≡ record { dead = 0; row = None }) clients → f (Some (record { dead = 0; row = None })) ≡ f None → (k : ℕ) → f (slice_get clients k) ≡ f None
 known_at f clients all same k = elim (cases_lt k (length clients)) [
   | inl below ↦
-    let new : Client = record { dead = 0; row = None } in
-    ap f (slice_get-get_or clients k new below) ∙ ap (λ c. f (Some c)) (all k new below) ∙ same
+      let new : Client = record { dead = 0; row = None } in
+      ap f (slice_get-get_or clients k new below) ∙ ap (λ c. f (Some c)) (all k new below) ∙ same
   | inr above ↦ ap f (slice_get_past clients k above)
 ]
 
@@ -124,11 +123,11 @@ same_at clients others long same zero = (refl, refl)
 same_at clients others long same (suc k) = elim (cases_lt k (length clients)) [
   | inl below ↦ same k below
   | inr above ↦
-    let none = slice_get_past clients k above in
-    let none_there = slice_get_past others k (omega arith) in
-    let P : Option Client → Type 0 = λ a. SameKnown a (slice_get others k) in
-    let Q : Option Client → Type 0 = λ b. SameKnown None b in
-    subst P (sym none) (subst Q (sym none_there) (refl, refl))
+      let none = slice_get_past clients k above in
+      let none_there = slice_get_past others k (omega arith) in
+      let P : Option Client → Type 0 = λ a. SameKnown a (slice_get others k) in
+      let Q : Option Client → Type 0 = λ b. SameKnown None b in
+      subst P (sym none) (subst Q (sym none_there) (refl, refl))
 ]
 
 pub same_rows : (clients others : List Client) → length clients ≡ length others → SameClients clients others → (rows_of clients ≡ rows_of others) × (deaths_of clients ≡ deaths_of others)

@@ -1,19 +1,19 @@
 -- What the span that a request is granted is.
-use Rattle.std.specs.Prelude.{◌≡◌, ◌≢◌, ℕ, ◌+◌, ◌<◌, ◌≤◌, Bool, true, false, not, ◌&&◌, ◌==◌, if◌then◌else◌, Option, Some, None}
-use Rattle.std.proofs.Common.{refl, sym, ap, ◌∙◌, inl, inr, arith, subst}
-use Rattle.std.proofs.lemmas.Bool.{both_ways, and_parts}
-use Rattle.intervals.specs.Search.{first, IsFirst, some_passes}
+use Rattle.std.specs.Prelude.{◌≡◌, ℕ, ◌+◌, ◌<◌, ◌≤◌, Bool, true, false, not, ◌&&◌, ◌==◌, Option, Some, None}
+use Rattle.std.proofs.Common.{sym, ap, ◌∙◌, arith}
+use Rattle.std.proofs.lemmas.Bool.{both_ways}
+use Rattle.intervals.specs.Search.{first, some_passes}
 use Rattle.intervals.specs.Bytes.{Range, NoneIn, largest_around}
 use Rattle.intervals.proofs.SearchLaws.{first_is_first}
 use Rattle.intervals.proofs.SpanSearch.{largest_is_largest}
-use Rattle.token_set.specs.Tokens.{conflicts, level_conflicts}
+use Rattle.token_set.specs.Tokens.{level_conflicts}
 use Rattle.token_set.proofs.SearchLaws.{first-is, some_passes-first}
 use Rattle.token_set.proofs.TokenLaws.{none-conflicts}
 use Rattle.token_set.proofs.AroundLaws.{largest_around-free, largest_around-zero, largest_around-more, largest_around-skip, largest_around-same}
 use Rattle.model.specs.declared.mode.Mode.{Mode}
 use Rattle.token_server.specs.declared.held.Held.{Held}
 use Rattle.token_server.specs.State.{Row, ServerState}
-use Rattle.token_server.specs.Serve.{row_conflicts, row_conflicts_at, is_taken, granted_span, conflicting_node}
+use Rattle.token_server.specs.Serve.{row_conflicts, row_conflicts_at, granted_span, conflicting_node}
 
 -- another node's row conflicts with what the request needs
 abbrev pub conflicts_at : ServerState → Held → ℕ → Bool
@@ -89,8 +89,8 @@ narrowed-start s r order starts ends = record {
 pub narrowed-holds : (s : ServerState) (r : Held) (k : ℕ) (span : Range) → s.shape.nodes < conflicting_node s r → k ≤ s.shape.nodes → IsNarrowed s r k span → (span.lo ≤ r.wanted.required.lo) × (r.wanted.required.hi ≤ span.hi)
 narrowed-holds s r k span none within n =
     let free : NoneIn (λ b. some_passes (λ n. conflicts_at_byte s r n b) 1 k ≡ true) r.wanted.required = λ b above below some.
-        let one = some_passes-first (λ n. conflicts_at_byte s r n b) 1 k some in
-        none_at_byte s r _ (no_conflict s r none _ one.above (omega (arith, one.below))) b above below one.here in
+    let one = some_passes-first (λ n. conflicts_at_byte s r n b) 1 k some in
+    none_at_byte s r _ (no_conflict s r none _ one.above (omega (arith, one.below))) b above below one.here in
     let l = largest_is_largest _ r.wanted.required r.wanted.desired n.order n.starts n.ends free in
     rw n.value (l.has_first, l.has_last)
 

@@ -164,7 +164,13 @@ impl Clients {
     ///
     /// # Errors
     /// `NoMemory` where a request for memory was refused; all stays as it was.
-    pub fn give(&mut self, node: u8, span: Span, mode: Mode, command: Message) -> Result<(), NoMemory>
+    pub fn give(
+        &mut self,
+        node: u8,
+        span: Span,
+        mode: Mode,
+        command: Message,
+    ) -> Result<(), NoMemory>
         requires node_in { IsNumber (length self.old) node }
         requires room { IfSome (rows_of self.old node) (λ row. row.number < greatest_number) }
         ensures rows { OnOk result (rows_of self.new ≡ with_change node (option_map (given span mode command)) (rows_of self.old)) }
@@ -193,5 +199,17 @@ impl Clients {
         ensures { IsTrue result ↔ ((rows_of self.now ≡ rows_of other.now) × (deaths_of self.now ≡ deaths_of other.now)) }
     {
         same_each(&self.clients, &other.clients)
+    }
+}
+
+#[cfg(test)]
+impl Clients {
+    /// Puts another number of the last command in the first node's row.
+    pub fn count_to(&mut self, number: u32)
+        ensures { length self.new ≡ length self.old }
+    {
+        if !self.clients.is_empty() {
+            self.clients[0].count_to(number);
+        }
     }
 }

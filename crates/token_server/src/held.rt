@@ -19,21 +19,21 @@ pub struct Held {
 
 impl Held {
     /// Whether the request is of the call.
-    pub fn is_of_call(&self, call: CallId) -> bool
+    pub(crate) fn is_of_call(&self, call: CallId) -> bool
         ensures { result ≡ is_of_call call self.now }
     {
         self.call == call
     }
 
     /// Whether the request is of the node.
-    pub fn is_of_node(&self, node: u8) -> bool
+    pub(crate) fn is_of_node(&self, node: u8) -> bool
         ensures { result ≡ (node == self.now.call.node) }
     {
         node == self.call.node
     }
 
     /// The bytes that the request needs.
-    pub fn required(&self) -> Span
+    pub(crate) fn required(&self) -> Span
         ensures value { result ≡ self.now.wanted.required }
         ensures ordered { result.lo ≤ result.hi }
     {
@@ -43,7 +43,7 @@ impl Held {
     }
 
     /// The bytes that it would like to have, which contain those.
-    pub fn desired(&self) -> Span
+    pub(crate) fn desired(&self) -> Span
         ensures value { result ≡ self.now.wanted.desired }
         ensures starts_before { result.lo ≤ self.now.wanted.required.lo }
         ensures ends_after { self.now.wanted.required.hi ≤ result.hi }
@@ -52,7 +52,7 @@ impl Held {
     }
 
     /// Whether the request is of the node, in that incarnation or an older one.
-    pub fn is_up_to(&self, node: u8, incarnation: u16) -> bool
+    pub(crate) fn is_up_to(&self, node: u8, incarnation: u16) -> bool
         ensures { result ≡ is_up_to node incarnation self.now }
     {
         self.call.node == node && self.call.incarnation <= incarnation

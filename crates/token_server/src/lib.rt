@@ -1,9 +1,9 @@
 //! The token server of a file.
 #![tactic(auto)]
 
-pub mod client;
-pub mod clients;
+mod client;
+mod clients;
 pub mod event;
 pub mod held;
-pub mod row;
+mod row;
 pub mod server;

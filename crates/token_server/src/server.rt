@@ -187,7 +187,10 @@ impl Server {
         requires { IsNumber self.now.shape.nodes node }
         ensures { result ≡ (not (node == request.now.call.node) && row_conflicts (rows_of self.now.clients node) request.now.wanted.required request.now.mode) }
     {
-        !request.is_of_node(node) && self.clients.conflicts(node, request.required(), request.mode)
+        !request.is_of_node(node)
+            && self
+                .clients
+                .conflicts(node, request.required(), request.mode)
     }
 
     // The least other node whose row conflicts with what the request needs.
@@ -212,21 +215,30 @@ impl Server {
         let mut span = request.desired();
         for place in 0..self.shape.nodes() {
             if !request.is_of_node(place + 1) {
-                span = self.clients.free_around(place + 1, required, span, request.mode);
+                span = self
+                    .clients
+                    .free_around(place + 1, required, span, request.mode);
             }
         }
         span
     }
 
     // Sends the request's node the next command, which gives it the span.
-    fn send(&mut self, alloc: Global, request: &Held, span: Span, command: &Message) -> Result<Items<Message>, NoMemory>
+    fn send(
+        &mut self,
+        alloc: Global,
+        request: &Held,
+        span: Span,
+        command: &Message,
+    ) -> Result<Items<Message>, NoMemory>
         requires node_in { IsNumber self.old.shape.nodes request.now.call.node }
         requires room { IfSome (rows_of self.old.clients request.now.call.node) (λ row. row.number < greatest_number) }
         ensures state { OnOk result (server_state self.new ≡ with_row (server_state self.old) request.now.call.node (option_map (given span request.now.mode command.now) (rows_of self.old.clients request.now.call.node))) }
         ensures sends { IfOk result (λ sends. sends ≡ command.now ∷ []) }
     {
         let sends = Items::one(alloc, *command)?;
-        self.clients.give(request.call.node, span, request.mode, *command)?;
+        self.clients
+            .give(request.call.node, span, request.mode, *command)?;
         Ok(sends)
     }
 
@@ -423,3 +435,6 @@ fn is_grant(command: &Option<Message>, number: u32) -> bool
         _ => false,
     }
 }
+
+#[cfg(test)]
+mod tests;

@@ -1,5 +1,5 @@
 use Rattle.std.specs.Prelude.{◌-◌}
-use Rattle.std.proofs.Common.{sym, ap, arith}
+use Rattle.std.proofs.Common.{sym, ap}
 use Rattle.token_server.proofs.ClientLaws.{deaths_of-read}
 use Rattle.token_server.proofs.clients.Clients.dead.Goals as goal
 

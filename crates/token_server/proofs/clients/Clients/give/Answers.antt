@@ -1,6 +1,6 @@
 use Rattle.std.specs.Prelude.{◌-◌}
 use Rattle.std.specs.Option.{option_map}
-use Rattle.std.proofs.Common.{ap, sym}
+use Rattle.std.proofs.Common.{ap}
 use Rattle.std.proofs.lemmas.Result.{on_ok_weaker}
 use Rattle.token_server.specs.Parts.{given}
 use Rattle.token_server.proofs.ClientLaws.{rows_of-set, rows_of-read, deaths_of-set_same}

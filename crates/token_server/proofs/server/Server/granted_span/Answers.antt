@@ -1,7 +1,7 @@
-use Rattle.std.specs.Prelude.{◌≡◌, ◌≤◌, ◌<◌, ◌==◌, ◌+◌, true, false}
+use Rattle.std.specs.Prelude.{◌≡◌}
 use Rattle.std.proofs.Common.{sym, ap, ◌∙◌, arith}
 use Rattle.token_server.specs.Parts.{ServerParts, server_state}
-use Rattle.token_server.proofs.GrantLaws.{IsNarrowed, narrowed-start, narrowed-holds, narrowed-free, narrowed-more, narrowed-skip, narrowed-end}
+use Rattle.token_server.proofs.GrantLaws.{narrowed-start, narrowed-holds, narrowed-free, narrowed-more, narrowed-skip, narrowed-end}
 use Rattle.token_server.proofs.server.Server.granted_span.Goals.{then-not-is_of_node, else-not-is_of_node}
 use Rattle.token_server.proofs.server.Server.granted_span.Goals as goal
 
