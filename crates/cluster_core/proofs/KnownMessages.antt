@@ -34,10 +34,10 @@ same_message-turned a b same = (same_message-is-equality b a).1 (sym ((same_mess
 
 turned : (a b : Message) → same_message a b ≡ same_message b a
 turned a b =
-    elim (same_message a b) as (λ t. same_message a b ≡ t → t ≡ same_message b a)
-      [ true ↦ λ h. sym (same_message-turned a b h)
+    elim (same_message a b) as (λ t. same_message a b ≡ t → t ≡ same_message b a) [
+      | true ↦ λ h. sym (same_message-turned a b h)
       | false ↦ λ h. elim (same_message b a) as (λ u. same_message b a ≡ u → false ≡ u) [ true ↦ λ k. cc (h, same_message-turned b a k) | false ↦ λ k. refl ] refl
-      ] refl
+    ] refl
 
 or_moved : (e c r : Bool) → (cond e true c || r) ≡ (c || (e || r))
 or_moved true true r = refl
@@ -52,10 +52,10 @@ one_more : (first known next : Known) (all rest : List Message) (m : Message) �
 one_more first known next all rest m before updates spares = record {
   room = omega (arith, before.room);
   knows = λ q.
-    ap (λ (b : Bool). b || is_among rest q) (updates.0 q)
-    ∙ (or_moved (same_message m q) (contains same_message known q) (is_among rest q)
-    ∙ (ap (λ (b : Bool). contains same_message known q || (b || is_among rest q)) (turned m q)
-    ∙ before.knows q));
+      ap (λ (b : Bool). b || is_among rest q) (updates.0 q)
+      ∙ (or_moved (same_message m q) (contains same_message known q) (is_among rest q)
+      ∙ (ap (λ (b : Bool). contains same_message known q || (b || is_among rest q)) (turned m q)
+      ∙ before.knows q));
 }
 
 pub inserted-more : (first known next : Known) (all : List Message) (i : ℕ) (m : Message) → i < length all → m ≡ get_or all i m → Inserted first known all (drop i all) → Updates derived.ghosts.eq known next m true → spare known ≤ spare next + 1 → Inserted first next all (drop (i + 1) all)
