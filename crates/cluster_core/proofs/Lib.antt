@@ -1,4 +1,8 @@
 pub mod KnownMessages
+pub mod NodeNumbers
+pub mod Numbered
+pub mod WorldSteps
+pub mod JournalRuns
 pub mod Places
 pub mod Entries
 pub mod Fitting

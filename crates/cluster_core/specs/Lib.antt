@@ -1,7 +1,9 @@
 pub mod World
 pub mod Next
 pub mod Runs
+pub mod Parts
 pub mod Known
+pub mod Journals
 pub mod Union
 pub mod Histories
 pub mod Placement

@@ -1,7 +1,12 @@
-//! The whole cluster: the messages that were sent, and the law that every run has one history in
-//! one table.
+//! The whole cluster: the world, its runs, and their history in one table.
 #![tactic(auto)]
 
+pub mod held_lock;
 pub mod item;
+pub mod journal;
 pub mod laws;
 pub mod sent;
+#[cfg(test)]
+mod tests;
+pub mod token_run;
+pub mod world;

@@ -9,3 +9,4 @@ pub mod FailLaws
 pub mod AnswerLaws
 pub mod RunLaws
 pub mod BlockerLaws
+pub mod ReplayLaws

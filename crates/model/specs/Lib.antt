@@ -6,3 +6,4 @@ pub mod Descriptors
 pub mod Table
 pub mod Step
 pub mod OneTable
+pub mod Replay

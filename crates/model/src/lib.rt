@@ -16,6 +16,7 @@ pub mod opened;
 pub mod owner;
 pub mod policy;
 pub mod process;
+pub mod replay;
 pub mod reply;
 #[cfg(test)]
 mod tests;

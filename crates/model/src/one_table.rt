@@ -296,7 +296,7 @@ impl OneTable {
 
     // What a lock call is about, or the answer by the first of its tests that fails: the process,
     // the descriptor, the segment, the open mode.
-    fn target(
+    pub(crate) fn target(
         &self,
         process: Process,
         need: Option<Mode>,
@@ -329,7 +329,7 @@ impl OneTable {
     }
 
     // What the owner holds of the file.
-    fn bytes_of(&self, file: u16, owner: Owner) -> Result<VecMap<Mode>, NoMemory>
+    pub(crate) fn bytes_of(&self, file: u16, owner: Owner) -> Result<VecMap<Mode>, NoMemory>
         ensures { IfOk result (λ bytes. value_at bytes ≡ (table_of self.now).locks file owner) }
     {
         let alloc = *self.changes.allocator();
@@ -468,7 +468,7 @@ impl OneTable {
     }
 
     // An equal table.
-    fn copy(&self) -> Result<Self, NoMemory>
+    pub(crate) fn copy(&self) -> Result<Self, NoMemory>
         ensures { IfOk result (λ copy. copy ≡ self.now) }
     {
         Ok(OneTable {

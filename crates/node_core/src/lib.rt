@@ -1,5 +1,14 @@
 //! A node: its processes, their locks and open calls, and its tokens.
 #![tactic(auto)]
 
+mod calls;
+pub mod descriptors;
+pub mod effect;
 pub mod event;
+pub mod file_row;
+mod files;
+mod locks;
+pub mod node;
+mod numbers;
 pub mod open_call;
+mod target;

@@ -1,4 +1,6 @@
 //! Open calls.
+ghost use Rattle.std.specs.Prelude.{◌≡◌, ◌↔◌, IsTrue};
+
 use intervals::span::Span;
 use model::mode::Mode;
 use model::owner::Owner;
@@ -12,4 +14,13 @@ pub struct OpenCall {
     pub owner: Owner,
     pub mode: Mode,
     pub span: Span,
+}
+
+impl OpenCall {
+    /// Whether both are one and the same call.
+    pub fn same(&self, other: &OpenCall) -> bool
+        ensures { IsTrue result ↔ (self.now ≡ other.now) }
+    {
+        self == other
+    }
 }

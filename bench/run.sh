@@ -1,0 +1,31 @@
+#!/bin/sh
+# Times lockreplay on scripts of 10,000, 100,000 and 1,000,000 lines.
+here=$(dirname -- "$(readlink -f -- "$0")") || exit 1
+folder=$1
+if [ -z "$folder" ]; then
+    folder=$(mktemp -d) || exit 1
+    trap 'rm -rf "$folder"' EXIT
+fi
+"$here/../lockreplay" --help >/dev/null || exit 1
+
+echo "lines      entries    seconds  entries/s  peak MB"
+for lines in 10000 100000 1000000; do
+    script=$folder/$lines.lock
+    listing=$folder/$lines.listing
+    sh "$here/script.sh" "$lines" >"$script" || exit 1
+    measured=$(python3 - "$here/../crates/lockreplay/out/lockreplay" "$script" "$listing" <<'PYTHON'
+import resource, subprocess, sys, time
+program, script, listing = sys.argv[1:]
+with open(listing, "wb") as out:
+    began = time.monotonic()
+    status = subprocess.run([program, "run", script], stdout=out).returncode
+    seconds = time.monotonic() - began
+if status != 0:
+    sys.exit(f"status {status}")
+kilobytes = resource.getrusage(resource.RUSAGE_CHILDREN).ru_maxrss
+print(f"{seconds:.2f} {kilobytes // 1024}")
+PYTHON
+    ) || exit 1
+    entries=$(awk '/^history$/ { exit } /^replies$/ { inside = 1; next } /^tokens$/ { inside = 0 } inside { last = $1 } END { print last + 0 }' "$listing")
+    echo "$lines $entries $measured" | awk '{ printf "%-10d %-10d %-8.2f %-10.0f %d\n", $1, $2, $3, $2 / ($3 > 0 ? $3 : 0.01), $4 }'
+done

@@ -1,0 +1,121 @@
+-- A node's step keeps its number, and names a call by it.
+use Rattle.std.specs.Prelude.{is_some, nat_le, nat_lt, ◌==◌, IfOk}
+use Rattle.std.proofs.Common.{◌≡◌, ℕ, ◌+◌, Bool, true, false, not, ◌&&◌, if◌then◌else◌, refl, sym, ◌∙◌, ap, subst, List, [], ◌∷◌, ◌++◌}
+use Rattle.std.specs.declared.option.Option.{Option}
+use Rattle.std.specs.declared.option.Option.TheVariants.{None, Some}
+use Rattle.std.specs.declared.result.Result.{Result}
+use Rattle.std.specs.declared.result.Result.TheVariants.{Ok, Err}
+use Rattle.model.specs.declared.call.CallId.{CallId}
+use Rattle.model.specs.declared.mode.Mode.{Mode}
+use Rattle.model.specs.declared.lock_info.LockInfo.{LockInfo}
+use Rattle.model.specs.declared.reply.Reply.{Reply}
+use Rattle.model.specs.declared.op.Op.{Op}
+use Rattle.model.specs.declared.op.Op.TheVariants.{Spawn, Open, Set, Unlock}
+use Rattle.model.specs.Locks.{lowest_blocker}
+use Rattle.model.specs.Table.{Target, target}
+use Rattle.token_set.specs.Tokens.{covers}
+use Rattle.messages.specs.Messages.{addressee, call_of, file_of, is_within, greatest_number}
+use Rattle.messages.specs.declared.message.Message.{Message}
+use Rattle.messages.specs.declared.message.Message.TheVariants.{Request, Grant, Taken}
+use Rattle.messages.specs.declared.outcome.Outcome.{Outcome}
+use Rattle.messages.specs.declared.refusal.StepError.{StepError}
+use Rattle.messages.specs.declared.refusal.StepError.TheVariants.{Busy, Stranger, Spent}
+use Rattle.node_core.specs.declared.open_call.OpenCall.{OpenCall}
+use Rattle.node_core.specs.declared.event.NodeEvent.{NodeEvent}
+use Rattle.node_core.specs.declared.event.NodeEvent.TheVariants.{Call, Deliver}
+use Rattle.node_core.specs.State.{NodeState, Effect, quiet, answered, open_call, open_call_of, process, outcome}
+use Rattle.node_core.specs.Try.{tried, tried_against, tried_if, unblocked, settled, requested}
+use Rattle.node_core.specs.Calls.{is_pid, is_in_shape, lock_call, called, after_call, call_rule}
+use Rattle.node_core.specs.Commands.{in_order, granted, after_grant, delivered, deliver_rule, is_node, remembered}
+use Rattle.node_core.specs.Node.{node_rule}
+
+-- the effect leaves the node its number
+abbrev Keeps : NodeState → Effect → Type 0
+Keeps s e = e.state.node ≡ s.node
+
+if_keeps : (s : NodeState) (b : Bool) (x y : Effect) → Keeps s x → Keeps s y → Keeps s (if b then x else y)
+if_keeps s true x y p q = p
+if_keeps s false x y p q = q
+
+tried_against-node : (s : NodeState) (c : OpenCall) (o : Option LockInfo) → Keeps s (tried_against s c o)
+tried_against-node s c (Some lock) = refl
+tried_against-node s c None = if_keeps s (covers (s.files c.file).token c.span c.mode) _ _ refl refl
+
+tried-node : (s : NodeState) (c : OpenCall) → Keeps s (tried s c)
+tried-node s c = tried_against-node s c (lowest_blocker (s.table.locks c.file) c.owner c.span c.mode)
+
+tried_if-node : (s : NodeState) (o : Option OpenCall) → Keeps s (tried_if s o)
+tried_if-node s None = refl
+tried_if-node s (Some c) = tried-node s c
+
+abbrev made : ℕ → ℕ → Mode → Target → OpenCall
+made number pid mode t = record { number = number; pid = pid; file = t.file; owner = t.owner; mode = mode; span = t.span }
+
+lock_call-node : (s : NodeState) (number pid : ℕ) (mode : Mode) (r : Result Target Reply) → Keeps s (lock_call s number pid mode r)
+lock_call-node s number pid mode (Err refusal) = refl
+lock_call-node s number pid mode (Ok t) = tried-node (record s { pending = s.pending ++ made number pid mode t ∷ [] }) (made number pid mode t)
+
+called-node : (s : NodeState) (number pid : ℕ) (op : Op) → Keeps s (called s number pid op)
+called-node s number pid Spawn = refl
+called-node s number pid (Open file access) = refl
+called-node s number pid (Set fd kind mode start len) = lock_call-node s number pid mode (target s.table (process s pid) (Some mode) fd kind start len)
+called-node s number pid (Unlock fd kind start len) = refl
+
+remembered-node : (s : NodeState) (o : Option Message) → Keeps s (remembered s o)
+remembered-node s None = refl
+remembered-node s (Some m) = refl
+
+in_order-node : (s : NodeState) (file number : ℕ) (e : Effect) → Keeps s e → Keeps s (in_order s file number e)
+in_order-node s file number e kept =
+    if_keeps s (number == (s.files file).last + 1) _ _ kept
+    (if_keeps s ((number == (s.files file).last) && nat_le 1 number) _ _ (remembered-node s (s.files file).answer) refl)
+
+delivered-node : (s : NodeState) (m : Message) → Keeps s (delivered s m)
+delivered-node s (Request file call urgency mode wanted) = refl
+delivered-node s (Grant file number call mode span) = in_order-node s file number _ (tried_if-node (after_grant s file number call mode span) (open_call (after_grant s file number call mode span) call.number))
+delivered-node s (Taken file number call) = refl
+
+-- a call is named by its node, and nothing else is named
+abbrev pub NamesBy : ℕ → NodeEvent → Option CallId → Type 0
+NamesBy node (Call pid op) None = ⊥
+NamesBy node (Call pid op) (Some id) = id.node ≡ node
+NamesBy node (Deliver m) call = call ≡ None
+
+pub record Steps (s : NodeState) (event : NodeEvent) (done : NodeState × Outcome) : Type 0 where
+  pub node : done.0.node ≡ s.node
+  pub named : NamesBy s.node event done.1.call
+
+abbrev Stepped : NodeState → NodeEvent → Result (NodeState × Outcome) StepError → Type 0
+Stepped s event r = (done : NodeState × Outcome) → r ≡ Ok done → Steps s event done
+
+refused_steps : (s : NodeState) (event : NodeEvent) (e : StepError) → Stepped s event (Err e)
+refused_steps s event e done is = cc
+
+done_is : {A E : Type 0} (a b : A) → ◌≡◌ {A = Result A E} (Ok a) (Ok b) → a ≡ b
+done_is a b is = cc
+
+made_steps : (s : NodeState) (event : NodeEvent) (made : NodeState × Outcome) → Steps s event made → Stepped s event (Ok made)
+made_steps s event made steps done is = let P : NodeState × Outcome → Type 0 = λ d. Steps s event d in subst P (done_is made done is) steps
+
+if_steps : (s : NodeState) (event : NodeEvent) (b : Bool) (x y : Result (NodeState × Outcome) StepError) → Stepped s event x → Stepped s event y → Stepped s event (if b then x else y)
+if_steps s event true x y p q = p
+if_steps s event false x y p q = q
+
+call_rule-steps : (s : NodeState) (pid : ℕ) (op : Op) → Stepped s (Call pid op) (call_rule s pid op)
+call_rule-steps s pid op =
+    if_steps s (Call pid op) (not (is_pid pid && is_in_shape s.shape op)) _ _ (refused_steps s (Call pid op) Stranger)
+    (if_steps s (Call pid op) (is_some (open_call_of s pid)) _ _ (refused_steps s (Call pid op) Busy)
+    (if_steps s (Call pid op) (nat_lt s.calls greatest_number) _ _
+    (made_steps s (Call pid op) (after_call s pid op) (record { node = called-node (record s { calls = s.calls + 1 }) (s.calls + 1) pid op; named = refl }))
+    (refused_steps s (Call pid op) Spent)))
+
+deliver_rule-steps : (s : NodeState) (m : Message) → Stepped s (Deliver m) (deliver_rule s m)
+deliver_rule-steps s m =
+    if_steps s (Deliver m) (not (is_node s.node (addressee m) && is_within s.shape.files (file_of m))) _ _ (refused_steps s (Deliver m) Stranger)
+    (if_steps s (Deliver m) ((call_of m).incarnation == s.incarnation) _ _
+    (made_steps s (Deliver m) (outcome None (delivered s m)) (record { node = delivered-node s m; named = refl }))
+    (made_steps s (Deliver m) (outcome None (quiet s)) (record { node = refl; named = refl })))
+
+pub node_rule-steps : (s : NodeState) (event : NodeEvent) (done : NodeState × Outcome) → node_rule s event ≡ Ok done → Steps s event done
+node_rule-steps s (Call pid op) = call_rule-steps s pid op
+node_rule-steps s (Deliver m) = deliver_rule-steps s m

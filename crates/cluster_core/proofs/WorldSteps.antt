@@ -1,0 +1,166 @@
+-- A world after the step of one of its actors.
+use Rattle.std.specs.Prelude.{slice_set, slice_index_or, ◌==◌, ◌-◌}
+use Rattle.std.proofs.Common.{◌≡◌, ℕ, zero, suc, ◌+◌, ◌<◌, ◌≤◌, Bool, true, false, ◌&&◌, if◌then◌else◌, refl, sym, ◌∙◌, ap, subst, arith, List, [], ◌∷◌, ◌++◌, length}
+use Rattle.std.specs.declared.option.Option.{Option}
+use Rattle.std.specs.declared.option.Option.TheVariants.{None, Some}
+use Rattle.std.specs.declared.result.Result.{Result}
+use Rattle.std.specs.declared.result.Result.TheVariants.{Ok, Err}
+use Rattle.std.proofs.lemmas.Bool.Decides.{nat_tests}
+use Rattle.std.proofs.lemmas.List.{length-set}
+use Rattle.model.specs.declared.call.CallId.{CallId}
+use Rattle.messages.specs.Messages.{is_within}
+use Rattle.messages.specs.Entries.{NamesItsCall}
+use Rattle.messages.specs.declared.message.Message.{Message}
+use Rattle.messages.specs.declared.event.Event.{Event}
+use Rattle.messages.specs.declared.event.Event.TheVariants.{Call, Deliver}
+use Rattle.messages.specs.declared.outcome.Outcome.{Outcome}
+use Rattle.messages.specs.declared.entry.Entry.{Entry}
+use Rattle.messages.specs.declared.refusal.StepError.{StepError}
+use Rattle.node_core.specs.declared.event.NodeEvent.{NodeEvent}
+use Rattle.node_core.specs.declared.event.NodeEvent.TheVariants as own
+use Rattle.node_core.specs.Parts.{NodeParts, node_state}
+use Rattle.node_core.specs.State.{NodeState, first_node}
+use Rattle.node_core.specs.Node.{node_rule}
+use Rattle.token_server.specs.Parts.{ServerParts, server_state}
+use Rattle.token_server.specs.declared.event.ServerEvent.{ServerEvent}
+use Rattle.token_server.specs.State.{ServerState, first_server}
+use Rattle.token_server.specs.Server.{server_rule}
+use Rattle.cluster_core.specs.World.{WorldState, first_world, journal_limit}
+use Rattle.cluster_core.specs.Next.{with_node, with_server, recorded, entry, after_node, after_server}
+use Rattle.cluster_core.specs.Parts.{WorldParts, IsWorld, IsRest, IsStepOf, numbered, world_state}
+use Rattle.cluster_core.proofs.Numbered.{numbered-set, numbered-read}
+use Rattle.cluster_core.proofs.NodeNumbers.{NamesBy, Steps, node_rule-steps}
+
+pub within_is : (most n : ℕ) → is_within most n ≡ true → (1 ≤ n) × (n ≤ most)
+within_is most n h = (grind (arith, nat_tests, h), grind (arith, nat_tests, h))
+
+-- the world with another node, more messages, and one more entry
+abbrev pub with_node_parts : WorldParts → ℕ → NodeParts → List Message → WorldParts
+with_node_parts p n next sends = record p { nodes = slice_set p.nodes (n - 1) next; sent = p.sent ++ sends; length = p.length + 1 }
+
+abbrev pub with_server_parts : WorldParts → ℕ → ServerParts → List Message → WorldParts
+with_server_parts p file next sends = record p { servers = slice_set p.servers (file - 1) next; sent = p.sent ++ sends; length = p.length + 1 }
+
+put_at : {A B : Type 0} (f : A → B) (rest : ℕ → B) (xs : List A) (n : ℕ) (x : A) → 1 ≤ n → n ≤ length xs → (m : ℕ) → numbered f rest 1 (slice_set xs (n - 1) x) m ≡ (if m == n then f x else numbered f rest 1 xs m)
+put_at f rest xs n x least most m =
+    let place : n - 1 < length xs = omega arith in
+    let number : 1 + (n - 1) ≡ n = omega arith in
+    numbered-set f rest 1 xs (n - 1) x place m ∙ ap (λ (k : ℕ). if m == k then f x else numbered f rest 1 xs m) number
+
+pub node_put : (p : WorldParts) (n : ℕ) (next : NodeParts) (event : Event) (o : Outcome) → 1 ≤ n → n ≤ length p.nodes → (recorded (with_node (world_state p) n (node_state next)) event o).0 ≡ world_state (with_node_parts p n next o.sends)
+node_put p n next event o least most =
+    sym (λ i. record {
+      shape = p.shape;
+      nodes = λ m. put_at node_state (λ k. first_node p.shape k 1) p.nodes n next least most m i;
+      servers = numbered server_state (first_server p.shape) 1 p.servers;
+      sent = p.sent ++ o.sends;
+      length = p.length + 1;
+    })
+
+pub server_put : (p : WorldParts) (file : ℕ) (next : ServerParts) (event : Event) (o : Outcome) → 1 ≤ file → file ≤ length p.servers → (recorded (with_server (world_state p) file (server_state next)) event o).0 ≡ world_state (with_server_parts p file next o.sends)
+server_put p file next event o least most =
+    sym (λ i. record {
+      shape = p.shape;
+      nodes = numbered node_state (λ k. first_node p.shape k 1) 1 p.nodes;
+      servers = λ m. put_at server_state (first_server p.shape) p.servers file next least most m i;
+      sent = p.sent ++ o.sends;
+      length = p.length + 1;
+    })
+
+length_set : {A : Type 0} (xs : List A) (k : ℕ) (x : A) → length (slice_set xs k x) ≡ length xs
+length_set xs k x = length-set xs k x
+
+own_after : (m n : ℕ) (b : Bool) (x y : NodeState) → (m == n) ≡ b → x.node ≡ n → y.node ≡ m → (if b then x else y).node ≡ m
+own_after m n true x y h is other = is ∙ sym (eq_is h)
+  where
+    eq_is : (m == n) ≡ true → m ≡ n
+    eq_is h = grind (arith, nat_tests, h)
+own_after m n false x y h is other = other
+
+-- a node's step leaves the world one
+pub node_world : (p : WorldParts) (n : ℕ) (step : NodeEvent) (next : NodeParts) (o : Outcome) → 1 ≤ n → n ≤ p.shape.nodes → p.length < journal_limit → IsWorld p → node_rule ((world_state p).nodes n) step ≡ Ok (node_state next, o) → IsWorld (with_node_parts p n next o.sends)
+node_world p n step next o least most room world done =
+    let steps = node_rule-steps ((world_state p).nodes n) step (node_state next, o) done in
+    let there : n ≤ length p.nodes = omega (arith, world.nodes_there) in
+    record {
+      nodes_there = length_set p.nodes (n - 1) next ∙ world.nodes_there;
+      servers_there = world.servers_there;
+      own_number = λ m.
+          ap (λ (s : NodeState). s.node) (put_at node_state (λ k. first_node p.shape k 1) p.nodes n next least there m)
+          ∙ own_after m n (m == n) (node_state next) ((world_state p).nodes m) refl (steps.node ∙ world.own_number n) (world.own_number m);
+      within = omega arith;
+    }
+
+pub server_world : (p : WorldParts) (file : ℕ) (next : ServerParts) (sends : List Message) → p.length < journal_limit → IsWorld p → IsWorld (with_server_parts p file next sends)
+server_world p file next sends room world = record {
+  nodes_there = world.nodes_there;
+  servers_there = length_set p.servers (file - 1) next ∙ world.servers_there;
+  own_number = world.own_number;
+  within = omega arith;
+}
+
+names : (event : Event) (node : ℕ) (step : NodeEvent) (number : ℕ) (call : Option CallId) → IsStepOf event node step → number ≡ node → NamesBy number step call → NamesItsCall event call
+names (Call n pid op) node step number None is own by = let P : NodeEvent → Type 0 = λ e. NamesBy number e None in absurd (subst P is.1 by)
+names (Call n pid op) node step number (Some id) is own by = let P : NodeEvent → Type 0 = λ e. NamesBy number e (Some id) in subst P is.1 by ∙ (own ∙ sym is.0)
+names (Deliver m) node step number call is own by = let P : NodeEvent → Type 0 = λ e. NamesBy number e call in subst P is by
+
+-- the entry of a node's step names the call by its node
+pub node_names : (p : WorldParts) (event : Event) (n : ℕ) (step : NodeEvent) (next : NodeState) (o : Outcome) → IsWorld p → IsStepOf event n step → node_rule ((world_state p).nodes n) step ≡ Ok (next, o) → NamesItsCall event o.call
+node_names p event n step next o world is done =
+    names event n step ((world_state p).nodes n).node o.call is (world.own_number n) (node_rule-steps ((world_state p).nodes n) step (next, o) done).named
+
+read_number : {A B : Type 0} (f : A → B) (rest : ℕ → B) (xs : List A) (n : ℕ) (x : A) → 1 ≤ n → n ≤ length xs → x ≡ slice_index_or xs (n - 1) x → numbered f rest 1 xs n ≡ f x
+read_number f rest xs n x least most is =
+    let place : n - 1 < length xs = omega arith in
+    let number : 1 + (n - 1) ≡ n = omega arith in
+    ap (λ (k : ℕ). numbered f rest 1 xs k) (sym number) ∙ numbered-read f rest 1 xs (n - 1) x place is
+
+-- the node and the server that stand at their number's place
+pub read_node : (p : WorldParts) (n : ℕ) (x : NodeParts) → IsWorld p → is_within p.shape.nodes n ≡ true → x ≡ slice_index_or p.nodes (n - 1) x → (world_state p).nodes n ≡ node_state x
+read_node p n x world number is =
+    let bounds = within_is p.shape.nodes n number in
+    let least : 1 ≤ n = bounds.0 in
+    let most : n ≤ length p.nodes = omega (arith, bounds.1, world.nodes_there) in
+    read_number node_state (λ k. first_node p.shape k 1) p.nodes n x least most is
+
+pub read_server : (p : WorldParts) (file : ℕ) (x : ServerParts) → IsWorld p → is_within p.shape.files file ≡ true → x ≡ slice_index_or p.servers (file - 1) x → (world_state p).servers file ≡ server_state x
+read_server p file x world number is =
+    let bounds = within_is p.shape.files file number in
+    let least : 1 ≤ file = bounds.0 in
+    let most : file ≤ length p.servers = omega (arith, bounds.1, world.servers_there) in
+    read_number server_state (first_server p.shape) p.servers file x least most is
+
+-- the new world and the entry are what the rules say
+pub node_done : (p : WorldParts) (event : Event) (n : ℕ) (step : NodeEvent) (next : NodeParts) (o : Outcome) (fresh : WorldParts) (e : Entry) → IsWorld p → is_within p.shape.nodes n ≡ true → node_rule ((world_state p).nodes n) step ≡ Ok (node_state next, o) → fresh ≡ with_node_parts p n next o.sends → e ≡ entry event o → after_node (world_state p) event n (node_rule ((world_state p).nodes n) step) ≡ Ok (world_state fresh, e)
+node_done p event n step next o fresh e world number done fresh_is e_is =
+    let bounds = within_is p.shape.nodes n number in
+    let least : 1 ≤ n = bounds.0 in
+    let most : n ≤ length p.nodes = omega (arith, bounds.1, world.nodes_there) in
+    let after : (recorded (with_node (world_state p) n (node_state next)) event o).0 ≡ world_state fresh = node_put p n next event o least most ∙ ap world_state (sym fresh_is) in
+    ap (λ (r : Result (NodeState × Outcome) StepError). after_node (world_state p) event n r) done ∙ (λ i. Ok (after i, sym e_is i))
+
+pub server_done : (p : WorldParts) (event : Event) (file : ℕ) (step : ServerEvent) (next : ServerParts) (o : Outcome) (fresh : WorldParts) (e : Entry) → IsWorld p → is_within p.shape.files file ≡ true → server_rule ((world_state p).servers file) step ≡ Ok (server_state next, o) → fresh ≡ with_server_parts p file next o.sends → e ≡ entry event o → after_server (world_state p) event file (server_rule ((world_state p).servers file) step) ≡ Ok (world_state fresh, e)
+server_done p event file step next o fresh e world number done fresh_is e_is =
+    let bounds = within_is p.shape.files file number in
+    let least : 1 ≤ file = bounds.0 in
+    let most : file ≤ length p.servers = omega (arith, bounds.1, world.servers_there) in
+    let after : (recorded (with_server (world_state p) file (server_state next)) event o).0 ≡ world_state fresh = server_put p file next event o least most ∙ ap world_state (sym fresh_is) in
+    ap (λ (r : Result (ServerState × Outcome) StepError). after_server (world_state p) event file r) done ∙ (λ i. Ok (after i, sym e_is i))
+
+-- a world whose nodes and servers are as they began
+pub first_is_world : (p : WorldParts) → length p.nodes ≡ p.shape.nodes → length p.servers ≡ p.shape.files → IsRest node_state (λ n. first_node p.shape n 1) p.nodes → p.length ≤ journal_limit → IsWorld p
+first_is_world p nodes servers first within = record {
+  nodes_there = nodes;
+  servers_there = servers;
+  own_number = λ n. ap (λ (s : NodeState). s.node) (first n);
+  within = within;
+}
+
+pub first_is_first : (p : WorldParts) → IsRest node_state (λ n. first_node p.shape n 1) p.nodes → IsRest server_state (first_server p.shape) p.servers → p.sent ≡ [] → p.length ≡ 0 → world_state p ≡ first_world p.shape
+first_is_first p nodes servers sent none = λ i. record {
+  shape = p.shape;
+  nodes = λ n. nodes n i;
+  servers = λ file. servers file i;
+  sent = sent i;
+  length = none i;
+}

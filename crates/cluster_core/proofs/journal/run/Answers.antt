@@ -1,0 +1,15 @@
+use Rattle.cluster_core.specs.Parts.{world_state}
+use Rattle.cluster_core.proofs.JournalRuns.{ran_empty, ran_more, first_refusal}
+use Rattle.cluster_core.proofs.Runs.{every_run}
+use Rattle.cluster_core.proofs.journal.run.Goals as goal
+
+pub returns-in-Err-clause-refused : goal.returns-in-Err-clause-refused
+returns-in-Err-clause-refused c = λ other.
+    first_refusal _ _ _ _ _ _ _ c.loop-event-test.true c.event-item.is c.loop-event.invariant (c.in-Err.ensures.err other)
+
+pub loop-event-preserved : goal.loop-event-preserved
+loop-event-preserved c =
+    ran_more _ _ _ _ _ _ _ _ _ c.loop-event-test.true c.event-item.is c.loop-event.invariant c.in-Ok.ensures.ok c.in-Ok-add.ensures
+
+pub returns-clause-one_table : goal.returns-clause-one_table
+returns-clause-one_table c = every_run _ _ _ c.in_ok-world.ensures.within c.loop-event.invariant.leads

@@ -1,0 +1,11 @@
+use Rattle.std.proofs.Common.{◌≤◌, sym, subst, arith}
+use Rattle.node_core.specs.Parts.{NodeParts}
+use Rattle.cluster_core.specs.Parts.{WorldParts, IsWorld, world_state}
+use Rattle.cluster_core.proofs.WorldSteps.{first_is_world, first_is_first}
+use Rattle.cluster_core.proofs.world.World.new.Goals as goal
+
+pub invariant_of-result : goal.invariant_of-result
+invariant_of-result c = first_is_world _ c.in_ok-nodes.ensures.there c.in_ok-servers.ensures.there c.in_ok-nodes.ensures.first (omega arith)
+
+pub returns-clause-first : goal.returns-clause-first
+returns-clause-first c = first_is_first _ c.in_ok-nodes.ensures.first c.in_ok-servers.ensures.first c.new.ensures (omega arith)

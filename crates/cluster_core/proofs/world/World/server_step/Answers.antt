@@ -1,0 +1,25 @@
+use Rattle.std.specs.Prelude.{IfOk, IfErr, ◌≢◌}
+use Rattle.std.specs.declared.result.Result.TheVariants.{Ok, Err}
+use Rattle.std.proofs.Common.{◌≡◌, ◌∙◌, ℕ, true, sym, subst, List}
+use Rattle.messages.specs.Messages.{is_within}
+use Rattle.messages.specs.declared.refusal.StepError.TheVariants.{NoMemory}
+use Rattle.cluster_core.specs.Parts.{WorldParts, IsWorld, world_state}
+use Rattle.token_server.specs.Server.{server_rule}
+use Rattle.token_server.specs.State.{ServerState}
+use Rattle.token_server.specs.Parts.{ServerParts, server_state}
+use Rattle.cluster_core.proofs.WorldSteps.{read_server}
+use Rattle.cluster_core.proofs.world.World.server_step.Goals as goal
+
+pub returns-clause-ok : goal.returns-clause-ok
+returns-clause-ok c =
+    let P : WorldParts → Type 0 = λ p. IfOk c.step.result (λ done. server_rule ((world_state p).servers c.args.file) c.args.step.now ≡ Ok (server_state done.0, done.1)) in
+    let Q : ServerState → Type 0 = λ s. IfOk c.step.result (λ done. server_rule s c.args.step.now ≡ Ok (server_state done.0, done.1)) in
+    let R : WorldParts → Type 0 = λ p. is_within p.shape.files c.args.file ≡ true in
+    subst P c.self.view_is (subst Q (sym (read_server (record { shape = c.self.inside.shape; nodes = c.self.inside.nodes.items; servers = c.self.inside.servers.items; sent = c.self.inside.sent; length = c.self.inside.length }) c.args.file c.index.result.now c.self.invariant (subst R (sym c.self.view_is) c.requires) c.index.ensures)) c.step.ensures.ok)
+
+pub returns-clause-err : goal.returns-clause-err
+returns-clause-err c =
+    let P : WorldParts → Type 0 = λ p. IfErr c.step.result (λ e. e ≢ NoMemory → server_rule ((world_state p).servers c.args.file) c.args.step.now ≡ Err e) in
+    let Q : ServerState → Type 0 = λ s. IfErr c.step.result (λ e. e ≢ NoMemory → server_rule s c.args.step.now ≡ Err e) in
+    let R : WorldParts → Type 0 = λ p. is_within p.shape.files c.args.file ≡ true in
+    subst P c.self.view_is (subst Q (sym (read_server (record { shape = c.self.inside.shape; nodes = c.self.inside.nodes.items; servers = c.self.inside.servers.items; sent = c.self.inside.sent; length = c.self.inside.length }) c.args.file c.index.result.now c.self.invariant (subst R (sym c.self.view_is) c.requires) c.index.ensures)) c.step.ensures.err)

@@ -1,0 +1,7 @@
+use Rattle.token_server.specs.Parts.{server_state}
+use Rattle.token_server.specs.State.{first_server}
+use Rattle.cluster_core.proofs.Numbered.{Begun}
+use Rattle.cluster_core.proofs.world.first_servers.Given as goal
+
+abbrev pub invariant-loop-index : goal.invariant-loop-index
+invariant-loop-index l = Begun server_state (first_server l.shape) l.servers.items l.index

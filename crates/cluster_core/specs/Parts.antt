@@ -1,0 +1,50 @@
+-- A world as plain data, and what it stands for.
+use Rattle.std.specs.Prelude.{◌≡◌, ℕ, ◌+◌, ◌≤◌, ◌==◌, if◌then◌else◌, List, [], ◌∷◌, length}
+use Rattle.messages.specs.Shapes.{ShapeFields}
+use Rattle.messages.specs.declared.message.Message.{Message}
+use Rattle.messages.specs.declared.event.Event.{Event}
+use Rattle.messages.specs.declared.event.Event.TheVariants.{Call, Deliver}
+use Rattle.node_core.specs.declared.event.NodeEvent.{NodeEvent}
+use Rattle.node_core.specs.declared.event.NodeEvent.TheVariants as own
+use Rattle.node_core.specs.Parts.{NodeParts, node_state}
+use Rattle.node_core.specs.State.{NodeState, first_node}
+use Rattle.token_server.specs.Parts.{ServerParts, server_state}
+use Rattle.token_server.specs.State.{ServerState, first_server}
+use Rattle.cluster_core.specs.World.{WorldState, journal_limit}
+
+pub record WorldParts : Type 0 where
+  pub shape : ShapeFields
+  pub nodes : List NodeParts
+  pub servers : List ServerParts
+  pub sent : List Message
+  pub length : ℕ
+
+-- what f makes of the item with number n, where the list has those from number `from` on; the rest is as it began
+unfoldable pub numbered : {A B : Type 0} → (A → B) → (ℕ → B) → ℕ → List A → ℕ → B
+numbered f rest from [] n = rest n
+numbered f rest from (x ∷ xs) n = if n == from then f x else numbered f rest (from + 1) xs n
+
+-- the items are as they began
+abbrev pub IsRest : {A B : Type 0} → (A → B) → (ℕ → B) → List A → Type 0
+IsRest f rest xs = (n : ℕ) → numbered f rest 1 xs n ≡ rest n
+
+abbrev pub world_state : WorldParts → WorldState
+world_state p = record {
+  shape = p.shape;
+  nodes = numbered node_state (λ n. first_node p.shape n 1) 1 p.nodes;
+  servers = numbered server_state (first_server p.shape) 1 p.servers;
+  sent = p.sent;
+  length = p.length;
+}
+
+-- a node and a server for each number of the shape, each node by its number, and no more entries than a journal may have
+pub record IsWorld (p : WorldParts) : Type 0 where
+  pub nodes_there : length p.nodes ≡ p.shape.nodes
+  pub servers_there : length p.servers ≡ p.shape.files
+  pub own_number : (n : ℕ) → ((world_state p).nodes n).node ≡ n
+  pub within : p.length ≤ journal_limit
+
+-- what a node does at an event is its own step
+abbrev pub IsStepOf : Event → ℕ → NodeEvent → Type 0
+IsStepOf (Call n pid op) node step = (n ≡ node) × (step ≡ own.Call pid op)
+IsStepOf (Deliver m) node step = step ≡ own.Deliver m

@@ -1,0 +1,86 @@
+//! Journals of runs.
+ghost use Rattle.std.specs.Prelude.{◌≡◌, ◌≢◌, ◌++◌, ◌∷◌, [], IfOk, IfErr, OnOk};
+ghost use Rattle.messages.specs.declared.refusal.Refused.TheVariants.{NoMemory};
+ghost use Rattle.cluster_core.specs.Runs.{IsRun};
+ghost use Rattle.cluster_core.specs.Journals.{events_of, IsFirstRefusal};
+ghost use Rattle.cluster_core.specs.Histories.{HasOneHistory};
+
+use crate::world::World;
+use messages::entry::Entry;
+use messages::event::Event;
+use messages::refusal::Refused;
+use messages::shape::Shape;
+use std::alloc::{AllocError, Global};
+use std::marker::Model;
+
+/// What happened in a cluster of a shape, entry by entry from its beginning: always a run.
+#[derive(Drop)]
+pub struct Journal {
+    shape: Shape,
+    entries: Vec<Entry>,
+}
+
+impl Model for Journal {
+    ghost use Rattle.cluster_core.specs.Journals.{JournalFields};
+    ghost use Rattle.cluster_core.specs.Runs.{IsRun};
+
+    ghost Value = { JournalFields };
+
+    ghost view = { λ j. record { shape = j.shape; entries = j.entries.items } };
+
+    ghost invariant = { λ j. IsRun j.shape j.entries.items };
+}
+
+impl Journal {
+    pub fn shape(&self) -> Shape
+        ensures { result ≡ self.now.shape }
+    {
+        self.shape
+    }
+
+    /// The entries, the first at position 1.
+    pub fn entries(&self) -> &[Entry]
+        ensures value { result.now ≡ self.now.entries }
+        ensures run { IsRun self.now.shape self.now.entries }
+    {
+        self.entries.as_slice()
+    }
+}
+
+/// Makes the events happen, one after the other, in a cluster that begins.
+///
+/// # Errors
+/// The first refusal, as `World::step` has it, where an event is refused; `NoMemory`.
+pub fn run(alloc: Global, shape: Shape, events: &[Event]) -> Result<Journal, Refused>
+    ensures shape { IfOk result (λ journal. journal.shape ≡ shape) }
+    ensures events { IfOk result (λ journal. events_of journal.entries ≡ events.now) }
+    ensures run { IfOk result (λ journal. IsRun shape journal.entries) }
+
+    // One table explains every reply, and ends as what the nodes hold.
+    ensures one_table { IfOk result (λ journal. HasOneHistory shape journal.entries) }
+
+    // Else the events before one happened, and that one is refused so.
+    ensures refused { IfErr result (λ refusal. refusal ≢ NoMemory → IsFirstRefusal shape events.now refusal) }
+{
+    let mut world = World::new(alloc, shape)?;
+    let mut entries = Vec::new(alloc);
+    for event in events {
+        let entry = match world.step(alloc, *event) {
+            Ok(entry) => entry,
+            Err(refusal) => return Err(refusal),
+        };
+        match add(&mut entries, entry) {
+            Ok(()) => {}
+            Err(_) => return Err(Refused::NoMemory),
+        }
+    }
+    Ok(Journal { shape, entries })
+}
+
+// One more entry at the end.
+fn add(entries: &mut Vec<Entry>, entry: Entry) -> Result<(), AllocError>
+    ensures { OnOk result (entries.new.items ≡ entries.old.items ++ entry ∷ []) }
+{
+    entries.push(entry)?;
+    Ok(())
+}

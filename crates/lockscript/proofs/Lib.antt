@@ -1,0 +1,6 @@
+pub mod Feeds
+pub mod Outcomes
+pub mod Pairs
+pub mod SingleWords
+pub mod NoOperation
+pub mod NoCommand

@@ -1,0 +1,74 @@
+-- Texts that are one field.
+use Rattle.std.proofs.Common.{◌≡◌, ◌≢◌, ℕ, zero, suc, ◌+◌, ◌<◌, ◌≤◌, ◌^◌, ◌++◌, Option, Some, None, MatchOption, Bor, ℤ, pos, negsuc, Bool, true, false, not, List, [], ◌∷◌, length, get_or, refl, arith, eqb, decimal, codes, FitsSigned, w64}
+use Rattle.std.specs.List.{list_all}
+use Rattle.std.specs.Fmt.{signed_decimal}
+use Rattle.std.proofs.lemmas.Fmt.{decimal_is_IsNumeral}
+use Rattle.std.proofs.lemmas.Str.Parse.{digit_at}
+use Rattle.std.proofs.lemmas.Str.Pattern.{IsSplitOnceResult, split_parts, split_after}
+use Rattle.model.specs.declared.access.Access.{Access}
+use Rattle.model.specs.declared.access.Access.TheVariants.{ReadOnly, WriteOnly, ReadWrite}
+use Rattle.model.specs.declared.mode.Mode.{Mode}
+use Rattle.model.specs.declared.mode.Mode.TheVariants.{Read, Write}
+use Rattle.model.specs.declared.owner.Kind.{Kind}
+use Rattle.model.specs.declared.owner.Kind.TheVariants.{OfProcess, OfDescription}
+use Rattle.lockscript.specs.Layout.{space}
+use Rattle.lockscript.specs.Reads.{Lacks}
+use Rattle.model.specs.Limits.{IsNumber, most_nodes, most_processes}
+use Rattle.messages.specs.Shapes.{most_files}
+use Rattle.std.specs.Prelude.{⊤}
+use Rattle.lockscript.specs.Served.{IsDescriptor, IsServedKind}
+use Rattle.lockscript.specs.Texts.{kind_text, mode_text}
+use Rattle.lockscript.proofs.Pairs.{AreWords}
+
+-- a byte by byte test
+pub lacks-tested : (c : ℕ) (bytes : List ℕ) → list_all (λ b. not (eqb b c)) bytes ≡ true → Lacks c bytes
+lacks-tested c [] test i lt = absurd (omega (arith, lt))
+lacks-tested c (b ∷ bytes) test zero lt = grind (arith, test)
+lacks-tested c (b ∷ bytes) test (suc i) lt = lacks-tested c bytes (grind (arith, test)) i (omega (arith, lt))
+
+pub Lacks-decimal : (n : ℕ) → n < 2 ^ 64 → Lacks space (decimal n)
+Lacks-decimal n small i lt e =
+    let digit = digit_at (decimal n) i (decimal_is_IsNumeral n small).0.1 lt in
+    omega (arith, digit.0, e)
+
+pub Lacks-signed_decimal : (z : ℤ) → FitsSigned w64 z → Lacks space (signed_decimal z)
+Lacks-signed_decimal (pos n) fits i lt = Lacks-decimal n (omega (arith, fits)) i lt
+Lacks-signed_decimal (negsuc n) fits zero lt = λ e. omega (arith, e)
+Lacks-signed_decimal (negsuc n) fits (suc i) lt = Lacks-decimal (suc n) (omega (arith, fits)) i (omega (arith, lt))
+
+pub Lacks-mode_text : (m : Mode) → Lacks space (mode_text m)
+Lacks-mode_text Read = lacks-tested space (codes "read") refl
+Lacks-mode_text Write = lacks-tested space (codes "write") refl
+
+pub Lacks-kind_text : (k : Kind) → Lacks space (kind_text k)
+Lacks-kind_text OfProcess = lacks-tested space (codes "proc") refl
+Lacks-kind_text OfDescription = lacks-tested space (codes "desc") refl
+
+-- what a split at the first space gives
+pub split-first_field : (bs : List ℕ) (r : Option (Bor (List ℕ) × Bor (List ℕ))) → IsSplitOnceResult space bs r
+    → MatchOption r ((word rest : List ℕ) → Lacks space word → bs ≢ word ++ space ∷ rest) (λ x. Lacks space x.0.now × (bs ≡ x.0.now ++ space ∷ x.1.now))
+split-first_field bs None split = λ word rest lacks e. split_after space bs word rest None split (omega arith) e lacks
+split-first_field bs (Some x) split =
+    let parts = split_parts space bs (Some x) split (omega arith) in
+    (parts.1, parts.0)
+
+pub file_words : AreWords decimal (IsNumber most_files)
+file_words n fits = Lacks-decimal n (omega (arith, fits.1))
+
+pub node_words : AreWords decimal (IsNumber most_nodes)
+node_words n fits = Lacks-decimal n (omega (arith, fits.1))
+
+pub pid_words : AreWords decimal (IsNumber most_processes)
+pid_words n fits = Lacks-decimal n (omega (arith, fits.1))
+
+pub fd_words : AreWords decimal IsDescriptor
+fd_words n fits = Lacks-decimal n (omega (arith, fits))
+
+pub offset_words : AreWords signed_decimal (FitsSigned w64)
+offset_words = Lacks-signed_decimal
+
+pub kind_words : AreWords kind_text IsServedKind
+kind_words k served = Lacks-kind_text k
+
+pub mode_words : AreWords mode_text (λ _. ⊤)
+mode_words m fits = Lacks-mode_text m

@@ -1,0 +1,13 @@
+-- Columns of listings.
+use Rattle.std.specs.Prelude.{ℕ, ◌-◌, List, ◌++◌, length, replicate}
+
+abbrev pub space : ℕ
+space = 32
+
+-- the text at the right end of a column of this width, or all of it where it is longer
+unfoldable pub right_in : ℕ → List ℕ → List ℕ
+right_in width text = replicate (width - length text) space ++ text
+
+-- the text at the left end of a column of this width, or all of it where it is longer
+unfoldable pub left_in : ℕ → List ℕ → List ℕ
+left_in width text = text ++ replicate (width - length text) space

@@ -1,0 +1,81 @@
+-- Texts of what scripts and listings name.
+use Rattle.std.specs.Prelude.{ℕ, ℤ, List, ◌++◌, codes, decimal}
+use Rattle.std.specs.Fmt.{signed_decimal}
+use Rattle.model.specs.declared.access.Access.{Access}
+use Rattle.model.specs.declared.access.Access.TheVariants.{ReadOnly, WriteOnly, ReadWrite}
+use Rattle.model.specs.declared.level.Level.{Level}
+use Rattle.model.specs.declared.level.Level.TheVariants.{Shared, Exclusive}
+use Rattle.model.specs.declared.mode.Mode.{Mode}
+use Rattle.model.specs.declared.mode.Mode.TheVariants.{Read, Write}
+use Rattle.model.specs.declared.owner.Kind.{Kind}
+use Rattle.model.specs.declared.owner.Kind.TheVariants.{OfProcess, OfDescription}
+use Rattle.model.specs.declared.owner.Owner.{Owner}
+use Rattle.model.specs.declared.policy.Policy.{Policy}
+use Rattle.model.specs.declared.policy.Policy.TheVariants.{Wide, Exact}
+use Rattle.model.specs.declared.call.CallId.{CallId}
+use Rattle.model.specs.declared.lock_info.LockInfo.{LockInfo}
+use Rattle.model.specs.declared.op.Op.{Op}
+use Rattle.model.specs.declared.op.Op.TheVariants.{Spawn, Open, Set, Unlock}
+use Rattle.lockscript.specs.Reads.{pair_text}
+use Rattle.model.specs.declared.reply.Reply.{Reply}
+use Rattle.model.specs.declared.reply.Reply.TheVariants.{Done, Fd, Again, NoProcess, Exists, BadFd, TooManyFiles, NoLocks, Invalid, Overflow}
+
+abbrev pub mode_text : Mode → List ℕ
+mode_text Read = codes "read"
+mode_text Write = codes "write"
+
+abbrev pub level_text : Level → List ℕ
+level_text Shared = codes "shared"
+level_text Exclusive = codes "exclusive"
+
+abbrev pub access_text : Access → List ℕ
+access_text ReadOnly = codes "r"
+access_text WriteOnly = codes "w"
+access_text ReadWrite = codes "rw"
+
+abbrev pub kind_text : Kind → List ℕ
+kind_text OfProcess = codes "proc"
+kind_text OfDescription = codes "desc"
+
+abbrev pub policy_text : Policy → List ℕ
+policy_text Wide = codes "wide"
+policy_text Exact = codes "exact"
+
+-- a node in one incarnation
+abbrev pub host_text : ℕ → ℕ → List ℕ
+host_text node incarnation = decimal node ++ codes "." ++ decimal incarnation
+
+abbrev pub call_text : CallId → List ℕ
+call_text c = host_text c.node c.incarnation ++ codes "." ++ decimal c.number
+
+abbrev pub owner_letter : Kind → List ℕ
+owner_letter OfProcess = codes "p"
+owner_letter OfDescription = codes "d"
+
+abbrev pub owner_text : Owner → List ℕ
+owner_text o = owner_letter o.kind ++ decimal o.number ++ codes "@" ++ host_text o.node o.incarnation
+
+abbrev pub lock_text : LockInfo → List ℕ
+lock_text l = mode_text l.mode ++ codes " " ++ decimal l.span.lo ++ codes " " ++ decimal l.span.hi ++ codes " " ++ owner_text l.owner
+
+abbrev pub reply_text : Reply → List ℕ
+reply_text Done = codes "done"
+reply_text (Fd fd) = codes "fd " ++ decimal fd
+reply_text (Again lock) = codes "again " ++ lock_text lock
+reply_text NoProcess = codes "no-process"
+reply_text Exists = codes "exists"
+reply_text BadFd = codes "bad-fd"
+reply_text TooManyFiles = codes "too-many-files"
+reply_text NoLocks = codes "no-locks"
+reply_text Invalid = codes "invalid"
+reply_text Overflow = codes "overflow"
+
+-- the start and the length of a segment
+abbrev pub segment_text : ℤ × ℤ → List ℕ
+segment_text = pair_text signed_decimal signed_decimal
+
+abbrev pub op_text : Op → List ℕ
+op_text Spawn = codes "spawn"
+op_text (Open file access) = codes "open " ++ pair_text decimal access_text (file, access)
+op_text (Set fd kind mode start len) = codes "set " ++ pair_text decimal (pair_text kind_text (pair_text mode_text segment_text)) (fd, (kind, (mode, (start, len))))
+op_text (Unlock fd kind start len) = codes "unlock " ++ pair_text decimal (pair_text kind_text segment_text) (fd, (kind, (start, len)))

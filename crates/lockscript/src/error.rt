@@ -1,0 +1,34 @@
+//! Why a script is refused.
+ghost use Rattle.std.specs.Prelude.{◌≡◌};
+ghost use Rattle.lockscript.specs.declared.error.ParseError.TheVariants.{NoMemory};
+
+use std::alloc::{AllocError, AllocFailed};
+use thiserror::Error;
+
+/// Why a text is no script.
+#[derive(Clone, Copy, Debug, PartialEq, Eq, Error)]
+pub enum ParseError {
+    /// A request for memory was refused.
+    #[error("no memory")]
+    NoMemory,
+    /// The first line that may not stand there, by its number, from 1. Where no line is `cluster` and
+    /// none is bad, it is the line after the last.
+    #[error("bad line {0}")]
+    BadLine(u64),
+}
+
+impl From<AllocError> for ParseError {
+    ghost from_gives = { λ error made. made ≡ NoMemory };
+
+    fn from(_error: AllocError) -> ParseError {
+        ParseError::NoMemory
+    }
+}
+
+impl<T: Drop> From<AllocFailed<T>> for ParseError {
+    ghost from_gives = { λ error made. made ≡ NoMemory };
+
+    fn from(_error: AllocFailed<T>) -> ParseError {
+        ParseError::NoMemory
+    }
+}

@@ -1,0 +1,77 @@
+//! The fields of a line.
+ghost use Rattle.std.specs.Prelude.{◌≡◌, ◌≢◌, ◌≤◌, ℕ, List, ◌∷◌, ◌++◌, decimal, MatchOption};
+ghost use Rattle.model.specs.Limits.{IsNumber, most_nodes, most_processes};
+ghost use Rattle.messages.specs.Shapes.{most_files};
+ghost use Rattle.lockscript.specs.Layout.{space};
+ghost use Rattle.lockscript.specs.Reads.{Lacks, Reads};
+ghost use Rattle.lockscript.specs.Served.{IsDescriptor};
+
+use crate::number::number_of;
+
+/// How many nodes a cluster may have.
+const MOST_NODES: u64 = 64;
+
+/// How many files a cluster may have.
+const MOST_FILES: u64 = 256;
+
+/// How many processes a node may have.
+const MOST_PROCESSES: u64 = 256;
+
+/// The greatest descriptor that a script may name.
+const GREATEST_DESCRIPTOR: u64 = 255;
+
+/// The first field of a text, and what stands after the space behind it.
+pub(crate) fn split_field(text: &str) -> Option<(&str, &str)>
+    ensures { MatchOption result
+        ((word rest : List ℕ) → Lacks space word → text.now ≢ word ++ space ∷ rest)
+        (λ parts. Lacks space parts.0.now × (text.now ≡ parts.0.now ++ space ∷ parts.1.now)) }
+{
+    text.split_once(' ')
+}
+
+/// What stands behind the front of a text.
+pub(crate) fn after<'a>(text: &'a str, front: &str) -> Option<&'a str>
+    ensures { MatchOption result ((rest : List ℕ) → text.entry.now ≢ front.now ++ rest) (λ rest. text.entry.now ≡ front.now ++ rest.now) }
+{
+    text.strip_prefix(front)
+}
+
+/// The number of a node.
+pub(crate) fn node_of(word: &str) -> Option<u8>
+    ensures { Reads decimal (IsNumber most_nodes) word.now result }
+{
+    match number_of(word, 1, MOST_NODES) {
+        Some(number) => Some(number as u8),
+        None => None,
+    }
+}
+
+/// The number of a file.
+pub(crate) fn file_of(word: &str) -> Option<u16>
+    ensures { Reads decimal (IsNumber most_files) word.now result }
+{
+    match number_of(word, 1, MOST_FILES) {
+        Some(number) => Some(number as u16),
+        None => None,
+    }
+}
+
+/// The number of a process.
+pub(crate) fn pid_of(word: &str) -> Option<u16>
+    ensures { Reads decimal (IsNumber most_processes) word.now result }
+{
+    match number_of(word, 1, MOST_PROCESSES) {
+        Some(number) => Some(number as u16),
+        None => None,
+    }
+}
+
+/// A descriptor, which need not be open.
+pub(crate) fn descriptor_of(word: &str) -> Option<u8>
+    ensures { Reads decimal IsDescriptor word.now result }
+{
+    match number_of(word, 0, GREATEST_DESCRIPTOR) {
+        Some(number) => Some(number as u8),
+        None => None,
+    }
+}

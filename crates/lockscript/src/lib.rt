@@ -1,0 +1,15 @@
+//! Scripts of lock calls, and the listing of what a run of them gave.
+#![tactic(auto)]
+
+mod columns;
+mod commands;
+pub mod error;
+mod fields;
+mod lines;
+pub mod listing;
+mod number;
+mod operations;
+pub mod script;
+pub mod script_line;
+mod texts;
+mod words;

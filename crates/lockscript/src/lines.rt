@@ -1,0 +1,91 @@
+//! The lines of a text, with their numbers.
+ghost use Rattle.std.specs.Prelude.{◌≡◌, ◌+◌, ◌≤◌, ◌<◌, ◌^◌, [], length, IfOk, IfErr, OnErr, MatchOption, IfSome};
+ghost use Rattle.lockscript.specs.declared.error.ParseError.TheVariants.{BadLine};
+ghost use Rattle.lockscript.specs.LineFeeds.{line_feeds, BeginsWithLine};
+
+use crate::error::ParseError;
+
+/// A line without its line feed, by its number, from 1.
+#[derive(Clone, Copy)]
+pub(crate) struct NumberedLine<'a> {
+    pub(crate) number: u64,
+    pub(crate) text: &'a str,
+}
+
+/// What is left of a text, and how many of its lines were taken before.
+#[derive(Drop)]
+pub(crate) struct Lines<'a> {
+    rest: &'a str,
+    taken: u64,
+    ghost countable: { taken + length rest.now < 2 ^ 63 },
+}
+
+impl<'a> Lines<'a> {
+    pub(crate) fn new(text: &'a str) -> Lines<'a>
+        ensures rest { result.rest.now ≡ text.entry.now }
+        ensures taken { result.taken ≡ 0 }
+    {
+        Lines {
+            rest: text,
+            taken: 0,
+        }
+    }
+
+    /// The number of the line after those that were taken.
+    pub(crate) fn next_number(&self) -> u64
+        ensures { result ≡ self.now.taken + 1 }
+    {
+        self.taken + 1
+    }
+
+    /// The next line, or `None` at the end of the text.
+    ///
+    /// # Errors
+    /// `BadLine` with its number where what is left has no line feed.
+    pub(crate) fn next_line(&mut self) -> Result<Option<NumberedLine<'a>>, ParseError>
+        ensures line { IfOk result (λ found. MatchOption found
+            ((self.old.rest.now ≡ []) × (self.new.rest.now ≡ self.old.rest.now) × (self.new.taken ≡ self.old.taken))
+            (λ line. BeginsWithLine self.old.rest.now line.text.now self.new.rest.now
+            × (line.number ≡ self.old.taken + 1) × (self.new.taken ≡ line.number))) }
+        ensures unfinished { IfErr result (λ error. (error ≡ BadLine (self.new.taken + 1)) × (line_feeds self.new.rest.now ≡ 0)) }
+        ensures err { OnErr result ((self.new.rest.now ≡ self.old.rest.now) × (self.new.taken ≡ self.old.taken)) }
+    {
+        if self.rest.is_empty() {
+            return Ok(None);
+        }
+        let number = self.next_number();
+        match split_line(self.rest) {
+            Some((text, rest)) => {
+                self.rest = rest;
+                self.taken = number;
+                Ok(Some(NumberedLine { number, text }))
+            }
+            None => Err(ParseError::BadLine(number)),
+        }
+    }
+
+    /// The next line that isn't skipped: one that isn't empty and doesn't begin with `#`.
+    ///
+    /// # Errors
+    /// `BadLine` with its number where a line has no line feed.
+    pub(crate) fn next_command(&mut self) -> Result<Option<NumberedLine<'a>>, ParseError>
+        ensures counted { self.new.taken + line_feeds self.new.rest.now ≡ self.old.taken + line_feeds self.old.rest.now }
+        ensures line { IfOk result (λ found. IfSome found (λ line.
+            (line.number ≡ self.new.taken) × (1 ≤ line.number) × (length self.new.rest.now < length self.old.rest.now))) }
+        ensures unfinished { IfErr result (λ error. error ≡ BadLine (self.new.taken + 1)) }
+    {
+        while let Some(line) = self.next_line()? {
+            if !line.text.is_empty() && !line.text.starts_with('#') {
+                return Ok(Some(line));
+            }
+        }
+        Ok(None)
+    }
+}
+
+// The first line of a text, and what stands after its line feed.
+fn split_line(text: &str) -> Option<(&str, &str)>
+    ensures { MatchOption result (line_feeds text.now ≡ 0) (λ parts. BeginsWithLine text.now parts.0.now parts.1.now) }
+{
+    text.split_once('\n')
+}

@@ -1,0 +1,202 @@
+use super::*;
+use intervals::span::GREATEST;
+use messages::event::Event;
+use messages::items::Items;
+use messages::outcome::Outcome;
+use model::access::Access;
+use model::level::Level;
+use model::lock_info::LockInfo;
+use model::mode::Mode;
+use model::owner::{Kind, Owner};
+use std::test::Fail;
+
+const LISTING: &str = "refused
+line 7 code 13
+line 4294967295 code 19
+replies
+      1 1.1.1            done
+      3 1.1.2            again write 0 99 p1@1.1
+tokens
+1.1        1                   0 9223372036854775807 exclusive
+1.65535  256                 100                 199 shared
+locks
+p1@1.1             1                   0                  99 write
+d16384@1.65535   256                   7                   7 read
+history
+      1 1.1.1            1 open 1 rw -> fd 0
+      3 1.1.2            2 set 0 proc read -5 5 -> again write 0 99 p1@1.1
+      4 gone             1.1
+1048576 1.1.4294967295   256 unlock 255 desc 0 -9223372036854775808 -> done
+";
+
+const CALL: CallId = CallId {
+    node: 1,
+    incarnation: 1,
+    number: 1,
+};
+
+const NEXT_CALL: CallId = CallId {
+    node: 1,
+    incarnation: 1,
+    number: 2,
+};
+
+const LAST_CALL: CallId = CallId {
+    node: 1,
+    incarnation: 1,
+    number: 4_294_967_295,
+};
+
+const OWNER: Owner = Owner {
+    node: 1,
+    incarnation: 1,
+    kind: Kind::OfProcess,
+    number: 1,
+};
+
+const DESCRIPTION: Owner = Owner {
+    node: 1,
+    incarnation: 65_535,
+    kind: Kind::OfDescription,
+    number: 16_384,
+};
+
+const LOCK: LockInfo = LockInfo {
+    owner: OWNER,
+    mode: Mode::Write,
+    span: Span { lo: 0, hi: 99 },
+};
+
+const LAST_LOCK: LockInfo = LockInfo {
+    owner: DESCRIPTION,
+    mode: Mode::Read,
+    span: Span { lo: 7, hi: 7 },
+};
+
+const TOKENS: [TokenRun; 2] = [
+    TokenRun {
+        node: 1,
+        incarnation: 1,
+        file: 1,
+        span: Span {
+            lo: 0,
+            hi: GREATEST,
+        },
+        level: Level::Exclusive,
+    },
+    TokenRun {
+        node: 1,
+        incarnation: 65_535,
+        file: 256,
+        span: Span { lo: 100, hi: 199 },
+        level: Level::Shared,
+    },
+];
+
+const LOCKS: [HeldLock; 2] = [
+    HeldLock {
+        file: 1,
+        lock: LOCK,
+    },
+    HeldLock {
+        file: 256,
+        lock: LAST_LOCK,
+    },
+];
+
+const HISTORY: [Item; 4] = [
+    Item::Answered {
+        position: 1,
+        id: CALL,
+        pid: 1,
+        op: Op::Open {
+            file: 1,
+            access: Access::ReadWrite,
+        },
+        reply: Reply::Fd(0),
+    },
+    Item::Answered {
+        position: 3,
+        id: NEXT_CALL,
+        pid: 2,
+        op: Op::Set {
+            fd: 0,
+            kind: Kind::OfProcess,
+            mode: Mode::Read,
+            start: -5,
+            len: 5,
+        },
+        reply: Reply::Again(LOCK),
+    },
+    Item::Gone {
+        position: 4,
+        node: 1,
+        incarnation: 1,
+    },
+    Item::Answered {
+        position: 1_048_576,
+        id: LAST_CALL,
+        pid: 256,
+        op: Op::Unlock {
+            fd: 255,
+            kind: Kind::OfDescription,
+            start: 0,
+            len: i64::MIN,
+        },
+        reply: Reply::Done,
+    },
+];
+
+fn entry(alloc: Global, call: CallId, reply: Option<(CallId, Reply)>) -> Entry {
+    let event = Event::Call {
+        node: call.node,
+        pid: 1,
+        op: Op::Spawn,
+    };
+    let outcome = Outcome {
+        call: Some(call),
+        reply,
+        sends: Items::new(alloc),
+    };
+    Entry::new(event, outcome)
+}
+
+#[test]
+fn has_five_sections(rt: HostRuntime) -> Result<(), Fail> {
+    let alloc = rt.alloc();
+    let entries = vec![in alloc;
+        entry(alloc, CALL, Some((CALL, Reply::Done))),
+        entry(alloc, CALL, None),
+        entry(alloc, CALL, Some((NEXT_CALL, Reply::Again(LOCK)))),
+    ]?;
+    let refused = [(7, 13), (4_294_967_295, 19)];
+    let text = listing(alloc, &refused, &entries, &TOKENS, &LOCKS, &HISTORY)?;
+    assert_eq!(rt; text.as_str(), LISTING);
+    let empty = listing(alloc, &[], &[], &[], &[], &[])?;
+    assert_eq!(rt;
+        empty.as_str(),
+        "refused\nreplies\ntokens\nlocks\nhistory\n"
+    );
+    Ok(())
+}
+
+#[test]
+fn names_each_reply(rt: HostRuntime) -> Result<(), Fail> {
+    let replies = [
+        (Reply::Done, "done"),
+        (Reply::Fd(63), "fd 63"),
+        (Reply::NoProcess, "no-process"),
+        (Reply::Exists, "exists"),
+        (Reply::BadFd, "bad-fd"),
+        (Reply::TooManyFiles, "too-many-files"),
+        (Reply::NoLocks, "no-locks"),
+        (Reply::Invalid, "invalid"),
+        (Reply::Overflow, "overflow"),
+    ];
+    for (reply, want) in replies {
+        let mut out = String::new(rt.alloc());
+        push_reply(&mut out, &reply)?;
+        assert_eq!(rt; out.as_str(), want);
+    }
+    Ok(())
+}

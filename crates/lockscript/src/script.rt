@@ -1,0 +1,71 @@
+//! Scripts.
+ghost use Rattle.std.specs.Prelude.{◌≡◌, ◌≤◌, IfErr, IfOk};
+ghost use Rattle.lockscript.specs.declared.error.ParseError.TheVariants.{BadLine};
+ghost use Rattle.lockscript.specs.Scripts.{IsLineOf};
+
+use crate::commands::{command_of, shape_of};
+use crate::error::ParseError;
+use crate::lines::{Lines, NumberedLine};
+use crate::script_line::ScriptLine;
+use messages::shape::Shape;
+use std::alloc::Global;
+
+/// A script: the shape of a cluster, and the lines to be run on it, in order.
+#[derive(Drop)]
+pub struct Script {
+    shape: Shape,
+    lines: Vec<ScriptLine>,
+}
+
+impl Script {
+    /// The script that the text writes. Each line ends with a line feed; empty lines and lines that
+    /// begin with `#` are skipped. The first other line is `cluster nodes N files F policy P`, and
+    /// none of the others is; they are `call N PID OP` and `settle`. Fields are separated by one
+    /// space.
+    ///
+    /// # Errors
+    /// `BadLine` with the number of the first line that may not stand there, counted from 1, or with
+    /// the number after the last where there is no `cluster` line; `NoMemory` where a request for
+    /// memory was refused.
+    pub fn parse(alloc: Global, text: &str) -> Result<Script, ParseError>
+        ensures bad_line { IfErr result (IsLineOf text.now) }
+    {
+        let mut source = Lines::new(text);
+        let Some(first) = source.next_command()? else {
+            return Err(ParseError::BadLine(source.next_number()));
+        };
+        let Some(shape) = shape_of(first.text) else {
+            return Err(ParseError::BadLine(first.number));
+        };
+        let mut lines = Vec::new(alloc);
+        while let Some(line) = source.next_command()? {
+            lines.push(script_line(line)?)?;
+        }
+        Ok(Script { shape, lines })
+    }
+
+    /// The cluster that it runs on.
+    pub fn shape(&self) -> Shape {
+        self.shape
+    }
+
+    /// Its lines but for the `cluster` line, in order.
+    pub fn lines(&self) -> &[ScriptLine] {
+        self.lines.as_slice()
+    }
+}
+
+// The line as one of a script. Line numbers that are listed have 32 bits, so a line past them is bad.
+fn script_line(line: NumberedLine<'_>) -> Result<ScriptLine, ParseError>
+    requires { 1 ≤ line.number }
+    ensures number { IfOk result (λ made. made.number ≡ line.entry.number) }
+    ensures bad_line { IfErr result (λ error. error ≡ BadLine line.entry.number) }
+{
+    let bad = ParseError::BadLine(line.number);
+    let command = command_of(line.text).ok_or(bad)?;
+    let number = u32::try_from(line.number).map_err(|_| bad)?;
+    Ok(ScriptLine::new(number, command))
+}
+
+#[cfg(test)]
+mod tests;

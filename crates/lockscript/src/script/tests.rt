@@ -1,0 +1,159 @@
+use super::*;
+use crate::script_line::Command;
+use model::access::Access;
+use model::mode::Mode;
+use model::op::Op;
+use model::owner::Kind;
+use model::policy::Policy;
+use std::test::Fail;
+
+const SCRIPT: &str = "# a comment
+
+cluster nodes 1 files 2 policy exact
+call 1 1 spawn
+call 64 256 open 256 rw
+# another
+settle
+call 1 1 set 255 proc read -1 -9223372036854775808
+call 1 1 unlock 0 proc 9223372036854775807 0
+";
+
+#[test]
+fn has_its_lines(rt: HostRuntime) -> Result<(), Fail> {
+    let script = Script::parse(rt.alloc(), SCRIPT)?;
+    assert_eq!(rt; script.shape().nodes(), 1);
+    assert_eq!(rt; script.shape().files(), 2);
+    assert_eq!(rt; script.shape().policy(), Policy::Exact);
+    let want = [
+        (4, call(1, 1, Op::Spawn)),
+        (
+            5,
+            call(
+                64,
+                256,
+                Op::Open {
+                    file: 256,
+                    access: Access::ReadWrite,
+                },
+            ),
+        ),
+        (7, Command::Settle),
+        (
+            8,
+            call(
+                1,
+                1,
+                Op::Set {
+                    fd: 255,
+                    kind: Kind::OfProcess,
+                    mode: Mode::Read,
+                    start: -1,
+                    len: i64::MIN,
+                },
+            ),
+        ),
+        (
+            9,
+            call(
+                1,
+                1,
+                Op::Unlock {
+                    fd: 0,
+                    kind: Kind::OfProcess,
+                    start: i64::MAX,
+                    len: 0,
+                },
+            ),
+        ),
+    ];
+    assert_eq!(rt; script.lines().len(), want.len());
+    for (line, (number, command)) in script.lines().iter().zip(want.iter()) {
+        assert_eq!(rt; line.number(), *number);
+        assert_eq!(rt; line.command(), *command, "line {number}");
+    }
+    Ok(())
+}
+
+fn call(node: u8, pid: u16, op: Op) -> Command {
+    Command::Call { node, pid, op }
+}
+
+// What may not stand in line 2.
+const BAD_SECOND_LINES: [&str; 38] = [
+    "cluster nodes 1 files 1 policy wide",
+    "Settle",
+    "settle ",
+    " settle",
+    "settle 1",
+    "call",
+    "call 1 1",
+    "call 1 1 ",
+    "call  1 1 spawn",
+    "call 1 1 spawn ",
+    "call 0 1 spawn",
+    "call 65 1 spawn",
+    "call 1 0 spawn",
+    "call 1 257 spawn",
+    "call 01 1 spawn",
+    "call +1 1 spawn",
+    "call -1 1 spawn",
+    "call 1 18446744073709551617 spawn",
+    "call 1 1 open 0 rw",
+    "call 1 1 open 257 rw",
+    "call 1 1 open 1",
+    "call 1 1 open 1 r",
+    "call 1 1 open 1 w",
+    "call 1 1 open 1 rw ",
+    "call 1 1 set 256 proc write 0 1",
+    "call 1 1 set 0 desc write 0 1",
+    "call 1 1 set 0 proc shared 0 1",
+    "call 1 1 set 0 proc write -0 1",
+    "call 1 1 set 0 proc write 00 1",
+    "call 1 1 set 0 proc write +1 1",
+    "call 1 1 set 0 proc write 9223372036854775808 1",
+    "call 1 1 set 0 proc write 0 -9223372036854775809",
+    "call 1 1 set 0 proc write 0",
+    "call 1 1 set 0 proc write 0 1 2",
+    "call 1 1 unlock 0 proc write 0 1",
+    "call 1 1 unlock 0 desc 0 1",
+    "call 1 1 fork 2",
+    "deliver 1",
+];
+
+#[test]
+fn refuses_lines(rt: HostRuntime) -> Result<(), Fail> {
+    let alloc = rt.alloc();
+    for line in BAD_SECOND_LINES {
+        let text = format!(in alloc; "cluster nodes 1 files 1 policy wide\n{line}\nsettle\n")?;
+        let refusal = Script::parse(alloc, text.as_str()).err();
+        assert_eq!(rt; refusal, Some(ParseError::BadLine(2)), "{line}");
+    }
+    Ok(())
+}
+
+#[test]
+fn refuses_texts(rt: HostRuntime) -> Result<(), Fail> {
+    let cases = [
+        ("", 1),
+        ("\n", 2),
+        ("# none\n\n", 3),
+        ("# unfinished", 1),
+        ("\n# unfinished", 2),
+        ("cluster nodes 1 files 1 policy wide", 1),
+        ("cluster nodes 1 files 1 policy wide\nsettle", 2),
+        ("settle\ncluster nodes 1 files 1 policy wide\n", 1),
+        ("cluster nodes 1 files 1 policy wide\r\n", 1),
+        ("cluster nodes 0 files 1 policy wide\n", 1),
+        ("cluster nodes 2 files 1 policy wide\n", 1),
+        ("cluster nodes 1 files 0 policy wide\n", 1),
+        ("cluster nodes 1 files 257 policy wide\n", 1),
+        ("cluster nodes 1 files 1 policy narrow\n", 1),
+        ("cluster nodes 1 files 1 policy wide wide\n", 1),
+        ("cluster nodes 1 files 1\n", 1),
+    ];
+    for (text, line) in cases {
+        let refusal = Script::parse(rt.alloc(), text).err();
+        assert_eq!(rt; refusal, Some(ParseError::BadLine(line)), "{text}");
+    }
+    Ok(())
+}

@@ -1,0 +1,62 @@
+//! Lines of scripts.
+use model::op::Op;
+use std::marker::Model;
+
+/// What a line of a script asks for.
+#[derive(Clone, Copy, Debug, PartialEq, Eq)]
+pub enum Command {
+    /// A process of a node makes a call.
+    Call { node: u8, pid: u16, op: Op },
+    /// Messages are delivered until none is left that no line has delivered.
+    Settle,
+}
+
+/// A line of a script that asks for something, by its number in the text, from 1. The numbers in it
+/// are within the limits of lock calls: nodes 1 to 64, processes 1 to 256, files 1 to 256.
+#[derive(Clone, Copy, Debug, PartialEq, Eq)]
+pub struct ScriptLine {
+    number: u32,
+    command: Command,
+}
+
+impl Model for ScriptLine {
+    ghost use Rattle.lockscript.specs.Scripts.{LineFields, IsLine};
+
+    ghost Value = { LineFields };
+
+    ghost view = { λ l. record { number = l.number; command = l.command } };
+
+    ghost invariant = { λ l. IsLine (record { number = l.number; command = l.command }) };
+
+    ghost inverse = { λ l. record { number = l.number; command = l.command } };
+}
+
+impl ScriptLine {
+    ghost use Rattle.std.specs.Prelude.{◌≡◌, ◌≤◌};
+    ghost use Rattle.lockscript.specs.Scripts.{IsCommand};
+
+    /// A line.
+    pub(crate) fn new(number: u32, command: Command) -> ScriptLine
+        requires counted { 1 ≤ number }
+        requires within { IsCommand command }
+        ensures { result ≡ record { number = number; command = command } }
+    {
+        ScriptLine { number, command }
+    }
+
+    /// Its number in the text, from 1.
+    pub fn number(&self) -> u32
+        ensures value { result ≡ self.now.number }
+        ensures counted { 1 ≤ result }
+    {
+        self.number
+    }
+
+    /// What it asks for.
+    pub fn command(&self) -> Command
+        ensures value { result ≡ self.now.command }
+        ensures within { IsCommand result }
+    {
+        self.command
+    }
+}

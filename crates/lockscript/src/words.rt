@@ -1,0 +1,52 @@
+//! Words of scripts that name one of a few things.
+ghost use Rattle.std.specs.Prelude.{⊤};
+ghost use Rattle.lockscript.specs.Texts.{access_text, kind_text, mode_text, policy_text};
+ghost use Rattle.lockscript.specs.Reads.{Reads};
+ghost use Rattle.lockscript.specs.Served.{IsServedAccess, IsServedKind};
+
+use model::access::Access;
+use model::mode::Mode;
+use model::owner::Kind;
+use model::policy::Policy;
+
+/// The mode that the word names.
+pub(crate) fn mode_of(word: &str) -> Option<Mode>
+    ensures { Reads mode_text (λ _. ⊤) word.now result }
+{
+    match word {
+        "read" => Some(Mode::Read),
+        "write" => Some(Mode::Write),
+        _ => None,
+    }
+}
+
+/// The policy that the word names.
+pub(crate) fn policy_of(word: &str) -> Option<Policy>
+    ensures { Reads policy_text (λ _. ⊤) word.now result }
+{
+    match word {
+        "wide" => Some(Policy::Wide),
+        "exact" => Some(Policy::Exact),
+        _ => None,
+    }
+}
+
+/// The access that the word names, of those that are served: so far reading and writing.
+pub(crate) fn access_of(word: &str) -> Option<Access>
+    ensures { Reads access_text IsServedAccess word.now result }
+{
+    match word {
+        "rw" => Some(Access::ReadWrite),
+        _ => None,
+    }
+}
+
+/// The kind of owner that the word names, of those that are served: so far processes.
+pub(crate) fn kind_of(word: &str) -> Option<Kind>
+    ensures { Reads kind_text IsServedKind word.now result }
+{
+    match word {
+        "proc" => Some(Kind::OfProcess),
+        _ => None,
+    }
+}

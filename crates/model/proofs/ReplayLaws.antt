@@ -1,0 +1,184 @@
+-- A call that is answered alike leaves one table, and, unless a lock blocks it, has one answer.
+use Rattle.std.specs.Prelude.{◌↔◌, IsTrue, MatchOption, ℤ, pos, negsuc, nat_le}
+use Rattle.std.proofs.Common.{◌≡◌, ℕ, zero, suc, ◌+◌, ◌-◌, ◌≤◌, Bool, true, false, if◌then◌else◌, refl, sym, ◌∙◌, ap, subst, inl, inr, arith, Option, Some, None, Result, Ok, Err}
+use Rattle.std.proofs.lemmas.Bool.{both_ways, cases_lt}
+use Rattle.std.proofs.lemmas.Bool.Decides.{nat_tests}
+use Rattle.intervals.specs.declared.span.SpanError.{SpanError}
+use Rattle.intervals.specs.declared.span.SpanError.TheVariants.{Invalid, Overflow}
+use Rattle.intervals.specs.Bytes.{Range, greatest, IsRun}
+use Rattle.intervals.specs.Segment.{seg, up_to}
+use Rattle.intervals.proofs.SpanLaws.{runs_are_one}
+use Rattle.model.specs.declared.mode.Mode.{Mode}
+use Rattle.model.specs.declared.owner.Kind.{Kind}
+use Rattle.model.specs.declared.access.Access.{Access}
+use Rattle.model.specs.declared.opened.Opened.{Opened}
+use Rattle.model.specs.declared.process.Process.{Process}
+use Rattle.model.specs.declared.lock_info.LockInfo.{LockInfo}
+use Rattle.model.specs.declared.op.Op.{Op}
+use Rattle.model.specs.declared.op.Op.TheVariants.{Spawn, Open, Set, Unlock}
+use Rattle.model.specs.declared.reply.Reply.{Reply}
+use Rattle.model.specs.declared.reply.Reply.TheVariants.{Done, Fd, Again, NoProcess, TooManyFiles, NoLocks}
+use Rattle.model.specs.Locks.{excludes, bars}
+use Rattle.model.specs.Descriptors.{Processes}
+use Rattle.model.specs.Table.{Table, Target, around, beside, is_running, descriptor, allows, target_at, target, lock_within, after_unlock}
+use Rattle.model.specs.OneTable.{BlocksCall}
+use Rattle.model.specs.Step.{Unblocked, AfterTests, SetStep, Step}
+use Rattle.model.specs.Replay.{NeverAnswers, NotAgain}
+
+-- a span has a byte
+abbrev HasByte : Result Range SpanError → Type 0
+HasByte (Ok s) = s.lo ≤ s.hi
+HasByte (Err e) = Unit {0}
+
+byte_if : (b : Bool) (s : Range) (e : SpanError) → (b ≡ true → s.lo ≤ s.hi) → HasByte (if b then Ok s else Err e)
+byte_if true s e h = h refl
+byte_if false s e h = tt
+
+seg-byte : (start len : ℤ) → HasByte (seg start len)
+seg-byte (negsuc s) len = tt
+seg-byte (pos s) (pos zero) = byte_if (nat_le s greatest) (record { lo = s; hi = greatest }) Overflow (λ h. within s h)
+  where
+    within : (s : ℕ) → nat_le s greatest ≡ true → s ≤ greatest
+    within s h = grind (arith, nat_tests, h)
+seg-byte (pos s) (pos (suc n)) = byte_if (nat_le (s + n) greatest) (record { lo = s; hi = s + n }) Overflow (λ h. omega arith)
+seg-byte (pos s) (negsuc n) = before (nat_le (suc n) s)
+  where
+    before : (b : Bool) → HasByte (if b then up_to (s - suc n) (s - 1) else Err Invalid)
+    before true = byte_if (nat_le (s - 1) greatest) (record { lo = s - suc n; hi = s - 1 }) Overflow (λ h. omega arith)
+    before false = tt
+
+-- a call's span has a byte, and a test that fails names no lock
+abbrev pub IsTarget : Result Target Reply → Type 0
+IsTarget (Ok c) = c.span.lo ≤ c.span.hi
+IsTarget (Err e) = NotAgain e
+
+target_if : (b : Bool) (x y : Result Target Reply) → IsTarget x → IsTarget y → IsTarget (if b then x else y)
+target_if true x y p q = p
+target_if false x y p q = q
+
+target_at-is : (p : Process) (need : Option Mode) (kind : Kind) (o : Option Opened) (segment : Result Range SpanError) → HasByte segment → IsTarget (target_at p need kind o segment)
+target_at-is p need kind None segment h = λ lock e. cc
+target_at-is p need kind (Some o) (Err Invalid) h = λ lock e. cc
+target_at-is p need kind (Some o) (Err Overflow) h = λ lock e. cc
+target_at-is p need kind (Some o) (Ok span) h = target_if (allows o.access need) _ _ h (λ lock e. cc)
+
+pub target-is : (t : Table) (p : Process) (need : Option Mode) (fd : ℕ) (kind : Kind) (start len : ℤ) → IsTarget (target t p need fd kind start len)
+target-is t p need fd kind start len = target_if (is_running t p) _ _ (target_at-is p need kind (descriptor t p fd) (seg start len) (seg-byte start len)) (λ lock e. cc)
+
+-- a call beside the locks names none
+abbrev NamesNone : Table × Reply → Type 0
+NamesNone answer = NotAgain answer.1
+
+names_none_if : (t : Table) (p : Process) (b : Bool) (x y : Result (Processes × Reply) Reply) → NamesNone (beside t p x) → NamesNone (beside t p y) → NamesNone (beside t p (if b then x else y))
+names_none_if t p true x y h k = h
+names_none_if t p false x y h k = k
+
+within-names_none : (b : Bool) (t u : Table) → NamesNone (if b then (t, Done) else (u, NoLocks))
+within-names_none true t u lock e = cc
+within-names_none false t u lock e = cc
+
+unlock-names_none : (t : Table) (r : Result Target Reply) → IsTarget r → NamesNone (after_unlock t r)
+unlock-names_none t (Err e) h = h
+unlock-names_none t (Ok c) h = within-names_none _ _ _
+
+-- the lock of a call that is blocked, and the call
+blocked_is_not_free : (t : Table) (c : Target) (mode : Mode) (lock : LockInfo) → c.span.lo ≤ c.span.hi → BlocksCall t c mode lock → Unblocked t c mode → ⊥
+blocked_is_not_free t c mode lock span blocks free = elim (cases_lt c.span.lo lock.span.lo) [
+  | inl above ↦ at lock.span.lo (omega arith) (let s = blocks.starts in omega arith) (omega arith) (let o = blocks.region.ordered in omega arith)
+  | inr below ↦ at c.span.lo (omega arith) (omega arith) (omega arith) (let e = blocks.ends in omega arith)
+]
+  where
+    at : (b : ℕ) → c.span.lo ≤ b → b ≤ c.span.hi → lock.span.lo ≤ b → b ≤ lock.span.hi → ⊥
+    at b low high from to =
+        both_ways (excludes lock.mode mode) (sym (ap (bars mode) (blocks.region.all b from to)) ∙ free lock.owner b blocks.is_other low high) blocks.conflicts
+
+-- an answer of a call that no lock blocks
+settled : (t : Table) (mode : Mode) (b : Reply) (m : Table) (c : Target) → NotAgain b → SetStep t mode b m c → Unblocked t c mode × (b ≡ (lock_within t c (Some mode)).1)
+settled t mode (Again lock) m c none k = absurd (none lock refl)
+settled t mode Done m c none k = (k.0, k.1.0)
+settled t mode NoLocks m c none k = (k.0, k.1.0)
+settled t mode _ m c none k = absurd k
+
+set_replies : (t : Table) (mode : Mode) (a b : Reply) (n m : Table) (c : Target) → c.span.lo ≤ c.span.hi → NotAgain b → SetStep t mode a n c → SetStep t mode b m c → a ≡ b
+set_replies t mode (Again lock) b n m c span none h k = absurd (blocked_is_not_free t c mode lock span h.0 (settled t mode b m c none k).0)
+set_replies t mode Done b n m c span none h k = h.1.0 ∙ sym (settled t mode b m c none k).1
+set_replies t mode NoLocks b n m c span none h k = h.1.0 ∙ sym (settled t mode b m c none k).1
+set_replies t mode _ b n m c span none h k = absurd h
+
+tests_replies : (t : Table) (mode : Mode) (a b : Reply) (n m : Table) (r : Result Target Reply) → IsTarget r → NotAgain b → AfterTests t r a n (SetStep t mode a n) → AfterTests t r b m (SetStep t mode b m) → a ≡ b
+tests_replies t mode a b n m (Err e) is none h k = h.0 ∙ sym k.0
+tests_replies t mode a b n m (Ok c) is none h k = set_replies t mode a b n m c is none h k
+
+-- a call that may get an answer that names no lock gets no other
+pub replies_are_one : (t : Table) (p : Process) (op : Op) (a b : Reply) (n m : Table) → NotAgain b → Step t p op a n → Step t p op b m → a ≡ b
+replies_are_one t p Spawn a b n m none h k = h.0 ∙ sym k.0
+replies_are_one t p (Open file access) a b n m none h k = h.0 ∙ sym k.0
+replies_are_one t p (Set fd kind mode start len) a b n m none h k = tests_replies t mode a b n m (target t p (Some mode) fd kind start len) (target-is t p (Some mode) fd kind start len) none h k
+replies_are_one t p (Unlock fd kind start len) a b n m none h k = h.0 ∙ sym k.0
+
+set_tables : (t : Table) (mode : Mode) (a : Reply) (n m : Table) (c : Target) → SetStep t mode a n c → SetStep t mode a m c → n ≡ m
+set_tables t mode (Again lock) n m c h k = h.1 ∙ sym k.1
+set_tables t mode Done n m c h k = h.1.1 ∙ sym k.1.1
+set_tables t mode NoLocks n m c h k = h.1.1 ∙ sym k.1.1
+set_tables t mode _ n m c h k = absurd h
+
+tests_tables : (t : Table) (mode : Mode) (a : Reply) (n m : Table) (r : Result Target Reply) → AfterTests t r a n (SetStep t mode a n) → AfterTests t r a m (SetStep t mode a m) → n ≡ m
+tests_tables t mode a n m (Err e) h k = h.1 ∙ sym k.1
+tests_tables t mode a n m (Ok c) h k = set_tables t mode a n m c h k
+
+-- one answer leaves one table
+pub tables_are_one : (t : Table) (p : Process) (op : Op) (a : Reply) (n m : Table) → Step t p op a n → Step t p op a m → n ≡ m
+tables_are_one t p Spawn a n m h k = h.1 ∙ sym k.1
+tables_are_one t p (Open file access) a n m h k = h.1 ∙ sym k.1
+tables_are_one t p (Set fd kind mode start len) a n m h k = tests_tables t mode a n m (target t p (Some mode) fd kind start len) h k
+tables_are_one t p (Unlock fd kind start len) a n m h k = h.1 ∙ sym k.1
+
+-- no call but one for a lock is answered by a lock
+pub spawn_never : (t : Table) (p : Process) (lock : LockInfo) → NeverAnswers t p Spawn (Again lock)
+spawn_never t p lock new h = names_none_if t p ((around t p).runs p.pid) _ _ (λ l e. cc) (λ l e. cc) lock h.0
+
+opened-names_none : (t : Table) (p : Process) (b : Bool) (ps : Processes) (fd : ℕ) → NamesNone (beside t p (if b then Ok (ps, Fd fd) else Err TooManyFiles))
+opened-names_none t p true ps fd lock e = cc
+opened-names_none t p false ps fd lock e = cc
+
+pub open_never : (t : Table) (p : Process) (file : ℕ) (access : Access) (lock : LockInfo) → NeverAnswers t p (Open file access) (Again lock)
+open_never t p file access lock new h = names_none_if t p (is_running t p) _ (Err NoProcess) (opened-names_none t p _ _ _) (λ l e. cc) lock h.0
+
+pub unlock_never : (t : Table) (p : Process) (fd : ℕ) (kind : Kind) (start len : ℤ) (lock : LockInfo) → NeverAnswers t p (Unlock fd kind start len) (Again lock)
+unlock_never t p fd kind start len lock new h = unlock-names_none t (target t p None fd kind start len) (target-is t p None fd kind start len) lock h.0
+
+-- nor is one that a test refuses, and a blocked one only by a lock that blocks
+pub refused_never : (t : Table) (p : Process) (fd : ℕ) (kind : Kind) (mode : Mode) (start len : ℤ) (lock : LockInfo) (e : Reply) → target t p (Some mode) fd kind start len ≡ Err e → NeverAnswers t p (Set fd kind mode start len) (Again lock)
+refused_never t p fd kind mode start len lock e is new h =
+    let P : Result Target Reply → Type 0 = λ r. AfterTests t r (Again lock) new (SetStep t mode (Again lock) new) in
+    let none : NotAgain e = subst IsTarget is (target-is t p (Some mode) fd kind start len) in
+    none lock (subst P is h).0
+
+pub blocked-only_by : (t : Table) (p : Process) (fd : ℕ) (kind : Kind) (mode : Mode) (start len : ℤ) (lock : LockInfo) (c : Target) → target t p (Some mode) fd kind start len ≡ Ok c → (BlocksCall t c mode lock → ⊥) → NeverAnswers t p (Set fd kind mode start len) (Again lock)
+blocked-only_by t p fd kind mode start len lock c is none new h =
+    let P : Result Target Reply → Type 0 = λ r. AfterTests t r (Again lock) new (SetStep t mode (Again lock) new) in
+    none (subst P is h).0
+
+pub blocked-by : (t : Table) (p : Process) (fd : ℕ) (kind : Kind) (mode : Mode) (start len : ℤ) (lock : LockInfo) (c : Target) → target t p (Some mode) fd kind start len ≡ Ok c → BlocksCall t c mode lock → Step t p (Set fd kind mode start len) (Again lock) t
+blocked-by t p fd kind mode start len lock c is blocks =
+    let P : Result Target Reply → Type 0 = λ r. AfterTests t r (Again lock) t (SetStep t mode (Again lock) t) in
+    subst P (sym is) (blocks, refl)
+
+-- the run at the first byte of a span is the one region there
+pub found-is_run : (f : ℕ → Option Mode) (s : Range) (v : Mode) (found : Option (Range × Mode)) → s.lo ≤ s.hi → MatchOption found (f s.lo ≡ None) (λ run. IsRun f run.0 run.1 × (run.0.lo ≤ s.lo) × (s.lo ≤ run.0.hi)) → (found ≡ Some (s, v)) ↔ IsRun f s v
+found-is_run f s v None ordered none = (λ h. cc, λ run. absurd (let here = run.all s.lo (omega arith) ordered in cc))
+found-is_run f s v (Some run) ordered is = (
+  λ h. let P : Range × Mode → Type 0 = λ r. IsRun f r.0 r.1 in subst P (the_same h) is.0,
+  λ r. let one = runs_are_one f run.0 s run.1 v s.lo is.0 r (is.1, is.2) (omega arith, ordered) in λ i. Some (one.0 i, one.1 i),
+)
+  where
+    the_same : {A : Type 0} {x y : A} → Some x ≡ Some y → x ≡ y
+    the_same h = cc
+
+-- it is found exactly where the region is there
+pub found_where_region : (f g : ℕ → Option Mode) (s span : Range) (v : Mode) (found : Option (Range × Mode)) (b : Bool) → f ≡ g → s ≡ span → s.lo ≤ s.hi → MatchOption found (f s.lo ≡ None) (λ run. IsRun f run.0 run.1 × (run.0.lo ≤ s.lo) × (s.lo ≤ run.0.hi)) → IsTrue b ↔ (found ≡ Some (span, v)) → IsTrue b ↔ IsRun g span v
+found_where_region f g s span v found b same spans ordered is test =
+    let P : Range → Type 0 = λ r. (found ≡ Some (r, v)) ↔ IsRun g r v in
+    let Q : (ℕ → Option Mode) → Type 0 = λ h. (found ≡ Some (s, v)) ↔ IsRun h s v in
+    let there = subst P spans (subst Q same (found-is_run f s v found ordered is)) in
+    (λ t. there.0 (test.0 t), λ r. test.1 (there.1 r))

@@ -1,0 +1,17 @@
+-- Replies that a single machine's table does not give.
+use Rattle.std.specs.Prelude.{◌≡◌}
+use Rattle.model.specs.declared.lock_info.LockInfo.{LockInfo}
+use Rattle.model.specs.declared.process.Process.{Process}
+use Rattle.model.specs.declared.op.Op.{Op}
+use Rattle.model.specs.declared.reply.Reply.{Reply}
+use Rattle.model.specs.declared.reply.Reply.TheVariants.{Again}
+use Rattle.model.specs.Table.{Table}
+use Rattle.model.specs.Step.{Step}
+
+-- whatever the table would be then, the call is not answered so
+abbrev pub NeverAnswers : Table → Process → Op → Reply → Type 0
+NeverAnswers old p op reply = (new : Table) → Step old p op reply new → ⊥
+
+-- the reply names no lock
+abbrev pub NotAgain : Reply → Type 0
+NotAgain reply = (lock : LockInfo) → Again lock ≡ reply → ⊥

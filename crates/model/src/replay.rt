@@ -1,0 +1,221 @@
+//! Calls of the one table that are answered already.
+ghost use Rattle.std.specs.Prelude.{◌≡◌, true, false, Some, ◌↔◌, IsTrue, IfOk, OnErr};
+ghost use Rattle.model.specs.declared.reply.Reply.TheVariants.{Again};
+ghost use Rattle.model.specs.Locks.{excludes, IsRegion};
+ghost use Rattle.model.specs.OneTable.{table_of, BlocksCall};
+ghost use Rattle.model.specs.Step.{Step};
+ghost use Rattle.model.specs.Replay.{NeverAnswers, NotAgain};
+
+use crate::lock_call::LockCall;
+use crate::lock_info::LockInfo;
+use crate::mode::Mode;
+use crate::one_table::OneTable;
+use crate::op::Op;
+use crate::process::Process;
+use crate::reply::Reply;
+use intervals::span::Span;
+use intervals::span_map::{NoMemory, SpanMap};
+
+// Whether both are one reply.
+fn is_same(one: &Reply, other: &Reply) -> bool
+    ensures { IsTrue result ↔ (one.now ≡ other.now) }
+{
+    one == other
+}
+
+// Whether the region that was found is that one.
+fn is_found(found: &Option<(Span, Mode)>, lock: &LockInfo) -> bool
+    ensures { IsTrue result ↔ (found.now ≡ Some (lock.now.span, lock.now.mode)) }
+{
+    *found == Some((lock.span, lock.mode))
+}
+
+// Whether a lock in one mode bars another owner's in the other.
+fn excludes(held: Mode, mode: Mode) -> bool
+    ensures { result ≡ excludes held mode }
+{
+    held == Mode::Write || mode == Mode::Write
+}
+
+impl OneTable {
+    /// Whether a single machine's table may answer the call of the process so. Where it may, the
+    /// table takes that step, else it stays as it was. Of several locks that block a call, the reply
+    /// may name each.
+    ///
+    /// # Errors
+    /// `NoMemory` where there is no memory for the call; the table is as before.
+    pub fn take(&mut self, process: Process, op: Op, reply: Reply) -> Result<bool, NoMemory>
+        ensures taken { IfOk result (λ yes. yes ≡ true → Step (table_of self.old) process op reply (table_of self.new)) }
+        ensures never { IfOk result (λ yes. yes ≡ false → NeverAnswers (table_of self.old) process op reply) }
+        ensures stays { IfOk result (λ yes. yes ≡ false → self.new ≡ self.old) }
+        ensures err { OnErr result (self.new ≡ self.old) }
+    {
+        match reply {
+            Reply::Again(lock) => self.may_deny(process, op, lock),
+            _ => self.take_answer(process, op, reply),
+        }
+    }
+
+    // The step that is answered so, where no lock blocks the call.
+    fn take_answer(&mut self, process: Process, op: Op, reply: Reply) -> Result<bool, NoMemory>
+        requires { NotAgain reply }
+        ensures taken { IfOk result (λ yes. yes ≡ true → Step (table_of self.old) process op reply (table_of self.new)) }
+        ensures never { IfOk result (λ yes. yes ≡ false → NeverAnswers (table_of self.old) process op reply) }
+        ensures stays { IfOk result (λ yes. yes ≡ false → self.new ≡ self.old) }
+        ensures err { OnErr result (self.new ≡ self.old) }
+    {
+        let mut next = self.copy()?;
+        let answer = next.step(process, op)?;
+        if !is_same(&answer, &reply) {
+            return Ok(false);
+        }
+        *self = next;
+        Ok(true)
+    }
+
+    // Whether the call may be answered by this lock, as one that blocks it.
+    fn may_deny(&self, process: Process, op: Op, lock: LockInfo) -> Result<bool, NoMemory>
+        ensures may { IfOk result (λ yes. yes ≡ true → Step (table_of self.now) process op (Again lock) (table_of self.now)) }
+        ensures never { IfOk result (λ yes. yes ≡ false → NeverAnswers (table_of self.now) process op (Again lock)) }
+    {
+        let Op::Set {
+            fd,
+            kind,
+            mode,
+            start,
+            len,
+        } = op
+        else {
+            return Ok(false);
+        };
+        let Ok(call) = self.target(process, Some(mode), fd, kind, start, len) else {
+            return Ok(false);
+        };
+        self.is_blocked_by(call, mode, &lock)
+    }
+
+    // Whether the lock is a region of another owner that blocks the call.
+    fn is_blocked_by(&self, call: LockCall, mode: Mode, lock: &LockInfo) -> Result<bool, NoMemory>
+        ensures { IfOk result (λ yes. IsTrue yes ↔ BlocksCall (table_of self.now) call mode lock.now) }
+    {
+        if lock.owner == call.owner || !excludes(lock.mode, mode) {
+            return Ok(false);
+        }
+        if lock.span.lo > call.span.hi || call.span.lo > lock.span.hi {
+            return Ok(false);
+        }
+        self.has_region(call.file, lock)
+    }
+
+    // Whether the lock is a region of its owner in the file.
+    fn has_region(&self, file: u16, lock: &LockInfo) -> Result<bool, NoMemory>
+        ensures { IfOk result (λ yes. IsTrue yes ↔ IsRegion ((table_of self.now).locks file) lock.now) }
+    {
+        let bytes = self.bytes_of(file, lock.owner)?;
+        let span = lock.span;
+        Ok(is_found(&bytes.run_at(span.lo), lock))
+    }
+}
+
+#[cfg(test)]
+mod tests {
+    use super::*;
+    use crate::access::Access;
+    use crate::owner::{Kind, Owner};
+    use std::test::Fail;
+
+    const FIRST: Process = Process {
+        node: 1,
+        incarnation: 1,
+        pid: 1,
+    };
+
+    const SECOND: Process = Process {
+        node: 2,
+        incarnation: 1,
+        pid: 1,
+    };
+
+    fn set(mode: Mode, start: i64, len: i64) -> Op {
+        Op::Set {
+            fd: 0,
+            kind: Kind::OfProcess,
+            mode,
+            start,
+            len,
+        }
+    }
+
+    // A region of the first process.
+    fn held(mode: Mode, span: Span) -> Reply {
+        Reply::Again(LockInfo {
+            owner: Owner {
+                node: 1,
+                incarnation: 1,
+                kind: Kind::OfProcess,
+                number: 1,
+            },
+            mode,
+            span,
+        })
+    }
+
+    // Both processes have the file open, and the first holds bytes 0 to 9 and 20 to 29.
+    fn two_regions(rt: &impl AllocGlobal) -> Result<OneTable, Fail> {
+        let mut table = OneTable::new(rt.alloc());
+        let open = Op::Open {
+            file: 1,
+            access: Access::ReadWrite,
+        };
+        for process in [FIRST, SECOND] {
+            table.step(process, Op::Spawn)?;
+            table.step(process, open)?;
+        }
+        table.step(FIRST, set(Mode::Write, 0, 10))?;
+        table.step(FIRST, set(Mode::Read, 20, 10))?;
+        Ok(table)
+    }
+
+    #[test]
+    fn names_each_lock_that_blocks(rt: HostRuntime) -> Result<(), Fail> {
+        let mut table = two_regions(&rt)?;
+        let all = set(Mode::Write, 5, 20);
+        for (reply, may) in [
+            (held(Mode::Write, Span { lo: 0, hi: 9 }), true),
+            (held(Mode::Read, Span { lo: 20, hi: 29 }), true),
+            (held(Mode::Write, Span { lo: 5, hi: 9 }), false),
+            (held(Mode::Read, Span { lo: 20, hi: 24 }), false),
+            (held(Mode::Read, Span { lo: 0, hi: 9 }), false),
+            (Reply::Done, false),
+            (Reply::BadFd, false),
+        ] {
+            assert_eq!(rt; table.take(SECOND, all, reply)?, may, "{reply:?}");
+        }
+        let early = set(Mode::Read, 5, 20);
+        assert!(rt; table.take(SECOND, early, held(Mode::Write, Span { lo: 0, hi: 9 }))?);
+        assert!(rt; !table.take(SECOND, early, held(Mode::Read, Span { lo: 20, hi: 29 }))?);
+        assert!(rt; !table.take(FIRST, all, held(Mode::Write, Span { lo: 0, hi: 9 }))?);
+        Ok(())
+    }
+
+    #[test]
+    fn takes_the_step_or_stays(rt: HostRuntime) -> Result<(), Fail> {
+        let mut table = two_regions(&rt)?;
+        let free = set(Mode::Write, 10, 10);
+        assert!(rt; !table.take(SECOND, free, Reply::NoLocks)?);
+        assert!(rt; !table.take(SECOND, free, held(Mode::Write, Span { lo: 0, hi: 9 }))?);
+        let owner = Owner {
+            node: 2,
+            incarnation: 1,
+            kind: Kind::OfProcess,
+            number: 1,
+        };
+        assert_eq!(rt; table.mode_at(1, owner, 10), None);
+        assert!(rt; table.take(SECOND, free, Reply::Done)?);
+        assert_eq!(rt; table.mode_at(1, owner, 10), Some(Mode::Write));
+        assert!(rt; !table.take(FIRST, Op::Spawn, Reply::Done)?);
+        assert!(rt; !table.take(FIRST, Op::Spawn, held(Mode::Write, Span { lo: 0, hi: 9 }))?);
+        assert!(rt; table.take(FIRST, Op::Spawn, Reply::Exists)?);
+        Ok(())
+    }
+}

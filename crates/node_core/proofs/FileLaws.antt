@@ -1,0 +1,100 @@
+-- Rows of files.
+use Rattle.std.specs.Prelude.{◌≡◌, ◌≢◌, ℕ, zero, suc, ◌+◌, ◌-◌, ◌<◌, ◌≤◌, ◌⊎◌, ◌==◌, Bool, true, false, if◌then◌else◌, List, [], ◌∷◌, ◌++◌, Option, Some, None, length, slice_index_or, slice_set, refl}
+use Rattle.std.specs.List.{slice_get}
+use Rattle.std.proofs.Common.{arith, ap, sym, ◌∙◌, inl, inr}
+use Rattle.std.proofs.lemmas.Bool.{cases_eq, cases_lt, eq-eqb, ne_eqb}
+use Rattle.std.proofs.lemmas.Option.{slice_get_read, slice_get_past}
+use Rattle.model.specs.Limits.{IsNumber}
+use Rattle.node_core.specs.declared.file_row.FileRow.{FileRow}
+use Rattle.node_core.specs.State.{FileState, first_file}
+use Rattle.node_core.specs.Files.{state_of, state_or, file_state}
+
+-- of no file is anything known
+pub file_state-none : file_state [] ≡ (λ file. first_file)
+unfolding file_state
+file_state-none = λ i file. none file i
+  where
+    none : (file : ℕ) → file_state [] file ≡ first_file
+    none zero = refl
+    none (suc file) = refl
+
+nothing-push : (files : List FileRow) (r : FileRow) → ((k : ℕ) → state_or (slice_get files k) ≡ first_file) → state_of r ≡ first_file → (k : ℕ) → state_or (slice_get (files ++ r ∷ []) k) ≡ first_file
+nothing-push [] r nothing e zero = e
+nothing-push [] r nothing e (suc k) = refl
+nothing-push (x ∷ files) r nothing e zero = nothing zero
+nothing-push (x ∷ files) r nothing e (suc k) = nothing-push files r (λ j. nothing (suc j)) e k
+
+-- one more file of which nothing is known
+pub file_state-push : (files : List FileRow) (r : FileRow) → file_state files ≡ (λ file. first_file) → state_of r ≡ first_file → file_state (files ++ r ∷ []) ≡ (λ file. first_file)
+unfolding file_state
+file_state-push files r nothing e = λ i file. pushed file i
+  where
+    pushed : (file : ℕ) → file_state (files ++ r ∷ []) file ≡ first_file
+    pushed zero = refl
+    pushed (suc file) = nothing-push files r (λ k. ap (λ f. f (suc k)) nothing) e file
+
+-- the row of a file
+pub file_state-read : (files : List FileRow) (file : ℕ) (r : FileRow) → IsNumber (length files) file → r ≡ slice_index_or files (file - 1) r → state_of r ≡ file_state files file
+unfolding file_state
+file_state-read files zero r within e = absurd (let h = within.0 in omega arith)
+file_state-read files (suc file) r within e =
+    let at : suc file - 1 ≡ file = omega arith in
+    let here : r ≡ slice_index_or files file r = e ∙ ap (λ k. slice_index_or files k r) at in
+    ap state_or (sym (slice_get_read files (length files) file r refl (let h = within.1 in omega arith) here))
+
+slice_get-set_same : (files : List FileRow) (k : ℕ) (r : FileRow) → k < length files → slice_get (slice_set files k r) k ≡ Some r
+slice_get-set_same [] k r within = absurd (omega arith)
+slice_get-set_same (x ∷ files) zero r within = refl
+slice_get-set_same (x ∷ files) (suc k) r within = slice_get-set_same files k r (omega arith)
+
+slice_get-set_other : (files : List FileRow) (k j : ℕ) (r : FileRow) → j ≢ k → slice_get (slice_set files k r) j ≡ slice_get files j
+slice_get-set_other [] k j r ne = refl
+slice_get-set_other (x ∷ files) zero zero r ne = absurd (ne refl)
+slice_get-set_other (x ∷ files) zero (suc j) r ne = refl
+slice_get-set_other (x ∷ files) (suc k) zero r ne = refl
+slice_get-set_other (x ∷ files) (suc k) (suc j) r ne = slice_get-set_other files k j r (λ e. ne (ap suc e))
+
+-- the rows with one of them changed
+pub file_state-set : (files : List FileRow) (file : ℕ) (r : FileRow) (state : FileState) → IsNumber (length files) file → state_of r ≡ state → file_state (slice_set files (file - 1) r) ≡ (λ f. if f == file then state else file_state files f)
+unfolding file_state
+file_state-set files zero r state within e = absurd (let h = within.0 in omega arith)
+file_state-set files (suc file) r state within e = λ i f. changed f (cases_eq f (suc file)) i
+  where
+    at : suc file - 1 ≡ file
+    at = omega arith
+
+    inside : file < length files
+    inside = let h = within.1 in omega arith
+
+    apart : (f : ℕ) → (suc f ≡ suc file → ⊥) → f ≢ file
+    apart f ne e = ne (ap suc e)
+
+    changed : (f : ℕ) → (f ≡ suc file) ⊎ (f ≡ suc file → ⊥) → file_state (slice_set files (suc file - 1) r) f ≡ (if f == suc file then state else file_state files f)
+    changed f (inl is) = ap (λ k. file_state (slice_set files k r) f) at ∙ ap (file_state (slice_set files file r)) is ∙ ap state_or (slice_get-set_same files file r inside) ∙ e ∙ ap (λ b. if b then state else file_state files f) (sym (eq-eqb f (suc file) is))
+    changed zero (inr ne) = ap (λ b. if b then state else first_file) (sym (ne_eqb zero (suc file) ne))
+    changed (suc f) (inr ne) = ap (λ k. state_or (slice_get (slice_set files k r) f)) at ∙ ap state_or (slice_get-set_other files file f r (apart f ne)) ∙ ap (λ b. if b then state else state_or (slice_get files f)) (sym (ne_eqb (suc f) (suc file) ne))
+
+-- rows that say the same one by one
+pub file_state-same : (files others : List FileRow) (n : ℕ) → length files ≤ n → length others ≤ n → ((k : ℕ) → k < n → state_or (slice_get files k) ≡ state_or (slice_get others k)) → file_state files ≡ file_state others
+unfolding file_state
+file_state-same files others n within others_within same = λ i file. at file i
+  where
+    past : (k : ℕ) → n ≤ k → state_or (slice_get files k) ≡ state_or (slice_get others k)
+    past k h = ap state_or (slice_get_past files k (omega arith) ∙ sym (slice_get_past others k (omega arith)))
+
+    at : (file : ℕ) → file_state files file ≡ file_state others file
+    at zero = refl
+    at (suc k) = elim (cases_lt k n) [ inl lt ↦ same k lt | inr le ↦ past k le ]
+
+pub same-file_state : (files others : List FileRow) (k : ℕ) → file_state files ≡ file_state others → state_or (slice_get files k) ≡ state_or (slice_get others k)
+unfolding file_state
+same-file_state files others k e = ap (λ f. f (suc k)) e
+
+pub row_state : (files : List FileRow) (k : ℕ) (r : FileRow) → k < length files → r ≡ slice_index_or files k r → state_or (slice_get files k) ≡ state_of r
+row_state files k r within e = ap state_or (slice_get_read files (length files) k r refl within e)
+
+pub same-below : (files others : List FileRow) (n : ℕ) → ((k : ℕ) → k < n → state_or (slice_get files k) ≡ state_or (slice_get others k)) → state_or (slice_get files n) ≡ state_or (slice_get others n) → (k : ℕ) → k < n + 1 → state_or (slice_get files k) ≡ state_or (slice_get others k)
+same-below files others n below here k lt = elim (cases_lt k n) [
+  | inl under ↦ below k under
+  | inr le ↦ let e : k ≡ n = omega arith in ap (λ j. state_or (slice_get files j)) e ∙ here ∙ ap (λ j. state_or (slice_get others j)) (sym e)
+]

@@ -1,0 +1,331 @@
+-- A node's parts and its state.
+use Rattle.std.specs.Prelude.{◌≡◌, ℕ, zero, suc, ◌+◌, ◌-◌, ◌<◌, ◌≤◌, ◌&&◌, ◌==◌, Bool, true, false, nat_le, nat_lt, if◌then◌else◌, List, [], ◌∷◌, ◌++◌, Option, Some, None, Result, Ok, Err, All, IfOk, IfErr, IfSome, MatchOption, MatchResult, find, filter, length, ℤ, refl}
+use Rattle.std.proofs.Common.{arith, ap, sym, subst, ◌∙◌, inl, inr}
+use Rattle.std.proofs.lemmas.Bool.{cases_Bool, and_parts, and_from, eq-eqb, eqb-true, le-leb, lt-leb, leb-true, both_ways}
+use Rattle.std.proofs.lemmas.Bool.Decides.{nat_tests}
+use Rattle.std.proofs.lemmas.List.Elements.{All-head, All-tail, All-filter}
+use Rattle.intervals.specs.declared.span.SpanError.{SpanError}
+use Rattle.intervals.specs.declared.span.SpanError.TheVariants.{Invalid}
+use Rattle.intervals.specs.Bytes.{Range, greatest, whole, put, is_in}
+use Rattle.model.specs.declared.mode.Mode.{Mode}
+use Rattle.model.specs.declared.access.Access.{Access}
+use Rattle.model.specs.declared.owner.Kind.{Kind}
+use Rattle.model.specs.declared.owner.Kind.TheVariants.{OfProcess, OfDescription}
+use Rattle.model.specs.declared.owner.Owner.{Owner}
+use Rattle.model.specs.declared.opened.Opened.{Opened}
+use Rattle.model.specs.declared.process.Process.{Process}
+use Rattle.model.specs.declared.reply.Reply.{Reply}
+use Rattle.model.specs.declared.reply.Reply.TheVariants.{Done, Fd, NoLocks}
+use Rattle.model.specs.declared.reply.Reply.TheVariants as reply
+use Rattle.model.specs.Limits.{IsNumber, IsHost, most_of, most_processes, most_descriptors, most_descriptions}
+use Rattle.model.specs.Owners.{same_owner, owner_at, most_owners}
+use Rattle.model.specs.declared.lock_info.LockInfo.{LockInfo}
+use Rattle.model.specs.declared.policy.Policy.{Policy}
+use Rattle.model.specs.declared.policy.Policy.TheVariants.{Wide, Exact}
+use Rattle.model.specs.Locks.{Locks, no_locks, with_lock, regions, IsFree, IsLowestBlocker, lowest_blocker, IsOfNode}
+use Rattle.model.proofs.BlockerLaws.{is_lowest_blocker}
+use Rattle.model.specs.Descriptors.{Processes, no_processes, with_descriptor, on_lowest_fd, lowest_fd, lowest_description, after_open}
+use Rattle.model.specs.Table.{Table, Target, around, beside, with_processes, target_at, lock_within}
+use Rattle.model.proofs.OwnerLaws.{owner_exact}
+use Rattle.lock_table.specs.declared.row.Row.{Row as LockRow}
+use Rattle.lock_table.specs.Rows.{held}
+use Rattle.lock_table.specs.declared.error.LockError.{LockError}
+use Rattle.lock_table.specs.declared.error.LockError.TheVariants as lock
+use Rattle.token_set.specs.Tokens.{Token, desired, holds_nothing}
+use Rattle.std.specs.declared.alloc.AllocError.{AllocError}
+use Rattle.messages.specs.Shapes.{ShapeFields}
+use Rattle.node_core.specs.declared.descriptors.row.Row.{Row as ProcessRow}
+use Rattle.node_core.specs.declared.descriptors.error.ProcessError.{ProcessError}
+use Rattle.node_core.specs.declared.descriptors.error.ProcessError.TheVariants as error
+use Rattle.node_core.specs.declared.descriptors.error.FdError.{FdError}
+use Rattle.node_core.specs.declared.descriptors.error.FdError.TheVariants.{NoProcess, BadFd}
+use Rattle.node_core.specs.declared.file_row.FileRow.{FileRow}
+use Rattle.node_core.specs.declared.open_call.OpenCall.{OpenCall}
+use Rattle.node_core.specs.State.{NodeState, first_file, first_node, process}
+use Rattle.node_core.specs.Rows.{processes, resolved, opened_or, fd_reply, Refuses}
+use Rattle.node_core.specs.Files.{file_state}
+use Rattle.node_core.specs.Parts.{NodeParts, node_state, table_of, IsOwn, IsSpan, IsOwnCall, IsNode, tabled}
+
+-- the node itself is its own
+own_host : (node incarnation : ℕ) → ((node == node) && (incarnation == incarnation)) ≡ true
+own_host node incarnation = and_from _ _ (eq-eqb node node refl) (eq-eqb incarnation incarnation refl)
+
+if-if : {A : Type 0} (b : Bool) (x y z : A) → (if b then x else (if b then y else z)) ≡ (if b then x else z)
+if-if true x y z = refl
+if-if false x y z = refl
+
+if-both : {A : Type 0} (b : Bool) (x y : A) → x ≡ y → (if b then x else y) ≡ y
+if-both true x y e = e
+if-both false x y e = refl
+
+pub around-own : (p : NodeParts) (pid : ℕ) → around (node_state p).table (process (node_state p) pid) ≡ processes p.processes
+unfolding node_state
+around-own p pid = ap (λ b. if b then processes p.processes else no_processes) (own_host p.node p.incarnation)
+
+with-own : (p : NodeParts) (pid : ℕ) (rows : List ProcessRow) → with_processes (node_state p).table (process (node_state p) pid) (processes rows) ≡ (node_state (record p { processes = rows })).table
+unfolding node_state
+with-own p pid rows = λ i. record { on = λ n k. if-if ((n == p.node) && (k == p.incarnation)) (processes rows) (processes p.processes) no_processes i; locks = held p.locks }
+
+-- a call that concerns processes and descriptors alone
+pub beside-ok : (p : NodeParts) (pid : ℕ) (rows : List ProcessRow) (answer : Reply) (f : Processes → Result (Processes × Reply) Reply) → f (processes p.processes) ≡ Ok (processes rows, answer) → tabled (node_state p) (beside (node_state p).table (process (node_state p) pid) (f (around (node_state p).table (process (node_state p) pid)))) ≡ (node_state (record p { processes = rows }), answer)
+unfolding node_state
+beside-ok p pid rows answer f e =
+    ap (λ x. tabled (node_state p) (beside (node_state p).table (process (node_state p) pid) (f x))) (around-own p pid)
+    ∙ ap (λ r. tabled (node_state p) (beside (node_state p).table (process (node_state p) pid) r)) e
+    ∙ ap (λ t. tabled (node_state p) (t, answer)) (with-own p pid rows)
+
+pub beside-err : (p : NodeParts) (pid : ℕ) (refusal : Reply) (f : Processes → Result (Processes × Reply) Reply) → f (processes p.processes) ≡ Err refusal → tabled (node_state p) (beside (node_state p).table (process (node_state p) pid) (f (around (node_state p).table (process (node_state p) pid)))) ≡ (node_state p, refusal)
+unfolding node_state
+beside-err p pid refusal f e =
+    ap (λ x. tabled (node_state p) (beside (node_state p).table (process (node_state p) pid) (f x))) (around-own p pid)
+    ∙ ap (λ r. tabled (node_state p) (beside (node_state p).table (process (node_state p) pid) r)) e
+
+-- a node that begins
+pub first-state : (shape : ShapeFields) (node incarnation : ℕ) (rows : List ProcessRow) (locks : List LockRow) (files : List FileRow) → processes rows ≡ no_processes → held locks ≡ no_locks → file_state files ≡ (λ file. first_file) → node_state (record { shape = shape; node = node; incarnation = incarnation; calls = 0; processes = rows; locks = locks; pending = []; files = files }) ≡ first_node shape node incarnation
+unfolding node_state
+first-state shape node incarnation rows locks files none free nothing = λ i. record {
+  shape = shape;
+  node = node;
+  incarnation = incarnation;
+  calls = 0;
+  table = record { on = λ n k. if-both ((n == node) && (k == incarnation)) (processes rows) no_processes none i; locks = free i };
+  pending = [];
+  files = nothing i;
+}
+
+-- what holds of all open calls holds of those that are left, and of one that is found
+pub find-own : (P : OpenCall → Type 0) (test : OpenCall → Bool) (calls : List OpenCall) → All P calls → IfSome (find test calls) P
+find-own P test [] all = tt
+find-own P test (c ∷ calls) all =
+    elim (test c) as (λ b. IfSome (if b then Some c else find test calls) P) [ true ↦ All-head P c calls all | false ↦ find-own P test calls (All-tail P c calls all) ]
+
+pub node-calls : (p : NodeParts) (test : OpenCall → Bool) → IsNode p → IsNode (record p { pending = filter test p.pending })
+node-calls p test h = record { host = h.host; own = h.own; files_in = h.files_in; opened_in = h.opened_in; calls_in = All-filter test (IsOwnCall p.shape.files p.node p.incarnation) p.pending h.calls_in }
+
+-- the owners that a node can have
+pub own_place : (node incarnation : ℕ) (o : Owner) → IsOwn node incarnation o → (k : ℕ) × (k < most_owners) × (o ≡ owner_at node incarnation k)
+own_place node incarnation o own = placed o.kind refl
+  where
+    process_at : (n : ℕ) → 1 ≤ n → n ≤ 256 → nat_lt (n - 1) 256 ≡ true
+    process_at n low high = grind (arith, nat_tests)
+
+    description_at : (n : ℕ) → nat_lt (n - 1 + 256) 256 ≡ false
+    description_at n = grind (arith, nat_tests)
+
+    process_number : (n : ℕ) → 1 ≤ n → n ≡ n - 1 + 1
+    process_number n low = omega arith
+
+    description_number : (n : ℕ) → 1 ≤ n → n ≡ n - 1 + 256 + 1 - 256
+    description_number n low = omega arith
+
+    process_below : (n : ℕ) → 1 ≤ n → n ≤ 256 → n - 1 < 16640
+    process_below n low high = omega arith
+
+    description_below : (n : ℕ) → 1 ≤ n → n ≤ 16384 → n - 1 + 256 < 16640
+    description_below n low high = omega arith
+
+    made : (kind : Kind) (number : ℕ) → o.kind ≡ kind → o.number ≡ number → o ≡ record { node = node; incarnation = incarnation; kind = kind; number = number }
+    made kind number k n = λ i. record { node = own.of_node i; incarnation = own.of_incarnation i; kind = k i; number = n i }
+
+    choose : (k : ℕ) → Bool → Owner
+    choose k b = if b then record { node = node; incarnation = incarnation; kind = OfProcess; number = k + 1 } else record { node = node; incarnation = incarnation; kind = OfDescription; number = k + 1 - most_processes }
+
+    placed : (kind : Kind) → o.kind ≡ kind → (k : ℕ) × (k < most_owners) × (o ≡ owner_at node incarnation k)
+    placed OfProcess e =
+        let in_kind = subst (λ kind. IsNumber (most_of kind) o.number) e own.number_in in
+        (o.number - 1, process_below o.number in_kind.0 in_kind.1, made OfProcess (o.number - 1 + 1) e (process_number o.number in_kind.0) ∙ ap (choose (o.number - 1)) (sym (process_at o.number in_kind.0 in_kind.1)))
+    placed OfDescription e =
+        let in_kind = subst (λ kind. IsNumber (most_of kind) o.number) e own.number_in in
+        (o.number - 1 + 256, description_below o.number in_kind.0 in_kind.1, made OfDescription (o.number - 1 + 256 + 1 - 256) e (description_number o.number in_kind.0) ∙ ap (choose (o.number - 1 + 256)) (sym (description_at o.number)))
+
+-- with more locks of the node's owners it still has locks of those alone
+pub own-lock : (h : Locks) (node incarnation file : ℕ) (owner : Owner) (s : Range) (mode : Option Mode) → IsOwn node incarnation owner → s.hi ≤ greatest → ((f : ℕ) → IsOfNode (h f) node incarnation) → (f : ℕ) → IsOfNode (with_lock h file owner s mode f) node incarnation
+own-lock h node incarnation file owner s mode own within all f = record {
+  is_own = λ o b m some. owned o b m ((file == f) && same_owner owner o) refl some;
+  ends = λ o b past. ended o b ((file == f) && same_owner owner o) past;
+}
+  where
+    owned : (o : Owner) (b : ℕ) (m : Mode) (t : Bool) → ((file == f) && same_owner owner o) ≡ t → (if t then put (h file owner) s mode else h f o) b ≡ Some m → (k : ℕ) × (k < most_owners) × (o ≡ owner_at node incarnation k)
+    owned o b m true e some =
+        let same : owner ≡ o = owner_exact owner o (and_parts _ _ e).1 in
+        own_place node incarnation o (subst (IsOwn node incarnation) same own)
+    owned o b m false e some = (all f).is_own o b m some
+
+    outside : (b : ℕ) → greatest < b → is_in s b ≡ false
+    outside b past = grind (arith, nat_tests)
+
+    ended : (o : Owner) (b : ℕ) (t : Bool) → greatest < b → (if t then put (h file owner) s mode else h f o) b ≡ None
+    ended o b true past = ap (λ x. if x then mode else h file owner b) (outside b past) ∙ (all file).ends owner b past
+    ended o b false past = (all f).ends o b past
+
+pub node-lock : (p : NodeParts) (locks : List LockRow) (file : ℕ) (owner : Owner) (s : Range) (mode : Option Mode) → held locks ≡ with_lock (held p.locks) file owner s mode → IsOwn p.node p.incarnation owner → IsSpan s → IsNode p → IsNode (record p { locks = locks })
+node-lock p locks file owner s mode e own within h =
+    let P : Locks → Type 0 = λ l. (f : ℕ) → IsOfNode (l f) p.node p.incarnation in
+    record { host = h.host; own = subst P (sym e) (own-lock (held p.locks) p.node p.incarnation file owner s mode own within.ends h.own); files_in = h.files_in; opened_in = h.opened_in; calls_in = h.calls_in }
+
+-- bytes are locked within the regions that an owner may have
+pub lock-done : (p : NodeParts) (locks : List LockRow) (c : Target) (mode : Option Mode) → held locks ≡ with_lock (held p.locks) c.file c.owner c.span mode → regions (put (held p.locks c.file c.owner) c.span mode) ≤ 1024 → tabled (node_state p) (lock_within (node_state p).table c mode) ≡ (node_state (record p { locks = locks }), Done)
+unfolding node_state
+lock-done p locks c mode e few =
+    ap (λ b. tabled (node_state p) (if b then (record (node_state p).table { locks = with_lock (held p.locks) c.file c.owner c.span mode }, Done) else ((node_state p).table, NoLocks))) (le-leb _ _ few)
+    ∙ ap (λ (l : Locks). tabled (node_state p) (record (node_state p).table { locks = l }, Done)) (sym e)
+
+pub lock-refused : (p : NodeParts) (c : Target) (mode : Option Mode) → 1024 < regions (put (held p.locks c.file c.owner) c.span mode) → tabled (node_state p) (lock_within (node_state p).table c mode) ≡ (node_state p, NoLocks)
+unfolding node_state
+lock-refused p c mode many =
+    ap (λ b. tabled (node_state p) (if b then (record (node_state p).table { locks = with_lock (held p.locks) c.file c.owner c.span mode }, Done) else ((node_state p).table, NoLocks))) (lt-leb _ _ many)
+
+-- the tests of a lock call, one after the other
+abbrev pub target_in : Processes → Process → Option Mode → ℕ → Kind → Result Range SpanError → Result Target Reply
+target_in ps p need fd kind segment = if ps.runs p.pid then target_at p need kind (ps.opened p.pid fd) segment else Err reply.NoProcess
+
+resolved_err : (b : Bool) (o : Option Opened) (p : Process) (need : Option Mode) (kind : Kind) (segment : Result Range SpanError) (e : FdError) → (if b then opened_or o else Err NoProcess) ≡ Err e → (if b then target_at p need kind o segment else Err reply.NoProcess) ≡ Err (fd_reply e)
+resolved_err false o p need kind segment NoProcess h = refl
+resolved_err false o p need kind segment BadFd h = absurd (cc)
+resolved_err true None p need kind segment NoProcess h = absurd (cc)
+resolved_err true None p need kind segment BadFd h = refl
+resolved_err true (Some o) p need kind segment e h = absurd (cc)
+
+pub target-err : (ps : Processes) (p : Process) (need : Option Mode) (fd : ℕ) (kind : Kind) (segment : Result Range SpanError) (e : FdError) → resolved ps p.pid fd ≡ Err e → target_in ps p need fd kind segment ≡ Err (fd_reply e)
+target-err ps p need fd kind segment e h = resolved_err (ps.runs p.pid) (ps.opened p.pid fd) p need kind segment e h
+
+resolved_ok : (b : Bool) (o : Option Opened) (p : Process) (need : Option Mode) (kind : Kind) (segment : Result Range SpanError) (opened : Opened) → (if b then opened_or o else Err NoProcess) ≡ Ok opened → (o ≡ Some opened) × ((if b then target_at p need kind o segment else Err reply.NoProcess) ≡ target_at p need kind (Some opened) segment)
+resolved_ok false o p need kind segment opened h = absurd (cc)
+resolved_ok true None p need kind segment opened h = absurd (cc)
+resolved_ok true (Some o) p need kind segment opened h = let same : o ≡ opened = cc in (ap Some same, ap (λ x. target_at p need kind (Some x) segment) same)
+
+pub target-ok : (ps : Processes) (p : Process) (need : Option Mode) (fd : ℕ) (kind : Kind) (segment : Result Range SpanError) (opened : Opened) → resolved ps p.pid fd ≡ Ok opened → (ps.opened p.pid fd ≡ Some opened) × (target_in ps p need fd kind segment ≡ target_at p need kind (Some opened) segment)
+target-ok ps p need fd kind segment opened h = resolved_ok (ps.runs p.pid) (ps.opened p.pid fd) p need kind segment opened h
+
+pub segment-is : (r x : Result Range SpanError) → IfOk r (λ s. x ≡ Ok s) → IfErr r (λ e. x ≡ Err e) → r ≡ x
+segment-is (Ok s) x ok err = sym ok
+segment-is (Err e) x ok err = sym err
+
+-- what a process opens is of the file that it named
+opened_if : (b : Bool) (o : Option Opened) (p : Opened) (new : Opened) (P : ℕ → Type 0) → P new.file → (o ≡ Some p → P p.file) → (if b then Some new else o) ≡ Some p → P p.file
+opened_if true o p new P here there e = let same : new ≡ p = cc in subst (λ (x : Opened). P x.file) same here
+opened_if false o p new P here there e = there e
+
+abbrev lowest_if : Bool → Processes → ℕ → Result (Processes × Reply) Reply
+lowest_if free ps fd = if free then Ok (ps, Fd fd) else Err reply.TooManyFiles
+
+first_of : (x y : Processes × Reply) → ◌≡◌ {A = Result (Processes × Reply) Reply} (Ok x) (Ok y) → x.0 ≡ y.0
+first_of x y e = let same : x ≡ y = cc in ap (λ (z : Processes × Reply). z.0) same
+
+open_if : (runs free : Bool) (ps new : Processes) (fd at : ℕ) → (if runs then lowest_if free ps fd else Err reply.NoProcess) ≡ Ok (new, Fd at) → new ≡ ps
+open_if true true ps new fd at e = sym (first_of (ps, Fd fd) (new, Fd at) e)
+open_if true false ps new fd at e = absurd (cc)
+open_if false free ps new fd at e = absurd (cc)
+
+pub opened-within : (ps new : Processes) (pid file fd : ℕ) (access : Access) (P : ℕ → Type 0) → after_open ps pid file access ≡ Ok (new, Fd fd) → P file → ((q k : ℕ) (o : Opened) → ps.opened q k ≡ Some o → P o.file) → (q k : ℕ) (o : Opened) → new.opened q k ≡ Some o → P o.file
+opened-within ps new pid file fd access P e here there q k o some =
+    let made : Opened = record { file = file; description = lowest_description ps; access = access } in
+    let is = open_if (ps.runs pid) (nat_lt (lowest_fd ps pid) most_descriptors) (with_descriptor ps pid (lowest_fd ps pid) (Some made)) new (lowest_fd ps pid) fd e in
+    opened_if ((q == pid) && (k == lowest_fd ps pid)) (ps.opened q k) o made P here (there q k o) (sym (ap (λ (x : Processes). x.opened q k) is) ∙ some)
+
+pub open-within : (p : NodeParts) (rows : List ProcessRow) (pid file fd : ℕ) (access : Access) → after_open (processes p.processes) pid file access ≡ Ok (processes rows, Fd fd) → IsNumber p.shape.files file → IsNode p → IsNode (record p { processes = rows })
+open-within p rows pid file fd access e within h = record {
+  host = h.host;
+  own = h.own;
+  files_in = h.files_in;
+  opened_in = opened-within (processes p.processes) (processes rows) pid file fd access (IsNumber p.shape.files) e within h.opened_in;
+  calls_in = h.calls_in;
+}
+
+-- a refusal leaves the processes as they were
+pub refused : (p : NodeParts) (pid : ℕ) (rows : List ProcessRow) (f : Processes → Result (Processes × Reply) Reply) (e : ProcessError) (r : Result Reply AllocError) → MatchResult r (λ reply. (answer : Result (Processes × Reply) Reply) → Refuses e answer → answer ≡ Err reply) (λ _. e ≡ error.NoMemory) → Refuses e (f (processes p.processes)) → rows ≡ p.processes → IfOk r (λ reply. tabled (node_state p) (beside (node_state p).table (process (node_state p) pid) (f (around (node_state p).table (process (node_state p) pid)))) ≡ (node_state (record p { processes = rows }), reply))
+refused p pid rows f e (Ok answer) tells refuses same =
+    beside-err p pid answer f (tells (f (processes p.processes)) refuses) ∙ (λ i. (node_state (record p { processes = sym same i }), answer))
+refused p pid rows f e (Err _) tells refuses same = tt
+
+pub locks_refused : (p : NodeParts) (c : Target) (mode : Option Mode) (locks : List LockRow) (e : LockError) (r : Result Reply AllocError) → MatchResult r (λ answer. (e ≡ lock.NoLocks) × (answer ≡ NoLocks)) (λ _. e ≡ lock.NoMemory) → (◌≡◌ {A = Result (Unit {0}) LockError} (Err e) (Err lock.NoLocks) → 1024 < regions (put (held p.locks c.file c.owner) c.span mode)) → locks ≡ p.locks → IfOk r (λ answer. tabled (node_state p) (lock_within (node_state p).table c mode) ≡ (node_state (record p { locks = locks }), answer))
+locks_refused p c mode locks e (Ok answer) tells many same =
+    lock-refused p c mode (many (ap Err tells.0)) ∙ (λ i. (node_state (record p { locks = sym same i }), sym tells.1 i))
+locks_refused p c mode locks e (Err _) tells many same = tt
+
+-- what a node asks for contains what the call needs
+pub desired-ends : (policy : Policy) (t : Token) (s : Range) → s.hi ≤ greatest → s.hi ≤ (desired policy t s).hi
+desired-ends Exact t s h = omega arith
+desired-ends Wide t s h = elim (holds_nothing t) as (λ b. s.hi ≤ (if b then whole else record { lo = s.lo; hi = greatest }).hi) [ true ↦ h | false ↦ h ]
+
+-- the files of a node
+pub file-within : (p : NodeParts) (file : ℕ) → IsNumber (node_state p).shape.files file → IsNode p → IsNumber (length p.files) file
+unfolding node_state
+file-within p file h is = subst (λ n. IsNumber n file) (sym is.files_in) h
+
+pub file-state : (p : NodeParts) (file : ℕ) → file_state p.files file ≡ (node_state p).files file
+unfolding node_state
+file-state p file = refl
+
+-- the lowest lock that blocks a call of the node
+pub node-blocker : (p : NodeParts) (c : OpenCall) (r : Option LockInfo) → IsOwnCall (node_state p).shape.files (node_state p).node (node_state p).incarnation c → IsNode p → MatchOption r (IsFree (held p.locks c.file) c.owner c.span c.mode) (λ lock. IsLowestBlocker (held p.locks c.file) c.owner c.span c.mode lock) → r ≡ lowest_blocker ((node_state p).table.locks c.file) c.owner c.span c.mode
+unfolding node_state
+node-blocker p c r own is x =
+    let of_node : IsOfNode (held p.locks c.file) c.owner.node p.incarnation = subst (λ n. IsOfNode (held p.locks c.file) n p.incarnation) (sym own.own.of_node) (is.own c.file) in
+    let of_host : IsOfNode (held p.locks c.file) c.owner.node c.owner.incarnation = subst (λ n. IsOfNode (held p.locks c.file) c.owner.node n) (sym own.own.of_incarnation) of_node in
+    is_lowest_blocker (held p.locks c.file) c.owner c.span c.mode r of_host own.span.ordered own.span.ends x
+
+-- what a lock call of a process is about
+pub target-refused : (p : NodeParts) (pid : ℕ) (need : Option Mode) (fd : ℕ) (kind : Kind) (segment : Result Range SpanError) (e : FdError) → resolved (processes p.processes) pid fd ≡ Err e → target_in (around (node_state p).table (process (node_state p) pid)) (process (node_state p) pid) need fd kind segment ≡ Err (fd_reply e)
+target-refused p pid need fd kind segment e h =
+    ap (λ ps. target_in ps (process (node_state p) pid) need fd kind segment) (around-own p pid) ∙ target-err (processes p.processes) (process (node_state p) pid) need fd kind segment e h
+
+pub target-found : (p : NodeParts) (pid : ℕ) (need : Option Mode) (fd : ℕ) (kind : Kind) (segment x : Result Range SpanError) (opened : Opened) → resolved (processes p.processes) pid fd ≡ Ok opened → segment ≡ x → target_at (process (node_state p) pid) need kind (Some opened) segment ≡ target_in (around (node_state p).table (process (node_state p) pid)) (process (node_state p) pid) need fd kind x
+target-found p pid need fd kind segment x opened h e =
+    ap (target_at (process (node_state p) pid) need kind (Some opened)) e
+    ∙ sym (target-ok (processes p.processes) (process (node_state p) pid) need fd kind x opened h).1
+    ∙ ap (λ ps. target_in ps (process (node_state p) pid) need fd kind x) (sym (around-own p pid))
+
+pub target-file : (p : NodeParts) (pid fd : ℕ) (opened : Opened) (r : Result Target Reply) → IsNode p → resolved (processes p.processes) pid fd ≡ Ok opened → IfOk r (λ t. t.file ≡ opened.file) → IfOk r (λ t. IsNumber (node_state p).shape.files t.file)
+unfolding node_state
+target-file p pid fd opened (Err e) is h same = tt
+target-file p pid fd opened (Ok t) is h same =
+    let within = is.opened_in pid fd opened (resolved_ok ((processes p.processes).runs pid) ((processes p.processes).opened pid fd) (record { node = 0; incarnation = 0; pid = pid }) None OfProcess (Err Invalid) opened h).0 in
+    subst (λ n. IsNumber p.shape.files n) (sym same) within
+
+-- two nodes in one state
+pub record IsSameState (p q : NodeParts) : Type 0 where
+  pub shape : p.shape ≡ q.shape
+  pub node : p.node ≡ q.node
+  pub incarnation : p.incarnation ≡ q.incarnation
+  pub calls : p.calls ≡ q.calls
+  pub processes : processes p.processes ≡ processes q.processes
+  pub locks : held p.locks ≡ held q.locks
+  pub pending : p.pending ≡ q.pending
+  pub files : file_state p.files ≡ file_state q.files
+
+pub same-state : (p q : NodeParts) → IsSameState p q → node_state p ≡ node_state q
+unfolding node_state
+same-state p q s = λ i. record {
+  shape = s.shape i;
+  node = s.node i;
+  incarnation = s.incarnation i;
+  calls = s.calls i;
+  table = record {
+    on = λ node incarnation. if (node == s.node i) && (incarnation == s.incarnation i) then s.processes i else no_processes;
+    locks = s.locks i;
+  };
+  pending = s.pending i;
+  files = s.files i;
+}
+
+-- the processes of a state
+own_processes : NodeState → Processes
+own_processes s = s.table.on s.node s.incarnation
+
+own_processes-is : (p : NodeParts) → own_processes (node_state p) ≡ processes p.processes
+unfolding node_state own_processes
+own_processes-is p = ap (λ b. if b then processes p.processes else no_processes) (own_host p.node p.incarnation)
+
+pub state-same : (p q : NodeParts) → node_state p ≡ node_state q → IsSameState p q
+unfolding node_state
+state-same p q e = record {
+  shape = ap (λ (s : NodeState). s.shape) e;
+  node = ap (λ (s : NodeState). s.node) e;
+  incarnation = ap (λ (s : NodeState). s.incarnation) e;
+  calls = ap (λ (s : NodeState). s.calls) e;
+  processes = sym (own_processes-is p) ∙ ap own_processes e ∙ own_processes-is q;
+  locks = ap (λ (s : NodeState). s.table.locks) e;
+  pending = ap (λ (s : NodeState). s.pending) e;
+  files = ap (λ (s : NodeState). s.files) e;
+}

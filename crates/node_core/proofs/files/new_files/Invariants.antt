@@ -1,0 +1,10 @@
+use Rattle.std.proofs.Common.{◌≡◌, length}
+use Rattle.node_core.specs.State.{first_file}
+use Rattle.node_core.specs.Files.{file_state}
+use Rattle.node_core.proofs.files.new_files.Given as goal
+
+abbrev pub invariant-loop-made : goal.invariant-loop-made
+invariant-loop-made l = record {
+  state : file_state l.files.items ≡ (λ file. first_file);
+  count : length l.files.items ≡ l._made;
+}

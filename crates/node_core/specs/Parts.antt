@@ -1,0 +1,101 @@
+-- What a node is made of, and the state that it is.
+use Rattle.std.specs.Prelude.{◌≡◌, ℕ, ◌≤◌, ◌<◌, Bool, ◌&&◌, ◌==◌, if◌then◌else◌, List, All, length, Option, Some}
+use Rattle.intervals.specs.Bytes.{Range, greatest}
+use Rattle.model.specs.declared.access.Access.{Access}
+use Rattle.model.specs.declared.opened.Opened.{Opened}
+use Rattle.model.specs.declared.owner.Owner.{Owner}
+use Rattle.model.specs.declared.reply.Reply.{Reply}
+use Rattle.model.specs.Limits.{IsHost, IsNumber, most_of}
+use Rattle.model.specs.Locks.{IsOfNode}
+use Rattle.model.specs.Descriptors.{no_processes, after_spawn, after_open}
+use Rattle.model.specs.Table.{Table, around, beside}
+use Rattle.lock_table.specs.declared.row.Row.{Row as LockRow}
+use Rattle.lock_table.specs.Rows.{held}
+use Rattle.messages.specs.Shapes.{ShapeFields}
+use Rattle.messages.specs.declared.message.Message.{Message}
+use Rattle.messages.specs.Messages.{addressee, file_of, is_within, greatest_number}
+use Rattle.node_core.specs.declared.descriptors.row.Row.{Row as ProcessRow}
+use Rattle.node_core.specs.declared.file_row.FileRow.{FileRow}
+use Rattle.node_core.specs.declared.open_call.OpenCall.{OpenCall}
+use Rattle.node_core.specs.declared.effect.Effect.{Effect as EffectFields}
+use Rattle.node_core.specs.Rows.{processes}
+use Rattle.node_core.specs.Files.{file_state}
+use Rattle.node_core.specs.State.{NodeState, Effect, process}
+use Rattle.node_core.specs.Commands.{is_node}
+
+pub record NodeParts : Type 0 where
+  pub shape : ShapeFields
+  pub node : ℕ
+  pub incarnation : ℕ
+  pub calls : ℕ
+  pub processes : List ProcessRow
+  pub locks : List LockRow
+  pub pending : List OpenCall
+  pub files : List FileRow
+
+-- the one table, as far as the node knows it: its own processes and their locks
+abbrev pub table_of : NodeParts → Table
+table_of p = record {
+  on = λ node incarnation. if (node == p.node) && (incarnation == p.incarnation) then processes p.processes else no_processes;
+  locks = held p.locks;
+}
+
+unfoldable pub node_state : NodeParts → NodeState
+node_state p = record {
+  shape = p.shape;
+  node = p.node;
+  incarnation = p.incarnation;
+  calls = p.calls;
+  table = table_of p;
+  pending = p.pending;
+  files = file_state p.files;
+}
+
+-- the owner is one that the node has in this incarnation
+pub record IsOwn (node incarnation : ℕ) (o : Owner) : Type 0 where
+  pub of_node : o.node ≡ node
+  pub of_incarnation : o.incarnation ≡ incarnation
+  pub number_in : IsNumber (most_of o.kind) o.number
+
+-- bytes of a file
+pub record IsSpan (s : Range) : Type 0 where
+  pub ordered : s.lo ≤ s.hi
+  pub ends : s.hi ≤ greatest
+
+-- what each open call keeps
+pub record IsOwnCall (files node incarnation : ℕ) (c : OpenCall) : Type 0 where
+  pub number_in : IsNumber greatest_number c.number
+  pub file_in : IsNumber files c.file
+  pub own : IsOwn node incarnation c.owner
+  pub span : IsSpan c.span
+
+-- what each node keeps
+pub record IsNode (p : NodeParts) : Type 0 where
+  pub host : IsHost p.node p.incarnation
+  pub own : (file : ℕ) → IsOfNode (held p.locks file) p.node p.incarnation
+  pub files_in : length p.files ≡ p.shape.files
+  pub opened_in : (pid fd : ℕ) (o : Opened) → (processes p.processes).opened pid fd ≡ Some o → IsNumber p.shape.files o.file
+  pub calls_in : All (IsOwnCall p.shape.files p.node p.incarnation) p.pending
+
+-- the effect of a step that leads to this state
+abbrev pub effect_of : NodeState → EffectFields → Effect
+effect_of s e = record { state = s; reply = e.reply; sends = e.sends }
+
+-- the state with the table that an answer gives, and the answer
+abbrev pub tabled : NodeState → Table × Reply → NodeState × Reply
+tabled s answer = (record s { table = answer.0 }, answer.1)
+
+-- what `spawn` and `open` of the process make of the table, and their answers
+abbrev pub spawned : NodeState → ℕ → Table × Reply
+spawned s pid = beside s.table (process s pid) (after_spawn (around s.table (process s pid)) pid)
+
+abbrev pub opened : NodeState → ℕ → ℕ → Access → Table × Reply
+opened s pid file access = beside s.table (process s pid) (after_open (around s.table (process s pid)) pid file access)
+
+-- the message is for this node, and about a file of the shape
+abbrev pub is_for : NodeState → Message → Bool
+is_for s m = is_node s.node (addressee m) && is_within s.shape.files (file_of m)
+
+-- what each open call of the node keeps
+abbrev pub IsCallOf : NodeState → OpenCall → Type 0
+IsCallOf s c = IsOwnCall s.shape.files s.node s.incarnation c

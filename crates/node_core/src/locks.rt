@@ -1,0 +1,46 @@
+//! The locks of a node.
+ghost use Rattle.std.specs.Prelude.{◌≡◌, ◌≤◌, ◌<◌, Err, MatchResult, OnOk, OnErr};
+ghost use Rattle.intervals.specs.Bytes.{put};
+ghost use Rattle.model.specs.Limits.{most_regions};
+ghost use Rattle.model.specs.Locks.{with_lock, regions};
+ghost use Rattle.lock_table.specs.Rows.{held};
+
+use lock_table::error::LockError;
+use lock_table::lock_table::LockTable;
+use model::lock_call::LockCall;
+use model::mode::Mode;
+use model::reply::Reply;
+use std::alloc::AllocError;
+
+/// Locks the bytes of the call in the mode, or frees them.
+///
+/// # Errors
+/// Those of `LockTable::set` and `LockTable::unlock`.
+pub fn change_locks(
+    locks: &mut LockTable,
+    target: LockCall,
+    mode: Option<Mode>,
+) -> Result<(), LockError>
+    ensures ok { OnOk result (held locks.new ≡ with_lock (held locks.old) target.file target.owner target.span mode) }
+    ensures few { OnOk result (regions (put (held locks.old target.file target.owner) target.span mode) ≤ most_regions) }
+    ensures many { result ≡ Err LockError.NoLocks → most_regions < regions (put (held locks.old target.file target.owner) target.span mode) }
+    ensures err { OnErr result (locks.new ≡ locks.old) }
+{
+    match mode {
+        Some(mode) => locks.set(target.owner, target.file, target.span, mode),
+        None => locks.unlock(target.owner, target.file, target.span),
+    }
+}
+
+/// The reply that tells of the refusal.
+///
+/// # Errors
+/// `AllocError` for `NoMemory`, which no reply tells.
+pub fn lock_reply(error: LockError) -> Result<Reply, AllocError>
+    ensures { MatchResult result (λ reply. (error ≡ LockError.NoLocks) × (reply ≡ Reply.NoLocks)) (λ _. error ≡ LockError.NoMemory) }
+{
+    match error {
+        LockError::NoLocks => Ok(Reply::NoLocks),
+        LockError::NoMemory => Err(AllocError),
+    }
+}

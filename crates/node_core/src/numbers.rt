@@ -1,0 +1,32 @@
+//! Numbers of processes, files and nodes.
+ghost use Rattle.std.specs.Prelude.{◌≡◌};
+ghost use Rattle.messages.specs.Messages.{is_within};
+ghost use Rattle.node_core.specs.Calls.{is_pid};
+ghost use Rattle.node_core.specs.Commands.{is_node};
+
+use crate::descriptors::used::MOST_PROCESSES;
+use messages::actor::Actor;
+
+/// Whether the number is one of a process.
+pub fn is_pid(pid: u16) -> bool
+    ensures { result ≡ is_pid pid }
+{
+    is_within(MOST_PROCESSES, pid)
+}
+
+/// Whether the number is one of those from 1 to the most.
+pub fn is_within(most: u16, number: u16) -> bool
+    ensures { result ≡ is_within most number }
+{
+    1 <= number && number <= most
+}
+
+/// Whether the actor is this node.
+pub fn is_node(node: u8, actor: Actor) -> bool
+    ensures { result ≡ is_node node actor }
+{
+    match actor {
+        Actor::Node(n) => n == node,
+        Actor::Server(_) => false,
+    }
+}

@@ -1,0 +1,139 @@
+-- The index of the calls of a run that goes on by one entry.
+use Rattle.std.proofs.Common.{◌≡◌, ℕ, ◌+◌, ◌<◌, ◌≤◌, Bool, true, false, cond, refl, sym, ◌∙◌, ap, subst, rules, arith, List, [], ◌∷◌, ◌++◌, length, take, get_or, Option, Some, None, is_some}
+use Rattle.std.specs.Option.{option_or}
+use Rattle.std.specs.HashMap.{get, Updates}
+use Rattle.std.specs.Map.{lookup}
+use Rattle.std.proofs.lemmas.List.{take_more, take_all, length-take-le}
+use Rattle.std.proofs.lemmas.Bool.{and_from, eq-eqb, both_ways}
+use Rattle.model.specs.declared.call.CallId.{CallId}
+use Rattle.model.specs.declared.op.Op.{Op}
+use Rattle.model.specs.contracts.call.CallIdPartialEq.TheImpl as derived
+use Rattle.messages.specs.declared.event.Event.{Event}
+use Rattle.messages.specs.declared.event.Event.TheVariants.{Call, Deliver}
+use Rattle.messages.specs.declared.entry.Entry.{Entry}
+use Rattle.messages.specs.Messages.{same_call}
+use Rattle.cluster_core.specs.declared.item.Item.{Item}
+use Rattle.cluster_core.specs.Placement.{is_named, called_by, find_call, items_at, history_of}
+use Rattle.cluster_core.proofs.Fitting.{call_is, history_of-push}
+use Rattle.placement.specs.Calls.{Calls, Indexes}
+
+-- the derived `==` of names is the test of the definitions
+pub call_eq : (a b : CallId) → derived.ghosts.eq a b ≡ same_call a b
+call_eq a b = search rules
+
+pub eq-same_call : derived.ghosts.eq ≡ same_call
+eq-same_call i a b = call_eq a b i
+
+pub get-same_call : (calls : Calls) (id : CallId) → get derived.ghosts.eq calls id ≡ get same_call calls id
+get-same_call calls id = ap (λ (eq : CallId → CallId → Bool). get eq calls id) eq-same_call
+
+-- the call of one entry, if it has that name
+abbrev call_in : Entry → CallId → Option (ℕ × Op)
+call_in e id = find_call (e ∷ []) id
+
+-- what the longer run finds
+found_on : (b : Bool) (event : Event) (x y z : Option (ℕ × Op)) → y ≡ option_or x z → cond b (called_by event y) y ≡ option_or (cond b (called_by event x) x) z
+found_on true (Call node pid op) x y z h = refl
+found_on true (Deliver m) x y z h = h
+found_on false event x y z h = h
+
+find_call-push : (es : List Entry) (e : Entry) (id : CallId) → find_call (es ++ e ∷ []) id ≡ option_or (find_call es id) (call_in e id)
+find_call-push [] e id = refl
+find_call-push (d ∷ ds) e id = found_on (is_named id d.call) d.event (find_call ds id) (find_call (ds ++ e ∷ []) id) (call_in e id) (find_call-push ds e id)
+
+option_or-none : {A : Type 0} (x : Option A) → option_or x None ≡ x
+option_or-none None = refl
+option_or-none (Some x) = refl
+
+option_or-some : {A : Type 0} (x y : Option A) → is_some x ≡ true → option_or x y ≡ x
+option_or-some None y h = absurd (cc)
+option_or-some (Some x) y h = refl
+
+-- the index so far, and the history so far
+pub record Placing (past : List Entry) (calls : Calls) (items : List Item) : Type 0 where
+  pub indexed : Indexes calls past
+  pub placed : items ≡ history_of past
+
+pub placing_empty : (calls : Calls) (items : List Item) → calls.entries ≡ [] → items ≡ [] → Placing [] calls items
+placing_empty calls items none empty = record {
+  indexed = λ id. ap (λ (es : List (CallId × (ℕ × Op))). lookup (same_call id) es) none;
+  placed = empty;
+}
+
+-- one more entry
+placing-push : (past : List Entry) (e : Entry) (calls next : Calls) (items more : List Item) → Placing past calls items → Indexes next (past ++ e ∷ []) → more ≡ items ++ items_at (past ++ e ∷ []) (length past + 1) e.reply → Placing (past ++ e ∷ []) next more
+placing-push past e calls next items more before indexed added = record {
+  indexed = indexed;
+  placed =
+      added
+      ∙ (ap (λ (xs : List Item). xs ++ items_at (past ++ e ∷ []) (length past + 1) e.reply) before.placed
+      ∙ sym (history_of-push past e));
+}
+
+-- one more of the entries
+pub placing_more : (es : List Entry) (i : ℕ) (e : Entry) (calls next : Calls) (items more : List Item) → i < length es → e ≡ get_or es i e → Placing (take i es) calls items → ((past : List Entry) → Indexes calls past → Indexes next (past ++ e ∷ [])) → ((past : List Entry) → Indexes next past → more ≡ items ++ items_at past (i + 1) e.reply) → Placing (take (i + 1) es) next more
+placing_more es i e calls next items more lt is before indexes adds =
+    let past = take i es in
+    let long : length past ≡ i = length-take-le i es (omega arith) in
+    let indexed = indexes past before.indexed in
+    let grown : take (i + 1) es ≡ past ++ e ∷ [] = take_more es i e lt ∙ ap (λ (x : Entry). past ++ x ∷ []) (sym is) in
+    let P : List Entry → Type 0 = λ xs. Placing xs next more in
+    let Q : ℕ → Type 0 = λ n. more ≡ items ++ items_at (past ++ e ∷ []) (n + 1) e.reply in
+    subst P (sym grown) (placing-push past e calls next items more before indexed (subst Q (sym long) (adds (past ++ e ∷ []) indexed)))
+
+-- all of them
+pub placing_whole : (es : List Entry) (i : ℕ) (calls : Calls) (items : List Item) → length es ≤ i → Placing (take i es) calls items → items ≡ history_of es
+placing_whole es i calls items all before = before.placed ∙ ap history_of (take_all i es all)
+
+call_itself : (a : CallId) → same_call a a ≡ true
+call_itself a = and_from _ _ (eq-eqb a.node a.node refl) (and_from _ _ (eq-eqb a.incarnation a.incarnation refl) (eq-eqb a.number a.number refl))
+
+same_call-turned : (a b : CallId) → same_call a b ≡ true → same_call b a ≡ true
+same_call-turned a b h = let P : CallId → Type 0 = λ x. same_call b x ≡ true in subst P (sym (call_is a b h)) (call_itself b)
+
+not_found : {A : Type 0} (x : Option A) → is_some x ≡ false → x ≡ None
+not_found None h = refl
+not_found (Some x) h = absurd (cc)
+
+module _ (es : List Entry) (e : Entry) where
+  -- an entry that makes no call adds nothing to the index
+  pub indexes_none : (calls : Calls) → e.call ≡ None → Indexes calls es → Indexes calls (es ++ e ∷ [])
+  indexes_none calls none before q =
+      before q
+      ∙ (sym (option_or-none (find_call es q))
+      ∙ (ap (λ (c : Option CallId). option_or (find_call es q) (cond (is_named q c) (called_by e.event None) None)) (sym none)
+      ∙ sym (find_call-push es e q)))
+
+  -- nor does one whose call the index has
+  stays : (q id : CallId) (x y : Option (ℕ × Op)) (b : Bool) → same_call q id ≡ b → (q ≡ id → is_some x ≡ true) → x ≡ option_or x (cond b y None)
+  stays q id x y true h known = sym (option_or-some x y (known (call_is q id h)))
+  stays q id x y false h known = sym (option_or-none x)
+
+  pub indexes_known : (calls : Calls) (id : CallId) → e.call ≡ Some id → is_some (get derived.ghosts.eq calls id) ≡ true → Indexes calls es → Indexes calls (es ++ e ∷ [])
+  indexes_known calls id named known before q =
+      let there : is_some (find_call es id) ≡ true = ap is_some (sym (before id)) ∙ (ap is_some (sym (get-same_call calls id)) ∙ known) in
+      let P : CallId → Type 0 = λ x. is_some (find_call es x) ≡ true in
+      before q
+      ∙ (stays q id (find_call es q) (called_by e.event None) (same_call q id) refl (λ same. subst P (sym same) there)
+      ∙ (ap (λ (c : Option CallId). option_or (find_call es q) (cond (is_named q c) (called_by e.event None) None)) (sym named)
+      ∙ sym (find_call-push es e q)))
+
+  -- a call that the index has not is added
+  adds : (q id : CallId) (x y : Option (ℕ × Op)) (b c : Bool) → same_call id q ≡ b → same_call q id ≡ c → (id ≡ q → x ≡ None) → cond b y x ≡ option_or x (cond c y None)
+  adds q id x y true true h k fresh = ap (λ (z : Option (ℕ × Op)). option_or z y) (sym (fresh (call_is id q h)))
+  adds q id x y true false h k fresh = absurd (both_ways (same_call q id) k (same_call-turned id q h))
+  adds q id x y false true h k fresh = absurd (both_ways (same_call id q) h (same_call-turned q id k))
+  adds q id x y false false h k fresh = sym (option_or-none x)
+
+  pub indexes_new : (calls next : Calls) (id : CallId) (node pid : ℕ) (op : Op) → e.call ≡ Some id → e.event ≡ Call node pid op → is_some (get derived.ghosts.eq calls id) ≡ false → Updates derived.ghosts.eq calls next id (Some (pid, op)) → Indexes calls es → Indexes next (es ++ e ∷ [])
+  indexes_new calls next id node pid op named event fresh updates before q =
+      let none : find_call es id ≡ None = sym (before id) ∙ not_found (get same_call calls id) (ap is_some (sym (get-same_call calls id)) ∙ fresh) in
+      let P : CallId → Type 0 = λ x. find_call es x ≡ None in
+      let Q : (CallId → CallId → Bool) → Type 0 = λ eq. Updates eq calls next id (Some (pid, op)) in
+      let new : Updates same_call calls next id (Some (pid, op)) = subst Q eq-same_call updates in
+      new.0 q
+      ∙ (ap (λ (x : Option (ℕ × Op)). cond (same_call id q) (Some (pid, op)) x) (before q)
+      ∙ (adds q id (find_call es q) (Some (pid, op)) (same_call id q) (same_call q id) refl refl (λ same. subst P same none)
+      ∙ (ap (λ (c : Option CallId). option_or (find_call es q) (cond (is_named q c) (called_by (Call node pid op) None) None)) (sym named)
+      ∙ (ap (λ (v : Event). option_or (find_call es q) (cond (is_named q e.call) (called_by v None) None)) (sym event)
+      ∙ sym (find_call-push es e q)))))

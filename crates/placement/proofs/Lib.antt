@@ -1,0 +1,5 @@
+pub mod Rises
+pub mod Lengths
+pub mod Index
+pub mod Placements
+pub mod Replays

@@ -1,0 +1,24 @@
+use Rattle.std.proofs.Common.{◌≤◌, List, length, sym, ◌∙◌, subst}
+use Rattle.messages.specs.Shapes.{IsShape}
+use Rattle.messages.specs.declared.entry.Entry.{Entry}
+use Rattle.cluster_core.specs.World.{journal_limit}
+use Rattle.placement.proofs.Lengths.{run-length}
+use Rattle.placement.proofs.Placements.{is_placed}
+use Rattle.placement.proofs.placed.placed.Goals as goal
+
+pub items_of-requires : goal.items_of-requires
+items_of-requires c =
+    let P : List Entry → Type 0 = λ es. length es ≤ journal_limit in
+    subst P (sym c.entries.ensures.value) (run-length c.args.journal.now.shape c.args.journal.now.entries c.entries.ensures.run)
+
+pub of_rising-requires : goal.of_rising-requires
+of_rising-requires c =
+    (is_placed c.args.journal.now.shape c.args.journal.now.entries c.entries.result.now c.in_ok-items.items.items (subst IsShape c.shape_of.ensures.value c.shape_of.ensures.served) c.entries.ensures.run c.entries.ensures.value c.in_ok-items.ensures).history.fits.rising
+
+pub returns-clause-history : goal.returns-clause-history
+returns-clause-history c =
+    (is_placed c.args.journal.now.shape c.args.journal.now.entries c.entries.result.now c.of_rising.result (subst IsShape c.shape_of.ensures.value c.shape_of.ensures.served) c.entries.ensures.run c.entries.ensures.value (c.of_rising.ensures ∙ c.in_ok-items.ensures)).history
+
+pub returns-clause-at_replies : goal.returns-clause-at_replies
+returns-clause-at_replies c =
+    (is_placed c.args.journal.now.shape c.args.journal.now.entries c.entries.result.now c.of_rising.result (subst IsShape c.shape_of.ensures.value c.shape_of.ensures.served) c.entries.ensures.run c.entries.ensures.value (c.of_rising.ensures ∙ c.in_ok-items.ensures)).at_replies

@@ -1,0 +1,202 @@
+//! Whether a single machine's table allows a history.
+ghost use Rattle.std.specs.Prelude.{◌≡◌, true, false, ◌↔◌, IsTrue, IfOk, MatchOption};
+ghost use Rattle.model.specs.Limits.{IsProcess};
+ghost use Rattle.model.specs.Table.{Table};
+ghost use Rattle.model.specs.OneTable.{table_of};
+ghost use Rattle.cluster_core.specs.Histories.{caller, ItemStep, IsLegal};
+
+use crate::history::History;
+use cluster_core::item::Item;
+use intervals::span_map::NoMemory;
+use model::call::CallId;
+use model::one_table::OneTable;
+use model::process::Process;
+use std::alloc::Global;
+
+/// Processes of a node.
+const MOST_PROCESSES: u16 = 256;
+
+/// Whether a single machine's table, empty at first, may answer each call of the history as it is
+/// answered there, item by item (POSIX.1-2017 `fcntl()`, `open()`, `_exit()`).
+///
+/// # Errors
+/// `NoMemory` where a request for memory was refused.
+pub fn legal(alloc: Global, history: &History) -> Result<bool, NoMemory>
+    ensures { IfOk result (λ yes. IsTrue yes ↔ IsLegal history.now) }
+{
+    let mut table = OneTable::new(alloc);
+    for item in history.items() {
+        if !follow(&mut table, item)? {
+            return Ok(false);
+        }
+    }
+    Ok(true)
+}
+
+// The item leads the table on, if it may.
+fn follow(table: &mut OneTable, item: &Item) -> Result<bool, NoMemory>
+    ensures leads { IfOk result (λ yes. yes ≡ true → ItemStep (table_of table.old) item.now (table_of table.new)) }
+    ensures stuck { IfOk result (λ yes. yes ≡ false → (new : Table) → ItemStep (table_of table.old) item.now new → ⊥) }
+{
+    match item {
+        Item::Answered {
+            id,
+            pid,
+            op,
+            reply,
+            ..
+        } => match caller(*id, *pid) {
+            Some(process) => table.take(process, *op, *reply),
+            None => Ok(false),
+        },
+        Item::Gone {
+            node,
+            incarnation,
+            ..
+        } => {
+            table.fail(*node, *incarnation)?;
+            Ok(true)
+        }
+    }
+}
+
+// The process that makes the call, if a node can have one of that number.
+fn caller(id: CallId, pid: u16) -> Option<Process>
+    ensures { MatchOption result (IsProcess (caller id pid) → ⊥) (λ process. (process ≡ caller id pid) × IsProcess process) }
+{
+    if pid < 1 || pid > MOST_PROCESSES {
+        return None;
+    }
+    Some(Process {
+        node: id.node,
+        incarnation: id.incarnation,
+        pid,
+    })
+}
+
+#[cfg(test)]
+mod tests {
+    use super::*;
+    use intervals::span::Span;
+    use model::access::Access;
+    use model::lock_info::LockInfo;
+    use model::mode::Mode;
+    use model::op::Op;
+    use model::owner::{Kind, Owner};
+    use model::reply::Reply;
+    use std::test::Fail;
+
+    const OPEN: Op = Op::Open {
+        file: 1,
+        access: Access::ReadWrite,
+    };
+
+    const CALL: CallId = CallId {
+        node: 1,
+        incarnation: 1,
+        number: 1,
+    };
+
+    // A write lock of bytes 0 to 9, and one of bytes 5 to 14.
+    const FIRST: Op = Op::Set {
+        fd: 0,
+        kind: Kind::OfProcess,
+        mode: Mode::Write,
+        start: 0,
+        len: 10,
+    };
+
+    const SECOND: Op = Op::Set {
+        fd: 0,
+        kind: Kind::OfProcess,
+        mode: Mode::Write,
+        start: 5,
+        len: 10,
+    };
+
+    // The region of the first process of node 1.
+    fn blocked(span: Span) -> Reply {
+        Reply::Again(LockInfo {
+            owner: Owner {
+                node: 1,
+                incarnation: 1,
+                kind: Kind::OfProcess,
+                number: 1,
+            },
+            mode: Mode::Write,
+            span,
+        })
+    }
+
+    // Calls of node 1, each with its position and its process.
+    fn calls(alloc: Global, made: &[(u32, u16, Op, Reply)]) -> Result<Vec<Item>, Fail> {
+        let mut items = Vec::new(alloc);
+        for &(position, pid, op, reply) in made {
+            items.push(Item::Answered {
+                position,
+                id: CALL,
+                pid,
+                op,
+                reply,
+            })?;
+        }
+        Ok(items)
+    }
+
+    fn is_legal(rt: &impl AllocGlobal, items: Vec<Item>) -> Result<bool, Fail> {
+        let history = History::new(items)?;
+        Ok(legal(rt.alloc(), &history)?)
+    }
+
+    #[test]
+    fn allows_what_one_machine_may_answer(rt: HostRuntime) -> Result<(), Fail> {
+        let start = [
+            (1, 1, Op::Spawn, Reply::Done),
+            (2, 2, Op::Spawn, Reply::Done),
+            (4, 1, OPEN, Reply::Fd(0)),
+            (7, 2, OPEN, Reply::Fd(0)),
+            (8, 1, FIRST, Reply::Done),
+        ];
+        for (call, may) in [
+            ((9, 2, SECOND, blocked(Span { lo: 0, hi: 9 })), true),
+            ((9, 2, SECOND, blocked(Span { lo: 0, hi: 14 })), false),
+            ((9, 2, SECOND, Reply::Done), false),
+            ((9, 1, SECOND, Reply::Done), true),
+            ((9, 3, SECOND, Reply::NoProcess), true),
+            ((9, 0, Op::Spawn, Reply::Done), false),
+            ((9, 256, Op::Spawn, Reply::Done), true),
+            ((9, 257, Op::Spawn, Reply::Done), false),
+        ] {
+            let mut made = Vec::from_slice(rt.alloc(), &start)?;
+            made.push(call)?;
+            assert_eq!(rt; is_legal(&rt, calls(rt.alloc(), &made)?)?, may);
+        }
+        assert!(rt; is_legal(&rt, Vec::new(rt.alloc()))?);
+        Ok(())
+    }
+
+    #[test]
+    fn ends_the_processes_of_a_node_that_is_gone(rt: HostRuntime) -> Result<(), Fail> {
+        for (incarnation, reply, may) in [
+            (1, Reply::NoProcess, true),
+            (1, Reply::Fd(0), false),
+            (2, Reply::Fd(0), true),
+        ] {
+            let mut items = calls(rt.alloc(), &[(1, 1, Op::Spawn, Reply::Done)])?;
+            items.push(Item::Gone {
+                position: 2,
+                node: 1,
+                incarnation,
+            })?;
+            items.push(Item::Answered {
+                position: 3,
+                id: CALL,
+                pid: 1,
+                op: OPEN,
+                reply,
+            })?;
+            assert_eq!(rt; is_legal(&rt, items)?, may);
+        }
+        Ok(())
+    }
+}

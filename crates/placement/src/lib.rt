@@ -1,0 +1,6 @@
+//! Runs beside one table: the history of a run, and whether a single machine's table allows a history.
+#![tactic(auto)]
+
+pub mod history;
+pub mod legal;
+pub mod placed;

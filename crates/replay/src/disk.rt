@@ -1,0 +1,34 @@
+//! The files of the system.
+use crate::store::{Store, StoreError};
+use std::alloc::Global;
+use std::rt::Files;
+use std::{fs, io};
+
+/// The files of the system, by paths as the caller gives them.
+#[derive(Drop)]
+pub struct Disk<'a, R> {
+    rt: &'a R,
+}
+
+impl<'a, R: Files + AllocGlobal> Disk<'a, R> {
+    pub fn new(rt: &'a R) -> Disk<'a, R> {
+        Disk { rt }
+    }
+}
+
+impl<R: Files + AllocGlobal> Store for Disk<'_, R> {
+    fn read(&mut self, _alloc: Global, path: &str) -> Result<Vec<u8>, StoreError> {
+        fs::read(self.rt, path).map_err(|error| reason_of(&error))
+    }
+
+    fn write(&mut self, path: &str, bytes: &[u8]) -> Result<(), StoreError> {
+        fs::write(self.rt, path, bytes).map_err(|error| reason_of(&error))
+    }
+}
+
+fn reason_of(error: &io::Error) -> StoreError {
+    match error.kind() {
+        io::ErrorKind::OutOfMemory => StoreError::NoMemory,
+        _ => StoreError::Failed,
+    }
+}

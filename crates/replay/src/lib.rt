@@ -1,0 +1,14 @@
+//! Running scripts: the command line, the files, the run and what is printed of it.
+#![tactic(auto)]
+
+pub mod disk;
+pub mod fault;
+pub mod line;
+pub mod perform;
+pub mod play;
+pub mod played;
+mod player;
+pub mod respond;
+pub mod store;
+#[cfg(test)]
+mod tests;

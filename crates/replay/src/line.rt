@@ -1,0 +1,65 @@
+//! The command line.
+use clap::error::ErrorKind;
+use clap::{Arg, Command, Error};
+use std::alloc::{AllocError, Global};
+use std::convert::AsStr;
+
+/// What the words of a command line ask for.
+#[derive(Clone, Copy, Debug, PartialEq, Eq)]
+pub enum Line<'a> {
+    /// `run SCRIPT`: to run each line of the script in order and print the listing.
+    Run { script: &'a str },
+}
+
+const NOTES: &str = "\
+Exit status:
+  0  done
+  2  the words are refused
+  3  a bad line in SCRIPT, a file that can't be read, or no place for the output
+  4  no memory, or more than 1048576 entries
+
+A script is lines of words with one space between them. Empty lines and lines
+that begin with # are skipped. The first other line is
+  cluster nodes 1 files F policy wide|exact
+and the lines after it are
+  call N PID spawn
+  call N PID open F rw
+  call N PID set FD proc read|write START LEN
+  call N PID unlock FD proc START LEN
+  settle
+The listing has five sections: the refused lines, the replies, the tokens, the
+locks, and one history of all calls in one table.";
+
+impl<'a> Line<'a> {
+    /// What the words ask for, the first of them being the program's name.
+    ///
+    /// # Errors
+    /// The text to be shown in its place, with its exit status: what is wrong with the words, or the
+    /// help that they ask for.
+    pub fn read<S: AsStr>(alloc: Global, words: &'a [S]) -> Result<Line<'a>, Error> {
+        let mut command = program(alloc)?;
+        let matches = command.try_get_matches_from_mut(words)?;
+        if let Some(("run", run)) = matches.subcommand() {
+            if let Some(script) = run.get_str("SCRIPT") {
+                return Ok(Line::Run { script });
+            }
+        }
+        Err(command.error(ErrorKind::MissingSubcommand, "no command is given")?)
+    }
+}
+
+fn program<'a>(alloc: Global) -> Result<Command<'a>, AllocError> {
+    let script = Arg::new(alloc, "SCRIPT")
+        .required(true)
+        .help("The script: lines of lock calls");
+    let run = Command::new(alloc, "run")
+        .about("Run each line of a script in order and print the listing")
+        .after_help(NOTES)
+        .arg(script)?;
+    Command::new(alloc, "lockreplay")
+        .about("Run scripts of record locks in a cluster, and print what came of them")
+        .after_help(NOTES)
+        .subcommand_required(true)
+        .arg_required_else_help(true)
+        .subcommand(run)
+}
