@@ -7,3 +7,4 @@ pub mod Journals
 pub mod Union
 pub mod Histories
 pub mod Placement
+pub mod Listings
