@@ -1,8 +1,8 @@
 //! Tests of the cluster, with values from worked runs.
 use crate::journal::run;
 use crate::world::World;
-use messages::entry::Entry;
 use messages::event::Event;
+use messages::message::Message;
 use messages::refusal::Refused;
 use messages::shape::Shape;
 use model::access::Access;
@@ -14,7 +14,27 @@ use model::reply::Reply;
 use std::alloc::Global;
 use std::test::Fail;
 
-fn begin(alloc: Global) -> Result<World, Fail> {
+const OPEN: Op = Op::Open {
+    file: 1,
+    access: Access::ReadWrite,
+};
+
+const SET: Op = Op::Set {
+    fd: 0,
+    kind: Kind::OfProcess,
+    mode: Mode::Write,
+    start: 0,
+    len: 100,
+};
+
+const UNLOCK: Op = Op::Unlock {
+    fd: 0,
+    kind: Kind::OfProcess,
+    start: 40,
+    len: 20,
+};
+
+fn begins(alloc: Global) -> Result<World, Fail> {
     let shape = Shape::new(1, 1, Policy::Wide)?;
     Ok(World::new(alloc, shape)?)
 }
@@ -23,66 +43,81 @@ fn call(pid: u16, op: Op) -> Event {
     Event::Call { node: 1, pid, op }
 }
 
-fn open() -> Op {
-    Op::Open {
-        file: 1,
-        access: Access::ReadWrite,
+// Goes on from what the call gives; whether it is answered so at once, and nothing is sent.
+fn answers(world: &mut World, alloc: Global, op: Op, reply: Reply) -> Result<bool, Refused> {
+    let entry = world.step(alloc, call(1, op))?;
+    let given = entry.reply().map(|(_, reply)| reply);
+    Ok(given == Some(reply) && entry.sends().is_empty())
+}
+
+// Goes on from what the event gives: the one message that it sends.
+fn sent(world: &mut World, alloc: Global, event: Event) -> Result<Option<Message>, Refused> {
+    let entry = world.step(alloc, event)?;
+    match entry.sends() {
+        [message] => Ok(Some(*message)),
+        _ => Ok(None),
     }
 }
 
-fn set(mode: Mode, start: i64, len: i64) -> Op {
-    Op::Set {
-        fd: 0,
-        kind: Kind::OfProcess,
-        mode,
-        start,
-        len,
+// Goes on from what delivering the message gives: the one message that it sends.
+fn delivered(
+    world: &mut World,
+    alloc: Global,
+    message: Option<Message>,
+) -> Result<Option<Message>, Refused> {
+    match message {
+        Some(message) => sent(world, alloc, Event::Deliver(message)),
+        None => Ok(None),
     }
-}
-
-fn reply_of(entry: &Entry) -> Option<Reply> {
-    entry.reply().map(|(_, reply)| reply)
 }
 
 #[test]
 fn one_process_sets_and_unlocks(rt: HostRuntime) -> Result<(), Fail> {
     let alloc = rt.alloc();
-    let mut world = begin(alloc)?;
-    let spawned = world.step(alloc, call(1, Op::Spawn))?;
-    assert_eq!(rt; reply_of(&spawned), Some(Reply::Done));
-    let opened = world.step(alloc, call(1, open()))?;
-    assert_eq!(rt; reply_of(&opened), Some(Reply::Fd(0)));
-    let asked = world.step(alloc, call(1, set(Mode::Write, 0, 100)))?;
-    assert_eq!(rt; reply_of(&asked), None);
-    assert_eq!(rt; asked.sends().len(), 1);
-    let served = world.step(alloc, Event::Deliver(asked.sends()[0]))?;
-    assert_eq!(rt; served.sends().len(), 1);
-    let granted = world.step(alloc, Event::Deliver(served.sends()[0]))?;
-    assert_eq!(rt; reply_of(&granted), Some(Reply::Done));
-    assert_eq!(rt; granted.sends().len(), 1);
-    let taken = world.step(alloc, Event::Deliver(granted.sends()[0]))?;
-    assert_eq!(rt; taken.sends().len(), 0);
-    let unlock = Op::Unlock {
-        fd: 0,
-        kind: Kind::OfProcess,
-        start: 40,
-        len: 20,
-    };
-    let unlocked = world.step(alloc, call(1, unlock))?;
-    assert_eq!(rt; reply_of(&unlocked), Some(Reply::Done));
+    let mut world = begins(alloc)?;
+    assert!(rt; answers(&mut world, alloc, Op::Spawn, Reply::Done)?);
+    assert!(rt; answers(&mut world, alloc, OPEN, Reply::Fd(0))?);
+    let request = sent(&mut world, alloc, call(1, SET))?;
+    let grant = delivered(&mut world, alloc, request)?;
+    let taken = delivered(&mut world, alloc, grant)?;
+    assert!(rt; taken.is_some());
+    assert!(rt; delivered(&mut world, alloc, taken)?.is_none());
+    assert!(rt; answers(&mut world, alloc, UNLOCK, Reply::Done)?);
     Ok(())
 }
 
 #[test]
-fn a_run_is_its_events_or_the_first_refusal(rt: HostRuntime) -> Result<(), Fail> {
+fn knows_only_messages_that_were_sent(rt: HostRuntime) -> Result<(), Fail> {
+    let alloc = rt.alloc();
+    let mut world = begins(alloc)?;
+    assert!(rt; answers(&mut world, alloc, Op::Spawn, Reply::Done)?);
+    assert!(rt; answers(&mut world, alloc, OPEN, Reply::Fd(0))?);
+    let Some(request) = sent(&mut world, alloc, call(1, SET))? else {
+        panic!(rt; "a set of bytes that the node has no token for asks the server");
+    };
+    let mut other = begins(alloc)?;
+    let refused = other.step(alloc, Event::Deliver(request)).err();
+    assert_eq!(rt; refused, Some(Refused::Stranger));
+    Ok(())
+}
+
+#[test]
+fn a_run_is_its_events(rt: HostRuntime) -> Result<(), Fail> {
     let alloc = rt.alloc();
     let shape = Shape::new(1, 1, Policy::Wide)?;
-    let events = [call(1, Op::Spawn), call(1, open())];
+    let events = [call(1, Op::Spawn), call(1, OPEN)];
     let journal = run(alloc, shape, events.as_slice())?;
     assert_eq!(rt; journal.entries().len(), 2);
     assert_eq!(rt; journal.shape().files(), 1);
-    let strange = [call(1, Op::Spawn), call(257, Op::Spawn)];
-    let refused = run(alloc, shape, strange.as_slice());
-    assert!(rt; matches!(refused, Err(Refused::Stranger)));
+    Ok(())
+}
+
+#[test]
+fn a_run_ends_at_the_first_refusal(rt: HostRuntime) -> Result<(), Fail> {
+    let alloc = rt.alloc();
+    let shape = Shape::new(1, 1, Policy::Wide)?;
+    let events = [call(1, Op::Spawn), call(257, Op::Spawn)];
+    let refused = run(alloc, shape, events.as_slice()).err();
+    assert_eq!(rt; refused, Some(Refused::Stranger));
     Ok(())
 }

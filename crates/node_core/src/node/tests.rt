@@ -1,3 +1,4 @@
+//! Nodes, by hand-made calls and messages.
 ghost use Rattle.std.specs.Prelude.{◌≤◌};
 
 use super::*;
@@ -11,23 +12,42 @@ const OPEN: Op = Op::Open {
     access: Access::ReadWrite,
 };
 
-fn set(mode: Mode, start: i64, len: i64) -> Op {
-    Op::Set {
-        fd: 0,
-        kind: Kind::OfProcess,
-        mode,
-        start,
-        len,
-    }
+const WHOLE: Span = Span {
+    lo: 0,
+    hi: GREATEST,
+};
+
+fn call(pid: u16, op: Op) -> NodeEvent {
+    NodeEvent::Call { pid, op }
 }
 
-fn unlock(start: i64, len: i64) -> Op {
-    Op::Unlock {
-        fd: 0,
-        kind: Kind::OfProcess,
-        start,
-        len,
-    }
+fn set(pid: u16, mode: Mode, start: i64, len: i64) -> NodeEvent {
+    let fd = 0;
+    let kind = Kind::OfProcess;
+    call(
+        pid,
+        Op::Set {
+            fd,
+            kind,
+            mode,
+            start,
+            len,
+        },
+    )
+}
+
+fn unlock(pid: u16, start: i64, len: i64) -> NodeEvent {
+    let fd = 0;
+    let kind = Kind::OfProcess;
+    call(
+        pid,
+        Op::Unlock {
+            fd,
+            kind,
+            start,
+            len,
+        },
+    )
 }
 
 fn id(number: u32) -> CallId
@@ -40,76 +60,26 @@ fn id(number: u32) -> CallId
     }
 }
 
-fn begins(rt: &impl AllocGlobal, policy: Policy) -> Result<Node, Fail> {
-    let shape = Shape::new(1, 2, policy)?;
-    Ok(Node::new(rt.alloc(), shape, 1, 1)?)
-}
-
-fn take(rt: &impl AllocGlobal, node: &mut Node, event: &NodeEvent) -> Result<Outcome, Fail> {
-    let (next, outcome) = node.step(rt.alloc(), event)?;
-    *node = next;
-    Ok(outcome)
-}
-
-fn call(rt: &impl AllocGlobal, node: &mut Node, pid: u16, op: Op) -> Result<Outcome, Fail> {
-    take(rt, node, &NodeEvent::Call { pid, op })
-}
-
-fn deliver(rt: &impl AllocGlobal, node: &mut Node, message: Message) -> Result<Outcome, Fail> {
-    take(rt, node, &NodeEvent::Deliver(message))
-}
-
-// Two processes that each have the file open at descriptor 0, by calls 1 to 4.
-fn two_processes(rt: &impl AllocGlobal, policy: Policy) -> Result<Node, Fail> {
-    let mut node = begins(rt, policy)?;
-    for pid in 1..3 {
-        call(rt, &mut node, pid, Op::Spawn)?;
-        call(rt, &mut node, pid, OPEN)?;
-    }
-    Ok(node)
-}
-
-fn answers(outcome: &Outcome, number: u32, reply: Reply) -> bool
+fn request(number: u32, mode: Mode, wanted: Wanted) -> Message
     requires { 1 ≤ number }
-{
-    outcome.reply == Some((id(number), reply))
-}
-
-fn is_quiet(outcome: &Outcome) -> bool {
-    outcome.reply.is_none() && outcome.sends.is_empty()
-}
-
-fn sends(outcome: &Outcome, message: Message) -> bool {
-    match outcome.sends.as_slice() {
-        [only] => only.same(&message),
-        _ => false,
-    }
-}
-
-fn request(number: u32, mode: Mode, required: Span, desired: Span) -> Message
-    requires number { 1 ≤ number }
-    requires starts_within { desired.lo ≤ required.lo }
-    requires ends_within { required.hi ≤ desired.hi }
 {
     Message::Request {
         file: 1,
         call: id(number),
         urgency: Urgency::Now,
         mode,
-        wanted: Wanted::new(required, desired),
+        wanted,
     }
 }
 
-fn grant(command: u32, number: u32, mode: Mode, span: Span) -> Message
-    requires { 1 ≤ number }
-{
-    Message::Grant {
+fn grant(command: u32, call: CallId, mode: Mode, span: Span) -> NodeEvent {
+    NodeEvent::Deliver(Message::Grant {
         file: 1,
         number: command,
-        call: id(number),
+        call,
         mode,
         span,
-    }
+    })
 }
 
 fn taken(command: u32, number: u32) -> Message
@@ -122,241 +92,279 @@ fn taken(command: u32, number: u32) -> Message
     }
 }
 
-const WHOLE: Span = Span {
-    lo: 0,
-    hi: GREATEST,
-};
+fn begins(alloc: Global, policy: Policy) -> Result<Node, Fail> {
+    let shape = Shape::new(1, 2, policy)?;
+    Ok(Node::new(alloc, shape, 1, 1)?)
+}
 
-#[test]
-fn locks_the_bytes_that_it_was_granted(rt: HostRuntime) -> Result<(), Fail> {
-    let mut node = begins(&rt, Policy::Wide)?;
-    let outcome = call(&rt, &mut node, 1, Op::Spawn)?;
-    assert_eq!(rt; outcome.call, Some(id(1)));
-    assert!(rt; answers(&outcome, 1, Reply::Done));
-    let outcome = call(&rt, &mut node, 1, OPEN)?;
-    assert!(rt; answers(&outcome, 2, Reply::Fd(0)));
-    let outcome = call(&rt, &mut node, 1, set(Mode::Write, 0, 100))?;
-    assert_eq!(rt; outcome.call, Some(id(3)));
-    assert!(rt; outcome.reply.is_none());
-    assert!(rt;
-        sends(
-            &outcome,
-            request(3, Mode::Write, Span { lo: 0, hi: 99 }, WHOLE)
-        )
-    );
-    let outcome = deliver(&rt, &mut node, grant(1, 3, Mode::Write, WHOLE))?;
-    assert!(rt; outcome.call.is_none());
-    assert!(rt; answers(&outcome, 3, Reply::Done));
-    assert!(rt; sends(&outcome, taken(1, 3)));
-    let outcome = call(&rt, &mut node, 1, unlock(40, 20))?;
-    assert!(rt; answers(&outcome, 4, Reply::Done));
-    assert!(rt; outcome.sends.is_empty());
-    Ok(())
+// Goes on from what the event gives.
+fn take(node: &mut Node, alloc: Global, event: NodeEvent) -> Result<Outcome, StepError> {
+    let (next, outcome) = node.step(alloc, &event)?;
+    *node = next;
+    Ok(outcome)
+}
+
+// Two processes that each have the file open at descriptor 0, by calls 1 to 4.
+fn two_processes(alloc: Global, policy: Policy) -> Result<Node, Fail> {
+    let mut node = begins(alloc, policy)?;
+    for pid in 1..3 {
+        take(&mut node, alloc, call(pid, Op::Spawn))?;
+        take(&mut node, alloc, call(pid, OPEN))?;
+    }
+    Ok(node)
+}
+
+// Goes on from what the call gives; whether it has this number, this reply, and sends nothing.
+fn answers(
+    node: &mut Node,
+    alloc: Global,
+    event: NodeEvent,
+    number: u32,
+    reply: Reply,
+) -> Result<bool, StepError>
+    requires { 1 ≤ number }
+{
+    let outcome = take(node, alloc, event)?;
+    let named = outcome.call == Some(id(number));
+    Ok(named && outcome.reply == Some((id(number), reply)) && outcome.sends.is_empty())
+}
+
+// Goes on from what the event gives; whether it answers nothing and sends just that message.
+fn asks(
+    node: &mut Node,
+    alloc: Global,
+    event: NodeEvent,
+    message: Message,
+) -> Result<bool, StepError> {
+    let outcome = take(node, alloc, event)?;
+    Ok(outcome.reply.is_none() && outcome.sends.as_slice() == [message].as_slice())
+}
+
+// Goes on from what the event gives; whether it answers the call with Done and sends just that
+// message.
+fn finishes(
+    node: &mut Node,
+    alloc: Global,
+    event: NodeEvent,
+    number: u32,
+    message: Message,
+) -> Result<bool, StepError>
+    requires { 1 ≤ number }
+{
+    let outcome = take(node, alloc, event)?;
+    let done = outcome.reply == Some((id(number), Reply::Done));
+    Ok(done && outcome.call.is_none() && outcome.sends.as_slice() == [message].as_slice())
+}
+
+// Whether the event answers nothing, sends nothing and changes nothing.
+fn stays(node: &Node, alloc: Global, event: NodeEvent) -> Result<bool, StepError> {
+    let (next, outcome) = node.step(alloc, &event)?;
+    Ok(outcome.reply.is_none() && outcome.sends.is_empty() && next.same(node))
+}
+
+// Whether the event answers nothing, changes nothing, and sends just that message.
+fn repeats(
+    node: &Node,
+    alloc: Global,
+    event: NodeEvent,
+    message: Message,
+) -> Result<bool, StepError> {
+    let (next, outcome) = node.step(alloc, &event)?;
+    let quiet = outcome.reply.is_none() && next.same(node);
+    Ok(quiet && outcome.sends.as_slice() == [message].as_slice())
+}
+
+// Why the event is refused, if it is.
+fn refusal(node: &Node, alloc: Global, event: NodeEvent) -> Option<StepError> {
+    node.step(alloc, &event).err()
 }
 
 #[test]
+fn locks_the_bytes_that_it_was_granted(rt: HostRuntime) -> Result<(), Fail> {
+    let alloc = rt.alloc();
+    let mut node = begins(alloc, Policy::Wide)?;
+    assert!(rt; answers(&mut node, alloc, call(1, Op::Spawn), 1, Reply::Done)?);
+    assert!(rt; answers(&mut node, alloc, call(1, OPEN), 2, Reply::Fd(0))?);
+    let wanted = Wanted::new(Span { lo: 0, hi: 99 }, WHOLE);
+    let asked = request(3, Mode::Write, wanted);
+    assert!(rt; asks(&mut node, alloc, set(1, Mode::Write, 0, 100), asked)?);
+    let granted = grant(1, id(3), Mode::Write, WHOLE);
+    assert!(rt; finishes(&mut node, alloc, granted, 3, taken(1, 3))?);
+    assert!(rt; answers(&mut node, alloc, unlock(1, 40, 20), 4, Reply::Done)?);
+    Ok(())
+}
+
+// What process 1 has locked of the file.
+const HELD: LockInfo = LockInfo {
+    owner: Owner {
+        node: 1,
+        incarnation: 1,
+        kind: Kind::OfProcess,
+        number: 1,
+    },
+    mode: Mode::Write,
+    span: Span { lo: 0, hi: 99 },
+};
+
+#[test]
 fn asks_its_own_locks_before_its_token(rt: HostRuntime) -> Result<(), Fail> {
-    let mut node = two_processes(&rt, Policy::Wide)?;
-    call(&rt, &mut node, 1, set(Mode::Write, 0, 100))?;
-    let busy = node.step(
-        rt.alloc(),
-        &NodeEvent::Call {
-            pid: 1,
-            op: unlock(0, 1),
-        },
-    );
-    assert!(rt; matches!(busy, Err(StepError::Busy)));
-    let outcome = deliver(&rt, &mut node, grant(1, 5, Mode::Write, WHOLE))?;
-    assert!(rt; answers(&outcome, 5, Reply::Done));
-    let outcome = call(&rt, &mut node, 2, set(Mode::Read, 99, 5))?;
-    let blocking = LockInfo {
-        owner: Owner {
-            node: 1,
-            incarnation: 1,
-            kind: Kind::OfProcess,
-            number: 1,
-        },
-        mode: Mode::Write,
-        span: Span { lo: 0, hi: 99 },
-    };
-    assert!(rt; answers(&outcome, 6, Reply::Again(blocking)));
-    assert!(rt; outcome.sends.is_empty());
-    let outcome = call(&rt, &mut node, 2, set(Mode::Read, 100, 5))?;
-    assert!(rt; answers(&outcome, 7, Reply::Done));
-    assert!(rt; outcome.sends.is_empty());
+    let alloc = rt.alloc();
+    let mut node = two_processes(alloc, Policy::Wide)?;
+    take(&mut node, alloc, set(1, Mode::Write, 0, 100))?;
+    let busy = refusal(&node, alloc, unlock(1, 0, 1));
+    assert_eq!(rt; busy, Some(StepError::Busy));
+    let granted = grant(1, id(5), Mode::Write, WHOLE);
+    assert!(rt; finishes(&mut node, alloc, granted, 5, taken(1, 5))?);
+    let blocked = Reply::Again(HELD);
+    assert!(rt; answers(&mut node, alloc, set(2, Mode::Read, 99, 5), 6, blocked)?);
+    assert!(rt; answers(&mut node, alloc, set(2, Mode::Read, 100, 5), 7, Reply::Done)?);
     Ok(())
 }
 
 #[test]
 fn does_each_command_once_and_in_order(rt: HostRuntime) -> Result<(), Fail> {
-    let mut node = two_processes(&rt, Policy::Exact)?;
-    call(&rt, &mut node, 1, set(Mode::Write, 0, 100))?;
+    let alloc = rt.alloc();
+    let mut node = two_processes(alloc, Policy::Exact)?;
+    take(&mut node, alloc, set(1, Mode::Write, 0, 100))?;
     let bytes = Span { lo: 0, hi: 99 };
-    let before = node.copy(rt.alloc())?;
-    let early = deliver(&rt, &mut node, grant(2, 5, Mode::Write, bytes))?;
-    assert!(rt; is_quiet(&early));
-    assert!(rt; node.same(&before));
-    let first = deliver(&rt, &mut node, grant(1, 5, Mode::Write, bytes))?;
-    assert!(rt; answers(&first, 5, Reply::Done));
-    assert!(rt; sends(&first, taken(1, 5)));
-    let after = node.copy(rt.alloc())?;
-    let again = deliver(&rt, &mut node, grant(1, 5, Mode::Write, bytes))?;
-    assert!(rt; again.reply.is_none());
-    assert!(rt; sends(&again, taken(1, 5)));
-    assert!(rt; node.same(&after));
+    let before = node.copy(alloc)?;
+    assert!(rt; stays(&node, alloc, grant(2, id(5), Mode::Write, bytes))?);
+    let granted = grant(1, id(5), Mode::Write, bytes);
+    assert!(rt; finishes(&mut node, alloc, granted, 5, taken(1, 5))?);
     assert!(rt; !node.same(&before));
-    let late = deliver(&rt, &mut node, grant(0, 5, Mode::Write, bytes))?;
-    assert!(rt; is_quiet(&late));
-    assert!(rt; node.same(&after));
+    assert!(rt; repeats(&node, alloc, granted, taken(1, 5))?);
+    assert!(rt; stays(&node, alloc, grant(0, id(5), Mode::Write, bytes))?);
     Ok(())
 }
 
 #[test]
 fn asks_for_what_its_policy_says(rt: HostRuntime) -> Result<(), Fail> {
-    let mut node = two_processes(&rt, Policy::Exact)?;
-    let outcome = call(&rt, &mut node, 1, set(Mode::Read, 10, 10))?;
+    let alloc = rt.alloc();
     let bytes = Span { lo: 10, hi: 19 };
-    assert!(rt; sends(&outcome, request(5, Mode::Read, bytes, bytes)));
-    let mut node = two_processes(&rt, Policy::Wide)?;
-    call(&rt, &mut node, 1, set(Mode::Read, 10, 10))?;
-    deliver(&rt, &mut node, grant(1, 5, Mode::Read, bytes))?;
-    let outcome = call(&rt, &mut node, 2, set(Mode::Read, 15, 10))?;
-    let required = Span { lo: 15, hi: 24 };
-    let desired = Span {
+    let read = set(1, Mode::Read, 10, 10);
+    let mut exact = two_processes(alloc, Policy::Exact)?;
+    let narrow = request(5, Mode::Read, Wanted::new(bytes, bytes));
+    assert!(rt; asks(&mut exact, alloc, read, narrow)?);
+    let mut wide = two_processes(alloc, Policy::Wide)?;
+    let whole = request(5, Mode::Read, Wanted::new(bytes, WHOLE));
+    assert!(rt; asks(&mut wide, alloc, read, whole)?);
+    take(&mut wide, alloc, grant(1, id(5), Mode::Read, bytes))?;
+    let rest = Span {
         lo: 15,
         hi: GREATEST,
     };
-    assert!(rt; sends(&outcome, request(6, Mode::Read, required, desired)));
+    let wanted = Wanted::new(Span { lo: 15, hi: 24 }, rest);
+    let asked = request(6, Mode::Read, wanted);
+    assert!(rt; asks(&mut wide, alloc, set(2, Mode::Read, 15, 10), asked)?);
     Ok(())
 }
 
 #[test]
 fn a_grant_of_fewer_bytes_leaves_the_call_open(rt: HostRuntime) -> Result<(), Fail> {
-    let mut node = two_processes(&rt, Policy::Exact)?;
-    call(&rt, &mut node, 1, set(Mode::Write, 0, 10))?;
-    let outcome = deliver(
-        &rt,
-        &mut node,
-        grant(1, 5, Mode::Write, Span { lo: 0, hi: 8 }),
-    )?;
+    let alloc = rt.alloc();
+    let mut node = two_processes(alloc, Policy::Exact)?;
+    take(&mut node, alloc, set(1, Mode::Write, 0, 10))?;
+    let fewer = Span { lo: 0, hi: 8 };
+    let outcome = take(&mut node, alloc, grant(1, id(5), Mode::Write, fewer))?;
     assert!(rt; outcome.reply.is_none());
     let required = Span { lo: 0, hi: 9 };
-    let both = outcome.sends.as_slice();
-    assert_eq!(rt; both.len(), 2);
-    assert!(rt; both[0].same(&taken(1, 5)));
-    assert!(rt; both[1].same(&request(5, Mode::Write, required, required)));
+    let again = request(5, Mode::Write, Wanted::new(required, required));
+    assert!(rt; outcome.sends.as_slice() == [taken(1, 5), again].as_slice());
     Ok(())
 }
 
 #[test]
 fn answers_by_the_first_test_that_fails(rt: HostRuntime) -> Result<(), Fail> {
-    let mut node = begins(&rt, Policy::Wide)?;
-    let outcome = call(&rt, &mut node, 1, set(Mode::Read, -1, 1))?;
-    assert!(rt; answers(&outcome, 1, Reply::NoProcess));
-    call(&rt, &mut node, 1, Op::Spawn)?;
-    let outcome = call(&rt, &mut node, 1, Op::Spawn)?;
-    assert!(rt; answers(&outcome, 3, Reply::Exists));
-    let outcome = call(&rt, &mut node, 1, set(Mode::Read, -1, 1))?;
-    assert!(rt; answers(&outcome, 4, Reply::BadFd));
-    let read_only = Op::Open {
-        file: 2,
-        access: Access::ReadOnly,
-    };
-    call(&rt, &mut node, 1, read_only)?;
-    let outcome = call(&rt, &mut node, 1, set(Mode::Write, -1, 1))?;
-    assert!(rt; answers(&outcome, 6, Reply::Invalid));
-    let outcome = call(
-        &rt,
-        &mut node,
-        1,
-        set(Mode::Write, 9_223_372_036_854_775_807, 2),
-    )?;
-    assert!(rt; answers(&outcome, 7, Reply::Overflow));
-    let outcome = call(&rt, &mut node, 1, set(Mode::Write, 0, 1))?;
-    assert!(rt; answers(&outcome, 8, Reply::BadFd));
-    let outcome = call(&rt, &mut node, 1, unlock(0, 1))?;
-    assert!(rt; answers(&outcome, 9, Reply::Done));
-    let outcome = call(&rt, &mut node, 2, OPEN)?;
-    assert!(rt; answers(&outcome, 10, Reply::NoProcess));
+    let alloc = rt.alloc();
+    let mut node = begins(alloc, Policy::Wide)?;
+    let far = set(1, Mode::Read, -1, 1);
+    assert!(rt; answers(&mut node, alloc, far, 1, Reply::NoProcess)?);
+    assert!(rt; answers(&mut node, alloc, call(1, Op::Spawn), 2, Reply::Done)?);
+    assert!(rt; answers(&mut node, alloc, call(1, Op::Spawn), 3, Reply::Exists)?);
+    assert!(rt; answers(&mut node, alloc, far, 4, Reply::BadFd)?);
+    assert!(rt; answers(&mut node, alloc, call(2, OPEN), 5, Reply::NoProcess)?);
     Ok(())
 }
 
 #[test]
-fn refuses_strangers(rt: HostRuntime) -> Result<(), Fail> {
-    let node = two_processes(&rt, Policy::Wide)?;
-    let far = Op::Open {
-        file: 3,
-        access: Access::ReadOnly,
-    };
-    let nowhere = Op::Open {
-        file: 0,
-        access: Access::ReadOnly,
-    };
+fn a_segment_is_tested_before_the_open_mode(rt: HostRuntime) -> Result<(), Fail> {
+    let alloc = rt.alloc();
+    let mut node = begins(alloc, Policy::Wide)?;
+    take(&mut node, alloc, call(1, Op::Spawn))?;
+    let file = 2;
+    let access = Access::ReadOnly;
+    take(&mut node, alloc, call(1, Op::Open { file, access }))?;
+    let far = set(1, Mode::Write, -1, 1);
+    assert!(rt; answers(&mut node, alloc, far, 3, Reply::Invalid)?);
+    let long = set(1, Mode::Write, i64::MAX, 2);
+    assert!(rt; answers(&mut node, alloc, long, 4, Reply::Overflow)?);
+    let short = set(1, Mode::Write, 0, 1);
+    assert!(rt; answers(&mut node, alloc, short, 5, Reply::BadFd)?);
+    assert!(rt; answers(&mut node, alloc, unlock(1, 0, 1), 6, Reply::Done)?);
+    Ok(())
+}
+
+#[test]
+fn refuses_calls_of_strangers(rt: HostRuntime) -> Result<(), Fail> {
+    let alloc = rt.alloc();
+    let node = two_processes(alloc, Policy::Wide)?;
+    let access = Access::ReadOnly;
+    let far = Op::Open { file: 3, access };
+    let nowhere = Op::Open { file: 0, access };
     for (pid, op) in [(0, Op::Spawn), (257, Op::Spawn), (1, far), (1, nowhere)] {
-        let refused = node.step(rt.alloc(), &NodeEvent::Call { pid, op });
-        assert!(rt; matches!(refused, Err(StepError::Stranger)));
+        let refused = refusal(&node, alloc, call(pid, op));
+        assert_eq!(rt; refused, Some(StepError::Stranger));
     }
+    Ok(())
+}
+
+#[test]
+fn refuses_messages_for_others(rt: HostRuntime) -> Result<(), Fail> {
+    let alloc = rt.alloc();
+    let node = two_processes(alloc, Policy::Wide)?;
     let another = CallId {
         node: 2,
         incarnation: 1,
         number: 5,
     };
-    let span = Span { lo: 0, hi: 9 };
-    for (file, number, call) in [(1, 1, another), (3, 1, id(5)), (0, 1, id(5))] {
+    for (file, call) in [(1, another), (3, id(5)), (0, id(5))] {
         let message = Message::Grant {
             file,
-            number,
+            number: 1,
             call,
             mode: Mode::Read,
-            span,
+            span: WHOLE,
         };
-        let refused = node.step(rt.alloc(), &NodeEvent::Deliver(message));
-        assert!(rt; matches!(refused, Err(StepError::Stranger)));
+        let refused = refusal(&node, alloc, NodeEvent::Deliver(message));
+        assert_eq!(rt; refused, Some(StepError::Stranger));
     }
-    let refused = node.step(rt.alloc(), &NodeEvent::Deliver(taken(1, 5)));
-    assert!(rt; matches!(refused, Err(StepError::Stranger)));
+    let refused = refusal(&node, alloc, NodeEvent::Deliver(taken(1, 5)));
+    assert_eq!(rt; refused, Some(StepError::Stranger));
     Ok(())
 }
 
 #[test]
 fn a_message_for_another_incarnation_does_nothing(rt: HostRuntime) -> Result<(), Fail> {
-    let mut node = two_processes(&rt, Policy::Wide)?;
-    call(&rt, &mut node, 1, set(Mode::Write, 0, 10))?;
-    let before = node.copy(rt.alloc())?;
-    let message = Message::Grant {
-        file: 1,
-        number: 1,
-        call: CallId {
-            node: 1,
-            incarnation: 2,
-            number: 5,
-        },
-        mode: Mode::Write,
-        span: WHOLE,
+    let alloc = rt.alloc();
+    let mut node = two_processes(alloc, Policy::Wide)?;
+    take(&mut node, alloc, set(1, Mode::Write, 0, 10))?;
+    let call = CallId {
+        node: 1,
+        incarnation: 2,
+        number: 5,
     };
-    let outcome = deliver(&rt, &mut node, message)?;
-    assert!(rt; is_quiet(&outcome));
-    assert!(rt; node.same(&before));
+    assert!(rt; stays(&node, alloc, grant(1, call, Mode::Write, WHOLE))?);
     Ok(())
 }
 
 #[test]
 fn takes_no_call_without_a_number(rt: HostRuntime) -> Result<(), Fail> {
-    let mut node = two_processes(&rt, Policy::Wide)?;
+    let alloc = rt.alloc();
+    let mut node = two_processes(alloc, Policy::Wide)?;
     node.calls = u32::MAX;
-    let before = node.copy(rt.alloc())?;
-    let spawn = NodeEvent::Call {
-        pid: 3,
-        op: Op::Spawn,
-    };
-    let refused = node.step(rt.alloc(), &spawn);
-    assert!(rt; matches!(refused, Err(StepError::Spent)));
-    assert!(rt; node.same(&before));
-    let stranger = NodeEvent::Call {
-        pid: 257,
-        op: Op::Spawn,
-    };
-    let refused = node.step(rt.alloc(), &stranger);
-    assert!(rt; matches!(refused, Err(StepError::Stranger)));
+    let spent = refusal(&node, alloc, call(3, Op::Spawn));
+    assert_eq!(rt; spent, Some(StepError::Spent));
+    let stranger = refusal(&node, alloc, call(257, Op::Spawn));
+    assert_eq!(rt; stranger, Some(StepError::Stranger));
     Ok(())
 }
