@@ -8,3 +8,4 @@ pub mod Union
 pub mod Histories
 pub mod Placement
 pub mod Listings
+pub mod Safe

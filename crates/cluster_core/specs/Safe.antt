@@ -1,0 +1,30 @@
+-- What holds of tokens and locks after every run.
+use Rattle.std.specs.Prelude.{◌≡◌, ◌≢◌, ℕ, true, List, Some, None}
+use Rattle.model.specs.declared.mode.Mode.{Mode}
+use Rattle.model.specs.declared.owner.Owner.{Owner}
+use Rattle.model.specs.declared.level.Level.TheVariants.{Exclusive}
+use Rattle.token_set.specs.Tokens.{Token, serves}
+use Rattle.messages.specs.Shapes.{ShapeFields}
+use Rattle.messages.specs.declared.entry.Entry.{Entry}
+use Rattle.cluster_core.specs.World.{WorldState, first_world, has_node}
+use Rattle.cluster_core.specs.Runs.{Leads}
+
+-- where the one token is exclusive the other has nothing
+abbrev pub Excludes : Token → Token → Type 0
+Excludes s t = (b : ℕ) → s b ≡ Some Exclusive → t b ≡ None
+
+-- tokens of two nodes never conflict
+abbrev pub AreApart : WorldState → Type 0
+AreApart w = (m n file : ℕ) → has_node w m ≡ true → has_node w n ≡ true → m ≢ n → Excludes ((w.nodes m).files file).token ((w.nodes n).files file).token
+
+-- the token of its node serves each byte that is locked
+abbrev pub AreCovered : WorldState → Type 0
+AreCovered w = (n file : ℕ) (o : Owner) (b : ℕ) (mode : Mode) → has_node w n ≡ true → (w.nodes n).table.locks file o b ≡ Some mode → serves (((w.nodes n).files file).token b) mode ≡ true
+
+pub record IsSafe (w : WorldState) : Type 0 where
+  pub apart : AreApart w
+  pub covered : AreCovered w
+
+-- the world that the run leads to is safe
+abbrev pub LeadsToSafe : ShapeFields → List Entry → Type 0
+LeadsToSafe shape es = (w : WorldState) → Leads (first_world shape) es w → IsSafe w
