@@ -268,6 +268,13 @@ impl World {
         self.take(alloc, &event)
     }
 
+    /// Every message that was sent so far, in order of sending; equal messages stand there each.
+    pub fn sent(&self) -> &[Message]
+        ensures { result.now ≡ (world_state self.now).sent }
+    {
+        self.sent.as_slice()
+    }
+
     /// The world that the entries of the journal lead to.
     ///
     /// # Errors

@@ -1,1 +1,4 @@
 pub mod Statuses
+pub mod Progress
+pub mod Played
+pub mod Parts

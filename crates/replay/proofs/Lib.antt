@@ -1,0 +1,2 @@
+pub mod Progresses
+pub mod OneRun
