@@ -1,4 +1,5 @@
 pub mod Feeds
+pub mod Passes
 pub mod Outcomes
 pub mod Pairs
 pub mod SingleWords
