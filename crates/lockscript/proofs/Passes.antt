@@ -39,21 +39,21 @@ passes-join text taken kept middle between more rest passed a b =
     record {
       lines = a.lines ++ b.lines;
       parts = a.parts ∙ ap (λ (t : List ℕ). flat_map ended a.lines ++ t) b.parts ∙ sym (append_assoc (flat_map ended a.lines) (flat_map ended b.lines) rest)
-        ∙ ap (λ (t : List ℕ). t ++ rest) (sym (flat_map-append ended a.lines b.lines));
+          ∙ ap (λ (t : List ℕ). t ++ rest) (sym (flat_map-append ended a.lines b.lines));
       single = All-append IsSingle a.lines b.lines a.single b.single;
       counted = omega (arith, a.counted, b.counted, length-append a.lines b.lines);
-      said = cc (said, next, a.said, b.said)
+      said = cc (said, next, a.said, b.said);
     }
 
 -- one line
 passes-one : (text line rest : List ℕ) (taken : ℕ) → BeginsWithLine text line rest → PassesLines text taken (kept_lines (taken + 1) (line ∷ [])) rest (taken + 1)
 passes-one text line rest taken begins = record {
-    lines = line ∷ [];
-    parts = begins.parts ∙ sym (append_assoc line (line_feed ∷ []) rest) ∙ sym (append_assoc (ended line) [] rest);
-    single = All-cons IsSingle line [] begins.one_line (All-nil IsSingle);
-    counted = omega arith;
-    said = refl
-  }
+  lines = line ∷ [];
+  parts = begins.parts ∙ sym (append_assoc line (line_feed ∷ []) rest) ∙ sym (append_assoc (ended line) [] rest);
+  single = All-cons IsSingle line [] begins.one_line (All-nil IsSingle);
+  counted = omega arith;
+  said = refl;
+}
 
 -- one line that is skipped
 pub passes-skipped : (text line rest : List ℕ) (taken : ℕ) → BeginsWithLine text line rest → is_skipped line ≡ true → PassesLines text taken [] rest (taken + 1)

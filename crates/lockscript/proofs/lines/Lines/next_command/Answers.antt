@@ -16,7 +16,7 @@ loop-line-preserved c =
     let next = passes-skipped here.rest.now c.in-Some.line.text.now c.next_line.new.self.rest.now here.taken line.0 skipped in
     record {
       passes = rw (line.2, line.1) (passes-join start.rest.now start.taken [] here.rest.now here.taken [] c.next_line.new.self.rest.now (here.taken + 1) c.loop-line.invariant.passes next);
-      shrinks = omega (arith, shorter-line here.rest.now c.in-Some.line.text.now c.next_line.new.self.rest.now line.0)
+      shrinks = omega (arith, shorter-line here.rest.now c.in-Some.line.text.now c.next_line.new.self.rest.now line.0);
     }
 
 pub returns-in_err-line-clause-unfinished : goal.returns-in_err-line-clause-unfinished

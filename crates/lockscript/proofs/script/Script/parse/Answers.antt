@@ -15,7 +15,7 @@ loop-lines-init c =
     let found = rw (c.new-source.ensures.rest, c.new-source.ensures.taken) at line.1 in
     let shape = c.in-Some-shape_of.shape in
     rw (c.new-lines.ensures.items, ← line.0)
-      (begun-first c.args.text.now c.in-Some.first.number c.in-Some.first.text.now c.next_command.new.self.rest.now shape found c.in-Some-shape_of.ensures.0 c.in-Some-shape_of.ensures.1)
+    (begun-first c.args.text.now c.in-Some.first.number c.in-Some.first.text.now c.next_command.new.self.rest.now shape found c.in-Some-shape_of.ensures.0 c.in-Some-shape_of.ensures.1)
 
 pub returns-in_err-line-clause-refused : goal.returns-in_err-line-clause-refused
 returns-in_err-line-clause-refused c =
@@ -25,7 +25,7 @@ returns-in_err-line-clause-refused c =
     let unfinished = c.in_err-line.ensures.unfinished in
     let script = script_of c.in-Some-shape_of.shape c.loop-lines.lines.items in
     rw (p.1, p.2, unfinished.0)
-      (bad-unfinished c.args.text.now script here.rest.now here.taken after.rest.now after.taken c.loop-lines.invariant unfinished.1 unfinished.2 unfinished.3)
+    (bad-unfinished c.args.text.now script here.rest.now here.taken after.rest.now after.taken c.loop-lines.invariant unfinished.1 unfinished.2 unfinished.3)
 
 pub returns-in_err-script_line-clause-refused : goal.returns-in_err-script_line-clause-refused
 returns-in_err-script_line-clause-refused c =
@@ -36,7 +36,7 @@ returns-in_err-script_line-clause-refused c =
     let bad = c.in_err-script_line.ensures.bad_line in
     let script = script_of c.in-Some-shape_of.shape c.loop-lines.lines.items in
     rw (p.1, p.2, bad.0)
-      (bad-line c.args.text.now script here.rest.now here.taken c.in-Some-2.line.number c.in-Some-2.line.text.now after.rest.now c.loop-lines.invariant line.1 bad.1)
+    (bad-line c.args.text.now script here.rest.now here.taken c.in-Some-2.line.number c.in-Some-2.line.text.now after.rest.now c.loop-lines.invariant line.1 bad.1)
 
 pub loop-lines-preserved : goal.loop-lines-preserved
 loop-lines-preserved c =
@@ -46,8 +46,8 @@ loop-lines-preserved c =
     let made = c.in_ok-script_line.ensures.made in
     let shape = c.in-Some-shape_of.shape in
     rw (c.in_ok-push.ensures.items, ← line.0)
-      (begun-line c.args.text.now shape c.loop-lines.lines.items here.rest.now here.taken c.in-Some-2.line.number c.in-Some-2.line.text.now after.rest.now
-        c.in_ok-script_line.field-0 c.loop-lines.invariant line.1 made.0 made.1)
+    (begun-line c.args.text.now shape c.loop-lines.lines.items here.rest.now here.taken c.in-Some-2.line.number c.in-Some-2.line.text.now after.rest.now
+    c.in_ok-script_line.field-0 c.loop-lines.invariant line.1 made.0 made.1)
 
 pub returns-clause-script : goal.returns-clause-script
 returns-clause-script c =
