@@ -1,4 +1,6 @@
 pub mod Feeds
+pub mod Passes
+pub mod Begun
 pub mod Outcomes
 pub mod Pairs
 pub mod SingleWords

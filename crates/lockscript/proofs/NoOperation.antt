@@ -10,7 +10,6 @@ use Rattle.lockscript.specs.Served.{AreOffsets, IsDescriptor, IsServedAccess, Is
 use Rattle.lockscript.specs.Texts.{access_text, kind_text, mode_text, op_text, segment_text}
 use Rattle.lockscript.proofs.Pairs.{heads, tails, cancel-front}
 
-
 pub no_open : (text rest : List ℕ) → text ≡ codes "open " ++ rest
     → Reads (pair_text decimal access_text) (Both (IsNumber most_files) IsServedAccess) rest None → Reads op_text IsServedOp text None
 no_open text rest parts none Spawn served e = omega (arith, heads 111 115 _ _ (sym parts ∙ e))
