@@ -1,4 +1,6 @@
 pub mod Statuses
+pub mod Faults
 pub mod Progress
 pub mod Played
 pub mod Parts
+pub mod Commands

@@ -1,5 +1,5 @@
 -- How a script is run, line by line.
-use Rattle.std.specs.Prelude.{◌≡◌, ℕ, ◌+◌, ⊤, List, [], ◌∷◌, ◌++◌, length, slice_get, Result, Ok, Err, Some}
+use Rattle.std.specs.Prelude.{◌≡◌, ℕ, ◌+◌, ⊤, List, [], ◌∷◌, ◌++◌, slice_get, Result, Ok, Err, Some, None}
 use Rattle.messages.specs.declared.refusal.Refused.{Refused}
 use Rattle.messages.specs.declared.refusal.Refused.TheVariants.{NoMemory, Busy, Stranger, JournalFull, Spent}
 use Rattle.messages.specs.declared.event.Event.{Event}
@@ -59,9 +59,13 @@ abbrev pub DeliversAll : ℕ → Progress → List Message → Progress → Type
 DeliversAll line p [] q = p ≡ q
 DeliversAll line p (m ∷ ms) q = (mid : Progress) × Delivers line p m mid × DeliversAll line mid ms q
 
+-- every message that was sent is settled
+abbrev pub IsSettled : Progress → Type 0
+IsSettled p = slice_get p.world.sent p.settled ≡ None
+
 -- messages are settled until none is left, also of those that are sent meanwhile
 abbrev pub Settles : ℕ → Progress → Progress → Type 0
-Settles line p q = (ms : List Message) × DeliversAll line p ms q × (q.settled ≡ length q.world.sent)
+Settles line p q = (ms : List Message) × DeliversAll line p ms q × IsSettled q
 
 -- what the command of a line does
 abbrev pub Does : ℕ → Command → Progress → Progress → Type 0

@@ -46,7 +46,16 @@ impl<T: Drop> From<AllocFailed<T>> for PlayError {
 /// # Errors
 /// `JournalFull` where the run needs more entries than a journal may have; `NoMemory` where a
 /// request for memory was refused.
-pub fn play(alloc: Global, script: &Script) -> Result<Played, PlayError> {
+pub fn play(alloc: Global, script: &Script) -> Result<Played, PlayError>
+    // It is what the lines come to, one after the other.
+    ensures played { IfOk result (λ played. ComesTo script.now.shape script.now.lines (state_of played)) }
+
+    // One table explains every reply, and ends as what the nodes hold.
+    ensures history { IfOk result (λ played. HasOneHistory script.now.shape played.journal.entries) }
+
+    // Else some line needs an entry for which there is no room.
+    ensures full { IfErr result (λ error. error ≡ JournalFull → FillsJournal script.now.shape script.now.lines) }
+{
     play_lines(alloc, script.shape(), script.lines())
 }
 
