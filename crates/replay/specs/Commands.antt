@@ -1,7 +1,6 @@
 -- What a command comes to.
-use Rattle.std.specs.Prelude.{◌≡◌, ℕ, ◌⊎◌, ⊤, List, IsUtf8, Result, Ok, Err}
+use Rattle.std.specs.Prelude.{◌≡◌, ℕ, ◌⊎◌, ⊤, List, IsUtf8, Option, Result, Ok, Err}
 use Rattle.std.specs.Io.KnownBytes.{Appends}
-use Rattle.core.specs.declared.option.Option.{Option}
 use Rattle.cluster_core.specs.declared.held_lock.HeldLock.{HeldLock}
 use Rattle.cluster_core.specs.declared.item.Item.{Item}
 use Rattle.cluster_core.specs.declared.token_run.TokenRun.{TokenRun}
@@ -22,13 +21,13 @@ use Rattle.replay.specs.Statuses.{status_of}
 abbrev pub path_of : Line → List ℕ
 path_of (Run script) = script.now
 
--- the file can be read as this text; `Gives` says what reading it may give
-abbrev pub HasText : (Result (List ℕ) StoreError → Type 0) → List ℕ → Type 0
-HasText Gives text = Gives (Ok text) × IsUtf8 text
+-- the bytes are text, and write this script
+abbrev pub HasScriptIn : List ℕ → ScriptFields → Type 0
+HasScriptIn bytes script = IsUtf8 bytes × IsScript bytes script
 
--- the text of the file is this script
+-- the file writes this script; `Gives` says what reading it may give
 abbrev pub HasScript : (Result (List ℕ) StoreError → Type 0) → ScriptFields → Type 0
-HasScript Gives script = (text : List ℕ) × HasText Gives text × IsScript text script
+HasScript Gives script = (bytes : List ℕ) × Gives (Ok bytes) × HasScriptIn bytes script
 
 -- the listing of a run: its refused lines, its entries, the tokens and the locks at its end, and a history of one table, each call of it at its reply
 pub record IsListing (played : PlayedState) (text : List ℕ) : Type 0 where
@@ -49,13 +48,21 @@ HasListing Gives text = (script : ScriptFields) × (played : PlayedState) × Has
 abbrev pub ShowsListing : (Result (List ℕ) StoreError → Type 0) → Option (List ℕ) → Option (List ℕ) → Type 0
 ShowsListing Gives old new = (text : List ℕ) × HasListing Gives text × Appends old new text
 
--- the file gives no text
+-- the file can't be read, or not as text
 abbrev pub GivesNoText : (Result (List ℕ) StoreError → Type 0) → Type 0
 GivesNoText Gives = Gives (Err Failed) ⊎ ((bytes : List ℕ) × Gives (Ok bytes) × ¬ (IsUtf8 bytes))
 
--- the fault is there, and none that is looked for before it: no text, a bad line, a full journal, a writer that fails at the listing; memory may be short at any time
+-- the bytes of the file of this path write no script: they are no text, or a line is bad; memory may be short at any time
+abbrev pub IsFaultIn : List ℕ → List ℕ → Fault → Type 0
+IsFaultIn bytes path (BadLine line) = IsUtf8 bytes × IsFirstBad bytes line
+IsFaultIn bytes path (CannotRead named) = (named.now ≡ path) × ¬ (IsUtf8 bytes)
+IsFaultIn bytes path CannotWriteOutput = ⊥
+IsFaultIn bytes path NoMemory = ⊤
+IsFaultIn bytes path JournalFull = ⊥
+
+-- the fault is there, and none that is looked for before it: no text, a bad line, a full journal, a writer that fails at the listing
 abbrev pub IsFault : (Result (List ℕ) StoreError → Type 0) → List ℕ → Fault → Type 0
-IsFault Gives path (BadLine line) = (text : List ℕ) × HasText Gives text × IsFirstBad text line
+IsFault Gives path (BadLine line) = (bytes : List ℕ) × Gives (Ok bytes) × IsUtf8 bytes × IsFirstBad bytes line
 IsFault Gives path (CannotRead named) = (named.now ≡ path) × GivesNoText Gives
 IsFault Gives path CannotWriteOutput = (text : List ℕ) × HasListing Gives text
 IsFault Gives path NoMemory = ⊤

@@ -2,5 +2,6 @@ pub mod Statuses
 pub mod Faults
 pub mod Progress
 pub mod Played
+pub mod Laws
 pub mod Parts
 pub mod Commands
