@@ -1,2 +1,3 @@
 pub mod Progresses
 pub mod OneRun
+pub mod OneOutcome
