@@ -4,4 +4,5 @@ pub mod Progress
 pub mod Played
 pub mod Laws
 pub mod Parts
+pub mod Words
 pub mod Commands
