@@ -1,11 +1,10 @@
 -- What is known of a text of which some lines were read.
 use Rattle.std.proofs.Common.{◌≡◌, ◌≢◌, ℕ, ◌+◌, List, [], ◌∷◌, ◌++◌, map, inl, inr, refl, sym, ap, subst, ◌∙◌}
-use Rattle.std.specs.Prelude.{◌⊎◌}
 use Rattle.std.proofs.lemmas.List.{append-nil, map-append}
 use Rattle.std.proofs.lemmas.List.Elements.{All-nil, All-push}
 use Rattle.messages.specs.Shapes.{ShapeFields, IsShape}
 use Rattle.lockscript.specs.LineFeeds.{line_feeds, FindsLine, PassesLines}
-use Rattle.lockscript.specs.Scripts.{IsBad, IsFirstBad, IsLine, IsMisplaced, IsNoLine, IsNoShape, IsScript, LineFields, ScriptFields, Writes, line_text, shape_text}
+use Rattle.lockscript.specs.Scripts.{IsFirstBad, IsLine, IsMisplaced, IsNoLine, IsNoShape, IsScript, LineFields, ScriptFields, Writes, line_text, shape_text}
 use Rattle.lockscript.specs.Scripts.IsBad.{Misplaced, Unfinished}
 use Rattle.lockscript.proofs.Passes.{passes-join, passes-found}
 
