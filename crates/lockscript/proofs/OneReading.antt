@@ -9,7 +9,7 @@ use Rattle.lockscript.specs.LineFeeds.{line_feed, line_feeds, is_skipped, kept_l
 use Rattle.lockscript.specs.Readings.{HasOneReading}
 use Rattle.lockscript.specs.Reads.{Lacks}
 use Rattle.lockscript.specs.Scripts.{BeginsScript, IsBad, IsFirstBad, IsLine, IsMisplaced, IsScript, LineFields, ScriptFields, Writes, line_text, shape_text}
-use Rattle.lockscript.specs.Scripts.IsBad.{Misplaced, NoCluster, Unfinished}
+use Rattle.lockscript.specs.Scripts.IsBad.{stands_wrong, has_no_cluster, has_no_end}
 use Rattle.lockscript.proofs.Begun.{script_of}
 use Rattle.messages.specs.Shapes.{ShapeFields}
 use Rattle.lockscript.proofs.Feeds.{line_feeds-line}
@@ -128,10 +128,10 @@ not-misplaced (k ∷ kept) number line after misplaced (inr script) =
 -- no script goes on past a bad line
 not-past : (kept : List (ℕ × List ℕ)) (number passed : ℕ) (rest line : List ℕ) (lines : List (List ℕ)) (rest' : List ℕ) → IsBad kept number rest → number ≡ passed + 1
     → BeginsWithLine rest line rest' → BeginsScript (kept ++ kept_lines (passed + 1) (line ∷ lines)) → ⊥
-not-past kept number passed rest line lines rest' (NoCluster none end) counted begins script =
+not-past kept number passed rest line lines rest' (has_no_cluster none end) counted begins script =
     omega (arith, ap length (sym end ∙ begins.parts), length-append line (line_feed ∷ rest'))
-not-past kept number passed rest line lines rest' (Unfinished some no_feed) counted begins script = omega (arith, no_feed, line_feeds-line rest line rest' begins)
-not-past kept number passed rest line lines rest' (Misplaced bad after bad_begins says misplaced) counted begins script =
+not-past kept number passed rest line lines rest' (has_no_end some no_feed) counted begins script = omega (arith, no_feed, line_feeds-line rest line rest' begins)
+not-past kept number passed rest line lines rest' (stands_wrong bad after bad_begins says misplaced) counted begins script =
     let same = line-same rest line rest' bad after begins bad_begins in
     let said : is_skipped line ≡ false = ap is_skipped same.0 ∙ says in
     let kept_is : kept_lines (passed + 1) (line ∷ lines) ≡ (number, bad) ∷ kept_lines (passed + 1 + 1) lines = rw (said, same.0, counted) refl in
@@ -164,11 +164,11 @@ same-kept kept rest passed kept' rest' passed' o none =
 
 -- a script has no bad line at its end
 not-at-end : (kept : List (ℕ × List ℕ)) (number : ℕ) (rest : List ℕ) (s : ScriptFields) → IsBad kept number rest → rest ≡ [] → Writes kept s → ⊥
-not-at-end kept number rest s (NoCluster none end) e w =
+not-at-end kept number rest s (has_no_cluster none end) e w =
     let both : [] ≡ (w.cluster_line, shape_text s.shape) ∷ map line_text s.lines = sym none ∙ w.texts in
     absurd (cc)
-not-at-end kept number rest s (Unfinished some no_feed) e w = some e
-not-at-end kept number rest s (Misplaced line after begins says misplaced) e w =
+not-at-end kept number rest s (has_no_end some no_feed) e w = some e
+not-at-end kept number rest s (stands_wrong line after begins says misplaced) e w =
     omega (arith, ap length (sym e ∙ begins.parts), length-append line (line_feed ∷ after))
 
 not-bad : (text : List ℕ) (s : ScriptFields) (n : ℕ) (a : IsScript text s) (b : IsFirstBad text n)
