@@ -1,12 +1,11 @@
 -- What is known of a text of which some lines were read.
 use Rattle.std.proofs.Common.{◌≡◌, ◌≢◌, ℕ, ◌+◌, List, [], ◌∷◌, ◌++◌, map, inl, inr, refl, sym, ap, subst, ◌∙◌}
-use Rattle.std.specs.Prelude.{◌⊎◌}
 use Rattle.std.proofs.lemmas.List.{append-nil, map-append}
 use Rattle.std.proofs.lemmas.List.Elements.{All-nil, All-push}
 use Rattle.messages.specs.Shapes.{ShapeFields, IsShape}
 use Rattle.lockscript.specs.LineFeeds.{line_feeds, FindsLine, PassesLines}
-use Rattle.lockscript.specs.Scripts.{IsBad, IsFirstBad, IsLine, IsMisplaced, IsNoLine, IsNoShape, IsScript, LineFields, ScriptFields, Writes, line_text, shape_text}
-use Rattle.lockscript.specs.Scripts.IsBad.{Misplaced, Unfinished}
+use Rattle.lockscript.specs.Scripts.{IsFirstBad, IsLine, IsMisplaced, IsNoLine, IsNoShape, IsScript, LineFields, ScriptFields, Writes, line_text, shape_text}
+use Rattle.lockscript.specs.Scripts.IsBad.{stands_wrong, has_no_end}
 use Rattle.lockscript.proofs.Passes.{passes-join, passes-found}
 
 -- the text begins with lines that write this script
@@ -75,7 +74,7 @@ bad-unfinished text s middle between rest passed begun after some no_feed = reco
   before = passes-more text 0 begun.kept middle between rest passed begun.passes after;
   counted = refl;
   good = inr (s, begun.writes);
-  bad = Unfinished some no_feed;
+  bad = has_no_end some no_feed;
 }
 
 -- the line may not stand behind the others
@@ -90,7 +89,7 @@ bad-line text s middle between number line rest begun found no_line =
       before = passes-more text 0 begun.kept middle between found.from found.passed begun.passes found.skips;
       counted = found.counted;
       good = inr (s, begun.writes);
-      bad = Misplaced line rest found.begins found.says (subst (λ (ks : List (ℕ × List ℕ)). IsMisplaced ks number line) (sym kept_is) no_line);
+      bad = stands_wrong line rest found.begins found.says (subst (λ (ks : List (ℕ × List ℕ)). IsMisplaced ks number line) (sym kept_is) no_line);
     }
 
 -- the first line that is not skipped names no cluster
@@ -102,5 +101,5 @@ bad-first text number line rest found no_shape = record {
   before = found.skips;
   counted = found.counted;
   good = inl refl;
-  bad = Misplaced line rest found.begins found.says no_shape;
+  bad = stands_wrong line rest found.begins found.says no_shape;
 }

@@ -1,5 +1,5 @@
 -- A line that begins as one command asks for no other, and for this one only with its operands.
-use Rattle.std.proofs.Common.{◌≡◌, ℕ, ◌<◌, ◌^◌, List, ◌++◌, Option, Some, None, Result, Ok, Err, refl, sym, ◌∙◌, ap, arith, codes, decimal}
+use Rattle.std.proofs.Common.{◌≡◌, ℕ, ◌<◌, ◌^◌, List, ◌++◌, Some, None, Result, Ok, Err, refl, sym, ◌∙◌, ap, arith, codes, decimal}
 use Rattle.std.specs.Prelude.{⊤, IfOk, IsOk, ◌↔◌}
 use Rattle.std.specs.Result.{result_ok}
 use Rattle.std.proofs.lemmas.Bool.{false≢true}

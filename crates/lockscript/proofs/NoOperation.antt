@@ -1,8 +1,7 @@
 -- A text that begins as one operation writes no other, and this one only with its operands.
-use Rattle.std.proofs.Common.{◌≡◌, ◌≢◌, ℕ, List, ◌∷◌, ◌++◌, Option, None, sym, ◌∙◌, arith, codes, decimal}
-use Rattle.std.specs.Prelude.{⊤, FitsSigned}
+use Rattle.std.proofs.Common.{◌≡◌, ℕ, List, ◌++◌, None, sym, ◌∙◌, arith, codes, decimal}
+use Rattle.std.specs.Prelude.{⊤}
 use Rattle.model.specs.Limits.{IsNumber}
-use Rattle.model.specs.declared.op.Op.{Op}
 use Rattle.model.specs.declared.op.Op.TheVariants.{Spawn, Open, Set, Unlock}
 use Rattle.messages.specs.Shapes.{most_files}
 use Rattle.lockscript.specs.Reads.{Reads, Both, pair_text}

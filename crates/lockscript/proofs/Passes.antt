@@ -1,14 +1,14 @@
 -- Lines that a text passes, one after the other.
 use Rattle.std.proofs.Common.{◌≡◌, ℕ, ◌+◌, ◌<◌, Bool, true, false, if◌then◌else◌, List, [], ◌∷◌, ◌++◌, length, refl, sym, ap, ◌∙◌, arith, length-append, append_assoc}
-use Rattle.std.specs.List.{All, flat_map}
+use Rattle.std.specs.List.{flat_map}
 use Rattle.std.proofs.lemmas.Grind.{flat_map-append}
 use Rattle.std.proofs.lemmas.List.Elements.{All-append, All-cons, All-nil}
 use Rattle.lockscript.specs.LineFeeds.{line_feed, line_feeds, is_skipped, kept_lines, BeginsWithLine, FindsLine, PassesLines}
 
-abbrev ended : List ℕ → List ℕ
+abbrev pub ended : List ℕ → List ℕ
 ended line = line ++ line_feed ∷ []
 
-abbrev IsSingle : List ℕ → Type 0
+abbrev pub IsSingle : List ℕ → Type 0
 IsSingle line = line_feeds line ≡ 0
 
 -- what is added at the end is added in both cases
@@ -16,7 +16,7 @@ if-append : (b : Bool) (x : ℕ × List ℕ) (ks ms : List (ℕ × List ℕ)) �
 if-append true x ks ms = refl
 if-append false x ks ms = refl
 
-kept_lines-append : (number : ℕ) (lines more : List (List ℕ)) → kept_lines number (lines ++ more) ≡ kept_lines number lines ++ kept_lines (number + length lines) more
+pub kept_lines-append : (number : ℕ) (lines more : List (List ℕ)) → kept_lines number (lines ++ more) ≡ kept_lines number lines ++ kept_lines (number + length lines) more
 kept_lines-append number [] more =
     let none : number ≡ number + length {A = List ℕ} [] = omega arith in
     ap (λ (k : ℕ). kept_lines k more) none

@@ -1,5 +1,5 @@
 -- Scripts, and their lines.
-use Rattle.std.specs.Prelude.{◌≡◌, ◌≢◌, ℕ, ◌+◌, ◌⊎◌, Bool, false, List, [], ◌∷◌, ◌++◌, All, map, codes, decimal, ⊤}
+use Rattle.std.specs.Prelude.{◌≡◌, ◌≢◌, ℕ, ◌+◌, ◌⊎◌, false, List, [], ◌∷◌, ◌++◌, All, map, codes, decimal, ⊤}
 use Rattle.model.specs.Limits.{IsNumber, most_nodes, most_processes}
 use Rattle.lockscript.specs.declared.script_line.Command.{Command}
 use Rattle.lockscript.specs.declared.script_line.Command.TheVariants.{Call, Settle}
@@ -80,13 +80,14 @@ abbrev pub IsMisplaced : List (ℕ × List ℕ) → ℕ → List ℕ → Type 0
 IsMisplaced [] number line = IsNoShape line
 IsMisplaced (first ∷ more) number line = IsNoLine number line
 
--- why no script goes on like this with the line of this number
+-- why the line of this number, with which the rest begins, is bad behind the lines that are kept: the text ends without a `cluster` line,
+-- the line has no line feed, or it is not skipped and may not stand there
 pub data IsBad (kept : List (ℕ × List ℕ)) (number : ℕ) (rest : List ℕ) : Type 0 where
-  NoCluster : kept ≡ [] → rest ≡ [] → IsBad kept number rest
-  Unfinished : rest ≢ [] → line_feeds rest ≡ 0 → IsBad kept number rest
-  Misplaced : (line after : List ℕ) → BeginsWithLine rest line after → is_skipped line ≡ false → IsMisplaced kept number line → IsBad kept number rest
+  has_no_cluster : kept ≡ [] → rest ≡ [] → IsBad kept number rest
+  has_no_end : rest ≢ [] → line_feeds rest ≡ 0 → IsBad kept number rest
+  stands_wrong : (line after : List ℕ) → BeginsWithLine rest line after → is_skipped line ≡ false → IsMisplaced kept number line → IsBad kept number rest
 
--- the lines before this one begin a script, and it may not stand behind them
+-- the lines before this one are whole and begin a script, and it is bad behind them
 pub record IsFirstBad (text : List ℕ) (number : ℕ) : Type 0 where
   pub kept : List (ℕ × List ℕ)
   pub rest : List ℕ

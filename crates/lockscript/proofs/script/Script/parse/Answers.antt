@@ -1,4 +1,3 @@
-use Rattle.std.proofs.Common.{◌≡◌, ◌+◌, sym, arith, rules}
 use Rattle.std.proofs.lemmas.Result.{err_from_is_err_and}
 use Rattle.lockscript.proofs.Begun.{bad-first, bad-line, bad-unfinished, begun-first, begun-line, script-begun, script_of}
 use Rattle.lockscript.proofs.script.Script.parse.Goals as goal
