@@ -16,3 +16,4 @@ pub mod Worlds
 pub mod Runs
 pub mod Lists
 pub mod TokenLists
+pub mod LockLists
