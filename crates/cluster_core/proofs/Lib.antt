@@ -17,3 +17,4 @@ pub mod Runs
 pub mod Lists
 pub mod TokenLists
 pub mod LockLists
+pub mod Replayed

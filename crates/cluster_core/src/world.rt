@@ -274,9 +274,14 @@ impl World {
     pub fn after(alloc: Global, journal: &Journal) -> Result<World, NoRoom>
         ensures { IfOk result (λ world. Leads (first_world journal.now.shape) journal.now.entries (world_state world)) }
     {
-        let _ = alloc;
-        let _ = journal;
-        Err(AllocError)
+        let mut world = World::new(alloc, journal.shape())?;
+        for entry in journal.entries() {
+            match world.step(alloc, entry.event()) {
+                Ok(_) => {}
+                Err(_) => return Err(AllocError),
+            }
+        }
+        Ok(world)
     }
 }
 
