@@ -87,11 +87,7 @@ fn listing_of_script<'a, S: Store>(
 }
 
 // The script that a file writes.
-fn script_of<'a, S: Store>(
-    alloc: Global,
-    store: &mut S,
-    path: &'a str,
-) -> Result<Script, Fault<'a>>
+fn script_of<'a, S: Store>(alloc: Global, store: &mut S, path: &'a str) -> Result<Script, Fault<'a>>
     ensures script { IfOk result (HasScript (S.read_gives store.old path.now)) }
     ensures fault { IfErr result (IsFault (S.read_gives store.old path.now) path.now) }
 {
