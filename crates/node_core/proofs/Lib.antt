@@ -1,3 +1,4 @@
 pub mod RowLaws
 pub mod FileLaws
 pub mod NodeLaws
+pub mod ReaderLaws

@@ -721,5 +721,6 @@ impl Node {
     }
 }
 
+mod readers;
 #[cfg(test)]
 mod tests;
