@@ -46,3 +46,6 @@ impl Node {
         self.locks.locks(file)
     }
 }
+
+#[cfg(test)]
+mod tests;
