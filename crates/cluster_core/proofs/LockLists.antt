@@ -1,10 +1,9 @@
 -- The locks of a cluster, node by node and file by file.
 use Rattle.std.specs.Prelude.{◌≡◌, ℕ, ◌+◌, ◌<◌, ◌≤◌, true, false, ◌==◌, nat_le, if◌then◌else◌, List, [], ◌++◌, map}
 use Rattle.std.proofs.Common.{refl, sym, ap, ◌∙◌, subst, inl, inr, arith}
-use Rattle.std.proofs.lemmas.Bool.{and_parts, and_from, and_left, and_right, eqb-true, eq-eqb, cases_Bool, cases_lt, cases_order, le-leb, lt-leb, leb-true, leb-false, both_ways}
+use Rattle.std.proofs.lemmas.Bool.{and_from, and_left, and_right, eq-eqb, cases_Bool, cases_lt, cases_order, le-leb, lt-leb, leb-true, leb-false, both_ways}
 use Rattle.std.proofs.lemmas.List.Elements.{All-weaker}
-use Rattle.intervals.specs.Bytes.{IsRun, nothing}
-use Rattle.model.specs.declared.mode.Mode.{Mode}
+use Rattle.intervals.specs.Bytes.{nothing}
 use Rattle.model.specs.declared.owner.Owner.{Owner}
 use Rattle.model.specs.declared.lock_info.LockInfo.{LockInfo}
 use Rattle.model.specs.Locks.{FileLocks, IsRegion, IsOfNode}

@@ -1,5 +1,5 @@
 -- The tokens of a cluster, file by file and node by node.
-use Rattle.std.specs.Prelude.{◌≡◌, ℕ, ◌+◌, ◌<◌, ◌≤◌, ◌⊎◌, true, ◌==◌, nat_le, List, [], ◌++◌, map}
+use Rattle.std.specs.Prelude.{◌≡◌, ℕ, ◌+◌, ◌≤◌, true, ◌==◌, nat_le, List, [], ◌++◌, map}
 use Rattle.std.proofs.Common.{refl, sym, ap, ◌∙◌, subst, inl, inr, arith}
 use Rattle.std.proofs.lemmas.Bool.{and_parts, and_from, eqb-true, eq-eqb, cases_lt, le-leb}
 use Rattle.std.proofs.lemmas.List.Elements.{All-weaker}
@@ -9,7 +9,7 @@ use Rattle.messages.specs.Messages.{is_within}
 use Rattle.token_set.specs.Runs.{ListsRuns}
 use Rattle.node_core.specs.State.{NodeState}
 use Rattle.cluster_core.specs.declared.token_run.TokenRun.{TokenRun}
-use Rattle.cluster_core.specs.World.{WorldState, has_node, has_file, is_live}
+use Rattle.cluster_core.specs.World.{WorldState, has_node, has_file}
 use Rattle.cluster_core.specs.Listings.{Lists, Adds, IsTokenRun, IsTokenBefore, IsTokenOf, IsTokenOfFile, IsTokenListing, token_run}
 use Rattle.cluster_core.proofs.WorldSteps.{within_is}
 use Rattle.cluster_core.proofs.Lists.{lists_map, adds_none, adds_join, adds_same, adds_all}

@@ -1,5 +1,5 @@
 -- Listings that are put together.
-use Rattle.std.proofs.Common.{◌≡◌, suc, true, false, eqb, ne_eqb, get_or, List, [], ◌∷◌, subst, inl, inr, arith}
+use Rattle.std.proofs.Common.{◌≡◌, suc, false, eqb, ne_eqb, get_or, List, [], ◌∷◌, subst, inl, inr, arith}
 use Rattle.std.specs.List.{AllPairs, IsDistinct}
 use Rattle.std.specs.declared.cmp.Ordering.TheVariants.{Less, Equal}
 use Rattle.std.proofs.lemmas.Bool.{cases_Bool, and_left, and_right}

@@ -1,10 +1,10 @@
 -- Lists of the longest runs of a token.
-use Rattle.std.specs.Prelude.{◌≡◌, ◌≢◌, ℕ, ◌+◌, ◌-◌, ◌<◌, ◌≤◌, Option, Some, None, IsSome, MatchOption, List, [], ◌∷◌, ◌++◌, All, AllPairs, Contains, length}
-use Rattle.std.proofs.Common.{refl, sym, ap, ◌∙◌, subst, inl, inr, arith, get_or}
+use Rattle.std.specs.Prelude.{◌≡◌, ◌≢◌, ℕ, ◌+◌, ◌-◌, ◌<◌, ◌≤◌, Option, Some, None, IsSome, List, [], ◌∷◌, ◌++◌, All, AllPairs, Contains}
+use Rattle.std.proofs.Common.{refl, sym, ap, ◌∙◌, subst, inl, inr, arith}
 use Rattle.std.proofs.lemmas.Bool.{cases_lt, cases_order}
 use Rattle.std.proofs.lemmas.List.Elements.{All-nil, All-push, All-weaker, Contains-append_left, Contains-push}
 use Rattle.std.proofs.lemmas.List.Quantifiers.{all_pairs_push}
-use Rattle.intervals.specs.Bytes.{Range, greatest, whole, IsRun, IsBarred, NoneIn, IsFirstIn}
+use Rattle.intervals.specs.Bytes.{Range, greatest, IsRun, IsBarred, NoneIn, IsFirstIn}
 use Rattle.model.specs.declared.level.Level.{Level}
 use Rattle.token_set.specs.Tokens.{Token}
 use Rattle.token_set.specs.Runs.{NothingFrom, IsNextRun, ListsRuns}

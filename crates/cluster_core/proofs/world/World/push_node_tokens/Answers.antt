@@ -1,4 +1,3 @@
-use Rattle.std.proofs.Common.{ap, subst, ℕ, arith}
 use Rattle.cluster_core.specs.Parts.{world_state}
 use Rattle.cluster_core.proofs.TokenLists.{next_file}
 use Rattle.cluster_core.proofs.world.World.push_node_tokens.Goals as goal
