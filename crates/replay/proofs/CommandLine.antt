@@ -1,5 +1,5 @@
 -- What clap makes of `PROGRAM run SCRIPT`.
-use Rattle.std.proofs.Common.{refl, ap, sym, codes, true, false, ℕ, Bool, ◌==◌, option_map, List, Option, Some, None, [], ◌∷◌, ◌≡◌, ◌≢◌, ◌∙◌}
+use Rattle.std.proofs.Common.{refl, ap, codes, true, false, ℕ, option_map, List, Option, Some, None, [], ◌∷◌, ◌≡◌, ◌≢◌, ◌∙◌}
 use Rattle.std.specs.Prelude.{slice_get}
 use Rattle.std.specs.Str.{bytes_eq}
 use Rattle.std.proofs.lemmas.Bool.{ne_eqb}

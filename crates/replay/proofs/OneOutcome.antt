@@ -1,22 +1,20 @@
 -- A script comes to one thing at most.
-use Rattle.std.proofs.Common.{◌≡◌, ℕ, ◌+◌, refl, sym, ◌∙◌, ap, subst, List, [], ◌∷◌, ◌++◌}
+use Rattle.std.proofs.Common.{◌≡◌, ℕ, ◌+◌, sym, ◌∙◌, ap, subst, List, [], ◌∷◌, ◌++◌}
 use Rattle.std.specs.Prelude.{slice_get, Option, Some, None}
 use Rattle.std.specs.declared.result.Result.{Result}
 use Rattle.std.specs.declared.result.Result.TheVariants.{Ok, Err}
 use Rattle.messages.specs.declared.refusal.Refused.{Refused}
 use Rattle.messages.specs.declared.refusal.Refused.TheVariants.{JournalFull}
-use Rattle.messages.specs.declared.event.Event.{Event}
 use Rattle.messages.specs.declared.event.Event.TheVariants as event
 use Rattle.messages.specs.declared.message.Message.{Message}
 use Rattle.messages.specs.declared.entry.Entry.{Entry}
-use Rattle.messages.specs.Shapes.{ShapeFields}
 use Rattle.cluster_core.specs.World.{WorldState}
 use Rattle.cluster_core.specs.Next.{next}
 use Rattle.lockscript.specs.declared.script_line.Command.{Command}
 use Rattle.lockscript.specs.declared.script_line.Command.TheVariants.{Call, Settle}
 use Rattle.lockscript.specs.Scripts.{LineFields}
-use Rattle.replay.specs.Progress.{Progress, first_progress, Ends, Happens, IsNextMessage, Delivers, DeliversAll, IsSettled, Does, RunsTo, FindsItFull, SettlesToFull, IsFullIn}
-use Rattle.replay.specs.Played.{PlayedState, played_of, ComesTo, FillsJournal}
+use Rattle.replay.specs.Progress.{Progress, first_progress, Ends, Happens, IsNextMessage, Delivers, DeliversAll, IsSettled, Does, RunsTo, FindsItFull, IsFullIn}
+use Rattle.replay.specs.Played.{played_of}
 use Rattle.replay.specs.Laws.{ComesToOne, FullComesToNothing}
 
 ends_one : (line : ℕ) (p q s : Progress) (r : Result (WorldState × Entry) Refused) → Ends line p r q → Ends line p r s → q ≡ s

@@ -32,16 +32,18 @@ IsListed Stranger = ⊤
 IsListed JournalFull = ⊥
 IsListed Spent = ⊤
 
-abbrev pub accepted : Progress → WorldState × Entry → Progress
-accepted p made = record p { entries = p.entries ++ made.1 ∷ []; world = made.0 }
+-- the event made this entry and led to this world
+abbrev pub after_entry : Progress → WorldState × Entry → Progress
+after_entry p made = record p { entries = p.entries ++ made.1 ∷ []; world = made.0 }
 
-abbrev pub listed : Progress → ℕ → Refused → Progress
-listed p line refusal = record p { refused = p.refused ++ (line, number_of refusal) ∷ [] }
+-- the event of the line was refused
+abbrev pub after_refusal : Progress → ℕ → Refused → Progress
+after_refusal p line refusal = record p { refused = p.refused ++ (line, number_of refusal) ∷ [] }
 
 -- an accepted event changes the world, and its entry comes last; a refused one leaves the world, and its line is listed
 abbrev pub Ends : ℕ → Progress → Result (WorldState × Entry) Refused → Progress → Type 0
-Ends line p (Ok made) q = q ≡ accepted p made
-Ends line p (Err refusal) q = IsListed refusal × (q ≡ listed p line refusal)
+Ends line p (Ok made) q = q ≡ after_entry p made
+Ends line p (Err refusal) q = IsListed refusal × (q ≡ after_refusal p line refusal)
 
 -- an event of a line
 abbrev pub Happens : ℕ → Event → Progress → Progress → Type 0

@@ -1,4 +1,3 @@
-use Rattle.std.proofs.Common.{◌≡◌, List, length, take}
 use Rattle.std.proofs.lemmas.Result.{err_from_is_err_and}
 use Rattle.replay.specs.Parts.{progress}
 use Rattle.replay.proofs.Progresses.{lines_lead, runs_more, fills}

@@ -1,4 +1,4 @@
-use Rattle.std.proofs.Common.{◌≡◌, ◌≢◌, ℕ, List, subst, refl, inl, arith}
+use Rattle.std.proofs.Common.{◌≡◌, ◌≢◌, ℕ, List, subst, inl, arith}
 use Rattle.replay.specs.declared.fault.Fault.TheVariants.{NoMemory}
 use Rattle.replay.specs.Commands.{ShowsListing, TellsFault, WritesNothing}
 use Rattle.replay.proofs.respond.respond.Goals as goal

@@ -1,6 +1,6 @@
-use Rattle.std.proofs.Common.{ap, ap₂, map, option_map, List, ℕ, Option, Some, ◌≡◌, ◌∙◌}
+use Rattle.std.proofs.Common.{ap, ap₂, ◌∙◌}
 use Rattle.std.proofs.lemmas.Result.{err_from_is_err_and}
-use Rattle.clap.specs.Words.{app_of, is_simple, subcommand_of, takes}
+use Rattle.clap.specs.Words.{is_simple, subcommand_of, takes}
 use Rattle.replay.specs.Words.{value_in}
 use Rattle.replay.proofs.CommandLine.{is_simple_program, taken_is, value_is, same_text, no_text}
 use Rattle.replay.proofs.line.Line.read.Goals as goal
