@@ -1,3 +1,4 @@
 pub mod RowLaws
 pub mod FileLaws
+pub mod CallLaws
 pub mod NodeLaws
