@@ -1,8 +1,8 @@
 -- Open calls by their numbers, and as a list.
-use Rattle.std.specs.Prelude.{◌≡◌, ℕ, Bool, true, false, not, cond, ◌==◌, ◌||◌, nat_eq, List, [], ◌∷◌, ◌++◌, map, Option, None, Some, All, find, filter, is_some, slice_get, take, ◌+◌, refl}
+use Rattle.std.specs.Prelude.{◌≡◌, ℕ, Bool, true, false, not, cond, ◌==◌, ◌||◌, ◌≤◌, nat_eq, List, [], ◌∷◌, ◌++◌, map, Option, None, Some, All, find, filter, is_some, slice_get, take, ◌+◌, refl}
 use Rattle.std.specs.List.{list_any, IsDistinct, AllByRecursion}
 use Rattle.std.specs.Map.{keys_of, values_of, lookup, remove_entry}
-use Rattle.std.proofs.Common.{ap, sym, subst, ◌∙◌}
+use Rattle.std.proofs.Common.{arith, ap, sym, subst, ◌∙◌}
 use Rattle.std.specs.Cmp.{nat_eq_equiv}
 use Rattle.std.proofs.lemmas.Bool.{eqb-true}
 use Rattle.std.proofs.lemmas.List.{take_more}
@@ -77,3 +77,12 @@ same-next xs ys i x here there same =
 -- a number that no call has is no key
 pub not-found : (number : ℕ) (es : List (ℕ × OpenCall)) (cs : List OpenCall) → All IsAtNumber es → values_of es ≡ cs → find (λ c. c.number == number) cs ≡ None → lookup (nat_eq number) es ≡ None
 not-found number es cs h is none = found-by_number number es h ∙ ap (find (λ c. c.number == number)) is ∙ none
+
+-- no call has a number above theirs
+pub none-above : (last : ℕ) (cs : List OpenCall) → All (λ c. c.number ≤ last) cs → find (λ c. c.number == last + 1) cs ≡ None
+none-above last [] h = refl
+none-above last (c ∷ cs) h = by (c.number == last + 1) refl (none-above last cs (All-tail (λ d. d.number ≤ last) c cs h))
+  where
+    by : (b : Bool) → (c.number == last + 1) ≡ b → find (λ d. d.number == last + 1) cs ≡ None → find (λ d. d.number == last + 1) (c ∷ cs) ≡ None
+    by true e rest = let within : c.number ≤ last = All-head (λ d. d.number ≤ last) c cs h in let is : c.number ≡ last + 1 = eqb-true c.number (last + 1) e in absurd (omega (arith, within, is))
+    by false e rest = (λ i. cond (e i) (Some c) (find (λ d. d.number == last + 1) cs)) ∙ rest

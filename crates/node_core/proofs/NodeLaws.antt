@@ -44,7 +44,8 @@ use Rattle.node_core.specs.declared.open_call.OpenCall.{OpenCall}
 use Rattle.node_core.specs.State.{NodeState, first_file, first_node, process}
 use Rattle.node_core.specs.Rows.{processes, resolved, opened_or, fd_reply, Refuses}
 use Rattle.node_core.specs.Files.{file_state}
-use Rattle.node_core.specs.Parts.{NodeParts, node_state, table_of, IsOwn, IsSpan, IsOwnCall, IsNode, tabled}
+use Rattle.node_core.specs.Parts.{NodeParts, node_state, table_of, IsOwn, IsSpan, IsOwnCall, IsNode, IsNewNumber, tabled}
+use Rattle.node_core.proofs.CallLaws.{none-above}
 
 -- the node itself is its own
 own_host : (node incarnation : ℕ) → ((node == node) && (incarnation == incarnation)) ≡ true
@@ -283,6 +284,11 @@ target-file p pid fd opened (Err e) is h same = tt
 target-file p pid fd opened (Ok t) is h same =
     let within = is.opened_in pid fd opened (resolved_ok ((processes p.processes).runs pid) ((processes p.processes).opened pid fd) (record { node = 0; incarnation = 0; pid = pid }) None OfProcess (Err Invalid) opened h).0 in
     subst (λ n. IsNumber p.shape.files n) (sym same) within
+
+-- the number that a node gives out next is new
+pub new-number : (p : NodeParts) → IsNode p → IsNewNumber (node_state (record p { calls = p.calls + 1 })) (p.calls + 1)
+unfolding node_state
+new-number p h = record { given = omega arith; free = none-above p.calls p.pending h.numbered }
 
 -- two nodes in one state
 pub record IsSameState (p q : NodeParts) : Type 0 where

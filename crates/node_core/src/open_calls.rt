@@ -1,5 +1,5 @@
 //! The open calls of a node, in order of arrival.
-ghost use Rattle.std.specs.Prelude.{◌≡◌, ◌==◌, ◌↔◌, ◌++◌, ◌∷◌, [], not, None, IfOk, OnOk, IsTrue, is_some, find, filter};
+ghost use Rattle.std.specs.Prelude.{◌≡◌, ◌==◌, ◌↔◌, ◌++◌, ◌∷◌, [], not, None, IfOk, OnOk, OnErr, IsTrue, is_some, find, filter};
 
 use crate::open_call::OpenCall;
 use indexmap::IndexMap;
@@ -67,7 +67,8 @@ impl OpenCalls {
     /// `AllocError` where a request for memory was refused.
     pub fn push(&mut self, call: OpenCall) -> Result<(), AllocError>
         requires { find (λ c. c.number == call.number) self.old ≡ None }
-        ensures { OnOk result (self.new ≡ self.old ++ call ∷ []) }
+        ensures ok { OnOk result (self.new ≡ self.old ++ call ∷ []) }
+        ensures err { OnErr result (self.new ≡ self.old) }
     {
         self.calls.insert(call.number, call)?;
         Ok(())

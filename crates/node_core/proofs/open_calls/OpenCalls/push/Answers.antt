@@ -16,8 +16,8 @@ invariant_of-self-2 c =
       distinct = c.in_ok-insert.ensures.unique;
     }
 
-pub returns : goal.returns
-returns c =
+pub returns-clause-ok : goal.returns-clause-ok
+returns-clause-ok c =
     let es = c.self.inside.calls.entries in
     let new = c.in_ok-insert.ensures.entries ∙ insert_entry-new nat_eq c.self.inside.calls c.args.call.number c.args.call (not-found c.args.call.number es _ c.self.invariant.at_number c.self.view_is c.requires) in
     ap values_of new ∙ map_push (λ e. e.1) es (c.args.call.number, c.args.call) ∙ ap (λ cs. cs ++ c.args.call ∷ []) c.self.view_is
