@@ -96,3 +96,6 @@ impl OpenCalls {
         true
     }
 }
+
+#[cfg(test)]
+mod tests;
