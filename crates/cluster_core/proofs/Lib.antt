@@ -14,3 +14,7 @@ pub mod Moves
 pub mod Unions
 pub mod Worlds
 pub mod Runs
+pub mod Lists
+pub mod TokenLists
+pub mod LockLists
+pub mod Replayed

@@ -6,9 +6,10 @@ use Rattle.intervals.specs.Bytes.{nothing}
 use Rattle.model.specs.declared.mode.Mode.{Mode}
 use Rattle.model.specs.declared.owner.Owner.{Owner}
 use Rattle.model.specs.Limits.{IsNumber}
+use Rattle.model.specs.Locks.{FileLocks, IsOfNode}
 use Rattle.model.specs.Owners.{owner_at}
 use Rattle.model.specs.Descriptors.{no_processes}
-use Rattle.model.specs.Table.{Table, empty_table}
+use Rattle.model.specs.Table.{empty_table}
 use Rattle.messages.specs.Shapes.{ShapeFields, served_nodes}
 use Rattle.messages.specs.Messages.{is_within}
 use Rattle.cluster_core.specs.World.{WorldState, first_world, has_node, is_live}
@@ -43,8 +44,8 @@ only_node nodes n few is =
     omega arith
 
 -- owners of other nodes and incarnations hold nothing
-none_held : (t : Table) (n i file : ℕ) (o : Owner) → IsOwn t n i → (o.node ≡ n → o.incarnation ≡ i → ⊥) → nothing ≡ t.locks file o
-none_held t n i file o own other = λ j b. at b j
+pub none_held : (h : FileLocks) (n i : ℕ) (o : Owner) → IsOfNode h n i → (o.node ≡ n → o.incarnation ≡ i → ⊥) → nothing ≡ h o
+none_held h n i o own other = λ j b. at b j
   where
     node_at : (k : ℕ) → (owner_at n i k).node ≡ n
     node_at k = elim (cases_Bool (nat_lt k 256)) [ inl h ↦ rw h refl | inr h ↦ rw h refl ]
@@ -52,13 +53,13 @@ none_held t n i file o own other = λ j b. at b j
     incarnation_at : (k : ℕ) → (owner_at n i k).incarnation ≡ i
     incarnation_at k = elim (cases_Bool (nat_lt k 256)) [ inl h ↦ rw h refl | inr h ↦ rw h refl ]
 
-    held : (b : ℕ) (mode : Mode) → t.locks file o b ≡ Some mode → ⊥
-    held b mode h =
-        let is = (own.locks file).is_own o b mode h in
+    held : (b : ℕ) (mode : Mode) → h o b ≡ Some mode → ⊥
+    held b mode there =
+        let is = own.is_own o b mode there in
         other (ap (λ (x : Owner). x.node) is.2 ∙ node_at is.0) (ap (λ (x : Owner). x.incarnation) is.2 ∙ incarnation_at is.0)
 
-    at : (b : ℕ) → None ≡ t.locks file o b
-    at b = elim (t.locks file o b) as (λ x. t.locks file o b ≡ x → None ≡ x) [ None ↦ λ h. refl | Some mode ↦ λ h. absurd (held b mode h) ] refl
+    at : (b : ℕ) → None ≡ h o b
+    at b = elim (h o b) as (λ x. h o b ≡ x → None ≡ x) [ None ↦ λ there. refl | Some mode ↦ λ there. absurd (held b mode there) ] refl
 
 module _ (w : WorldState) (n : ℕ) (few : IsNumber served_nodes w.shape.nodes) (there : has_node w n ≡ true) (named : (w.nodes n).node ≡ n) (own : IsOwn (w.nodes n).table (w.nodes n).node (w.nodes n).incarnation) where
   only : (m : ℕ) → is_within w.shape.nodes m ≡ true → m ≡ n
@@ -82,7 +83,7 @@ module _ (w : WorldState) (n : ℕ) (few : IsNumber served_nodes w.shape.nodes) 
   locks_same : (file : ℕ) (o : Owner) → (union w).locks file o ≡ (w.nodes n).table.locks file o
   locks_same file o = elim (cases_Bool (is_live w o.node o.incarnation)) [
     | inl live ↦ rw live (ap (λ (j : ℕ). (w.nodes j).table.locks file o) (only o.node (and_parts (has_node w o.node) (o.incarnation == (w.nodes o.node).incarnation) live).0))
-    | inr dead ↦ rw dead (none_held (w.nodes n).table (w.nodes n).node (w.nodes n).incarnation file o own (not_live o.node o.incarnation dead))
+    | inr dead ↦ rw dead (none_held ((w.nodes n).table.locks file) (w.nodes n).node (w.nodes n).incarnation o (own.locks file) (not_live o.node o.incarnation dead))
   ]
 
   -- the union is the table of the only node

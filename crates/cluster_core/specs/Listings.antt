@@ -1,12 +1,24 @@
 -- The tokens and the locks of a cluster as lists.
-use Rattle.std.specs.Prelude.{◌≡◌, ◌<◌, ◌⊎◌, true, List, All, AllPairs, Contains}
-use Rattle.intervals.specs.Bytes.{IsRun}
+use Rattle.std.specs.Prelude.{◌≡◌, ℕ, ◌<◌, ◌⊎◌, true, List, ◌++◌, All, AllPairs, Contains}
+use Rattle.intervals.specs.Bytes.{Range, IsRun}
+use Rattle.model.specs.declared.level.Level.{Level}
+use Rattle.model.specs.declared.lock_info.LockInfo.{LockInfo}
 use Rattle.model.specs.Locks.{IsRegion}
 use Rattle.lock_table.specs.Listing.{IsBefore}
 use Rattle.cluster_core.specs.declared.held_lock.HeldLock.{HeldLock}
 use Rattle.cluster_core.specs.declared.token_run.TokenRun.{TokenRun}
 use Rattle.cluster_core.specs.World.{WorldState, has_file, is_live}
 use Rattle.cluster_core.specs.Union.{union}
+
+-- each thing of the kind once, in the order
+pub record Lists {A : Type 0} (Is : A → Type 0) (Before : A → A → Type 0) (xs : List A) : Type 0 where
+  pub each : All Is xs
+  pub complete : (x : A) → Is x → Contains xs x
+  pub rises : AllPairs Before xs
+
+-- at the end of the list come all things of the kind, in the order
+abbrev pub Adds : {A : Type 0} → (A → Type 0) → (A → A → Type 0) → List A → List A → Type 0
+Adds {A} Is Before old new = (more : List A) × (new ≡ old ++ more) × Lists Is Before more
 
 -- a longest run of bytes at one level in the token of a live node
 pub record IsTokenRun (w : WorldState) (t : TokenRun) : Type 0 where
@@ -19,10 +31,19 @@ abbrev pub IsTokenBefore : TokenRun → TokenRun → Type 0
 IsTokenBefore a b = (a.node < b.node) ⊎ ((a.node ≡ b.node) × ((a.file < b.file) ⊎ ((a.file ≡ b.file) × (a.span.lo < b.span.lo))))
 
 -- each longest run of each live node's tokens once, in that order
-pub record IsTokenListing (w : WorldState) (tokens : List TokenRun) : Type 0 where
-  pub runs : All (IsTokenRun w) tokens
-  pub complete : (t : TokenRun) → IsTokenRun w t → Contains tokens t
-  pub rises : AllPairs IsTokenBefore tokens
+abbrev pub IsTokenListing : WorldState → List TokenRun → Type 0
+IsTokenListing w = Lists (IsTokenRun w) IsTokenBefore
+
+-- those of one node, and of one of its files
+abbrev pub IsTokenOf : WorldState → ℕ → TokenRun → Type 0
+IsTokenOf w node t = IsTokenRun w t × (t.node ≡ node)
+
+abbrev pub IsTokenOfFile : WorldState → ℕ → ℕ → TokenRun → Type 0
+IsTokenOfFile w node file t = IsTokenOf w node t × (t.file ≡ file)
+
+-- a run, with whose and of which file it is
+abbrev pub token_run : ℕ → ℕ → ℕ → Range × Level → TokenRun
+token_run node incarnation file r = record { node = node; incarnation = incarnation; file = file; span = r.0; level = r.1 }
 
 -- a region of the live nodes' locks together
 pub record IsHeld (w : WorldState) (h : HeldLock) : Type 0 where
@@ -34,7 +55,9 @@ abbrev pub IsHeldBefore : HeldLock → HeldLock → Type 0
 IsHeldBefore a b = (a.file < b.file) ⊎ ((a.file ≡ b.file) × IsBefore a.lock b.lock)
 
 -- each region of the live nodes' locks once, in that order
-pub record IsLockListing (w : WorldState) (locks : List HeldLock) : Type 0 where
-  pub held : All (IsHeld w) locks
-  pub complete : (h : HeldLock) → IsHeld w h → Contains locks h
-  pub rises : AllPairs IsHeldBefore locks
+abbrev pub IsLockListing : WorldState → List HeldLock → Type 0
+IsLockListing w = Lists (IsHeld w) IsHeldBefore
+
+-- a region, with its file
+abbrev pub held_lock : ℕ → LockInfo → HeldLock
+held_lock file lock = record { file = file; lock = lock }

@@ -5,6 +5,8 @@ pub mod held_lock;
 pub mod item;
 pub mod journal;
 pub mod laws;
+#[cfg(test)]
+mod listing_tests;
 pub mod sent;
 #[cfg(test)]
 mod tests;

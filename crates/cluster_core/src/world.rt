@@ -13,15 +13,12 @@ ghost use Rattle.token_server.specs.Parts.{server_state};
 ghost use Rattle.cluster_core.specs.World.{journal_limit, first_world};
 ghost use Rattle.cluster_core.specs.Next.{is_known, has_actor, after_node, after_server, taken, next};
 ghost use Rattle.cluster_core.specs.Parts.{world_state, IsStepOf, IsRest};
-ghost use Rattle.cluster_core.specs.Listings.{IsTokenListing, IsLockListing};
 ghost use Rattle.cluster_core.specs.Runs.{Leads};
 ghost use Rattle.node_core.specs.State.{first_node};
 ghost use Rattle.token_server.specs.State.{first_server};
 
-use crate::held_lock::HeldLock;
 use crate::journal::Journal;
 use crate::sent::Sent;
-use crate::token_run::TokenRun;
 use intervals::span_map::NoMemory as NoRoom;
 use messages::actor::Actor;
 use messages::entry::Entry;
@@ -37,6 +34,8 @@ use std::alloc::{AllocError, Global};
 use std::marker::Model;
 use token_server::event::ServerEvent;
 use token_server::server::Server;
+
+mod listings;
 
 /// The most entries of a journal.
 pub const JOURNAL_LIMIT: u32 = 1_048_576;
@@ -268,6 +267,13 @@ impl World {
         self.take(alloc, &event)
     }
 
+    /// Every message that was sent so far, in order of sending; equal messages stand there each.
+    pub fn sent(&self) -> &[Message]
+        ensures { result.now ≡ (world_state self.now).sent }
+    {
+        self.sent.as_slice()
+    }
+
     /// The world that the entries of the journal lead to.
     ///
     /// # Errors
@@ -275,33 +281,14 @@ impl World {
     pub fn after(alloc: Global, journal: &Journal) -> Result<World, NoRoom>
         ensures { IfOk result (λ world. Leads (first_world journal.now.shape) journal.now.entries (world_state world)) }
     {
-        let _ = alloc;
-        let _ = journal;
-        Err(AllocError)
-    }
-
-    /// The tokens of the live nodes, each longest run of bytes at one level once: by node, then by
-    /// file, then by first byte.
-    ///
-    /// # Errors
-    /// `NoMemory` where a request for memory was refused.
-    pub fn tokens(&self, alloc: Global) -> Result<Vec<TokenRun>, NoRoom>
-        ensures { IfOk result (λ tokens. IsTokenListing (world_state self.now) tokens.items) }
-    {
-        let _ = alloc;
-        Err(AllocError)
-    }
-
-    /// The locks of the live nodes together, each region once: by file, then by first byte, then by
-    /// owner.
-    ///
-    /// # Errors
-    /// `NoMemory` where a request for memory was refused.
-    pub fn locks(&self, alloc: Global) -> Result<Vec<HeldLock>, NoRoom>
-        ensures { IfOk result (λ locks. IsLockListing (world_state self.now) locks.items) }
-    {
-        let _ = alloc;
-        Err(AllocError)
+        let mut world = World::new(alloc, journal.shape())?;
+        for entry in journal.entries() {
+            match world.step(alloc, entry.event()) {
+                Ok(_) => {}
+                Err(_) => return Err(AllocError),
+            }
+        }
+        Ok(world)
     }
 }
 

@@ -4,3 +4,4 @@ pub mod FileRows
 pub mod SameRows
 pub mod BlockerLemmas
 pub mod ListingLemmas
+pub mod ListingParts

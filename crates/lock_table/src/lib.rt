@@ -4,7 +4,7 @@
 pub mod error;
 pub mod laws;
 pub mod lock_table;
-mod order;
+pub mod order;
 pub mod row;
 
 pub use model::lock_info::LockInfo;

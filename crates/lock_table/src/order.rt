@@ -6,8 +6,8 @@ ghost use Rattle.lock_table.specs.Listing.{lock_cmp};
 use model::lock_info::LockInfo;
 use std::cmp::Ordering;
 
-/// Where a region stands to the other.
-pub(crate) fn cmp_regions(a: &LockInfo, b: &LockInfo) -> Ordering
+/// Where a region stands to the other: by first byte, then by owner.
+pub fn cmp_regions(a: &LockInfo, b: &LockInfo) -> Ordering
     ensures { result ≡ lock_cmp a.now b.now }
 {
     a.span.lo.cmp(&b.span.lo).then(a.owner.cmp(&b.owner))

@@ -1,8 +1,10 @@
 //! What the lock table does, at values that were worked out by hand.
 use crate::error::LockError;
 use crate::lock_table::LockTable;
+use crate::order::cmp_regions;
 use crate::{Kind, LockInfo, Mode, Owner};
 use intervals::span::Span;
+use std::cmp::Ordering;
 use std::process::Abort;
 use std::test::Fail;
 
@@ -199,4 +201,14 @@ fn keeps_what_it_had(rt: HostRuntime) -> Result<(), Fail> {
     };
     assert_eq!(rt; count, 5);
     Ok(())
+}
+
+#[test]
+fn regions_stand_by_first_byte_and_then_by_owner(rt: HostRuntime) {
+    let low = region(SECOND, Mode::Read, Span { lo: 0, hi: 9 });
+    let first = region(FIRST, Mode::Write, Span { lo: 0, hi: 3 });
+    let high = region(FIRST, Mode::Read, Span { lo: 1, hi: 1 });
+    assert_eq!(rt; cmp_regions(&low, &high), Ordering::Less);
+    assert_eq!(rt; cmp_regions(&low, &first), Ordering::Greater);
+    assert_eq!(rt; cmp_regions(&low, &low), Ordering::Equal);
 }

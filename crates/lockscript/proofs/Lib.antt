@@ -1,4 +1,8 @@
 pub mod Feeds
+pub mod Passes
+pub mod Begun
+pub mod OneValue
+pub mod OneReading
 pub mod Outcomes
 pub mod Pairs
 pub mod SingleWords

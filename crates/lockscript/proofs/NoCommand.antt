@@ -1,5 +1,5 @@
 -- A line that begins as one command asks for no other, and for this one only with its operands.
-use Rattle.std.proofs.Common.{◌≡◌, ℕ, ◌<◌, ◌^◌, List, ◌++◌, Option, Some, None, Result, Ok, Err, refl, sym, ◌∙◌, ap, arith, codes, decimal}
+use Rattle.std.proofs.Common.{◌≡◌, ℕ, ◌<◌, ◌^◌, List, ◌++◌, Some, None, Result, Ok, Err, refl, sym, ◌∙◌, ap, arith, codes, decimal}
 use Rattle.std.specs.Prelude.{⊤, IfOk, IsOk, ◌↔◌}
 use Rattle.std.specs.Result.{result_ok}
 use Rattle.std.proofs.lemmas.Bool.{false≢true}
@@ -49,5 +49,5 @@ shape-made line rest nodes files policy (Ok shape) parts counts same served =
     rw same (record { nodes_in = within.0; files_in = within.1 }, parts ∙ ap (λ (r : List ℕ). codes "cluster nodes " ++ r) counts.1)
 shape-made line rest nodes files policy (Err error) parts counts same served = λ s fits e.
     let one = counts-same (nodes, (files, policy)) (counts_of s) (omega (arith, counts.0.0.1)) (omega (arith, counts.0.1.0.1)) (omega (arith, fits.nodes_in.1)) (omega (arith, fits.files_in.1))
-        (sym counts.1 ∙ cancel-front (codes "cluster nodes ") rest _ (sym parts ∙ e)) in
+    (sym counts.1 ∙ cancel-front (codes "cluster nodes ") rest _ (sym parts ∙ e)) in
     false≢true (served.1 (rw (one.0, one.1) (fits.nodes_in, fits.files_in)))

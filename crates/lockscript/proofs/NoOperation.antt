@@ -1,15 +1,13 @@
 -- A text that begins as one operation writes no other, and this one only with its operands.
-use Rattle.std.proofs.Common.{◌≡◌, ◌≢◌, ℕ, List, ◌∷◌, ◌++◌, Option, None, sym, ◌∙◌, arith, codes, decimal}
-use Rattle.std.specs.Prelude.{⊤, FitsSigned}
+use Rattle.std.proofs.Common.{◌≡◌, ℕ, List, ◌++◌, None, sym, ◌∙◌, arith, codes, decimal}
+use Rattle.std.specs.Prelude.{⊤}
 use Rattle.model.specs.Limits.{IsNumber}
-use Rattle.model.specs.declared.op.Op.{Op}
 use Rattle.model.specs.declared.op.Op.TheVariants.{Spawn, Open, Set, Unlock}
 use Rattle.messages.specs.Shapes.{most_files}
 use Rattle.lockscript.specs.Reads.{Reads, Both, pair_text}
 use Rattle.lockscript.specs.Served.{AreOffsets, IsDescriptor, IsServedAccess, IsServedKind, IsServedOp}
 use Rattle.lockscript.specs.Texts.{access_text, kind_text, mode_text, op_text, segment_text}
 use Rattle.lockscript.proofs.Pairs.{heads, tails, cancel-front}
-
 
 pub no_open : (text rest : List ℕ) → text ≡ codes "open " ++ rest
     → Reads (pair_text decimal access_text) (Both (IsNumber most_files) IsServedAccess) rest None → Reads op_text IsServedOp text None

@@ -1,12 +1,10 @@
 -- Texts that are one field.
-use Rattle.std.proofs.Common.{◌≡◌, ◌≢◌, ℕ, zero, suc, ◌+◌, ◌<◌, ◌≤◌, ◌^◌, ◌++◌, Option, Some, None, MatchOption, Bor, ℤ, pos, negsuc, Bool, true, false, not, List, [], ◌∷◌, length, get_or, refl, arith, eqb, decimal, codes, FitsSigned, w64}
+use Rattle.std.proofs.Common.{◌≡◌, ◌≢◌, ℕ, zero, suc, ◌<◌, ◌^◌, ◌++◌, Option, Some, None, MatchOption, Bor, ℤ, pos, negsuc, true, not, List, [], ◌∷◌, refl, arith, eqb, decimal, codes, FitsSigned, w64}
 use Rattle.std.specs.List.{list_all}
 use Rattle.std.specs.Fmt.{signed_decimal}
 use Rattle.std.proofs.lemmas.Fmt.{decimal_is_IsNumeral}
 use Rattle.std.proofs.lemmas.Str.Parse.{digit_at}
 use Rattle.std.proofs.lemmas.Str.Pattern.{IsSplitOnceResult, split_parts, split_after}
-use Rattle.model.specs.declared.access.Access.{Access}
-use Rattle.model.specs.declared.access.Access.TheVariants.{ReadOnly, WriteOnly, ReadWrite}
 use Rattle.model.specs.declared.mode.Mode.{Mode}
 use Rattle.model.specs.declared.mode.Mode.TheVariants.{Read, Write}
 use Rattle.model.specs.declared.owner.Kind.{Kind}

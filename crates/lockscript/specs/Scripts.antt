@@ -1,16 +1,16 @@
--- Lines of scripts.
-use Rattle.std.specs.Prelude.{ℕ, ◌+◌, ◌≤◌, List, ◌++◌, codes, decimal, ⊤}
+-- Scripts, and their lines.
+use Rattle.std.specs.Prelude.{◌≡◌, ◌≢◌, ℕ, ◌+◌, ◌⊎◌, false, List, [], ◌∷◌, ◌++◌, All, map, codes, decimal, ⊤}
 use Rattle.model.specs.Limits.{IsNumber, most_nodes, most_processes}
 use Rattle.lockscript.specs.declared.script_line.Command.{Command}
 use Rattle.lockscript.specs.declared.script_line.Command.TheVariants.{Call, Settle}
 use Rattle.lockscript.specs.declared.error.ParseError.{ParseError}
 use Rattle.lockscript.specs.declared.error.ParseError.TheVariants.{NoMemory, BadLine}
-use Rattle.messages.specs.Shapes.{ShapeFields}
+use Rattle.messages.specs.Shapes.{ShapeFields, IsShape}
 use Rattle.model.specs.declared.policy.Policy.{Policy}
 use Rattle.lockscript.specs.Reads.{after_text, pair_text}
 use Rattle.lockscript.specs.Texts.{op_text, policy_text}
 use Rattle.lockscript.specs.Served.{IsServedOp}
-use Rattle.lockscript.specs.LineFeeds.{line_feeds}
+use Rattle.lockscript.specs.LineFeeds.{line_feeds, is_skipped, BeginsWithLine, PassesLines}
 
 pub record LineFields : Type 0 where
   pub number : ℕ
@@ -32,11 +32,72 @@ abbrev pub IsCommand : Command → Type 0
 IsCommand (Call node pid op) = IsNumber most_nodes node × IsNumber most_processes pid × IsServedOp op
 IsCommand Settle = ⊤
 
+-- the greatest number of a line that listings can name, which has 32 bits
+abbrev pub greatest_line : ℕ
+greatest_line = 4294967295
+
 pub record IsLine (l : LineFields) : Type 0 where
-  pub counted : 1 ≤ l.number
+  pub counted : IsNumber greatest_line l.number
   pub within : IsCommand l.command
 
--- a bad line is one of the text, the last of which may be unfinished, or the one after them
-abbrev pub IsLineOf : List ℕ → ParseError → Type 0
-IsLineOf text NoMemory = ⊤
-IsLineOf text (BadLine line) = (1 ≤ line) × (line ≤ line_feeds text + 1)
+-- the shape of a cluster, and the lines to be run on it
+pub record ScriptFields : Type 0 where
+  pub shape : ShapeFields
+  pub lines : List LineFields
+
+-- a line of a script with its number, as it stands in the text
+abbrev pub line_text : LineFields → ℕ × List ℕ
+line_text l = (l.number, command_text l.command)
+
+-- the lines that are kept are the `cluster` line and then those of the script
+pub record Writes (kept : List (ℕ × List ℕ)) (s : ScriptFields) : Type 0 where
+  pub cluster_line : ℕ
+  pub texts : kept ≡ (cluster_line, shape_text s.shape) ∷ map line_text s.lines
+  pub shape_in : IsShape s.shape
+  pub lines_in : All IsLine s.lines
+
+-- the text is whole lines, and writes this script
+pub record IsScript (text : List ℕ) (s : ScriptFields) : Type 0 where
+  pub kept : List (ℕ × List ℕ)
+  pub passed : ℕ
+  pub whole : PassesLines text 0 kept [] passed
+  pub writes : Writes kept s
+
+-- lines that may be kept at the beginning of a script
+abbrev pub BeginsScript : List (ℕ × List ℕ) → Type 0
+BeginsScript kept = (kept ≡ []) ⊎ ((s : ScriptFields) × Writes kept s)
+
+-- the line names no cluster that is served
+abbrev pub IsNoShape : List ℕ → Type 0
+IsNoShape line = (s : ShapeFields) → IsShape s → line ≢ shape_text s
+
+-- the line asks for nothing that is served, or its number cannot be listed
+abbrev pub IsNoLine : ℕ → List ℕ → Type 0
+IsNoLine number line = (l : LineFields) → IsLine l → (number, line) ≢ line_text l
+
+-- the line may not stand behind those that are kept before it
+abbrev pub IsMisplaced : List (ℕ × List ℕ) → ℕ → List ℕ → Type 0
+IsMisplaced [] number line = IsNoShape line
+IsMisplaced (first ∷ more) number line = IsNoLine number line
+
+-- why the line of this number, with which the rest begins, is bad behind the lines that are kept: the text ends without a `cluster` line,
+-- the line has no line feed, or it is not skipped and may not stand there
+pub data IsBad (kept : List (ℕ × List ℕ)) (number : ℕ) (rest : List ℕ) : Type 0 where
+  has_no_cluster : kept ≡ [] → rest ≡ [] → IsBad kept number rest
+  has_no_end : rest ≢ [] → line_feeds rest ≡ 0 → IsBad kept number rest
+  stands_wrong : (line after : List ℕ) → BeginsWithLine rest line after → is_skipped line ≡ false → IsMisplaced kept number line → IsBad kept number rest
+
+-- the lines before this one are whole and begin a script, and it is bad behind them
+pub record IsFirstBad (text : List ℕ) (number : ℕ) : Type 0 where
+  pub kept : List (ℕ × List ℕ)
+  pub rest : List ℕ
+  pub passed : ℕ
+  pub before : PassesLines text 0 kept rest passed
+  pub counted : number ≡ passed + 1
+  pub good : BeginsScript kept
+  pub bad : IsBad kept number rest
+
+-- why the text is no script
+abbrev pub IsRefused : List ℕ → ParseError → Type 0
+IsRefused text NoMemory = ⊤
+IsRefused text (BadLine number) = IsFirstBad text number

@@ -5,6 +5,7 @@ mod columns;
 mod commands;
 pub mod error;
 mod fields;
+pub mod laws;
 mod lines;
 pub mod listing;
 mod number;

@@ -1,7 +1,7 @@
 //! The lines of a text, with their numbers.
-ghost use Rattle.std.specs.Prelude.{◌≡◌, ◌+◌, ◌≤◌, ◌<◌, ◌^◌, [], length, IfOk, IfErr, OnErr, MatchOption, IfSome};
+ghost use Rattle.std.specs.Prelude.{◌≡◌, ◌≢◌, ◌+◌, ◌<◌, ◌^◌, [], length, IfOk, IfErr, OnErr, MatchOption, IfSome};
 ghost use Rattle.lockscript.specs.declared.error.ParseError.TheVariants.{BadLine};
-ghost use Rattle.lockscript.specs.LineFeeds.{line_feeds, BeginsWithLine};
+ghost use Rattle.lockscript.specs.LineFeeds.{line_feeds, is_skipped, BeginsWithLine, FindsLine, PassesLines};
 
 use crate::error::ParseError;
 
@@ -47,7 +47,7 @@ impl<'a> Lines<'a> {
             ((self.old.rest.now ≡ []) × (self.new.rest.now ≡ self.old.rest.now) × (self.new.taken ≡ self.old.taken))
             (λ line. BeginsWithLine self.old.rest.now line.text.now self.new.rest.now
             × (line.number ≡ self.old.taken + 1) × (self.new.taken ≡ line.number))) }
-        ensures unfinished { IfErr result (λ error. (error ≡ BadLine (self.new.taken + 1)) × (line_feeds self.new.rest.now ≡ 0)) }
+        ensures unfinished { IfErr result (λ error. (error ≡ BadLine (self.new.taken + 1)) × (self.new.rest.now ≢ []) × (line_feeds self.new.rest.now ≡ 0)) }
         ensures err { OnErr result ((self.new.rest.now ≡ self.old.rest.now) × (self.new.taken ≡ self.old.taken)) }
     {
         if self.rest.is_empty() {
@@ -69,18 +69,28 @@ impl<'a> Lines<'a> {
     /// # Errors
     /// `BadLine` with its number where a line has no line feed.
     pub(crate) fn next_command(&mut self) -> Result<Option<NumberedLine<'a>>, ParseError>
-        ensures counted { self.new.taken + line_feeds self.new.rest.now ≡ self.old.taken + line_feeds self.old.rest.now }
-        ensures line { IfOk result (λ found. IfSome found (λ line.
-            (line.number ≡ self.new.taken) × (1 ≤ line.number) × (length self.new.rest.now < length self.old.rest.now))) }
-        ensures unfinished { IfErr result (λ error. error ≡ BadLine (self.new.taken + 1)) }
+        ensures line { IfOk result (λ found. MatchOption found
+            ((self.new.rest.now ≡ []) × PassesLines self.old.rest.now self.old.taken [] [] self.new.taken)
+            (λ line. (line.number ≡ self.new.taken) × FindsLine self.old.rest.now self.old.taken line.number line.text.now self.new.rest.now)) }
+        ensures shorter { IfOk result (λ found. IfSome found (λ line. length self.new.rest.now < length self.old.rest.now)) }
+        ensures unfinished { IfErr result (λ error. (error ≡ BadLine (self.new.taken + 1))
+            × PassesLines self.old.rest.now self.old.taken [] self.new.rest.now self.new.taken
+            × (self.new.rest.now ≢ []) × (line_feeds self.new.rest.now ≡ 0)) }
     {
         while let Some(line) = self.next_line()? {
-            if !line.text.is_empty() && !line.text.starts_with('#') {
+            if !is_skipped(line.text) {
                 return Ok(Some(line));
             }
         }
         Ok(None)
     }
+}
+
+// Whether the line says nothing: it is empty, or a comment.
+fn is_skipped(line: &str) -> bool
+    ensures { result ≡ is_skipped line.now }
+{
+    line.is_empty() || line.starts_with('#')
 }
 
 // The first line of a text, and what stands after its line feed.

@@ -1,7 +1,7 @@
 //! Scripts.
 ghost use Rattle.std.specs.Prelude.{◌≡◌, ◌≤◌, IfErr, IfOk};
 ghost use Rattle.lockscript.specs.declared.error.ParseError.TheVariants.{BadLine};
-ghost use Rattle.lockscript.specs.Scripts.{IsLineOf};
+ghost use Rattle.lockscript.specs.Scripts.{IsLine, IsNoLine, IsRefused, IsScript, line_text};
 
 use crate::commands::{command_of, shape_of};
 use crate::error::ParseError;
@@ -9,6 +9,7 @@ use crate::lines::{Lines, NumberedLine};
 use crate::script_line::ScriptLine;
 use messages::shape::Shape;
 use std::alloc::Global;
+use std::marker::Model;
 
 /// A script: the shape of a cluster, and the lines to be run on it, in order.
 #[derive(Drop)]
@@ -17,18 +18,28 @@ pub struct Script {
     lines: Vec<ScriptLine>,
 }
 
+impl Model for Script {
+    ghost use Rattle.lockscript.specs.Scripts.{ScriptFields};
+
+    ghost Value = { ScriptFields };
+
+    ghost view = { λ s. record { shape = s.shape; lines = s.lines.items } };
+}
+
 impl Script {
-    /// The script that the text writes. Each line ends with a line feed; empty lines and lines that
-    /// begin with `#` are skipped. The first other line is `cluster nodes N files F policy P`, and
-    /// none of the others is; they are `call N PID OP` and `settle`. Fields are separated by one
-    /// space.
+    /// The script that the text writes. Each line ends with a line feed, the last one too; empty lines
+    /// and lines that begin with `#` are skipped. The first other line is
+    /// `cluster nodes N files F policy P`, and none of the others is; they are `call N PID OP` and
+    /// `settle`, in lines up to number 4294967295. Fields are separated by one space, and numbers are
+    /// decimal, without leading zeros or a leading `+`.
     ///
     /// # Errors
     /// `BadLine` with the number of the first line that may not stand there, counted from 1, or with
     /// the number after the last where there is no `cluster` line; `NoMemory` where a request for
     /// memory was refused.
     pub fn parse(alloc: Global, text: &str) -> Result<Script, ParseError>
-        ensures bad_line { IfErr result (IsLineOf text.now) }
+        ensures script { IfOk result (IsScript text.now) }
+        ensures refused { IfErr result (IsRefused text.now) }
     {
         let mut source = Lines::new(text);
         let Some(first) = source.next_command()? else {
@@ -45,12 +56,16 @@ impl Script {
     }
 
     /// The cluster that it runs on.
-    pub fn shape(&self) -> Shape {
+    pub fn shape(&self) -> Shape
+        ensures { result ≡ self.now.shape }
+    {
         self.shape
     }
 
     /// Its lines but for the `cluster` line, in order.
-    pub fn lines(&self) -> &[ScriptLine] {
+    pub fn lines(&self) -> &[ScriptLine]
+        ensures { result.now ≡ self.now.lines }
+    {
         self.lines.as_slice()
     }
 }
@@ -58,8 +73,8 @@ impl Script {
 // The line as one of a script. Line numbers that are listed have 32 bits, so a line past them is bad.
 fn script_line(line: NumberedLine<'_>) -> Result<ScriptLine, ParseError>
     requires { 1 ≤ line.number }
-    ensures number { IfOk result (λ made. made.number ≡ line.entry.number) }
-    ensures bad_line { IfErr result (λ error. error ≡ BadLine line.entry.number) }
+    ensures made { IfOk result (λ made. IsLine made × ((line.entry.number, line.entry.text.now) ≡ line_text made)) }
+    ensures bad_line { IfErr result (λ error. (error ≡ BadLine line.entry.number) × IsNoLine line.entry.number line.entry.text.now) }
 {
     let bad = ParseError::BadLine(line.number);
     let command = command_of(line.text).ok_or(bad)?;

@@ -33,7 +33,8 @@ impl Model for ScriptLine {
 
 impl ScriptLine {
     ghost use Rattle.std.specs.Prelude.{◌≡◌, ◌≤◌};
-    ghost use Rattle.lockscript.specs.Scripts.{IsCommand};
+    ghost use Rattle.model.specs.Limits.{IsNumber};
+    ghost use Rattle.lockscript.specs.Scripts.{IsCommand, greatest_line};
 
     /// A line.
     pub(crate) fn new(number: u32, command: Command) -> ScriptLine
@@ -47,7 +48,7 @@ impl ScriptLine {
     /// Its number in the text, from 1.
     pub fn number(&self) -> u32
         ensures value { result ≡ self.now.number }
-        ensures counted { 1 ≤ result }
+        ensures counted { IsNumber greatest_line result }
     {
         self.number
     }

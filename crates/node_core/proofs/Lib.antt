@@ -1,3 +1,5 @@
 pub mod RowLaws
 pub mod FileLaws
+pub mod CallLaws
 pub mod NodeLaws
+pub mod ReaderLaws

@@ -44,7 +44,8 @@ use Rattle.node_core.specs.declared.open_call.OpenCall.{OpenCall}
 use Rattle.node_core.specs.State.{NodeState, first_file, first_node, process}
 use Rattle.node_core.specs.Rows.{processes, resolved, opened_or, fd_reply, Refuses}
 use Rattle.node_core.specs.Files.{file_state}
-use Rattle.node_core.specs.Parts.{NodeParts, node_state, table_of, IsOwn, IsSpan, IsOwnCall, IsNode, tabled}
+use Rattle.node_core.specs.Parts.{NodeParts, node_state, table_of, IsOwn, IsSpan, IsOwnCall, IsNode, IsNewNumber, tabled}
+use Rattle.node_core.proofs.CallLaws.{none-above}
 
 -- the node itself is its own
 own_host : (node incarnation : ℕ) → ((node == node) && (incarnation == incarnation)) ≡ true
@@ -100,7 +101,7 @@ find-own P test (c ∷ calls) all =
     elim (test c) as (λ b. IfSome (if b then Some c else find test calls) P) [ true ↦ All-head P c calls all | false ↦ find-own P test calls (All-tail P c calls all) ]
 
 pub node-calls : (p : NodeParts) (test : OpenCall → Bool) → IsNode p → IsNode (record p { pending = filter test p.pending })
-node-calls p test h = record { host = h.host; own = h.own; files_in = h.files_in; opened_in = h.opened_in; calls_in = All-filter test (IsOwnCall p.shape.files p.node p.incarnation) p.pending h.calls_in }
+node-calls p test h = record { host = h.host; own = h.own; files_in = h.files_in; opened_in = h.opened_in; calls_in = All-filter test (IsOwnCall p.shape.files p.node p.incarnation) p.pending h.calls_in; numbered = All-filter test (λ c. c.number ≤ p.calls) p.pending h.numbered }
 
 -- the owners that a node can have
 pub own_place : (node incarnation : ℕ) (o : Owner) → IsOwn node incarnation o → (k : ℕ) × (k < most_owners) × (o ≡ owner_at node incarnation k)
@@ -161,7 +162,7 @@ own-lock h node incarnation file owner s mode own within all f = record {
 pub node-lock : (p : NodeParts) (locks : List LockRow) (file : ℕ) (owner : Owner) (s : Range) (mode : Option Mode) → held locks ≡ with_lock (held p.locks) file owner s mode → IsOwn p.node p.incarnation owner → IsSpan s → IsNode p → IsNode (record p { locks = locks })
 node-lock p locks file owner s mode e own within h =
     let P : Locks → Type 0 = λ l. (f : ℕ) → IsOfNode (l f) p.node p.incarnation in
-    record { host = h.host; own = subst P (sym e) (own-lock (held p.locks) p.node p.incarnation file owner s mode own within.ends h.own); files_in = h.files_in; opened_in = h.opened_in; calls_in = h.calls_in }
+    record { host = h.host; own = subst P (sym e) (own-lock (held p.locks) p.node p.incarnation file owner s mode own within.ends h.own); files_in = h.files_in; opened_in = h.opened_in; calls_in = h.calls_in; numbered = h.numbered }
 
 -- bytes are locked within the regions that an owner may have
 pub lock-done : (p : NodeParts) (locks : List LockRow) (c : Target) (mode : Option Mode) → held locks ≡ with_lock (held p.locks) c.file c.owner c.span mode → regions (put (held p.locks c.file c.owner) c.span mode) ≤ 1024 → tabled (node_state p) (lock_within (node_state p).table c mode) ≡ (node_state (record p { locks = locks }), Done)
@@ -230,6 +231,7 @@ open-within p rows pid file fd access e within h = record {
   files_in = h.files_in;
   opened_in = opened-within (processes p.processes) (processes rows) pid file fd access (IsNumber p.shape.files) e within h.opened_in;
   calls_in = h.calls_in;
+  numbered = h.numbered;
 }
 
 -- a refusal leaves the processes as they were
@@ -282,6 +284,11 @@ target-file p pid fd opened (Err e) is h same = tt
 target-file p pid fd opened (Ok t) is h same =
     let within = is.opened_in pid fd opened (resolved_ok ((processes p.processes).runs pid) ((processes p.processes).opened pid fd) (record { node = 0; incarnation = 0; pid = pid }) None OfProcess (Err Invalid) opened h).0 in
     subst (λ n. IsNumber p.shape.files n) (sym same) within
+
+-- the number that a node gives out next is new
+pub new-number : (p : NodeParts) → IsNode p → IsNewNumber (node_state (record p { calls = p.calls + 1 })) (p.calls + 1)
+unfolding node_state
+new-number p h = record { given = omega arith; free = none-above p.calls p.pending h.numbered }
 
 -- two nodes in one state
 pub record IsSameState (p q : NodeParts) : Type 0 where

@@ -1,5 +1,5 @@
 -- What a node is made of, and the state that it is.
-use Rattle.std.specs.Prelude.{◌≡◌, ℕ, ◌≤◌, ◌<◌, Bool, ◌&&◌, ◌==◌, if◌then◌else◌, List, All, length, Option, Some}
+use Rattle.std.specs.Prelude.{◌≡◌, ℕ, ◌≤◌, ◌<◌, Bool, ◌&&◌, ◌==◌, if◌then◌else◌, List, All, length, Option, Some, None}
 use Rattle.intervals.specs.Bytes.{Range, greatest}
 use Rattle.model.specs.declared.access.Access.{Access}
 use Rattle.model.specs.declared.opened.Opened.{Opened}
@@ -20,7 +20,7 @@ use Rattle.node_core.specs.declared.open_call.OpenCall.{OpenCall}
 use Rattle.node_core.specs.declared.effect.Effect.{Effect as EffectFields}
 use Rattle.node_core.specs.Rows.{processes}
 use Rattle.node_core.specs.Files.{file_state}
-use Rattle.node_core.specs.State.{NodeState, Effect, process}
+use Rattle.node_core.specs.State.{NodeState, Effect, process, open_call}
 use Rattle.node_core.specs.Commands.{is_node}
 
 pub record NodeParts : Type 0 where
@@ -76,6 +76,7 @@ pub record IsNode (p : NodeParts) : Type 0 where
   pub files_in : length p.files ≡ p.shape.files
   pub opened_in : (pid fd : ℕ) (o : Opened) → (processes p.processes).opened pid fd ≡ Some o → IsNumber p.shape.files o.file
   pub calls_in : All (IsOwnCall p.shape.files p.node p.incarnation) p.pending
+  pub numbered : All (λ c. c.number ≤ p.calls) p.pending
 
 -- the effect of a step that leads to this state
 abbrev pub effect_of : NodeState → EffectFields → Effect
@@ -99,3 +100,8 @@ is_for s m = is_node s.node (addressee m) && is_within s.shape.files (file_of m)
 -- what each open call of the node keeps
 abbrev pub IsCallOf : NodeState → OpenCall → Type 0
 IsCallOf s c = IsOwnCall s.shape.files s.node s.incarnation c
+
+-- a number that the node has given out, and that no open call has
+pub record IsNewNumber (s : NodeState) (number : ℕ) : Type 0 where
+  pub given : number ≤ s.calls
+  pub free : open_call s number ≡ None

@@ -1,7 +1,6 @@
 //! A node: its processes, their locks and open calls, and its tokens.
 #![tactic(auto)]
 
-mod calls;
 pub mod descriptors;
 pub mod effect;
 pub mod event;
@@ -11,4 +10,5 @@ mod locks;
 pub mod node;
 mod numbers;
 pub mod open_call;
+mod open_calls;
 mod target;

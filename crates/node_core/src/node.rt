@@ -13,9 +13,8 @@ ghost use Rattle.node_core.specs.Calls.{is_pid, is_in_shape, lock_call, called, 
 ghost use Rattle.node_core.specs.Commands.{remembered, in_order, after_grant, granted, delivered, is_node, deliver_rule};
 ghost use Rattle.node_core.specs.Node.{node_rule};
 ghost use Rattle.node_core.specs.Files.{state_of};
-ghost use Rattle.node_core.specs.Parts.{node_state, effect_of, tabled, spawned, opened, is_for, IsOwn, IsSpan, IsCallOf};
+ghost use Rattle.node_core.specs.Parts.{node_state, effect_of, tabled, spawned, opened, is_for, IsOwn, IsSpan, IsCallOf, IsNewNumber};
 
-use crate::calls::{call_in, has_call, remove_call, same_calls};
 use crate::descriptors::processes::Processes;
 use crate::effect::Effect;
 use crate::event::NodeEvent;
@@ -24,6 +23,7 @@ use crate::files::{copy_files, file_of, new_files, same_files, take_grant};
 use crate::locks::{change_locks, lock_reply};
 use crate::numbers::{is_node, is_pid, is_within};
 use crate::open_call::OpenCall;
+use crate::open_calls::OpenCalls;
 use crate::target::target_at;
 use intervals::span::Span;
 use lock_table::lock_table::LockTable;
@@ -56,7 +56,7 @@ pub struct Node {
     calls: u32,
     processes: Processes,
     locks: LockTable,
-    pending: Vec<OpenCall>,
+    pending: OpenCalls,
     files: Vec<FileRow>,
 }
 
@@ -73,7 +73,7 @@ impl Model for Node {
       calls = n.calls;
       processes = n.processes;
       locks = n.locks;
-      pending = n.pending.items;
+      pending = n.pending;
       files = n.files.items;
     } };
 
@@ -84,7 +84,7 @@ impl Model for Node {
       calls = n.calls;
       processes = n.processes;
       locks = n.locks;
-      pending = n.pending.items;
+      pending = n.pending;
       files = n.files.items;
     }) };
 }
@@ -115,7 +115,7 @@ impl Node {
             calls: 0,
             processes: Processes::new(alloc),
             locks: LockTable::new(alloc),
-            pending: Vec::new(alloc),
+            pending: OpenCalls::new(alloc),
             files,
         })
     }
@@ -134,7 +134,7 @@ impl Node {
             calls: self.calls,
             processes: self.processes.copy()?,
             locks: self.locks.copy()?,
-            pending: Vec::from_slice(alloc, &self.pending)?,
+            pending: self.pending.copy()?,
             files: copy_files(alloc, &self.files)?,
         })
     }
@@ -179,7 +179,7 @@ impl Node {
     fn has_open_call(&self, pid: u16) -> bool
         ensures { result ≡ is_some (open_call_of (node_state self.now) pid) }
     {
-        has_call(&self.pending, pid)
+        self.pending.has_call_of(pid)
     }
 
     // The open call with that number.
@@ -188,7 +188,7 @@ impl Node {
         ensures value { result ≡ open_call (node_state self.now) number }
         ensures own { IfSome result (IsCallOf (node_state self.now)) }
     {
-        call_in(&self.pending, number)
+        self.pending.get(number)
     }
 
     // The call takes the next number.
@@ -197,6 +197,7 @@ impl Node {
         requires { (node_state self.old).calls < greatest_number }
         ensures state { node_state self.new ≡ record (node_state self.old) { calls = (node_state self.old).calls + 1 } }
         ensures number { result ≡ (node_state self.old).calls + 1 }
+        ensures new { IsNewNumber (node_state self.new) result }
     {
         self.calls += 1;
         self.calls
@@ -205,7 +206,8 @@ impl Node {
     // The call is open from now on.
     #[tactic(auto, unfolding(crate::specs::Parts::node_state))]
     fn keep_call(&mut self, call: OpenCall) -> Result<(), AllocError>
-        requires { IsCallOf (node_state self.old) call }
+        requires own { IsCallOf (node_state self.old) call }
+        requires new { IsNewNumber (node_state self.old) call.number }
         ensures { OnOk result (node_state self.new ≡ record (node_state self.old) { pending = (node_state self.old).pending ++ call ∷ [] }) }
     {
         self.pending.push(call)?;
@@ -217,7 +219,7 @@ impl Node {
     fn close_call(&mut self, number: u32)
         ensures { node_state self.new ≡ without_call (node_state self.old) number }
     {
-        remove_call(&mut self.pending, number);
+        self.pending.remove(number);
     }
 
     // The call is answered and open no longer.
@@ -399,6 +401,7 @@ impl Node {
         target: Result<LockCall, Reply>,
     ) -> Result<Effect, AllocError>
         requires number { 1 ≤ number }
+        requires new { IsNewNumber (node_state self.old) number }
         requires own { IfOk target (λ t. IsOwn (node_state self.old).node (node_state self.old).incarnation t.owner) }
         requires file { IfOk target (λ t. IsNumber (node_state self.old).shape.files t.file) }
         requires span { IfOk target (λ t. IsSpan t.span) }
@@ -479,6 +482,7 @@ impl Node {
     // The call with that number: all but a set are answered in the same step.
     fn call(&mut self, alloc: Global, number: u32, pid: u16, op: &Op) -> Result<Effect, AllocError>
         requires number { 1 ≤ number }
+        requires new { IsNewNumber (node_state self.old) number }
         requires pid { IsNumber most_processes pid }
         requires file { is_in_shape (node_state self.old).shape op.now ≡ true }
         ensures { IfOk result (λ effect. called (node_state self.old) number pid op.now ≡ effect_of (node_state self.new) effect) }
@@ -708,7 +712,7 @@ impl Node {
         if self.calls != other.calls {
             return false;
         }
-        if !same_calls(&self.pending, &other.pending) {
+        if !self.pending.same(&other.pending) {
             return false;
         }
         if !self.processes.same(&other.processes) {
@@ -721,5 +725,6 @@ impl Node {
     }
 }
 
+mod readers;
 #[cfg(test)]
 mod tests;

@@ -1,1 +1,8 @@
 pub mod Statuses
+pub mod Faults
+pub mod Progress
+pub mod Played
+pub mod Laws
+pub mod Parts
+pub mod Words
+pub mod Commands

@@ -1,9 +1,10 @@
 //! Why a command was not done.
 ghost use Rattle.std.specs.Prelude.{◌≡◌};
+ghost use Rattle.replay.specs.declared.fault.Fault.TheVariants.{NoMemory};
+ghost use Rattle.replay.specs.Faults.{fault_of_parse, fault_of_play};
 ghost use Rattle.replay.specs.Statuses.{status_of};
 
 use crate::play::PlayError;
-use crate::store::StoreError;
 use lockscript::error::ParseError;
 use std::alloc::{AllocError, AllocFailed};
 use thiserror::Error;
@@ -42,18 +43,24 @@ impl Fault<'_> {
 }
 
 impl From<AllocError> for Fault<'_> {
+    ghost from_gives = { λ error made. made ≡ NoMemory };
+
     fn from(_error: AllocError) -> Self {
         Fault::NoMemory
     }
 }
 
 impl<T: Drop> From<AllocFailed<T>> for Fault<'_> {
+    ghost from_gives = { λ error made. made ≡ NoMemory };
+
     fn from(_error: AllocFailed<T>) -> Self {
         Fault::NoMemory
     }
 }
 
 impl From<ParseError> for Fault<'_> {
+    ghost from_gives = { λ error made. made ≡ fault_of_parse error };
+
     fn from(error: ParseError) -> Self {
         match error {
             ParseError::NoMemory => Fault::NoMemory,
@@ -63,20 +70,12 @@ impl From<ParseError> for Fault<'_> {
 }
 
 impl From<PlayError> for Fault<'_> {
+    ghost from_gives = { λ error made. made ≡ fault_of_play error };
+
     fn from(error: PlayError) -> Self {
         match error {
             PlayError::NoMemory => Fault::NoMemory,
             PlayError::JournalFull => Fault::JournalFull,
-        }
-    }
-}
-
-impl<'a> Fault<'a> {
-    /// Why the file of this path was not read.
-    pub fn of_reading(path: &'a str, error: StoreError) -> Fault<'a> {
-        match error {
-            StoreError::NoMemory => Fault::NoMemory,
-            StoreError::Failed => Fault::CannotRead(path),
         }
     }
 }

@@ -3,6 +3,7 @@
 
 pub mod disk;
 pub mod fault;
+pub mod laws;
 pub mod line;
 pub mod perform;
 pub mod play;

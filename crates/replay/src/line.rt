@@ -1,6 +1,10 @@
 //! The command line.
+ghost use Rattle.std.specs.Prelude.{◌≡◌, ℕ, List, codes, option_map, IfOk};
+ghost use Rattle.clap.specs.Words.{app_of, subcommand_rows_of};
+ghost use Rattle.replay.specs.Words.{program_app, value_in};
+
 use clap::error::ErrorKind;
-use clap::{Arg, Command, Error};
+use clap::{Arg, ArgMatches, Command, Error};
 use std::alloc::{AllocError, Global};
 use std::convert::AsStr;
 
@@ -31,24 +35,45 @@ The listing has five sections: the refused lines, the replies, the tokens, the
 locks, and one history of all calls in one table.";
 
 impl<'a> Line<'a> {
+    ghost use Rattle.std.specs.Prelude.{◌≡◌, ℕ, List, map, MatchResult};
+    ghost use Rattle.clap.specs.Words.{kind_of};
+    ghost use Rattle.replay.specs.Commands.{path_of};
+    ghost use Rattle.replay.specs.Words.{AsksToRun};
+
     /// What the words ask for, the first of them being the program's name.
     ///
     /// # Errors
     /// The text to be shown in its place, with its exit status: what is wrong with the words, or the
     /// help that they ask for.
-    pub fn read<S: AsStr>(alloc: Global, words: &'a [S]) -> Result<Line<'a>, Error> {
+    pub fn read<S: AsStr>(alloc: Global, words: &'a [S]) -> Result<Line<'a>, Error>
+        // `PROGRAM run SCRIPT` is read as that, while there is memory.
+        ensures { (path : List ℕ) → AsksToRun (map S.text words.entry.now) path
+            → MatchResult result (λ line. path_of line ≡ path) (λ error. kind_of error ≡ ErrorKind.OutOfMemory) }
+    {
         let mut command = program(alloc)?;
         let matches = command.try_get_matches_from_mut(words)?;
-        if let Some(("run", run)) = matches.subcommand() {
-            if let Some(script) = run.get_str("SCRIPT") {
-                return Ok(Line::Run { script });
-            }
+        match script_in(&matches) {
+            Some(script) => Ok(Line::Run { script }),
+            None => Err(command.error(ErrorKind::MissingSubcommand, "no command is given")?),
         }
-        Err(command.error(ErrorKind::MissingSubcommand, "no command is given")?)
     }
 }
 
-fn program<'a>(alloc: Global) -> Result<Command<'a>, AllocError> {
+// The script that is to be run.
+fn script_in<'a>(matches: &ArgMatches<'a>) -> Option<&'a str>
+    ensures { (path : List ℕ) → value_in (subcommand_rows_of matches.now) ≡ Some (codes "run", Some path)
+        → option_map (λ script. script.now) result ≡ Some path }
+{
+    let (name, run) = matches.subcommand()?;
+    if name != "run" {
+        return None;
+    }
+    run.get_str("SCRIPT")
+}
+
+fn program<'a>(alloc: Global) -> Result<Command<'a>, AllocError>
+    ensures { IfOk result (λ command. app_of command ≡ program_app) }
+{
     let script = Arg::new(alloc, "SCRIPT")
         .required(true)
         .help("The script: lines of lock calls");

@@ -1,7 +1,15 @@
 //! Running scripts.
+ghost use Rattle.std.specs.Prelude.{◌≡◌, IfErr, IfOk};
+ghost use Rattle.cluster_core.specs.Histories.{HasOneHistory};
+ghost use Rattle.replay.specs.declared.play.PlayError.TheVariants.{NoMemory, JournalFull};
+ghost use Rattle.replay.specs.Parts.{state_of};
+ghost use Rattle.replay.specs.Played.{ComesTo, FillsJournal};
+
 use crate::played::Played;
 use crate::player::Player;
 use lockscript::script::Script;
+use lockscript::script_line::ScriptLine;
+use messages::shape::Shape;
 use std::alloc::{AllocError, AllocFailed, Global};
 use thiserror::Error;
 
@@ -17,12 +25,16 @@ pub enum PlayError {
 }
 
 impl From<AllocError> for PlayError {
+    ghost from_gives = { λ error made. made ≡ NoMemory };
+
     fn from(_error: AllocError) -> PlayError {
         PlayError::NoMemory
     }
 }
 
 impl<T: Drop> From<AllocFailed<T>> for PlayError {
+    ghost from_gives = { λ error made. made ≡ NoMemory };
+
     fn from(_error: AllocFailed<T>) -> PlayError {
         PlayError::NoMemory
     }
@@ -34,10 +46,28 @@ impl<T: Drop> From<AllocFailed<T>> for PlayError {
 /// # Errors
 /// `JournalFull` where the run needs more entries than a journal may have; `NoMemory` where a
 /// request for memory was refused.
-pub fn play(alloc: Global, script: &Script) -> Result<Played, PlayError> {
-    let mut player = Player::new(alloc, script.shape())?;
-    for line in script.lines() {
+pub fn play(alloc: Global, script: &Script) -> Result<Played, PlayError>
+    // It is what the lines come to, one after the other.
+    ensures played { IfOk result (λ played. ComesTo script.now.shape script.now.lines (state_of played)) }
+
+    // One table explains every reply, and ends as what the nodes hold.
+    ensures history { IfOk result (λ played. HasOneHistory script.now.shape played.journal.entries) }
+
+    // Else some line needs an entry for which there is no room.
+    ensures full { IfErr result (λ error. error ≡ JournalFull → FillsJournal script.now.shape script.now.lines) }
+{
+    play_lines(alloc, script.shape(), script.lines())
+}
+
+// Runs the lines in order on a cluster of this shape that begins.
+fn play_lines(alloc: Global, shape: Shape, lines: &[ScriptLine]) -> Result<Played, PlayError>
+    ensures played { IfOk result (λ played. ComesTo shape lines.now (state_of played)) }
+    ensures history { IfOk result (λ played. HasOneHistory shape played.journal.entries) }
+    ensures full { IfErr result (λ error. error ≡ JournalFull → FillsJournal shape lines.now) }
+{
+    let mut player = Player::new(alloc, shape)?;
+    for line in lines {
         player.take(alloc, line)?;
     }
-    player.finish(alloc)
+    player.finish(alloc, shape)
 }

@@ -1,9 +1,15 @@
 //! What came of a script.
+ghost use Rattle.std.specs.Prelude.{◌≡◌};
+ghost use Rattle.cluster_core.specs.Parts.{world_state};
+ghost use Rattle.cluster_core.specs.Runs.{Leads};
+ghost use Rattle.cluster_core.specs.World.{first_world};
+
 use cluster_core::journal::Journal;
 use cluster_core::world::World;
+use std::marker::Model;
 
-/// What came of a script: the journal of its run, the world at its end, and the lines that were
-/// refused, each by its number with the number of the refusal, in order.
+/// What came of a script: the journal of its run, the world to which its entries lead, and the lines
+/// that were refused, each by its number, from 1, with the number of the refusal, in order.
 #[derive(Drop)]
 pub struct Played {
     journal: Journal,
@@ -11,8 +17,24 @@ pub struct Played {
     refused: Vec<(u32, u16)>,
 }
 
+impl Model for Played {
+    ghost use Rattle.cluster_core.specs.Parts.{world_state};
+    ghost use Rattle.cluster_core.specs.Runs.{Leads};
+    ghost use Rattle.cluster_core.specs.World.{first_world};
+    ghost use Rattle.replay.specs.Parts.{PlayedParts};
+
+    ghost Value = { PlayedParts };
+
+    ghost view = { λ p. record { journal = p.journal; world = p.world; refused = p.refused.items } };
+
+    ghost invariant = { λ p. Leads (first_world p.journal.shape) p.journal.entries (world_state p.world) };
+}
+
 impl Played {
-    pub(crate) fn new(journal: Journal, world: World, refused: Vec<(u32, u16)>) -> Played {
+    pub(crate) fn new(journal: Journal, world: World, refused: Vec<(u32, u16)>) -> Played
+        requires { Leads (first_world journal.shape) journal.entries (world_state world) }
+        ensures { result ≡ record { journal = journal; world = world; refused = refused.items } }
+    {
         Played {
             journal,
             world,
@@ -20,15 +42,25 @@ impl Played {
         }
     }
 
-    pub fn journal(&self) -> &Journal {
+    /// What happened, entry by entry.
+    pub fn journal(&self) -> &Journal
+        ensures { result.now ≡ self.now.journal }
+    {
         &self.journal
     }
 
-    pub fn world(&self) -> &World {
+    /// The world at the end.
+    pub fn world(&self) -> &World
+        ensures value { result.now ≡ self.now.world }
+        ensures leads { Leads (first_world self.now.journal.shape) self.now.journal.entries (world_state self.now.world) }
+    {
         &self.world
     }
 
-    pub fn refused(&self) -> &[(u32, u16)] {
+    /// The lines that were refused, each by its number, from 1, with the number of the refusal.
+    pub fn refused(&self) -> &[(u32, u16)]
+        ensures { result.now ≡ self.now.refused }
+    {
         self.refused.as_slice()
     }
 }

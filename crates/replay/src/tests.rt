@@ -1,5 +1,9 @@
+use crate::fault::Fault;
+use crate::line::Line;
+use crate::play::play;
 use crate::respond::respond;
 use crate::store::{Store, StoreError};
+use lockscript::script::Script;
 use std::alloc::Global;
 use std::io;
 use std::io::Write;
@@ -152,6 +156,32 @@ tokens
 locks
 history
 ";
+
+#[test]
+fn reads_a_command_line(rt: HostRuntime) {
+    let Ok(line) = Line::read(rt.alloc(), RUN.as_slice()) else {
+        panic!(rt; "the words are a command and a path");
+    };
+    assert_eq!(rt; line, Line::Run { script: PATH });
+}
+
+#[test]
+fn plays_a_script(rt: HostRuntime) -> Result<(), Fail> {
+    let alloc = rt.alloc();
+    let script = Script::parse(alloc, str::from_utf8(TWO)?)?;
+    let played = play(alloc, &script)?;
+    assert_eq!(rt; played.journal().entries().len(), 10);
+    assert_eq!(rt; played.world().sent().len(), 3);
+    assert_eq!(rt; played.refused(), [(7, 13)].as_slice());
+    Ok(())
+}
+
+#[test]
+fn tells_faults_apart(rt: HostRuntime) {
+    assert_eq!(rt; Fault::BadLine(7).status(), 3);
+    assert_eq!(rt; Fault::CannotRead(PATH).status(), 3);
+    assert_eq!(rt; Fault::JournalFull.status(), 4);
+}
 
 #[test]
 fn prints_listings(rt: HostRuntime) -> Result<(), Fail> {

@@ -1,3 +1,4 @@
 pub mod SearchLaws
 pub mod AroundLaws
 pub mod TokenLaws
+pub mod RunLaws

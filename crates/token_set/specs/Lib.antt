@@ -1,2 +1,3 @@
 pub mod Tokens
 pub mod Sets
+pub mod Runs

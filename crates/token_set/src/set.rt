@@ -3,8 +3,9 @@ ghost use Rattle.std.specs.Prelude.{◌≡◌, ◌≤◌, true, Some, IfOk, OnOk
 ghost use Rattle.intervals.specs.Bytes.{IsLargest, NoneIn, largest_around};
 ghost use Rattle.token_set.specs.Tokens.{no_token, covers, raised, conflicts, level_conflicts, holds_nothing};
 ghost use Rattle.token_set.specs.Sets.{token_of, bar_of, HasLevels, IsFirstExclusive};
+ghost use Rattle.token_set.specs.Runs.{NothingFrom, IsNextRun, ListsRuns};
 
-use intervals::span::Span;
+use intervals::span::{GREATEST, Span};
 use intervals::span_map::{NoMemory, SpanMap};
 use intervals::vec_map::VecMap;
 use model::level::Level;
@@ -86,6 +87,21 @@ fn has_levels(levels: &Levels, span: Span) -> bool
     false
 }
 
+// The longest run of one level with the lowest byte from `from` on that has any.
+fn run_from(levels: &Levels, from: u64) -> Option<(Span, Level)>
+    ensures { MatchOption result (NothingFrom (token_of levels.now) from) (λ run. IsNextRun (token_of levels.now) from run.0 run.1) }
+{
+    if levels.is_empty() || from > GREATEST {
+        return None;
+    }
+    let rest = Span {
+        lo: from,
+        hi: GREATEST,
+    };
+    let byte = levels.first_where(rest, None)?;
+    levels.run_at(byte)
+}
+
 impl TokenSet {
     /// The token that has no byte.
     pub fn new(alloc: Global) -> Self
@@ -151,6 +167,23 @@ impl TokenSet {
         self.levels.largest_around(required, within, bar_of(mode))
     }
 
+    /// The longest runs of bytes at one level, each with its level, by first byte.
+    ///
+    /// # Errors
+    /// `NoMemory` where a request for memory was refused.
+    pub fn runs(&self, alloc: Global) -> Result<Vec<(Span, Level)>, NoMemory>
+        ensures { IfOk result (λ runs. ListsRuns (token_of self.now) runs.items) }
+    {
+        let mut runs = Vec::new(alloc);
+        let mut from = 0;
+        while let Some(next) = run_from(&self.levels, from) {
+            let span = next.0;
+            runs.push(next)?;
+            from = span.hi + 1;
+        }
+        Ok(runs)
+    }
+
     /// An equal token set.
     ///
     /// # Errors
@@ -174,7 +207,6 @@ impl TokenSet {
 #[cfg(test)]
 mod tests {
     use super::*;
-    use intervals::span::GREATEST;
     use std::test::Fail;
 
     #[test]
@@ -264,6 +296,20 @@ mod tests {
         assert_eq!(rt; (write.lo, write.hi), (20, 39));
         let close = token.free_around(required, Span { lo: 22, hi: 30 }, Mode::Write);
         assert_eq!(rt; (close.lo, close.hi), (22, 30));
+        Ok(())
+    }
+
+    #[test]
+    fn runs_are_as_long_as_can_be(rt: HostRuntime) -> Result<(), Fail> {
+        let mut token = TokenSet::new(rt.alloc());
+        token.grant(Span { lo: 0, hi: 29 }, Mode::Read)?;
+        token.grant(Span { lo: 10, hi: 14 }, Mode::Write)?;
+        token.grant(Span { lo: 15, hi: 19 }, Mode::Write)?;
+        let runs = token.runs(rt.alloc())?;
+        let low = (Span { lo: 0, hi: 9 }, Level::Shared);
+        let middle = (Span { lo: 10, hi: 19 }, Level::Exclusive);
+        let high = (Span { lo: 20, hi: 29 }, Level::Shared);
+        assert!(rt; runs.as_slice() == [low, middle, high].as_slice());
         Ok(())
     }
 

@@ -18,53 +18,40 @@ call 1 1 set 255 proc read -1 -9223372036854775808
 call 1 1 unlock 0 proc 9223372036854775807 0
 ";
 
+const OPEN: Op = Op::Open {
+    file: 256,
+    access: Access::ReadWrite,
+};
+
+const SET: Op = Op::Set {
+    fd: 255,
+    kind: Kind::OfProcess,
+    mode: Mode::Read,
+    start: -1,
+    len: i64::MIN,
+};
+
+const UNLOCK: Op = Op::Unlock {
+    fd: 0,
+    kind: Kind::OfProcess,
+    start: i64::MAX,
+    len: 0,
+};
+
+fn call(node: u8, pid: u16, op: Op) -> Command {
+    Command::Call { node, pid, op }
+}
+
 #[test]
 fn has_its_lines(rt: HostRuntime) -> Result<(), Fail> {
     let script = Script::parse(rt.alloc(), SCRIPT)?;
-    assert_eq!(rt; script.shape().nodes(), 1);
-    assert_eq!(rt; script.shape().files(), 2);
-    assert_eq!(rt; script.shape().policy(), Policy::Exact);
+    assert_eq!(rt; script.shape(), Shape::new(1, 2, Policy::Exact)?);
     let want = [
         (4, call(1, 1, Op::Spawn)),
-        (
-            5,
-            call(
-                64,
-                256,
-                Op::Open {
-                    file: 256,
-                    access: Access::ReadWrite,
-                },
-            ),
-        ),
+        (5, call(64, 256, OPEN)),
         (7, Command::Settle),
-        (
-            8,
-            call(
-                1,
-                1,
-                Op::Set {
-                    fd: 255,
-                    kind: Kind::OfProcess,
-                    mode: Mode::Read,
-                    start: -1,
-                    len: i64::MIN,
-                },
-            ),
-        ),
-        (
-            9,
-            call(
-                1,
-                1,
-                Op::Unlock {
-                    fd: 0,
-                    kind: Kind::OfProcess,
-                    start: i64::MAX,
-                    len: 0,
-                },
-            ),
-        ),
+        (8, call(1, 1, SET)),
+        (9, call(1, 1, UNLOCK)),
     ];
     assert_eq!(rt; script.lines().len(), want.len());
     for (line, (number, command)) in script.lines().iter().zip(want.iter()) {
@@ -74,12 +61,8 @@ fn has_its_lines(rt: HostRuntime) -> Result<(), Fail> {
     Ok(())
 }
 
-fn call(node: u8, pid: u16, op: Op) -> Command {
-    Command::Call { node, pid, op }
-}
-
 // What may not stand in line 2.
-const BAD_SECOND_LINES: [&str; 38] = [
+const BAD_SECOND_LINES: [&str; 49] = [
     "cluster nodes 1 files 1 policy wide",
     "Settle",
     "settle ",
@@ -94,6 +77,12 @@ const BAD_SECOND_LINES: [&str; 38] = [
     "call 65 1 spawn",
     "call 1 0 spawn",
     "call 1 257 spawn",
+    "call 1 300 spawn",
+    "call 1 01 spawn",
+    "call 1 +1 spawn",
+    "call\t1 1 spawn",
+    "call 1 1\tspawn",
+    "call 1 1 Spawn",
     "call 01 1 spawn",
     "call +1 1 spawn",
     "call -1 1 spawn",
@@ -117,11 +106,16 @@ const BAD_SECOND_LINES: [&str; 38] = [
     "call 1 1 unlock 0 proc write 0 1",
     "call 1 1 unlock 0 desc 0 1",
     "call 1 1 fork 2",
+    "call 1 1 dup 0",
+    "call 1 1 close 0",
+    "call 1 1 exit",
+    "call 1 1 wait 0 proc write 0 1",
+    "call 1 1 query 0 proc write 0 1",
     "deliver 1",
 ];
 
 #[test]
-fn refuses_lines(rt: HostRuntime) -> Result<(), Fail> {
+fn refuses_second_lines(rt: HostRuntime) -> Result<(), Fail> {
     let alloc = rt.alloc();
     for line in BAD_SECOND_LINES {
         let text = format!(in alloc; "cluster nodes 1 files 1 policy wide\n{line}\nsettle\n")?;
@@ -131,25 +125,53 @@ fn refuses_lines(rt: HostRuntime) -> Result<(), Fail> {
     Ok(())
 }
 
+// What may not stand in line 1.
+const BAD_FIRST_LINES: [&str; 17] = [
+    "settle",
+    "Cluster nodes 1 files 1 policy wide",
+    "cluster",
+    "cluster nodes 0 files 1 policy wide",
+    "cluster nodes 2 files 1 policy wide",
+    "cluster nodes 01 files 1 policy wide",
+    "cluster nodes +1 files 1 policy wide",
+    "cluster nodes 1 files 0 policy wide",
+    "cluster nodes 1 files 257 policy wide",
+    "cluster nodes 1 files 1 policy narrow",
+    "cluster nodes 1 files 1 policy wide wide",
+    "cluster nodes 1 files 1 policy wide ",
+    "cluster  nodes 1 files 1 policy wide",
+    "cluster nodes 1\tfiles 1 policy wide",
+    "cluster nodes 1 files 1 policy wide\r",
+    "cluster files 1 nodes 1 policy wide",
+    "cluster nodes 1 files 1",
+];
+
 #[test]
-fn refuses_texts(rt: HostRuntime) -> Result<(), Fail> {
+fn refuses_first_lines(rt: HostRuntime) -> Result<(), Fail> {
+    let alloc = rt.alloc();
+    for line in BAD_FIRST_LINES {
+        let text = format!(in alloc; "{line}\nsettle\n")?;
+        let refusal = Script::parse(alloc, text.as_str()).err();
+        assert_eq!(rt; refusal, Some(ParseError::BadLine(1)), "{line}");
+    }
+    Ok(())
+}
+
+#[test]
+fn tells_the_first_bad_line(rt: HostRuntime) -> Result<(), Fail> {
     let cases = [
         ("", 1),
         ("\n", 2),
-        ("# none\n\n", 3),
+        ("# none\n\n# at all\n", 4),
         ("# unfinished", 1),
         ("\n# unfinished", 2),
         ("cluster nodes 1 files 1 policy wide", 1),
         ("cluster nodes 1 files 1 policy wide\nsettle", 2),
         ("settle\ncluster nodes 1 files 1 policy wide\n", 1),
-        ("cluster nodes 1 files 1 policy wide\r\n", 1),
-        ("cluster nodes 0 files 1 policy wide\n", 1),
-        ("cluster nodes 2 files 1 policy wide\n", 1),
-        ("cluster nodes 1 files 0 policy wide\n", 1),
-        ("cluster nodes 1 files 257 policy wide\n", 1),
-        ("cluster nodes 1 files 1 policy narrow\n", 1),
-        ("cluster nodes 1 files 1 policy wide wide\n", 1),
-        ("cluster nodes 1 files 1\n", 1),
+        (
+            "\n#\ncluster nodes 1 files 1 policy wide\n\nsettle \nunfinished",
+            5,
+        ),
     ];
     for (text, line) in cases {
         let refusal = Script::parse(rt.alloc(), text).err();

@@ -1,4 +1,3 @@
-use Rattle.lockscript.specs.Layout.{space}
 use Rattle.lockscript.proofs.SingleWords.{split-first_field}
 use Rattle.lockscript.proofs.fields.split_field.Goals as goal
 

@@ -1,10 +1,10 @@
-use Rattle.std.proofs.Common.{◌≡◌, ◌+◌, ◌≤◌, length}
-use Rattle.lockscript.specs.LineFeeds.{line_feeds}
+use Rattle.std.proofs.Common.{◌≤◌, [], length}
+use Rattle.lockscript.specs.LineFeeds.{PassesLines}
 use Rattle.lockscript.proofs.lines.Lines.next_command.Given as goal
 
 abbrev pub invariant-loop-line : goal.invariant-loop-line
 invariant-loop-line l = record {
-  counted : l.self.taken + line_feeds l.self.rest.now ≡ l.initial.self.taken + line_feeds l.initial.self.rest.now;
+  passes : PassesLines l.initial.self.rest.now l.initial.self.taken [] l.self.rest.now l.self.taken;
   shrinks : length l.self.rest.now ≤ length l.initial.self.rest.now;
 }
 

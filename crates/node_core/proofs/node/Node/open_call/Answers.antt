@@ -9,4 +9,4 @@ pub returns-clause-own : goal.returns-clause-own
 unfolding node_state
 returns-clause-own c =
     let P : Option OpenCall → Type 0 = λ o. IfSome o (IsCallOf (node_state c.args.self.now)) in
-    subst P (sym c.call_in.ensures) (rw (← c.self.view_is, c.deref.ensures.value) (find-own _ _ c.self.inside.pending.items c.self.invariant.calls_in))
+    subst P (sym c.get.ensures) (rw (← c.self.view_is) (find-own _ _ c.self.inside.pending c.self.invariant.calls_in))

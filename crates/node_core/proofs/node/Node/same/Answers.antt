@@ -16,28 +16,28 @@ returns-then-self-other-2 c = rw (← c.self.view_is, ← c.other.view_is) (λ h
 pub returns-then-self-other-3 : goal.returns-then-self-other-3
 returns-then-self-other-3 c = rw (← c.self.view_is, ← c.other.view_is) (λ h. absurd (false≢true h), λ e. absurd (c.if-self-other-3.true (state-same _ _ e).calls))
 
-pub returns-then-not-same_calls : goal.returns-then-not-same_calls
-returns-then-not-same_calls c = rw (← c.self.view_is, ← c.other.view_is) (λ h. absurd (false≢true h), λ e. absurd (iff_false c.same_calls.ensures c.if-not-same_calls.true (c.deref.ensures.value ∙ (state-same _ _ e).pending ∙ sym c.deref-2.ensures.value)))
-
 pub returns-then-not-same : goal.returns-then-not-same
-returns-then-not-same c = rw (← c.self.view_is, ← c.other.view_is) (λ h. absurd (false≢true h), λ e. absurd (iff_false c.same.ensures c.if-not-same.true (state-same _ _ e).processes))
+returns-then-not-same c = rw (← c.self.view_is, ← c.other.view_is) (λ h. absurd (false≢true h), λ e. absurd (iff_false c.same.ensures c.if-not-same.true (state-same _ _ e).pending))
 
 pub returns-then-not-same-2 : goal.returns-then-not-same-2
-returns-then-not-same-2 c = rw (← c.self.view_is, ← c.other.view_is) (λ h. absurd (false≢true h), λ e. absurd (iff_false c.same-2.ensures c.if-not-same-2.true (state-same _ _ e).locks))
+returns-then-not-same-2 c = rw (← c.self.view_is, ← c.other.view_is) (λ h. absurd (false≢true h), λ e. absurd (iff_false c.same-2.ensures c.if-not-same-2.true (state-same _ _ e).processes))
+
+pub returns-then-not-same-3 : goal.returns-then-not-same-3
+returns-then-not-same-3 c = rw (← c.self.view_is, ← c.other.view_is) (λ h. absurd (false≢true h), λ e. absurd (iff_false c.same-3.ensures c.if-not-same-3.true (state-same _ _ e).locks))
 
 pub returns : goal.returns
 returns c =
-    let files = c.deref-3.ensures.value in
-    let others = c.deref-4.ensures.value in
+    let files = c.deref.ensures.value in
+    let others = c.deref-2.ensures.value in
     rw (← c.self.view_is, ← c.other.view_is) (
       λ h. same-state _ _ (record {
         shape = c.same_shape.ensures.0 c.if-not-same_shape.false;
         node = c.if-self-other.false;
         incarnation = c.if-self-other-2.false;
         calls = c.if-self-other-3.false;
-        processes = c.same.ensures.0 c.if-not-same.false;
-        locks = c.same-2.ensures.0 c.if-not-same-2.false;
-        pending = sym c.deref.ensures.value ∙ c.same_calls.ensures.0 c.if-not-same_calls.false ∙ c.deref-2.ensures.value;
+        processes = c.same-2.ensures.0 c.if-not-same-2.false;
+        locks = c.same-3.ensures.0 c.if-not-same-3.false;
+        pending = c.same.ensures.0 c.if-not-same.false;
         files = ap file_state (sym files) ∙ c.same_files.ensures.0 h ∙ ap file_state others;
       }),
       λ e. c.same_files.ensures.1 (ap file_state files ∙ (state-same _ _ e).files ∙ ap file_state (sym others)),

@@ -1,0 +1,18 @@
+use Rattle.std.proofs.Common.{◌≡◌, ◌∙◌, ◌+◌, [], List, ◌++◌, map, ap, arith}
+use Rattle.model.specs.declared.lock_info.LockInfo.{LockInfo}
+use Rattle.cluster_core.specs.Parts.{WorldParts, world_state}
+use Rattle.cluster_core.specs.Listings.{held_lock}
+use Rattle.cluster_core.proofs.TokenLists.{is_number}
+use Rattle.cluster_core.proofs.LockLists.{adds_locks, held_next}
+use Rattle.cluster_core.proofs.world.World.locks.Goals as goal
+
+pub loop-index-preserved : goal.loop-index-preserved
+loop-index-preserved c =
+    let w = world_state c.args.self.now in
+    let i = c.loop-index.index in
+    let old = c.loop-index.locks.items in
+    let new = c.push_regions.new.locks.items in
+    let end : c.files-index-end.result ≡ c.args.self.now.shape.files = c.files-index-end.ensures.value ∙ ap (λ (p : WorldParts). p.shape.files) c.self.view_is in
+    let within = is_number c.args.self.now.shape.files (i + 1) (omega arith) (omega (arith, c.loop-index-test.true)) in
+    let made = c.in_ok-push_regions.ensures ∙ ap (λ (regions : List LockInfo). old ++ map (held_lock (i + 1)) regions) c.deref.ensures.value in
+    held_next w i [] old new c.loop-index.invariant (adds_locks w (i + 1) c.in_ok-regions.regions.items old new within c.in_ok-regions.ensures made)

@@ -1,0 +1,8 @@
+use Rattle.std.proofs.Common.{[]}
+use Rattle.cluster_core.specs.Parts.{world_state}
+use Rattle.cluster_core.specs.Listings.{Adds, IsTokenBefore}
+use Rattle.cluster_core.proofs.TokenLists.{IsOfFirstNodes}
+use Rattle.cluster_core.proofs.world.World.tokens.Given as goal
+
+abbrev pub invariant-loop-index : goal.invariant-loop-index
+invariant-loop-index l = Adds (IsOfFirstNodes (world_state l.self) l.index) IsTokenBefore [] l.tokens.items

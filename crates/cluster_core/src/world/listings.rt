@@ -1,0 +1,139 @@
+//! The tokens and the locks of a cluster as lists.
+ghost use Rattle.std.specs.Prelude.{◌≡◌, ◌++◌, true, IfOk, OnOk, map};
+ghost use Rattle.messages.specs.Messages.{is_within};
+ghost use Rattle.lock_table.specs.Listing.{IsListing};
+ghost use Rattle.node_core.specs.Parts.{node_state};
+ghost use Rattle.cluster_core.specs.Parts.{world_state};
+ghost use Rattle.cluster_core.specs.Union.{union};
+ghost use Rattle.cluster_core.specs.Listings.{Adds, IsTokenListing, IsTokenOf, IsTokenOfFile, IsTokenBefore, IsLockListing, token_run, held_lock};
+
+use super::World;
+use crate::held_lock::HeldLock;
+use crate::token_run::TokenRun;
+use intervals::span::Span;
+use intervals::span_map::NoMemory;
+use lock_table::order::cmp_regions;
+use model::level::Level;
+use model::lock_info::LockInfo;
+use node_core::node::Node;
+use std::alloc::Global;
+
+// Adds the runs, with whose and of which file they are.
+fn push_runs(
+    tokens: &mut Vec<TokenRun>,
+    node: u8,
+    incarnation: u16,
+    file: u16,
+    runs: &[(Span, Level)],
+) -> Result<(), NoMemory>
+    ensures { OnOk result (tokens.new.items ≡ tokens.old.items ++ map (token_run node incarnation file) runs.now) }
+{
+    for run in runs {
+        tokens.push(TokenRun {
+            node,
+            incarnation,
+            file,
+            span: run.0,
+            level: run.1,
+        })?;
+    }
+    Ok(())
+}
+
+// Adds the regions, with their file.
+fn push_regions(locks: &mut Vec<HeldLock>, file: u16, regions: &[LockInfo]) -> Result<(), NoMemory>
+    ensures { OnOk result (locks.new.items ≡ locks.old.items ++ map (held_lock file) regions.now) }
+{
+    for lock in regions {
+        locks.push(HeldLock { file, lock: *lock })?;
+    }
+    Ok(())
+}
+
+impl World {
+    // The node with the number.
+    fn node(&self, node: u8) -> &Node
+        requires { is_within self.now.shape.nodes node ≡ true }
+        ensures { node_state result.now ≡ (world_state self.now).nodes node }
+    {
+        &self.nodes[node as usize - 1]
+    }
+
+    // Adds the runs of a node's token for a file.
+    fn push_file_tokens(
+        &self,
+        alloc: Global,
+        tokens: &mut Vec<TokenRun>,
+        node: u8,
+        file: u16,
+    ) -> Result<(), NoMemory>
+        requires node { is_within self.now.shape.nodes node ≡ true }
+        requires file { is_within self.now.shape.files file ≡ true }
+        ensures { OnOk result (Adds (IsTokenOfFile (world_state self.now) node file) IsTokenBefore tokens.old.items tokens.new.items) }
+    {
+        let holder = self.node(node);
+        let runs = holder.token_runs(alloc, file)?;
+        push_runs(tokens, node, holder.incarnation(), file, &runs)
+    }
+
+    // Adds the runs of a node's tokens.
+    fn push_node_tokens(
+        &self,
+        alloc: Global,
+        tokens: &mut Vec<TokenRun>,
+        node: u8,
+    ) -> Result<(), NoMemory>
+        requires { is_within self.now.shape.nodes node ≡ true }
+        ensures { OnOk result (Adds (IsTokenOf (world_state self.now) node) IsTokenBefore tokens.old.items tokens.new.items) }
+    {
+        for index in 0..self.shape.files() {
+            self.push_file_tokens(alloc, tokens, node, index + 1)?;
+        }
+        Ok(())
+    }
+
+    /// The tokens of the live nodes, each longest run of bytes at one level once: by node, then by
+    /// file, then by first byte.
+    ///
+    /// # Errors
+    /// `NoMemory` where a request for memory was refused.
+    pub fn tokens(&self, alloc: Global) -> Result<Vec<TokenRun>, NoMemory>
+        ensures { IfOk result (λ tokens. IsTokenListing (world_state self.now) tokens.items) }
+    {
+        let mut tokens = Vec::new(alloc);
+        for index in 0..self.shape.nodes() {
+            self.push_node_tokens(alloc, &mut tokens, index + 1)?;
+        }
+        Ok(tokens)
+    }
+
+    // The regions of a file that the live nodes' owners hold, by first byte and then by owner.
+    fn file_locks(&self, alloc: Global, file: u16) -> Result<Vec<LockInfo>, NoMemory>
+        ensures { IfOk result (λ locks. IsListing ((union (world_state self.now)).locks file) locks.items) }
+    {
+        let mut locks = Vec::new(alloc);
+        for index in 0..self.shape.nodes() {
+            let own = self.node(index + 1).regions(file)?;
+            locks.extend_from_slice(&own)?;
+        }
+        locks.sort_unstable_by(cmp_regions);
+        Ok(locks)
+    }
+
+    /// The locks of the live nodes together, each region once: by file, then by first byte, then by
+    /// owner.
+    ///
+    /// # Errors
+    /// `NoMemory` where a request for memory was refused.
+    pub fn locks(&self, alloc: Global) -> Result<Vec<HeldLock>, NoMemory>
+        ensures { IfOk result (λ locks. IsLockListing (world_state self.now) locks.items) }
+    {
+        let mut locks = Vec::new(alloc);
+        for index in 0..self.shape.files() {
+            let file = index + 1;
+            let regions = self.file_locks(alloc, file)?;
+            push_regions(&mut locks, file, &regions)?;
+        }
+        Ok(locks)
+    }
+}

@@ -1,0 +1,105 @@
+-- What is known of a text of which some lines were read.
+use Rattle.std.proofs.Common.{◌≡◌, ◌≢◌, ℕ, ◌+◌, List, [], ◌∷◌, ◌++◌, map, inl, inr, refl, sym, ap, subst, ◌∙◌}
+use Rattle.std.proofs.lemmas.List.{append-nil, map-append}
+use Rattle.std.proofs.lemmas.List.Elements.{All-nil, All-push}
+use Rattle.messages.specs.Shapes.{ShapeFields, IsShape}
+use Rattle.lockscript.specs.LineFeeds.{line_feeds, FindsLine, PassesLines}
+use Rattle.lockscript.specs.Scripts.{IsFirstBad, IsLine, IsMisplaced, IsNoLine, IsNoShape, IsScript, LineFields, ScriptFields, Writes, line_text, shape_text}
+use Rattle.lockscript.specs.Scripts.IsBad.{stands_wrong, has_no_end}
+use Rattle.lockscript.proofs.Passes.{passes-join, passes-found}
+
+-- the text begins with lines that write this script
+pub record Begun (text : List ℕ) (s : ScriptFields) (rest : List ℕ) (passed : ℕ) : Type 0 where
+  pub kept : List (ℕ × List ℕ)
+  pub passes : PassesLines text 0 kept rest passed
+  pub writes : Writes kept s
+
+abbrev pub script_of : ShapeFields → List LineFields → ScriptFields
+script_of shape lines = record { shape = shape; lines = lines }
+
+-- skipped lines add nothing
+passes-more : (text : List ℕ) (taken : ℕ) (kept : List (ℕ × List ℕ)) (middle : List ℕ) (between : ℕ) (rest : List ℕ) (passed : ℕ)
+    → PassesLines text taken kept middle between → PassesLines middle between [] rest passed → PassesLines text taken kept rest passed
+passes-more text taken kept middle between rest passed a b =
+    let joined = passes-join text taken kept middle between [] rest passed a b in
+    rw (append-nil kept) at joined
+
+-- the `cluster` line begins a script
+pub begun-first : (text : List ℕ) (number : ℕ) (line rest : List ℕ) (shape : ShapeFields) → FindsLine text 0 number line rest → IsShape shape → line ≡ shape_text shape
+    → Begun text (script_of shape []) rest number
+begun-first text number line rest shape found fits e = record {
+  kept = (number, line) ∷ [];
+  passes = passes-found text 0 number line rest found;
+  writes = record {
+    cluster_line = number;
+    texts = ap (λ (t : List ℕ). (number, t) ∷ []) e;
+    shape_in = fits;
+    lines_in = All-nil IsLine;
+  };
+}
+
+-- one line more
+pub begun-line : (text : List ℕ) (shape : ShapeFields) (lines : List LineFields) (middle : List ℕ) (between number : ℕ) (line rest : List ℕ) (l : LineFields)
+    → Begun text (script_of shape lines) middle between → FindsLine middle between number line rest → IsLine l → (number, line) ≡ line_text l
+    → Begun text (script_of shape (lines ++ l ∷ [])) rest number
+begun-line text shape lines middle between number line rest l begun found fits e = record {
+  kept = begun.kept ++ (number, line) ∷ [];
+  passes = passes-join text 0 begun.kept middle between ((number, line) ∷ []) rest number begun.passes (passes-found middle between number line rest found);
+  writes = record {
+    cluster_line = begun.writes.cluster_line;
+    texts = ap (λ (ks : List (ℕ × List ℕ)). ks ++ (number, line) ∷ []) begun.writes.texts
+        ∙ ap (λ (k : ℕ × List ℕ). ((begun.writes.cluster_line, shape_text shape) ∷ map line_text lines) ++ k ∷ []) e
+        ∙ ap (λ (ks : List (ℕ × List ℕ)). (begun.writes.cluster_line, shape_text shape) ∷ ks) (sym (map-append line_text lines (l ∷ [])));
+    shape_in = begun.writes.shape_in;
+    lines_in = All-push IsLine lines l begun.writes.lines_in fits;
+  };
+}
+
+-- nothing but skipped lines stands after the script
+pub script-begun : (text : List ℕ) (s : ScriptFields) (middle : List ℕ) (between passed : ℕ) → Begun text s middle between → PassesLines middle between [] [] passed → IsScript text s
+script-begun text s middle between passed begun after = record {
+  kept = begun.kept;
+  passed = passed;
+  whole = passes-more text 0 begun.kept middle between [] passed begun.passes after;
+  writes = begun.writes;
+}
+
+-- the line after those that are whole has no line feed
+pub bad-unfinished : (text : List ℕ) (s : ScriptFields) (middle : List ℕ) (between : ℕ) (rest : List ℕ) (passed : ℕ)
+    → Begun text s middle between → PassesLines middle between [] rest passed → rest ≢ [] → line_feeds rest ≡ 0 → IsFirstBad text (passed + 1)
+bad-unfinished text s middle between rest passed begun after some no_feed = record {
+  kept = begun.kept;
+  rest = rest;
+  passed = passed;
+  before = passes-more text 0 begun.kept middle between rest passed begun.passes after;
+  counted = refl;
+  good = inr (s, begun.writes);
+  bad = has_no_end some no_feed;
+}
+
+-- the line may not stand behind the others
+pub bad-line : (text : List ℕ) (s : ScriptFields) (middle : List ℕ) (between number : ℕ) (line rest : List ℕ)
+    → Begun text s middle between → FindsLine middle between number line rest → IsNoLine number line → IsFirstBad text number
+bad-line text s middle between number line rest begun found no_line =
+    let kept_is = begun.writes.texts in
+    record {
+      kept = begun.kept;
+      rest = found.from;
+      passed = found.passed;
+      before = passes-more text 0 begun.kept middle between found.from found.passed begun.passes found.skips;
+      counted = found.counted;
+      good = inr (s, begun.writes);
+      bad = stands_wrong line rest found.begins found.says (subst (λ (ks : List (ℕ × List ℕ)). IsMisplaced ks number line) (sym kept_is) no_line);
+    }
+
+-- the first line that is not skipped names no cluster
+pub bad-first : (text : List ℕ) (number : ℕ) (line rest : List ℕ) → FindsLine text 0 number line rest → IsNoShape line → IsFirstBad text number
+bad-first text number line rest found no_shape = record {
+  kept = [];
+  rest = found.from;
+  passed = found.passed;
+  before = found.skips;
+  counted = found.counted;
+  good = inl refl;
+  bad = stands_wrong line rest found.begins found.says no_shape;
+}

@@ -1,0 +1,50 @@
+-- What the lists of a node say.
+use Rattle.std.specs.Prelude.{◌≡◌, ℕ, zero, suc, ◌≤◌, true, false, List, [], length}
+use Rattle.std.proofs.Common.{refl, ap, sym, subst, arith, ◌∙◌}
+use Rattle.std.proofs.lemmas.Bool.Decides.{nat_tests}
+use Rattle.std.proofs.lemmas.List.Elements.{All-nil}
+use Rattle.std.proofs.lemmas.Option.{slice_get_past}
+use Rattle.intervals.specs.Bytes.{Range, IsRun}
+use Rattle.model.specs.declared.level.Level.{Level}
+use Rattle.model.specs.Limits.{IsNumber}
+use Rattle.model.specs.Locks.{IsOfNode}
+use Rattle.messages.specs.Messages.{is_within}
+use Rattle.token_set.specs.Tokens.{no_token}
+use Rattle.token_set.specs.Runs.{ListsRuns}
+use Rattle.node_core.specs.declared.file_row.FileRow.{FileRow}
+use Rattle.node_core.specs.State.{FileState, first_file}
+use Rattle.node_core.specs.Files.{state_or, file_state}
+use Rattle.node_core.specs.Parts.{NodeParts, node_state, IsNode}
+
+-- no token has no runs
+pub no_runs : ListsRuns no_token []
+no_runs = record {
+  each = All-nil (λ (r : Range × Level). IsRun no_token r.0 r.1);
+  complete = λ s level run. let e = run.all s.lo (omega arith) run.ordered in absurd cc;
+  rises = λ i j d lt within. absurd (omega arith);
+}
+
+-- nothing is known of a file outside
+pub file_state-past : (files : List FileRow) (file : ℕ) → is_within (length files) file ≡ false → file_state files file ≡ first_file
+unfolding file_state
+file_state-past files zero outside = refl
+file_state-past files (suc file) outside =
+    let past : length files ≤ file = grind (arith, nat_tests, outside) in
+    ap state_or (slice_get_past files file past)
+
+-- so the node's token for it has no runs
+pub past_runs : (p : NodeParts) (file : ℕ) (runs : List (Range × Level)) → length p.files ≡ p.shape.files → is_within p.shape.files file ≡ false → runs ≡ [] → ListsRuns ((node_state p).files file).token runs
+unfolding node_state
+past_runs p file runs there outside none =
+    let is = file_state-past p.files file (ap (λ (n : ℕ). is_within n file) there ∙ outside) in
+    subst (λ (s : FileState). ListsRuns s.token runs) (sym is) (subst (ListsRuns no_token) (sym none) no_runs)
+
+-- a file of the shape
+pub file_in_shape : (p : NodeParts) (file : ℕ) → is_within p.shape.files file ≡ true → IsNumber (node_state p).shape.files file
+unfolding node_state
+file_in_shape p file within = (grind (arith, nat_tests, within), grind (arith, nat_tests, within))
+
+-- the node's locks are of its own
+pub node-owners : (p : NodeParts) (file : ℕ) → IsNode p → IsOfNode ((node_state p).table.locks file) (node_state p).node (node_state p).incarnation
+unfolding node_state
+node-owners p file n = n.own file

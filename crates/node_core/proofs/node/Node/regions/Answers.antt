@@ -1,0 +1,10 @@
+use Rattle.node_core.specs.Parts.{node_state}
+use Rattle.node_core.proofs.ReaderLaws.{node-owners}
+use Rattle.node_core.proofs.node.Node.regions.Goals as goal
+
+pub returns-clause-listing : goal.returns-clause-listing
+unfolding node_state
+returns-clause-listing c = rw (← c.self.view_is) c.locks.ensures
+
+pub returns-clause-own : goal.returns-clause-own
+returns-clause-own c = rw (← c.self.view_is) (node-owners _ c.args.file c.self.invariant)

@@ -1,0 +1,51 @@
+//! What a node holds, as lists.
+ghost use Rattle.std.specs.Prelude.{◌≡◌, IfOk};
+ghost use Rattle.model.specs.Locks.{IsOfNode};
+ghost use Rattle.lock_table.specs.Listing.{IsListing};
+ghost use Rattle.token_set.specs.Runs.{ListsRuns};
+ghost use Rattle.node_core.specs.Parts.{node_state};
+
+use super::Node;
+use crate::numbers::is_within;
+use intervals::span::Span;
+use model::level::Level;
+use model::lock_info::LockInfo;
+use std::alloc::{AllocError, Global};
+
+impl Node {
+    /// The node's incarnation, counted from 1.
+    #[tactic(auto, unfolding(crate::specs::Parts::node_state))]
+    pub fn incarnation(&self) -> u16
+        ensures { result ≡ (node_state self.now).incarnation }
+    {
+        self.incarnation
+    }
+
+    /// The longest runs of bytes at one level in the node's token for the file, each with its level,
+    /// by first byte; none of a file that is not of the shape.
+    ///
+    /// # Errors
+    /// `AllocError` where a request for memory was refused.
+    pub fn token_runs(&self, alloc: Global, file: u16) -> Result<Vec<(Span, Level)>, AllocError>
+        ensures { IfOk result (λ runs. ListsRuns ((node_state self.now).files file).token runs.items) }
+    {
+        if !is_within(self.shape.files(), file) {
+            return Ok(Vec::new(alloc));
+        }
+        self.file(file).token.runs(alloc)
+    }
+
+    /// The regions of the file that the node's owners hold, by first byte and then by owner.
+    ///
+    /// # Errors
+    /// `AllocError` where a request for memory was refused.
+    pub fn regions(&self, file: u16) -> Result<Vec<LockInfo>, AllocError>
+        ensures listing { IfOk result (λ locks. IsListing ((node_state self.now).table.locks file) locks.items) }
+        ensures own { IsOfNode ((node_state self.now).table.locks file) (node_state self.now).node (node_state self.now).incarnation }
+    {
+        self.locks.locks(file)
+    }
+}
+
+#[cfg(test)]
+mod tests;

@@ -1,0 +1,4 @@
+pub mod Progresses
+pub mod OneRun
+pub mod OneOutcome
+pub mod CommandLine

@@ -1,0 +1,24 @@
+-- A run of a script as plain data, and what it stands for.
+use Rattle.std.specs.Prelude.{ℕ, List}
+use Rattle.messages.specs.declared.entry.Entry.{Entry}
+use Rattle.cluster_core.specs.Journals.{JournalFields}
+use Rattle.cluster_core.specs.Parts.{WorldParts, world_state}
+use Rattle.replay.specs.Progress.{Progress}
+use Rattle.replay.specs.Played.{PlayedState}
+
+pub record PlayerParts : Type 0 where
+  pub world : WorldParts
+  pub entries : List Entry
+  pub settled : ℕ
+  pub refused : List (ℕ × ℕ)
+
+abbrev pub progress : PlayerParts → Progress
+progress p = record { entries = p.entries; world = world_state p.world; settled = p.settled; refused = p.refused }
+
+pub record PlayedParts : Type 0 where
+  pub journal : JournalFields
+  pub world : WorldParts
+  pub refused : List (ℕ × ℕ)
+
+abbrev pub state_of : PlayedParts → PlayedState
+state_of p = record { journal = p.journal; world = world_state p.world; refused = p.refused }

@@ -1,0 +1,126 @@
+-- Lists of the longest runs of a token.
+use Rattle.std.specs.Prelude.{◌≡◌, ◌≢◌, ℕ, ◌+◌, ◌-◌, ◌<◌, ◌≤◌, Option, Some, None, IsSome, List, [], ◌∷◌, ◌++◌, All, AllPairs, Contains}
+use Rattle.std.proofs.Common.{refl, sym, ap, ◌∙◌, subst, inl, inr, arith}
+use Rattle.std.proofs.lemmas.Bool.{cases_lt, cases_order}
+use Rattle.std.proofs.lemmas.List.Elements.{All-nil, All-push, All-weaker, Contains-append_left, Contains-push}
+use Rattle.std.proofs.lemmas.List.Quantifiers.{all_pairs_push}
+use Rattle.intervals.specs.Bytes.{Range, greatest, IsRun, IsBarred, NoneIn, IsFirstIn}
+use Rattle.model.specs.declared.level.Level.{Level}
+use Rattle.token_set.specs.Tokens.{Token}
+use Rattle.token_set.specs.Runs.{NothingFrom, IsNextRun, ListsRuns}
+
+none_from : (x : Option Level) → (IsSome x → ⊥) → x ≡ None
+none_from None h = refl
+none_from (Some level) h = absurd (h refl)
+
+-- with no level in the rest of the file there is none from its first byte on
+pub nothing_from : (t : Token) (first : ℕ) → ((b : ℕ) → greatest < b → t b ≡ None) → NoneIn (IsBarred t None) (record { lo = first; hi = greatest }) → NothingFrom t first
+nothing_from t first bounded none b above = elim (cases_lt greatest b) [
+  | inl past ↦ bounded b past
+  | inr le ↦ none_from (t b) (none b above (omega arith))
+]
+
+-- the run of the first byte with a level in the rest of the file is the next one
+pub next_run : (t : Token) (first byte : ℕ) (s : Range) (level : Level) → IsFirstIn (IsBarred t None) (record { lo = first; hi = greatest }) byte → IsRun t s level → s.lo ≤ byte → byte ≤ s.hi → IsNextRun t first s level
+next_run t first byte s level f run starts ends = record {
+  run = run;
+  byte = byte;
+  above = f.above;
+  starts = starts;
+  ends = ends;
+  none_before = λ b above below. none_from (t b) (f.none_before b above below);
+}
+
+-- two runs that begin at one byte are one
+run_one : (t : Token) (s q : Range) (v w : Level) → IsRun t s v → IsRun t q w → s.lo ≡ q.lo → ◌≡◌ {A = Range × Level} (s, v) (q, w)
+run_one t s q v w a b los =
+    let at_s : t s.lo ≡ Some v = a.all s.lo (omega arith) a.ordered in
+    let at_q : t q.lo ≡ Some w = b.all q.lo (omega arith) b.ordered in
+    let here : t s.lo ≡ t q.lo = ap t los in
+    let levels : v ≡ w = cc in
+    let ordered_s = a.ordered in
+    let ordered_q = b.ordered in
+    let his : s.hi ≡ q.hi = elim (cases_order s.hi q.hi) [
+      | inl same ↦ same
+      | inr (inl lt) ↦ let past : t (s.hi + 1) ≡ Some w = b.all (s.hi + 1) (omega arith) (omega arith) in absurd (a.ends (past ∙ ap Some (sym levels)))
+      | inr (inr lt) ↦ let past : t (q.hi + 1) ≡ Some v = a.all (q.hi + 1) (omega arith) (omega arith) in absurd (b.ends (past ∙ ap Some levels))
+    ] in
+    λ i. (record { lo = los i; hi = his i }, levels i)
+
+-- those runs are listed that begin before the byte, at which none goes on
+pub record Listed (t : Token) (from : ℕ) (runs : List (Range × Level)) : Type 0 where
+  pub edge : (b : ℕ) (v : Level) → b + 1 ≡ from → t b ≡ Some v → t from ≢ Some v
+  pub each : All (λ (r : Range × Level). IsRun t r.0 r.1 × (r.0.lo < from)) runs
+  pub complete : (s : Range) (v : Level) → IsRun t s v → s.lo < from → Contains runs (s, v)
+  pub rises : AllPairs (λ (r q : Range × Level). r.0.lo < q.0.lo) runs
+
+pub listed_none : (t : Token) → Listed t 0 []
+listed_none t = record {
+  edge = λ b v e is. absurd (omega arith);
+  each = All-nil (λ (r : Range × Level). IsRun t r.0 r.1 × (r.0.lo < 0));
+  complete = λ s v run lt. absurd (omega arith);
+  rises = λ i j d lt within. absurd (omega arith);
+}
+
+module _ (t : Token) (from : ℕ) (runs : List (Range × Level)) (l : Listed t from runs) (s : Range) (v : Level) (next : IsNextRun t from s v) where
+  starts_late : from ≤ s.lo
+  starts_late =
+      let above = next.above in
+      let ends = next.ends in
+      elim (cases_lt s.lo from) [
+        | inl lt ↦
+            let here : t from ≡ Some v = next.run.all from (omega arith) (omega arith) in
+            let before : t (from - 1) ≡ Some v = next.run.all (from - 1) (omega arith) (omega arith) in
+            absurd (l.edge (from - 1) v (omega arith) before here)
+        | inr le ↦ le
+      ]
+
+  -- a run that begins from there on, and not past this one, is this one
+  only_one : (q : Range) (w : Level) → IsRun t q w → from ≤ q.lo → q.lo < s.hi + 1 → ◌≡◌ {A = Range × Level} (q, w) (s, v)
+  only_one q w run late within =
+      let starts = next.starts in
+      let here : t q.lo ≡ Some w = run.all q.lo (omega arith) run.ordered in
+      let no_earlier : next.byte ≤ q.lo = elim (cases_lt q.lo next.byte) [
+        | inl lt ↦ let none = next.none_before q.lo late lt in absurd cc
+        | inr le ↦ le
+      ] in
+      let los : q.lo ≡ s.lo = elim (cases_lt s.lo q.lo) [
+        | inl lt ↦
+            let there : t q.lo ≡ Some v = next.run.all q.lo (omega arith) (omega arith) in
+            let before : t (q.lo - 1) ≡ Some v = next.run.all (q.lo - 1) (omega arith) (omega arith) in
+            let levels : v ≡ w = cc in
+            absurd (run.begins (q.lo - 1) (omega arith) (before ∙ ap Some levels))
+        | inr le ↦ omega arith
+      ] in
+      run_one t q s w v run next.run los
+
+  pub listed_more : Listed t (s.hi + 1) (runs ++ (s, v) ∷ [])
+  listed_more = record {
+    edge = λ b w e is.
+        let hi : b ≡ s.hi = omega arith in
+        let last : t s.hi ≡ Some v = next.run.all s.hi next.run.ordered (omega arith) in
+        let same : w ≡ v = let here : t s.hi ≡ Some w = rw (← hi) is in cc in
+        rw same next.run.ends;
+    each = All-push (λ (r : Range × Level). IsRun t r.0 r.1 × (r.0.lo < s.hi + 1)) runs (s, v)
+        (All-weaker (λ (r : Range × Level). IsRun t r.0 r.1 × (r.0.lo < from)) (λ (r : Range × Level). IsRun t r.0 r.1 × (r.0.lo < s.hi + 1)) (λ r h. (h.0, let late = starts_late in let ordered = next.run.ordered in omega (arith, h.1))) runs l.each)
+        (next.run, let ordered = next.run.ordered in omega arith);
+    complete = λ q w run lt. elim (cases_lt q.lo from) [
+      | inl before ↦ Contains-append_left runs ((s, v) ∷ []) (q, w) (l.complete q w run before)
+      | inr late ↦ subst (λ (r : Range × Level). Contains (runs ++ (s, v) ∷ []) r) (sym (only_one q w run late lt)) (Contains-push runs (s, v))
+    ];
+    rises = all_pairs_push (λ (r q : Range × Level). r.0.lo < q.0.lo) runs (s, v) l.rises (λ k d lt. let late = starts_late in omega (arith, (l.each k d lt).1));
+  }
+
+-- with nothing left they are all
+pub listed_all : (t : Token) (from : ℕ) (runs : List (Range × Level)) → Listed t from runs → NothingFrom t from → ListsRuns t runs
+listed_all t from runs l none = record {
+  each = All-weaker (λ (r : Range × Level). IsRun t r.0 r.1 × (r.0.lo < from)) (λ (r : Range × Level). IsRun t r.0 r.1) (λ r h. h.0) runs l.each;
+  complete = λ s v run. elim (cases_lt s.lo from) [
+    | inl lt ↦ l.complete s v run lt
+    | inr le ↦
+        let here : t s.lo ≡ Some v = run.all s.lo (omega arith) run.ordered in
+        let empty : t s.lo ≡ None = none s.lo le in
+        absurd cc
+  ];
+  rises = l.rises;
+}
