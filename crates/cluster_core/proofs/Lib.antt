@@ -12,5 +12,7 @@ pub mod Tries
 pub mod Nodes
 pub mod Moves
 pub mod Unions
+pub mod Joined
+pub mod Lifting
 pub mod Worlds
 pub mod Runs
