@@ -1,5 +1,5 @@
 -- The table of a node beside those of others: what a call of the node makes of them all.
-use Rattle.std.proofs.Common.{◌≡◌, ℕ, ◌≤◌, Bool, true, false, if◌then◌else◌, ◌&&◌, ◌==◌, ◌⊎◌, inl, inr, refl, sym, ◌∙◌, ap, subst, arith, ℤ, nat_le, nat_lt, Option, Some, None, Result, Ok, Err}
+use Rattle.std.proofs.Common.{◌≡◌, ℕ, zero, suc, ◌≤◌, Bool, true, false, if◌then◌else◌, ◌&&◌, ◌==◌, ◌⊎◌, inl, inr, refl, sym, ◌∙◌, ap, subst, arith, ℤ, nat_le, nat_lt, Option, Some, None, Result, Ok, Err}
 use Rattle.std.proofs.lemmas.Bool.{and_parts, and_from, eq-eqb, cases_Bool, false≢true}
 use Rattle.intervals.specs.declared.span.SpanError.{SpanError}
 use Rattle.intervals.specs.declared.span.SpanError.TheVariants.{Invalid, Overflow}
@@ -16,11 +16,11 @@ use Rattle.model.specs.declared.op.Op.{Op}
 use Rattle.model.specs.declared.op.Op.TheVariants.{Spawn, Open, Set, Unlock}
 use Rattle.model.specs.declared.reply.Reply.{Reply}
 use Rattle.model.specs.declared.reply.Reply.TheVariants.{Done, Again, NoProcess, BadFd, NoLocks}
-use Rattle.model.specs.Limits.{most_regions}
-use Rattle.model.specs.Owners.{owner_at, same_owner}
+use Rattle.model.specs.Limits.{most_descriptors, most_regions}
+use Rattle.model.specs.Owners.{owner_at, same_owner, process_owner, description_owner}
 use Rattle.model.specs.Locks.{bars, replace, without_owner, without_owner_anywhere, regions, IsFree, Blocks}
-use Rattle.model.specs.Descriptors.{Processes, after_spawn, after_open}
-use Rattle.model.specs.Table.{Table, Target, around, is_running, descriptor, beside, with_processes, allows, target, target_at, owner_of, locked, lock_within, regions_with, after_unlock}
+use Rattle.model.specs.Descriptors.{Processes, with_process, with_descriptor, is_open, after_spawn, after_open}
+use Rattle.model.specs.Table.{Table, Target, around, is_running, descriptor, beside, with_processes, allows, target, target_at, owner_of, locked, lock_within, regions_with, after_unlock, after_last_close, closed, closed_if, closed_below, exited}
 use Rattle.model.specs.Step.{Is, AfterTests, SetStep, Step}
 use Rattle.model.proofs.OwnerLaws.{owner_exact}
 use Rattle.cluster_core.proofs.Targets.{if_ok, if_then}
@@ -153,6 +153,51 @@ module _ (others : Table) (p : Process) where
   pub after_unlock-joined : (t : Table) (r : Result Target Reply) → ((c : Target) → r ≡ Ok c → is_own c.owner ≡ true) → after_unlock (all t) r ≡ answer_of_all (after_unlock t r)
   after_unlock-joined t (Ok c) own = lock_within-joined t c None (own c refl)
   after_unlock-joined t (Err refusal) own = refl
+
+  -- descriptors that close, and processes that exit
+  joined-after_last_close : (t : Table) (d : ℕ) → after_last_close (all t) p d ≡ all (after_last_close t p d)
+  joined-after_last_close t d = ap (λ (ps : Processes). left (is_open ps d)) (around-joined t) ∙ one (is_open (around t p) d)
+    where
+      left : Bool → Table
+      left b = if b then all t else record (all t) { locks = without_owner_anywhere (all t).locks (description_owner p d) }
+
+      one : (b : Bool) → left b ≡ all (if b then t else record t { locks = without_owner_anywhere t.locks (description_owner p d) })
+      one true = refl
+      one false = sym (joined-without_owner_anywhere t (description_owner p d) (itself p.node p.incarnation))
+
+  abbrev shut : Table → ℕ → Opened → Table
+  shut t fd o = record (with_processes t p (with_descriptor (around t p) p.pid fd None)) { locks = without_owner t.locks o.file (process_owner p) }
+
+  joined-shut : (t : Table) (fd : ℕ) (o : Opened) → shut (all t) fd o ≡ all (shut t fd o)
+  joined-shut t fd o =
+      let ps = with_descriptor (around t p) p.pid fd None in
+      let on : with_processes (all t) p (with_descriptor (around (all t) p) p.pid fd None) ≡ all (with_processes t p ps) = ap (λ (qs : Processes). with_processes (all t) p (with_descriptor qs p.pid fd None)) (around-joined t) ∙ sym (joined-with_processes t ps) in
+      let locks = sym (joined-without_owner t o.file (process_owner p) (itself p.node p.incarnation)) in
+      λ i. record { on = (on i).on; locks = (locks i).locks }
+
+  pub closed-joined : (t : Table) (fd : ℕ) (o : Opened) → closed (all t) p fd o ≡ all (closed t p fd o)
+  closed-joined t fd o = ap (λ (u : Table). after_last_close u p o.description) (joined-shut t fd o) ∙ joined-after_last_close (shut t fd o) o.description
+
+  pub closed_if-joined : (t : Table) (fd : ℕ) (o : Option Opened) → closed_if (all t) p fd o ≡ all (closed_if t p fd o)
+  closed_if-joined t fd None = refl
+  closed_if-joined t fd (Some o) = closed-joined t fd o
+
+  pub closed_below-joined : (t : Table) (n : ℕ) → closed_below (all t) p n ≡ all (closed_below t p n)
+  unfolding closed_below
+  closed_below-joined t zero = refl
+  closed_below-joined t (suc n) =
+      let before = closed_below t p n in
+      ap (λ (u : Table). closed_if u p n (descriptor u p n)) (closed_below-joined t n)
+      ∙ ap (λ (ps : Processes). closed_if (all before) p n (ps.opened p.pid n)) (around-joined before)
+      ∙ closed_if-joined before n (descriptor before p n)
+
+  pub exited-joined : (t : Table) → exited (all t) p ≡ all (exited t p)
+  exited-joined t =
+      let before = closed_below t p most_descriptors in
+      let end : Processes → Processes = λ ps. with_process ps p.pid false (λ fd. None) in
+      ap (λ (u : Table). with_processes u p (end (around u p))) (closed_below-joined t most_descriptors)
+      ∙ ap (λ (ps : Processes). with_processes (all before) p (end ps)) (around-joined before)
+      ∙ sym (joined-with_processes before (end (around before p)))
 
   -- locks in the way
   pub blocks-joined : (t : Table) (file : ℕ) (owner : Owner) (s : Range) (mode : Mode) (lock : LockInfo) → IsOwn t p.node p.incarnation → Blocks (t.locks file) owner s mode lock → Blocks ((all t).locks file) owner s mode lock
