@@ -12,6 +12,8 @@ pub mod Tries
 pub mod Nodes
 pub mod Moves
 pub mod Unions
+pub mod Joined
+pub mod Lifting
 pub mod Worlds
 pub mod Runs
 pub mod Lists

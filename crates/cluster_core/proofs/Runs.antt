@@ -1,9 +1,10 @@
 -- Every run has a history.
-use Rattle.std.proofs.Common.{◌≡◌, ℕ, Bool, true, false, not, if◌then◌else◌, ◌&&◌, ◌==◌, ◌⊎◌, inl, inr, refl, sym, subst, arith, nat_le, nat_lt, is_some, List, [], ◌∷◌, ◌++◌, append-nil, append_assoc, Option, Some, None, Result, Ok, Err}
+use Rattle.std.proofs.Common.{◌≡◌, ℕ, Bool, true, false, not, if◌then◌else◌, ◌&&◌, ◌==◌, ◌⊎◌, inl, inr, refl, sym, ◌∙◌, subst, arith, nat_le, nat_lt, is_some, List, [], ◌∷◌, ◌++◌, append-nil, append_assoc, Option, Some, None, Result, Ok, Err}
 use Rattle.std.proofs.lemmas.Bool.{and_parts, both_ways}
 use Rattle.std.proofs.lemmas.Bool.Decides.{nat_tests}
 use Rattle.std.proofs.lemmas.List.Elements.{All-nil}
 use Rattle.model.specs.declared.op.Op.{Op}
+use Rattle.model.specs.declared.reply.Reply.{Reply}
 use Rattle.model.specs.Limits.{IsNumber, IsProcess, most_nodes, most_processes}
 use Rattle.messages.specs.Shapes.{ShapeFields, IsShape, served_nodes}
 use Rattle.messages.specs.Messages.{addressee, call_of, file_of, is_within}
@@ -36,7 +37,8 @@ use Rattle.cluster_core.proofs.Targets.{ok_is}
 use Rattle.cluster_core.proofs.NodeTables.{own_empty}
 use Rattle.cluster_core.proofs.Nodes.{IsOpen}
 use Rattle.cluster_core.proofs.Moves.{delivered_receives, quiet_receives, call_moves}
-use Rattle.cluster_core.proofs.Unions.{union_first}
+use Rattle.cluster_core.proofs.Unions.{union_first, only_node}
+use Rattle.cluster_core.proofs.Lifting.{IsFreeElsewhere}
 use Rattle.cluster_core.proofs.Worlds.{Good, replied_named, server_good, node_good}
 
 -- a step that is not refused
@@ -71,24 +73,28 @@ serves_sending s (Ok (Some changed)) p h = as_outcome_sending (serve changed) p 
 
 -- the world and the entry after a step
 abbrev After : List Entry → WorldState × Entry → Type 0
-After past p = Good (past ++ p.1 ∷ []) p.0
+After past p = IsNumber served_nodes p.0.shape.nodes × Good (past ++ p.1 ∷ []) p.0
 
-server_next : (past : List Entry) (w : WorldState) (m : Message) (file : ℕ) (r : Result (ServerState × Outcome) StepError) (p : WorldState × Entry) → ((done : ServerState × Outcome) → r ≡ Ok done → IsSending done) → Good past w → after_server w (Deliver m) file r ≡ Ok p → After past p
-server_next past w m file (Ok done) p sends g h =
+server_next : (past : List Entry) (w : WorldState) (m : Message) (file : ℕ) (r : Result (ServerState × Outcome) StepError) (p : WorldState × Entry) → ((done : ServerState × Outcome) → r ≡ Ok done → IsSending done) → IsNumber served_nodes w.shape.nodes → Good past w → after_server w (Deliver m) file r ≡ Ok p → After past p
+server_next past w m file (Ok done) p sends few g h =
     let both = sends done refl in
-    subst (After past) (ok_is _ p h) (server_good past w file done.0 (Deliver m) done.1 both.0 both.1 g)
-server_next past w m file (Err e) p sends g h = absurd (cc)
+    subst (After past) (ok_is _ p h) (few, server_good past w file done.0 (Deliver m) done.1 both.0 both.1 g)
+server_next past w m file (Err e) p sends few g h = absurd (cc)
 
 node_next : (past : List Entry) (w : WorldState) (event : Event) (n : ℕ) (r : Result (NodeState × Outcome) StepError) (p : WorldState × Entry) → ((done : NodeState × Outcome) → r ≡ Ok done → After past (recorded (with_node w n done.0) event done.1)) → after_node w event n r ≡ Ok p → After past p
 node_next past w event n (Ok done) p good h = subst (After past) (ok_is _ p h) (good done refl)
 node_next past w event n (Err e) p good h = absurd (cc)
 
-module _ (past : List Entry) (w : WorldState) (g : Good past w) where
+module _ (past : List Entry) (w : WorldState) (few : IsNumber served_nodes w.shape.nodes) (g : Good past w) where
+  -- there is no other node
+  alone : (n pid : ℕ) (op : Op) (reply : Reply) → has_node w n ≡ true → IsFreeElsewhere w n pid op reply
+  alone n pid op reply there fd kind mode start len c m o b is_set unhindered passes here other above below = absurd (other (only_node w.shape.nodes m few here ∙ sym (only_node w.shape.nodes n few there)))
+
   -- a process that may call
   process_in : (n pid : ℕ) (op : Op) → is_known w (Call n pid op) ≡ true → IsProcess (process (w.nodes n) pid)
   process_in n pid op known =
       let parts = and_parts (has_node w n) (is_pid pid && is_in_shape w.shape op) known in
-      let node : IsNumber most_nodes n = within (w.shape.nodes) n g.few parts.0 in
+      let node : IsNumber most_nodes n = within (w.shape.nodes) n few parts.0 in
       record {
         host = record { node_in = subst (IsNumber most_nodes) (sym (g.named n)) node; incarnation_in = g.incarnations n };
         pid_in = number most_processes pid (and_parts (is_pid pid) (is_in_shape w.shape op) parts.1).0;
@@ -110,9 +116,9 @@ module _ (past : List Entry) (w : WorldState) (g : Good past w) where
   call_good n pid op known =
       let s = w.nodes n in
       let r = after_call s pid op in
-      node_good past w n r.0 (Call n pid op) r.1 g
-      (call_moves past s n pid op (g.holds n) (g.named n) (process_in n pid op known) (replied_named past (history_of past) g.fitting))
-      (λ strange. absurd (both_ways (has_node w n) strange (and_parts (has_node w n) (is_pid pid && is_in_shape w.shape op) known).0))
+      let moves = call_moves past s n pid op (g.holds n) (g.named n) (process_in n pid op known) (replied_named past (history_of past) g.fitting) in
+      let there = (and_parts (has_node w n) (is_pid pid && is_in_shape w.shape op) known).0 in
+      (few, node_good past w n r.0 (Call n pid op) r.1 g moves (λ strange. absurd (both_ways (has_node w n) strange there)) (λ x _. alone n x.pid x.op x.reply there))
 
   message_good : (n : ℕ) (m : Message) (done : NodeState × Outcome) → deliver_rule (w.nodes n) m ≡ Ok done → After past (recorded (with_node w n done.0) (Deliver m) done.1)
   message_good n m done h =
@@ -121,8 +127,8 @@ module _ (past : List Entry) (w : WorldState) (g : Good past w) where
       let received = delivered_receives past s (Deliver m) (g.holds n) m in
       let silent = quiet_receives past s (Deliver m) (g.holds n) (quiet s) refl refl in
       elim (taken_message (not (is_node s.node (addressee m) && is_within s.shape.files (file_of m))) ((call_of m).incarnation == s.incarnation) (outcome None (delivered s m)) (outcome None (quiet s)) done step.Stranger h) [
-        | inl is ↦ subst P is (node_good past w n (delivered s m).state (Deliver m) (outcome None (delivered s m)).1 g received.moves (λ strange. received.idle (g.strangers n strange)))
-        | inr is ↦ subst P is (node_good past w n s (Deliver m) (outcome None (quiet s)).1 g silent.moves (λ strange. silent.idle (g.strangers n strange)))
+        | inl is ↦ subst P is (few, node_good past w n (delivered s m).state (Deliver m) (outcome None (delivered s m)).1 g received.moves (λ strange. received.idle (g.strangers n strange)) (λ x there. alone n x.pid x.op x.reply there))
+        | inr is ↦ subst P is (few, node_good past w n s (Deliver m) (outcome None (quiet s)).1 g silent.moves (λ strange. silent.idle (g.strangers n strange)) (λ x there. alone n x.pid x.op x.reply there))
       ]
 
   taken_good : (event : Event) (p : WorldState × Entry) → is_known w event ≡ true → taken w event ≡ Ok p → After past p
@@ -137,11 +143,11 @@ module _ (past : List Entry) (w : WorldState) (g : Good past w) where
   taken_good (Deliver (Request file call urgency mode wanted)) p known h =
       let m = Request file call urgency mode wanted in
       let s = w.servers file in
-      server_next past w m file (server_rule s (server.Deliver m)) p (λ done is. serves_sending s (change s m) done is) g h
+      server_next past w m file (server_rule s (server.Deliver m)) p (λ done is. serves_sending s (change s m) done is) few g h
   taken_good (Deliver (Taken file number call)) p known h =
       let m = Taken file number call in
       let s = w.servers file in
-      server_next past w m file (server_rule s (server.Deliver m)) p (λ done is. serves_sending s (change s m) done is) g h
+      server_next past w m file (server_rule s (server.Deliver m)) p (λ done is. serves_sending s (change s m) done is) few g h
 
   pub next_good : (event : Event) (p : WorldState × Entry) → next w event ≡ Ok p → After past p
   next_good event p h =
@@ -149,9 +155,8 @@ module _ (past : List Entry) (w : WorldState) (g : Good past w) where
       taken_good event p x.0 x.1
 
 -- before the first entry
-good_first : (shape : ShapeFields) → IsShape shape → Good [] (first_world shape)
-good_first shape is = record {
-  few = is.nodes_in;
+good_first : (shape : ShapeFields) → Good [] (first_world shape)
+good_first shape = record {
   named = λ n. refl;
   incarnations = λ n. (omega arith, omega arith);
   holds = λ n. record {
@@ -167,18 +172,19 @@ good_first shape is = record {
 }
 
 -- each run keeps it
-good_run : (past es : List Entry) (w v : WorldState) → Good past w → Leads w es v → Good (past ++ es) v
-good_run past [] w v g l =
+good_run : (past es : List Entry) (w v : WorldState) → IsNumber served_nodes w.shape.nodes → Good past w → Leads w es v → Good (past ++ es) v
+good_run past [] w v few g l =
     let P : List Entry → Type 0 = λ xs. Good xs v in
     subst P (sym (append-nil past)) (subst (Good past) l g)
-good_run past (e ∷ es) w v g l =
+good_run past (e ∷ es) w v few g l =
     let P : List Entry → Type 0 = λ xs. Good xs v in
-    subst P (append_assoc past (e ∷ []) es) (good_run (past ++ e ∷ []) es l.0 v (next_good past w g e.event (l.0, e) l.1) l.2)
+    let after = next_good past w few g e.event (l.0, e) l.1 in
+    subst P (append_assoc past (e ∷ []) es) (good_run (past ++ e ∷ []) es l.0 v after.0 after.1 l.2)
 
 -- its history has each call at its reply
 pub has_history : (shape : ShapeFields) (es : List Entry) (w : WorldState) → IsShape shape → Leads (first_world shape) es w → HasHistory shape es (history_of es) × EachAtItsReply es (history_of es)
 has_history shape es w is l =
-    let g = good_run [] es (first_world shape) w (good_first shape is) l in
+    let g = good_run [] es (first_world shape) w is.nodes_in (good_first shape) l in
     (record { world = w; leads = l; one_call = g.one_call; one_reply = g.one_reply; fits = fits es (history_of es) g.one_reply g.fitting; legal = g.legal }, each_at_its_reply es (history_of es) g.fitting)
 
 pub every_run : EveryRunHasAHistory

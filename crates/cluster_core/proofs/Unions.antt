@@ -35,7 +35,7 @@ union_first shape = λ i. record {
 }
 
 -- the only node
-only_node : (nodes n : ℕ) → IsNumber served_nodes nodes → is_within nodes n ≡ true → n ≡ 1
+pub only_node : (nodes n : ℕ) → IsNumber served_nodes nodes → is_within nodes n ≡ true → n ≡ 1
 only_node nodes n few is =
     let most = few.1 in
     let tests = and_parts (nat_le 1 n) (nat_le n nodes) is in

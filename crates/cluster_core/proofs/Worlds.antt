@@ -4,12 +4,10 @@ use Rattle.std.proofs.lemmas.Bool.{eqb-true, eq-eqb, cases_Bool, both_ways}
 use Rattle.std.proofs.lemmas.List.Elements.{All-weaker}
 use Rattle.model.specs.declared.call.CallId.{CallId}
 use Rattle.model.specs.declared.op.Op.{Op}
-use Rattle.model.specs.declared.process.Process.{Process}
 use Rattle.model.specs.declared.reply.Reply.{Reply}
 use Rattle.model.specs.Limits.{IsNumber}
 use Rattle.model.specs.Table.{Table, empty_table}
 use Rattle.model.specs.Step.{Step}
-use Rattle.messages.specs.Shapes.{served_nodes}
 use Rattle.messages.specs.declared.event.Event.{Event}
 use Rattle.messages.specs.declared.entry.Entry.{Entry}
 use Rattle.messages.specs.declared.outcome.Outcome.{Outcome}
@@ -25,12 +23,12 @@ use Rattle.cluster_core.specs.Placement.{items_at, item_of, history_of}
 use Rattle.cluster_core.proofs.Entries.{not_there, same_answer, IsNamed, Unanswered, named-push, named_called, one_call-push, one_reply-push}
 use Rattle.cluster_core.proofs.Fitting.{Fitting, Answers, IsExact, fitting-push, history_of-push}
 use Rattle.cluster_core.proofs.Tries.{IsSilent}
-use Rattle.cluster_core.proofs.Nodes.{IsOpen, Holds, Moves, open-push}
-use Rattle.cluster_core.proofs.Unions.{union_same, union_alone}
+use Rattle.cluster_core.proofs.Nodes.{IsOpen, Holds, IsExplained, Moves, open-push}
+use Rattle.cluster_core.proofs.Unions.{union_same}
+use Rattle.cluster_core.proofs.Lifting.{IsFreeElsewhere, DiffersAt, step_lifts}
 
 -- the actors after a run, and the run itself
 pub record Good (past : List Entry) (w : WorldState) : Type 0 where
-  pub few : IsNumber served_nodes w.shape.nodes
   pub named : (n : ℕ) → (w.nodes n).node ≡ n
   pub incarnations : (n : ℕ) → IsNumber 65535 (w.nodes n).incarnation
   pub holds : (n : ℕ) → Holds past (w.nodes n)
@@ -67,7 +65,6 @@ module _ (past : List Entry) (w : WorldState) (file : ℕ) (t : ServerState) (ev
       let v = (recorded (with_server w file t) event o).0 in
       let none : items_at (past ++ e ∷ []) (length past + 1) e.reply ≡ [] = ap (items_at (past ++ e ∷ []) (length past + 1)) no_reply in
       record {
-        few = g.few;
         named = g.named;
         incarnations = g.incarnations;
         holds = λ n. unmentioned past e (w.nodes n) (λ id h same. not_there o.call id no_call h) (λ id reply h same. not_there o.reply (id, reply) no_reply h) (g.holds n);
@@ -81,8 +78,8 @@ module _ (past : List Entry) (w : WorldState) (file : ℕ) (t : ServerState) (ev
             subst P (sym (history_of-push past e)) (Legal-append empty_table (union w) (union v) (history_of past) _ g.legal (subst Q (sym none) refl));
       }
 
--- a step of a node
-module _ (past : List Entry) (w : WorldState) (n : ℕ) (u : NodeState) (event : Event) (o : Outcome) (g : Good past w) (moves : Moves past (w.nodes n) u (entry event o)) (strange : has_node w n ≡ false → (u.pending ≡ []) × IsSilent (w.nodes n) u o.reply) where
+-- a step of a node, of which no other node's lock is in the way
+module _ (past : List Entry) (w : WorldState) (n : ℕ) (u : NodeState) (event : Event) (o : Outcome) (g : Good past w) (moves : Moves past (w.nodes n) u (entry event o)) (strange : has_node w n ≡ false → (u.pending ≡ []) × IsSilent (w.nodes n) u o.reply) (free_elsewhere : (x : IsExplained past (w.nodes n) u (entry event o)) → has_node w n ≡ true → IsFreeElsewhere w n x.pid x.op x.reply) where
   abbrev before : NodeState
   before = w.nodes n
 
@@ -137,14 +134,17 @@ module _ (past : List Entry) (w : WorldState) (n : ℕ) (u : NodeState) (event :
   after : later.nodes n ≡ u
   after = rw (eq-eqb n n refl) refl
 
+  others_stay : (m : ℕ) → (m ≡ n → ⊥) → later.nodes m ≡ w.nodes m
+  others_stay m other = elim (cases_Bool (m == n)) [ inl same ↦ absurd (other (eqb-true m n same)) | inr apart ↦ rw apart refl ]
+
+  differs : DiffersAt w later n
+  differs = record { shape = refl; incarnation = ap (λ (x : NodeState). x.incarnation) after ∙ moves.incarnation; others = others_stay }
+
   -- and makes the step of the node's table
-  union_steps : (p : Process) (op : Op) (reply : Reply) → has_node w n ≡ true → Step before.table p op reply u.table → Step (union w) p op reply (union later)
-  union_steps p op reply there step =
-      let old = union_alone w n g.few there (g.named n) (g.holds n).own in
-      let now : union later ≡ u.table = union_alone later n g.few there (all_named n) (all_hold n).own ∙ ap (λ (x : NodeState). x.table) after in
-      let P : Table → Type 0 = λ t. Step t p op reply (union later) in
-      let Q : Table → Type 0 = λ t. Step before.table p op reply t in
-      subst P (sym old) (subst Q (sym now) step)
+  union_steps : (pid : ℕ) (op : Op) (reply : Reply) → has_node w n ≡ true → IsFreeElsewhere w n pid op reply → Step before.table (process before pid) op reply u.table → Step (union w) (process before pid) op reply (union later)
+  union_steps pid op reply there free step =
+      let P : Table → Type 0 = λ t. Step before.table (process before pid) op reply t in
+      step_lifts w later n pid op reply there (g.named n) (g.holds n).own differs free (subst P (ap (λ (x : NodeState). x.table) (sym after)) step)
 
   item_legal : Legal (union w) (items_at (past ++ made ∷ []) (length past + 1) made.reply) (union later)
   item_legal =
@@ -154,7 +154,7 @@ module _ (past : List Entry) (w : WorldState) (n : ℕ) (u : NodeState) (event :
             let id = id_of before x.number in
             let Q : Option (ℕ × Op) → Type 0 = λ c. Legal (union w) (item_of (length past + 1) id x.reply c) (union later) in
             elim (cases_Bool (has_node w n)) [
-              | inl there ↦ subst P (sym x.is_reply) (subst Q (sym x.called.found) (union later, (x.is_process, union_steps (process before x.pid) x.op x.reply there x.step), refl))
+              | inl there ↦ subst P (sym x.is_reply) (subst Q (sym x.called.found) (union later, (x.is_process, union_steps x.pid x.op x.reply there (free_elsewhere x there) x.step), refl))
               | inr stranger ↦ absurd (not_there made.reply (id, x.reply) (strange stranger).1.no_reply x.is_reply)
             ]
         | inr silent ↦ subst P (sym silent.no_reply) (sym (union_stays silent.table))
@@ -162,7 +162,6 @@ module _ (past : List Entry) (w : WorldState) (n : ℕ) (u : NodeState) (event :
 
   pub node_good : Good (past ++ entry event o ∷ []) (recorded (with_node w n u) event o).0
   node_good = record {
-    few = g.few;
     named = all_named;
     incarnations = at_each (λ x m. IsNumber 65535 x.incarnation) (subst (IsNumber 65535) (sym moves.incarnation) (g.incarnations n)) (λ m other. g.incarnations m);
     holds = all_hold;

@@ -1,0 +1,130 @@
+-- A step of one node's table is a step of the union of all.
+use Rattle.std.proofs.Common.{◌≡◌, ℕ, ◌≤◌, Bool, true, false, if◌then◌else◌, ◌&&◌, ◌==◌, inl, inr, refl, sym, ◌∙◌, ap, subst, ℤ, Option, Some, Ok}
+use Rattle.std.proofs.lemmas.Bool.{and_parts, and_from, eqb-true, eq-eqb, cases_Bool, both_ways}
+use Rattle.intervals.specs.Bytes.{nothing}
+use Rattle.model.specs.declared.mode.Mode.{Mode}
+use Rattle.model.specs.declared.owner.Kind.{Kind}
+use Rattle.model.specs.declared.owner.Owner.{Owner}
+use Rattle.model.specs.declared.op.Op.{Op}
+use Rattle.model.specs.declared.op.Op.TheVariants.{Set}
+use Rattle.model.specs.declared.reply.Reply.{Reply}
+use Rattle.model.specs.Locks.{bars}
+use Rattle.model.specs.Descriptors.{no_processes}
+use Rattle.model.specs.Table.{Table, Target, target}
+use Rattle.model.specs.Step.{Step}
+use Rattle.messages.specs.Shapes.{ShapeFields}
+use Rattle.messages.specs.Messages.{is_within}
+use Rattle.node_core.specs.State.{NodeState, process}
+use Rattle.cluster_core.specs.World.{WorldState, has_node, is_live}
+use Rattle.cluster_core.specs.Union.{union}
+use Rattle.cluster_core.proofs.NodeTables.{IsOwn}
+use Rattle.cluster_core.proofs.Joined.{IsUnhindered, IsFreeBeside, is_of_host, joined, step-joined}
+
+-- where a set of a process of the node goes unhindered, no lock of another node is in its way
+abbrev pub IsFreeElsewhere : WorldState → ℕ → ℕ → Op → Reply → Type 0
+IsFreeElsewhere w n pid op reply =
+    (fd : ℕ) (kind : Kind) (mode : Mode) (start len : ℤ) (c : Target) (m : ℕ) (o : Owner) (b : ℕ)
+    → op ≡ Set fd kind mode start len
+    → IsUnhindered reply
+    → target (w.nodes n).table (process (w.nodes n) pid) (Some mode) fd kind start len ≡ Ok c
+    → has_node w m ≡ true
+    → (m ≡ n → ⊥)
+    → c.span.lo ≤ b
+    → b ≤ c.span.hi
+    → bars mode ((w.nodes m).table.locks c.file o b) ≡ false
+
+-- the worlds differ in the state of one node alone, which stays in its incarnation
+pub record DiffersAt (w v : WorldState) (n : ℕ) : Type 0 where
+  pub shape : v.shape ≡ w.shape
+  pub incarnation : (v.nodes n).incarnation ≡ (w.nodes n).incarnation
+  pub others : (m : ℕ) → (m ≡ n → ⊥) → v.nodes m ≡ w.nodes m
+
+-- the locks of an owner are those of its node while that is live
+pub union_locks-live : (w : WorldState) (file : ℕ) (o : Owner) → is_live w o.node o.incarnation ≡ true → (union w).locks file o ≡ (w.nodes o.node).table.locks file o
+union_locks-live w file o live = rw live refl
+
+pub union_locks-dead : (w : WorldState) (file : ℕ) (o : Owner) → is_live w o.node o.incarnation ≡ false → (union w).locks file o ≡ nothing
+union_locks-dead w file o dead = rw dead refl
+
+pub union_on-live : (w : WorldState) (n i : ℕ) → is_live w n i ≡ true → (union w).on n i ≡ (w.nodes n).table.on n i
+union_on-live w n i live = rw live refl
+
+pub union_on-dead : (w : WorldState) (n i : ℕ) → is_live w n i ≡ false → (union w).on n i ≡ no_processes
+union_on-dead w n i dead = rw dead refl
+
+-- a node of the shape is live in its incarnation
+pub live_now : (w : WorldState) (n : ℕ) → has_node w n ≡ true → is_live w n (w.nodes n).incarnation ≡ true
+live_now w n there = and_from (has_node w n) ((w.nodes n).incarnation == (w.nodes n).incarnation) there (eq-eqb (w.nodes n).incarnation (w.nodes n).incarnation refl)
+
+-- and the union is its table there
+pub union_on-host : (w : WorldState) (n : ℕ) → has_node w n ≡ true → (union w).on n (w.nodes n).incarnation ≡ (w.nodes n).table.on n (w.nodes n).incarnation
+union_on-host w n there = union_on-live w n (w.nodes n).incarnation (live_now w n there)
+
+pub union_locks-host : (w : WorldState) (n file : ℕ) (o : Owner) → has_node w n ≡ true → o.node ≡ n → o.incarnation ≡ (w.nodes n).incarnation → (union w).locks file o ≡ (w.nodes n).table.locks file o
+union_locks-host w n file o there node incarnation =
+    let live : is_live w o.node o.incarnation ≡ true = and_from (has_node w o.node) (o.incarnation == (w.nodes o.node).incarnation) (ap (has_node w) node ∙ there) (eq-eqb o.incarnation (w.nodes o.node).incarnation (incarnation ∙ ap (λ (k : ℕ). (w.nodes k).incarnation) (sym node))) in
+    union_locks-live w file o live ∙ ap (λ (k : ℕ). (w.nodes k).table.locks file o) node
+
+-- one node's part and the rest
+either : {A : Type 0} (b : Bool) (x y z : A) → (if b then x else z) ≡ (if b then x else (if b then y else z))
+either true x y z = refl
+either false x y z = refl
+
+module _ (w v : WorldState) (n : ℕ) (there : has_node w n ≡ true) (named : (w.nodes n).node ≡ n) (differs : DiffersAt w v n) where
+  there_still : has_node v n ≡ true
+  there_still = ap (λ (s : ShapeFields). is_within s.nodes n) differs.shape ∙ there
+
+  number : (n == (w.nodes n).node) ≡ true
+  number = eq-eqb n (w.nodes n).node (sym named)
+
+  part_here : {A : Type 0} (F : NodeState → A) (none : A) (k : ℕ) → (if is_live v n k then F (v.nodes n) else none) ≡ (if (n == (w.nodes n).node) && (k == (w.nodes n).incarnation) then F (v.nodes n) else (if is_live w n k then F (w.nodes n) else none))
+  part_here F none k =
+      (λ i. if there_still i && (k == differs.incarnation i) then F (v.nodes n) else none)
+      ∙ either (k == (w.nodes n).incarnation) (F (v.nodes n)) (F (w.nodes n)) none
+      ∙ (λ i. if sym number i && (k == (w.nodes n).incarnation) then F (v.nodes n) else (if sym there i && (k == (w.nodes n).incarnation) then F (w.nodes n) else none))
+
+  part_elsewhere : {A : Type 0} (F : NodeState → A) (none : A) (m k : ℕ) → (m == n) ≡ false → v.nodes m ≡ w.nodes m → (if is_live v m k then F (v.nodes m) else none) ≡ (if (m == (w.nodes n).node) && (k == (w.nodes n).incarnation) then F (v.nodes n) else (if is_live w m k then F (w.nodes m) else none))
+  part_elsewhere F none m k apart same =
+      let other : (m == (w.nodes n).node) ≡ false = ap (λ (j : ℕ). m == j) named ∙ apart in
+      (λ i. if is_within (differs.shape i).nodes m && (k == (same i).incarnation) then F (same i) else none) ∙ rw other refl
+
+  part : {A : Type 0} (F : NodeState → A) (none : A) (m k : ℕ) → (if is_live v m k then F (v.nodes m) else none) ≡ (if (m == (w.nodes n).node) && (k == (w.nodes n).incarnation) then F (v.nodes n) else (if is_live w m k then F (w.nodes m) else none))
+  part {A} F none m k = elim (cases_Bool (m == n)) [
+    | inl same ↦
+        let P : ℕ → Type 0 = λ j. ◌≡◌ {A = A} (if is_live v j k then F (v.nodes j) else none) (if (j == (w.nodes n).node) && (k == (w.nodes n).incarnation) then F (v.nodes n) else (if is_live w j k then F (w.nodes j) else none)) in
+        subst P (sym (eqb-true m n same)) (part_here F none k)
+    | inr other ↦ part_elsewhere F none m k other (differs.others m (λ same. both_ways (m == n) other (eq-eqb m n same)))
+  ]
+
+  -- the union is the node's table beside those of the others
+  pub union_joined : union v ≡ joined (union w) (w.nodes n).node (w.nodes n).incarnation (v.nodes n).table
+  union_joined = λ i. record {
+    on = λ m k. part (λ s. s.table.on m k) no_processes m k i;
+    locks = λ file o. part (λ s. s.table.locks file o) nothing o.node o.incarnation i;
+  }
+
+-- what no lock of another node hinders no lock beside the node's table does
+free_beside : (w : WorldState) (n pid : ℕ) (op : Op) (reply : Reply) → (w.nodes n).node ≡ n → IsFreeElsewhere w n pid op reply → IsFreeBeside (union w) (process (w.nodes n) pid) (w.nodes n).table op reply
+free_beside w n pid op reply named free fd kind mode start len c o b is_set unhindered passes apart above below =
+    let s = w.nodes n in
+    elim (cases_Bool (is_live w o.node o.incarnation)) [
+      | inl live ↦
+          let parts = and_parts (has_node w o.node) (o.incarnation == (w.nodes o.node).incarnation) live in
+          let other : o.node ≡ n → ⊥ = λ same.
+          let incarnation : o.incarnation ≡ s.incarnation = eqb-true _ _ parts.1 ∙ ap (λ (k : ℕ). (w.nodes k).incarnation) same in
+          both_ways (is_of_host s.node s.incarnation o) apart (and_from _ _ (eq-eqb o.node s.node (same ∙ sym named)) (eq-eqb o.incarnation s.incarnation incarnation)) in
+          ap (λ (f : ℕ → Option Mode). bars mode (f b)) (union_locks-live w c.file o live) ∙ free fd kind mode start len c o.node o b is_set unhindered passes parts.0 other above below
+      | inr dead ↦ ap (λ (f : ℕ → Option Mode). bars mode (f b)) (union_locks-dead w c.file o dead)
+    ]
+
+-- a step of the node's table is a step of the union
+pub step_lifts : (w v : WorldState) (n pid : ℕ) (op : Op) (reply : Reply) → has_node w n ≡ true → (w.nodes n).node ≡ n → IsOwn (w.nodes n).table (w.nodes n).node (w.nodes n).incarnation → DiffersAt w v n → IsFreeElsewhere w n pid op reply → Step (w.nodes n).table (process (w.nodes n) pid) op reply (v.nodes n).table → Step (union w) (process (w.nodes n) pid) op reply (union v)
+step_lifts w v n pid op reply there named own differs free step =
+    let s = w.nodes n in
+    let p = process s pid in
+    let nothing_else : DiffersAt w w n = record { shape = refl; incarnation = refl; others = λ m other. refl } in
+    let old : union w ≡ joined (union w) s.node s.incarnation s.table = union_joined w w n there named nothing_else in
+    let new : union v ≡ joined (union w) s.node s.incarnation (v.nodes n).table = union_joined w v n there named differs in
+    let P : Table → Type 0 = λ t. Step t p op reply (union v) in
+    let Q : Table → Type 0 = λ t. Step (joined (union w) s.node s.incarnation s.table) p op reply t in
+    subst P (sym old) (subst Q (sym new) (step-joined (union w) p s.table (v.nodes n).table op reply own (free_beside w n pid op reply named free) step))
