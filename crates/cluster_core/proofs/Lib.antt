@@ -8,6 +8,7 @@ pub mod Entries
 pub mod Fitting
 pub mod Targets
 pub mod NodeTables
+pub mod Covering
 pub mod Tries
 pub mod Nodes
 pub mod Moves
