@@ -1,5 +1,5 @@
 -- The locks of a node are covered by its tokens, and each step of the node keeps them so.
-use Rattle.std.proofs.Common.{◌≡◌, ℕ, ◌+◌, ◌≤◌, Bool, true, false, if◌then◌else◌, ◌&&◌, ◌==◌, nat_le, refl, sym, subst, List, ◌++◌, [], ◌∷◌, Option, Some, None, Result, Ok, Err}
+use Rattle.std.proofs.Common.{◌≡◌, ℕ, ◌+◌, ◌≤◌, Bool, true, false, not, if◌then◌else◌, ◌&&◌, ◌==◌, nat_le, nat_lt, is_some, refl, sym, subst, List, ◌++◌, [], ◌∷◌, Option, Some, None, Result, Ok, Err}
 use Rattle.std.proofs.lemmas.Bool.{and_parts, eqb-true, leb-true}
 use Rattle.std.proofs.lemmas.Option.{none-some, same_Some}
 use Rattle.intervals.specs.Bytes.{Range, put, is_in}
@@ -24,12 +24,20 @@ use Rattle.token_set.proofs.TokenLaws.{covers-each, covers-from}
 use Rattle.messages.specs.Shapes.{ShapeFields}
 use Rattle.messages.specs.declared.message.Message.{Message}
 use Rattle.messages.specs.declared.message.Message.TheVariants.{Request, Grant, Taken}
+use Rattle.messages.specs.Messages.{addressee, call_of, file_of, is_within}
+use Rattle.messages.specs.declared.outcome.Outcome.{Outcome}
+use Rattle.messages.specs.declared.refusal.StepError.{StepError}
+use Rattle.messages.specs.declared.refusal.StepError.TheVariants.{Busy, Stranger, Spent}
+use Rattle.node_core.specs.declared.event.NodeEvent.{NodeEvent}
+use Rattle.node_core.specs.declared.event.NodeEvent.TheVariants.{Call, Deliver}
 use Rattle.node_core.specs.declared.open_call.OpenCall.{OpenCall}
-use Rattle.node_core.specs.State.{NodeState, FileState, Effect, first_node, quiet, process, open_call, target_of}
+use Rattle.node_core.specs.State.{NodeState, FileState, Effect, first_node, quiet, process, open_call, open_call_of, target_of, outcome}
 use Rattle.node_core.specs.Try.{settled, requested, tried, tried_against, tried_if}
-use Rattle.node_core.specs.Calls.{called, after_call, lock_call}
-use Rattle.node_core.specs.Commands.{remembered, in_order, after_grant, granted, delivered}
+use Rattle.node_core.specs.Calls.{is_pid, is_in_shape, called, after_call, lock_call, call_rule}
+use Rattle.node_core.specs.Commands.{remembered, in_order, after_grant, granted, delivered, is_node, deliver_rule}
+use Rattle.node_core.specs.Node.{node_rule}
 use Rattle.cluster_core.specs.Safe.{Excludes}
+use Rattle.cluster_core.proofs.Targets.{ok_is}
 
 -- the token serves each byte that is locked
 abbrev pub IsCovered : Token → FileLocks → Type 0
@@ -195,3 +203,35 @@ pub delivered_covered : (s : NodeState) (m : Message) → Covered s → Covered 
 delivered_covered s (Grant file number call mode span) old = in_order_covered s file number (granted s file number call mode span) old (granted_covered s file number call mode span old)
 delivered_covered s (Request file call urgency mode wanted) old = old
 delivered_covered s (Taken file number call) old = old
+
+-- what holds of an answer that is not refused
+unless_refused : {A E : Type 0} (P : A → Type 0) (refused : Bool) (x : Result A E) (e : E) (p : A) → ((h : x ≡ Ok p) → P p) → ◌≡◌ {A = Result A E} (if refused then Err e else x) (Ok p) → P p
+unless_refused P true x e p good h = absurd (cc)
+unless_refused P false x e p good h = good h
+
+call_rule_covered : (s : NodeState) (pid : ℕ) (op : Op) (done : NodeState × Outcome) → call_rule s pid op ≡ Ok done → Covered s → Covered done.0
+call_rule_covered s pid op done h old =
+    let P : NodeState × Outcome → Type 0 = λ x. Covered x.0 in
+    let after : Result (NodeState × Outcome) StepError = Ok (after_call s pid op) in
+    let few : Result (NodeState × Outcome) StepError = if nat_lt s.calls 4294967295 then after else Err Spent in
+    unless_refused P (not (is_pid pid && is_in_shape s.shape op)) (if is_some (open_call_of s pid) then Err Busy else few) Stranger done
+    (unless_refused P (is_some (open_call_of s pid)) few Busy done
+    (elim (nat_lt s.calls 4294967295) as (λ x. ◌≡◌ {A = Result (NodeState × Outcome) StepError} (if x then after else Err Spent) (Ok done) → P done) [
+      | true ↦ λ is. subst P (ok_is (after_call s pid op) done is) (after_call_covered s pid op old)
+      | false ↦ λ is. absurd (cc)
+    ])) h
+
+deliver_rule_covered : (s : NodeState) (m : Message) (done : NodeState × Outcome) → deliver_rule s m ≡ Ok done → Covered s → Covered done.0
+deliver_rule_covered s m done h old =
+    let P : NodeState × Outcome → Type 0 = λ x. Covered x.0 in
+    let taken : Bool → Result (NodeState × Outcome) StepError = λ x. if x then Ok (outcome None (delivered s m)) else Ok (outcome None (quiet s)) in
+    unless_refused P (not (is_node s.node (addressee m) && is_within s.shape.files (file_of m))) (taken ((call_of m).incarnation == s.incarnation)) Stranger done
+    (elim ((call_of m).incarnation == s.incarnation) as (λ x. taken x ≡ Ok done → P done) [
+      | true ↦ λ is. subst P (ok_is (outcome None (delivered s m)) done is) (delivered_covered s m old)
+      | false ↦ λ is. subst P (ok_is (outcome None (quiet s)) done is) old
+    ]) h
+
+-- each step of a node
+pub node_rule_covered : (s u : NodeState) (event : NodeEvent) (o : Outcome) → node_rule s event ≡ Ok (u, o) → Covered s → Covered u
+node_rule_covered s u (Call pid op) o h old = call_rule_covered s pid op (u, o) h old
+node_rule_covered s u (Deliver m) o h old = deliver_rule_covered s m (u, o) h old
