@@ -10,6 +10,7 @@ pub mod Targets
 pub mod NodeTables
 pub mod Covering
 pub mod Tries
+pub mod Served
 pub mod Nodes
 pub mod Moves
 pub mod Unions
