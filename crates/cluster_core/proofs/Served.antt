@@ -1,5 +1,5 @@
 -- What a node answers under its token, no lock of another node is in the way of.
-use Rattle.std.proofs.Common.{◌≡◌, ℕ, ◌≤◌, ◌⊎◌, true, false, if◌then◌else◌, ◌==◌, inl, inr, refl, sym, subst, ap, ℤ, Some, Ok}
+use Rattle.std.proofs.Common.{◌≡◌, ℕ, ◌≤◌, ◌⊎◌, true, false, ◌==◌, inl, inr, refl, sym, subst, ℤ, Some, Ok}
 use Rattle.std.proofs.lemmas.Bool.{eqb-true, eq-eqb, cases_Bool}
 use Rattle.model.specs.declared.mode.Mode.{Mode}
 use Rattle.model.specs.declared.owner.Kind.{Kind}
