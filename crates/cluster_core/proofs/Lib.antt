@@ -8,7 +8,9 @@ pub mod Entries
 pub mod Fitting
 pub mod Targets
 pub mod NodeTables
+pub mod Covering
 pub mod Tries
+pub mod Served
 pub mod Nodes
 pub mod Moves
 pub mod Unions

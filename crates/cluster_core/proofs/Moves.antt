@@ -23,6 +23,7 @@ use Rattle.cluster_core.specs.Next.{entry}
 use Rattle.cluster_core.proofs.Entries.{not_there, IsNamed, Unanswered, unanswered-push, named-push}
 use Rattle.cluster_core.proofs.Fitting.{Called, called-keeps, called-last}
 use Rattle.cluster_core.proofs.NodeTables.{IsOwn, same_follows}
+use Rattle.cluster_core.proofs.Covering.{Covered, after_grant_covered, tried_covered, after_call_covered}
 use Rattle.cluster_core.proofs.Tries.{Continues, IsAnswered, IsSilent, tried_ends, called_ends}
 use Rattle.cluster_core.proofs.Nodes.{IsOpen, Holds, Moves, open-continues, opened, all_wait, others_wait, found_open}
 
@@ -34,10 +35,11 @@ same_numbers past e s u g calls none holds id named node incarnation = elim (nam
 ]
 
 -- a step that names no call and answers none
-pub silent_moves : (past : List Entry) (e : Entry) (s u : NodeState) → Continues s u → u.calls ≡ s.calls → u.pending ≡ s.pending → e.call ≡ None → IsSilent s u e.reply → Holds past s → Moves past s u e
-silent_moves past e s u g calls pending none silent holds = record {
+pub silent_moves : (past : List Entry) (e : Entry) (s u : NodeState) → Continues s u → u.calls ≡ s.calls → u.pending ≡ s.pending → e.call ≡ None → IsSilent s u e.reply → Covered u → Holds past s → Moves past s u e
+silent_moves past e s u g calls pending none silent covered holds = record {
   holds = record {
     own = subst (λ (i : ℕ). IsOwn u.table u.node i) (sym g.incarnation) (subst (λ (n : ℕ). IsOwn u.table n s.incarnation) (sym g.node) g.follows.own);
+    covered = covered;
     waiting = All-same (IsOpen (past ++ e ∷ []) u) u.pending s.pending pending (all_wait past e s u s.pending g silent.no_reply holds.waiting);
     numbers = same_numbers past e s u g calls none holds;
   };
@@ -48,10 +50,11 @@ silent_moves past e s u g calls pending none silent holds = record {
 }
 
 -- a step that answers an open call
-answer_moves : (past : List Entry) (e : Entry) (s u : NodeState) (c : OpenCall) (o : IsOpen past s c) → Continues s u → u.calls ≡ s.calls → e.call ≡ None → IsAnswered s c.number c.pid o.op u e.reply → Holds past s → Moves past s u e
-answer_moves past e s u c o g calls none a holds = record {
+answer_moves : (past : List Entry) (e : Entry) (s u : NodeState) (c : OpenCall) (o : IsOpen past s c) → Continues s u → u.calls ≡ s.calls → e.call ≡ None → IsAnswered s c.number c.pid o.op u e.reply → Covered u → Holds past s → Moves past s u e
+answer_moves past e s u c o g calls none a covered holds = record {
   holds = record {
     own = subst (λ (i : ℕ). IsOwn u.table u.node i) (sym g.incarnation) (subst (λ (n : ℕ). IsOwn u.table n s.incarnation) (sym g.node) g.follows.own);
+    covered = covered;
     waiting = All-same (IsOpen (past ++ e ∷ []) u) u.pending (without_call s c.number).pending a.closed (others_wait past e s u c.number a.reply g a.is_reply holds.waiting);
     numbers = same_numbers past e s u g calls none holds;
   };
@@ -68,6 +71,7 @@ answer_moves past e s u c o g calls none a holds = record {
     called = called-keeps past (e ∷ []) (id_of s c.number) c.pid o.op o.called;
     fresh = o.unanswered;
     step = a.step;
+    served = a.served;
   });
 }
 
@@ -89,7 +93,7 @@ module _ (past : List Entry) (s : NodeState) (event : Event) (holds : Holds past
   quiet_receives e same none =
       let P : NodeState → Type 0 = λ u. Receives past s u (said e) in
       subst P (sym same) (record {
-        moves = silent_moves past (said e) s s still refl refl refl (record { no_reply = none; table = refl }) holds;
+        moves = silent_moves past (said e) s s still refl refl refl (record { no_reply = none; table = refl }) holds.covered holds;
         idle = λ h. (h, record { no_reply = none; table = refl });
       })
 
@@ -106,12 +110,13 @@ module _ (past : List Entry) (s : NodeState) (event : Event) (holds : Holds past
       let next = after_grant s file number call mode span in
       let first = Taken file number call in
       let e = λ (x : Option OpenCall). said (before first (tried_if next x)) in
+      let raised = after_grant_covered s file number call mode span holds.covered in
       let found = find (λ c. c.number == call.number) s.pending in
       elim found as (λ x. found ≡ x → Receives past s (tried_if next x).state (e x)) [
         | None ↦ λ h.
             let silent : IsSilent s next None = record { no_reply = refl; table = refl } in
             record {
-              moves = silent_moves past (e None) s next (record { node = refl; incarnation = refl; follows = same_follows s.table s.node s.incarnation holds.own }) refl refl refl silent holds;
+              moves = silent_moves past (e None) s next (record { node = refl; incarnation = refl; follows = same_follows s.table s.node s.incarnation holds.own }) refl refl refl silent raised holds;
               idle = λ none. (none, silent);
             }
         | Some c ↦ λ h.
@@ -121,8 +126,8 @@ module _ (past : List Entry) (s : NodeState) (event : Event) (holds : Holds past
             let g : Continues s u = record { node = t.continues.node; incarnation = t.continues.incarnation; follows = t.continues.follows } in
             record {
               moves = elim t.ends [
-                | inl a ↦ answer_moves past (e (Some c)) s u c o g t.calls refl (record { reply = a.reply; is_reply = a.is_reply; step = a.step; closed = a.closed }) holds
-                | inr q ↦ silent_moves past (e (Some c)) s u g t.calls q.1 refl (record { no_reply = q.0.no_reply; table = q.0.table }) holds
+                | inl a ↦ answer_moves past (e (Some c)) s u c o g t.calls refl (record { reply = a.reply; is_reply = a.is_reply; step = a.step; served = a.served; closed = a.closed }) (tried_covered next c raised) holds
+                | inr q ↦ silent_moves past (e (Some c)) s u g t.calls q.1 refl (record { no_reply = q.0.no_reply; table = q.0.table }) (tried_covered next c raised) holds
               ];
               idle = λ none. absurd (found_none (λ d. d.number == call.number) s.pending c none h);
             }
@@ -164,6 +169,7 @@ module _ (past : List Entry) (s : NodeState) (node pid : ℕ) (op : Op) (holds :
       record {
         holds = record {
           own = subst (λ (i : ℕ). IsOwn u.table u.node i) (sym g.incarnation) (subst (λ (n : ℕ). IsOwn u.table n s.incarnation) (sym g.node) g.follows.own);
+          covered = after_call_covered s pid op holds.covered;
           waiting = elim t.ends [
             | inl a ↦ All-same (IsOpen (past ++ e ∷ []) u) u.pending (without_call s number).pending a.closed (others_wait past e s u number a.reply g a.is_reply holds.waiting)
             | inr o ↦
@@ -183,7 +189,7 @@ module _ (past : List Entry) (s : NodeState) (node pid : ℕ) (op : Op) (holds :
             let is = same_Some id other h in
             (ap (λ (x : CallId). x.node) (sym is), λ n. not_named (subst (λ (x : CallId). IsNamed past x) (sym is) n));
         ends = elim t.ends [
-          | inl a ↦ inl (record { number = number; pid = pid; op = op; reply = a.reply; is_reply = a.is_reply; is_process = is_process; called = here; fresh = fresh; step = a.step })
+          | inl a ↦ inl (record { number = number; pid = pid; op = op; reply = a.reply; is_reply = a.is_reply; is_process = is_process; called = here; fresh = fresh; step = a.step; served = a.served })
           | inr o ↦ inr (record { no_reply = o.silent.no_reply; table = o.silent.table })
         ];
       }

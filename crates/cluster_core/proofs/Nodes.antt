@@ -14,7 +14,8 @@ use Rattle.node_core.specs.State.{NodeState, without_call, process, id_of, targe
 use Rattle.cluster_core.proofs.Entries.{not_there, same_answer, IsNamed, Unanswered, unanswered-push}
 use Rattle.cluster_core.proofs.Fitting.{Called, called-keeps}
 use Rattle.cluster_core.proofs.NodeTables.{IsOwn, target_goes_on}
-use Rattle.cluster_core.proofs.Tries.{IsReady, Continues, IsSilent}
+use Rattle.cluster_core.proofs.Covering.{Covered}
+use Rattle.cluster_core.proofs.Tries.{IsReady, IsServed, Continues, IsSilent}
 
 -- an open call: it passes its tests, stands in the run, and is not answered there
 pub record IsOpen (past : List Entry) (s : NodeState) (c : OpenCall) : Type 0 where
@@ -27,6 +28,7 @@ pub record IsOpen (past : List Entry) (s : NodeState) (c : OpenCall) : Type 0 wh
 -- what holds of a node after a run
 pub record Holds (past : List Entry) (s : NodeState) : Type 0 where
   pub own : IsOwn s.table s.node s.incarnation
+  pub covered : Covered s
   pub waiting : All (IsOpen past s) s.pending
   pub numbers : (id : CallId) → IsNamed past id → id.node ≡ s.node → id.incarnation ≡ s.incarnation → id.number ≤ s.calls
 
@@ -110,7 +112,7 @@ found_open P number (d ∷ ds) c a h =
       | false ↦ λ t f. found_open P number ds c (All-tail P d ds a) f
     ] refl h
 
--- what an entry says of calls of this node: it answers one of them by a step of its table, or leaves the table
+-- what an entry says of calls of this node: it answers one of them by a step of its table and under its token, or leaves the table
 pub record IsExplained (past : List Entry) (s u : NodeState) (e : Entry) : Type 0 where
   pub number : ℕ
   pub pid : ℕ
@@ -121,6 +123,7 @@ pub record IsExplained (past : List Entry) (s u : NodeState) (e : Entry) : Type 
   pub called : Called (past ++ e ∷ []) (id_of s number) pid op
   pub fresh : Unanswered past (id_of s number)
   pub step : Step s.table (process s pid) op reply u.table
+  pub served : IsServed s.table (process s pid) op reply u
 
 -- a step of a node with its entry
 pub record Moves (past : List Entry) (s u : NodeState) (e : Entry) : Type 0 where

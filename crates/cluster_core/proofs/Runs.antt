@@ -35,6 +35,7 @@ use Rattle.cluster_core.proofs.Entries.{none_named, none_called, none_replied}
 use Rattle.cluster_core.proofs.Fitting.{fitting_empty, fits, each_at_its_reply}
 use Rattle.cluster_core.proofs.Targets.{ok_is}
 use Rattle.cluster_core.proofs.NodeTables.{own_empty}
+use Rattle.cluster_core.proofs.Covering.{first_covered}
 use Rattle.cluster_core.proofs.Nodes.{IsOpen}
 use Rattle.cluster_core.proofs.Moves.{delivered_receives, quiet_receives, call_moves}
 use Rattle.cluster_core.proofs.Unions.{union_first, only_node}
@@ -161,6 +162,7 @@ good_first shape = record {
   incarnations = λ n. (omega arith, omega arith);
   holds = λ n. record {
     own = own_empty n 1;
+    covered = first_covered shape n 1;
     waiting = All-nil (IsOpen [] ((first_world shape).nodes n));
     numbers = λ id named node incarnation. absurd (none_named id named);
   };

@@ -4,12 +4,14 @@ use Rattle.std.proofs.lemmas.Bool.{eq-eqb}
 use Rattle.std.proofs.lemmas.List.Elements.{filter-append}
 use Rattle.model.specs.declared.mode.Mode.{Mode}
 use Rattle.model.specs.declared.owner.Kind.{Kind}
+use Rattle.model.specs.declared.access.Access.{Access}
+use Rattle.model.specs.declared.lock_info.LockInfo.{LockInfo}
 use Rattle.model.specs.declared.process.Process.{Process}
 use Rattle.model.specs.declared.call.CallId.{CallId}
 use Rattle.model.specs.declared.op.Op.{Op}
 use Rattle.model.specs.declared.op.Op.TheVariants.{Spawn, Open, Set, Unlock}
 use Rattle.model.specs.declared.reply.Reply.{Reply}
-use Rattle.model.specs.declared.reply.Reply.TheVariants.{Done, Again, NoLocks}
+use Rattle.model.specs.declared.reply.Reply.TheVariants.{Done, Again, BadFd, NoLocks}
 use Rattle.model.specs.Limits.{IsNumber, most_processes, most_regions}
 use Rattle.model.specs.Locks.{IsOfNode, IsFree, IsLowestBlocker, lowest_blocker}
 use Rattle.model.proofs.BlockerLaws.{lowest_is_lowest}
@@ -21,6 +23,7 @@ use Rattle.node_core.specs.declared.open_call.OpenCall.{OpenCall}
 use Rattle.node_core.specs.State.{NodeState, Effect, without_call, process, id_of, target_of}
 use Rattle.node_core.specs.Try.{settled, requested, tried, tried_against}
 use Rattle.node_core.specs.Calls.{called, lock_call}
+use Rattle.cluster_core.proofs.Targets.{ok_is}
 use Rattle.cluster_core.proofs.NodeTables.{IsOwn, Follows, same_follows, spawn_follows, open_follows, lock_follows, unlock_follows, target_own}
 
 -- the open call is this set of its process, and passes its tests
@@ -38,11 +41,16 @@ pub record Continues (s u : NodeState) : Type 0 where
   pub incarnation : u.incarnation ≡ s.incarnation
   pub follows : Follows s.table u.table s.node s.incarnation
 
--- the call is answered as the node's table may answer it, and is open no longer
+-- a set that is done, or refused for the number of regions, asked for bytes that the token covers
+abbrev pub IsServed : Table → Process → Op → Reply → NodeState → Type 0
+IsServed t p op reply u = (fd : ℕ) (kind : Kind) (mode : Mode) (start len : ℤ) (c : Target) → op ≡ Set fd kind mode start len → (reply ≡ Done) ⊎ (reply ≡ NoLocks) → target t p (Some mode) fd kind start len ≡ Ok c → covers (u.files c.file).token c.span mode ≡ true
+
+-- the call is answered as the node's table and token may answer it, and is open no longer
 pub record IsAnswered (s : NodeState) (number pid : ℕ) (op : Op) (u : NodeState) (o : Option (CallId × Reply)) : Type 0 where
   pub reply : Reply
   pub is_reply : o ≡ Some (id_of s number, reply)
   pub step : Step s.table (process s pid) op reply u.table
+  pub served : IsServed s.table (process s pid) op reply u
   pub closed : u.pending ≡ (without_call s number).pending
 
 -- nothing is answered, and the table stays
@@ -78,11 +86,46 @@ same_continues s pending own = record { node = refl; incarnation = refl; follows
 settled_continues : (s : NodeState) (number : ℕ) (answer : Table × Reply) → Follows s.table answer.0 s.node s.incarnation → Continues s (settled s number answer).state
 settled_continues s number answer follows = record { node = refl; incarnation = refl; follows = follows }
 
-settled_answers : (s : NodeState) (number pid : ℕ) (op : Op) (answer : Table × Reply) → Step s.table (process s pid) op answer.1 answer.0 → IsAnswered s number pid op (settled s number answer).state (settled s number answer).reply
-settled_answers s number pid op answer step = record { reply = answer.1; is_reply = refl; step = step; closed = refl }
+settled_answers : (s : NodeState) (number pid : ℕ) (op : Op) (answer : Table × Reply) → Step s.table (process s pid) op answer.1 answer.0 → IsServed s.table (process s pid) op answer.1 s → IsAnswered s number pid op (settled s number answer).state (settled s number answer).reply
+settled_answers s number pid op answer step served = record { reply = answer.1; is_reply = refl; step = step; served = served; closed = refl }
 
-settled_taken : (s : NodeState) (number pid : ℕ) (op : Op) (answer : Table × Reply) → Step s.table (process s pid) op answer.1 answer.0 → Follows s.table answer.0 s.node s.incarnation → Taken s number pid op (settled s number answer).state (settled s number answer).reply
-settled_taken s number pid op answer step follows = record { continues = settled_continues s number answer follows; calls = refl; ends = inl (settled_answers s number pid op answer step) }
+settled_taken : (s : NodeState) (number pid : ℕ) (op : Op) (answer : Table × Reply) → Step s.table (process s pid) op answer.1 answer.0 → IsServed s.table (process s pid) op answer.1 s → Follows s.table answer.0 s.node s.incarnation → Taken s number pid op (settled s number answer).state (settled s number answer).reply
+settled_taken s number pid op answer step served follows = record { continues = settled_continues s number answer follows; calls = refl; ends = inl (settled_answers s number pid op answer step served) }
+
+-- what a set is about
+abbrev sought : Table → Process → Op → Result Target Reply
+sought t p (Set fd kind mode start len) = target t p (Some mode) fd kind start len
+sought t p _ = Err BadFd
+
+abbrev mode_of : Op → Mode → Mode
+mode_of (Set fd kind mode start len) otherwise = mode
+mode_of _ otherwise = otherwise
+
+-- a set whose bytes the token covers
+set_served : (t : Table) (p : Process) (op : Op) (c : OpenCall) (reply : Reply) (u : NodeState) → IsReady t p op c → covers (u.files c.file).token c.span c.mode ≡ true → IsServed t p op reply u
+set_served t p op c reply u ready given fd kind mode start len d is answer there =
+    let same = sym ready.is_set ∙ is in
+    let about : target_of c ≡ d = ok_is (target_of c) d (sym ready.passes ∙ ap (sought t p) same ∙ there) in
+    let modes : c.mode ≡ mode = ap (λ o. mode_of o mode) same in
+    subst (λ (x : Target). covers (u.files x.file).token x.span mode ≡ true) about (subst (λ (m : Mode). covers (u.files c.file).token c.span m ≡ true) modes given)
+
+-- one that fails a test, or that another lock blocks
+refused_served : (t : Table) (p : Process) (op : Op) (refusal reply : Reply) (u : NodeState) → sought t p op ≡ Err refusal → IsServed t p op reply u
+refused_served t p op refusal reply u err fd kind mode start len d is answer there = let e : Err refusal ≡ Ok d = sym err ∙ ap (sought t p) is ∙ there in absurd (cc)
+
+again_served : (t : Table) (p : Process) (op : Op) (lock : LockInfo) (u : NodeState) → IsServed t p op (Again lock) u
+again_served t p op lock u fd kind mode start len d is (inl e) there = absurd (cc)
+again_served t p op lock u fd kind mode start len d is (inr e) there = absurd (cc)
+
+-- and other calls
+spawn_served : (t : Table) (p : Process) (reply : Reply) (u : NodeState) → IsServed t p Spawn reply u
+spawn_served t p reply u fd kind mode start len d is answer there = absurd (cc)
+
+open_served : (t : Table) (p : Process) (file : ℕ) (access : Access) (reply : Reply) (u : NodeState) → IsServed t p (Open file access) reply u
+open_served t p file access reply u fd kind mode start len d is answer there = absurd (cc)
+
+unlock_served : (t : Table) (p : Process) (k : ℕ) (of : Kind) (from count : ℤ) (reply : Reply) (u : NodeState) → IsServed t p (Unlock k of from count) reply u
+unlock_served t p k of from count reply u fd kind mode start len d is answer there = absurd (cc)
 
 -- a set that passes its tests is answered as its answer says
 set_step : (t : Table) (p : Process) (op : Op) (c : OpenCall) (reply : Reply) (u : Table) → IsReady t p op c → SetStep t c.mode reply u (target_of c) → Step t p op reply u
@@ -116,18 +159,18 @@ tried_ends s c op pid_in own ready =
       | Some lock ↦ λ found. record {
         continues = same_continues s (without_call s c.number).pending own;
         calls = refl;
-        ends = inl (record { reply = Again lock; is_reply = refl; step = set_step s.table p op c (Again lock) s.table ready (found.blocks, refl); closed = refl });
+        ends = inl (record { reply = Again lock; is_reply = refl; step = set_step s.table p op c (Again lock) s.table ready (found.blocks, refl); served = again_served s.table p op lock s; closed = refl });
       }
       | None ↦ λ free.
           let out : Bool → Effect = λ b. if b then settled s c.number answer else requested s c in
-          elim (covers (s.files c.file).token c.span c.mode) as (λ b. Tried s c.number c.pid op (out b).state (out b).reply) [
-            | true ↦ record {
+          elim (covers (s.files c.file).token c.span c.mode) as (λ b. covers (s.files c.file).token c.span c.mode ≡ b → Tried s c.number c.pid op (out b).state (out b).reply) [
+            | true ↦ λ given. record {
               continues = settled_continues s c.number answer (lock_follows s.table s.node s.incarnation (target_of c) (Some c.mode) is own);
               calls = refl;
-              ends = inl (settled_answers s c.number c.pid op answer (set_step s.table p op c answer.1 answer.0 ready (lock_step s.table (target_of c) c.mode free)));
+              ends = inl (settled_answers s c.number c.pid op answer (set_step s.table p op c answer.1 answer.0 ready (lock_step s.table (target_of c) c.mode free)) (set_served s.table p op c answer.1 s ready given));
             }
-            | false ↦ record { continues = same_continues s s.pending own; calls = refl; ends = inr (record { no_reply = refl; table = refl }, refl) }
-          ]
+            | false ↦ λ other. record { continues = same_continues s s.pending own; calls = refl; ends = inr (record { no_reply = refl; table = refl }, refl) }
+          ] refl
     ] (lowest_is_lowest h c.owner c.span c.mode (of_owner s.table s.node s.incarnation c.file c.owner.node c.owner.incarnation is.owner.node_is is.owner.incarnation_is own) is.span.ordered is.span.ends)
 
 -- a call that is closed again was not there
@@ -152,6 +195,7 @@ set_taken s number pid fd kind mode start len pid_in own =
           reply = refusal;
           is_reply = refl;
           step = let Q : Result Target Reply → Type 0 = λ x. AfterTests s.table x refusal s.table (SetStep s.table mode refusal s.table) in subst Q (sym h) (refl, refl);
+          served = refused_served s.table p op refusal refusal s h;
           closed = refl;
         });
       }
@@ -164,7 +208,7 @@ set_taken s number pid fd kind mode start len pid_in own =
             continues = record { node = t.continues.node; incarnation = t.continues.incarnation; follows = t.continues.follows };
             calls = t.calls;
             ends = elim t.ends [
-              | inl a ↦ inl (record { reply = a.reply; is_reply = a.is_reply; step = a.step; closed = a.closed ∙ closed_again s.pending c })
+              | inl a ↦ inl (record { reply = a.reply; is_reply = a.is_reply; step = a.step; served = a.served; closed = a.closed ∙ closed_again s.pending c })
               | inr q ↦ inr (record { silent = record { no_reply = q.0.no_reply; table = q.0.table }; call = c; number_is = refl; pid_is = refl; ready = ready; pending = q.1 })
             ];
           }
@@ -172,7 +216,7 @@ set_taken s number pid fd kind mode start len pid_in own =
 
 -- a call is taken
 pub called_ends : (s : NodeState) (number pid : ℕ) (op : Op) → IsNumber most_processes pid → IsOwn s.table s.node s.incarnation → Taken s number pid op (called s number pid op).state (called s number pid op).reply
-called_ends s number pid Spawn pid_in own = settled_taken s number pid Spawn (beside s.table (process s pid) (after_spawn (around s.table (process s pid)) pid)) (refl, refl) (spawn_follows s.table s.node s.incarnation pid own)
-called_ends s number pid (Open file access) pid_in own = settled_taken s number pid (Open file access) (beside s.table (process s pid) (after_open (around s.table (process s pid)) pid file access)) (refl, refl) (open_follows s.table s.node s.incarnation pid file access pid_in own)
+called_ends s number pid Spawn pid_in own = settled_taken s number pid Spawn (beside s.table (process s pid) (after_spawn (around s.table (process s pid)) pid)) (refl, refl) (spawn_served s.table (process s pid) (beside s.table (process s pid) (after_spawn (around s.table (process s pid)) pid)).1 s) (spawn_follows s.table s.node s.incarnation pid own)
+called_ends s number pid (Open file access) pid_in own = settled_taken s number pid (Open file access) (beside s.table (process s pid) (after_open (around s.table (process s pid)) pid file access)) (refl, refl) (open_served s.table (process s pid) file access (beside s.table (process s pid) (after_open (around s.table (process s pid)) pid file access)).1 s) (open_follows s.table s.node s.incarnation pid file access pid_in own)
 called_ends s number pid (Set fd kind mode start len) pid_in own = set_taken s number pid fd kind mode start len pid_in own
-called_ends s number pid (Unlock fd kind start len) pid_in own = settled_taken s number pid (Unlock fd kind start len) (after_unlock s.table (target s.table (process s pid) None fd kind start len)) (refl, refl) (unlock_follows s.table s.node s.incarnation pid fd kind start len pid_in own)
+called_ends s number pid (Unlock fd kind start len) pid_in own = settled_taken s number pid (Unlock fd kind start len) (after_unlock s.table (target s.table (process s pid) None fd kind start len)) (refl, refl) (unlock_served s.table (process s pid) fd kind start len (after_unlock s.table (target s.table (process s pid) None fd kind start len)).1 s) (unlock_follows s.table s.node s.incarnation pid fd kind start len pid_in own)

@@ -53,6 +53,7 @@ replied_named past h f id reply at r =
 unmentioned : (past : List Entry) (e : Entry) (s : NodeState) → ((id : CallId) → e.call ≡ Some id → id.node ≡ s.node → ⊥) → ((id : CallId) (reply : Reply) → e.reply ≡ Some (id, reply) → id.node ≡ s.node → ⊥) → Holds past s → Holds (past ++ e ∷ []) s
 unmentioned past e s no_call no_reply holds = record {
   own = holds.own;
+  covered = holds.covered;
   waiting = All-weaker (IsOpen past s) (IsOpen (past ++ e ∷ []) s) (λ c o. open-push past e s c (λ reply h. no_reply (id_of s c.number) reply h refl) o) s.pending holds.waiting;
   numbers = λ id n node incarnation. elim (named-push past e id n) [ inl old ↦ holds.numbers id old node incarnation | inr new ↦ absurd (no_call id new node) ];
 }

@@ -1,0 +1,237 @@
+-- The locks of a node are covered by its tokens, and each step of the node keeps them so.
+use Rattle.std.proofs.Common.{◌≡◌, ℕ, ◌+◌, ◌≤◌, Bool, true, false, not, if◌then◌else◌, ◌&&◌, ◌==◌, nat_le, nat_lt, is_some, refl, sym, subst, ◌++◌, [], ◌∷◌, Option, Some, None, Result, Ok, Err}
+use Rattle.std.proofs.lemmas.Bool.{and_parts, eqb-true, leb-true}
+use Rattle.std.proofs.lemmas.Option.{none-some, same_Some}
+use Rattle.intervals.specs.Bytes.{Range, put, is_in}
+use Rattle.model.specs.declared.mode.Mode.{Mode}
+use Rattle.model.specs.declared.mode.Mode.TheVariants.{Read, Write}
+use Rattle.model.specs.declared.level.Level.{Level}
+use Rattle.model.specs.declared.level.Level.TheVariants.{Shared, Exclusive}
+use Rattle.model.specs.declared.owner.Owner.{Owner}
+use Rattle.model.specs.declared.process.Process.{Process}
+use Rattle.model.specs.declared.call.CallId.{CallId}
+use Rattle.model.specs.declared.op.Op.{Op}
+use Rattle.model.specs.declared.op.Op.TheVariants.{Spawn, Open, Set, Unlock}
+use Rattle.model.specs.declared.reply.Reply.{Reply}
+use Rattle.model.specs.declared.reply.Reply.TheVariants.{Done, NoLocks}
+use Rattle.model.specs.Limits.{most_regions}
+use Rattle.model.specs.Owners.{same_owner}
+use Rattle.model.specs.Locks.{FileLocks, Locks, bars, with_lock, lowest_blocker}
+use Rattle.model.specs.Descriptors.{Processes, after_spawn, after_open}
+use Rattle.model.specs.Table.{Table, Target, around, beside, target, lock_within, locked, regions_with, after_unlock}
+use Rattle.token_set.specs.Tokens.{Token, serves, covers, raised, raised_level}
+use Rattle.token_set.proofs.TokenLaws.{covers-each, covers-from}
+use Rattle.messages.specs.Shapes.{ShapeFields}
+use Rattle.messages.specs.declared.message.Message.{Message}
+use Rattle.messages.specs.declared.message.Message.TheVariants.{Request, Grant, Taken}
+use Rattle.messages.specs.Messages.{addressee, call_of, file_of, is_within}
+use Rattle.messages.specs.declared.outcome.Outcome.{Outcome}
+use Rattle.messages.specs.declared.refusal.StepError.{StepError}
+use Rattle.messages.specs.declared.refusal.StepError.TheVariants.{Busy, Stranger, Spent}
+use Rattle.node_core.specs.declared.event.NodeEvent.{NodeEvent}
+use Rattle.node_core.specs.declared.event.NodeEvent.TheVariants.{Call, Deliver}
+use Rattle.node_core.specs.declared.open_call.OpenCall.{OpenCall}
+use Rattle.node_core.specs.State.{NodeState, FileState, Effect, first_node, quiet, process, open_call, open_call_of, target_of, outcome}
+use Rattle.node_core.specs.Try.{settled, requested, tried, tried_against, tried_if}
+use Rattle.node_core.specs.Calls.{is_pid, is_in_shape, called, after_call, lock_call, call_rule}
+use Rattle.node_core.specs.Commands.{remembered, in_order, after_grant, granted, delivered, is_node, deliver_rule}
+use Rattle.node_core.specs.Node.{node_rule}
+use Rattle.cluster_core.specs.Safe.{Excludes}
+use Rattle.cluster_core.proofs.Targets.{ok_is}
+
+-- the token serves each byte that is locked
+abbrev pub IsCovered : Token → FileLocks → Type 0
+IsCovered token locks = (o : Owner) (b : ℕ) (mode : Mode) → locks o b ≡ Some mode → serves (token b) mode ≡ true
+
+-- the tokens of the node serve each byte that one of its owners has locked
+abbrev pub Covered : NodeState → Type 0
+Covered s = (file : ℕ) → IsCovered (s.files file).token (s.table.locks file)
+
+-- a write lock needs an exclusive byte
+served_exclusively : (x : Option Level) → serves x Write ≡ true → x ≡ Some Exclusive
+served_exclusively None h = cc
+served_exclusively (Some Shared) h = cc
+served_exclusively (Some Exclusive) h = refl
+
+-- a byte without a level serves no lock
+none_serves : (x : Option Level) (mode : Mode) → x ≡ None → serves x mode ≡ true → ⊥
+none_serves None mode none h = cc
+none_serves (Some level) mode none h = absurd (none-some level (sym none))
+
+-- a byte that serves the mode for one node bars it by no lock of the other
+unbarred_byte : (x y : Option Level) (mode : Mode) (held : Option Mode) → (x ≡ Some Exclusive → y ≡ None) → (y ≡ Some Exclusive → x ≡ None) → serves x mode ≡ true → ((m : Mode) → held ≡ Some m → serves y m ≡ true) → bars mode held ≡ false
+unbarred_byte x y mode None there here own other = refl
+unbarred_byte x y Read (Some Read) there here own other = refl
+unbarred_byte x y Write (Some m) there here own other = absurd (none_serves y m (there (served_exclusively x own)) (other m refl))
+unbarred_byte x y Read (Some Write) there here own other = absurd (none_serves x Read (here (served_exclusively y (other Write refl))) own)
+
+-- of two nodes whose tokens exclude each other, the one that may lock a span is barred by no lock of the other
+pub unbarred_apart : (s t : Token) (locks : FileLocks) (span : Range) (mode : Mode) → Excludes s t → Excludes t s → IsCovered t locks → covers s span mode ≡ true → (o : Owner) (b : ℕ) → span.lo ≤ b → b ≤ span.hi → bars mode (locks o b) ≡ false
+unbarred_apart s t locks span mode there here covered own o b above below =
+    unbarred_byte (s b) (t b) mode (locks o b) (there b) (here b) (covers-each s span mode b own above below) (λ m held. covered o b m held)
+
+-- a byte that is raised serves what it served
+raised_level-serves : (x : Option Level) (by mode : Mode) → serves x mode ≡ true → serves (raised_level x by) mode ≡ true
+raised_level-serves x Write mode h = refl
+raised_level-serves None Read mode h = absurd (cc)
+raised_level-serves (Some level) Read mode h = h
+
+-- so does a token
+pub raised-serves : (t : Token) (span : Range) (by mode : Mode) (b : ℕ) → serves (t b) mode ≡ true → serves (raised t span by b) mode ≡ true
+raised-serves t span by mode b h = elim (is_in span b) as (λ x. serves (if x then raised_level (t b) by else t b) mode ≡ true) [ true ↦ raised_level-serves (t b) by mode h | false ↦ h ]
+
+-- what a span served for a mode it serves
+pub raised-covers : (t : Token) (span wanted : Range) (by mode : Mode) → covers t wanted mode ≡ true → covers (raised t span by) wanted mode ≡ true
+raised-covers t span wanted by mode h = covers-from (raised t span by) wanted mode (λ b above below. raised-serves t span by mode b (covers-each t wanted mode b h above below))
+
+-- bytes of the span
+in_span : (s : Range) (b : ℕ) → is_in s b ≡ true → (s.lo ≤ b) × (b ≤ s.hi)
+in_span s b h = let parts = and_parts (nat_le s.lo b) (nat_le b s.hi) h in (leb-true s.lo b parts.0, leb-true b s.hi parts.1)
+
+-- a lock call asks for bytes that the token covers, or frees bytes
+abbrev pub IsGiven : Token → Range → Option Mode → Type 0
+IsGiven token span None = Unit {0}
+IsGiven token span (Some mode) = covers token span mode ≡ true
+
+put_served : (token : Token) (bytes : ℕ → Option Mode) (span : Range) (given : Option Mode) (b : ℕ) (mode : Mode) → IsGiven token span given → ((m : Mode) → bytes b ≡ Some m → serves (token b) m ≡ true) → put bytes span given b ≡ Some mode → serves (token b) mode ≡ true
+put_served token bytes span None b mode given old h = elim (is_in span b) as (λ x. (if x then None else bytes b) ≡ Some mode → serves (token b) mode ≡ true) [ true ↦ λ none. absurd (none-some mode none) | false ↦ λ same. old mode same ] h
+put_served token bytes span (Some m) b mode given old h =
+    elim (is_in span b) as (λ x. is_in span b ≡ x → (if x then Some m else bytes b) ≡ Some mode → serves (token b) mode ≡ true) [
+      | true ↦ λ here new.
+          let ends = in_span span b here in
+          subst (λ (k : Mode). serves (token b) k ≡ true) (same_Some m mode new) (covers-each token span m b given ends.0 ends.1)
+      | false ↦ λ other same. old mode same
+    ] refl h
+
+-- the tokens of a node and its locks, of all files
+module _ (files : ℕ → FileState) where
+  abbrev pub AllCovered : Locks → Type 0
+  AllCovered locks = (file : ℕ) → IsCovered (files file).token (locks file)
+
+  with_lock_covered : (locks : Locks) (file : ℕ) (owner : Owner) (span : Range) (mode : Option Mode) → IsGiven (files file).token span mode → AllCovered locks → AllCovered (with_lock locks file owner span mode)
+  with_lock_covered locks file owner span mode given old f o b m h =
+      elim ((file == f) && same_owner owner o) as (λ x. ((file == f) && same_owner owner o) ≡ x → (if x then put (locks file owner) span mode else locks f o) b ≡ Some m → serves ((files f).token b) m ≡ true) [
+        | true ↦ λ this new.
+            let is : file ≡ f = eqb-true file f (and_parts (file == f) (same_owner owner o) this).0 in
+            subst (λ (k : ℕ). serves ((files k).token b) m ≡ true) is (put_served (files file).token (locks file owner) span mode b m given (λ k held. old file owner b k held) new)
+        | false ↦ λ other same. old f o b m same
+      ] refl h
+
+  -- bytes are locked or freed, within the regions that an owner may have
+  pub lock_within_covered : (t : Table) (c : Target) (mode : Option Mode) → IsGiven (files c.file).token c.span mode → AllCovered t.locks → AllCovered (lock_within t c mode).0.locks
+  lock_within_covered t c mode given old =
+      let out : Bool → Table × Reply = λ x. if x then (locked t c mode, Done) else (t, NoLocks) in
+      elim (nat_le (regions_with t c mode) most_regions) as (λ x. AllCovered (out x).0.locks) [ true ↦ with_lock_covered t.locks c.file c.owner c.span mode given old | false ↦ old ]
+
+  pub unlock_covered : (t : Table) (found : Result Target Reply) → AllCovered t.locks → AllCovered (after_unlock t found).0.locks
+  unlock_covered t (Err refusal) old = old
+  unlock_covered t (Ok c) old = lock_within_covered t c None tt old
+
+  -- calls that concern processes and descriptors alone
+  pub beside_covered : (t : Table) (p : Process) (r : Result (Processes × Reply) Reply) → AllCovered t.locks → AllCovered (beside t p r).0.locks
+  beside_covered t p (Ok answer) old = old
+  beside_covered t p (Err refusal) old = old
+
+-- a node that begins
+pub first_covered : (shape : ShapeFields) (node incarnation : ℕ) → Covered (first_node shape node incarnation)
+first_covered shape node incarnation file o b mode h = absurd (none-some mode h)
+
+-- an open call is tried: it is set where the token covers it
+pub tried_covered : (s : NodeState) (c : OpenCall) → Covered s → Covered (tried s c).state
+tried_covered s c old =
+    let answer = lock_within s.table (target_of c) (Some c.mode) in
+    let free : Bool → Effect = λ x. if x then settled s c.number answer else requested s c in
+    elim (lowest_blocker (s.table.locks c.file) c.owner c.span c.mode) as (λ x. Covered (tried_against s c x).state) [
+      | Some lock ↦ old
+      | None ↦ elim (covers (s.files c.file).token c.span c.mode) as (λ x. covers (s.files c.file).token c.span c.mode ≡ x → Covered (free x).state) [
+        | true ↦ λ given. lock_within_covered s.files s.table (target_of c) (Some c.mode) given old
+        | false ↦ λ other. old
+      ] refl
+    ]
+
+pub tried_if_covered : (s : NodeState) (c : Option OpenCall) → Covered s → Covered (tried_if s c).state
+tried_if_covered s None old = old
+tried_if_covered s (Some c) old = tried_covered s c old
+
+lock_call_covered : (s : NodeState) (number pid : ℕ) (mode : Mode) (found : Result Target Reply) → Covered s → Covered (lock_call s number pid mode found).state
+lock_call_covered s number pid mode (Err refusal) old = old
+lock_call_covered s number pid mode (Ok about) old =
+    let c : OpenCall = record { number = number; pid = pid; file = about.file; owner = about.owner; mode = mode; span = about.span } in
+    tried_covered (record s { pending = s.pending ++ c ∷ [] }) c old
+
+-- a call is taken
+pub called_covered : (s : NodeState) (number pid : ℕ) (op : Op) → Covered s → Covered (called s number pid op).state
+called_covered s number pid Spawn old = beside_covered s.files s.table (process s pid) (after_spawn (around s.table (process s pid)) pid) old
+called_covered s number pid (Open file access) old = beside_covered s.files s.table (process s pid) (after_open (around s.table (process s pid)) pid file access) old
+called_covered s number pid (Set fd kind mode start len) old = lock_call_covered s number pid mode (target s.table (process s pid) (Some mode) fd kind start len) old
+called_covered s number pid (Unlock fd kind start len) old = unlock_covered s.files s.table (target s.table (process s pid) None fd kind start len) old
+
+pub after_call_covered : (s : NodeState) (pid : ℕ) (op : Op) → Covered s → Covered (after_call s pid op).0
+after_call_covered s pid op old = called_covered (record s { calls = s.calls + 1 }) (s.calls + 1) pid op old
+
+-- a grant raises the token
+pub after_grant_covered : (s : NodeState) (file number : ℕ) (call : CallId) (mode : Mode) (span : Range) → Covered s → Covered (after_grant s file number call mode span)
+after_grant_covered s file number call mode span old f o b m held =
+    let done : FileState = record { token = raised (s.files file).token span mode; last = number; answer = Some (Taken file number call) } in
+    elim (f == file) as (λ x. (f == file) ≡ x → serves ((if x then done else s.files f).token b) m ≡ true) [
+      | true ↦ λ same.
+          let is : f ≡ file = eqb-true f file same in
+          raised-serves (s.files file).token span mode m b (subst (λ (k : ℕ). serves ((s.files k).token b) m ≡ true) is (old f o b m held))
+      | false ↦ λ other. old f o b m held
+    ] refl
+
+pub granted_covered : (s : NodeState) (file number : ℕ) (call : CallId) (mode : Mode) (span : Range) → Covered s → Covered (granted s file number call mode span).state
+granted_covered s file number call mode span old =
+    let next = after_grant s file number call mode span in
+    tried_if_covered next (open_call next call.number) (after_grant_covered s file number call mode span old)
+
+remembered_covered : (s : NodeState) (answer : Option Message) → Covered s → Covered (remembered s answer).state
+remembered_covered s None old = old
+remembered_covered s (Some m) old = old
+
+pub in_order_covered : (s : NodeState) (file number : ℕ) (effect : Effect) → Covered s → Covered effect.state → Covered (in_order s file number effect).state
+in_order_covered s file number effect old new =
+    let f = s.files file in
+    let again : Bool → Effect = λ x. if x then remembered s f.answer else quiet s in
+    elim (number == f.last + 1) as (λ x. Covered (if x then effect else again ((number == f.last) && nat_le 1 number)).state) [
+      | true ↦ new
+      | false ↦ elim ((number == f.last) && nat_le 1 number) as (λ x. Covered (again x).state) [ true ↦ remembered_covered s f.answer old | false ↦ old ]
+    ]
+
+-- a message is taken
+pub delivered_covered : (s : NodeState) (m : Message) → Covered s → Covered (delivered s m).state
+delivered_covered s (Grant file number call mode span) old = in_order_covered s file number (granted s file number call mode span) old (granted_covered s file number call mode span old)
+delivered_covered s (Request file call urgency mode wanted) old = old
+delivered_covered s (Taken file number call) old = old
+
+-- what holds of an answer that is not refused
+unless_refused : {A E : Type 0} (P : A → Type 0) (refused : Bool) (x : Result A E) (e : E) (p : A) → ((h : x ≡ Ok p) → P p) → ◌≡◌ {A = Result A E} (if refused then Err e else x) (Ok p) → P p
+unless_refused P true x e p good h = absurd (cc)
+unless_refused P false x e p good h = good h
+
+call_rule_covered : (s : NodeState) (pid : ℕ) (op : Op) (done : NodeState × Outcome) → call_rule s pid op ≡ Ok done → Covered s → Covered done.0
+call_rule_covered s pid op done h old =
+    let P : NodeState × Outcome → Type 0 = λ x. Covered x.0 in
+    let after : Result (NodeState × Outcome) StepError = Ok (after_call s pid op) in
+    let few : Result (NodeState × Outcome) StepError = if nat_lt s.calls 4294967295 then after else Err Spent in
+    unless_refused P (not (is_pid pid && is_in_shape s.shape op)) (if is_some (open_call_of s pid) then Err Busy else few) Stranger done
+    (unless_refused P (is_some (open_call_of s pid)) few Busy done
+    (elim (nat_lt s.calls 4294967295) as (λ x. ◌≡◌ {A = Result (NodeState × Outcome) StepError} (if x then after else Err Spent) (Ok done) → P done) [
+      | true ↦ λ is. subst P (ok_is (after_call s pid op) done is) (after_call_covered s pid op old)
+      | false ↦ λ is. absurd (cc)
+    ])) h
+
+deliver_rule_covered : (s : NodeState) (m : Message) (done : NodeState × Outcome) → deliver_rule s m ≡ Ok done → Covered s → Covered done.0
+deliver_rule_covered s m done h old =
+    let P : NodeState × Outcome → Type 0 = λ x. Covered x.0 in
+    let taken : Bool → Result (NodeState × Outcome) StepError = λ x. if x then Ok (outcome None (delivered s m)) else Ok (outcome None (quiet s)) in
+    unless_refused P (not (is_node s.node (addressee m) && is_within s.shape.files (file_of m))) (taken ((call_of m).incarnation == s.incarnation)) Stranger done
+    (elim ((call_of m).incarnation == s.incarnation) as (λ x. taken x ≡ Ok done → P done) [
+      | true ↦ λ is. subst P (ok_is (outcome None (delivered s m)) done is) (delivered_covered s m old)
+      | false ↦ λ is. subst P (ok_is (outcome None (quiet s)) done is) old
+    ]) h
+
+-- each step of a node
+pub node_rule_covered : (s u : NodeState) (event : NodeEvent) (o : Outcome) → node_rule s event ≡ Ok (u, o) → Covered s → Covered u
+node_rule_covered s u (Call pid op) o h old = call_rule_covered s pid op (u, o) h old
+node_rule_covered s u (Deliver m) o h old = deliver_rule_covered s m (u, o) h old
