@@ -6,7 +6,7 @@ use Rattle.std.proofs.lemmas.List.Elements.{All-nil}
 use Rattle.model.specs.declared.op.Op.{Op}
 use Rattle.model.specs.declared.reply.Reply.{Reply}
 use Rattle.model.specs.Limits.{IsNumber, IsProcess, most_nodes, most_processes}
-use Rattle.messages.specs.Shapes.{ShapeFields, IsShape, served_nodes}
+use Rattle.messages.specs.Shapes.{ShapeFields, IsShape}
 use Rattle.messages.specs.Messages.{addressee, call_of, file_of, is_within}
 use Rattle.messages.specs.declared.refusal.StepError.{StepError}
 use Rattle.messages.specs.declared.refusal.StepError.TheVariants as step
@@ -27,7 +27,7 @@ use Rattle.token_server.specs.State.{ServerState}
 use Rattle.token_server.specs.Serve.{serve}
 use Rattle.token_server.specs.Server.{change, then_serve, as_outcome, server_rule}
 use Rattle.cluster_core.specs.World.{WorldState, first_world, journal_limit, has_node}
-use Rattle.cluster_core.specs.Next.{is_known, recorded, with_node, after_node, after_server, taken, next}
+use Rattle.cluster_core.specs.Next.{is_known, entry, recorded, with_node, after_node, after_server, taken, next}
 use Rattle.cluster_core.specs.Runs.{Leads}
 use Rattle.cluster_core.specs.Histories.{HasHistory, EachAtItsReply, EveryRunHasAHistory}
 use Rattle.cluster_core.specs.Placement.{history_of}
@@ -36,10 +36,14 @@ use Rattle.cluster_core.proofs.Fitting.{fitting_empty, fits, each_at_its_reply}
 use Rattle.cluster_core.proofs.Targets.{ok_is}
 use Rattle.cluster_core.proofs.NodeTables.{own_empty}
 use Rattle.cluster_core.proofs.Covering.{first_covered}
-use Rattle.cluster_core.proofs.Nodes.{IsOpen}
+use Rattle.cluster_core.proofs.Nodes.{IsOpen, IsExplained}
 use Rattle.cluster_core.proofs.Moves.{delivered_receives, quiet_receives, call_moves}
-use Rattle.cluster_core.proofs.Unions.{union_first, only_node}
+use Rattle.cluster_core.proofs.Unions.{union_first}
 use Rattle.cluster_core.proofs.Lifting.{IsFreeElsewhere}
+use Rattle.cluster_core.proofs.Served.{served_free, all_covered}
+use Rattle.cluster_core.proofs.Present.{Present}
+use Rattle.cluster_core.proofs.Apart.{next_present, present_first, present_apart, apart_after}
+use Rattle.cluster_core.specs.Safe.{AreApart, IsSafe}
 use Rattle.cluster_core.proofs.Worlds.{Good, replied_named, server_good, node_good}
 
 -- a step that is not refused
@@ -72,24 +76,24 @@ serves_sending s (Err e) p h = absurd (cc)
 serves_sending s (Ok None) p h = subst IsSending (ok_is _ p h) (refl, refl)
 serves_sending s (Ok (Some changed)) p h = as_outcome_sending (serve changed) p h
 
--- the world and the entry after a step
+-- the world and the entry after a step, where tokens are apart
 abbrev After : List Entry → WorldState × Entry → Type 0
-After past p = IsNumber served_nodes p.0.shape.nodes × Good (past ++ p.1 ∷ []) p.0
+After past p = AreApart p.0 → IsNumber most_nodes p.0.shape.nodes × Good (past ++ p.1 ∷ []) p.0
 
-server_next : (past : List Entry) (w : WorldState) (m : Message) (file : ℕ) (r : Result (ServerState × Outcome) StepError) (p : WorldState × Entry) → ((done : ServerState × Outcome) → r ≡ Ok done → IsSending done) → IsNumber served_nodes w.shape.nodes → Good past w → after_server w (Deliver m) file r ≡ Ok p → After past p
+server_next : (past : List Entry) (w : WorldState) (m : Message) (file : ℕ) (r : Result (ServerState × Outcome) StepError) (p : WorldState × Entry) → ((done : ServerState × Outcome) → r ≡ Ok done → IsSending done) → IsNumber most_nodes w.shape.nodes → Good past w → after_server w (Deliver m) file r ≡ Ok p → After past p
 server_next past w m file (Ok done) p sends few g h =
     let both = sends done refl in
-    subst (After past) (ok_is _ p h) (few, server_good past w file done.0 (Deliver m) done.1 both.0 both.1 g)
+    subst (After past) (ok_is _ p h) (λ apart. (few, server_good past w file done.0 (Deliver m) done.1 both.0 both.1 g))
 server_next past w m file (Err e) p sends few g h = absurd (cc)
 
 node_next : (past : List Entry) (w : WorldState) (event : Event) (n : ℕ) (r : Result (NodeState × Outcome) StepError) (p : WorldState × Entry) → ((done : NodeState × Outcome) → r ≡ Ok done → After past (recorded (with_node w n done.0) event done.1)) → after_node w event n r ≡ Ok p → After past p
 node_next past w event n (Ok done) p good h = subst (After past) (ok_is _ p h) (good done refl)
 node_next past w event n (Err e) p good h = absurd (cc)
 
-module _ (past : List Entry) (w : WorldState) (few : IsNumber served_nodes w.shape.nodes) (g : Good past w) where
-  -- there is no other node
-  alone : (n pid : ℕ) (op : Op) (reply : Reply) → has_node w n ≡ true → IsFreeElsewhere w n pid op reply
-  alone n pid op reply there fd kind mode start len c m o b is_set unhindered passes here other above below = absurd (other (only_node w.shape.nodes m few here ∙ sym (only_node w.shape.nodes n few there)))
+module _ (past : List Entry) (w : WorldState) (few : IsNumber most_nodes w.shape.nodes) (g : Good past w) where
+  -- no lock of another node is in the way of an answer
+  free : (n : ℕ) (u : NodeState) (event : Event) (o : Outcome) → AreApart (recorded (with_node w n u) event o).0 → (x : IsExplained past (w.nodes n) u (entry event o)) → has_node w n ≡ true → IsFreeElsewhere w n x.pid x.op x.reply
+  free n u event o apart x there = served_free w n u there apart x.pid x.op x.reply x.served (λ m. (g.holds m).covered)
 
   -- a process that may call
   process_in : (n pid : ℕ) (op : Op) → is_known w (Call n pid op) ≡ true → IsProcess (process (w.nodes n) pid)
@@ -106,7 +110,7 @@ module _ (past : List Entry) (w : WorldState) (few : IsNumber served_nodes w.sha
           let tests = and_parts (nat_le 1 k) (nat_le k most) h in
           (grind (arith, nat_tests, tests.0), grind (arith, nat_tests, tests.1))
 
-      within : (nodes k : ℕ) → IsNumber served_nodes nodes → is_within nodes k ≡ true → IsNumber most_nodes k
+      within : (nodes k : ℕ) → IsNumber most_nodes nodes → is_within nodes k ≡ true → IsNumber most_nodes k
       within nodes k few h =
           let most = few.1 in
           let is = number nodes k h in
@@ -119,7 +123,7 @@ module _ (past : List Entry) (w : WorldState) (few : IsNumber served_nodes w.sha
       let r = after_call s pid op in
       let moves = call_moves past s n pid op (g.holds n) (g.named n) (process_in n pid op known) (replied_named past (history_of past) g.fitting) in
       let there = (and_parts (has_node w n) (is_pid pid && is_in_shape w.shape op) known).0 in
-      (few, node_good past w n r.0 (Call n pid op) r.1 g moves (λ strange. absurd (both_ways (has_node w n) strange there)) (λ x _. alone n x.pid x.op x.reply there))
+      λ apart. (few, node_good past w n r.0 (Call n pid op) r.1 g moves (λ strange. absurd (both_ways (has_node w n) strange there)) (free n r.0 (Call n pid op) r.1 apart))
 
   message_good : (n : ℕ) (m : Message) (done : NodeState × Outcome) → deliver_rule (w.nodes n) m ≡ Ok done → After past (recorded (with_node w n done.0) (Deliver m) done.1)
   message_good n m done h =
@@ -128,8 +132,8 @@ module _ (past : List Entry) (w : WorldState) (few : IsNumber served_nodes w.sha
       let received = delivered_receives past s (Deliver m) (g.holds n) m in
       let silent = quiet_receives past s (Deliver m) (g.holds n) (quiet s) refl refl in
       elim (taken_message (not (is_node s.node (addressee m) && is_within s.shape.files (file_of m))) ((call_of m).incarnation == s.incarnation) (outcome None (delivered s m)) (outcome None (quiet s)) done step.Stranger h) [
-        | inl is ↦ subst P is (few, node_good past w n (delivered s m).state (Deliver m) (outcome None (delivered s m)).1 g received.moves (λ strange. received.idle (g.strangers n strange)) (λ x there. alone n x.pid x.op x.reply there))
-        | inr is ↦ subst P is (few, node_good past w n s (Deliver m) (outcome None (quiet s)).1 g silent.moves (λ strange. silent.idle (g.strangers n strange)) (λ x there. alone n x.pid x.op x.reply there))
+        | inl is ↦ subst P is (λ apart. (few, node_good past w n (delivered s m).state (Deliver m) (outcome None (delivered s m)).1 g received.moves (λ strange. received.idle (g.strangers n strange)) (free n (delivered s m).state (Deliver m) (outcome None (delivered s m)).1 apart)))
+        | inr is ↦ subst P is (λ apart. (few, node_good past w n s (Deliver m) (outcome None (quiet s)).1 g silent.moves (λ strange. silent.idle (g.strangers n strange)) (free n s (Deliver m) (outcome None (quiet s)).1 apart)))
       ]
 
   taken_good : (event : Event) (p : WorldState × Entry) → is_known w event ≡ true → taken w event ≡ Ok p → After past p
@@ -174,19 +178,26 @@ good_first shape = record {
 }
 
 -- each run keeps it
-good_run : (past es : List Entry) (w v : WorldState) → IsNumber served_nodes w.shape.nodes → Good past w → Leads w es v → Good (past ++ es) v
-good_run past [] w v few g l =
+good_run : (past es : List Entry) (w v : WorldState) → IsNumber most_nodes w.shape.nodes → Present w → Good past w → Leads w es v → Good (past ++ es) v
+good_run past [] w v few p g l =
     let P : List Entry → Type 0 = λ xs. Good xs v in
     subst P (sym (append-nil past)) (subst (Good past) l g)
-good_run past (e ∷ es) w v few g l =
+good_run past (e ∷ es) w v few p g l =
     let P : List Entry → Type 0 = λ xs. Good xs v in
-    let after = next_good past w few g e.event (l.0, e) l.1 in
-    subst P (append_assoc past (e ∷ []) es) (good_run (past ++ e ∷ []) es l.0 v after.0 after.1 l.2)
+    let present = next_present w p e.event (l.0, e) l.1 in
+    let after = next_good past w few g e.event (l.0, e) l.1 (present_apart l.0 present) in
+    subst P (append_assoc past (e ∷ []) es) (good_run (past ++ e ∷ []) es l.0 v after.0 present after.1 l.2)
+
+-- and is safe
+pub safe_run : (shape : ShapeFields) (es : List Entry) (w : WorldState) → IsShape shape → Leads (first_world shape) es w → IsSafe w
+safe_run shape es w is l =
+    let g = good_run [] es (first_world shape) w is.nodes_in (present_first shape) (good_first shape) l in
+    record { apart = apart_after shape es w l; covered = all_covered w (λ n. (g.holds n).covered) }
 
 -- its history has each call at its reply
 pub has_history : (shape : ShapeFields) (es : List Entry) (w : WorldState) → IsShape shape → Leads (first_world shape) es w → HasHistory shape es (history_of es) × EachAtItsReply es (history_of es)
 has_history shape es w is l =
-    let g = good_run [] es (first_world shape) w is.nodes_in (good_first shape) l in
+    let g = good_run [] es (first_world shape) w is.nodes_in (present_first shape) (good_first shape) l in
     (record { world = w; leads = l; one_call = g.one_call; one_reply = g.one_reply; fits = fits es (history_of es) g.one_reply g.fitting; legal = g.legal }, each_at_its_reply es (history_of es) g.fitting)
 
 pub every_run : EveryRunHasAHistory

@@ -4,7 +4,7 @@ use Rattle.model.specs.declared.mode.Mode.{Mode}
 use Rattle.model.specs.declared.owner.Owner.{Owner}
 use Rattle.model.specs.declared.level.Level.TheVariants.{Exclusive}
 use Rattle.token_set.specs.Tokens.{Token, serves}
-use Rattle.messages.specs.Shapes.{ShapeFields}
+use Rattle.messages.specs.Shapes.{ShapeFields, IsShape}
 use Rattle.messages.specs.declared.entry.Entry.{Entry}
 use Rattle.cluster_core.specs.World.{WorldState, first_world, has_node}
 use Rattle.cluster_core.specs.Runs.{Leads}
@@ -25,6 +25,10 @@ pub record IsSafe (w : WorldState) : Type 0 where
   pub apart : AreApart w
   pub covered : AreCovered w
 
--- the world that the run leads to is safe
+-- whatever world the entries lead to is safe
 abbrev pub LeadsToSafe : ShapeFields → List Entry → Type 0
 LeadsToSafe shape es = (w : WorldState) → Leads (first_world shape) es w → IsSafe w
+
+-- every run leads to a safe world
+abbrev pub EveryRunIsSafe : Type 0
+EveryRunIsSafe = (shape : ShapeFields) (es : List Entry) → IsShape shape → LeadsToSafe shape es

@@ -4,6 +4,7 @@ ghost use Rattle.messages.specs.declared.refusal.Refused.TheVariants.{NoMemory};
 ghost use Rattle.cluster_core.specs.Runs.{IsRun};
 ghost use Rattle.cluster_core.specs.Journals.{events_of, IsFirstRefusal};
 ghost use Rattle.cluster_core.specs.Histories.{HasOneHistory};
+ghost use Rattle.cluster_core.specs.Safe.{LeadsToSafe};
 
 use crate::world::World;
 use messages::entry::Entry;
@@ -58,6 +59,9 @@ pub fn run(alloc: Global, shape: Shape, events: &[Event]) -> Result<Journal, Ref
 
     // One table explains every reply, and ends as what the nodes hold.
     ensures one_table { IfOk result (λ journal. HasOneHistory shape journal.entries) }
+
+    // Tokens of two nodes don't conflict, and locks are covered by tokens.
+    ensures safe { IfOk result (λ journal. LeadsToSafe shape journal.entries) }
 
     // Else the events before one happened, and that one is refused so.
     ensures refused { IfErr result (λ refusal. refusal ≢ NoMemory → IsFirstRefusal shape events.now refusal) }

@@ -3,8 +3,8 @@ ghost use Rattle.std.specs.Prelude.{◌≡◌, ◌≢◌, ◌≤◌, ◌<◌, tr
 ghost use Rattle.messages.specs.declared.refusal.Refused.TheVariants.{NoMemory};
 ghost use Rattle.messages.specs.declared.refusal.StepError.TheVariants.{NoMemory as OutOfMemory};
 ghost use Rattle.messages.specs.Messages.{is_within};
-ghost use Rattle.messages.specs.Shapes.{IsShape, served_nodes, most_files};
-ghost use Rattle.model.specs.Limits.{IsNumber};
+ghost use Rattle.messages.specs.Shapes.{IsShape, most_files};
+ghost use Rattle.model.specs.Limits.{IsNumber, most_nodes};
 ghost use Rattle.node_core.specs.Calls.{is_pid, is_in_shape};
 ghost use Rattle.node_core.specs.Node.{node_rule};
 ghost use Rattle.node_core.specs.Parts.{node_state};
@@ -14,6 +14,7 @@ ghost use Rattle.cluster_core.specs.World.{journal_limit, first_world};
 ghost use Rattle.cluster_core.specs.Next.{is_known, has_actor, after_node, after_server, taken, next};
 ghost use Rattle.cluster_core.specs.Parts.{world_state, IsStepOf, IsRest};
 ghost use Rattle.cluster_core.specs.Runs.{Leads};
+ghost use Rattle.cluster_core.specs.Safe.{IsSafe};
 ghost use Rattle.node_core.specs.State.{first_node};
 ghost use Rattle.token_server.specs.State.{first_server};
 
@@ -80,7 +81,7 @@ fn is_of_shape(shape: Shape, op: &Op) -> bool
 // The nodes of a cluster that begins.
 fn first_nodes(alloc: Global, shape: Shape) -> Result<Vec<Node>, NoRoom>
     ensures there { IfOk result (λ nodes. length nodes.items ≡ shape.nodes) }
-    ensures within { OnOk result (IsNumber served_nodes shape.nodes) }
+    ensures within { OnOk result (IsNumber most_nodes shape.nodes) }
     ensures first { IfOk result (λ nodes. IsRest node_state (λ n. first_node shape n 1) nodes.items) }
 {
     let mut nodes = Vec::new(alloc);
@@ -274,12 +275,14 @@ impl World {
         self.sent.as_slice()
     }
 
-    /// The world that the entries of the journal lead to.
+    /// The world that the entries of the journal lead to: tokens of two nodes don't conflict, and
+    /// locks are covered by tokens.
     ///
     /// # Errors
     /// `NoMemory` where a request for memory was refused.
     pub fn after(alloc: Global, journal: &Journal) -> Result<World, NoRoom>
-        ensures { IfOk result (λ world. Leads (first_world journal.now.shape) journal.now.entries (world_state world)) }
+        ensures leads { IfOk result (λ world. Leads (first_world journal.now.shape) journal.now.entries (world_state world)) }
+        ensures safe { IfOk result (λ world. IsSafe (world_state world)) }
     {
         let mut world = World::new(alloc, journal.shape())?;
         for entry in journal.entries() {

@@ -1,19 +1,19 @@
 //! Shapes of clusters.
 ghost use Rattle.std.specs.Prelude.{◌≡◌, ◌↔◌, IfOk, IsOk};
-ghost use Rattle.model.specs.Limits.{IsNumber};
-ghost use Rattle.messages.specs.Shapes.{served_nodes, most_files, IsServed};
+ghost use Rattle.model.specs.Limits.{IsNumber, most_nodes};
+ghost use Rattle.messages.specs.Shapes.{most_files, IsServed};
 
 use model::policy::Policy;
 use std::marker::Model;
 use thiserror::Error;
 
-/// How many nodes a cluster may have so far.
-pub const SERVED_NODES: u8 = 1;
+/// How many nodes a cluster may have.
+pub const MOST_NODES: u8 = 64;
 
 /// How many files a cluster may have.
 pub const MOST_FILES: u16 = 256;
 
-/// The size of a cluster and how much its nodes ask for: the number of nodes (so far 1), the number
+/// The size of a cluster and how much its nodes ask for: the number of nodes (1 to 64), the number
 /// of files (1 to 256), and the policy.
 #[derive(Clone, Copy, Debug, PartialEq, Eq)]
 pub struct Shape {
@@ -49,7 +49,7 @@ impl BadShape {
 }
 
 impl Shape {
-    /// A cluster of so many nodes (so far 1) and files (1 to 256).
+    /// A cluster of so many nodes (1 to 64) and files (1 to 256).
     ///
     /// # Errors
     /// `BadShape` where one of the numbers is outside.
@@ -57,7 +57,7 @@ impl Shape {
         ensures ok { IfOk result (λ shape. shape ≡ record { nodes = nodes; files = files; policy = policy }) }
         ensures served { IsOk result ↔ IsServed nodes files }
     {
-        if nodes < 1 || nodes > SERVED_NODES {
+        if nodes < 1 || nodes > MOST_NODES {
             return Err(BadShape);
         }
         if files < 1 || files > MOST_FILES {
@@ -73,7 +73,7 @@ impl Shape {
     /// How many nodes there are; they are numbered from 1.
     pub fn nodes(&self) -> u8
         ensures value { result ≡ self.now.nodes }
-        ensures within { IsNumber served_nodes result }
+        ensures within { IsNumber most_nodes result }
     {
         self.nodes
     }
@@ -99,10 +99,10 @@ mod tests {
 
     #[test]
     fn takes_the_sizes_that_are_served(rt: HostRuntime) {
-        let Ok(shape) = Shape::new(1, 256, Policy::Wide) else {
-            panic!(rt; "one node and 256 files");
+        let Ok(shape) = Shape::new(64, 256, Policy::Wide) else {
+            panic!(rt; "64 nodes and 256 files");
         };
-        assert_eq!(rt; shape.nodes(), 1);
+        assert_eq!(rt; shape.nodes(), 64);
         assert_eq!(rt; shape.files(), 256);
         assert_eq!(rt; shape.policy(), Policy::Wide);
     }
@@ -110,7 +110,7 @@ mod tests {
     #[test]
     fn refuses_others(rt: HostRuntime) {
         assert_eq!(rt; Shape::new(0, 1, Policy::Exact), Err(BadShape));
-        assert_eq!(rt; Shape::new(2, 1, Policy::Exact), Err(BadShape));
+        assert_eq!(rt; Shape::new(65, 1, Policy::Exact), Err(BadShape));
         assert_eq!(rt; Shape::new(1, 0, Policy::Exact), Err(BadShape));
         assert_eq!(rt; Shape::new(1, 257, Policy::Exact), Err(BadShape));
         assert_eq!(rt; BadShape.number(), 22);

@@ -1,6 +1,6 @@
 use Rattle.cluster_core.specs.Parts.{world_state}
 use Rattle.cluster_core.proofs.JournalRuns.{ran_empty, ran_more, first_refusal}
-use Rattle.cluster_core.proofs.Runs.{every_run}
+use Rattle.cluster_core.proofs.Runs.{every_run, safe_run}
 use Rattle.cluster_core.proofs.journal.run.Goals as goal
 
 pub returns-in-Err-clause-refused : goal.returns-in-Err-clause-refused
@@ -13,3 +13,6 @@ loop-event-preserved c =
 
 pub returns-clause-one_table : goal.returns-clause-one_table
 returns-clause-one_table c = every_run _ _ _ c.in_ok-world.ensures.within c.loop-event.invariant.leads
+
+pub returns-clause-safe : goal.returns-clause-safe
+returns-clause-safe c = λ w l. safe_run _ _ w c.in_ok-world.ensures.within l
