@@ -14,3 +14,5 @@ pub mod Moves
 pub mod Unions
 pub mod Worlds
 pub mod Runs
+pub mod Talks
+pub mod TalkMoves
