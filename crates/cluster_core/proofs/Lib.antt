@@ -16,3 +16,5 @@ pub mod Worlds
 pub mod Runs
 pub mod Talks
 pub mod TalkMoves
+pub mod NodeMoves
+pub mod ServerMoves

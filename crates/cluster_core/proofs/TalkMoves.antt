@@ -12,7 +12,7 @@ use Rattle.messages.specs.declared.message.Message.TheVariants.{Request, Grant, 
 use Rattle.node_core.specs.State.{FileState}
 use Rattle.token_server.specs.State.{Row, empty_row, row_above}
 use Rattle.token_server.specs.Server.{is_grant}
-use Rattle.cluster_core.proofs.Talks.{Sent, IsGrantTo, IsCountedIn, IsIdle, IsOnTheWay, IsDone, States, IsKnown, IsUnknown, InStep, Talk, IsAhead, IsPromised, MayHold, same_grant, on_the_way}
+use Rattle.cluster_core.proofs.Talks.{Sent, IsGrantTo, IsTakenOf, IsCountedIn, IsIdle, IsOnTheWay, IsDone, States, IsKnown, IsUnknown, InStep, Talk, IsAhead, IsPromised, MayHold, same_grant, on_the_way}
 
 -- more messages were sent, but no Grant to the node and no answer of its incarnation
 pub record NoNews (was now : Sent) (file n incarnation : ℕ) : Type 0 where
@@ -29,7 +29,8 @@ talk-no_news was now file n incarnation f row dead news t = record {
   one_number = λ number call other mode also span wide a b x y. t.one_number number call other mode also span wide (news.grants number call mode span a x) (news.grants number other also wide b y) x y;
   in_step = t.in_step;
   answers = λ number call sent of_node of_incarnation. t.answers number call (news.answers number call sent of_node of_incarnation) of_node of_incarnation;
-  remembered = λ m is. news.kept m (t.remembered m is);
+  remembered = λ m is. let r = t.remembered m is in (news.kept m r.0, r.1, r.2);
+  answered = t.answered;
 }
 
 pub may_hold-no_news : (was now : Sent) (file n incarnation : ℕ) (f : FileState) (t : Token) → NoNews was now file n incarnation → MayHold now file n incarnation f t → MayHold was file n incarnation f t
@@ -45,7 +46,7 @@ may_hold-no_news was now file n incarnation f t news (inr p) = inr (record {
 pub record IsDoing (was now : Sent) (file n incarnation number : ℕ) (call : CallId) : Type 0 where
   pub kept : (m : Message) → was m → now m
   pub grants : (k : ℕ) (c : CallId) (mode : Mode) (span : Range) → now (Grant file k c mode span) → c.node ≡ n → was (Grant file k c mode span)
-  pub answers : (k : ℕ) (c : CallId) → now (Taken file k c) → c.node ≡ n → c.incarnation ≡ incarnation → was (Taken file k c) ⊎ (k ≡ number)
+  pub answers : (k : ℕ) (c : CallId) → now (Taken file k c) → c.node ≡ n → c.incarnation ≡ incarnation → was (Taken file k c) ⊎ (Taken file k c ≡ Taken file number call)
   pub told : now (Taken file number call)
 
 module _ (was now : Sent) (file n incarnation : ℕ) (f : FileState) (row : Option Row) (dead : ℕ) (t : Talk was file n incarnation f row dead) (number : ℕ) (call : CallId) (mode : Mode) (span : Range) (sent : was (Grant file number call mode span)) (to_node : call.node ≡ n) (to_incarnation : call.incarnation ≡ incarnation) (is_next : number ≡ f.last + 1) (news : IsDoing was now file n incarnation number call) where
@@ -67,10 +68,13 @@ module _ (was now : Sent) (file n incarnation : ℕ) (f : FileState) (row : Opti
         one_number = λ k c d p q s x a b to also. t.one_number k c d p q s x (news.grants k c p s a to) (news.grants k d q x b also) to also;
         in_step = inr (record { known = w.0; there = w.1; of = w.2; states = inr (inr (record { command = Grant file w.0.number w.4.call w.4.mode w.4.span; outstanding = w.4.outstanding; number = w.4.number ∙ sym is_next; token = w.3 })) });
         answers = λ k c is of_node of_incarnation. elim (news.answers k c is of_node of_incarnation) [
-          | inl old ↦ let up = t.answers k c old of_node of_incarnation in omega arith
-          | inr same ↦ omega arith
+          | inl old ↦ let up = (t.answers k c old of_node of_incarnation).0 in (omega arith, λ same. absurd (omega arith))
+          | inr same ↦ let number_is : k ≡ number = cc in (omega arith, λ h. ap (λ (m : Message). Some m) (sym same))
         ];
-        remembered = λ m is. subst now (same_Some (Taken file number call) m is) news.told;
+        remembered = λ m is.
+            let P : Message → Type 0 = λ x. now x × (1 ≤ number) × IsTakenOf file n incarnation number x in
+            subst P (same_Some (Taken file number call) m is) (news.told, omega arith, (refl, refl, to_node, to_incarnation));
+        answered = λ some. refl;
       }
 
   -- it may hold no more than before
@@ -116,6 +120,7 @@ module _ (was : Sent) (file n incarnation : ℕ) (f : FileState) (dead j : ℕ) 
     ];
     answers = t.answers;
     remembered = t.remembered;
+    answered = t.answered;
   }
 
   stayed : (r : Row) → Talk was file n incarnation f (Some r) dead → j < r.incarnation → Talk was file n incarnation f (Some r) (max dead j)
@@ -136,6 +141,7 @@ module _ (was : Sent) (file n incarnation : ℕ) (f : FileState) (dead j : ℕ) 
     in_step = t.in_step;
     answers = t.answers;
     remembered = t.remembered;
+    answered = t.answered;
   }
   talk-forgets (Some r) t =
       elim (nat_le r.incarnation j) as (λ b. nat_le r.incarnation j ≡ b → Talk was file n incarnation f (if b then None else Some r) (max dead j)) [
@@ -164,6 +170,7 @@ talk-row was file n incarnation f dead i is t = record {
   ];
   answers = t.answers;
   remembered = t.remembered;
+  answered = t.answered;
 }
 
 -- the server takes the answer to the command of a row
@@ -201,6 +208,7 @@ talk-answered was file n incarnation f r dead k call told of_node of_incarnation
   ];
   answers = t.answers;
   remembered = t.remembered;
+  answered = t.answered;
 }
   where
     number_is : (m : Message) → r.outstanding ≡ Some m → k ≡ r.number
@@ -211,7 +219,7 @@ talk-answered was file n incarnation f r dead k call told of_node of_incarnation
     idle : r.incarnation ≡ incarnation → States file f r → IsIdle f (answered_row r)
     idle of (inl i) = record { outstanding = refl; number = i.number; token = i.token }
     idle of (inr (inl w)) =
-        let up : k ≤ f.last = t.answers k call told of_node (sym of_incarnation ∙ of) in
+        let up : k ≤ f.last = (t.answers k call told of_node (sym of_incarnation ∙ of)).0 in
         let is = number_is (Grant file r.number w.call w.mode w.span) w.outstanding in
         let number = w.number in
         absurd (omega arith)
@@ -314,7 +322,8 @@ module _ (was now : Sent) (file n incarnation : ℕ) (f : FileState) (r : Row) (
           })
     ];
     answers = λ k c sent of_node of_incarnation. t.answers k c (new_answer k c sent) of_node of_incarnation;
-    remembered = λ m is. news.kept m (t.remembered m is);
+    remembered = λ m is. let r = t.remembered m is in (news.kept m r.0, r.1, r.2);
+    answered = t.answered;
   }
 
   -- what the node may hold then: what it may have held, or its token with what is granted

@@ -1,4 +1,5 @@
 -- What a token server and a node know of each other, for one file: the invariant of their conversation.
+use Rattle.std.specs.Prelude.{is_some}
 use Rattle.std.proofs.Common.{◌≡◌, ℕ, ◌+◌, ◌<◌, ◌≤◌, true, false, ◌⊎◌, inl, inr, refl, sym, ◌∙◌, ap, subst, arith, List, [], ◌∷◌, Option, Some, None}
 use Rattle.std.proofs.lemmas.Option.{same_Some, none-some}
 use Rattle.intervals.specs.Bytes.{Range}
@@ -21,6 +22,12 @@ abbrev pub IsGrantTo : ℕ → ℕ → ℕ → ℕ → Message → Type 0
 IsGrantTo file n incarnation number (Grant f k call mode span) = (f ≡ file) × (k ≡ number) × (call.node ≡ n) × (call.incarnation ≡ incarnation)
 IsGrantTo file n incarnation number (Request f call urgency mode wanted) = ⊥
 IsGrantTo file n incarnation number (Taken f k call) = ⊥
+
+-- the message is the answer of that number of the incarnation of the node
+abbrev pub IsTakenOf : ℕ → ℕ → ℕ → ℕ → Message → Type 0
+IsTakenOf file n incarnation number (Taken f k call) = (f ≡ file) × (k ≡ number) × (call.node ≡ n) × (call.incarnation ≡ incarnation)
+IsTakenOf file n incarnation number (Request f call urgency mode wanted) = ⊥
+IsTakenOf file n incarnation number (Grant f k call mode span) = ⊥
 
 -- the server has a row of that incarnation, with a number that is as great
 pub record IsCountedIn (row : Option Row) (incarnation number : ℕ) : Type 0 where
@@ -78,8 +85,9 @@ pub record Talk (was : Sent) (file n incarnation : ℕ) (f : FileState) (row : O
   pub counted : (number : ℕ) (call : CallId) (mode : Mode) (span : Range) → was (Grant file number call mode span) → call.node ≡ n → (1 ≤ number) × ((call.incarnation ≤ dead) ⊎ IsCountedIn row call.incarnation number)
   pub one_number : (number : ℕ) (call other : CallId) (mode also : Mode) (span wide : Range) → was (Grant file number call mode span) → was (Grant file number other also wide) → call.node ≡ n → other.node ≡ n → call.incarnation ≡ other.incarnation → Grant file number call mode span ≡ Grant file number other also wide
   pub in_step : InStep file incarnation f row
-  pub answers : (number : ℕ) (call : CallId) → was (Taken file number call) → call.node ≡ n → call.incarnation ≡ incarnation → number ≤ f.last
-  pub remembered : (m : Message) → f.answer ≡ Some m → was m
+  pub answers : (number : ℕ) (call : CallId) → was (Taken file number call) → call.node ≡ n → call.incarnation ≡ incarnation → (number ≤ f.last) × (number ≡ f.last → f.answer ≡ Some (Taken file number call))
+  pub remembered : (m : Message) → f.answer ≡ Some m → was m × (1 ≤ f.last) × IsTakenOf file n incarnation f.last m
+  pub answered : 1 ≤ f.last → is_some f.answer ≡ true
 
 -- a Grant that the node has not done
 pub record IsAhead (was : Sent) (file n incarnation last : ℕ) (mode : Mode) (span : Range) : Type 0 where
