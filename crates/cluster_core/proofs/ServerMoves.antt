@@ -17,11 +17,12 @@ use Rattle.messages.specs.declared.message.Message.TheVariants.{Request, Grant, 
 use Rattle.messages.specs.declared.refusal.StepError.{StepError}
 use Rattle.messages.specs.declared.refusal.StepError.TheVariants.{Spent}
 use Rattle.messages.specs.Messages.{greatest_number, is_within}
+use Rattle.messages.specs.Shapes.{ShapeFields}
 use Rattle.node_core.specs.State.{NodeState}
 use Rattle.token_server.specs.declared.held.Held.{Held}
 use Rattle.token_server.specs.State.{Row, ServerState, empty_row, with_row, is_of_call, is_up_to, row_above, unless, forgotten}
-use Rattle.token_server.specs.Serve.{admitted, row_conflicts_at, is_taken, granted_span, conflicting_node, commanded, granted_to, served, serve}
-use Rattle.token_server.specs.Server.{with_a_row, enqueued, is_active, is_grant, asked, taken, taken_if}
+use Rattle.token_server.specs.Serve.{admitted, row_conflicts, row_conflicts_at, is_taken, granted_span, conflicting_node, commanded, granted_to, served, serve}
+use Rattle.token_server.specs.Server.{with_a_row, enqueued, is_active, is_grant, asked, taken, taken_if, delivered, is_server, change, then_serve, as_outcome, server_rule}
 use Rattle.token_server.proofs.GrantLaws.{conflicts_at, conflicts_at_byte, row_free}
 use Rattle.cluster_core.proofs.Talks.{Sent, Talk}
 use Rattle.cluster_core.proofs.TalkMoves.{talk-forgets, talk-row, talk-answered, granted_row, command_of}
@@ -41,8 +42,9 @@ pub record IsCurrent (t : ServerState) (r : Held) : Type 0 where
   pub within : is_within t.shape.nodes r.call.node ≡ true
   pub has_row : is_some (t.rows r.call.node) ≡ true
 
-pub record Serves (was : Sent) (nodes : ℕ → NodeState) (file : ℕ) (t : ServerState) : Type 0 where
+pub record Serves (was : Sent) (nodes : ℕ → NodeState) (shape : ShapeFields) (file : ℕ) (t : ServerState) : Type 0 where
   pub file_is : t.file ≡ file
+  pub shape_is : t.shape ≡ shape
   pub talks : (n : ℕ) → TalkOf was nodes file t n
   pub queued : All (IsCurrent t) t.queue
   pub active : (r : Held) → t.active ≡ Some r → IsCurrent t r
@@ -69,7 +71,7 @@ above_stays j (Some x) r h above =
     let of : x.incarnation ≡ r.incarnation = ap (λ (y : Row). y.incarnation) (same_Some x r h) in
     ap (λ (b : Bool). is_some (if b then None else Some x)) (lt-leb x.incarnation j (omega arith))
 
-module _ (was : Sent) (nodes : ℕ → NodeState) (file : ℕ) (t : ServerState) (serves : Serves was nodes file t) where
+module _ (was : Sent) (nodes : ℕ → NodeState) (shape : ShapeFields) (file : ℕ) (t : ServerState) (serves : Serves was nodes shape file t) where
   module _ (n j : ℕ) (older : j < (nodes n).incarnation) where
     -- a request that is not forgotten is still of the incarnation after the dead ones
     current_forgets : (r : Held) → IsCurrent t r → is_up_to n j r ≡ false → IsCurrent (forgotten t n j) r
@@ -94,9 +96,10 @@ module _ (was : Sent) (nodes : ℕ → NodeState) (file : ℕ) (t : ServerState)
           | inr old ↦ absurd (both_ways (is_up_to n j r) young (and_from (r.call.node == n) (nat_le r.call.incarnation j) (eq-eqb r.call.node n same) (le-leb r.call.incarnation j old)))
         ]
 
-    pub forgets : Serves was nodes file (forgotten t n j)
+    pub forgets : Serves was nodes shape file (forgotten t n j)
     forgets = record {
       file_is = serves.file_is;
+      shape_is = serves.shape_is;
       talks = λ m. at_number m n (λ b. Talk was file m (nodes m).incarnation ((nodes m).files file) (if b then row_above j (t.rows m) else t.rows m) (if b then max (t.dead m) j else t.dead m))
           (λ same.
             let before : j < (nodes m).incarnation = subst (λ (k : ℕ). j < (nodes k).incarnation) (sym same) older in
@@ -116,9 +119,10 @@ module _ (was : Sent) (nodes : ℕ → NodeState) (file : ℕ) (t : ServerState)
     has_row = at_number r.call.node n (λ b. is_some (if b then Some row else t.rows r.call.node) ≡ true) (λ same. refl) (λ other. c.has_row);
   }
 
-  put_row : (n : ℕ) (row : Row) → Talk was file n (nodes n).incarnation ((nodes n).files file) (Some row) (t.dead n) → Serves was nodes file (with_row t n (Some row))
+  put_row : (n : ℕ) (row : Row) → Talk was file n (nodes n).incarnation ((nodes n).files file) (Some row) (t.dead n) → Serves was nodes shape file (with_row t n (Some row))
   put_row n row talk = record {
     file_is = serves.file_is;
+    shape_is = serves.shape_is;
     talks = λ m. at_number m n (λ b. Talk was file m (nodes m).incarnation ((nodes m).files file) (if b then Some row else t.rows m) (t.dead m))
         (λ same. subst (λ (k : ℕ). Talk was file k (nodes k).incarnation ((nodes k).files file) (Some row) (t.dead k)) (sym same) talk)
         (λ other. serves.talks m);
@@ -130,33 +134,221 @@ module _ (was : Sent) (nodes : ℕ → NodeState) (file : ℕ) (t : ServerState)
   talk_with n row is = subst (λ (o : Option Row). Talk was file n (nodes n).incarnation ((nodes n).files file) o (t.dead n)) is (serves.talks n)
 
   -- a row for a node that has none
-  pub makes_row : (call : CallId) (row : Option Row) → t.rows call.node ≡ row → call.incarnation ≡ t.dead call.node + 1 → Serves was nodes file (with_a_row t call row)
+  pub makes_row : (call : CallId) (row : Option Row) → t.rows call.node ≡ row → call.incarnation ≡ t.dead call.node + 1 → Serves was nodes shape file (with_a_row t call row)
   makes_row call None is of = put_row call.node (empty_row call.incarnation) (talk-row was file call.node (nodes call.node).incarnation ((nodes call.node).files file) (t.dead call.node) call.incarnation of (talk_with call.node None is))
   makes_row call (Some row) is of = serves
 
   -- a request of the incarnation after the dead ones
-  pub queues : (r : Held) → IsCurrent t r → Serves was nodes file (enqueued t r)
+  pub queues : (r : Held) → IsCurrent t r → Serves was nodes shape file (enqueued t r)
   queues r current = if_serves (is_active r.call t.active || list_any (is_of_call r.call) t.queue)
     where
-      added : Serves was nodes file (record t { queue = t.queue ++ r ∷ [] })
+      added : Serves was nodes shape file (record t { queue = t.queue ++ r ∷ [] })
       added = record {
         file_is = serves.file_is;
+        shape_is = serves.shape_is;
         talks = serves.talks;
         queued = All-weaker (IsCurrent t) (IsCurrent (record t { queue = t.queue ++ r ∷ [] })) (λ x c. record { of = c.of; within = c.within; has_row = c.has_row }) (t.queue ++ r ∷ []) (All-push (IsCurrent t) t.queue r serves.queued current);
         active = λ x h. let c = serves.active x h in record { of = c.of; within = c.within; has_row = c.has_row };
       }
 
-      if_serves : (b : Bool) → Serves was nodes file (if b then t else record t { queue = t.queue ++ r ∷ [] })
+      if_serves : (b : Bool) → Serves was nodes shape file (if b then t else record t { queue = t.queue ++ r ∷ [] })
       if_serves true = serves
       if_serves false = added
 
   -- the answer to a command
-  pub takes : (k : ℕ) (call : CallId) (row : Row) → was (Taken file k call) → t.rows call.node ≡ Some row → row.incarnation ≡ call.incarnation → is_grant k row.outstanding ≡ true → Serves was nodes file (taken t call row)
+  pub takes : (k : ℕ) (call : CallId) (row : Row) → was (Taken file k call) → t.rows call.node ≡ Some row → row.incarnation ≡ call.incarnation → is_grant k row.outstanding ≡ true → Serves was nodes shape file (taken t call row)
   takes k call row told there of fits =
       let after = put_row call.node (record row { outstanding = None }) (talk-answered was file call.node (nodes call.node).incarnation ((nodes call.node).files file) row (t.dead call.node) k call told refl of fits (talk_with call.node (Some row) there)) in
       record {
         file_is = after.file_is;
+        shape_is = after.shape_is;
         talks = after.talks;
         queued = All-weaker (IsCurrent (with_row t call.node (Some (record row { outstanding = None })))) (IsCurrent (taken t call row)) (λ x c. record { of = c.of; within = c.within; has_row = c.has_row }) t.queue after.queued;
         active = λ r h. let c = after.active r (unless_some (is_of_call call) t.active r h).0 in record { of = c.of; within = c.within; has_row = c.has_row };
       }
+
+-- a row is there once it was made
+row_made : (t : ServerState) (call : CallId) (row : Option Row) → t.rows call.node ≡ row → is_some ((with_a_row t call row).rows call.node) ≡ true
+row_made t call None is = at_number call.node call.node (λ b. is_some (if b then Some (empty_row call.incarnation) else t.rows call.node) ≡ true) (λ same. refl) (λ other. absurd (other refl))
+row_made t call (Some row) is = ap (λ (o : Option Row). is_some o) is
+
+same_shape : (t : ServerState) (call : CallId) (row : Option Row) → (with_a_row t call row).shape ≡ t.shape
+same_shape t call None = refl
+same_shape t call (Some row) = refl
+
+same_dead : (t : ServerState) (call : CallId) (row : Option Row) → (with_a_row t call row).dead ≡ t.dead
+same_dead t call None = refl
+same_dead t call (Some row) = refl
+
+module _ (was : Sent) (nodes : ℕ → NodeState) (shape : ShapeFields) (file : ℕ) (t : ServerState) (serves : Serves was nodes shape file t) where
+  -- a Request of an incarnation that is not known as dead
+  pub asks : (r : Held) → is_within t.shape.nodes r.call.node ≡ true → t.dead r.call.node < r.call.incarnation → r.call.incarnation ≤ (nodes r.call.node).incarnation → Serves was nodes shape file (asked t r)
+  asks r within alive known =
+      let young = forgotten t r.call.node (r.call.incarnation - 1) in
+      let first : Serves was nodes shape file young = forgets was nodes shape file t serves r.call.node (r.call.incarnation - 1) (omega arith) in
+      let row = young.rows r.call.node in
+      let of : r.call.incarnation ≡ young.dead r.call.node + 1 =
+          at_number r.call.node r.call.node (λ b. r.call.incarnation ≡ (if b then max (t.dead r.call.node) (r.call.incarnation - 1) else t.dead r.call.node) + 1) (λ same. omega arith) (λ other. absurd (other refl)) in
+      let second : Serves was nodes shape file (with_a_row young r.call row) = makes_row was nodes shape file young first r.call row refl of in
+      queues was nodes shape file (with_a_row young r.call row) second r (record {
+        of = of ∙ ap (λ (d : ℕ → ℕ). d r.call.node + 1) (sym (same_dead young r.call row));
+        within = ap (λ (x : ShapeFields). is_within x.nodes r.call.node) (same_shape young r.call row) ∙ within;
+        has_row = row_made young r.call row refl;
+      })
+
+  -- an answer, where it fits
+  pub answers : (number : ℕ) (call : CallId) (row : Option Row) (changed : ServerState) → was (Taken file number call) → t.rows call.node ≡ row → taken_if t call number row ≡ Some changed → Serves was nodes shape file changed
+  answers number call None changed told there h = absurd (none-some changed h)
+  answers number call (Some row) changed told there h =
+      elim ((row.incarnation == call.incarnation) && is_grant number row.outstanding) as (λ b. ((row.incarnation == call.incarnation) && is_grant number row.outstanding) ≡ b → (if b then Some (taken t call row) else None) ≡ Some changed → Serves was nodes shape file changed) [
+        | true ↦ λ fits h.
+            let both = and_parts (row.incarnation == call.incarnation) (is_grant number row.outstanding) fits in
+            subst (Serves was nodes shape file) (same_Some (taken t call row) changed h) (takes was nodes shape file t serves number call row told there (eqb-true row.incarnation call.incarnation both.0) both.1)
+        | false ↦ λ fits h. absurd (none-some changed h)
+      ] refl h
+
+  -- the first of the queue is served
+  pub admits : (active : Option Held) (queue : List Held) → t.active ≡ active → t.queue ≡ queue → Serves was nodes shape file (admitted t active queue)
+  admits (Some r) queue is line = serves
+  admits None [] is line = serves
+  admits None (r ∷ rest) is line =
+      let all : All (IsCurrent t) (r ∷ rest) = subst (λ (xs : List Held). All (IsCurrent t) xs) line serves.queued in
+      let move : (x : Held) → IsCurrent t x → IsCurrent (record t { active = Some r; queue = rest }) x = λ x c. record { of = c.of; within = c.within; has_row = c.has_row } in
+      record {
+        file_is = serves.file_is;
+        shape_is = serves.shape_is;
+        talks = serves.talks;
+        queued = All-weaker (IsCurrent t) (IsCurrent (record t { active = Some r; queue = rest })) move rest (All-tail (IsCurrent t) r rest all);
+        active = λ x h. move x (subst (IsCurrent t) (same_Some r x h) (All-head (IsCurrent t) r rest all));
+      }
+
+-- no byte of the largest span around what is needed is barred, if none is of what is needed
+pub around_free : (barred : ℕ → Bool) (required within : Range) → NoneIn (λ b. barred b ≡ true) required → NoneIn (λ b. barred b ≡ true) (largest_around barred required within)
+around_free barred required within none b above below here = elim (cases_lt b required.lo) [
+  | inl under ↦
+      let test : ℕ → Bool = λ l. all_pass (λ b. not (barred b)) l (required.lo - l) in
+      let f = first_is_first test within.lo (required.lo - within.lo) in
+      let least = f.least in
+      let all = f.here (omega arith) in
+      let free : not (barred b) ≡ true = all_pass-each (λ c. not (barred c)) (first test within.lo (required.lo - within.lo)) (required.lo - first test within.lo (required.lo - within.lo)) b all above (omega arith) in
+      both_ways (barred b) (not-true (barred b) free) here
+  | inr from ↦ elim (cases_lt required.hi b) [
+    | inl over ↦
+        let f = first_is_first barred (required.hi + 1) (within.hi - required.hi) in
+        both_ways (barred b) (f.none_before b (omega arith) (pred_below b (first barred (required.hi + 1) (within.hi - required.hi)) below (omega arith))) here
+    | inr upto ↦ none b from upto here
+  ]
+]
+  where
+    pred_below : (c k : ℕ) → c ≤ pred k → 1 ≤ c → c < k
+    pred_below c k h least = omega arith
+
+-- no byte of the span that is granted is one on which another node's row conflicts
+module _ (t : ServerState) (r : Held) (unblocked : nat_le (conflicting_node t r) t.shape.nodes ≡ false) where
+  free_row : (n : ℕ) → 1 ≤ n → n ≤ t.shape.nodes → conflicts_at t r n ≡ false
+  free_row n least most =
+      let past = leb-false (conflicting_node t r) t.shape.nodes unblocked in
+      (first_is_first (conflicts_at t r) 1 t.shape.nodes).none_before n least (omega arith)
+
+  free_byte : (n b : ℕ) → conflicts_at t r n ≡ false → r.wanted.required.lo ≤ b → b ≤ r.wanted.required.hi → conflicts_at_byte t r n b ≡ true → ⊥
+  free_byte n b free above below here =
+      let both = and_parts (not (n == r.call.node)) (row_conflicts_at (t.rows n) b r.mode) here in
+      elim (cases_Bool (row_conflicts (t.rows n) r.wanted.required r.mode)) [
+        | inl conflicts ↦ both_ways (conflicts_at t r n) free (and_from (not (n == r.call.node)) (row_conflicts (t.rows n) r.wanted.required r.mode) both.0 conflicts)
+        | inr none ↦ row_free (t.rows n) r.wanted.required r.mode none b above below both.1
+      ]
+
+  none_taken : NoneIn (λ b. is_taken t r b ≡ true) r.wanted.required
+  none_taken b above below some =
+      let one = some_passes-first (λ n. conflicts_at_byte t r n b) 1 t.shape.nodes some in
+      let under = one.below in
+      free_byte (first (λ n. conflicts_at_byte t r n b) 1 t.shape.nodes) b (free_row (first (λ n. conflicts_at_byte t r n b) 1 t.shape.nodes) one.above (omega arith)) above below one.here
+
+  pub span_free : (n b : ℕ) → is_within t.shape.nodes n ≡ true → (n ≡ r.call.node → ⊥) → is_in (granted_span t r) b ≡ true → row_conflicts_at (t.rows n) b r.mode ≡ false
+  span_free n b within other here =
+      let bounds = and_parts (nat_le 1 n) (nat_le n t.shape.nodes) within in
+      let least = leb-true 1 n bounds.0 in
+      let most = leb-true n t.shape.nodes bounds.1 in
+      let span = granted_span t r in
+      let ends = and_parts (nat_le span.lo b) (nat_le b span.hi) here in
+      let free : is_taken t r b ≡ false = false_from_ne_true (is_taken t r b) (around_free (is_taken t r) r.wanted.required r.wanted.desired none_taken b (leb-true span.lo b ends.0) (leb-true b span.hi ends.1)) in
+      let none : conflicts_at_byte t r n b ≡ false = some_passes-none (λ k. conflicts_at_byte t r k b) 1 t.shape.nodes n free least (omega arith) in
+      false_from_ne_true (row_conflicts_at (t.rows n) b r.mode) (λ conflicts. both_ways (conflicts_at_byte t r n b) none (and_from (not (n == r.call.node)) (row_conflicts_at (t.rows n) b r.mode) (not_from_false (n == r.call.node) (ne_eqb n r.call.node other)) conflicts))
+
+-- the server sends a Grant of bytes on which no other node's row conflicts
+pub record Grants (was : Sent) (nodes : ℕ → NodeState) (shape : ShapeFields) (file : ℕ) (v : ServerState) (sends : List Message) : Type 0 where
+  pub state : ServerState
+  pub serves : Serves was nodes shape file state
+  pub request : Held
+  pub current : IsCurrent state request
+  pub row : Row
+  pub there : state.rows request.call.node ≡ Some row
+  pub idle : row.outstanding ≡ None
+  pub span : Range
+  pub free : (n b : ℕ) → is_within state.shape.nodes n ≡ true → (n ≡ request.call.node → ⊥) → is_in span b ≡ true → row_conflicts_at (state.rows n) b request.mode ≡ false
+  pub next : v ≡ with_row state request.call.node (Some (granted_row file row request.call request.mode span))
+  pub sent : sends ≡ command_of file row request.call request.mode span ∷ []
+
+-- what comes of serving: nothing is sent, or one Grant
+abbrev pub Served : Sent → (ℕ → NodeState) → ShapeFields → ℕ → ServerState → List Message → Type 0
+Served was nodes shape file v sends = (Serves was nodes shape file v × (sends ≡ [])) ⊎ Grants was nodes shape file v sends
+
+done_is : {A E : Type 0} (a b : A) → ◌≡◌ {A = Result A E} (Ok a) (Ok b) → a ≡ b
+done_is a b is = cc
+
+none_outstanding : (o : Option Message) → is_some o ≡ false → o ≡ None
+none_outstanding None h = refl
+none_outstanding (Some m) h = absurd (cc)
+
+module _ (was : Sent) (nodes : ℕ → NodeState) (shape : ShapeFields) (file : ℕ) (t : ServerState) (serves : Serves was nodes shape file t) (v : ServerState) (sends : List Message) where
+  still : ◌≡◌ {A = Result (ServerState × List Message) StepError} (Ok (t, [])) (Ok (v, sends)) → Served was nodes shape file v sends
+  still h =
+      let same = done_is (t, []) (v, sends) h in
+      let P : ServerState × List Message → Type 0 = λ x. Serves was nodes shape file x.0 × (x.1 ≡ []) in
+      inl (subst P same (serves, refl))
+
+  grants : (r : Held) → IsCurrent t r → nat_le (conflicting_node t r) t.shape.nodes ≡ false → (row : Option Row) → t.rows r.call.node ≡ row → granted_to t r row ≡ Ok (v, sends) → Served was nodes shape file v sends
+  grants r current unblocked None there h = still h
+  grants r current unblocked (Some row) there h =
+      let span = granted_span t r in
+      let command = Grant t.file (row.number + 1) r.call r.mode span in
+      let later = with_row t r.call.node (Some (record row { token = raised row.token span r.mode; number = row.number + 1; outstanding = Some command })) in
+      let R : Type 0 = Result (ServerState × List Message) StepError in
+      let few : Bool = nat_lt row.number greatest_number in
+      elim (is_some row.outstanding) as (λ b. is_some row.outstanding ≡ b → ◌≡◌ {A = R} (if b then Ok (t, []) else (if few then Ok (later, command ∷ []) else Err Spent)) (Ok (v, sends)) → Served was nodes shape file v sends) [
+        | true ↦ λ is h. still h
+        | false ↦ λ is h. elim few as (λ b. ◌≡◌ {A = R} (if b then Ok (later, command ∷ []) else Err Spent) (Ok (v, sends)) → Served was nodes shape file v sends) [
+          | true ↦ λ h.
+              let same = done_is (later, command ∷ []) (v, sends) h in
+              let put : ℕ → ServerState = λ f. with_row t r.call.node (Some (granted_row f row r.call r.mode span)) in
+              inr (record {
+                state = t;
+                serves = serves;
+                request = r;
+                current = current;
+                row = row;
+                there = there;
+                idle = none_outstanding row.outstanding is;
+                span = span;
+                free = span_free t r unblocked;
+                next = ap (λ (x : ServerState × List Message). x.0) (sym same) ∙ ap put serves.file_is;
+                sent = ap (λ (x : ServerState × List Message). x.1) (sym same) ∙ ap (λ (f : ℕ). command_of f row r.call r.mode span ∷ []) serves.file_is;
+              })
+          | false ↦ λ h. absurd (cc)
+        ] h
+      ] refl h
+
+  serves_one : (o : Option Held) → t.active ≡ o → served t o ≡ Ok (v, sends) → Served was nodes shape file v sends
+  serves_one None is h = still h
+  serves_one (Some r) is h =
+      let R : Type 0 = Result (ServerState × List Message) StepError in
+      elim (nat_le (conflicting_node t r) t.shape.nodes) as (λ b. nat_le (conflicting_node t r) t.shape.nodes ≡ b → ◌≡◌ {A = R} (if b then Ok (t, []) else granted_to t r (t.rows r.call.node)) (Ok (v, sends)) → Served was nodes shape file v sends) [
+        | true ↦ λ blocked h. still h
+        | false ↦ λ unblocked h. grants r (serves.active r is) unblocked (t.rows r.call.node) refl h
+      ] refl h
+
+-- the server serves
+pub serve_serves : (was : Sent) (nodes : ℕ → NodeState) (shape : ShapeFields) (file : ℕ) (t : ServerState) → Serves was nodes shape file t → (v : ServerState) (sends : List Message) → serve t ≡ Ok (v, sends) → Served was nodes shape file v sends
+serve_serves was nodes shape file t serves v sends h =
+    let next = admitted t t.active t.queue in
+    serves_one was nodes shape file next (admits was nodes shape file t serves t.active t.queue refl refl) v sends next.active refl h
