@@ -15,11 +15,15 @@ use Rattle.token_set.proofs.SearchLaws.{some_passes-first, some_passes-none, all
 use Rattle.messages.specs.declared.message.Message.{Message}
 use Rattle.messages.specs.declared.message.Message.TheVariants.{Request, Grant, Taken}
 use Rattle.messages.specs.declared.refusal.StepError.{StepError}
-use Rattle.messages.specs.declared.refusal.StepError.TheVariants.{Spent}
-use Rattle.messages.specs.Messages.{greatest_number, is_within}
+use Rattle.messages.specs.declared.message.Urgency.{Urgency}
+use Rattle.messages.specs.declared.refusal.StepError.TheVariants.{Stranger, Spent}
+use Rattle.messages.specs.declared.outcome.Outcome.{Outcome}
+use Rattle.messages.specs.Messages.{addressee, call_of, greatest_number, is_within, sending}
+use Rattle.messages.specs.Wants.{Wants}
 use Rattle.messages.specs.Shapes.{ShapeFields}
 use Rattle.node_core.specs.State.{NodeState}
 use Rattle.token_server.specs.declared.held.Held.{Held}
+use Rattle.token_server.specs.declared.event.ServerEvent.TheVariants.{Deliver}
 use Rattle.token_server.specs.State.{Row, ServerState, empty_row, with_row, is_of_call, is_up_to, row_above, unless, forgotten}
 use Rattle.token_server.specs.Serve.{admitted, row_conflicts, row_conflicts_at, is_taken, granted_span, conflicting_node, commanded, granted_to, served, serve}
 use Rattle.token_server.specs.Server.{with_a_row, enqueued, is_active, is_grant, asked, taken, taken_if, delivered, is_server, change, then_serve, as_outcome, server_rule}
@@ -352,3 +356,43 @@ pub serve_serves : (was : Sent) (nodes : ℕ → NodeState) (shape : ShapeFields
 serve_serves was nodes shape file t serves v sends h =
     let next = admitted t t.active t.queue in
     serves_one was nodes shape file next (admits was nodes shape file t serves t.active t.queue refl refl) v sends next.active refl h
+
+-- what comes of a message
+module _ (was : Sent) (nodes : ℕ → NodeState) (shape : ShapeFields) (file : ℕ) (t : ServerState) (serves : Serves was nodes shape file t) (v : ServerState) (o : Outcome) where
+  outcome_is : (c : ServerState) (s : List Message) → ◌≡◌ {A = Result (ServerState × Outcome) StepError} (Ok (c, sending s)) (Ok (v, o)) → Served was nodes shape file c s → Served was nodes shape file v o.sends
+  outcome_is c s h served =
+      let P : ServerState × Outcome → Type 0 = λ x. Served was nodes shape file x.0 x.1.sends in
+      subst P (done_is (c, sending s) (v, o) h) served
+
+  serves_changed : (c : ServerState) → Serves was nodes shape file c → (r : Result (ServerState × List Message) StepError) → serve c ≡ r → as_outcome r ≡ Ok (v, o) → Served was nodes shape file v o.sends
+  serves_changed c after (Err e) is h = absurd (cc)
+  serves_changed c after (Ok done) is h = outcome_is done.0 done.1 h (serve_serves was nodes shape file c after done.0 done.1 is)
+
+  serves_if : (c : Option ServerState) → ((x : ServerState) → c ≡ Some x → Serves was nodes shape file x) → then_serve t (Ok c) ≡ Ok (v, o) → Served was nodes shape file v o.sends
+  serves_if None after h = outcome_is t [] h (inl (serves, refl))
+  serves_if (Some c) after h = serves_changed c (after c refl) (serve c) refl h
+
+  -- a message that changes the server only where its incarnation is not known as dead
+  receives : (m : Message) → (is_within t.shape.nodes (call_of m).node ≡ true → t.dead (call_of m).node < (call_of m).incarnation → (x : ServerState) → delivered t m ≡ Some x → Serves was nodes shape file x) → server_rule t (Deliver m) ≡ Ok (v, o) → Served was nodes shape file v o.sends
+  receives m after h =
+      let R : Type 0 = Result (Option ServerState) StepError in
+      let id = call_of m in
+      let ours : Bool = is_server t.file (addressee m) in
+      let within : Bool = is_within t.shape.nodes id.node in
+      let dead : Bool = nat_le id.incarnation (t.dead id.node) in
+      elim (ours && within) as (λ b. (ours && within) ≡ b → then_serve t (if not b then Err Stranger else (if dead then Ok None else Ok (delivered t m))) ≡ Ok (v, o) → Served was nodes shape file v o.sends) [
+        | true ↦ λ known h. elim dead as (λ b. dead ≡ b → then_serve t (if b then Ok None else Ok (delivered t m)) ≡ Ok (v, o) → Served was nodes shape file v o.sends) [
+          | true ↦ λ old h. serves_if None (λ x is. absurd (none-some x is)) h
+          | false ↦ λ live h. serves_if (delivered t m) (after (and_parts ours within known).1 (leb-false id.incarnation (t.dead id.node) live)) h
+        ] refl h
+        | false ↦ λ strange h. absurd (cc)
+      ] refl h
+
+  pub receives_request : (call : CallId) (urgency : Urgency) (mode : Mode) (wanted : Wants) → call.incarnation ≤ (nodes call.node).incarnation → server_rule t (Deliver (Request file call urgency mode wanted)) ≡ Ok (v, o) → Served was nodes shape file v o.sends
+  receives_request call urgency mode wanted known h =
+      let r : Held = record { call = call; urgency = urgency; mode = mode; wanted = wanted } in
+      receives (Request file call urgency mode wanted) (λ within alive x is. subst (Serves was nodes shape file) (same_Some (asked t r) x is) (asks was nodes shape file t serves r within alive known)) h
+
+  pub receives_taken : (number : ℕ) (call : CallId) → was (Taken file number call) → server_rule t (Deliver (Taken file number call)) ≡ Ok (v, o) → Served was nodes shape file v o.sends
+  receives_taken number call told h =
+      receives (Taken file number call) (λ within alive x is. answers was nodes shape file t serves number call (t.rows call.node) x told refl is) h
