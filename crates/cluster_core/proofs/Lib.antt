@@ -18,3 +18,4 @@ pub mod Talks
 pub mod TalkMoves
 pub mod NodeMoves
 pub mod ServerMoves
+pub mod Present

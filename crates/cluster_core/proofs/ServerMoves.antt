@@ -116,7 +116,7 @@ module _ (was : Sent) (nodes : ℕ → NodeState) (shape : ShapeFields) (file : 
     }
 
   -- another row of a node keeps its requests
-  current_row : (n : ℕ) (row : Row) (r : Held) → IsCurrent t r → IsCurrent (with_row t n (Some row)) r
+  pub current_row : (n : ℕ) (row : Row) (r : Held) → IsCurrent t r → IsCurrent (with_row t n (Some row)) r
   current_row n row r c = record {
     of = c.of;
     within = c.within;
