@@ -19,3 +19,4 @@ pub mod TalkMoves
 pub mod NodeMoves
 pub mod ServerMoves
 pub mod Present
+pub mod Apart

@@ -66,7 +66,7 @@ excludes_granted t u span mode apart free b exclusive =
     raised-at (λ x. x ≡ None) t span mode b (λ here. absurd (both_ways (level_conflicts (u b) mode) (free b here) (exclusive-conflicts (u b) mode exclusive))) (apart b exclusive)
 
 -- more messages that tell a server nothing
-serves-no_news : (was now : Sent) (nodes : ℕ → NodeState) (shape : ShapeFields) (file : ℕ) (t : ServerState) → ((n : ℕ) → NoNews was now file n (nodes n).incarnation) → Serves was nodes shape file t → Serves now nodes shape file t
+pub serves-no_news : (was now : Sent) (nodes : ℕ → NodeState) (shape : ShapeFields) (file : ℕ) (t : ServerState) → ((n : ℕ) → NoNews was now file n (nodes n).incarnation) → Serves was nodes shape file t → Serves now nodes shape file t
 serves-no_news was now nodes shape file t news s = record {
   file_is = s.file_is;
   shape_is = s.shape_is;
@@ -75,14 +75,14 @@ serves-no_news was now nodes shape file t news s = record {
   active = s.active;
 }
 
-apart-no_news : (was now : Sent) (nodes : ℕ → NodeState) (shape : ShapeFields) (file : ℕ) → ((n : ℕ) → NoNews was now file n (nodes n).incarnation) → StayApart was nodes shape file → StayApart now nodes shape file
+pub apart-no_news : (was now : Sent) (nodes : ℕ → NodeState) (shape : ShapeFields) (file : ℕ) → ((n : ℕ) → NoNews was now file n (nodes n).incarnation) → StayApart was nodes shape file → StayApart now nodes shape file
 apart-no_news was now nodes shape file news apart m n t u m_in n_in other a b =
     apart m n t u m_in n_in other
     (may_hold-no_news was now file m (nodes m).incarnation ((nodes m).files file) t (news m) a)
     (may_hold-no_news was now file n (nodes n).incarnation ((nodes n).files file) u (news n) b)
 
 -- nothing new was sent
-nothing_new : (was now : Sent) (file n incarnation : ℕ) → ((m : Message) → was m → now m) → ((m : Message) → now m → was m) → NoNews was now file n incarnation
+pub nothing_new : (was now : Sent) (file n incarnation : ℕ) → ((m : Message) → was m → now m) → ((m : Message) → now m → was m) → NoNews was now file n incarnation
 nothing_new was now file n incarnation kept new = record {
   kept = kept;
   grants = λ number call mode span sent to. new (Grant file number call mode span) sent;
