@@ -22,3 +22,9 @@ pub mod Lists
 pub mod TokenLists
 pub mod LockLists
 pub mod Replayed
+pub mod Talks
+pub mod TalkMoves
+pub mod NodeMoves
+pub mod ServerMoves
+pub mod Present
+pub mod Apart

@@ -1,13 +1,13 @@
 -- What the words of tokens say of each byte.
-use Rattle.std.specs.Prelude.{◌≡◌, ℕ, ◌<◌, ◌≤◌, true, false, Option, Some, None, is_none, is_some, IsSome, MatchOption}
+use Rattle.std.specs.Prelude.{◌≡◌, ℕ, ◌<◌, ◌≤◌, true, false, if◌then◌else◌, Option, Some, None, is_none, is_some, IsSome, MatchOption}
 use Rattle.std.proofs.Common.{refl, sym, ap, inl, inr, arith}
 use Rattle.std.proofs.lemmas.Bool.{both_ways, cases_lt, cases_Bool}
-use Rattle.intervals.specs.Bytes.{Range, greatest, AllAre, IsBarred, NoneIn, IsFirstIn, IsLargest, size}
+use Rattle.intervals.specs.Bytes.{Range, greatest, is_in, AllAre, IsBarred, NoneIn, IsFirstIn, IsLargest, size}
 use Rattle.model.specs.declared.mode.Mode.{Mode}
 use Rattle.model.specs.declared.mode.Mode.TheVariants.{Read, Write}
 use Rattle.model.specs.declared.level.Level.{Level}
 use Rattle.model.specs.declared.level.Level.TheVariants.{Shared, Exclusive}
-use Rattle.token_set.specs.Tokens.{Token, no_token, serves, covers, level_conflicts, conflicts, holds_nothing}
+use Rattle.token_set.specs.Tokens.{Token, no_token, serves, covers, raised_level, raised, level_conflicts, conflicts, holds_nothing}
 use Rattle.token_set.specs.Sets.{bar_of, HasLevels}
 use Rattle.token_set.proofs.SearchLaws.{some_passes-from, none_passes-from, some_passes-none, all_pass-from, all_pass-each}
 use Rattle.token_set.proofs.AroundLaws.{IsLargest-iff}
@@ -109,3 +109,28 @@ conflicts-found t s mode (Some b) f = sym (conflicts-from t s mode b f.above f.b
 -- the largest span without a barred byte is the largest without one that conflicts
 pub largest-conflicts : (t : Token) (mode : Mode) (required within s : Range) → IsLargest (IsBarred t (bar_of mode)) required within s → IsLargest (λ b. level_conflicts (t b) mode ≡ true) required within s
 largest-conflicts t mode required within s = IsLargest-iff _ _ required within s (conflicts-barred t mode) (barred-conflicts t mode)
+
+-- a raised token has at each byte the level that it had, or in the span the raised one
+pub raised-at : (P : Option Level → Type 0) (t : Token) (s : Range) (mode : Mode) (b : ℕ) → (is_in s b ≡ true → P (raised_level (t b) mode)) → P (t b) → P (raised t s mode b)
+raised-at P t s mode b here there =
+    elim (is_in s b) as (λ i. is_in s b ≡ i → P (if i then raised_level (t b) mode else t b)) [ true ↦ λ h. here h | false ↦ λ h. there ] refl
+
+-- what stands in the way still does at the raised level
+pub raised_level-conflicts : (x : Option Level) (mode other : Mode) → level_conflicts x other ≡ true → level_conflicts (raised_level x mode) other ≡ true
+raised_level-conflicts None mode other h = absurd (cc)
+raised_level-conflicts (Some Shared) Read other h = h
+raised_level-conflicts (Some Shared) Write other h = refl
+raised_level-conflicts (Some Exclusive) Read other h = refl
+raised_level-conflicts (Some Exclusive) Write other h = refl
+
+-- a level that does not stand in the way of the mode has nothing where the raised one is exclusive
+pub raised_level-excludes : (x y : Option Level) (mode : Mode) → (x ≡ Some Exclusive → y ≡ None) → level_conflicts y mode ≡ false → raised_level x mode ≡ Some Exclusive → y ≡ None
+raised_level-excludes None y Read apart free h = absurd (cc)
+raised_level-excludes (Some level) y Read apart free h = apart h
+raised_level-excludes x None Write apart free h = refl
+raised_level-excludes x (Some Shared) Write apart free h = absurd (cc)
+raised_level-excludes x (Some Exclusive) Write apart free h = absurd (cc)
+
+-- and an exclusive one stands in the way
+pub exclusive-conflicts : (y : Option Level) (mode : Mode) → y ≡ Some Exclusive → level_conflicts y mode ≡ true
+exclusive-conflicts y mode h = ap (λ x. level_conflicts x mode) h
