@@ -37,29 +37,30 @@ use Rattle.cluster_core.specs.Runs.{Leads}
 use Rattle.cluster_core.specs.Safe.{Excludes, AreApart}
 use Rattle.cluster_core.proofs.Talks.{Sent, Talk, MayHold}
 use Rattle.cluster_core.proofs.TalkMoves.{NoNews, talk-no_news, may_hold-no_news, IsDoing, taken_file, talk-does, may_hold-does, command_of, IsCommanding}
-use Rattle.cluster_core.proofs.NodeMoves.{Only, IsAsking, AsksFrom, Repeats, Does, Receives, called_asks, quiet_asks, grant_receives, first_among, only_one}
+use Rattle.cluster_core.proofs.NodeMoves.{Only, IsAsking, AsksFrom, Repeats, Does, Receives, called_asks, quiet_asks, grant_receives, first_among, only_none, only_one}
 use Rattle.cluster_core.proofs.ServerMoves.{at_number, IsCurrent, Serves, Grants, Served, receives_request, receives_taken}
 use Rattle.cluster_core.proofs.Present.{Was, Holding, StayApart, Present, sent_before, sent_now, sent_either, serves-no_news, apart-no_news, nothing_new, files_no_news, granted_serves, granted_apart}
 
--- a server's step
-module _ (w : WorldState) (p : Present w) (file : ℕ) (v : ServerState) (event : Event) (o : Outcome) where
+-- a server's step: it sends what comes of serving, and may send again what was sent before
+module _ (w : WorldState) (p : Present w) (file : ℕ) (v : ServerState) (event : Event) (o : Outcome) (fresh : List Message) (again : Only (λ m. Was w m ⊎ (is_among fresh m ≡ true)) o.sends) (said : Only (λ m. is_among o.sends m ≡ true) fresh) where
   abbrev later : WorldState
   later = (recorded (with_server w file v) event o).0
 
   kept : (m : Message) → Was w m → Was later m
   kept = sent_before w.sent o.sends
 
+  either : (m : Message) → Was later m → Was w m ⊎ (is_among fresh m ≡ true)
+  either m h = elim (sent_either w.sent o.sends m h) [ inl before ↦ inl before | inr new ↦ again m new ]
+
   put : Serves (Was later) w.nodes w.shape file v → ((f n : ℕ) → (f ≡ file → ⊥) → NoNews (Was w) (Was later) f n (w.nodes n).incarnation) → (f : ℕ) → Serves (Was later) w.nodes w.shape f (later.servers f)
   put here news f = at_number f file (λ b. Serves (Was later) w.nodes w.shape f (if b then v else w.servers f))
       (λ same. subst (λ (k : ℕ). Serves (Was later) w.nodes w.shape k v) (sym same) here)
       (λ other. serves-no_news (Was w) (Was later) w.nodes w.shape f (w.servers f) (λ n. news f n other) (p.serves f))
 
-  still : Serves (Was w) w.nodes w.shape file v → o.sends ≡ [] → Present later
+  still : Serves (Was w) w.nodes w.shape file v → fresh ≡ [] → Present later
   still serves none =
-      let old : (m : Message) → Was later m → Was w m = λ m h. elim (sent_either w.sent o.sends m h) [
-        | inl before ↦ before
-        | inr new ↦ let nowhere : is_among [] m ≡ true = subst (λ (xs : List Message). is_among xs m ≡ true) none new in absurd (cc)
-      ] in
+      let nowhere : Only (λ m. ⊥) fresh = subst (Only (λ m. ⊥)) (sym none) (only_none (λ m. ⊥)) in
+      let old : (m : Message) → Was later m → Was w m = λ m h. elim (either m h) [ inl before ↦ before | inr new ↦ absurd (nowhere m new) ] in
       let news : (f n : ℕ) → NoNews (Was w) (Was later) f n (w.nodes n).incarnation = λ f n. nothing_new (Was w) (Was later) f n (w.nodes n).incarnation kept old in
       record {
         named = p.named;
@@ -68,14 +69,15 @@ module _ (w : WorldState) (p : Present w) (file : ℕ) (v : ServerState) (event 
         apart = λ f. apart-no_news (Was w) (Was later) w.nodes w.shape f (news f) (p.apart f);
       }
 
-  grants : Grants (Was w) w.nodes w.shape file v o.sends → Present later
+  grants : Grants (Was w) w.nodes w.shape file v fresh → Present later
   grants g =
       let command = command_of file g.row g.request.call g.request.mode g.span in
-      let now_all : (m : Message) → is_among o.sends m ≡ true → m ≡ command = subst (Only (λ m. m ≡ command)) (sym g.sent) (only_one (λ m. m ≡ command) command refl) in
+      let now_all : Only (λ m. m ≡ command) fresh = subst (Only (λ m. m ≡ command)) (sym g.sent) (only_one (λ m. m ≡ command) command refl) in
+      let there : is_among fresh command ≡ true = subst (λ (xs : List Message). is_among xs command ≡ true) (sym g.sent) (first_among command []) in
       let news : IsCommanding (Was w) (Was later) command = record {
         kept = kept;
-        new = λ m h. elim (sent_either w.sent o.sends m h) [ inl before ↦ inl before | inr new ↦ inr (now_all m new) ];
-        sent = sent_now w.sent o.sends command (subst (λ (xs : List Message). is_among xs command ≡ true) (sym g.sent) (first_among command []));
+        new = λ m h. elim (either m h) [ inl before ↦ inl before | inr new ↦ inr (now_all m new) ];
+        sent = sent_now w.sent o.sends command (said command there);
       } in
       record {
         named = p.named;
@@ -87,14 +89,14 @@ module _ (w : WorldState) (p : Present w) (file : ℕ) (v : ServerState) (event 
               let live : g.request.call.incarnation ≤ (w.nodes g.request.call.node).incarnation = omega arith in
               subst (λ (x : Message). (call_of x).incarnation ≤ (w.nodes (call_of x).node).incarnation) (sym is) live
         ];
-        serves = put (granted_serves (Was w) (Was later) w.nodes w.shape file v o.sends g news) (files_no_news (Was w) (Was later) w.nodes w.shape file v o.sends g news);
+        serves = put (granted_serves (Was w) (Was later) w.nodes w.shape file v fresh g news) (files_no_news (Was w) (Was later) w.nodes w.shape file v fresh g news);
         apart = λ f. elim (cases_eq f file) [
-          | inl same ↦ subst (λ (k : ℕ). StayApart (Was later) w.nodes w.shape k) (sym same) (granted_apart (Was w) (Was later) w.nodes w.shape file v o.sends g news (p.apart file))
-          | inr other ↦ apart-no_news (Was w) (Was later) w.nodes w.shape f (λ n. files_no_news (Was w) (Was later) w.nodes w.shape file v o.sends g news f n other) (p.apart f)
+          | inl same ↦ subst (λ (k : ℕ). StayApart (Was later) w.nodes w.shape k) (sym same) (granted_apart (Was w) (Was later) w.nodes w.shape file v fresh g news (p.apart file))
+          | inr other ↦ apart-no_news (Was w) (Was later) w.nodes w.shape f (λ n. files_no_news (Was w) (Was later) w.nodes w.shape file v fresh g news f n other) (p.apart f)
         ];
       }
 
-  pub server_present : Served (Was w) w.nodes w.shape file v o.sends → Present later
+  pub server_present : Served (Was w) w.nodes w.shape file v fresh → Present later
   server_present (inl s) = still s.0 s.1
   server_present (inr g) = grants g
 
@@ -326,13 +328,13 @@ module _ (w : WorldState) (p : Present w) where
       let t = w.servers file in
       let sent = (and_parts (has_actor w (addressee m)) (is_among w.sent m) known).1 in
       server_done w (Deliver m) file (server_rule t (server.Deliver m)) q
-      (λ done is. server_present w p file done.0 (Deliver m) done.1 (receives_request (Was w) w.nodes w.shape file t (p.serves file) done.0 done.1 call urgency mode wanted (p.no_future m sent) is)) h
+      (λ done is. server_present w p file done.0 (Deliver m) done.1 done.1.sends (λ x there. inr there) (λ x there. there) (receives_request (Was w) w.nodes w.shape file t (p.serves file) done.0 done.1 call urgency mode wanted (p.no_future m sent) is)) h
   taken_present (Deliver (Taken file number call)) q known h =
       let m = Taken file number call in
       let t = w.servers file in
       let sent = (and_parts (has_actor w (addressee m)) (is_among w.sent m) known).1 in
       server_done w (Deliver m) file (server_rule t (server.Deliver m)) q
-      (λ done is. server_present w p file done.0 (Deliver m) done.1 (receives_taken (Was w) w.nodes w.shape file t (p.serves file) done.0 done.1 number call sent is)) h
+      (λ done is. server_present w p file done.0 (Deliver m) done.1 done.1.sends (λ x there. inr there) (λ x there. there) (receives_taken (Was w) w.nodes w.shape file t (p.serves file) done.0 done.1 number call sent is)) h
 
   -- each step keeps it
   pub next_present : (event : Event) (q : WorldState × Entry) → next w event ≡ Ok q → Present q.0
