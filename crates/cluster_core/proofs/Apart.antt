@@ -1,24 +1,22 @@
 -- The tokens of two nodes never conflict, after any run.
 use Rattle.std.specs.Prelude.{◌==◌, nat_le, nat_lt, not, is_some}
-use Rattle.std.proofs.Common.{◌≡◌, ℕ, ◌+◌, ◌<◌, ◌≤◌, Bool, true, false, if◌then◌else◌, ◌&&◌, ◌⊎◌, inl, inr, refl, sym, ◌∙◌, ap, subst, arith, List, [], ◌∷◌, ◌++◌, Option, Some, None, Result, Ok, Err}
+use Rattle.std.proofs.Common.{◌≡◌, ℕ, ◌+◌, ◌≤◌, Bool, true, false, if◌then◌else◌, ◌&&◌, ◌⊎◌, inl, inr, refl, sym, ◌∙◌, ap, subst, arith, List, [], ◌∷◌, Option, Some, None, Result, Ok, Err}
 use Rattle.std.proofs.lemmas.Bool.{and_parts, cases_eq, eqb-true}
 use Rattle.std.proofs.lemmas.List.Elements.{All-nil}
 use Rattle.std.proofs.lemmas.Option.{none-some}
 use Rattle.intervals.specs.Bytes.{Range}
 use Rattle.model.specs.declared.call.CallId.{CallId}
-use Rattle.model.specs.declared.level.Level.TheVariants.{Exclusive}
 use Rattle.model.specs.declared.mode.Mode.{Mode}
 use Rattle.model.specs.declared.op.Op.{Op}
 use Rattle.token_set.specs.Tokens.{Token, no_token, raised}
 use Rattle.messages.specs.Shapes.{ShapeFields}
-use Rattle.messages.specs.Messages.{addressee, call_of, file_of, greatest_number, is_among, is_within}
+use Rattle.messages.specs.Messages.{addressee, call_of, file_of, is_among, is_within}
 use Rattle.messages.specs.declared.message.Message.{Message}
 use Rattle.messages.specs.declared.message.Message.TheVariants.{Request, Grant, Taken}
 use Rattle.messages.specs.declared.event.Event.{Event}
 use Rattle.messages.specs.declared.event.Event.TheVariants.{Call, Deliver}
 use Rattle.messages.specs.declared.entry.Entry.{Entry}
 use Rattle.messages.specs.declared.outcome.Outcome.{Outcome}
-use Rattle.messages.specs.declared.refusal.Refused.{Refused}
 use Rattle.messages.specs.declared.refusal.Refused.TheVariants.{Stranger, JournalFull}
 use Rattle.messages.specs.declared.refusal.StepError.{StepError}
 use Rattle.messages.specs.declared.refusal.StepError.TheVariants as step
@@ -27,17 +25,16 @@ use Rattle.node_core.specs.State.{FileState, NodeState, Effect, open_call_of, ou
 use Rattle.node_core.specs.Calls.{is_pid, is_in_shape, after_call, called}
 use Rattle.node_core.specs.Commands.{after_grant, delivered, deliver_rule, is_node}
 use Rattle.node_core.specs.Node.{node_rule}
-use Rattle.token_server.specs.declared.held.Held.{Held}
 use Rattle.token_server.specs.declared.event.ServerEvent.TheVariants as server
 use Rattle.token_server.specs.State.{ServerState}
 use Rattle.token_server.specs.Server.{server_rule}
-use Rattle.cluster_core.specs.World.{WorldState, first_world, has_node, journal_limit}
+use Rattle.cluster_core.specs.World.{WorldState, first_world, journal_limit}
 use Rattle.cluster_core.specs.Next.{is_known, has_actor, recorded, with_node, with_server, after_node, after_server, taken, next}
 use Rattle.cluster_core.specs.Runs.{Leads}
 use Rattle.cluster_core.specs.Safe.{Excludes, AreApart}
-use Rattle.cluster_core.proofs.Talks.{Sent, Talk, MayHold}
-use Rattle.cluster_core.proofs.TalkMoves.{NoNews, talk-no_news, may_hold-no_news, IsDoing, taken_file, talk-does, may_hold-does, command_of, IsCommanding}
-use Rattle.cluster_core.proofs.NodeMoves.{Only, IsAsking, AsksFrom, Repeats, Does, Receives, called_asks, quiet_asks, grant_receives, first_among, only_none, only_one}
+use Rattle.cluster_core.proofs.Talks.{Talk, MayHold}
+use Rattle.cluster_core.proofs.TalkMoves.{NoNews, talk-no_news, may_hold-no_news, IsDoing, talk-does, may_hold-does, command_of, IsCommanding}
+use Rattle.cluster_core.proofs.NodeMoves.{Only, IsAsking, AsksFrom, Receives, called_asks, quiet_asks, grant_receives, first_among, only_none, only_one}
 use Rattle.cluster_core.proofs.ServerMoves.{at_number, IsCurrent, Serves, Grants, Served, receives_request, receives_taken}
 use Rattle.cluster_core.proofs.Present.{Was, Holding, StayApart, Present, sent_before, sent_now, sent_either, serves-no_news, apart-no_news, nothing_new, files_no_news, granted_serves, granted_apart}
 
@@ -131,7 +128,7 @@ module _ (w : WorldState) (p : Present w) (n : ℕ) (u : NodeState) (event : Eve
           shape_is = s.shape_is;
           talks = λ m. at_number m n (λ b. Talk (Was after) file m (if b then u else w.nodes m).incarnation ((if b then u else w.nodes m).files file) ((w.servers file).rows m) ((w.servers file).dead m))
               (λ same. subst (λ (k : ℕ). Talk (Was after) file k u.incarnation (u.files file) ((w.servers file).rows k) ((w.servers file).dead k)) (sym same)
-                (subst (λ (i : ℕ). Talk (Was after) file n i (u.files file) ((w.servers file).rows n) ((w.servers file).dead n)) (sym incarnation_is) (g.talk file)))
+              (subst (λ (i : ℕ). Talk (Was after) file n i (u.files file) ((w.servers file).rows n) ((w.servers file).dead n)) (sym incarnation_is) (g.talk file)))
               (λ other. talk-no_news (Was w) (Was after) file m (w.nodes m).incarnation ((w.nodes m).files file) ((w.servers file).rows m) ((w.servers file).dead m) (g.others file m other) (s.talks m));
           queued = s.queued;
           active = s.active;
@@ -142,7 +139,7 @@ module _ (w : WorldState) (p : Present w) (n : ℕ) (u : NodeState) (event : Eve
       before : (file m : ℕ) (t : Token) → Holding (Was after) after.nodes file m t → Holding (Was w) w.nodes file m t
       before file m t = at_number m n (λ b. MayHold (Was after) file m (if b then u else w.nodes m).incarnation ((if b then u else w.nodes m).files file) t → Holding (Was w) w.nodes file m t)
           (λ same. subst (λ (k : ℕ). MayHold (Was after) file k u.incarnation (u.files file) t → Holding (Was w) w.nodes file k t) (sym same)
-            (subst (λ (i : ℕ). MayHold (Was after) file n i (u.files file) t → Holding (Was w) w.nodes file n t) (sym incarnation_is) (g.no_more file t)))
+          (subst (λ (i : ℕ). MayHold (Was after) file n i (u.files file) t → Holding (Was w) w.nodes file n t) (sym incarnation_is) (g.no_more file t)))
           (λ other. may_hold-no_news (Was w) (Was after) file m (w.nodes m).incarnation ((w.nodes m).files file) t (g.others file m other))
 
   -- its tokens stay, and nothing new is said of tokens
@@ -203,15 +200,15 @@ module _ (w : WorldState) (p : Present w) (n : ℕ) (u : NodeState) (event : Eve
         talk = λ f.
             let P : (ℕ → FileState) → Type 0 = λ x. Talk (Was after) f n i (x f) ((w.servers f).rows n) ((w.servers f).dead n) in
             subst P (sym files) (at_number f file (λ b. Talk (Was after) f n i (if b then done else s.files f) ((w.servers f).rows n) ((w.servers f).dead n))
-              (λ same. subst (λ (k : ℕ). Talk (Was after) k n i done ((w.servers k).rows n) ((w.servers k).dead n)) (sym same)
-                (talk-does (Was w) (Was after) file n i (s.files file) row dead ((p.serves file).talks n) number call mode span sent to_node to_incarnation is_next doing))
-              (λ other. talk-no_news (Was w) (Was after) f n i (s.files f) ((w.servers f).rows n) ((w.servers f).dead n) (elsewhere f n (λ x y. other x)) ((p.serves f).talks n)));
+            (λ same. subst (λ (k : ℕ). Talk (Was after) k n i done ((w.servers k).rows n) ((w.servers k).dead n)) (sym same)
+            (talk-does (Was w) (Was after) file n i (s.files file) row dead ((p.serves file).talks n) number call mode span sent to_node to_incarnation is_next doing))
+            (λ other. talk-no_news (Was w) (Was after) f n i (s.files f) ((w.servers f).rows n) ((w.servers f).dead n) (elsewhere f n (λ x y. other x)) ((p.serves f).talks n)));
         no_more = λ f t.
             let P : (ℕ → FileState) → Type 0 = λ x. MayHold (Was after) f n i (x f) t → Holding (Was w) w.nodes f n t in
             subst P (sym files) (at_number f file (λ b. MayHold (Was after) f n i (if b then done else s.files f) t → Holding (Was w) w.nodes f n t)
-              (λ same. subst (λ (k : ℕ). MayHold (Was after) k n i done t → Holding (Was w) w.nodes k n t) (sym same)
-                (may_hold-does (Was w) (Was after) file n i (s.files file) row dead ((p.serves file).talks n) number call mode span sent to_node to_incarnation is_next doing t))
-              (λ other. may_hold-no_news (Was w) (Was after) f n i (s.files f) t (elsewhere f n (λ x y. other x))));
+            (λ same. subst (λ (k : ℕ). MayHold (Was after) k n i done t → Holding (Was w) w.nodes k n t) (sym same)
+            (may_hold-does (Was w) (Was after) file n i (s.files file) row dead ((p.serves file).talks n) number call mode span sent to_node to_incarnation is_next doing t))
+            (λ other. may_hold-no_news (Was w) (Was after) f n i (s.files f) t (elsewhere f n (λ x y. other x))));
         others = λ f m other. elsewhere f m (λ x y. other y);
       }
     where
