@@ -1,6 +1,6 @@
 -- The tokens of two nodes never conflict, after any run.
 use Rattle.std.specs.Prelude.{◌==◌, nat_le, nat_lt, not, is_some}
-use Rattle.std.proofs.Common.{◌≡◌, ℕ, ◌+◌, ◌≤◌, Bool, true, false, if◌then◌else◌, ◌&&◌, ◌⊎◌, inl, inr, refl, sym, ◌∙◌, ap, subst, arith, List, [], ◌∷◌, Option, Some, None, Result, Ok, Err}
+use Rattle.std.proofs.Common.{◌≡◌, ℕ, ◌+◌, ◌≤◌, Bool, true, false, if◌then◌else◌, ◌&&◌, ◌⊎◌, inl, inr, refl, sym, ◌∙◌, ap, subst, arith, List, [], ◌∷◌, ◌++◌, Option, Some, None, Result, Ok, Err}
 use Rattle.std.proofs.lemmas.Bool.{and_parts, cases_eq, eqb-true}
 use Rattle.std.proofs.lemmas.List.Elements.{All-nil}
 use Rattle.std.proofs.lemmas.Option.{none-some}
@@ -22,6 +22,8 @@ use Rattle.messages.specs.declared.refusal.StepError.{StepError}
 use Rattle.messages.specs.declared.refusal.StepError.TheVariants as step
 use Rattle.node_core.specs.declared.event.NodeEvent.TheVariants as node
 use Rattle.node_core.specs.State.{FileState, NodeState, Effect, open_call_of, outcome, quiet}
+use Rattle.node_core.specs.declared.open_call.OpenCall.{OpenCall}
+use Rattle.node_core.specs.Try.{tried_if}
 use Rattle.node_core.specs.Calls.{is_pid, is_in_shape, after_call, called}
 use Rattle.node_core.specs.Commands.{after_grant, delivered, deliver_rule, is_node}
 use Rattle.node_core.specs.Node.{node_rule}
@@ -34,7 +36,7 @@ use Rattle.cluster_core.specs.Runs.{Leads}
 use Rattle.cluster_core.specs.Safe.{Excludes, AreApart}
 use Rattle.cluster_core.proofs.Talks.{Talk, MayHold}
 use Rattle.cluster_core.proofs.TalkMoves.{NoNews, talk-no_news, may_hold-no_news, IsDoing, talk-does, may_hold-does, command_of, IsCommanding}
-use Rattle.cluster_core.proofs.NodeMoves.{Only, IsAsking, AsksFrom, Receives, called_asks, quiet_asks, grant_receives, first_among, only_none, only_one}
+use Rattle.cluster_core.proofs.NodeMoves.{Only, IsAsking, AsksFrom, Receives, called_asks, quiet_asks, tried_if_asks, grant_receives, first_among, only_none, only_one}
 use Rattle.cluster_core.proofs.ServerMoves.{at_number, IsCurrent, Serves, Grants, Served, receives_request, receives_taken}
 use Rattle.cluster_core.proofs.Present.{Was, Holding, StayApart, Present, sent_before, sent_now, sent_either, serves-no_news, apart-no_news, nothing_new, files_no_news, granted_serves, granted_apart}
 
@@ -96,6 +98,14 @@ module _ (w : WorldState) (p : Present w) (file : ℕ) (v : ServerState) (event 
   pub server_present : Served (Was w) w.nodes w.shape file v fresh → Present later
   server_present (inl s) = still s.0 s.1
   server_present (inr g) = grants g
+
+-- a server's step that first sends again what was sent before
+pub again_present : (w : WorldState) (p : Present w) (file : ℕ) (v : ServerState) (event : Event) (o : Outcome) (before fresh : List Message) → o.sends ≡ before ++ fresh → Only (Was w) before → Served (Was w) w.nodes w.shape file v fresh → Present (recorded (with_server w file v) event o).0
+again_present w p file v event o before fresh is old =
+    let again : Only (λ m. Was w m ⊎ (is_among fresh m ≡ true)) o.sends = λ m there.
+        elim (sent_either before fresh m (subst (λ (xs : List Message). is_among xs m ≡ true) is there)) [ inl first ↦ inl (old m first) | inr later ↦ inr later ] in
+    let said : Only (λ m. is_among o.sends m ≡ true) fresh = λ m there. subst (λ (xs : List Message). is_among xs m ≡ true) (sym is) (sent_now before fresh m there) in
+    server_present w p file v event o fresh again said
 
 -- a node's step
 module _ (w : WorldState) (p : Present w) (n : ℕ) (u : NodeState) (event : Event) (o : Outcome) (node_is : u.node ≡ (w.nodes n).node) (incarnation_is : u.incarnation ≡ (w.nodes n).incarnation) where
@@ -278,6 +288,10 @@ module _ (w : WorldState) (p : Present w) where
   -- an effect by which the node only asks
   pub asking_present : (n : ℕ) (event : Event) (call : Option CallId) (e : Effect) → AsksFrom (w.nodes n) e → Present (recorded (with_node w n e.state) event (outcome call e).1).0
   asking_present n event call e a = node_present w p n e.state event (outcome call e).1 a.node_is a.incarnation_is (asks_goes w p n e.state event (outcome call e).1 a.node_is a.incarnation_is a.files_are a.sends)
+
+  -- a try of an open call
+  pub try_present : (n : ℕ) (event : Event) (c : Option OpenCall) → Present (recorded (with_node w n (tried_if (w.nodes n) c).state) event (outcome None (tried_if (w.nodes n) c)).1).0
+  try_present n event c = asking_present n event None (tried_if (w.nodes n) c) (tried_if_asks (w.nodes n) c)
 
   call_present : (n pid : ℕ) (op : Op) → Present (recorded (with_node w n (after_call (w.nodes n) pid op).0) (Call n pid op) (after_call (w.nodes n) pid op).1).0
   call_present n pid op =

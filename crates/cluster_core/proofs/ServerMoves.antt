@@ -53,6 +53,10 @@ pub record Serves (was : Sent) (nodes : ℕ → NodeState) (shape : ShapeFields)
   pub queued : All (IsCurrent t) t.queue
   pub active : (r : Held) → t.active ≡ Some r → IsCurrent t r
 
+-- a command that has no answer was sent
+pub outstanding_sent : (was : Sent) (nodes : ℕ → NodeState) (shape : ShapeFields) (file : ℕ) (t : ServerState) → Serves was nodes shape file t → (n : ℕ) (row : Row) (m : Message) → t.rows n ≡ Some row → row.outstanding ≡ Some m → was m
+outstanding_sent was nodes shape file t serves n row m there is = ((serves.talks n).waits row m there is).0
+
 All-both : {A : Type 0} (P Q R : A → Type 0) → ((x : A) → P x → Q x → R x) → (xs : List A) → All P xs → All Q xs → All R xs
 All-both P Q R f xs a b k d lt = f _ (a k d lt) (b k d lt)
 
