@@ -36,8 +36,8 @@ use Rattle.cluster_core.specs.Runs.{Leads}
 use Rattle.cluster_core.specs.Safe.{Excludes, AreApart}
 use Rattle.cluster_core.proofs.Talks.{Talk, MayHold}
 use Rattle.cluster_core.proofs.TalkMoves.{NoNews, talk-no_news, may_hold-no_news, IsDoing, talk-does, may_hold-does, command_of, IsCommanding}
-use Rattle.cluster_core.proofs.NodeMoves.{Only, IsAsking, AsksFrom, Receives, called_asks, quiet_asks, tried_if_asks, grant_receives, first_among, only_none, only_one}
-use Rattle.cluster_core.proofs.ServerMoves.{at_number, IsCurrent, Serves, Grants, Served, receives_request, receives_taken}
+use Rattle.cluster_core.proofs.NodeTokens.{Only, IsAsking, AsksFrom, Receives, called_asks, quiet_asks, tried_if_asks, grant_receives, first_among, only_none, only_one}
+use Rattle.cluster_core.proofs.ServerRows.{at_number, IsCurrent, Serves, Grants, Served, receives_request, receives_taken}
 use Rattle.cluster_core.proofs.Present.{Was, Holding, StayApart, Present, sent_before, sent_now, sent_either, serves-no_news, apart-no_news, nothing_new, files_no_news, granted_serves, granted_apart}
 
 -- a server's step: it sends what comes of serving, and may send again what was sent before
@@ -103,7 +103,7 @@ module _ (w : WorldState) (p : Present w) (file : ℕ) (v : ServerState) (event 
 pub again_present : (w : WorldState) (p : Present w) (file : ℕ) (v : ServerState) (event : Event) (o : Outcome) (before fresh : List Message) → o.sends ≡ before ++ fresh → Only (Was w) before → Served (Was w) w.nodes w.shape file v fresh → Present (recorded (with_server w file v) event o).0
 again_present w p file v event o before fresh is old =
     let again : Only (λ m. Was w m ⊎ (is_among fresh m ≡ true)) o.sends = λ m there.
-        elim (sent_either before fresh m (subst (λ (xs : List Message). is_among xs m ≡ true) is there)) [ inl first ↦ inl (old m first) | inr later ↦ inr later ] in
+    elim (sent_either before fresh m (subst (λ (xs : List Message). is_among xs m ≡ true) is there)) [ inl first ↦ inl (old m first) | inr later ↦ inr later ] in
     let said : Only (λ m. is_among o.sends m ≡ true) fresh = λ m there. subst (λ (xs : List Message). is_among xs m ≡ true) (sym is) (sent_now before fresh m there) in
     server_present w p file v event o fresh again said
 

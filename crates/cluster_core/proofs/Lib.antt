@@ -16,7 +16,7 @@ pub mod Worlds
 pub mod Runs
 pub mod Talks
 pub mod TalkMoves
-pub mod NodeMoves
-pub mod ServerMoves
+pub mod NodeTokens
+pub mod ServerRows
 pub mod Present
 pub mod Apart

@@ -20,7 +20,7 @@ use Rattle.cluster_core.specs.Safe.{Excludes}
 use Rattle.cluster_core.proofs.KnownMessages.{is_among-append}
 use Rattle.cluster_core.proofs.Talks.{Sent, Talk, MayHold, held}
 use Rattle.cluster_core.proofs.TalkMoves.{NoNews, talk-no_news, may_hold-no_news, command_of, granted_row, IsCommanding, talk-granted, may_hold-granted}
-use Rattle.cluster_core.proofs.ServerMoves.{at_number, IsCurrent, Serves, Grants, current_row}
+use Rattle.cluster_core.proofs.ServerRows.{at_number, IsCurrent, Serves, Grants, current_row}
 
 -- the message was sent
 abbrev pub Was : WorldState → Message → Type 0
