@@ -1,65 +1,65 @@
 -- The tokens of two nodes never conflict, after any run.
 use Rattle.std.specs.Prelude.{◌==◌, nat_le, nat_lt, not, is_some}
-use Rattle.std.proofs.Common.{◌≡◌, ℕ, ◌+◌, ◌<◌, ◌≤◌, Bool, true, false, if◌then◌else◌, ◌&&◌, ◌⊎◌, inl, inr, refl, sym, ◌∙◌, ap, subst, arith, List, [], ◌∷◌, ◌++◌, Option, Some, None, Result, Ok, Err}
+use Rattle.std.proofs.Common.{◌≡◌, ℕ, ◌+◌, ◌≤◌, Bool, true, false, if◌then◌else◌, ◌&&◌, ◌⊎◌, inl, inr, refl, sym, ◌∙◌, ap, subst, arith, List, [], ◌∷◌, ◌++◌, Option, Some, None, Result, Ok, Err}
 use Rattle.std.proofs.lemmas.Bool.{and_parts, cases_eq, eqb-true}
 use Rattle.std.proofs.lemmas.List.Elements.{All-nil}
 use Rattle.std.proofs.lemmas.Option.{none-some}
 use Rattle.intervals.specs.Bytes.{Range}
 use Rattle.model.specs.declared.call.CallId.{CallId}
-use Rattle.model.specs.declared.level.Level.TheVariants.{Exclusive}
 use Rattle.model.specs.declared.mode.Mode.{Mode}
 use Rattle.model.specs.declared.op.Op.{Op}
 use Rattle.token_set.specs.Tokens.{Token, no_token, raised}
 use Rattle.messages.specs.Shapes.{ShapeFields}
-use Rattle.messages.specs.Messages.{addressee, call_of, file_of, greatest_number, is_among, is_within}
+use Rattle.messages.specs.Messages.{addressee, call_of, file_of, is_among, is_within}
 use Rattle.messages.specs.declared.message.Message.{Message}
 use Rattle.messages.specs.declared.message.Message.TheVariants.{Request, Grant, Taken}
 use Rattle.messages.specs.declared.event.Event.{Event}
 use Rattle.messages.specs.declared.event.Event.TheVariants.{Call, Deliver}
 use Rattle.messages.specs.declared.entry.Entry.{Entry}
 use Rattle.messages.specs.declared.outcome.Outcome.{Outcome}
-use Rattle.messages.specs.declared.refusal.Refused.{Refused}
 use Rattle.messages.specs.declared.refusal.Refused.TheVariants.{Stranger, JournalFull}
 use Rattle.messages.specs.declared.refusal.StepError.{StepError}
 use Rattle.messages.specs.declared.refusal.StepError.TheVariants as step
 use Rattle.node_core.specs.declared.event.NodeEvent.TheVariants as node
 use Rattle.node_core.specs.State.{FileState, NodeState, Effect, open_call_of, outcome, quiet}
+use Rattle.node_core.specs.declared.open_call.OpenCall.{OpenCall}
+use Rattle.node_core.specs.Try.{tried_if}
 use Rattle.node_core.specs.Calls.{is_pid, is_in_shape, after_call, called}
 use Rattle.node_core.specs.Commands.{after_grant, delivered, deliver_rule, is_node}
 use Rattle.node_core.specs.Node.{node_rule}
-use Rattle.token_server.specs.declared.held.Held.{Held}
 use Rattle.token_server.specs.declared.event.ServerEvent.TheVariants as server
 use Rattle.token_server.specs.State.{ServerState}
 use Rattle.token_server.specs.Server.{server_rule}
-use Rattle.cluster_core.specs.World.{WorldState, first_world, has_node, journal_limit}
+use Rattle.cluster_core.specs.World.{WorldState, first_world, journal_limit}
 use Rattle.cluster_core.specs.Next.{is_known, has_actor, recorded, with_node, with_server, after_node, after_server, taken, next}
 use Rattle.cluster_core.specs.Runs.{Leads}
 use Rattle.cluster_core.specs.Safe.{Excludes, AreApart}
-use Rattle.cluster_core.proofs.Talks.{Sent, Talk, MayHold}
-use Rattle.cluster_core.proofs.TalkMoves.{NoNews, talk-no_news, may_hold-no_news, IsDoing, taken_file, talk-does, may_hold-does, command_of, IsCommanding}
-use Rattle.cluster_core.proofs.NodeMoves.{Only, IsAsking, AsksFrom, Repeats, Does, Receives, called_asks, quiet_asks, grant_receives, first_among, only_one}
-use Rattle.cluster_core.proofs.ServerMoves.{at_number, IsCurrent, Serves, Grants, Served, receives_request, receives_taken}
+use Rattle.cluster_core.proofs.Talks.{Talk, MayHold}
+use Rattle.cluster_core.proofs.TalkMoves.{NoNews, talk-no_news, may_hold-no_news, IsDoing, talk-does, may_hold-does, command_of, IsCommanding}
+use Rattle.cluster_core.proofs.NodeTokens.{Only, IsAsking, AsksFrom, Receives, called_asks, quiet_asks, tried_if_asks, grant_receives, first_among, only_none, only_one}
+use Rattle.cluster_core.proofs.ServerRows.{at_number, IsCurrent, Serves, Grants, Served, receives_request, receives_taken}
 use Rattle.cluster_core.proofs.Present.{Was, Holding, StayApart, Present, sent_before, sent_now, sent_either, serves-no_news, apart-no_news, nothing_new, files_no_news, granted_serves, granted_apart}
 
--- a server's step
-module _ (w : WorldState) (p : Present w) (file : ℕ) (v : ServerState) (event : Event) (o : Outcome) where
+-- a server's step: it sends what comes of serving, and may send again what was sent before
+module _ (w : WorldState) (p : Present w) (file : ℕ) (v : ServerState) (event : Event) (o : Outcome) (fresh : List Message) (again : Only (λ m. Was w m ⊎ (is_among fresh m ≡ true)) o.sends) (said : Only (λ m. is_among o.sends m ≡ true) fresh) where
   abbrev later : WorldState
   later = (recorded (with_server w file v) event o).0
 
   kept : (m : Message) → Was w m → Was later m
   kept = sent_before w.sent o.sends
 
+  either : (m : Message) → Was later m → Was w m ⊎ (is_among fresh m ≡ true)
+  either m h = elim (sent_either w.sent o.sends m h) [ inl before ↦ inl before | inr new ↦ again m new ]
+
   put : Serves (Was later) w.nodes w.shape file v → ((f n : ℕ) → (f ≡ file → ⊥) → NoNews (Was w) (Was later) f n (w.nodes n).incarnation) → (f : ℕ) → Serves (Was later) w.nodes w.shape f (later.servers f)
   put here news f = at_number f file (λ b. Serves (Was later) w.nodes w.shape f (if b then v else w.servers f))
       (λ same. subst (λ (k : ℕ). Serves (Was later) w.nodes w.shape k v) (sym same) here)
       (λ other. serves-no_news (Was w) (Was later) w.nodes w.shape f (w.servers f) (λ n. news f n other) (p.serves f))
 
-  still : Serves (Was w) w.nodes w.shape file v → o.sends ≡ [] → Present later
+  still : Serves (Was w) w.nodes w.shape file v → fresh ≡ [] → Present later
   still serves none =
-      let old : (m : Message) → Was later m → Was w m = λ m h. elim (sent_either w.sent o.sends m h) [
-        | inl before ↦ before
-        | inr new ↦ let nowhere : is_among [] m ≡ true = subst (λ (xs : List Message). is_among xs m ≡ true) none new in absurd (cc)
-      ] in
+      let nowhere : Only (λ m. ⊥) fresh = subst (Only (λ m. ⊥)) (sym none) (only_none (λ m. ⊥)) in
+      let old : (m : Message) → Was later m → Was w m = λ m h. elim (either m h) [ inl before ↦ before | inr new ↦ absurd (nowhere m new) ] in
       let news : (f n : ℕ) → NoNews (Was w) (Was later) f n (w.nodes n).incarnation = λ f n. nothing_new (Was w) (Was later) f n (w.nodes n).incarnation kept old in
       record {
         named = p.named;
@@ -68,14 +68,15 @@ module _ (w : WorldState) (p : Present w) (file : ℕ) (v : ServerState) (event 
         apart = λ f. apart-no_news (Was w) (Was later) w.nodes w.shape f (news f) (p.apart f);
       }
 
-  grants : Grants (Was w) w.nodes w.shape file v o.sends → Present later
+  grants : Grants (Was w) w.nodes w.shape file v fresh → Present later
   grants g =
       let command = command_of file g.row g.request.call g.request.mode g.span in
-      let now_all : (m : Message) → is_among o.sends m ≡ true → m ≡ command = subst (Only (λ m. m ≡ command)) (sym g.sent) (only_one (λ m. m ≡ command) command refl) in
+      let now_all : Only (λ m. m ≡ command) fresh = subst (Only (λ m. m ≡ command)) (sym g.sent) (only_one (λ m. m ≡ command) command refl) in
+      let there : is_among fresh command ≡ true = subst (λ (xs : List Message). is_among xs command ≡ true) (sym g.sent) (first_among command []) in
       let news : IsCommanding (Was w) (Was later) command = record {
         kept = kept;
-        new = λ m h. elim (sent_either w.sent o.sends m h) [ inl before ↦ inl before | inr new ↦ inr (now_all m new) ];
-        sent = sent_now w.sent o.sends command (subst (λ (xs : List Message). is_among xs command ≡ true) (sym g.sent) (first_among command []));
+        new = λ m h. elim (either m h) [ inl before ↦ inl before | inr new ↦ inr (now_all m new) ];
+        sent = sent_now w.sent o.sends command (said command there);
       } in
       record {
         named = p.named;
@@ -87,16 +88,24 @@ module _ (w : WorldState) (p : Present w) (file : ℕ) (v : ServerState) (event 
               let live : g.request.call.incarnation ≤ (w.nodes g.request.call.node).incarnation = omega arith in
               subst (λ (x : Message). (call_of x).incarnation ≤ (w.nodes (call_of x).node).incarnation) (sym is) live
         ];
-        serves = put (granted_serves (Was w) (Was later) w.nodes w.shape file v o.sends g news) (files_no_news (Was w) (Was later) w.nodes w.shape file v o.sends g news);
+        serves = put (granted_serves (Was w) (Was later) w.nodes w.shape file v fresh g news) (files_no_news (Was w) (Was later) w.nodes w.shape file v fresh g news);
         apart = λ f. elim (cases_eq f file) [
-          | inl same ↦ subst (λ (k : ℕ). StayApart (Was later) w.nodes w.shape k) (sym same) (granted_apart (Was w) (Was later) w.nodes w.shape file v o.sends g news (p.apart file))
-          | inr other ↦ apart-no_news (Was w) (Was later) w.nodes w.shape f (λ n. files_no_news (Was w) (Was later) w.nodes w.shape file v o.sends g news f n other) (p.apart f)
+          | inl same ↦ subst (λ (k : ℕ). StayApart (Was later) w.nodes w.shape k) (sym same) (granted_apart (Was w) (Was later) w.nodes w.shape file v fresh g news (p.apart file))
+          | inr other ↦ apart-no_news (Was w) (Was later) w.nodes w.shape f (λ n. files_no_news (Was w) (Was later) w.nodes w.shape file v fresh g news f n other) (p.apart f)
         ];
       }
 
-  pub server_present : Served (Was w) w.nodes w.shape file v o.sends → Present later
+  pub server_present : Served (Was w) w.nodes w.shape file v fresh → Present later
   server_present (inl s) = still s.0 s.1
   server_present (inr g) = grants g
+
+-- a server's step that first sends again what was sent before
+pub again_present : (w : WorldState) (p : Present w) (file : ℕ) (v : ServerState) (event : Event) (o : Outcome) (before fresh : List Message) → o.sends ≡ before ++ fresh → Only (Was w) before → Served (Was w) w.nodes w.shape file v fresh → Present (recorded (with_server w file v) event o).0
+again_present w p file v event o before fresh is old =
+    let again : Only (λ m. Was w m ⊎ (is_among fresh m ≡ true)) o.sends = λ m there.
+    elim (sent_either before fresh m (subst (λ (xs : List Message). is_among xs m ≡ true) is there)) [ inl first ↦ inl (old m first) | inr later ↦ inr later ] in
+    let said : Only (λ m. is_among o.sends m ≡ true) fresh = λ m there. subst (λ (xs : List Message). is_among xs m ≡ true) (sym is) (sent_now before fresh m there) in
+    server_present w p file v event o fresh again said
 
 -- a node's step
 module _ (w : WorldState) (p : Present w) (n : ℕ) (u : NodeState) (event : Event) (o : Outcome) (node_is : u.node ≡ (w.nodes n).node) (incarnation_is : u.incarnation ≡ (w.nodes n).incarnation) where
@@ -129,7 +138,7 @@ module _ (w : WorldState) (p : Present w) (n : ℕ) (u : NodeState) (event : Eve
           shape_is = s.shape_is;
           talks = λ m. at_number m n (λ b. Talk (Was after) file m (if b then u else w.nodes m).incarnation ((if b then u else w.nodes m).files file) ((w.servers file).rows m) ((w.servers file).dead m))
               (λ same. subst (λ (k : ℕ). Talk (Was after) file k u.incarnation (u.files file) ((w.servers file).rows k) ((w.servers file).dead k)) (sym same)
-                (subst (λ (i : ℕ). Talk (Was after) file n i (u.files file) ((w.servers file).rows n) ((w.servers file).dead n)) (sym incarnation_is) (g.talk file)))
+              (subst (λ (i : ℕ). Talk (Was after) file n i (u.files file) ((w.servers file).rows n) ((w.servers file).dead n)) (sym incarnation_is) (g.talk file)))
               (λ other. talk-no_news (Was w) (Was after) file m (w.nodes m).incarnation ((w.nodes m).files file) ((w.servers file).rows m) ((w.servers file).dead m) (g.others file m other) (s.talks m));
           queued = s.queued;
           active = s.active;
@@ -140,7 +149,7 @@ module _ (w : WorldState) (p : Present w) (n : ℕ) (u : NodeState) (event : Eve
       before : (file m : ℕ) (t : Token) → Holding (Was after) after.nodes file m t → Holding (Was w) w.nodes file m t
       before file m t = at_number m n (λ b. MayHold (Was after) file m (if b then u else w.nodes m).incarnation ((if b then u else w.nodes m).files file) t → Holding (Was w) w.nodes file m t)
           (λ same. subst (λ (k : ℕ). MayHold (Was after) file k u.incarnation (u.files file) t → Holding (Was w) w.nodes file k t) (sym same)
-            (subst (λ (i : ℕ). MayHold (Was after) file n i (u.files file) t → Holding (Was w) w.nodes file n t) (sym incarnation_is) (g.no_more file t)))
+          (subst (λ (i : ℕ). MayHold (Was after) file n i (u.files file) t → Holding (Was w) w.nodes file n t) (sym incarnation_is) (g.no_more file t)))
           (λ other. may_hold-no_news (Was w) (Was after) file m (w.nodes m).incarnation ((w.nodes m).files file) t (g.others file m other))
 
   -- its tokens stay, and nothing new is said of tokens
@@ -201,15 +210,15 @@ module _ (w : WorldState) (p : Present w) (n : ℕ) (u : NodeState) (event : Eve
         talk = λ f.
             let P : (ℕ → FileState) → Type 0 = λ x. Talk (Was after) f n i (x f) ((w.servers f).rows n) ((w.servers f).dead n) in
             subst P (sym files) (at_number f file (λ b. Talk (Was after) f n i (if b then done else s.files f) ((w.servers f).rows n) ((w.servers f).dead n))
-              (λ same. subst (λ (k : ℕ). Talk (Was after) k n i done ((w.servers k).rows n) ((w.servers k).dead n)) (sym same)
-                (talk-does (Was w) (Was after) file n i (s.files file) row dead ((p.serves file).talks n) number call mode span sent to_node to_incarnation is_next doing))
-              (λ other. talk-no_news (Was w) (Was after) f n i (s.files f) ((w.servers f).rows n) ((w.servers f).dead n) (elsewhere f n (λ x y. other x)) ((p.serves f).talks n)));
+            (λ same. subst (λ (k : ℕ). Talk (Was after) k n i done ((w.servers k).rows n) ((w.servers k).dead n)) (sym same)
+            (talk-does (Was w) (Was after) file n i (s.files file) row dead ((p.serves file).talks n) number call mode span sent to_node to_incarnation is_next doing))
+            (λ other. talk-no_news (Was w) (Was after) f n i (s.files f) ((w.servers f).rows n) ((w.servers f).dead n) (elsewhere f n (λ x y. other x)) ((p.serves f).talks n)));
         no_more = λ f t.
             let P : (ℕ → FileState) → Type 0 = λ x. MayHold (Was after) f n i (x f) t → Holding (Was w) w.nodes f n t in
             subst P (sym files) (at_number f file (λ b. MayHold (Was after) f n i (if b then done else s.files f) t → Holding (Was w) w.nodes f n t)
-              (λ same. subst (λ (k : ℕ). MayHold (Was after) k n i done t → Holding (Was w) w.nodes k n t) (sym same)
-                (may_hold-does (Was w) (Was after) file n i (s.files file) row dead ((p.serves file).talks n) number call mode span sent to_node to_incarnation is_next doing t))
-              (λ other. may_hold-no_news (Was w) (Was after) f n i (s.files f) t (elsewhere f n (λ x y. other x))));
+            (λ same. subst (λ (k : ℕ). MayHold (Was after) k n i done t → Holding (Was w) w.nodes k n t) (sym same)
+            (may_hold-does (Was w) (Was after) file n i (s.files file) row dead ((p.serves file).talks n) number call mode span sent to_node to_incarnation is_next doing t))
+            (λ other. may_hold-no_news (Was w) (Was after) f n i (s.files f) t (elsewhere f n (λ x y. other x))));
         others = λ f m other. elsewhere f m (λ x y. other y);
       }
     where
@@ -280,6 +289,10 @@ module _ (w : WorldState) (p : Present w) where
   pub asking_present : (n : ℕ) (event : Event) (call : Option CallId) (e : Effect) → AsksFrom (w.nodes n) e → Present (recorded (with_node w n e.state) event (outcome call e).1).0
   asking_present n event call e a = node_present w p n e.state event (outcome call e).1 a.node_is a.incarnation_is (asks_goes w p n e.state event (outcome call e).1 a.node_is a.incarnation_is a.files_are a.sends)
 
+  -- a try of an open call
+  pub try_present : (n : ℕ) (event : Event) (c : Option OpenCall) → Present (recorded (with_node w n (tried_if (w.nodes n) c).state) event (outcome None (tried_if (w.nodes n) c)).1).0
+  try_present n event c = asking_present n event None (tried_if (w.nodes n) c) (tried_if_asks (w.nodes n) c)
+
   call_present : (n pid : ℕ) (op : Op) → Present (recorded (with_node w n (after_call (w.nodes n) pid op).0) (Call n pid op) (after_call (w.nodes n) pid op).1).0
   call_present n pid op =
       let s = w.nodes n in
@@ -326,13 +339,13 @@ module _ (w : WorldState) (p : Present w) where
       let t = w.servers file in
       let sent = (and_parts (has_actor w (addressee m)) (is_among w.sent m) known).1 in
       server_done w (Deliver m) file (server_rule t (server.Deliver m)) q
-      (λ done is. server_present w p file done.0 (Deliver m) done.1 (receives_request (Was w) w.nodes w.shape file t (p.serves file) done.0 done.1 call urgency mode wanted (p.no_future m sent) is)) h
+      (λ done is. server_present w p file done.0 (Deliver m) done.1 done.1.sends (λ x there. inr there) (λ x there. there) (receives_request (Was w) w.nodes w.shape file t (p.serves file) done.0 done.1 call urgency mode wanted (p.no_future m sent) is)) h
   taken_present (Deliver (Taken file number call)) q known h =
       let m = Taken file number call in
       let t = w.servers file in
       let sent = (and_parts (has_actor w (addressee m)) (is_among w.sent m) known).1 in
       server_done w (Deliver m) file (server_rule t (server.Deliver m)) q
-      (λ done is. server_present w p file done.0 (Deliver m) done.1 (receives_taken (Was w) w.nodes w.shape file t (p.serves file) done.0 done.1 number call sent is)) h
+      (λ done is. server_present w p file done.0 (Deliver m) done.1 done.1.sends (λ x there. inr there) (λ x there. there) (receives_taken (Was w) w.nodes w.shape file t (p.serves file) done.0 done.1 number call sent is)) h
 
   -- each step keeps it
   pub next_present : (event : Event) (q : WorldState × Entry) → next w event ≡ Ok q → Present q.0

@@ -24,7 +24,7 @@ pub mod LockLists
 pub mod Replayed
 pub mod Talks
 pub mod TalkMoves
-pub mod NodeMoves
-pub mod ServerMoves
+pub mod NodeTokens
+pub mod ServerRows
 pub mod Present
 pub mod Apart

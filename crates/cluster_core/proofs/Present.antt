@@ -1,6 +1,5 @@
 -- What holds of the tokens of the cluster, of its servers' rows and of the messages that were sent, after each step.
-use Rattle.std.specs.Prelude.{◌==◌}
-use Rattle.std.proofs.Common.{◌≡◌, ℕ, ◌+◌, ◌<◌, ◌≤◌, Bool, true, false, if◌then◌else◌, ◌||◌, ◌⊎◌, inl, inr, refl, sym, ◌∙◌, ap, subst, arith, List, [], ◌∷◌, ◌++◌, Option, Some, None}
+use Rattle.std.proofs.Common.{◌≡◌, ℕ, ◌≤◌, true, false, if◌then◌else◌, ◌⊎◌, inl, inr, refl, sym, ◌∙◌, ap, subst, List, ◌++◌, Option, Some, None}
 use Rattle.std.proofs.lemmas.Bool.{both_ways, cases_eq, false_from_ne_true, or_cases, or_left, or_right}
 use Rattle.std.proofs.lemmas.List.Elements.{All-weaker}
 use Rattle.intervals.specs.Bytes.{Range, is_in}
@@ -12,22 +11,16 @@ use Rattle.token_set.proofs.TokenLaws.{raised-at, raised_level-excludes, exclusi
 use Rattle.messages.specs.Shapes.{ShapeFields}
 use Rattle.messages.specs.Messages.{call_of, is_among, is_within}
 use Rattle.messages.specs.declared.message.Message.{Message}
-use Rattle.messages.specs.declared.message.Message.TheVariants.{Request, Grant, Taken}
-use Rattle.messages.specs.declared.event.Event.{Event}
-use Rattle.messages.specs.declared.outcome.Outcome.{Outcome}
-use Rattle.node_core.specs.State.{FileState, NodeState, Effect}
-use Rattle.node_core.specs.Commands.{after_grant}
-use Rattle.token_server.specs.declared.held.Held.{Held}
+use Rattle.messages.specs.declared.message.Message.TheVariants.{Grant, Taken}
+use Rattle.node_core.specs.State.{NodeState}
 use Rattle.token_server.specs.State.{Row, ServerState, with_row}
 use Rattle.token_server.specs.Serve.{row_conflicts_at}
-use Rattle.cluster_core.specs.World.{WorldState, has_node}
-use Rattle.cluster_core.specs.Next.{recorded, with_node, with_server}
+use Rattle.cluster_core.specs.World.{WorldState}
 use Rattle.cluster_core.specs.Safe.{Excludes}
 use Rattle.cluster_core.proofs.KnownMessages.{is_among-append}
 use Rattle.cluster_core.proofs.Talks.{Sent, Talk, MayHold, held}
-use Rattle.cluster_core.proofs.TalkMoves.{NoNews, talk-no_news, may_hold-no_news, IsDoing, taken_file, talk-does, may_hold-does, command_of, granted_row, IsCommanding, talk-granted, may_hold-granted}
-use Rattle.cluster_core.proofs.NodeMoves.{Only, only_one, IsAsking, Asks, Repeats, Does, first_among}
-use Rattle.cluster_core.proofs.ServerMoves.{at_number, TalkOf, IsCurrent, Serves, Grants, Served, current_row}
+use Rattle.cluster_core.proofs.TalkMoves.{NoNews, talk-no_news, may_hold-no_news, command_of, granted_row, IsCommanding, talk-granted, may_hold-granted}
+use Rattle.cluster_core.proofs.ServerRows.{at_number, IsCurrent, Serves, Grants, current_row}
 
 -- the message was sent
 abbrev pub Was : WorldState → Message → Type 0
@@ -134,7 +127,7 @@ module _ (was now : Sent) (nodes : ℕ → NodeState) (shape : ShapeFields) (fil
         shape_is = g.serves.shape_is;
         talks = λ n. at_number n to (λ b. Talk now file n (nodes n).incarnation ((nodes n).files file) (if b then Some row else g.state.rows n) (g.state.dead n))
             (λ same. subst (λ (k : ℕ). Talk now file k (nodes k).incarnation ((nodes k).files file) (Some row) (g.state.dead k)) (sym same)
-              (talk-granted was now file to (nodes to).incarnation ((nodes to).files file) g.row (g.state.dead to) g.request.call g.request.mode g.span g.idle refl g.current.of news its_talk))
+            (talk-granted was now file to (nodes to).incarnation ((nodes to).files file) g.row (g.state.dead to) g.request.call g.request.mode g.span g.idle refl g.current.of news its_talk))
             (λ other. talk-no_news was now file n (nodes n).incarnation ((nodes n).files file) (g.state.rows n) (g.state.dead n) (others_no_news n other) (g.serves.talks n));
         queued = All-weaker (IsCurrent g.state) (IsCurrent later) current g.state.queue g.serves.queued;
         active = λ r h. current r (g.serves.active r h);

@@ -1,18 +1,18 @@
 -- The small moves of a node and a token server keep what they know of each other.
-use Rattle.std.specs.Prelude.{max, nat_le, ◌==◌}
-use Rattle.std.proofs.Common.{◌≡◌, ℕ, ◌+◌, ◌<◌, ◌≤◌, Bool, true, false, if◌then◌else◌, ◌⊎◌, inl, inr, refl, sym, ◌∙◌, ap, subst, arith, Option, Some, None}
+use Rattle.std.specs.Prelude.{max, nat_le}
+use Rattle.std.proofs.Common.{◌≡◌, ℕ, ◌+◌, ◌<◌, ◌≤◌, true, false, if◌then◌else◌, ◌⊎◌, inl, inr, refl, sym, ◌∙◌, ap, subst, arith, Option, Some, None}
 use Rattle.std.proofs.lemmas.Bool.{cases_eq, eqb-true, leb-true, leb-false}
 use Rattle.std.proofs.lemmas.Option.{same_Some, none-some}
 use Rattle.intervals.specs.Bytes.{Range}
 use Rattle.model.specs.declared.mode.Mode.{Mode}
 use Rattle.model.specs.declared.call.CallId.{CallId}
-use Rattle.token_set.specs.Tokens.{Token, no_token, raised}
+use Rattle.token_set.specs.Tokens.{Token, raised}
 use Rattle.messages.specs.declared.message.Message.{Message}
 use Rattle.messages.specs.declared.message.Message.TheVariants.{Request, Grant, Taken}
 use Rattle.node_core.specs.State.{FileState}
 use Rattle.token_server.specs.State.{Row, empty_row, row_above}
 use Rattle.token_server.specs.Server.{is_grant}
-use Rattle.cluster_core.proofs.Talks.{Sent, IsGrantTo, IsTakenOf, IsCountedIn, IsIdle, IsOnTheWay, IsDone, States, IsKnown, IsUnknown, InStep, Talk, IsAhead, IsPromised, MayHold, same_grant, on_the_way}
+use Rattle.cluster_core.proofs.Talks.{Sent, IsGrantTo, IsTakenOf, IsCountedIn, IsIdle, States, IsKnown, Talk, IsAhead, MayHold, same_grant, on_the_way}
 
 -- more messages were sent, but no Grant to the node and no answer of its incarnation
 pub record NoNews (was now : Sent) (file n incarnation : ℕ) : Type 0 where
@@ -106,13 +106,15 @@ module _ (was : Sent) (file n incarnation : ℕ) (f : FileState) (dead j : ℕ) 
     aged = λ x h. absurd (none-some x h);
     waits = λ x m h. absurd (none-some x h);
     counted = λ number call mode span sent to_node.
-        let c = t.counted number call mode span sent to_node in
-        (c.0, inl (elim c.1 [
-          | inl known ↦ omega arith
-          | inr counts ↦
-              let of : r.incarnation ≡ call.incarnation = ap (λ (x : Row). x.incarnation) (same_Some r counts.counting counts.there) ∙ counts.of in
-              omega arith
-        ]));
+        let c = t.counted number call mode span sent to_node in (
+          c.0,
+          inl (elim c.1 [
+            | inl known ↦ omega arith
+            | inr counts ↦
+                let of : r.incarnation ≡ call.incarnation = ap (λ (x : Row). x.incarnation) (same_Some r counts.counting counts.there) ∙ counts.of in
+                omega arith
+          ]),
+        );
     one_number = t.one_number;
     in_step = elim t.in_step [
       | inl u ↦ inl (record { last = u.last; token = u.token; none = λ x h. absurd (none-some x h) })
@@ -190,13 +192,15 @@ talk-answered was file n incarnation f r dead k call told of_node of_incarnation
       let none : None ≡ x.outstanding = ap (λ (y : Row). y.outstanding) (same_Some (answered_row r) x h) in
       absurd (none-some m (none ∙ o));
   counted = λ number c mode span sent to_node.
-      let counts = t.counted number c mode span sent to_node in
-      (counts.0, elim counts.1 [
-        | inl known ↦ inl known
-        | inr row ↦
-            let same = same_Some r row.counting row.there in
-            inr (record { counting = answered_row r; there = refl; of = ap (λ (y : Row). y.incarnation) same ∙ row.of; up_to = subst (λ (y : Row). number ≤ y.number) (sym same) row.up_to })
-      ]);
+      let counts = t.counted number c mode span sent to_node in (
+        counts.0,
+        elim counts.1 [
+          | inl known ↦ inl known
+          | inr row ↦
+              let same = same_Some r row.counting row.there in
+              inr (record { counting = answered_row r; there = refl; of = ap (λ (y : Row). y.incarnation) same ∙ row.of; up_to = subst (λ (y : Row). number ≤ y.number) (sym same) row.up_to })
+        ],
+      );
   one_number = t.one_number;
   in_step = elim t.in_step [
     | inl u ↦ inl (record { last = u.last; token = u.token; none = λ x h of. u.none r refl (ap (λ (y : Row). y.incarnation) (same_Some (answered_row r) x h) ∙ of) })

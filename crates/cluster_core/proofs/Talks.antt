@@ -1,7 +1,7 @@
 -- What a token server and a node know of each other, for one file: the invariant of their conversation.
 use Rattle.std.specs.Prelude.{is_some}
-use Rattle.std.proofs.Common.{◌≡◌, ℕ, ◌+◌, ◌<◌, ◌≤◌, true, false, ◌⊎◌, inl, inr, refl, sym, ◌∙◌, ap, subst, arith, List, [], ◌∷◌, Option, Some, None}
-use Rattle.std.proofs.lemmas.Option.{same_Some, none-some}
+use Rattle.std.proofs.Common.{◌≡◌, ℕ, ◌+◌, ◌<◌, ◌≤◌, true, false, ◌⊎◌, inl, inr, sym, ◌∙◌, ap, subst, arith, Option, Some, None}
+use Rattle.std.proofs.lemmas.Option.{same_Some}
 use Rattle.intervals.specs.Bytes.{Range}
 use Rattle.model.specs.declared.mode.Mode.{Mode}
 use Rattle.model.specs.declared.call.CallId.{CallId}
@@ -79,14 +79,23 @@ InStep file incarnation f row = IsUnknown incarnation f row ⊎ IsKnown file inc
 
 -- what holds of the messages that were sent, of node n in its incarnation and what it knows of the file, and of the server's row of n and the incarnation of n that it knows as dead
 pub record Talk (was : Sent) (file n incarnation : ℕ) (f : FileState) (row : Option Row) (dead : ℕ) : Type 0 where
+  -- the node's incarnation is not known as dead
   pub lives : dead < incarnation
+  -- a row is of the incarnation after those that are
   pub aged : (r : Row) → row ≡ Some r → r.incarnation ≡ dead + 1
+  -- a command without an answer was sent, with the row's number
   pub waits : (r : Row) (m : Message) → row ≡ Some r → r.outstanding ≡ Some m → was m × IsGrantTo file n r.incarnation r.number m
+  -- no Grant has a number above the row's, but for incarnations known as dead
   pub counted : (number : ℕ) (call : CallId) (mode : Mode) (span : Range) → was (Grant file number call mode span) → call.node ≡ n → (1 ≤ number) × ((call.incarnation ≤ dead) ⊎ IsCountedIn row call.incarnation number)
+  -- no two Grants to one incarnation have one number
   pub one_number : (number : ℕ) (call other : CallId) (mode also : Mode) (span wide : Range) → was (Grant file number call mode span) → was (Grant file number other also wide) → call.node ≡ n → other.node ≡ n → call.incarnation ≡ other.incarnation → Grant file number call mode span ≡ Grant file number other also wide
+  -- the row has what the node has, or will have once it has done the command that is under way
   pub in_step : InStep file incarnation f row
+  -- no answer has a number above the last command done, and the one with that number is remembered
   pub answers : (number : ℕ) (call : CallId) → was (Taken file number call) → call.node ≡ n → call.incarnation ≡ incarnation → (number ≤ f.last) × (number ≡ f.last → f.answer ≡ Some (Taken file number call))
+  -- what is remembered was sent, and is the answer to the last command done
   pub remembered : (m : Message) → f.answer ≡ Some m → was m × (1 ≤ f.last) × IsTakenOf file n incarnation f.last m
+  -- and is there once one is done
   pub answered : 1 ≤ f.last → is_some f.answer ≡ true
 
 -- a Grant that the node has not done

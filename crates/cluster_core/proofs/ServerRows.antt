@@ -4,13 +4,13 @@ use Rattle.std.specs.List.{list_any, All}
 use Rattle.std.proofs.Common.{◌≡◌, ℕ, pred, ◌+◌, ◌-◌, ◌<◌, ◌≤◌, Bool, true, false, if◌then◌else◌, ◌&&◌, ◌||◌, ◌⊎◌, inl, inr, refl, sym, ◌∙◌, ap, subst, arith, List, [], ◌∷◌, ◌++◌, filter, Option, Some, None, Result, Ok, Err}
 use Rattle.std.proofs.lemmas.Bool.{both_ways, cases_Bool, cases_lt, and_parts, and_from, eqb-true, eqb-false, eq-eqb, ne_eqb, leb-true, leb-false, le-leb, lt-leb, not-true, not_from_false, false_from_ne_true}
 use Rattle.std.proofs.lemmas.Option.{same_Some, none-some}
-use Rattle.std.proofs.lemmas.List.Elements.{All-weaker, All-nil, All-push, All-head, All-tail, All-filter, filter_passes}
-use Rattle.intervals.specs.Search.{first, some_passes, all_pass}
+use Rattle.std.proofs.lemmas.List.Elements.{All-weaker, All-push, All-head, All-tail, All-filter, filter_passes}
+use Rattle.intervals.specs.Search.{first, all_pass}
 use Rattle.intervals.specs.Bytes.{Range, is_in, NoneIn, largest_around}
 use Rattle.intervals.proofs.SearchLaws.{first_is_first}
 use Rattle.model.specs.declared.mode.Mode.{Mode}
 use Rattle.model.specs.declared.call.CallId.{CallId}
-use Rattle.token_set.specs.Tokens.{Token, raised}
+use Rattle.token_set.specs.Tokens.{raised}
 use Rattle.token_set.proofs.SearchLaws.{some_passes-first, some_passes-none, all_pass-each}
 use Rattle.messages.specs.declared.message.Message.{Message}
 use Rattle.messages.specs.declared.message.Message.TheVariants.{Request, Grant, Taken}
@@ -25,8 +25,8 @@ use Rattle.node_core.specs.State.{NodeState}
 use Rattle.token_server.specs.declared.held.Held.{Held}
 use Rattle.token_server.specs.declared.event.ServerEvent.TheVariants.{Deliver}
 use Rattle.token_server.specs.State.{Row, ServerState, empty_row, with_row, is_of_call, is_up_to, row_above, unless, forgotten}
-use Rattle.token_server.specs.Serve.{admitted, row_conflicts, row_conflicts_at, is_taken, granted_span, conflicting_node, commanded, granted_to, served, serve}
-use Rattle.token_server.specs.Server.{with_a_row, enqueued, is_active, is_grant, asked, taken, taken_if, delivered, is_server, change, then_serve, as_outcome, server_rule}
+use Rattle.token_server.specs.Serve.{admitted, row_conflicts, row_conflicts_at, is_taken, granted_span, conflicting_node, granted_to, served, serve}
+use Rattle.token_server.specs.Server.{with_a_row, enqueued, is_active, is_grant, asked, taken, taken_if, delivered, is_server, then_serve, as_outcome, server_rule}
 use Rattle.token_server.proofs.GrantLaws.{conflicts_at, conflicts_at_byte, row_free}
 use Rattle.cluster_core.proofs.Talks.{Sent, Talk}
 use Rattle.cluster_core.proofs.TalkMoves.{talk-forgets, talk-row, talk-answered, granted_row, command_of}
@@ -52,6 +52,10 @@ pub record Serves (was : Sent) (nodes : ℕ → NodeState) (shape : ShapeFields)
   pub talks : (n : ℕ) → TalkOf was nodes file t n
   pub queued : All (IsCurrent t) t.queue
   pub active : (r : Held) → t.active ≡ Some r → IsCurrent t r
+
+-- a command that has no answer was sent
+pub outstanding_sent : (was : Sent) (nodes : ℕ → NodeState) (shape : ShapeFields) (file : ℕ) (t : ServerState) → Serves was nodes shape file t → (n : ℕ) (row : Row) (m : Message) → t.rows n ≡ Some row → row.outstanding ≡ Some m → was m
+outstanding_sent was nodes shape file t serves n row m there is = ((serves.talks n).waits row m there is).0
 
 All-both : {A : Type 0} (P Q R : A → Type 0) → ((x : A) → P x → Q x → R x) → (xs : List A) → All P xs → All Q xs → All R xs
 All-both P Q R f xs a b k d lt = f _ (a k d lt) (b k d lt)
@@ -86,11 +90,11 @@ module _ (was : Sent) (nodes : ℕ → NodeState) (shape : ShapeFields) (file : 
       within = c.within;
       has_row = at_number r.call.node n (λ b. is_some (if b then row_above j (t.rows r.call.node) else t.rows r.call.node) ≡ true)
           (λ same.
-            let row = has_some (t.rows r.call.node) c.has_row in
-            let aged = (serves.talks r.call.node).aged row.0 row.1 in
-            let above = kept same in
-            let of = c.of in
-            above_stays j (t.rows r.call.node) row.0 row.1 (omega arith))
+          let row = has_some (t.rows r.call.node) c.has_row in
+          let aged = (serves.talks r.call.node).aged row.0 row.1 in
+          let above = kept same in
+          let of = c.of in
+          above_stays j (t.rows r.call.node) row.0 row.1 (omega arith))
           (λ other. c.has_row);
     }
       where
@@ -106,8 +110,8 @@ module _ (was : Sent) (nodes : ℕ → NodeState) (shape : ShapeFields) (file : 
       shape_is = serves.shape_is;
       talks = λ m. at_number m n (λ b. Talk was file m (nodes m).incarnation ((nodes m).files file) (if b then row_above j (t.rows m) else t.rows m) (if b then max (t.dead m) j else t.dead m))
           (λ same.
-            let before : j < (nodes m).incarnation = subst (λ (k : ℕ). j < (nodes k).incarnation) (sym same) older in
-            talk-forgets was file m (nodes m).incarnation ((nodes m).files file) (t.dead m) j before (t.rows m) (serves.talks m))
+          let before : j < (nodes m).incarnation = subst (λ (k : ℕ). j < (nodes k).incarnation) (sym same) older in
+          talk-forgets was file m (nodes m).incarnation ((nodes m).files file) (t.dead m) j before (t.rows m) (serves.talks m))
           (λ other. serves.talks m);
       queued =
           let test : Held → Bool = λ r. not (is_up_to n j r) in
@@ -192,7 +196,7 @@ module _ (was : Sent) (nodes : ℕ → NodeState) (shape : ShapeFields) (file : 
       let first : Serves was nodes shape file young = forgets was nodes shape file t serves r.call.node (r.call.incarnation - 1) (omega arith) in
       let row = young.rows r.call.node in
       let of : r.call.incarnation ≡ young.dead r.call.node + 1 =
-          at_number r.call.node r.call.node (λ b. r.call.incarnation ≡ (if b then max (t.dead r.call.node) (r.call.incarnation - 1) else t.dead r.call.node) + 1) (λ same. omega arith) (λ other. absurd (other refl)) in
+      at_number r.call.node r.call.node (λ b. r.call.incarnation ≡ (if b then max (t.dead r.call.node) (r.call.incarnation - 1) else t.dead r.call.node) + 1) (λ same. omega arith) (λ other. absurd (other refl)) in
       let second : Serves was nodes shape file (with_a_row young r.call row) = makes_row was nodes shape file young first r.call row refl of in
       queues was nodes shape file (with_a_row young r.call row) second r (record {
         of = of ∙ ap (λ (d : ℕ → ℕ). d r.call.node + 1) (sym (same_dead young r.call row));

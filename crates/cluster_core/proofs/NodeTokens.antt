@@ -1,7 +1,7 @@
 -- What a node's step does to its tokens, and what it sends.
 use Rattle.std.specs.Prelude.{nat_le, ◌==◌}
-use Rattle.std.proofs.Common.{◌≡◌, ℕ, ◌+◌, Bool, true, false, if◌then◌else◌, ◌||◌, ◌&&◌, ◌⊎◌, inl, inr, refl, sym, ap, subst, List, [], ◌∷◌, ◌++◌, Option, Some, None, Result, Ok, Err}
-use Rattle.std.proofs.lemmas.Bool.{eqb-true, or_cases, or_left, or_right}
+use Rattle.std.proofs.Common.{◌≡◌, ℕ, ◌+◌, Bool, true, false, if◌then◌else◌, ◌&&◌, ◌⊎◌, inl, inr, refl, sym, subst, List, [], ◌∷◌, ◌++◌, Option, Some, None, Result, Ok, Err}
+use Rattle.std.proofs.lemmas.Bool.{eqb-true, or_cases, or_left}
 use Rattle.intervals.specs.Bytes.{Range}
 use Rattle.model.specs.declared.call.CallId.{CallId}
 use Rattle.model.specs.declared.lock_info.LockInfo.{LockInfo}
@@ -17,10 +17,10 @@ use Rattle.messages.specs.declared.message.Message.TheVariants.{Request, Grant, 
 use Rattle.messages.specs.Messages.{same_message, is_among}
 use Rattle.messages.proofs.SameMessages.{same_message-is-equality}
 use Rattle.node_core.specs.declared.open_call.OpenCall.{OpenCall}
-use Rattle.node_core.specs.State.{FileState, NodeState, Effect, quiet, sent, open_call, process}
-use Rattle.node_core.specs.Try.{tried, tried_against, tried_if, requested, settled}
+use Rattle.node_core.specs.State.{FileState, NodeState, Effect, quiet, open_call, process}
+use Rattle.node_core.specs.Try.{tried, tried_against, tried_if, requested}
 use Rattle.node_core.specs.Calls.{lock_call, called}
-use Rattle.node_core.specs.Commands.{in_order, before, granted, after_grant, delivered, remembered}
+use Rattle.node_core.specs.Commands.{granted, after_grant, delivered, remembered}
 
 -- each of the messages is so
 abbrev pub Only : (Message → Type 0) → List Message → Type 0
