@@ -10,7 +10,7 @@ use Rattle.model.specs.Locks.{FileLocks, IsOfNode}
 use Rattle.model.specs.Owners.{owner_at}
 use Rattle.model.specs.Descriptors.{no_processes}
 use Rattle.model.specs.Table.{empty_table}
-use Rattle.messages.specs.Shapes.{ShapeFields, served_nodes}
+use Rattle.messages.specs.Shapes.{ShapeFields}
 use Rattle.messages.specs.Messages.{is_within}
 use Rattle.cluster_core.specs.World.{WorldState, first_world, has_node, is_live}
 use Rattle.cluster_core.specs.Union.{union}

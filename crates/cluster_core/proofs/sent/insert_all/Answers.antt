@@ -1,4 +1,3 @@
-use Rattle.std.proofs.Common.{rules}
 use Rattle.cluster_core.proofs.KnownMessages.{inserted-more}
 use Rattle.cluster_core.proofs.sent.insert_all.Goals as goal
 

@@ -1,4 +1,4 @@
-use Rattle.std.proofs.Common.{◌≡◌, ◌∙◌, ◌||◌, Bool, List, sym, ap}
+use Rattle.std.proofs.Common.{◌∙◌, ◌||◌, Bool, List, sym, ap}
 use Rattle.messages.specs.declared.message.Message.{Message}
 use Rattle.messages.specs.Messages.{is_among}
 use Rattle.cluster_core.proofs.KnownMessages.{is_among-append, contains-same_message}

@@ -1,6 +1,4 @@
-use Rattle.std.proofs.Common.{◌≤◌, sym, subst, arith}
-use Rattle.node_core.specs.Parts.{NodeParts}
-use Rattle.cluster_core.specs.Parts.{WorldParts, IsWorld, world_state}
+use Rattle.std.proofs.Common.{arith}
 use Rattle.cluster_core.proofs.WorldSteps.{first_is_world, first_is_first}
 use Rattle.cluster_core.proofs.world.World.new.Goals as goal
 

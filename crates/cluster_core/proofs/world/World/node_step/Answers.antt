@@ -1,12 +1,12 @@
 use Rattle.std.specs.Prelude.{IfOk, IfErr, ◌≢◌}
 use Rattle.std.specs.declared.result.Result.TheVariants.{Ok, Err}
-use Rattle.std.proofs.Common.{◌≡◌, ◌∙◌, ℕ, true, sym, subst, List}
+use Rattle.std.proofs.Common.{◌≡◌, true, sym, subst}
 use Rattle.messages.specs.Messages.{is_within}
 use Rattle.messages.specs.declared.refusal.StepError.TheVariants.{NoMemory}
-use Rattle.cluster_core.specs.Parts.{WorldParts, IsWorld, world_state}
+use Rattle.cluster_core.specs.Parts.{WorldParts, world_state}
 use Rattle.node_core.specs.Node.{node_rule}
 use Rattle.node_core.specs.State.{NodeState}
-use Rattle.node_core.specs.Parts.{NodeParts, node_state}
+use Rattle.node_core.specs.Parts.{node_state}
 use Rattle.cluster_core.proofs.WorldSteps.{read_node}
 use Rattle.cluster_core.proofs.world.World.node_step.Goals as goal
 

@@ -1,12 +1,12 @@
 use Rattle.std.specs.Prelude.{IfOk, IfErr, ◌≢◌}
 use Rattle.std.specs.declared.result.Result.TheVariants.{Ok, Err}
-use Rattle.std.proofs.Common.{◌≡◌, ◌∙◌, ℕ, true, sym, subst, List}
+use Rattle.std.proofs.Common.{◌≡◌, true, sym, subst}
 use Rattle.messages.specs.Messages.{is_within}
 use Rattle.messages.specs.declared.refusal.StepError.TheVariants.{NoMemory}
-use Rattle.cluster_core.specs.Parts.{WorldParts, IsWorld, world_state}
+use Rattle.cluster_core.specs.Parts.{WorldParts, world_state}
 use Rattle.token_server.specs.Server.{server_rule}
 use Rattle.token_server.specs.State.{ServerState}
-use Rattle.token_server.specs.Parts.{ServerParts, server_state}
+use Rattle.token_server.specs.Parts.{server_state}
 use Rattle.cluster_core.proofs.WorldSteps.{read_server}
 use Rattle.cluster_core.proofs.world.World.server_step.Goals as goal
 

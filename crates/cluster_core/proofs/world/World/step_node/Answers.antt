@@ -1,12 +1,9 @@
-use Rattle.std.specs.Prelude.{IfOk, IfErr, ◌≢◌}
-use Rattle.std.specs.declared.result.Result.TheVariants.{Ok, Err}
-use Rattle.std.proofs.Common.{◌≡◌, ◌∙◌, ℕ, true, sym, subst, List}
+use Rattle.std.specs.declared.result.Result.TheVariants.{Ok}
+use Rattle.std.proofs.Common.{◌≡◌, ◌∙◌, true, sym, subst, List}
 use Rattle.messages.specs.Messages.{is_within}
-use Rattle.messages.specs.declared.refusal.StepError.TheVariants.{NoMemory}
 use Rattle.cluster_core.specs.Parts.{WorldParts, IsWorld, world_state}
 use Rattle.node_core.specs.Node.{node_rule}
-use Rattle.node_core.specs.State.{NodeState}
-use Rattle.node_core.specs.Parts.{NodeParts, node_state}
+use Rattle.node_core.specs.Parts.{node_state}
 use Rattle.std.proofs.Common.{◌+◌, ◌<◌, ◌++◌, ap}
 use Rattle.messages.specs.declared.message.Message.{Message}
 use Rattle.cluster_core.specs.World.{journal_limit}

@@ -1,12 +1,9 @@
-use Rattle.std.specs.Prelude.{IfOk, IfErr, ◌≢◌}
-use Rattle.std.specs.declared.result.Result.TheVariants.{Ok, Err}
-use Rattle.std.proofs.Common.{◌≡◌, ◌∙◌, ℕ, true, sym, subst, List}
+use Rattle.std.specs.declared.result.Result.TheVariants.{Ok}
+use Rattle.std.proofs.Common.{◌≡◌, ◌∙◌, true, sym, subst, List}
 use Rattle.messages.specs.Messages.{is_within}
-use Rattle.messages.specs.declared.refusal.StepError.TheVariants.{NoMemory}
 use Rattle.cluster_core.specs.Parts.{WorldParts, IsWorld, world_state}
 use Rattle.token_server.specs.Server.{server_rule}
-use Rattle.token_server.specs.State.{ServerState}
-use Rattle.token_server.specs.Parts.{ServerParts, server_state}
+use Rattle.token_server.specs.Parts.{server_state}
 use Rattle.messages.specs.declared.event.Event.TheVariants.{Deliver}
 use Rattle.token_server.specs.declared.event.ServerEvent.TheVariants.{Deliver as ServerDeliver}
 use Rattle.std.proofs.Common.{◌+◌, ◌<◌, ◌++◌, ap}
