@@ -1,8 +1,8 @@
 -- Open calls by their numbers, and as a list.
-use Rattle.std.specs.Prelude.{◌≡◌, ℕ, Bool, true, false, not, cond, ◌==◌, ◌||◌, ◌≤◌, nat_eq, List, [], ◌∷◌, ◌++◌, map, Option, None, Some, All, find, filter, is_some, slice_get, take, ◌+◌, refl}
+use Rattle.std.specs.Prelude.{◌≡◌, ℕ, Bool, true, false, not, cond, ◌==◌, ◌||◌, ◌≤◌, nat_eq, List, [], ◌∷◌, ◌++◌, None, Some, All, find, filter, is_some, slice_get, take, ◌+◌, refl}
 use Rattle.std.specs.List.{list_any, IsDistinct, AllByRecursion}
 use Rattle.std.specs.Map.{keys_of, values_of, lookup, remove_entry}
-use Rattle.std.proofs.Common.{arith, ap, sym, subst, ◌∙◌}
+use Rattle.std.proofs.Common.{arith, ap, sym, ◌∙◌}
 use Rattle.std.specs.Cmp.{nat_eq_equiv}
 use Rattle.std.proofs.lemmas.Bool.{eqb-true}
 use Rattle.std.proofs.lemmas.List.{take_more}

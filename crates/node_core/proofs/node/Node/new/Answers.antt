@@ -1,4 +1,3 @@
-use Rattle.std.proofs.Common.{ap, ◌∙◌}
 use Rattle.node_core.proofs.NodeLaws.{first-state}
 use Rattle.node_core.proofs.node.Node.new.Goals as goal
 

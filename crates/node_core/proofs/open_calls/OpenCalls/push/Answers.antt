@@ -1,10 +1,10 @@
-use Rattle.std.specs.Prelude.{◌≡◌, nat_eq, ◌∷◌, ◌++◌, [], None, All, refl}
+use Rattle.std.specs.Prelude.{nat_eq, ◌∷◌, ◌++◌, [], All, refl}
 use Rattle.std.specs.Map.{values_of}
 use Rattle.std.proofs.Common.{ap, sym, ◌∙◌, subst}
 use Rattle.std.proofs.lemmas.List.{map_push}
 use Rattle.std.proofs.lemmas.List.Elements.{All-push}
 use Rattle.indexmap.proofs.CallerLemmas.{insert_entry-new}
-use Rattle.node_core.proofs.CallLaws.{IsAtNumber, found-by_number, not-found}
+use Rattle.node_core.proofs.CallLaws.{IsAtNumber, not-found}
 use Rattle.node_core.proofs.open_calls.OpenCalls.push.Goals as goal
 
 pub invariant_of-self-2 : goal.invariant_of-self-2
