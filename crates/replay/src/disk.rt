@@ -11,6 +11,7 @@ pub struct Disk<'a, R> {
 }
 
 impl<'a, R: Files + AllocGlobal> Disk<'a, R> {
+    /// The files that the runtime reaches.
     pub fn new(rt: &'a R) -> Disk<'a, R> {
         Disk { rt }
     }

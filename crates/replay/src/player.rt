@@ -43,6 +43,7 @@ impl Model for Player {
 }
 
 impl Player {
+    /// A cluster of this shape that begins, before any line.
     pub(crate) fn new(alloc: Global, shape: Shape) -> Result<Player, PlayError>
         ensures first { IfOk result (λ player. progress player ≡ first_progress shape) }
         ensures err { IfErr result (λ error. error ≡ NoMemory) }
