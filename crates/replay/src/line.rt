@@ -24,7 +24,7 @@ Exit status:
 
 A script is lines of words with one space between them. Empty lines and lines
 that begin with # are skipped. The first other line is
-  cluster nodes 1 files F policy wide|exact
+  cluster nodes N files F policy wide|exact
 and the lines after it are
   call N PID spawn
   call N PID open F rw

@@ -131,7 +131,7 @@ const BAD_FIRST_LINES: [&str; 17] = [
     "Cluster nodes 1 files 1 policy wide",
     "cluster",
     "cluster nodes 0 files 1 policy wide",
-    "cluster nodes 2 files 1 policy wide",
+    "cluster nodes 65 files 1 policy wide",
     "cluster nodes 01 files 1 policy wide",
     "cluster nodes +1 files 1 policy wide",
     "cluster nodes 1 files 0 policy wide",
