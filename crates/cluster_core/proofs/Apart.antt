@@ -2,6 +2,7 @@
 use Rattle.std.specs.Prelude.{◌==◌, nat_le, nat_lt, not, is_some}
 use Rattle.std.proofs.Common.{◌≡◌, ℕ, ◌+◌, ◌≤◌, Bool, true, false, if◌then◌else◌, ◌&&◌, ◌⊎◌, inl, inr, refl, sym, ◌∙◌, ap, subst, arith, List, [], ◌∷◌, ◌++◌, Option, Some, None, Result, Ok, Err}
 use Rattle.std.proofs.lemmas.Bool.{and_parts, cases_eq, eqb-true}
+use Rattle.std.specs.List.{range_with_len}
 use Rattle.std.proofs.lemmas.List.Elements.{All-nil}
 use Rattle.std.proofs.lemmas.Option.{none-some}
 use Rattle.intervals.specs.Bytes.{Range}
@@ -10,11 +11,11 @@ use Rattle.model.specs.declared.mode.Mode.{Mode}
 use Rattle.model.specs.declared.op.Op.{Op}
 use Rattle.token_set.specs.Tokens.{Token, no_token, raised}
 use Rattle.messages.specs.Shapes.{ShapeFields}
-use Rattle.messages.specs.Messages.{addressee, call_of, file_of, is_among, is_within}
+use Rattle.messages.specs.Messages.{addressee, call_of, file_of, is_among, is_within, sending}
 use Rattle.messages.specs.declared.message.Message.{Message}
 use Rattle.messages.specs.declared.message.Message.TheVariants.{Request, Grant, Taken}
 use Rattle.messages.specs.declared.event.Event.{Event}
-use Rattle.messages.specs.declared.event.Event.TheVariants.{Call, Deliver}
+use Rattle.messages.specs.declared.event.Event.TheVariants.{Call, Deliver, Retry, Resend}
 use Rattle.messages.specs.declared.entry.Entry.{Entry}
 use Rattle.messages.specs.declared.outcome.Outcome.{Outcome}
 use Rattle.messages.specs.declared.refusal.Refused.TheVariants.{Stranger, JournalFull}
@@ -29,21 +30,24 @@ use Rattle.node_core.specs.Commands.{after_grant, delivered, deliver_rule, is_no
 use Rattle.node_core.specs.Node.{node_rule}
 use Rattle.token_server.specs.declared.event.ServerEvent.TheVariants as server
 use Rattle.token_server.specs.State.{ServerState}
+use Rattle.token_server.specs.Serve.{serve}
+use Rattle.token_server.specs.Resends.{outstanding_of, outstanding, sending_first}
 use Rattle.token_server.specs.Server.{server_rule}
 use Rattle.cluster_core.specs.World.{WorldState, first_world, journal_limit}
 use Rattle.cluster_core.specs.Next.{is_known, has_actor, recorded, with_node, with_server, after_node, after_server, taken, next}
 use Rattle.cluster_core.specs.Runs.{Leads}
 use Rattle.cluster_core.specs.Safe.{Excludes, AreApart}
+use Rattle.cluster_core.proofs.Targets.{if_ok}
 use Rattle.cluster_core.proofs.Talks.{Talk, MayHold}
 use Rattle.cluster_core.proofs.TalkMoves.{NoNews, talk-no_news, may_hold-no_news, IsDoing, talk-does, may_hold-does, command_of, IsCommanding}
-use Rattle.cluster_core.proofs.NodeTokens.{Only, IsAsking, AsksFrom, Receives, called_asks, quiet_asks, tried_if_asks, grant_receives, first_among, only_none, only_one}
-use Rattle.cluster_core.proofs.ServerRows.{at_number, IsCurrent, Serves, Grants, Served, receives_request, receives_taken}
+use Rattle.cluster_core.proofs.NodeTokens.{Only, IsAsking, AsksFrom, Receives, called_asks, quiet_asks, tried_if_asks, grant_receives, first_among, only_none, only_one, only_mapped}
+use Rattle.cluster_core.proofs.ServerRows.{at_number, IsCurrent, Serves, Grants, Served, receives_request, receives_taken, outstanding_sent, serve_serves}
 use Rattle.cluster_core.proofs.Present.{Was, Holding, StayApart, Present, sent_before, sent_now, sent_either, serves-no_news, apart-no_news, nothing_new, files_no_news, granted_serves, granted_apart}
 
 -- a server's step: it sends what comes of serving, and may send again what was sent before
 module _ (w : WorldState) (p : Present w) (file : ℕ) (v : ServerState) (event : Event) (o : Outcome) (fresh : List Message) (again : Only (λ m. Was w m ⊎ (is_among fresh m ≡ true)) o.sends) (said : Only (λ m. is_among o.sends m ≡ true) fresh) where
   abbrev later : WorldState
-  later = (recorded (with_server w file v) event o).0
+  later = (recorded (with_server w file v) event 0 o).0
 
   kept : (m : Message) → Was w m → Was later m
   kept = sent_before w.sent o.sends
@@ -100,7 +104,7 @@ module _ (w : WorldState) (p : Present w) (file : ℕ) (v : ServerState) (event 
   server_present (inr g) = grants g
 
 -- a server's step that first sends again what was sent before
-pub again_present : (w : WorldState) (p : Present w) (file : ℕ) (v : ServerState) (event : Event) (o : Outcome) (before fresh : List Message) → o.sends ≡ before ++ fresh → Only (Was w) before → Served (Was w) w.nodes w.shape file v fresh → Present (recorded (with_server w file v) event o).0
+pub again_present : (w : WorldState) (p : Present w) (file : ℕ) (v : ServerState) (event : Event) (o : Outcome) (before fresh : List Message) → o.sends ≡ before ++ fresh → Only (Was w) before → Served (Was w) w.nodes w.shape file v fresh → Present (recorded (with_server w file v) event 0 o).0
 again_present w p file v event o before fresh is old =
     let again : Only (λ m. Was w m ⊎ (is_among fresh m ≡ true)) o.sends = λ m there.
     elim (sent_either before fresh m (subst (λ (xs : List Message). is_among xs m ≡ true) is there)) [ inl first ↦ inl (old m first) | inr later ↦ inr later ] in
@@ -110,7 +114,7 @@ again_present w p file v event o before fresh is old =
 -- a node's step
 module _ (w : WorldState) (p : Present w) (n : ℕ) (u : NodeState) (event : Event) (o : Outcome) (node_is : u.node ≡ (w.nodes n).node) (incarnation_is : u.incarnation ≡ (w.nodes n).incarnation) where
   abbrev after : WorldState
-  after = (recorded (with_node w n u) event o).0
+  after = (recorded (with_node w n u) event 0 o).0
 
   -- what is to be shown of it, for each file
   pub record Goes : Type 0 where
@@ -276,30 +280,30 @@ message_done true here x y p a h = absurd (cc)
 message_done false true x y p a h = inl (refl, done_is x p h)
 message_done false false x y p a h = inr (done_is y p h)
 
-node_done : (w : WorldState) (event : Event) (n : ℕ) (r : Result (NodeState × Outcome) StepError) (p : WorldState × Entry) → ((done : NodeState × Outcome) → r ≡ Ok done → Present (recorded (with_node w n done.0) event done.1).0) → after_node w event n r ≡ Ok p → Present p.0
+node_done : (w : WorldState) (event : Event) (n : ℕ) (r : Result (NodeState × Outcome) StepError) (p : WorldState × Entry) → ((done : NodeState × Outcome) → r ≡ Ok done → Present (recorded (with_node w n done.0) event 0 done.1).0) → after_node w event n r ≡ Ok p → Present p.0
 node_done w event n (Ok done) p good h = subst (λ (x : WorldState × Entry). Present x.0) (done_is _ p h) (good done refl)
 node_done w event n (Err e) p good h = absurd (cc)
 
-server_done : (w : WorldState) (event : Event) (file : ℕ) (r : Result (ServerState × Outcome) StepError) (p : WorldState × Entry) → ((done : ServerState × Outcome) → r ≡ Ok done → Present (recorded (with_server w file done.0) event done.1).0) → after_server w event file r ≡ Ok p → Present p.0
+server_done : (w : WorldState) (event : Event) (file : ℕ) (r : Result (ServerState × Outcome) StepError) (p : WorldState × Entry) → ((done : ServerState × Outcome) → r ≡ Ok done → Present (recorded (with_server w file done.0) event 0 done.1).0) → after_server w event file r ≡ Ok p → Present p.0
 server_done w event file (Ok done) p good h = subst (λ (x : WorldState × Entry). Present x.0) (done_is _ p h) (good done refl)
 server_done w event file (Err e) p good h = absurd (cc)
 
 module _ (w : WorldState) (p : Present w) where
   -- an effect by which the node only asks
-  pub asking_present : (n : ℕ) (event : Event) (call : Option CallId) (e : Effect) → AsksFrom (w.nodes n) e → Present (recorded (with_node w n e.state) event (outcome call e).1).0
+  pub asking_present : (n : ℕ) (event : Event) (call : Option CallId) (e : Effect) → AsksFrom (w.nodes n) e → Present (recorded (with_node w n e.state) event 0 (outcome call e).1).0
   asking_present n event call e a = node_present w p n e.state event (outcome call e).1 a.node_is a.incarnation_is (asks_goes w p n e.state event (outcome call e).1 a.node_is a.incarnation_is a.files_are a.sends)
 
   -- a try of an open call
-  pub try_present : (n : ℕ) (event : Event) (c : Option OpenCall) → Present (recorded (with_node w n (tried_if (w.nodes n) c).state) event (outcome None (tried_if (w.nodes n) c)).1).0
+  pub try_present : (n : ℕ) (event : Event) (c : Option OpenCall) → Present (recorded (with_node w n (tried_if (w.nodes n) c).state) event 0 (outcome None (tried_if (w.nodes n) c)).1).0
   try_present n event c = asking_present n event None (tried_if (w.nodes n) c) (tried_if_asks (w.nodes n) c)
 
-  call_present : (n pid : ℕ) (op : Op) → Present (recorded (with_node w n (after_call (w.nodes n) pid op).0) (Call n pid op) (after_call (w.nodes n) pid op).1).0
+  call_present : (n pid : ℕ) (op : Op) → Present (recorded (with_node w n (after_call (w.nodes n) pid op).0) (Call n pid op) 0 (after_call (w.nodes n) pid op).1).0
   call_present n pid op =
       let s = w.nodes n in
       let number = s.calls + 1 in
       asking_present n (Call n pid op) (after_call s pid op).1.call (called (record s { calls = number }) number pid op) (called_asks (record s { calls = number }) number pid op)
 
-  grant_present : (file number : ℕ) (call : CallId) (mode : Mode) (span : Range) → Was w (Grant file number call mode span) → call.incarnation ≡ (w.nodes call.node).incarnation → (e : Effect) → Receives (w.nodes call.node) file number call mode span e → Present (recorded (with_node w call.node e.state) (Deliver (Grant file number call mode span)) (outcome None e).1).0
+  grant_present : (file number : ℕ) (call : CallId) (mode : Mode) (span : Range) → Was w (Grant file number call mode span) → call.incarnation ≡ (w.nodes call.node).incarnation → (e : Effect) → Receives (w.nodes call.node) file number call mode span e → Present (recorded (with_node w call.node e.state) (Deliver (Grant file number call mode span)) 0 (outcome None e).1).0
   grant_present file number call mode span sent to_incarnation e (inl d) =
       let n = call.node in
       let event = Deliver (Grant file number call mode span) in
@@ -314,20 +318,33 @@ module _ (w : WorldState) (p : Present w) where
       (repeats_goes w p n e.state event (outcome None e).1 node_is incarnation_is r.file r.answer r.there (ap (λ (x : NodeState). x.files) r.state) r.sends)
   grant_present file number call mode span sent to_incarnation e (inr (inr a)) = asking_present call.node (Deliver (Grant file number call mode span)) None e a
 
-  deliver_present : (file number : ℕ) (call : CallId) (mode : Mode) (span : Range) (done : NodeState × Outcome) → Was w (Grant file number call mode span) → deliver_rule (w.nodes call.node) (Grant file number call mode span) ≡ Ok done → Present (recorded (with_node w call.node done.0) (Deliver (Grant file number call mode span)) done.1).0
+  deliver_present : (file number : ℕ) (call : CallId) (mode : Mode) (span : Range) (done : NodeState × Outcome) → Was w (Grant file number call mode span) → deliver_rule (w.nodes call.node) (Grant file number call mode span) ≡ Ok done → Present (recorded (with_node w call.node done.0) (Deliver (Grant file number call mode span)) 0 done.1).0
   deliver_present file number call mode span done sent h =
       let s = w.nodes call.node in
       let m = Grant file number call mode span in
-      let P : NodeState × Outcome → Type 0 = λ d. Present (recorded (with_node w call.node d.0) (Deliver m) d.1).0 in
+      let P : NodeState × Outcome → Type 0 = λ d. Present (recorded (with_node w call.node d.0) (Deliver m) 0 d.1).0 in
       elim (message_done (not (is_node s.node (addressee m) && is_within s.shape.files (file_of m))) (call.incarnation == s.incarnation) (outcome None (delivered s m)) (outcome None (quiet s)) done step.Stranger h) [
         | inl is ↦ subst P is.1 (grant_present file number call mode span sent (eqb-true call.incarnation s.incarnation is.0) (delivered s m) (grant_receives s file number call mode span))
         | inr is ↦ subst P is (asking_present call.node (Deliver m) None (quiet s) (quiet_asks s))
       ]
 
+  -- a server sends its commands again
+  resend_present : (file : ℕ) (r : Result (ServerState × List Message) StepError) (done : ServerState × Outcome) → serve (w.servers file) ≡ r → sending_first (outstanding (w.servers file)) r ≡ Ok done → Present (recorded (with_server w file done.0) (Resend file) 0 done.1).0
+  resend_present file (Err e) done served is = absurd (cc)
+  resend_present file (Ok made) done served is =
+      let t = w.servers file in
+      let P : ServerState × Outcome → Type 0 = λ d. Present (recorded (with_server w file d.0) (Resend file) 0 d.1).0 in
+      let sent : (n : ℕ) (m : Message) → outstanding_of (t.rows n) ≡ Some m → Was w m = λ n m there. elim (t.rows n) as (λ x. t.rows n ≡ x → outstanding_of x ≡ Some m → Was w m) [
+        | None ↦ λ row none. absurd (none-some m none)
+        | Some row ↦ λ found waiting. outstanding_sent (Was w) w.nodes w.shape file t (p.serves file) n row m found waiting
+      ] refl there in
+      let old : Only (Was w) (outstanding t) = only_mapped (Was w) (λ n. outstanding_of (t.rows n)) (range_with_len 1 t.shape.nodes) sent in
+      subst P (done_is _ done is) (again_present w p file made.0 (Resend file) (sending (outstanding t ++ made.1)) (outstanding t) made.1 refl old (serve_serves (Was w) w.nodes w.shape file t (p.serves file) made.0 made.1 served))
+
   taken_present : (event : Event) (q : WorldState × Entry) → is_known w event ≡ true → taken w event ≡ Ok q → Present q.0
   taken_present (Call n pid op) q known h =
       let s = w.nodes n in
-      let P : NodeState × Outcome → Type 0 = λ d. Present (recorded (with_node w n d.0) (Call n pid op) d.1).0 in
+      let P : NodeState × Outcome → Type 0 = λ d. Present (recorded (with_node w n d.0) (Call n pid op) 0 d.1).0 in
       node_done w (Call n pid op) n (node_rule s (node.Call pid op)) q
       (λ done is. subst P (call_done (not (is_pid pid && is_in_shape s.shape op)) (is_some (open_call_of s pid)) (nat_lt s.calls 4294967295) (after_call s pid op) done step.Stranger step.Busy step.Spent is) (call_present n pid op)) h
   taken_present (Deliver (Grant file number call mode span)) q known h =
@@ -346,6 +363,15 @@ module _ (w : WorldState) (p : Present w) where
       let sent = (and_parts (has_actor w (addressee m)) (is_among w.sent m) known).1 in
       server_done w (Deliver m) file (server_rule t (server.Deliver m)) q
       (λ done is. server_present w p file done.0 (Deliver m) done.1 done.1.sends (λ x there. inr there) (λ x there. there) (receives_taken (Was w) w.nodes w.shape file t (p.serves file) done.0 done.1 number call sent is)) h
+  taken_present (Retry n pid) q known h =
+      let s = w.nodes n in
+      let effect = tried_if s (open_call_of s pid) in
+      let P : NodeState × Outcome → Type 0 = λ d. Present (recorded (with_node w n d.0) (Retry n pid) 0 d.1).0 in
+      node_done w (Retry n pid) n (node_rule s (node.Retry pid)) q
+      (λ done is. subst P (if_ok (is_pid pid) (outcome None effect) done step.Stranger is).1 (try_present n (Retry n pid) (open_call_of s pid))) h
+  taken_present (Resend file) q known h =
+      let t = w.servers file in
+      server_done w (Resend file) file (server_rule t server.Resend) q (λ done is. resend_present file (serve t) done refl is) h
 
   -- each step keeps it
   pub next_present : (event : Event) (q : WorldState × Entry) → next w event ≡ Ok q → Present q.0

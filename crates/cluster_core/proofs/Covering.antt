@@ -29,7 +29,7 @@ use Rattle.messages.specs.declared.outcome.Outcome.{Outcome}
 use Rattle.messages.specs.declared.refusal.StepError.{StepError}
 use Rattle.messages.specs.declared.refusal.StepError.TheVariants.{Busy, Stranger, Spent}
 use Rattle.node_core.specs.declared.event.NodeEvent.{NodeEvent}
-use Rattle.node_core.specs.declared.event.NodeEvent.TheVariants.{Call, Deliver}
+use Rattle.node_core.specs.declared.event.NodeEvent.TheVariants.{Call, Deliver, Retry}
 use Rattle.node_core.specs.declared.open_call.OpenCall.{OpenCall}
 use Rattle.node_core.specs.State.{NodeState, FileState, Effect, first_node, quiet, process, open_call, open_call_of, target_of, outcome}
 use Rattle.node_core.specs.Try.{settled, requested, tried, tried_against, tried_if}
@@ -37,7 +37,7 @@ use Rattle.node_core.specs.Calls.{is_pid, is_in_shape, called, after_call, lock_
 use Rattle.node_core.specs.Commands.{remembered, in_order, after_grant, granted, delivered, is_node, deliver_rule}
 use Rattle.node_core.specs.Node.{node_rule}
 use Rattle.cluster_core.specs.Safe.{Excludes}
-use Rattle.cluster_core.proofs.Targets.{ok_is}
+use Rattle.cluster_core.proofs.Targets.{ok_is, if_ok}
 
 -- the token serves each byte that is locked
 abbrev pub IsCovered : Token → FileLocks → Type 0
@@ -235,3 +235,6 @@ deliver_rule_covered s m done h old =
 pub node_rule_covered : (s u : NodeState) (event : NodeEvent) (o : Outcome) → node_rule s event ≡ Ok (u, o) → Covered s → Covered u
 node_rule_covered s u (Call pid op) o h old = call_rule_covered s pid op (u, o) h old
 node_rule_covered s u (Deliver m) o h old = deliver_rule_covered s m (u, o) h old
+node_rule_covered s u (Retry pid) o h old =
+    let effect = tried_if s (open_call_of s pid) in
+    subst (λ (x : NodeState × Outcome). Covered x.0) (if_ok (is_pid pid) (outcome None effect) (u, o) Stranger h).1 (tried_if_covered s (open_call_of s pid) old)

@@ -1,6 +1,7 @@
 pub mod KnownMessages
 pub mod NodeNumbers
 pub mod Numbered
+pub mod ServerSteps
 pub mod WorldSteps
 pub mod JournalRuns
 pub mod Places
@@ -13,6 +14,7 @@ pub mod Tries
 pub mod Served
 pub mod Nodes
 pub mod Moves
+pub mod Retries
 pub mod Unions
 pub mod Joined
 pub mod Lifting

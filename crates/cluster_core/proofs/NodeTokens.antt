@@ -1,5 +1,6 @@
 -- What a node's step does to its tokens, and what it sends.
 use Rattle.std.specs.Prelude.{nat_le, ◌==◌}
+use Rattle.std.specs.List.{filter_map, cons_option}
 use Rattle.std.proofs.Common.{◌≡◌, ℕ, ◌+◌, Bool, true, false, if◌then◌else◌, ◌&&◌, ◌⊎◌, inl, inr, refl, sym, subst, List, [], ◌∷◌, ◌++◌, Option, Some, None, Result, Ok, Err}
 use Rattle.std.proofs.lemmas.Bool.{eqb-true, or_cases, or_left}
 use Rattle.intervals.specs.Bytes.{Range}
@@ -37,6 +38,14 @@ only_more P x xs here rest m there = elim (or_cases (same_message m x) (is_among
 
 pub only_one : (P : Message → Type 0) (x : Message) → P x → Only P (x ∷ [])
 only_one P x here = only_more P x [] here (only_none P)
+
+-- what holds of each that a list of numbers gives
+pub only_mapped : (P : Message → Type 0) (f : ℕ → Option Message) (ns : List ℕ) → ((n : ℕ) (m : Message) → f n ≡ Some m → P m) → Only P (filter_map f ns)
+only_mapped P f [] each = only_none P
+only_mapped P f (n ∷ ns) each = elim (f n) as (λ o. f n ≡ o → Only P (cons_option o (filter_map f ns))) [
+  | None ↦ λ none. only_mapped P f ns each
+  | Some m ↦ λ is. only_more P m (filter_map f ns) (each n m is) (only_mapped P f ns each)
+] refl
 
 pub first_among : (x : Message) (xs : List Message) → is_among (x ∷ xs) x ≡ true
 first_among x xs = or_left (same_message x x) (is_among xs x) ((same_message-is-equality x x).1 refl)
