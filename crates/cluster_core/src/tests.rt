@@ -177,3 +177,57 @@ fn a_run_ends_at_the_first_refusal(rt: HostRuntime) -> Result<(), Fail> {
     assert_eq!(rt; refused, Some(Refused::Stranger));
     Ok(())
 }
+
+// Two nodes with one file, of each of which process 1 has the file open.
+fn two_nodes(alloc: Global) -> Result<World, Fail> {
+    let shape = Shape::new(2, 1, Policy::Exact)?;
+    let mut world = World::new(alloc, shape)?;
+    for node in 1..3 {
+        world.step(alloc, call_at(node, Op::Spawn))?;
+        world.step(alloc, call_at(node, OPEN))?;
+    }
+    Ok(world)
+}
+
+fn call_at(node: u8, op: Op) -> Event {
+    Event::Call { node, pid: 1, op }
+}
+
+// A write lock of the hundred bytes from `start`.
+fn hundred(start: i64) -> Op {
+    Op::Set {
+        fd: 0,
+        kind: Kind::OfProcess,
+        mode: Mode::Write,
+        start,
+        len: 100,
+    }
+}
+
+#[test]
+fn a_request_stays_where_another_node_has_the_token(rt: HostRuntime) -> Result<(), Fail> {
+    let alloc = rt.alloc();
+    let mut world = two_nodes(alloc)?;
+    let request = sent(&mut world, alloc, call_at(1, hundred(0)))?;
+    let grant = delivered(&mut world, alloc, request)?;
+    let taken = delivered(&mut world, alloc, grant)?;
+    assert!(rt; delivered(&mut world, alloc, taken)?.is_none());
+    let request = sent(&mut world, alloc, call_at(2, hundred(99)))?;
+    assert!(rt; request.is_some());
+    assert!(rt; delivered(&mut world, alloc, request)?.is_none());
+    Ok(())
+}
+
+#[test]
+fn two_nodes_lock_bytes_beside_each_other(rt: HostRuntime) -> Result<(), Fail> {
+    let alloc = rt.alloc();
+    let mut world = two_nodes(alloc)?;
+    let request = sent(&mut world, alloc, call_at(1, hundred(0)))?;
+    let grant = delivered(&mut world, alloc, request)?;
+    let taken = delivered(&mut world, alloc, grant)?;
+    assert!(rt; delivered(&mut world, alloc, taken)?.is_none());
+    let request = sent(&mut world, alloc, call_at(2, hundred(100)))?;
+    let grant = delivered(&mut world, alloc, request)?;
+    assert!(rt; delivered(&mut world, alloc, grant)?.is_some());
+    Ok(())
+}
