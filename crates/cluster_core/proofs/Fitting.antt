@@ -6,7 +6,7 @@ use Rattle.model.specs.declared.call.CallId.{CallId}
 use Rattle.model.specs.declared.op.Op.{Op}
 use Rattle.model.specs.declared.reply.Reply.{Reply}
 use Rattle.messages.specs.declared.event.Event.{Event}
-use Rattle.messages.specs.declared.event.Event.TheVariants.{Call, Deliver}
+use Rattle.messages.specs.declared.event.Event.TheVariants.{Call, Deliver, Retry, Resend}
 use Rattle.messages.specs.declared.entry.Entry.{Entry}
 use Rattle.messages.specs.Messages.{same_call}
 use Rattle.cluster_core.specs.declared.item.Item.{Item}
@@ -39,6 +39,8 @@ is_named-itself id o h = rw h (call_itself id)
 go_on : (b : Bool) (event : Event) (x y : Option (ℕ × Op)) (c : ℕ × Op) → (x ≡ Some c → y ≡ Some c) → cond b (called_by event x) x ≡ Some c → cond b (called_by event y) y ≡ Some c
 go_on true (Call node pid op) x y c h e = e
 go_on true (Deliver m) x y c h e = h e
+go_on true (Retry node pid) x y c h e = h e
+go_on true (Resend file) x y c h e = h e
 go_on false event x y c h e = h e
 
 pub find_call-keeps : (es fs : List Entry) (id : CallId) (c : ℕ × Op) → find_call es id ≡ Some c → find_call (es ++ fs) id ≡ Some c

@@ -8,7 +8,7 @@ use Rattle.messages.specs.declared.actor.Actor.{Actor}
 use Rattle.messages.specs.declared.actor.Actor.TheVariants.{Node as ANode, Server as AServer}
 use Rattle.messages.specs.declared.message.Message.{Message}
 use Rattle.messages.specs.declared.outcome.Outcome.{Outcome}
-use Rattle.messages.specs.declared.event.Event.TheVariants.{Call, Deliver}
+use Rattle.messages.specs.declared.event.Event.TheVariants.{Call, Deliver, Retry, Resend}
 use Rattle.messages.specs.declared.refusal.StepError.{StepError}
 use Rattle.messages.specs.declared.refusal.Refused.TheVariants.{Stranger, JournalFull}
 use Rattle.messages.specs.Refusals.{refused_by}
@@ -24,7 +24,7 @@ use Rattle.messages.specs.declared.refusal.Refused.{Refused}
 use Rattle.messages.specs.declared.event.Event.{Event}
 use Rattle.messages.specs.declared.entry.Entry.{Entry}
 use Rattle.cluster_core.specs.World.{WorldState, first_world, journal_limit}
-use Rattle.cluster_core.specs.Next.{next, is_known, taken, delivered, after_node, after_server, recorded, with_node, with_server}
+use Rattle.cluster_core.specs.Next.{next, is_known, taken, delivered, after_node, after_server, recorded, named_incarnation, with_node, with_server}
 use Rattle.cluster_core.specs.Runs.{Leads}
 use Rattle.cluster_core.specs.Journals.{events_of, IsFirstRefusal}
 
@@ -62,11 +62,11 @@ if_is_of event true x y p q = p
 if_is_of event false x y p q = q
 
 after_node-event : (w : WorldState) (event : Event) (n : ℕ) (r : Result (NodeState × Outcome) StepError) → IsOf event (after_node w event n r)
-after_node-event w event n (Ok done) = made_is_of event (recorded (with_node w n done.0) event done.1) refl
+after_node-event w event n (Ok done) = made_is_of event (recorded (with_node w n done.0) event (named_incarnation (w.nodes n) event) done.1) refl
 after_node-event w event n (Err e) = refused_is_of event (refused_by e)
 
 after_server-event : (w : WorldState) (event : Event) (file : ℕ) (r : Result (ServerState × Outcome) StepError) → IsOf event (after_server w event file r)
-after_server-event w event file (Ok done) = made_is_of event (recorded (with_server w file done.0) event done.1) refl
+after_server-event w event file (Ok done) = made_is_of event (recorded (with_server w file done.0) event 0 done.1) refl
 after_server-event w event file (Err e) = refused_is_of event (refused_by e)
 
 delivered-event : (w : WorldState) (m : Message) (actor : Actor) → IsOf (Deliver m) (delivered w m actor)
@@ -76,6 +76,8 @@ delivered-event w m (AServer file) = after_server-event w (Deliver m) file (serv
 taken-event : (w : WorldState) (event : Event) → IsOf event (taken w event)
 taken-event w (Call n pid op) = after_node-event w (Call n pid op) n (node_rule (w.nodes n) (node.Call pid op))
 taken-event w (Deliver m) = delivered-event w m (addressee m)
+taken-event w (Retry n pid) = after_node-event w (Retry n pid) n (node_rule (w.nodes n) (node.Retry pid))
+taken-event w (Resend file) = after_server-event w (Resend file) file (server_rule (w.servers file) server.Resend)
 
 -- the entry of a step is of its event
 pub entry_event : (w v : WorldState) (event : Event) (e : Entry) → next w event ≡ Ok (v, e) → e.event ≡ event

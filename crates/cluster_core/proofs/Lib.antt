@@ -1,6 +1,7 @@
 pub mod KnownMessages
 pub mod NodeNumbers
 pub mod Numbered
+pub mod ServerSteps
 pub mod WorldSteps
 pub mod JournalRuns
 pub mod Places
@@ -11,6 +12,7 @@ pub mod NodeTables
 pub mod Tries
 pub mod Nodes
 pub mod Moves
+pub mod Retries
 pub mod Unions
 pub mod Worlds
 pub mod Runs

@@ -48,7 +48,7 @@ silent_moves past e s u g calls pending none silent holds = record {
 }
 
 -- a step that answers an open call
-answer_moves : (past : List Entry) (e : Entry) (s u : NodeState) (c : OpenCall) (o : IsOpen past s c) → Continues s u → u.calls ≡ s.calls → e.call ≡ None → IsAnswered s c.number c.pid o.op u e.reply → Holds past s → Moves past s u e
+pub answer_moves : (past : List Entry) (e : Entry) (s u : NodeState) (c : OpenCall) (o : IsOpen past s c) → Continues s u → u.calls ≡ s.calls → e.call ≡ None → IsAnswered s c.number c.pid o.op u e.reply → Holds past s → Moves past s u e
 answer_moves past e s u c o g calls none a holds = record {
   holds = record {
     own = subst (λ (i : ℕ). IsOwn u.table u.node i) (sym g.incarnation) (subst (λ (n : ℕ). IsOwn u.table n s.incarnation) (sym g.node) g.follows.own);
@@ -79,7 +79,7 @@ pub record Receives (past : List Entry) (s u : NodeState) (e : Entry) : Type 0 w
 module _ (past : List Entry) (s : NodeState) (event : Event) (holds : Holds past s) where
   -- the entry of an effect that names no call
   abbrev said : Effect → Entry
-  said e = entry event (outcome None e).1
+  said e = entry event 0 (outcome None e).1
 
   still : Continues s s
   still = record { node = refl; incarnation = refl; follows = same_follows s.table s.node s.incarnation holds.own }
@@ -150,12 +150,12 @@ module _ (past : List Entry) (s : NodeState) (node pid : ℕ) (op : Op) (holds :
   not_named : IsNamed past (id_of s (s.calls + 1)) → ⊥
   not_named n = let below = holds.numbers (id_of s (s.calls + 1)) n refl refl in absurd (omega arith)
 
-  pub call_moves : Moves past s (after_call s pid op).0 (entry (Call node pid op) (after_call s pid op).1)
+  pub call_moves : Moves past s (after_call s pid op).0 (entry (Call node pid op) 0 (after_call s pid op).1)
   call_moves =
       let number = s.calls + 1 in
       let counted = record s { calls = number } in
       let id = id_of s number in
-      let e = entry (Call node pid op) (after_call s pid op).1 in
+      let e = entry (Call node pid op) 0 (after_call s pid op).1 in
       let u = (called counted number pid op).state in
       let t = called_ends counted number pid op is_process.pid_in holds.own in
       let g : Continues s u = record { node = t.continues.node; incarnation = t.continues.incarnation; follows = t.continues.follows } in

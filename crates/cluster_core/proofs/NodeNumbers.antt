@@ -22,11 +22,12 @@ use Rattle.messages.specs.declared.refusal.StepError.{StepError}
 use Rattle.messages.specs.declared.refusal.StepError.TheVariants.{Busy, Stranger, Spent}
 use Rattle.node_core.specs.declared.open_call.OpenCall.{OpenCall}
 use Rattle.node_core.specs.declared.event.NodeEvent.{NodeEvent}
-use Rattle.node_core.specs.declared.event.NodeEvent.TheVariants.{Call, Deliver}
+use Rattle.node_core.specs.declared.event.NodeEvent.TheVariants.{Call, Deliver, Retry}
 use Rattle.node_core.specs.State.{NodeState, Effect, quiet, answered, open_call, open_call_of, process, outcome}
 use Rattle.node_core.specs.Try.{tried, tried_against, tried_if, unblocked, settled, requested}
 use Rattle.node_core.specs.Calls.{is_pid, is_in_shape, lock_call, called, after_call, call_rule}
 use Rattle.node_core.specs.Commands.{in_order, granted, after_grant, delivered, deliver_rule, is_node, remembered}
+use Rattle.node_core.specs.Retries.{retry_rule}
 use Rattle.node_core.specs.Node.{node_rule}
 
 -- the effect leaves the node its number
@@ -80,6 +81,7 @@ abbrev pub NamesBy : ℕ → NodeEvent → Option CallId → Type 0
 NamesBy node (Call pid op) None = ⊥
 NamesBy node (Call pid op) (Some id) = id.node ≡ node
 NamesBy node (Deliver m) call = call ≡ None
+NamesBy node (Retry pid) call = call ≡ None
 
 pub record Steps (s : NodeState) (event : NodeEvent) (done : NodeState × Outcome) : Type 0 where
   pub node : done.0.node ≡ s.node
@@ -116,6 +118,13 @@ deliver_rule-steps s m =
     (made_steps s (Deliver m) (outcome None (delivered s m)) (record { node = delivered-node s m; named = refl }))
     (made_steps s (Deliver m) (outcome None (quiet s)) (record { node = refl; named = refl })))
 
+retry_rule-steps : (s : NodeState) (pid : ℕ) → Stepped s (Retry pid) (retry_rule s pid)
+retry_rule-steps s pid =
+    if_steps s (Retry pid) (is_pid pid) _ _
+    (made_steps s (Retry pid) (outcome None (tried_if s (open_call_of s pid))) (record { node = tried_if-node s (open_call_of s pid); named = refl }))
+    (refused_steps s (Retry pid) Stranger)
+
 pub node_rule-steps : (s : NodeState) (event : NodeEvent) (done : NodeState × Outcome) → node_rule s event ≡ Ok done → Steps s event done
 node_rule-steps s (Call pid op) = call_rule-steps s pid op
 node_rule-steps s (Deliver m) = deliver_rule-steps s m
+node_rule-steps s (Retry pid) = retry_rule-steps s pid

@@ -13,29 +13,33 @@ use Rattle.messages.specs.declared.refusal.Refused.TheVariants.{Stranger, Journa
 use Rattle.messages.specs.declared.message.Message.{Message}
 use Rattle.messages.specs.declared.message.Message.TheVariants.{Request, Grant, Taken}
 use Rattle.messages.specs.declared.event.Event.{Event}
-use Rattle.messages.specs.declared.event.Event.TheVariants.{Call, Deliver}
+use Rattle.messages.specs.declared.event.Event.TheVariants.{Call, Deliver, Retry, Resend}
 use Rattle.messages.specs.declared.entry.Entry.{Entry}
 use Rattle.messages.specs.declared.outcome.Outcome.{Outcome}
 use Rattle.node_core.specs.declared.event.NodeEvent.TheVariants as node
 use Rattle.node_core.specs.State.{NodeState, quiet, outcome, process, open_call_of}
+use Rattle.node_core.specs.Try.{tried_if}
 use Rattle.node_core.specs.Calls.{is_pid, is_in_shape, after_call}
 use Rattle.node_core.specs.Commands.{delivered, is_node, deliver_rule}
+use Rattle.node_core.specs.Retries.{retry_rule}
 use Rattle.node_core.specs.Node.{node_rule}
+use Rattle.token_server.specs.declared.event.ServerEvent.{ServerEvent}
 use Rattle.token_server.specs.declared.event.ServerEvent.TheVariants as server
 use Rattle.token_server.specs.State.{ServerState}
-use Rattle.token_server.specs.Serve.{serve}
-use Rattle.token_server.specs.Server.{change, then_serve, as_outcome, server_rule}
+use Rattle.token_server.specs.Server.{server_rule}
 use Rattle.cluster_core.specs.World.{WorldState, first_world, journal_limit, has_node}
-use Rattle.cluster_core.specs.Next.{is_known, recorded, with_node, after_node, after_server, taken, next}
+use Rattle.cluster_core.specs.Next.{is_known, recorded, named_incarnation, with_node, after_node, after_server, taken, next}
 use Rattle.cluster_core.specs.Runs.{Leads}
 use Rattle.cluster_core.specs.Histories.{HasHistory, EachAtItsReply, EveryRunHasAHistory}
 use Rattle.cluster_core.specs.Placement.{history_of}
 use Rattle.cluster_core.proofs.Entries.{none_named, none_called, none_replied}
 use Rattle.cluster_core.proofs.Fitting.{fitting_empty, fits, each_at_its_reply}
-use Rattle.cluster_core.proofs.Targets.{ok_is}
+use Rattle.cluster_core.proofs.Targets.{ok_is, if_ok}
+use Rattle.cluster_core.proofs.ServerSteps.{IsSending, server_rule-sending}
 use Rattle.cluster_core.proofs.NodeTables.{own_empty}
 use Rattle.cluster_core.proofs.Nodes.{IsOpen}
 use Rattle.cluster_core.proofs.Moves.{delivered_receives, quiet_receives, call_moves}
+use Rattle.cluster_core.proofs.Retries.{retried_receives}
 use Rattle.cluster_core.proofs.Unions.{union_first}
 use Rattle.cluster_core.proofs.Worlds.{Good, replied_named, server_good, node_good}
 
@@ -56,30 +60,17 @@ taken_message true here x y p a h = absurd (cc)
 taken_message false true x y p a h = inl (ok_is x p h)
 taken_message false false x y p a h = inr (ok_is y p h)
 
--- an entry of a server names no call and answers none
-abbrev IsSending : ServerState × Outcome → Type 0
-IsSending p = (p.1.call ≡ None) × (p.1.reply ≡ None)
-
-as_outcome_sending : (r : Result (ServerState × List Message) StepError) (p : ServerState × Outcome) → as_outcome r ≡ Ok p → IsSending p
-as_outcome_sending (Ok done) p h = subst IsSending (ok_is _ p h) (refl, refl)
-as_outcome_sending (Err e) p h = absurd (cc)
-
-serves_sending : (s : ServerState) (c : Result (Option ServerState) StepError) (p : ServerState × Outcome) → then_serve s c ≡ Ok p → IsSending p
-serves_sending s (Err e) p h = absurd (cc)
-serves_sending s (Ok None) p h = subst IsSending (ok_is _ p h) (refl, refl)
-serves_sending s (Ok (Some changed)) p h = as_outcome_sending (serve changed) p h
-
 -- the world and the entry after a step
 abbrev After : List Entry → WorldState × Entry → Type 0
 After past p = Good (past ++ p.1 ∷ []) p.0
 
-server_next : (past : List Entry) (w : WorldState) (m : Message) (file : ℕ) (r : Result (ServerState × Outcome) StepError) (p : WorldState × Entry) → ((done : ServerState × Outcome) → r ≡ Ok done → IsSending done) → Good past w → after_server w (Deliver m) file r ≡ Ok p → After past p
-server_next past w m file (Ok done) p sends g h =
+server_next : (past : List Entry) (w : WorldState) (event : Event) (file : ℕ) (r : Result (ServerState × Outcome) StepError) (p : WorldState × Entry) → ((done : ServerState × Outcome) → r ≡ Ok done → IsSending done) → Good past w → after_server w event file r ≡ Ok p → After past p
+server_next past w event file (Ok done) p sends g h =
     let both = sends done refl in
-    subst (After past) (ok_is _ p h) (server_good past w file done.0 (Deliver m) done.1 both.0 both.1 g)
-server_next past w m file (Err e) p sends g h = absurd (cc)
+    subst (After past) (ok_is _ p h) (server_good past w file done.0 event done.1 both.0 both.1 g)
+server_next past w event file (Err e) p sends g h = absurd (cc)
 
-node_next : (past : List Entry) (w : WorldState) (event : Event) (n : ℕ) (r : Result (NodeState × Outcome) StepError) (p : WorldState × Entry) → ((done : NodeState × Outcome) → r ≡ Ok done → After past (recorded (with_node w n done.0) event done.1)) → after_node w event n r ≡ Ok p → After past p
+node_next : (past : List Entry) (w : WorldState) (event : Event) (n : ℕ) (r : Result (NodeState × Outcome) StepError) (p : WorldState × Entry) → ((done : NodeState × Outcome) → r ≡ Ok done → After past (recorded (with_node w n done.0) event (named_incarnation (w.nodes n) event) done.1)) → after_node w event n r ≡ Ok p → After past p
 node_next past w event n (Ok done) p good h = subst (After past) (ok_is _ p h) (good done refl)
 node_next past w event n (Err e) p good h = absurd (cc)
 
@@ -106,29 +97,41 @@ module _ (past : List Entry) (w : WorldState) (g : Good past w) where
           let above = is.1 in
           (is.0, omega arith)
 
-  call_good : (n pid : ℕ) (op : Op) → is_known w (Call n pid op) ≡ true → After past (recorded (with_node w n (after_call (w.nodes n) pid op).0) (Call n pid op) (after_call (w.nodes n) pid op).1)
+  call_good : (n pid : ℕ) (op : Op) → is_known w (Call n pid op) ≡ true → After past (recorded (with_node w n (after_call (w.nodes n) pid op).0) (Call n pid op) 0 (after_call (w.nodes n) pid op).1)
   call_good n pid op known =
       let s = w.nodes n in
       let r = after_call s pid op in
-      node_good past w n r.0 (Call n pid op) r.1 g
+      node_good past w n r.0 (Call n pid op) 0 r.1 g
       (call_moves past s n pid op (g.holds n) (g.named n) (process_in n pid op known) (replied_named past (history_of past) g.fitting))
       (λ strange. absurd (both_ways (has_node w n) strange (and_parts (has_node w n) (is_pid pid && is_in_shape w.shape op) known).0))
 
-  message_good : (n : ℕ) (m : Message) (done : NodeState × Outcome) → deliver_rule (w.nodes n) m ≡ Ok done → After past (recorded (with_node w n done.0) (Deliver m) done.1)
+  message_good : (n : ℕ) (m : Message) (done : NodeState × Outcome) → deliver_rule (w.nodes n) m ≡ Ok done → After past (recorded (with_node w n done.0) (Deliver m) 0 done.1)
   message_good n m done h =
       let s = w.nodes n in
-      let P : NodeState × Outcome → Type 0 = λ d. After past (recorded (with_node w n d.0) (Deliver m) d.1) in
+      let P : NodeState × Outcome → Type 0 = λ d. After past (recorded (with_node w n d.0) (Deliver m) 0 d.1) in
       let received = delivered_receives past s (Deliver m) (g.holds n) m in
       let silent = quiet_receives past s (Deliver m) (g.holds n) (quiet s) refl refl in
       elim (taken_message (not (is_node s.node (addressee m) && is_within s.shape.files (file_of m))) ((call_of m).incarnation == s.incarnation) (outcome None (delivered s m)) (outcome None (quiet s)) done step.Stranger h) [
-        | inl is ↦ subst P is (node_good past w n (delivered s m).state (Deliver m) (outcome None (delivered s m)).1 g received.moves (λ strange. received.idle (g.strangers n strange)))
-        | inr is ↦ subst P is (node_good past w n s (Deliver m) (outcome None (quiet s)).1 g silent.moves (λ strange. silent.idle (g.strangers n strange)))
+        | inl is ↦ subst P is (node_good past w n (delivered s m).state (Deliver m) 0 (outcome None (delivered s m)).1 g received.moves (λ strange. received.idle (g.strangers n strange)))
+        | inr is ↦ subst P is (node_good past w n s (Deliver m) 0 (outcome None (quiet s)).1 g silent.moves (λ strange. silent.idle (g.strangers n strange)))
       ]
+
+  retry_good : (n pid : ℕ) (done : NodeState × Outcome) → retry_rule (w.nodes n) pid ≡ Ok done → After past (recorded (with_node w n done.0) (Retry n pid) (w.nodes n).incarnation done.1)
+  retry_good n pid done h =
+      let s = w.nodes n in
+      let effect = tried_if s (open_call_of s pid) in
+      let P : NodeState × Outcome → Type 0 = λ d. After past (recorded (with_node w n d.0) (Retry n pid) s.incarnation d.1) in
+      let received = retried_receives past s (Retry n pid) s.incarnation (g.holds n) pid in
+      let is = (if_ok (is_pid pid) (outcome None effect) done step.Stranger h).1 in
+      subst P is (node_good past w n effect.state (Retry n pid) s.incarnation (outcome None effect).1 g received.moves (λ strange. received.idle (g.strangers n strange)))
+
+  served_good : (event : Event) (file : ℕ) (step : ServerEvent) (p : WorldState × Entry) → after_server w event file (server_rule (w.servers file) step) ≡ Ok p → After past p
+  served_good event file step p h = server_next past w event file (server_rule (w.servers file) step) p (λ done is. server_rule-sending (w.servers file) step done is) g h
 
   taken_good : (event : Event) (p : WorldState × Entry) → is_known w event ≡ true → taken w event ≡ Ok p → After past p
   taken_good (Call n pid op) p known h =
       let s = w.nodes n in
-      let P : NodeState × Outcome → Type 0 = λ d. After past (recorded (with_node w n d.0) (Call n pid op) d.1) in
+      let P : NodeState × Outcome → Type 0 = λ d. After past (recorded (with_node w n d.0) (Call n pid op) 0 d.1) in
       node_next past w (Call n pid op) n (node_rule s (node.Call pid op)) p
       (λ done is. subst P (taken_call (not (is_pid pid && is_in_shape s.shape op)) (is_some (open_call_of s pid)) (nat_lt s.calls 4294967295) (after_call s pid op) done step.Stranger step.Busy step.Spent is) (call_good n pid op known)) h
   taken_good (Deliver (Grant file number call mode span)) p known h =
@@ -136,12 +139,12 @@ module _ (past : List Entry) (w : WorldState) (g : Good past w) where
       node_next past w (Deliver m) call.node (node_rule (w.nodes call.node) (node.Deliver m)) p (λ done is. message_good call.node m done is) h
   taken_good (Deliver (Request file call urgency mode wanted)) p known h =
       let m = Request file call urgency mode wanted in
-      let s = w.servers file in
-      server_next past w m file (server_rule s (server.Deliver m)) p (λ done is. serves_sending s (change s m) done is) g h
+      served_good (Deliver m) file (server.Deliver m) p h
   taken_good (Deliver (Taken file number call)) p known h =
       let m = Taken file number call in
-      let s = w.servers file in
-      server_next past w m file (server_rule s (server.Deliver m)) p (λ done is. serves_sending s (change s m) done is) g h
+      served_good (Deliver m) file (server.Deliver m) p h
+  taken_good (Retry n pid) p known h = node_next past w (Retry n pid) n (node_rule (w.nodes n) (node.Retry pid)) p (λ done is. retry_good n pid done is) h
+  taken_good (Resend file) p known h = served_good (Resend file) file server.Resend p h
 
   pub next_good : (event : Event) (p : WorldState × Entry) → next w event ≡ Ok p → After past p
   next_good event p h =

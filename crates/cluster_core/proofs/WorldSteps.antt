@@ -9,10 +9,10 @@ use Rattle.std.proofs.lemmas.Bool.Decides.{nat_tests}
 use Rattle.std.proofs.lemmas.List.{length-set}
 use Rattle.model.specs.declared.call.CallId.{CallId}
 use Rattle.messages.specs.Messages.{is_within}
-use Rattle.messages.specs.Entries.{NamesItsCall}
+use Rattle.messages.specs.Entries.{NamesItsCall, NamesItsIncarnation}
 use Rattle.messages.specs.declared.message.Message.{Message}
 use Rattle.messages.specs.declared.event.Event.{Event}
-use Rattle.messages.specs.declared.event.Event.TheVariants.{Call, Deliver}
+use Rattle.messages.specs.declared.event.Event.TheVariants.{Call, Deliver, Retry, Resend}
 use Rattle.messages.specs.declared.outcome.Outcome.{Outcome}
 use Rattle.messages.specs.declared.entry.Entry.{Entry}
 use Rattle.messages.specs.declared.refusal.StepError.{StepError}
@@ -26,10 +26,11 @@ use Rattle.token_server.specs.declared.event.ServerEvent.{ServerEvent}
 use Rattle.token_server.specs.State.{ServerState, first_server}
 use Rattle.token_server.specs.Server.{server_rule}
 use Rattle.cluster_core.specs.World.{WorldState, first_world, journal_limit}
-use Rattle.cluster_core.specs.Next.{with_node, with_server, recorded, entry, after_node, after_server}
-use Rattle.cluster_core.specs.Parts.{WorldParts, IsWorld, IsRest, IsStepOf, numbered, world_state}
+use Rattle.cluster_core.specs.Next.{with_node, with_server, recorded, entry, named_incarnation, after_node, after_server}
+use Rattle.cluster_core.specs.Parts.{WorldParts, IsWorld, IsRest, IsStepOf, IsServerStepOf, numbered, world_state}
 use Rattle.cluster_core.proofs.Numbered.{numbered-set, numbered-read}
 use Rattle.cluster_core.proofs.NodeNumbers.{NamesBy, Steps, node_rule-steps}
+use Rattle.cluster_core.proofs.ServerSteps.{server_rule-sending}
 
 pub within_is : (most n : ℕ) → is_within most n ≡ true → (1 ≤ n) × (n ≤ most)
 within_is most n h = (grind (arith, nat_tests, h), grind (arith, nat_tests, h))
@@ -47,8 +48,8 @@ put_at f rest xs n x least most m =
     let number : 1 + (n - 1) ≡ n = omega arith in
     numbered-set f rest 1 xs (n - 1) x place m ∙ ap (λ (k : ℕ). if m == k then f x else numbered f rest 1 xs m) number
 
-pub node_put : (p : WorldParts) (n : ℕ) (next : NodeParts) (event : Event) (o : Outcome) → 1 ≤ n → n ≤ length p.nodes → (recorded (with_node (world_state p) n (node_state next)) event o).0 ≡ world_state (with_node_parts p n next o.sends)
-node_put p n next event o least most =
+pub node_put : (p : WorldParts) (n : ℕ) (next : NodeParts) (event : Event) (incarnation : ℕ) (o : Outcome) → 1 ≤ n → n ≤ length p.nodes → (recorded (with_node (world_state p) n (node_state next)) event incarnation o).0 ≡ world_state (with_node_parts p n next o.sends)
+node_put p n next event incarnation o least most =
     sym (λ i. record {
       shape = p.shape;
       nodes = λ m. put_at node_state (λ k. first_node p.shape k 1) p.nodes n next least most m i;
@@ -57,7 +58,7 @@ node_put p n next event o least most =
       length = p.length + 1;
     })
 
-pub server_put : (p : WorldParts) (file : ℕ) (next : ServerParts) (event : Event) (o : Outcome) → 1 ≤ file → file ≤ length p.servers → (recorded (with_server (world_state p) file (server_state next)) event o).0 ≡ world_state (with_server_parts p file next o.sends)
+pub server_put : (p : WorldParts) (file : ℕ) (next : ServerParts) (event : Event) (o : Outcome) → 1 ≤ file → file ≤ length p.servers → (recorded (with_server (world_state p) file (server_state next)) event 0 o).0 ≡ world_state (with_server_parts p file next o.sends)
 server_put p file next event o least most =
     sym (λ i. record {
       shape = p.shape;
@@ -103,11 +104,20 @@ names : (event : Event) (node : ℕ) (step : NodeEvent) (number : ℕ) (call : O
 names (Call n pid op) node step number None is own by = let P : NodeEvent → Type 0 = λ e. NamesBy number e None in absurd (subst P is.1 by)
 names (Call n pid op) node step number (Some id) is own by = let P : NodeEvent → Type 0 = λ e. NamesBy number e (Some id) in subst P is.1 by ∙ (own ∙ sym is.0)
 names (Deliver m) node step number call is own by = let P : NodeEvent → Type 0 = λ e. NamesBy number e call in subst P is by
+names (Retry n pid) node step number call is own by = let P : NodeEvent → Type 0 = λ e. NamesBy number e call in subst P is.1 by
+names (Resend file) node step number call is own by = absurd is
 
 -- the entry of a node's step names the call by its node
 pub node_names : (p : WorldParts) (event : Event) (n : ℕ) (step : NodeEvent) (next : NodeState) (o : Outcome) → IsWorld p → IsStepOf event n step → node_rule ((world_state p).nodes n) step ≡ Ok (next, o) → NamesItsCall event o.call
 node_names p event n step next o world is done =
     names event n step ((world_state p).nodes n).node o.call is (world.own_number n) (node_rule-steps ((world_state p).nodes n) step (next, o) done).named
+
+-- the entry of a server's step names no call and no incarnation
+pub server_names : (event : Event) (step : ServerEvent) (s next : ServerState) (o : Outcome) → IsServerStepOf event step → server_rule s step ≡ Ok (next, o) → NamesItsCall event o.call × NamesItsIncarnation event 0
+server_names (Call n pid op) step s next o is done = absurd is
+server_names (Deliver m) step s next o is done = ((server_rule-sending s step (next, o) done).0, refl)
+server_names (Retry n pid) step s next o is done = absurd is
+server_names (Resend file) step s next o is done = ((server_rule-sending s step (next, o) done).0, refl)
 
 read_number : {A B : Type 0} (f : A → B) (rest : ℕ → B) (xs : List A) (n : ℕ) (x : A) → 1 ≤ n → n ≤ length xs → x ≡ slice_index_or xs (n - 1) x → numbered f rest 1 xs n ≡ f x
 read_number f rest xs n x least most is =
@@ -131,20 +141,20 @@ read_server p file x world number is =
     read_number server_state (first_server p.shape) p.servers file x least most is
 
 -- the new world and the entry are what the rules say
-pub node_done : (p : WorldParts) (event : Event) (n : ℕ) (step : NodeEvent) (next : NodeParts) (o : Outcome) (fresh : WorldParts) (e : Entry) → IsWorld p → is_within p.shape.nodes n ≡ true → node_rule ((world_state p).nodes n) step ≡ Ok (node_state next, o) → fresh ≡ with_node_parts p n next o.sends → e ≡ entry event o → after_node (world_state p) event n (node_rule ((world_state p).nodes n) step) ≡ Ok (world_state fresh, e)
+pub node_done : (p : WorldParts) (event : Event) (n : ℕ) (step : NodeEvent) (next : NodeParts) (o : Outcome) (fresh : WorldParts) (e : Entry) → IsWorld p → is_within p.shape.nodes n ≡ true → node_rule ((world_state p).nodes n) step ≡ Ok (node_state next, o) → fresh ≡ with_node_parts p n next o.sends → e ≡ entry event (named_incarnation ((world_state p).nodes n) event) o → after_node (world_state p) event n (node_rule ((world_state p).nodes n) step) ≡ Ok (world_state fresh, e)
 node_done p event n step next o fresh e world number done fresh_is e_is =
     let bounds = within_is p.shape.nodes n number in
     let least : 1 ≤ n = bounds.0 in
     let most : n ≤ length p.nodes = omega (arith, bounds.1, world.nodes_there) in
-    let after : (recorded (with_node (world_state p) n (node_state next)) event o).0 ≡ world_state fresh = node_put p n next event o least most ∙ ap world_state (sym fresh_is) in
+    let after : (recorded (with_node (world_state p) n (node_state next)) event (named_incarnation ((world_state p).nodes n) event) o).0 ≡ world_state fresh = node_put p n next event (named_incarnation ((world_state p).nodes n) event) o least most ∙ ap world_state (sym fresh_is) in
     ap (λ (r : Result (NodeState × Outcome) StepError). after_node (world_state p) event n r) done ∙ (λ i. Ok (after i, sym e_is i))
 
-pub server_done : (p : WorldParts) (event : Event) (file : ℕ) (step : ServerEvent) (next : ServerParts) (o : Outcome) (fresh : WorldParts) (e : Entry) → IsWorld p → is_within p.shape.files file ≡ true → server_rule ((world_state p).servers file) step ≡ Ok (server_state next, o) → fresh ≡ with_server_parts p file next o.sends → e ≡ entry event o → after_server (world_state p) event file (server_rule ((world_state p).servers file) step) ≡ Ok (world_state fresh, e)
+pub server_done : (p : WorldParts) (event : Event) (file : ℕ) (step : ServerEvent) (next : ServerParts) (o : Outcome) (fresh : WorldParts) (e : Entry) → IsWorld p → is_within p.shape.files file ≡ true → server_rule ((world_state p).servers file) step ≡ Ok (server_state next, o) → fresh ≡ with_server_parts p file next o.sends → e ≡ entry event 0 o → after_server (world_state p) event file (server_rule ((world_state p).servers file) step) ≡ Ok (world_state fresh, e)
 server_done p event file step next o fresh e world number done fresh_is e_is =
     let bounds = within_is p.shape.files file number in
     let least : 1 ≤ file = bounds.0 in
     let most : file ≤ length p.servers = omega (arith, bounds.1, world.servers_there) in
-    let after : (recorded (with_server (world_state p) file (server_state next)) event o).0 ≡ world_state fresh = server_put p file next event o least most ∙ ap world_state (sym fresh_is) in
+    let after : (recorded (with_server (world_state p) file (server_state next)) event 0 o).0 ≡ world_state fresh = server_put p file next event o least most ∙ ap world_state (sym fresh_is) in
     ap (λ (r : Result (ServerState × Outcome) StepError). after_server (world_state p) event file r) done ∙ (λ i. Ok (after i, sym e_is i))
 
 -- a world whose nodes and servers are as they began

@@ -61,10 +61,10 @@ unmentioned past e s no_call no_reply holds = record {
 
 -- a step of a server
 module _ (past : List Entry) (w : WorldState) (file : ℕ) (t : ServerState) (event : Event) (o : Outcome) (no_call : o.call ≡ None) (no_reply : o.reply ≡ None) (g : Good past w) where
-  pub server_good : Good (past ++ entry event o ∷ []) (recorded (with_server w file t) event o).0
+  pub server_good : Good (past ++ entry event 0 o ∷ []) (recorded (with_server w file t) event 0 o).0
   server_good =
-      let e = entry event o in
-      let v = (recorded (with_server w file t) event o).0 in
+      let e = entry event 0 o in
+      let v = (recorded (with_server w file t) event 0 o).0 in
       let none : items_at (past ++ e ∷ []) (length past + 1) e.reply ≡ [] = ap (items_at (past ++ e ∷ []) (length past + 1)) no_reply in
       record {
         few = g.few;
@@ -82,15 +82,15 @@ module _ (past : List Entry) (w : WorldState) (file : ℕ) (t : ServerState) (ev
       }
 
 -- a step of a node
-module _ (past : List Entry) (w : WorldState) (n : ℕ) (u : NodeState) (event : Event) (o : Outcome) (g : Good past w) (moves : Moves past (w.nodes n) u (entry event o)) (strange : has_node w n ≡ false → (u.pending ≡ []) × IsSilent (w.nodes n) u o.reply) where
+module _ (past : List Entry) (w : WorldState) (n : ℕ) (u : NodeState) (event : Event) (incarnation : ℕ) (o : Outcome) (g : Good past w) (moves : Moves past (w.nodes n) u (entry event incarnation o)) (strange : has_node w n ≡ false → (u.pending ≡ []) × IsSilent (w.nodes n) u o.reply) where
   abbrev before : NodeState
   before = w.nodes n
 
   abbrev made : Entry
-  made = entry event o
+  made = entry event incarnation o
 
   abbrev later : WorldState
-  later = (recorded (with_node w n u) event o).0
+  later = (recorded (with_node w n u) event incarnation o).0
 
   -- each node is this one or another
   at_each : (P : NodeState → ℕ → Type 0) → P u n → ((m : ℕ) → (m ≡ n → ⊥) → P (w.nodes m) m) → (m : ℕ) → P (later.nodes m) m
@@ -160,7 +160,7 @@ module _ (past : List Entry) (w : WorldState) (n : ℕ) (u : NodeState) (event :
         | inr silent ↦ subst P (sym silent.no_reply) (sym (union_stays silent.table))
       ]
 
-  pub node_good : Good (past ++ entry event o ∷ []) (recorded (with_node w n u) event o).0
+  pub node_good : Good (past ++ entry event incarnation o ∷ []) (recorded (with_node w n u) event incarnation o).0
   node_good = record {
     few = g.few;
     named = all_named;

@@ -6,7 +6,7 @@ use Rattle.messages.specs.declared.refusal.Refused.TheVariants.{Stranger, Journa
 use Rattle.messages.specs.Refusals.{refused_by}
 use Rattle.messages.specs.declared.message.Message.{Message}
 use Rattle.messages.specs.declared.event.Event.{Event}
-use Rattle.messages.specs.declared.event.Event.TheVariants.{Call, Deliver}
+use Rattle.messages.specs.declared.event.Event.TheVariants.{Call, Deliver, Retry, Resend}
 use Rattle.messages.specs.declared.outcome.Outcome.{Outcome}
 use Rattle.messages.specs.declared.entry.Entry.{Entry}
 use Rattle.messages.specs.declared.actor.Actor.{Actor}
@@ -26,17 +26,24 @@ abbrev pub has_actor : WorldState → Actor → Bool
 has_actor w (ANode n) = has_node w n
 has_actor w (AServer file) = has_file w file
 
--- the event names a node, a process and a file of the shape, or a message that was sent to one
+-- the event names nodes, processes and files of the shape, or a message that was sent to one of its actors
 abbrev pub is_known : WorldState → Event → Bool
 is_known w (Call n pid op) = has_node w n && (is_pid pid && is_in_shape w.shape op)
 is_known w (Deliver m) = has_actor w (addressee m) && is_among w.sent m
+is_known w (Retry n pid) = has_node w n && is_pid pid
+is_known w (Resend file) = has_file w file
 
-abbrev pub entry : Event → Outcome → Entry
-entry event o = record { event = event; incarnation = 0; call = o.call; reply = o.reply; sends = o.sends }
+-- the incarnation that the entry of a node's event names, 0 for none: a retry is of the live one
+abbrev pub named_incarnation : NodeState → Event → ℕ
+named_incarnation s (Retry n pid) = s.incarnation
+named_incarnation s _ = 0
+
+abbrev pub entry : Event → ℕ → Outcome → Entry
+entry event incarnation o = record { event = event; incarnation = incarnation; call = o.call; reply = o.reply; sends = o.sends }
 
 -- one more entry, with these messages
-abbrev pub recorded : WorldState → Event → Outcome → WorldState × Entry
-recorded w event o = (record w { sent = w.sent ++ o.sends; length = w.length + 1 }, entry event o)
+abbrev pub recorded : WorldState → Event → ℕ → Outcome → WorldState × Entry
+recorded w event incarnation o = (record w { sent = w.sent ++ o.sends; length = w.length + 1 }, entry event incarnation o)
 
 abbrev pub with_node : WorldState → ℕ → NodeState → WorldState
 with_node w n state = record w { nodes = λ m. if m == n then state else w.nodes m }
@@ -45,11 +52,11 @@ abbrev pub with_server : WorldState → ℕ → ServerState → WorldState
 with_server w file state = record w { servers = λ f. if f == file then state else w.servers f }
 
 abbrev pub after_node : WorldState → Event → ℕ → Result (NodeState × Outcome) StepError → Result (WorldState × Entry) Refused
-after_node w event n (Ok done) = Ok (recorded (with_node w n done.0) event done.1)
+after_node w event n (Ok done) = Ok (recorded (with_node w n done.0) event (named_incarnation (w.nodes n) event) done.1)
 after_node w event n (Err e) = Err (refused_by e)
 
 abbrev pub after_server : WorldState → Event → ℕ → Result (ServerState × Outcome) StepError → Result (WorldState × Entry) Refused
-after_server w event file (Ok done) = Ok (recorded (with_server w file done.0) event done.1)
+after_server w event file (Ok done) = Ok (recorded (with_server w file done.0) event 0 done.1)
 after_server w event file (Err e) = Err (refused_by e)
 
 abbrev pub delivered : WorldState → Message → Actor → Result (WorldState × Entry) Refused
@@ -60,6 +67,8 @@ delivered w m (AServer file) = after_server w (Deliver m) file (server_rule (w.s
 abbrev pub taken : WorldState → Event → Result (WorldState × Entry) Refused
 taken w (Call n pid op) = after_node w (Call n pid op) n (node_rule (w.nodes n) (node.Call pid op))
 taken w (Deliver m) = delivered w m (addressee m)
+taken w (Retry n pid) = after_node w (Retry n pid) n (node_rule (w.nodes n) (node.Retry pid))
+taken w (Resend file) = after_server w (Resend file) file (server_rule (w.servers file) server.Resend)
 
 -- the world after the event and the entry that it makes, or the first of its refusals: a full journal, a stranger, and then those of the step
 abbrev pub next : WorldState → Event → Result (WorldState × Entry) Refused

@@ -3,11 +3,13 @@ use Rattle.std.specs.Prelude.{◌≡◌, ℕ, ◌+◌, ◌≤◌, ◌==◌, if�
 use Rattle.messages.specs.Shapes.{ShapeFields}
 use Rattle.messages.specs.declared.message.Message.{Message}
 use Rattle.messages.specs.declared.event.Event.{Event}
-use Rattle.messages.specs.declared.event.Event.TheVariants.{Call, Deliver}
+use Rattle.messages.specs.declared.event.Event.TheVariants.{Call, Deliver, Retry, Resend}
 use Rattle.node_core.specs.declared.event.NodeEvent.{NodeEvent}
 use Rattle.node_core.specs.declared.event.NodeEvent.TheVariants as own
 use Rattle.node_core.specs.Parts.{NodeParts, node_state}
 use Rattle.node_core.specs.State.{NodeState, first_node}
+use Rattle.token_server.specs.declared.event.ServerEvent.{ServerEvent}
+use Rattle.token_server.specs.declared.event.ServerEvent.TheVariants as served
 use Rattle.token_server.specs.Parts.{ServerParts, server_state}
 use Rattle.token_server.specs.State.{ServerState, first_server}
 use Rattle.cluster_core.specs.World.{WorldState, journal_limit}
@@ -48,3 +50,11 @@ pub record IsWorld (p : WorldParts) : Type 0 where
 abbrev pub IsStepOf : Event → ℕ → NodeEvent → Type 0
 IsStepOf (Call n pid op) node step = (n ≡ node) × (step ≡ own.Call pid op)
 IsStepOf (Deliver m) node step = step ≡ own.Deliver m
+IsStepOf (Retry n pid) node step = (n ≡ node) × (step ≡ own.Retry pid)
+IsStepOf (Resend file) node step = ⊥
+
+-- and what a server does at an event
+abbrev pub IsServerStepOf : Event → ServerEvent → Type 0
+IsServerStepOf (Deliver m) step = step ≡ served.Deliver m
+IsServerStepOf (Resend file) step = step ≡ served.Resend
+IsServerStepOf _ step = ⊥

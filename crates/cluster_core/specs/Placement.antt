@@ -4,7 +4,7 @@ use Rattle.model.specs.declared.call.CallId.{CallId}
 use Rattle.model.specs.declared.op.Op.{Op}
 use Rattle.model.specs.declared.reply.Reply.{Reply}
 use Rattle.messages.specs.declared.event.Event.{Event}
-use Rattle.messages.specs.declared.event.Event.TheVariants.{Call, Deliver}
+use Rattle.messages.specs.declared.event.Event.TheVariants.{Call}
 use Rattle.messages.specs.declared.entry.Entry.{Entry}
 use Rattle.messages.specs.Messages.{same_call}
 use Rattle.cluster_core.specs.declared.item.Item.{Item}
@@ -18,7 +18,7 @@ is_named id (Some other) = same_call id other
 -- the process and what it asks for, where the event is a call
 abbrev pub called_by : Event → Option (ℕ × Op) → Option (ℕ × Op)
 called_by (Call node pid op) otherwise = Some (pid, op)
-called_by (Deliver m) otherwise = otherwise
+called_by _ otherwise = otherwise
 
 -- the process that makes the call of that name, and what it asks for
 abbrev pub find_call : List Entry → CallId → Option (ℕ × Op)

@@ -101,6 +101,62 @@ fn knows_only_messages_that_were_sent(rt: HostRuntime) -> Result<(), Fail> {
     Ok(())
 }
 
+// Goes on from what the event gives; whether it names no call, answers nothing, and sends just that
+// message.
+fn repeats(
+    world: &mut World,
+    alloc: Global,
+    event: Event,
+    incarnation: u16,
+    message: Option<Message>,
+) -> Result<bool, Refused> {
+    let entry = world.step(alloc, event)?;
+    let quiet = entry.call().is_none() && entry.reply().is_none();
+    let named = entry.incarnation() == incarnation && entry.event().same(&event);
+    match entry.sends() {
+        [sent] => Ok(quiet && named && Some(*sent) == message),
+        _ => Ok(false),
+    }
+}
+
+#[test]
+fn asks_again_and_is_granted_again(rt: HostRuntime) -> Result<(), Fail> {
+    let alloc = rt.alloc();
+    let mut world = begins(alloc)?;
+    assert!(rt; answers(&mut world, alloc, Op::Spawn, Reply::Done)?);
+    assert!(rt; answers(&mut world, alloc, OPEN, Reply::Fd(0))?);
+    let request = sent(&mut world, alloc, call(1, SET))?;
+    let retry = Event::Retry { node: 1, pid: 1 };
+    assert!(rt; repeats(&mut world, alloc, retry, 1, request)?);
+    let grant = delivered(&mut world, alloc, request)?;
+    let resend = Event::Resend { file: 1 };
+    assert!(rt; repeats(&mut world, alloc, resend, 0, grant)?);
+    let taken = delivered(&mut world, alloc, grant)?;
+    assert!(rt; taken.is_some());
+    assert_eq!(rt; sent(&mut world, alloc, retry)?, None);
+    Ok(())
+}
+
+// Why the event is refused, if it is.
+fn refusal(world: &mut World, alloc: Global, event: Event) -> Option<Refused> {
+    world.step(alloc, event).err()
+}
+
+#[test]
+fn refuses_retries_and_resends_of_strangers(rt: HostRuntime) -> Result<(), Fail> {
+    let alloc = rt.alloc();
+    let mut world = begins(alloc)?;
+    for (node, pid) in [(2, 1), (0, 1), (1, 0), (1, 257)] {
+        let refused = refusal(&mut world, alloc, Event::Retry { node, pid });
+        assert_eq!(rt; refused, Some(Refused::Stranger));
+    }
+    for file in [0, 2] {
+        let refused = refusal(&mut world, alloc, Event::Resend { file });
+        assert_eq!(rt; refused, Some(Refused::Stranger));
+    }
+    Ok(())
+}
+
 #[test]
 fn a_run_is_its_events(rt: HostRuntime) -> Result<(), Fail> {
     let alloc = rt.alloc();

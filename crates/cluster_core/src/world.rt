@@ -3,6 +3,7 @@ ghost use Rattle.std.specs.Prelude.{◌≡◌, ◌≢◌, ◌≤◌, ◌<◌, tr
 ghost use Rattle.messages.specs.declared.refusal.Refused.TheVariants.{NoMemory};
 ghost use Rattle.messages.specs.declared.refusal.StepError.TheVariants.{NoMemory as OutOfMemory};
 ghost use Rattle.messages.specs.Messages.{is_within};
+ghost use Rattle.messages.specs.Entries.{NamesItsIncarnation};
 ghost use Rattle.messages.specs.Shapes.{IsShape, served_nodes, most_files};
 ghost use Rattle.model.specs.Limits.{IsNumber};
 ghost use Rattle.node_core.specs.Calls.{is_pid, is_in_shape};
@@ -11,8 +12,8 @@ ghost use Rattle.node_core.specs.Parts.{node_state};
 ghost use Rattle.token_server.specs.Server.{server_rule};
 ghost use Rattle.token_server.specs.Parts.{server_state};
 ghost use Rattle.cluster_core.specs.World.{journal_limit, first_world};
-ghost use Rattle.cluster_core.specs.Next.{is_known, has_actor, after_node, after_server, taken, next};
-ghost use Rattle.cluster_core.specs.Parts.{world_state, IsStepOf, IsRest};
+ghost use Rattle.cluster_core.specs.Next.{is_known, has_actor, named_incarnation, after_node, after_server, taken, next};
+ghost use Rattle.cluster_core.specs.Parts.{world_state, IsStepOf, IsServerStepOf, IsRest};
 ghost use Rattle.cluster_core.specs.Runs.{Leads};
 ghost use Rattle.node_core.specs.State.{first_node};
 ghost use Rattle.token_server.specs.State.{first_server};
@@ -156,6 +157,30 @@ impl World {
             Event::Deliver(message) => {
                 self.has_actor(&message.addressee()) && self.sent.contains(message)
             }
+            Event::Retry { node, pid } => {
+                is_number(self.shape.nodes() as u16, *node as u16) && is_number(256, *pid)
+            }
+            Event::Resend { file } => is_number(self.shape.files(), *file),
+        }
+    }
+
+    // The node with the number.
+    fn node(&self, node: u8) -> &Node
+        requires { is_within self.now.shape.nodes node ≡ true }
+        ensures { node_state result.now ≡ (world_state self.now).nodes node }
+    {
+        &self.nodes[node as usize - 1]
+    }
+
+    // The incarnation that the entry of a node's event names, or 0.
+    fn named_incarnation(&self, event: &Event, node: u8) -> u16
+        requires { is_within self.now.shape.nodes node ≡ true }
+        ensures value { result ≡ named_incarnation ((world_state self.now).nodes node) event.now }
+        ensures incarnated { NamesItsIncarnation event.now result }
+    {
+        match event {
+            Event::Retry { .. } => self.node(node).incarnation(),
+            _ => 0,
         }
     }
 
@@ -202,26 +227,34 @@ impl World {
         ensures err { IfErr result (λ e. e ≢ NoMemory → after_node (world_state self.old) event.now node (node_rule ((world_state self.old).nodes node) step.now) ≡ Err e) }
         ensures unchanged { OnErr result (self.new ≡ self.old) }
     {
+        let incarnation = self.named_incarnation(event, node);
         let (next, outcome) = self.node_step(alloc, node, step)?;
         self.sent.extend(outcome.sends.as_slice())?;
         replace(&mut self.nodes, node as usize - 1, next);
         self.length += 1;
-        Ok(Entry::new(*event, outcome))
+        Ok(Entry::at_node(*event, incarnation, outcome))
     }
 
-    // The server takes a step at a message.
-    fn step_server(&mut self, alloc: Global, message: &Message, file: u16) -> Result<Entry, Refused>
+    // The server takes a step at its event.
+    fn step_server(
+        &mut self,
+        alloc: Global,
+        event: &Event,
+        file: u16,
+        step: &ServerEvent,
+    ) -> Result<Entry, Refused>
         requires room { self.old.length < journal_limit }
         requires file { is_within self.old.shape.files file ≡ true }
-        ensures ok { IfOk result (λ entry. after_server (world_state self.old) (Event.Deliver message.now) file (server_rule ((world_state self.old).servers file) (ServerEvent.Deliver message.now)) ≡ Ok (world_state self.new, entry)) }
-        ensures err { IfErr result (λ e. e ≢ NoMemory → after_server (world_state self.old) (Event.Deliver message.now) file (server_rule ((world_state self.old).servers file) (ServerEvent.Deliver message.now)) ≡ Err e) }
+        requires same_event { IsServerStepOf event.now step.now }
+        ensures ok { IfOk result (λ entry. after_server (world_state self.old) event.now file (server_rule ((world_state self.old).servers file) step.now) ≡ Ok (world_state self.new, entry)) }
+        ensures err { IfErr result (λ e. e ≢ NoMemory → after_server (world_state self.old) event.now file (server_rule ((world_state self.old).servers file) step.now) ≡ Err e) }
         ensures unchanged { OnErr result (self.new ≡ self.old) }
     {
-        let (next, outcome) = self.server_step(alloc, file, &ServerEvent::Deliver(*message))?;
+        let (next, outcome) = self.server_step(alloc, file, step)?;
         self.sent.extend(outcome.sends.as_slice())?;
         replace(&mut self.servers, file as usize - 1, next);
         self.length += 1;
-        Ok(Entry::new(Event::Deliver(*message), outcome))
+        Ok(Entry::new(*event, outcome))
     }
 
     // The actor that takes the event does its step.
@@ -241,8 +274,14 @@ impl World {
                 Actor::Node(node) => {
                     self.step_node(alloc, event, node, &NodeEvent::Deliver(*message))
                 }
-                Actor::Server(file) => self.step_server(alloc, message, file),
+                Actor::Server(file) => {
+                    self.step_server(alloc, event, file, &ServerEvent::Deliver(*message))
+                }
             },
+            Event::Retry { node, pid } => {
+                self.step_node(alloc, event, *node, &NodeEvent::Retry { pid: *pid })
+            }
+            Event::Resend { file } => self.step_server(alloc, event, *file, &ServerEvent::Resend),
         }
     }
 

@@ -1,11 +1,11 @@
 -- Entries of the journal.
-use Rattle.std.specs.Prelude.{◌≡◌, ℕ, List, Option, Some, None}
+use Rattle.std.specs.Prelude.{◌≡◌, ◌≤◌, ℕ, List, Option, Some, None}
 use Rattle.model.specs.declared.call.CallId.{CallId}
 use Rattle.model.specs.declared.reply.Reply.{Reply}
 use Rattle.messages.specs.declared.message.Message.{Message}
 use Rattle.messages.specs.declared.outcome.Outcome.{Outcome}
 use Rattle.messages.specs.declared.event.Event.{Event}
-use Rattle.messages.specs.declared.event.Event.TheVariants.{Call}
+use Rattle.messages.specs.declared.event.Event.TheVariants.{Call, Retry}
 
 pub record EntryFields : Type 0 where
   pub event : Event
@@ -20,10 +20,15 @@ NamesItsCall (Call node pid op) None = ⊥
 NamesItsCall (Call node pid op) (Some id) = id.node ≡ node
 NamesItsCall _ call = call ≡ None
 
+-- a retry has the incarnation of its node, of which the first is 1; so far nothing else has one
+abbrev pub NamesItsIncarnation : Event → ℕ → Type 0
+NamesItsIncarnation (Retry node pid) incarnation = 1 ≤ incarnation
+NamesItsIncarnation _ incarnation = incarnation ≡ 0
+
 pub record IsEntry (e : EntryFields) : Type 0 where
   pub named : NamesItsCall e.event e.call
-  pub no_incarnation : e.incarnation ≡ 0
+  pub incarnated : NamesItsIncarnation e.event e.incarnation
 
--- the entry of an event with this outcome; so far no event names an incarnation
-abbrev pub entry_of : Event → Outcome → EntryFields
-entry_of event outcome = record { event = event; incarnation = 0; call = outcome.call; reply = outcome.reply; sends = outcome.sends }
+-- the entry of an event with this outcome, and the incarnation that it names, 0 for none
+abbrev pub entry_of : Event → ℕ → Outcome → EntryFields
+entry_of event incarnation outcome = record { event = event; incarnation = incarnation; call = outcome.call; reply = outcome.reply; sends = outcome.sends }

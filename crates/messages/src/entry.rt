@@ -1,6 +1,6 @@
 //! Entries of the journal.
 ghost use Rattle.std.specs.Prelude.{◌≡◌, ◌↔◌, IsTrue};
-ghost use Rattle.messages.specs.Entries.{NamesItsCall, entry_of};
+ghost use Rattle.messages.specs.Entries.{NamesItsCall, NamesItsIncarnation, entry_of};
 
 use crate::event::Event;
 use crate::items::Items;
@@ -11,7 +11,8 @@ use model::reply::Reply;
 use std::marker::Model;
 
 /// One entry of the journal: an event, and what it gave. `call` is there exactly where the event is
-/// a call, and names its node; `incarnation` is that of the node where an event names one, else 0.
+/// a call, and names its node; `incarnation` is that of the node where the event is a retry, at least
+/// 1, else 0.
 #[derive(Drop)]
 pub struct Entry {
     event: Event,
@@ -32,14 +33,25 @@ impl Model for Entry {
 }
 
 impl Entry {
-    /// The entry of an event that gave this outcome, where no event names an incarnation.
+    /// The entry of an event that names no incarnation and gave this outcome.
     pub fn new(event: Event, outcome: Outcome) -> Entry
-        requires { NamesItsCall event outcome.call }
-        ensures { result ≡ entry_of event outcome }
+        requires named { NamesItsCall event outcome.call }
+        requires no_incarnation { NamesItsIncarnation event 0 }
+        ensures { result ≡ entry_of event 0 outcome }
+    {
+        Entry::at_node(event, 0, outcome)
+    }
+
+    /// The entry of an event that gave this outcome, with the live incarnation of its node where it
+    /// names one, from 1, else 0.
+    pub fn at_node(event: Event, incarnation: u16, outcome: Outcome) -> Entry
+        requires named { NamesItsCall event outcome.call }
+        requires incarnated { NamesItsIncarnation event incarnation }
+        ensures { result ≡ entry_of event incarnation outcome }
     {
         Entry {
             event,
-            incarnation: 0,
+            incarnation,
             call: outcome.call,
             reply: outcome.reply,
             sends: outcome.sends,
@@ -52,9 +64,10 @@ impl Entry {
         self.event
     }
 
-    /// The incarnation of the node where the event names one, else 0.
+    /// The incarnation of the node where the event names one, at least 1; else 0.
     pub fn incarnation(&self) -> u16
-        ensures { result ≡ self.now.incarnation }
+        ensures value { result ≡ self.now.incarnation }
+        ensures incarnated { NamesItsIncarnation self.now.event result }
     {
         self.incarnation
     }
@@ -166,6 +179,18 @@ mod tests {
         };
         assert!(rt; entry.event().same(&event));
         Ok(())
+    }
+
+    #[test]
+    fn of_a_retry_have_an_incarnation(rt: HostRuntime) {
+        let event = Event::Retry { node: 1, pid: 4 };
+        let outcome = Outcome::sending(Items::new(rt.alloc()));
+        let entry = Entry::at_node(event, 7, outcome);
+        assert_eq!(rt; entry.incarnation(), 7);
+        assert!(rt; entry.event().same(&event));
+        assert_eq!(rt; entry.call(), None);
+        assert_eq!(rt; entry.reply(), None);
+        assert!(rt; entry.sends().is_empty());
     }
 
     #[test]

@@ -11,6 +11,10 @@ pub enum Event {
     Call { node: u8, pid: u16, op: Op },
     /// A message that was sent comes to its addressee.
     Deliver(Message),
+    /// The open call of a process is tried again.
+    Retry { node: u8, pid: u16 },
+    /// The token server of a file sends again what has no answer.
+    Resend { file: u16 },
 }
 
 impl Event {
@@ -19,5 +23,21 @@ impl Event {
         ensures { IsTrue result ↔ (self.now ≡ other.now) }
     {
         self == other
+    }
+}
+
+#[cfg(test)]
+mod tests {
+    use super::*;
+
+    #[test]
+    fn are_one_by_value(rt: HostRuntime) {
+        let retry = Event::Retry { node: 1, pid: 4 };
+        assert!(rt; retry.same(&Event::Retry { node: 1, pid: 4 }));
+        assert!(rt; !retry.same(&Event::Retry { node: 1, pid: 5 }));
+        let resend = Event::Resend { file: 4 };
+        assert!(rt; resend.same(&Event::Resend { file: 4 }));
+        assert!(rt; !resend.same(&Event::Resend { file: 1 }));
+        assert!(rt; !resend.same(&retry));
     }
 }

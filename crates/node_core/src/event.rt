@@ -9,4 +9,6 @@ pub enum NodeEvent {
     Call { pid: u16, op: Op },
     /// A message comes.
     Deliver(Message),
+    /// The open call of a process is tried again.
+    Retry { pid: u16 },
 }

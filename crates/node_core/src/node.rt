@@ -11,6 +11,7 @@ ghost use Rattle.node_core.specs.State.{first_node, process, id_of, open_call, o
 ghost use Rattle.node_core.specs.Try.{settled, requested, unblocked, tried, tried_if};
 ghost use Rattle.node_core.specs.Calls.{is_pid, is_in_shape, lock_call, called, after_call, call_rule};
 ghost use Rattle.node_core.specs.Commands.{remembered, in_order, after_grant, granted, delivered, is_node, deliver_rule};
+ghost use Rattle.node_core.specs.Retries.{retry_rule};
 ghost use Rattle.node_core.specs.Node.{node_rule};
 ghost use Rattle.node_core.specs.Files.{state_of};
 ghost use Rattle.node_core.specs.Parts.{node_state, effect_of, tabled, spawned, opened, is_for, IsOwn, IsSpan, IsCallOf, IsNewNumber};
@@ -189,6 +190,15 @@ impl Node {
         ensures own { IfSome result (IsCallOf (node_state self.now)) }
     {
         self.pending.get(number)
+    }
+
+    // The open call of the process.
+    #[tactic(auto, unfolding(crate::specs::Parts::node_state))]
+    fn open_call_of(&self, pid: u16) -> Option<OpenCall>
+        ensures value { result ≡ open_call_of (node_state self.now) pid }
+        ensures own { IfSome result (IsCallOf (node_state self.now)) }
+    {
+        self.pending.call_of(pid)
     }
 
     // The call takes the next number.
@@ -678,6 +688,19 @@ impl Node {
         Ok(effect.outcome(None))
     }
 
+    // The open call of the process is tried again, with its own number.
+    fn retry(&mut self, alloc: Global, pid: u16) -> Result<Outcome, StepError>
+        ensures ok { IfOk result (λ outcome. retry_rule (node_state self.old) pid ≡ Ok (node_state self.new, outcome)) }
+        ensures err { IfErr result (λ error. error ≢ StepError.NoMemory → retry_rule (node_state self.old) pid ≡ Err error) }
+    {
+        if !is_pid(pid) {
+            return Err(StepError::Stranger);
+        }
+        let waiting = self.open_call_of(pid);
+        let effect = self.try_if(alloc, waiting)?;
+        Ok(effect.outcome(None))
+    }
+
     /// What the node does at an event, and what that gives. The node itself stays as it is.
     ///
     /// # Errors
@@ -692,6 +715,7 @@ impl Node {
         let outcome = match event {
             NodeEvent::Call { pid, op } => next.take_call(alloc, *pid, op)?,
             NodeEvent::Deliver(message) => next.take_message(alloc, message)?,
+            NodeEvent::Retry { pid } => next.retry(alloc, *pid)?,
         };
         Ok((next, outcome))
     }

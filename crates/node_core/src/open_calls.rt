@@ -54,6 +54,13 @@ impl OpenCalls {
         self.calls.get(&number).copied()
     }
 
+    /// The open call of the process.
+    pub fn call_of(&self, pid: u16) -> Option<OpenCall>
+        ensures { result ≡ find (λ c. c.pid == pid) self.now }
+    {
+        self.calls.values().find(|call| call.pid == pid).copied()
+    }
+
     /// Whether the process has an open call.
     pub fn has_call_of(&self, pid: u16) -> bool
         ensures { result ≡ is_some (find (λ c. c.pid == pid) self.now) }

@@ -9,7 +9,7 @@ use Rattle.model.specs.declared.call.CallId.{CallId}
 use Rattle.model.specs.declared.op.Op.{Op}
 use Rattle.model.specs.contracts.call.CallIdPartialEq.TheImpl as derived
 use Rattle.messages.specs.declared.event.Event.{Event}
-use Rattle.messages.specs.declared.event.Event.TheVariants.{Call, Deliver}
+use Rattle.messages.specs.declared.event.Event.TheVariants.{Call, Deliver, Retry, Resend}
 use Rattle.messages.specs.declared.entry.Entry.{Entry}
 use Rattle.messages.specs.Messages.{same_call}
 use Rattle.cluster_core.specs.declared.item.Item.{Item}
@@ -35,6 +35,8 @@ call_in e id = find_call (e ∷ []) id
 found_on : (b : Bool) (event : Event) (x y z : Option (ℕ × Op)) → y ≡ option_or x z → cond b (called_by event y) y ≡ option_or (cond b (called_by event x) x) z
 found_on true (Call node pid op) x y z h = refl
 found_on true (Deliver m) x y z h = h
+found_on true (Retry node pid) x y z h = h
+found_on true (Resend file) x y z h = h
 found_on false event x y z h = h
 
 find_call-push : (es : List Entry) (e : Entry) (id : CallId) → find_call (es ++ e ∷ []) id ≡ option_or (find_call es id) (call_in e id)

@@ -12,7 +12,7 @@ use Rattle.messages.specs.declared.refusal.Refused.{Refused}
 use Rattle.messages.specs.declared.refusal.Refused.TheVariants.{Stranger, JournalFull}
 use Rattle.messages.specs.Refusals.{refused_by}
 use Rattle.messages.specs.declared.event.Event.{Event}
-use Rattle.messages.specs.declared.event.Event.TheVariants.{Call, Deliver}
+use Rattle.messages.specs.declared.event.Event.TheVariants.{Call, Deliver, Retry, Resend}
 use Rattle.messages.specs.declared.entry.Entry.{Entry}
 use Rattle.node_core.specs.declared.event.NodeEvent.TheVariants as node
 use Rattle.node_core.specs.State.{NodeState}
@@ -21,7 +21,7 @@ use Rattle.token_server.specs.declared.event.ServerEvent.TheVariants as server
 use Rattle.token_server.specs.State.{ServerState}
 use Rattle.token_server.specs.Server.{server_rule}
 use Rattle.cluster_core.specs.World.{WorldState, first_world, journal_limit}
-use Rattle.cluster_core.specs.Next.{next, is_known, taken, delivered, after_node, after_server, recorded, with_node, with_server}
+use Rattle.cluster_core.specs.Next.{next, is_known, taken, delivered, after_node, after_server, recorded, named_incarnation, with_node, with_server}
 use Rattle.cluster_core.specs.Runs.{Leads, IsRun}
 
 -- a step that is not refused makes one entry more
@@ -38,11 +38,11 @@ made-grows : (n : ℕ) (made : WorldState × Entry) → made.0.length ≡ n + 1 
 made-grows n made of other is = ap (λ (m : WorldState × Entry). m.0.length) (sym (made_is made other is)) ∙ of
 
 after_node-grows : (w : WorldState) (event : Event) (n : ℕ) (r : Result (NodeState × Outcome) StepError) → GrowsBy w.length (after_node w event n r)
-after_node-grows w event n (Ok done) = made-grows w.length (recorded (with_node w n done.0) event done.1) refl
+after_node-grows w event n (Ok done) = made-grows w.length (recorded (with_node w n done.0) event (named_incarnation (w.nodes n) event) done.1) refl
 after_node-grows w event n (Err e) = refused-grows w.length (refused_by e)
 
 after_server-grows : (w : WorldState) (event : Event) (file : ℕ) (r : Result (ServerState × Outcome) StepError) → GrowsBy w.length (after_server w event file r)
-after_server-grows w event file (Ok done) = made-grows w.length (recorded (with_server w file done.0) event done.1) refl
+after_server-grows w event file (Ok done) = made-grows w.length (recorded (with_server w file done.0) event 0 done.1) refl
 after_server-grows w event file (Err e) = refused-grows w.length (refused_by e)
 
 delivered-grows : (w : WorldState) (m : Message) (actor : Actor) → GrowsBy w.length (delivered w m actor)
@@ -52,6 +52,8 @@ delivered-grows w m (AServer file) = after_server-grows w (Deliver m) file (serv
 taken-grows : (w : WorldState) (event : Event) → GrowsBy w.length (taken w event)
 taken-grows w (Call n pid op) = after_node-grows w (Call n pid op) n (node_rule (w.nodes n) (node.Call pid op))
 taken-grows w (Deliver m) = delivered-grows w m (addressee m)
+taken-grows w (Retry n pid) = after_node-grows w (Retry n pid) n (node_rule (w.nodes n) (node.Retry pid))
+taken-grows w (Resend file) = after_server-grows w (Resend file) file (server_rule (w.servers file) server.Resend)
 
 -- and comes only where there is room
 let_through : {A E : Type 0} (full known : Bool) (x : Result A E) (p : A) (a b : E) → ◌≡◌ {A = Result A E} (if full then Err a else (if not known then Err b else x)) (Ok p) → (full ≡ false) × (x ≡ Ok p)

@@ -1,3 +1,4 @@
 pub mod ClientLaws
 pub mod HeldLaws
 pub mod GrantLaws
+pub mod ResendLaws

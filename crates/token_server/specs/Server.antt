@@ -12,9 +12,10 @@ use Rattle.messages.specs.declared.actor.Actor.TheVariants.{Node as ANode, Serve
 use Rattle.messages.specs.Messages.{addressee, call_of, is_within, sending}
 use Rattle.token_server.specs.declared.held.Held.{Held}
 use Rattle.token_server.specs.declared.event.ServerEvent.{ServerEvent}
-use Rattle.token_server.specs.declared.event.ServerEvent.TheVariants.{Deliver}
+use Rattle.token_server.specs.declared.event.ServerEvent.TheVariants.{Deliver, Resend}
 use Rattle.token_server.specs.State.{Row, ServerState, empty_row, with_row, is_of_call, unless, forgotten}
 use Rattle.token_server.specs.Serve.{serve}
+use Rattle.token_server.specs.Resends.{resend_rule}
 
 abbrev pub with_a_row : ServerState → CallId → Option Row → ServerState
 with_a_row s call None = with_row s call.node (Some (empty_row call.incarnation))
@@ -77,3 +78,4 @@ then_serve s (Ok (Some changed)) = as_outcome (serve changed)
 -- what a server does at an event, or why it refuses it
 abbrev pub server_rule : ServerState → ServerEvent → Result (ServerState × Outcome) StepError
 server_rule s (Deliver m) = then_serve s (change s m)
+server_rule s Resend = resend_rule s

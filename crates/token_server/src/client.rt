@@ -4,6 +4,7 @@ ghost use Rattle.std.specs.Option.{option_map};
 ghost use Rattle.messages.specs.Messages.{greatest_number};
 ghost use Rattle.token_server.specs.State.{empty_row, row_above};
 ghost use Rattle.token_server.specs.Parts.{row_seen, answered, given, SameKnown};
+ghost use Rattle.token_server.specs.Resends.{outstanding_of};
 
 use crate::row::Row;
 use intervals::span::Span;
@@ -54,6 +55,16 @@ impl Client {
     {
         if let Some(row) = &mut self.row {
             row.answer();
+        }
+    }
+
+    /// The command to it that has no answer yet.
+    pub fn outstanding(&self) -> Option<Message>
+        ensures { result ≡ outstanding_of (row_seen self.now.dead self.now.row) }
+    {
+        match &self.row {
+            Some(row) => row.outstanding,
+            None => None,
         }
     }
 

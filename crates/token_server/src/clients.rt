@@ -7,11 +7,13 @@ ghost use Rattle.messages.specs.Messages.{greatest_number};
 ghost use Rattle.token_server.specs.State.{empty_row, row_above};
 ghost use Rattle.token_server.specs.Serve.{row_conflicts, row_conflicts_at};
 ghost use Rattle.token_server.specs.Parts.{row_state, rows_of, deaths_of, answered, given, with_change, SameClients};
+ghost use Rattle.token_server.specs.Resends.{outstanding_to};
 
 use crate::client::Client;
 use crate::row::Row;
 use intervals::span::Span;
 use intervals::span_map::NoMemory;
+use messages::items::Items;
 use messages::message::Message;
 use model::mode::Mode;
 use std::alloc::Global;
@@ -158,6 +160,22 @@ impl Clients {
         ensures len { length self.new ≡ length self.old }
     {
         self.clients[usize::from(node) - 1].answer();
+    }
+
+    /// The commands that have no answer yet, by rising node.
+    ///
+    /// # Errors
+    /// `NoMemory` where a request for memory was refused.
+    pub fn outstanding(&self, alloc: Global) -> Result<Items<Message>, NoMemory>
+        ensures { IfOk result (λ commands. commands ≡ outstanding_to (rows_of self.now) (length self.now)) }
+    {
+        let mut commands = Items::new(alloc);
+        for client in &self.clients {
+            if let Some(command) = client.outstanding() {
+                commands.push(command)?;
+            }
+        }
+        Ok(commands)
     }
 
     /// The next command to the node, which gives it the span in the mode.

@@ -6,4 +6,6 @@ use messages::message::Message;
 pub enum ServerEvent {
     /// A message comes.
     Deliver(Message),
+    /// What has no answer yet is sent again.
+    Resend,
 }

@@ -7,6 +7,7 @@ ghost use Rattle.intervals.specs.Bytes.{largest_around};
 ghost use Rattle.messages.specs.Messages.{greatest_number, addressee, call_of, is_within};
 ghost use Rattle.token_server.specs.State.{first_server, is_of_call, is_up_to, unless, with_row, forgotten};
 ghost use Rattle.token_server.specs.Serve.{admitted, row_conflicts, row_conflicts_at, granted_span, conflicting_node, granted_to, serve};
+ghost use Rattle.token_server.specs.Resends.{outstanding, resend_rule};
 ghost use Rattle.token_server.specs.Server.{server_rule, with_a_row, is_active, enqueued, asked, is_grant, taken_if, delivered, is_server};
 ghost use Rattle.token_server.specs.Parts.{server_state, rows_of, deaths_of, given};
 
@@ -343,6 +344,24 @@ impl Server {
         Ok(Outcome::sending(self.serve(alloc)?))
     }
 
+    // The commands that have no answer yet.
+    fn outstanding(&self, alloc: Global) -> Result<Items<Message>, NoMemory>
+        ensures { IfOk result (λ commands. commands ≡ outstanding (server_state self.now)) }
+    {
+        self.clients.outstanding(alloc)
+    }
+
+    // Sends again what has no answer yet, and then serves.
+    fn resend(&mut self, alloc: Global) -> Result<Outcome, StepError>
+        ensures ok { IfOk result (λ outcome. resend_rule (server_state self.old) ≡ Ok (server_state self.new, outcome)) }
+        ensures err { IfErr result (λ e. e ≢ StepError.NoMemory → resend_rule (server_state self.old) ≡ Err e) }
+    {
+        let mut sends = self.outstanding(alloc)?;
+        let served = self.serve(alloc)?;
+        sends.append(served)?;
+        Ok(Outcome::sending(sends))
+    }
+
     /// What the server does at an event: the server after it, and what it sends.
     ///
     /// # Errors
@@ -354,12 +373,11 @@ impl Server {
         ensures err { IfErr result (λ e. e ≢ StepError.NoMemory → server_rule (server_state self.now) event.now ≡ Err e) }
     {
         let mut next = self.copy()?;
-        match event {
-            ServerEvent::Deliver(message) => {
-                let outcome = next.take(alloc, message)?;
-                Ok((next, outcome))
-            }
-        }
+        let outcome = match event {
+            ServerEvent::Deliver(message) => next.take(alloc, message)?,
+            ServerEvent::Resend => next.resend(alloc)?,
+        };
+        Ok((next, outcome))
     }
 }
 

@@ -51,14 +51,6 @@ fn push_regions(locks: &mut Vec<HeldLock>, file: u16, regions: &[LockInfo]) -> R
 }
 
 impl World {
-    // The node with the number.
-    fn node(&self, node: u8) -> &Node
-        requires { is_within self.now.shape.nodes node ≡ true }
-        ensures { node_state result.now ≡ (world_state self.now).nodes node }
-    {
-        &self.nodes[node as usize - 1]
-    }
-
     // Adds the runs of a node's token for a file.
     fn push_file_tokens(
         &self,

@@ -1,5 +1,5 @@
 //! What a node holds, as lists.
-ghost use Rattle.std.specs.Prelude.{◌≡◌, IfOk};
+ghost use Rattle.std.specs.Prelude.{◌≡◌, ◌≤◌, IfOk};
 ghost use Rattle.model.specs.Locks.{IsOfNode};
 ghost use Rattle.lock_table.specs.Listing.{IsListing};
 ghost use Rattle.token_set.specs.Runs.{ListsRuns};
@@ -16,7 +16,8 @@ impl Node {
     /// The node's incarnation, counted from 1.
     #[tactic(auto, unfolding(crate::specs::Parts::node_state))]
     pub fn incarnation(&self) -> u16
-        ensures { result ≡ (node_state self.now).incarnation }
+        ensures value { result ≡ (node_state self.now).incarnation }
+        ensures counted { 1 ≤ result }
     {
         self.incarnation
     }

@@ -274,6 +274,37 @@ fn a_grant_of_fewer_bytes_leaves_the_call_open(rt: HostRuntime) -> Result<(), Fa
 }
 
 #[test]
+fn a_retry_asks_again_with_its_own_number(rt: HostRuntime) -> Result<(), Fail> {
+    let alloc = rt.alloc();
+    let mut node = two_processes(alloc, Policy::Exact)?;
+    take(&mut node, alloc, set(1, Mode::Write, 0, 10))?;
+    let bytes = Span { lo: 0, hi: 9 };
+    let asked = request(5, Mode::Write, Wanted::new(bytes, bytes));
+    assert!(rt; repeats(&node, alloc, NodeEvent::Retry { pid: 1 }, asked)?);
+    assert!(rt; stays(&node, alloc, NodeEvent::Retry { pid: 2 })?);
+    for pid in [0, 257] {
+        let refused = refusal(&node, alloc, NodeEvent::Retry { pid });
+        assert_eq!(rt; refused, Some(StepError::Stranger));
+    }
+    Ok(())
+}
+
+#[test]
+fn a_retry_is_answered_where_the_token_came(rt: HostRuntime) -> Result<(), Fail> {
+    let alloc = rt.alloc();
+    let mut node = two_processes(alloc, Policy::Wide)?;
+    take(&mut node, alloc, set(1, Mode::Write, 0, 10))?;
+    take(&mut node, alloc, set(2, Mode::Write, 20, 10))?;
+    let granted = grant(1, id(5), Mode::Write, WHOLE);
+    assert!(rt; finishes(&mut node, alloc, granted, 5, taken(1, 5))?);
+    let outcome = take(&mut node, alloc, NodeEvent::Retry { pid: 2 })?;
+    assert_eq!(rt; outcome.call, None);
+    assert_eq!(rt; outcome.reply, Some((id(6), Reply::Done)));
+    assert!(rt; outcome.sends.is_empty());
+    Ok(())
+}
+
+#[test]
 fn answers_by_the_first_test_that_fails(rt: HostRuntime) -> Result<(), Fail> {
     let alloc = rt.alloc();
     let mut node = begins(alloc, Policy::Wide)?;

@@ -43,6 +43,8 @@ fn finds_calls_by_number_and_by_process(rt: HostRuntime) -> Result<(), Fail> {
     let calls = three(rt.alloc(), 9, 5)?;
     assert_eq!(rt; calls.get(5), Some(call(5, 4)));
     assert_eq!(rt; calls.get(4), None);
+    assert_eq!(rt; calls.call_of(4), Some(call(5, 4)));
+    assert_eq!(rt; calls.call_of(3), None);
     assert!(rt; calls.has_call_of(2));
     assert!(rt; !calls.has_call_of(3));
     Ok(())

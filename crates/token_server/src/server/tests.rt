@@ -105,6 +105,33 @@ fn grants_one_request_after_the_other(rt: HostRuntime) -> Result<(), Fail> {
     Ok(())
 }
 
+// Whether the event sends just that message and changes nothing.
+fn repeats(
+    server: &Server,
+    alloc: Global,
+    event: ServerEvent,
+    message: Message,
+) -> Result<bool, StepError> {
+    let (next, outcome) = server.step(alloc, &event)?;
+    Ok(outcome.sends.as_slice() == [message].as_slice() && next.same(server))
+}
+
+#[test]
+fn sends_again_what_has_no_answer(rt: HostRuntime) -> Result<(), Fail> {
+    let alloc = rt.alloc();
+    let (one, two) = (call(1, 1), call(1, 2));
+    let mut server = new_server(alloc)?;
+    assert!(rt; stays(&server, alloc, ServerEvent::Resend)?);
+    assert!(rt; sends(&mut server, alloc, request(2, one), Some(grant(1, one)))?);
+    assert!(rt; sends(&mut server, alloc, request(2, two), None)?);
+    assert!(rt; repeats(&server, alloc, ServerEvent::Resend, grant(1, one))?);
+    assert!(rt; sends(&mut server, alloc, taken(1, one), Some(grant(2, two)))?);
+    assert!(rt; repeats(&server, alloc, ServerEvent::Resend, grant(2, two))?);
+    assert!(rt; sends(&mut server, alloc, taken(2, two), None)?);
+    assert!(rt; stays(&server, alloc, ServerEvent::Resend)?);
+    Ok(())
+}
+
 #[test]
 fn forgets_older_incarnations(rt: HostRuntime) -> Result<(), Fail> {
     let alloc = rt.alloc();
