@@ -96,8 +96,8 @@ does_one line (Deliver number) p q s a b =
     let made = delivery p (slice_get p.world.sent (index_of number)) in
     ends_one line (after_delivery (index_of number) p made) q s made a b
 does_one line (Lose number) p q s a b = a ∙ sym b
-does_one line (Retry node pid) p q s a b = a ∙ sym b
-does_one line (Resend file) p q s a b = a ∙ sym b
+does_one line (Retry node pid) p q s a b = ends_one line p q s (next p.world (event.Retry node pid)) a b
+does_one line (Resend file) p q s a b = ends_one line p q s (next p.world (event.Resend file)) a b
 does_one line Settle p q s a b = all_one line p q s a.0 b.0 a.1 a.2 b.1 b.2
 
 does_not_full : (line : ℕ) (c : Command) (p q : Progress) → IsFullIn line c p → Does line c p q → ⊥
@@ -106,8 +106,8 @@ does_not_full line (Deliver number) p q full does =
     let made = delivery p (slice_get p.world.sent (index_of number)) in
     ends_not_full line (after_delivery (index_of number) p made) q made full does
 does_not_full line (Lose number) p q full does = full
-does_not_full line (Retry node pid) p q full does = full
-does_not_full line (Resend file) p q full does = full
+does_not_full line (Retry node pid) p q full does = ends_not_full line p q (next p.world (event.Retry node pid)) full does
+does_not_full line (Resend file) p q full does = ends_not_full line p q (next p.world (event.Resend file)) full does
 does_not_full line Settle p q full does =
     settles_not_full line p full.mid q full.messages does.0 full.index full.message full.settled full.next_one full.full does.1 does.2
 

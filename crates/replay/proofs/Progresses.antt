@@ -56,15 +56,12 @@ lost_leads : (w : WorldState) (line index : ℕ) (p q : Progress) (b : Bool) →
 lost_leads w line index p q true leads is = let Q : Progress → Type 0 = λ x. LeadsFrom w x in subst Q (sym is) leads
 lost_leads w line index p q false leads is = let Q : Progress → Type 0 = λ x. LeadsFrom w x in subst Q (sym is) leads
 
-refused_leads : (w : WorldState) (line : ℕ) (p q : Progress) → LeadsFrom w p → q ≡ after_refusal p line Stranger → LeadsFrom w q
-refused_leads w line p q leads is = let Q : Progress → Type 0 = λ x. LeadsFrom w x in subst Q (sym is) leads
-
 does_leads : (w : WorldState) (line : ℕ) (c : Command) (p q : Progress) → LeadsFrom w p → Does line c p q → LeadsFrom w q
 does_leads w line (Call node pid op) p q leads does = happens_leads w line (event.Call node pid op) p q leads does
 does_leads w line (Deliver number) p q leads does = comes_leads w line (index_of number) p q (slice_get p.world.sent (index_of number)) leads does
 does_leads w line (Lose number) p q leads does = lost_leads w line (index_of number) p q (nat_lt (index_of number) (length p.world.sent)) leads does
-does_leads w line (Retry node pid) p q leads does = refused_leads w line p q leads does
-does_leads w line (Resend file) p q leads does = refused_leads w line p q leads does
+does_leads w line (Retry node pid) p q leads does = happens_leads w line (event.Retry node pid) p q leads does
+does_leads w line (Resend file) p q leads does = happens_leads w line (event.Resend file) p q leads does
 does_leads w line Settle p q leads does = all_leads w line p q does.0 leads does.1
 
 runs_leads : (w : WorldState) (p q : Progress) (ls : List LineFields) → LeadsFrom w p → RunsTo p ls q → LeadsFrom w q

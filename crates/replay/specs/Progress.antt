@@ -110,8 +110,8 @@ Does line (Call node pid op) p q = Happens line (event.Call node pid op) p q
 Does line (Deliver number) p q = Comes line (index_of number) p (delivery p (slice_get p.world.sent (index_of number))) q
 Does line (Lose number) p q = q ≡ lost line (index_of number) p
 Does line Settle p q = Settles line p q
-Does line (Retry node pid) p q = q ≡ after_refusal p line Stranger
-Does line (Resend file) p q = q ≡ after_refusal p line Stranger
+Does line (Retry node pid) p q = Happens line (event.Retry node pid) p q
+Does line (Resend file) p q = Happens line (event.Resend file) p q
 
 -- the lines are run in order
 abbrev pub RunsTo : Progress → List LineFields → Progress → Type 0
@@ -138,5 +138,5 @@ IsFullIn line (Call node pid op) p = FindsItFull p (event.Call node pid op)
 IsFullIn line (Deliver number) p = delivery p (slice_get p.world.sent (index_of number)) ≡ Err JournalFull
 IsFullIn line (Lose number) p = ⊥
 IsFullIn line Settle p = SettlesToFull line p
-IsFullIn line (Retry node pid) p = ⊥
-IsFullIn line (Resend file) p = ⊥
+IsFullIn line (Retry node pid) p = FindsItFull p (event.Retry node pid)
+IsFullIn line (Resend file) p = FindsItFull p (event.Resend file)

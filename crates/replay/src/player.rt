@@ -67,9 +67,10 @@ impl Player {
             Command::Deliver { message } => self.deliver(alloc, line.number(), message),
             Command::Lose { message } => self.lose(line.number(), message),
             Command::Settle => self.settle(alloc, line.number()),
-            Command::Retry { .. } | Command::Resend { .. } => {
-                self.refuse(line.number(), Refused::Stranger)
+            Command::Retry { node, pid } => {
+                self.step(alloc, line.number(), Event::Retry { node, pid })
             }
+            Command::Resend { file } => self.step(alloc, line.number(), Event::Resend { file }),
         }
     }
 
