@@ -7,19 +7,32 @@ use Rattle.std.proofs.lemmas.Fmt.{decimal_injective}
 use Rattle.model.specs.Limits.{IsNumber, most_nodes, most_processes}
 use Rattle.model.specs.declared.policy.Policy.{Policy}
 use Rattle.messages.specs.Shapes.{IsShape, IsServed, ShapeFields, most_files}
-use Rattle.lockscript.specs.declared.script_line.Command.TheVariants.{Call, Settle}
+use Rattle.lockscript.specs.declared.script_line.Command.TheVariants.{Call, Deliver, Lose, Settle, Retry, Resend}
 use Rattle.lockscript.specs.Reads.{Reads, Both, pair_text}
 use Rattle.lockscript.specs.Scripts.{IsCommand, command_text, counts_text, shape_text}
 use Rattle.lockscript.specs.Served.{IsServedOp}
 use Rattle.lockscript.specs.Texts.{op_text}
 use Rattle.lockscript.specs.Layout.{space}
-use Rattle.lockscript.proofs.Pairs.{heads, cancel-front, same-split}
+use Rattle.lockscript.proofs.Pairs.{heads, tails, cancel-front, same-split}
 use Rattle.lockscript.proofs.SingleWords.{Lacks-decimal}
 
 pub no_call : (line rest : List ℕ) → line ≡ codes "call " ++ rest
     → Reads (pair_text decimal (pair_text decimal op_text)) (Both (IsNumber most_nodes) (Both (IsNumber most_processes) IsServedOp)) rest None → Reads command_text IsCommand line None
 no_call line rest parts none (Call node pid op) fits e = none (node, (pid, op)) (fits.0, (fits.1, fits.2)) (cancel-front (codes "call ") rest _ (sym parts ∙ e))
+no_call line rest parts none (Deliver message) fits e = omega (arith, heads 99 100 _ _ (sym parts ∙ e))
+no_call line rest parts none (Lose message) fits e = omega (arith, heads 99 108 _ _ (sym parts ∙ e))
 no_call line rest parts none Settle fits e = omega (arith, heads 99 115 _ _ (sym parts ∙ e))
+no_call line rest parts none (Retry node pid) fits e = omega (arith, heads 99 114 _ _ (sym parts ∙ e))
+no_call line rest parts none (Resend file) fits e = omega (arith, heads 99 114 _ _ (sym parts ∙ e))
+
+pub no_retry : (line rest : List ℕ) → line ≡ codes "retry " ++ rest
+    → Reads (pair_text decimal decimal) (Both (IsNumber most_nodes) (IsNumber most_processes)) rest None → Reads command_text IsCommand line None
+no_retry line rest parts none (Call node pid op) fits e = omega (arith, heads 114 99 _ _ (sym parts ∙ e))
+no_retry line rest parts none (Deliver message) fits e = omega (arith, heads 114 100 _ _ (sym parts ∙ e))
+no_retry line rest parts none (Lose message) fits e = omega (arith, heads 114 108 _ _ (sym parts ∙ e))
+no_retry line rest parts none Settle fits e = omega (arith, heads 114 115 _ _ (sym parts ∙ e))
+no_retry line rest parts none (Retry node pid) fits e = none (node, pid) (fits.0, fits.1) (cancel-front (codes "retry ") rest _ (sym parts ∙ e))
+no_retry line rest parts none (Resend file) fits e = omega (arith, heads 116 115 _ _ (tails 101 101 _ _ (tails 114 114 _ _ (sym parts ∙ e))))
 
 -- the counts of a cluster line, once
 counts-same : (m n : ℕ × (ℕ × Policy)) → m.0 < 2 ^ 64 → m.1.0 < 2 ^ 64 → n.0 < 2 ^ 64 → n.1.0 < 2 ^ 64 → counts_text m ≡ counts_text n → (m.0 ≡ n.0) × (m.1.0 ≡ n.1.0)

@@ -16,10 +16,10 @@ use Rattle.model.specs.declared.policy.Policy.{Policy}
 use Rattle.model.specs.declared.policy.Policy.TheVariants.{Wide, Exact}
 use Rattle.messages.specs.Shapes.{IsShape, ShapeFields, most_files}
 use Rattle.lockscript.specs.declared.script_line.Command.{Command}
-use Rattle.lockscript.specs.declared.script_line.Command.TheVariants.{Call, Settle}
+use Rattle.lockscript.specs.declared.script_line.Command.TheVariants.{Call, Deliver, Lose, Settle, Retry, Resend}
 use Rattle.lockscript.specs.Layout.{space}
 use Rattle.lockscript.specs.Reads.{Both, after_text, pair_text}
-use Rattle.lockscript.specs.Scripts.{IsCommand, IsLine, LineFields, command_text, counts_text, line_text, shape_text}
+use Rattle.lockscript.specs.Scripts.{IsCommand, IsLine, LineFields, command_text, counts_text, greatest_message, line_text, shape_text}
 use Rattle.lockscript.specs.Served.{AreOffsets, IsDescriptor, IsServedAccess, IsServedKind, IsServedOp}
 use Rattle.lockscript.specs.Texts.{access_text, kind_text, mode_text, op_text, policy_text, segment_text}
 use Rattle.lockscript.proofs.Pairs.{AreWords, cancel-front, heads, same-split, tails}
@@ -107,13 +107,53 @@ apart-call : AreApart (pair_text decimal (pair_text decimal op_text)) (Both (IsN
 apart-call = apart-pair decimal (pair_text decimal op_text) (IsNumber most_nodes) (Both (IsNumber most_processes) IsServedOp) node_words (apart-number most_nodes (omega arith))
     (apart-pair decimal op_text (IsNumber most_processes) IsServedOp pid_words (apart-number most_processes (omega arith)) apart-op)
 
+apart-message : AreApart decimal (IsNumber greatest_message)
+apart-message = apart-number greatest_message (omega arith)
+
+apart-retry : AreApart (pair_text decimal decimal) (Both (IsNumber most_nodes) (IsNumber most_processes))
+apart-retry = apart-pair decimal decimal (IsNumber most_nodes) (IsNumber most_processes) node_words (apart-number most_nodes (omega arith)) (apart-number most_processes (omega arith))
+
 apart-command : AreApart command_text IsCommand
 apart-command (Call n p o) (Call n' p' o') x y e =
     let same = apart-call (n, (p, o)) (n', (p', o')) (x.0, (x.1, x.2)) (y.0, (y.1, y.2)) (cancel-front (codes "call ") _ _ e) in
     ap (λ (c : ℕ × (ℕ × Op)). Call c.0 c.1.0 c.1.1) same
+apart-command (Call n p o) (Deliver k') _ _ e = absurd (omega (arith, heads 99 100 _ _ e))
+apart-command (Call n p o) (Lose k') _ _ e = absurd (omega (arith, heads 99 108 _ _ e))
 apart-command (Call n p o) Settle _ _ e = absurd (omega (arith, heads 99 115 _ _ e))
-apart-command Settle (Call n p o) _ _ e = absurd (omega (arith, heads 115 99 _ _ e))
+apart-command (Call n p o) (Retry n' p') _ _ e = absurd (omega (arith, heads 99 114 _ _ e))
+apart-command (Call n p o) (Resend f') _ _ e = absurd (omega (arith, heads 99 114 _ _ e))
+apart-command (Deliver k) (Call n' p' o') _ _ e = absurd (omega (arith, heads 100 99 _ _ e))
+apart-command (Deliver k) (Deliver k') x y e = ap (λ (m : ℕ). Deliver m) (apart-message k k' x y (cancel-front (codes "deliver ") _ _ e))
+apart-command (Deliver k) (Lose k') _ _ e = absurd (omega (arith, heads 100 108 _ _ e))
+apart-command (Deliver k) Settle _ _ e = absurd (omega (arith, heads 100 115 _ _ e))
+apart-command (Deliver k) (Retry n' p') _ _ e = absurd (omega (arith, heads 100 114 _ _ e))
+apart-command (Deliver k) (Resend f') _ _ e = absurd (omega (arith, heads 100 114 _ _ e))
+apart-command (Lose k) (Call n' p' o') _ _ e = absurd (omega (arith, heads 108 99 _ _ e))
+apart-command (Lose k) (Deliver k') _ _ e = absurd (omega (arith, heads 108 100 _ _ e))
+apart-command (Lose k) (Lose k') x y e = ap (λ (m : ℕ). Lose m) (apart-message k k' x y (cancel-front (codes "lose ") _ _ e))
+apart-command (Lose k) Settle _ _ e = absurd (omega (arith, heads 108 115 _ _ e))
+apart-command (Lose k) (Retry n' p') _ _ e = absurd (omega (arith, heads 108 114 _ _ e))
+apart-command (Lose k) (Resend f') _ _ e = absurd (omega (arith, heads 108 114 _ _ e))
+apart-command Settle (Call n' p' o') _ _ e = absurd (omega (arith, heads 115 99 _ _ e))
+apart-command Settle (Deliver k') _ _ e = absurd (omega (arith, heads 115 100 _ _ e))
+apart-command Settle (Lose k') _ _ e = absurd (omega (arith, heads 115 108 _ _ e))
 apart-command Settle Settle _ _ e = refl
+apart-command Settle (Retry n' p') _ _ e = absurd (omega (arith, heads 115 114 _ _ e))
+apart-command Settle (Resend f') _ _ e = absurd (omega (arith, heads 115 114 _ _ e))
+apart-command (Retry n p) (Call n' p' o') _ _ e = absurd (omega (arith, heads 114 99 _ _ e))
+apart-command (Retry n p) (Deliver k') _ _ e = absurd (omega (arith, heads 114 100 _ _ e))
+apart-command (Retry n p) (Lose k') _ _ e = absurd (omega (arith, heads 114 108 _ _ e))
+apart-command (Retry n p) Settle _ _ e = absurd (omega (arith, heads 114 115 _ _ e))
+apart-command (Retry n p) (Retry n' p') x y e =
+    let same = apart-retry (n, p) (n', p') (x.0, x.1) (y.0, y.1) (cancel-front (codes "retry ") _ _ e) in
+    ap (λ (c : ℕ × ℕ). Retry c.0 c.1) same
+apart-command (Retry n p) (Resend f') _ _ e = absurd (omega (arith, heads 116 115 _ _ (tails 101 101 _ _ (tails 114 114 _ _ e))))
+apart-command (Resend f) (Call n' p' o') _ _ e = absurd (omega (arith, heads 114 99 _ _ e))
+apart-command (Resend f) (Deliver k') _ _ e = absurd (omega (arith, heads 114 100 _ _ e))
+apart-command (Resend f) (Lose k') _ _ e = absurd (omega (arith, heads 114 108 _ _ e))
+apart-command (Resend f) Settle _ _ e = absurd (omega (arith, heads 114 115 _ _ e))
+apart-command (Resend f) (Retry n' p') _ _ e = absurd (omega (arith, heads 115 116 _ _ (tails 101 101 _ _ (tails 114 114 _ _ e))))
+apart-command (Resend f) (Resend f') x y e = ap (λ (g : ℕ). Resend g) (apart-number most_files (omega arith) f f' x y (cancel-front (codes "resend ") _ _ e))
 
 abbrev IsCounts : ℕ × (ℕ × Policy) → Type 0
 IsCounts = Both (IsNumber most_nodes) (Both (IsNumber most_files) (λ _. ⊤))

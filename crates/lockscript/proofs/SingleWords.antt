@@ -14,6 +14,7 @@ use Rattle.lockscript.specs.Reads.{Lacks}
 use Rattle.model.specs.Limits.{IsNumber, most_nodes, most_processes}
 use Rattle.messages.specs.Shapes.{most_files}
 use Rattle.std.specs.Prelude.{⊤}
+use Rattle.lockscript.specs.Scripts.{greatest_message}
 use Rattle.lockscript.specs.Served.{IsDescriptor, IsServedKind}
 use Rattle.lockscript.specs.Texts.{kind_text, mode_text}
 use Rattle.lockscript.proofs.Pairs.{AreWords}
@@ -58,6 +59,9 @@ node_words n fits = Lacks-decimal n (omega (arith, fits.1))
 
 pub pid_words : AreWords decimal (IsNumber most_processes)
 pid_words n fits = Lacks-decimal n (omega (arith, fits.1))
+
+pub message_words : AreWords decimal (IsNumber greatest_message)
+message_words n fits = Lacks-decimal n (omega (arith, fits.1))
 
 pub fd_words : AreWords decimal IsDescriptor
 fd_words n fits = Lacks-decimal n (omega (arith, fits))

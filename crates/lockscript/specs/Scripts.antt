@@ -2,10 +2,10 @@
 use Rattle.std.specs.Prelude.{◌≡◌, ◌≢◌, ℕ, ◌+◌, ◌⊎◌, false, List, [], ◌∷◌, ◌++◌, All, map, codes, decimal, ⊤}
 use Rattle.model.specs.Limits.{IsNumber, most_nodes, most_processes}
 use Rattle.lockscript.specs.declared.script_line.Command.{Command}
-use Rattle.lockscript.specs.declared.script_line.Command.TheVariants.{Call, Settle}
+use Rattle.lockscript.specs.declared.script_line.Command.TheVariants.{Call, Deliver, Lose, Settle, Retry, Resend}
 use Rattle.lockscript.specs.declared.error.ParseError.{ParseError}
 use Rattle.lockscript.specs.declared.error.ParseError.TheVariants.{NoMemory, BadLine}
-use Rattle.messages.specs.Shapes.{ShapeFields, IsShape}
+use Rattle.messages.specs.Shapes.{ShapeFields, IsShape, most_files}
 use Rattle.model.specs.declared.policy.Policy.{Policy}
 use Rattle.lockscript.specs.Reads.{after_text, pair_text}
 use Rattle.lockscript.specs.Texts.{op_text, policy_text}
@@ -18,7 +18,11 @@ pub record LineFields : Type 0 where
 
 abbrev pub command_text : Command → List ℕ
 command_text (Call node pid op) = codes "call " ++ pair_text decimal (pair_text decimal op_text) (node, (pid, op))
+command_text (Deliver message) = codes "deliver " ++ decimal message
+command_text (Lose message) = codes "lose " ++ decimal message
 command_text Settle = codes "settle"
+command_text (Retry node pid) = codes "retry " ++ pair_text decimal decimal (node, pid)
+command_text (Resend file) = codes "resend " ++ decimal file
 
 -- `cluster nodes N files F policy P`, the first line of a script that is not skipped
 abbrev pub counts_text : ℕ × (ℕ × Policy) → List ℕ
@@ -27,10 +31,18 @@ counts_text = pair_text decimal (after_text (codes "files ") (pair_text decimal 
 abbrev pub shape_text : ShapeFields → List ℕ
 shape_text s = codes "cluster nodes " ++ counts_text (s.nodes, (s.files, s.policy))
 
+-- the greatest number of a message that a line can name
+abbrev pub greatest_message : ℕ
+greatest_message = 4294967295
+
 -- what a line may ask for: its numbers are within the limits, and its operation is served
 abbrev pub IsCommand : Command → Type 0
 IsCommand (Call node pid op) = IsNumber most_nodes node × IsNumber most_processes pid × IsServedOp op
+IsCommand (Deliver message) = IsNumber greatest_message message
+IsCommand (Lose message) = IsNumber greatest_message message
 IsCommand Settle = ⊤
+IsCommand (Retry node pid) = IsNumber most_nodes node × IsNumber most_processes pid
+IsCommand (Resend file) = IsNumber most_files file
 
 -- the greatest number of a line that listings can name, which has 32 bits
 abbrev pub greatest_line : ℕ

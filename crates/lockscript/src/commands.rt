@@ -7,7 +7,7 @@ ghost use Rattle.lockscript.specs.Scripts.{IsCommand, command_text, shape_text};
 ghost use Rattle.lockscript.specs.Served.{IsServedOp};
 ghost use Rattle.lockscript.specs.Texts.{op_text, policy_text};
 
-use crate::fields::{after, file_of, node_of, pid_of, split_field};
+use crate::fields::{after, file_of, message_of, node_of, pid_of, split_field};
 use crate::operations::op_of;
 use crate::script_line::Command;
 use crate::words::policy_of;
@@ -15,7 +15,8 @@ use messages::shape::Shape;
 use model::op::Op;
 use model::policy::Policy;
 
-/// What the line asks for, if it is one that is served: so far `call N PID OP` and `settle`.
+/// What the line asks for, if it is one that is served: so far `call N PID OP`, `deliver K`, `lose K`,
+/// `settle`, `retry N PID` and `resend F`.
 pub(crate) fn command_of(line: &str) -> Option<Command>
     ensures { Reads command_text IsCommand line.now result }
 {
@@ -25,6 +26,30 @@ pub(crate) fn command_of(line: &str) -> Option<Command>
     if let Some(call) = after(line, "call ") {
         return match call_operands(call) {
             Some((node, (pid, op))) => Some(Command::Call { node, pid, op }),
+            None => None,
+        };
+    }
+    if let Some(word) = after(line, "deliver ") {
+        return match message_of(word) {
+            Some(message) => Some(Command::Deliver { message }),
+            None => None,
+        };
+    }
+    if let Some(word) = after(line, "lose ") {
+        return match message_of(word) {
+            Some(message) => Some(Command::Lose { message }),
+            None => None,
+        };
+    }
+    if let Some(operands) = after(line, "retry ") {
+        return match retry_operands(operands) {
+            Some((node, pid)) => Some(Command::Retry { node, pid }),
+            None => None,
+        };
+    }
+    if let Some(word) = after(line, "resend ") {
+        return match file_of(word) {
+            Some(file) => Some(Command::Resend { file }),
             None => None,
         };
     }
@@ -47,6 +72,16 @@ fn pid_and_op(text: &str) -> Option<(u16, Op)>
 {
     match split_field(text) {
         Some((pid, op)) => pid_of(pid).zip(op_of(op)),
+        None => None,
+    }
+}
+
+// `N PID`.
+fn retry_operands(text: &str) -> Option<(u8, u16)>
+    ensures { Reads (pair_text decimal decimal) (Both (IsNumber most_nodes) (IsNumber most_processes)) text.now result }
+{
+    match split_field(text) {
+        Some((node, pid)) => node_of(node).zip(pid_of(pid)),
         None => None,
     }
 }

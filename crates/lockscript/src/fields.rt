@@ -4,6 +4,7 @@ ghost use Rattle.model.specs.Limits.{IsNumber, most_nodes, most_processes};
 ghost use Rattle.messages.specs.Shapes.{most_files};
 ghost use Rattle.lockscript.specs.Layout.{space};
 ghost use Rattle.lockscript.specs.Reads.{Lacks, Reads};
+ghost use Rattle.lockscript.specs.Scripts.{greatest_message};
 ghost use Rattle.lockscript.specs.Served.{IsDescriptor};
 
 use crate::number::number_of;
@@ -16,6 +17,9 @@ const MOST_FILES: u64 = 256;
 
 /// How many processes a node may have.
 const MOST_PROCESSES: u64 = 256;
+
+/// The greatest number of a message.
+const GREATEST_MESSAGE: u64 = 4_294_967_295;
 
 /// The greatest descriptor that a script may name.
 const GREATEST_DESCRIPTOR: u64 = 255;
@@ -62,6 +66,16 @@ pub(crate) fn pid_of(word: &str) -> Option<u16>
 {
     match number_of(word, 1, MOST_PROCESSES) {
         Some(number) => Some(number as u16),
+        None => None,
+    }
+}
+
+/// The number of a message.
+pub(crate) fn message_of(word: &str) -> Option<u32>
+    ensures { Reads decimal (IsNumber greatest_message) word.now result }
+{
+    match number_of(word, 1, GREATEST_MESSAGE) {
+        Some(number) => Some(number as u32),
         None => None,
     }
 }

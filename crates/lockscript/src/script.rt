@@ -29,9 +29,10 @@ impl Model for Script {
 impl Script {
     /// The script that the text writes. Each line ends with a line feed, the last one too; empty lines
     /// and lines that begin with `#` are skipped. The first other line is
-    /// `cluster nodes N files F policy P`, and none of the others is; they are `call N PID OP` and
-    /// `settle`, in lines up to number 4294967295. Fields are separated by one space, and numbers are
-    /// decimal, without leading zeros or a leading `+`.
+    /// `cluster nodes N files F policy P`, and none of the others is; they are `call N PID OP`,
+    /// `deliver K`, `lose K`, `settle`, `retry N PID` and `resend F`, in lines up to number 4294967295.
+    /// Fields are separated by one space, and numbers are decimal, without leading zeros or a leading
+    /// `+`.
     ///
     /// # Errors
     /// `BadLine` with the number of the first line that may not stand there, counted from 1, or with

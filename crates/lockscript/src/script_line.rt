@@ -7,12 +7,21 @@ use std::marker::Model;
 pub enum Command {
     /// A process of a node makes a call.
     Call { node: u8, pid: u16, op: Op },
-    /// Messages are delivered until none is left that no line has delivered.
+    /// A message is delivered, by its number in the order of sending, from 1.
+    Deliver { message: u32 },
+    /// A message is lost, by its number in the order of sending, from 1: lines that settle pass over it.
+    Lose { message: u32 },
+    /// Messages are delivered until none is left that no line has delivered, lost or passed over.
     Settle,
+    /// A node tries the open call of a process again.
+    Retry { node: u8, pid: u16 },
+    /// The server of a file sends again what has no answer.
+    Resend { file: u16 },
 }
 
 /// A line of a script that asks for something, by its number in the text, from 1. The numbers in it
-/// are within the limits of lock calls: nodes 1 to 64, processes 1 to 256, files 1 to 256.
+/// are within the limits of lock calls: nodes 1 to 64, processes 1 to 256, files 1 to 256, messages 1
+/// to 4294967295.
 #[derive(Clone, Copy, Debug, PartialEq, Eq)]
 pub struct ScriptLine {
     number: u32,

@@ -1,3 +1,4 @@
+pub mod Marks
 pub mod Progresses
 pub mod OneRun
 pub mod OneOutcome

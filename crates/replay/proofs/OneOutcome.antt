@@ -1,6 +1,8 @@
 -- A script comes to one thing at most.
-use Rattle.std.proofs.Common.{◌≡◌, ℕ, ◌+◌, sym, ◌∙◌, ap, subst, List, [], ◌∷◌, ◌++◌}
-use Rattle.std.specs.Prelude.{slice_get, Option, Some, None}
+use Rattle.std.proofs.Common.{◌≡◌, ℕ, Bool, inl, inr, arith, sym, ◌∙◌, ap, subst, List, [], ◌∷◌, ◌++◌}
+use Rattle.std.proofs.lemmas.Bool.{cases_lt, false≢true}
+use Rattle.std.proofs.lemmas.Option.{slice_get_within}
+use Rattle.std.specs.Prelude.{slice_get, Option, Some}
 use Rattle.std.specs.declared.result.Result.{Result}
 use Rattle.std.specs.declared.result.Result.TheVariants.{Ok, Err}
 use Rattle.messages.specs.declared.refusal.Refused.{Refused}
@@ -11,9 +13,9 @@ use Rattle.messages.specs.declared.entry.Entry.{Entry}
 use Rattle.cluster_core.specs.World.{WorldState}
 use Rattle.cluster_core.specs.Next.{next}
 use Rattle.lockscript.specs.declared.script_line.Command.{Command}
-use Rattle.lockscript.specs.declared.script_line.Command.TheVariants.{Call, Settle}
+use Rattle.lockscript.specs.declared.script_line.Command.TheVariants.{Call, Deliver, Lose, Settle, Retry, Resend}
 use Rattle.lockscript.specs.Scripts.{LineFields}
-use Rattle.replay.specs.Progress.{Progress, first_progress, Ends, Happens, IsNextMessage, Delivers, DeliversAll, IsSettled, Does, RunsTo, FindsItFull, IsFullIn}
+use Rattle.replay.specs.Progress.{Progress, first_progress, after_delivery, delivery, index_of, settling, Ends, Happens, IsLeastUnsettled, IsNextMessage, Delivers, DeliversAll, IsSettled, Does, RunsTo, FindsItFull, IsFullIn}
 use Rattle.replay.specs.Played.{played_of}
 use Rattle.replay.specs.Laws.{ComesToOne, FullComesToNothing}
 
@@ -31,52 +33,83 @@ ends_not_full line p q r is ends =
 some_one : (o : Option Message) (m n : Message) → o ≡ Some m → o ≡ Some n → m ≡ n
 some_one o m n a b = cc
 
-none_some : (o : Option Message) (m : Message) → o ≡ None → o ≡ Some m → ⊥
-none_some o m a b = cc
+least_one : (settled : ℕ → Bool) (i j : ℕ) → IsLeastUnsettled settled i → IsLeastUnsettled settled j → i ≡ j
+least_one settled i j a b = elim (cases_lt i j) [
+  | inl lt ↦ absurd (false≢true (sym a.unsettled ∙ b.before i lt))
+  | inr ge ↦ elim (cases_lt j i) [
+    | inl lt ↦ absurd (false≢true (sym b.unsettled ∙ a.before j lt))
+    | inr le ↦ omega (arith, ge, le)
+  ]
+]
+
+-- the next message is one
+next_one : (p : Progress) (i j : ℕ) (m n : Message) → IsNextMessage p i m → IsNextMessage p j n → (i ≡ j) × (m ≡ n)
+next_one p i j m n a b =
+    let same = least_one p.settled i j a.least b.least in
+    let P : ℕ → Type 0 = λ k. slice_get p.world.sent k ≡ Some n in
+    (same, some_one (slice_get p.world.sent i) m n a.sent (subst P (sym same) b.sent))
+
+-- there is no next message where every message is settled
+settled_next : (p : Progress) (i : ℕ) (m : Message) → IsSettled p → IsNextMessage p i m → ⊥
+settled_next p i m settled is = false≢true (sym is.least.unsettled ∙ settled i (slice_get_within p.world.sent i m is.sent))
 
 delivers_one : (line : ℕ) (p q s : Progress) (m n : Message) → Delivers line p m q → Delivers line p n s → q ≡ s
 delivers_one line p q s m n a b =
-    let P : Message → Type 0 = λ x. Happens line (event.Deliver x) (record p { settled = p.settled + 1 }) s in
-    ends_one line (record p { settled = p.settled + 1 }) q s (next p.world (event.Deliver m)) a.1 (subst P (sym (some_one (slice_get p.world.sent p.settled) m n a.0 b.0)) b.1)
+    let same = next_one p a.0 b.0 m n a.1 b.1 in
+    let P : Message → Type 0 = λ x. Happens line (event.Deliver x) (settling b.0 p) s in
+    let Q : ℕ → Type 0 = λ k. Happens line (event.Deliver m) (settling k p) s in
+    ends_one line (settling a.0 p) q s (next p.world (event.Deliver m)) a.2 (subst Q (sym same.0) (subst P (sym same.1) b.2))
 
 all_one : (line : ℕ) (p q s : Progress) (ms ns : List Message) → DeliversAll line p ms q → IsSettled q → DeliversAll line p ns s → IsSettled s → q ≡ s
 all_one line p q s [] [] a q_settled b s_settled = sym a ∙ b
 all_one line p q s [] (n ∷ ns) a q_settled b s_settled =
     let P : Progress → Type 0 = λ x. IsSettled x in
-    absurd (none_some (slice_get p.world.sent p.settled) n (subst P (sym a) q_settled) b.1.0)
+    absurd (settled_next p b.1.0 n (subst P (sym a) q_settled) b.1.1)
 all_one line p q s (m ∷ ms) [] a q_settled b s_settled =
     let P : Progress → Type 0 = λ x. IsSettled x in
-    absurd (none_some (slice_get p.world.sent p.settled) m (subst P (sym b) s_settled) a.1.0)
+    absurd (settled_next p a.1.0 m (subst P (sym b) s_settled) a.1.1)
 all_one line p q s (m ∷ ms) (n ∷ ns) a q_settled b s_settled =
     let P : Progress → Type 0 = λ x. DeliversAll line x ns s in
     all_one line a.0 q s ms ns a.2 q_settled (subst P (sym (delivers_one line p a.0 b.0 m n a.1 b.1)) b.2) s_settled
 
 -- what settles every message meets no full journal
-settles_not_full : (line : ℕ) (p q s : Progress) (ms ns : List Message) (m : Message) → DeliversAll line p ms q → IsNextMessage q m → FindsItFull q (event.Deliver m) → DeliversAll line p ns s → IsSettled s → ⊥
-settles_not_full line p q s [] [] m a next_one full b settled =
-    let P : Progress → Type 0 = λ x. IsNextMessage x m in
-    none_some (slice_get s.world.sent s.settled) m settled (subst P (sym a ∙ b) next_one)
-settles_not_full line p q s [] (n ∷ ns) m a next_one full b settled =
-    let P : Progress → Type 0 = λ x. IsNextMessage x m in
+settles_not_full : (line : ℕ) (p q s : Progress) (ms ns : List Message) (i : ℕ) (m : Message) → DeliversAll line p ms q → IsNextMessage q i m → FindsItFull q (event.Deliver m) → DeliversAll line p ns s → IsSettled s → ⊥
+settles_not_full line p q s [] [] i m a is_next full b settled =
+    let P : Progress → Type 0 = λ x. IsNextMessage x i m in
+    settled_next s i m settled (subst P (sym a ∙ b) is_next)
+settles_not_full line p q s [] (n ∷ ns) i m a is_next full b settled =
+    let P : Progress → Type 0 = λ x. IsNextMessage x i m in
     let Q : Progress → Type 0 = λ x. FindsItFull x (event.Deliver m) in
     let R : Message → Type 0 = λ x. FindsItFull p (event.Deliver x) in
-    let is = some_one (slice_get p.world.sent p.settled) m n (subst P (sym a) next_one) b.1.0 in
-    ends_not_full line (record p { settled = p.settled + 1 }) b.0 (next p.world (event.Deliver n)) (subst R is (subst Q (sym a) full)) b.1.1
-settles_not_full line p q s (k ∷ ms) [] m a next_one full b settled =
+    let same = next_one p i b.1.0 m n (subst P (sym a) is_next) b.1.1 in
+    ends_not_full line (settling b.1.0 p) b.0 (next p.world (event.Deliver n)) (subst R same.1 (subst Q (sym a) full)) b.1.2
+settles_not_full line p q s (k ∷ ms) [] i m a is_next full b settled =
     let P : Progress → Type 0 = λ x. IsSettled x in
-    none_some (slice_get p.world.sent p.settled) k (subst P (sym b) settled) a.1.0
-settles_not_full line p q s (k ∷ ms) (n ∷ ns) m a next_one full b settled =
+    settled_next p a.1.0 k (subst P (sym b) settled) a.1.1
+settles_not_full line p q s (k ∷ ms) (n ∷ ns) i m a is_next full b settled =
     let P : Progress → Type 0 = λ x. DeliversAll line x ns s in
-    settles_not_full line a.0 q s ms ns m a.2 next_one full (subst P (sym (delivers_one line p a.0 b.0 k n a.1 b.1)) b.2) settled
+    settles_not_full line a.0 q s ms ns i m a.2 is_next full (subst P (sym (delivers_one line p a.0 b.0 k n a.1 b.1)) b.2) settled
 
 does_one : (line : ℕ) (c : Command) (p q s : Progress) → Does line c p q → Does line c p s → q ≡ s
 does_one line (Call node pid op) p q s a b = ends_one line p q s (next p.world (event.Call node pid op)) a b
+does_one line (Deliver number) p q s a b =
+    let made = delivery p (slice_get p.world.sent (index_of number)) in
+    ends_one line (after_delivery (index_of number) p made) q s made a b
+does_one line (Lose number) p q s a b = a ∙ sym b
+does_one line (Retry node pid) p q s a b = ends_one line p q s (next p.world (event.Retry node pid)) a b
+does_one line (Resend file) p q s a b = ends_one line p q s (next p.world (event.Resend file)) a b
 does_one line Settle p q s a b = all_one line p q s a.0 b.0 a.1 a.2 b.1 b.2
 
 does_not_full : (line : ℕ) (c : Command) (p q : Progress) → IsFullIn line c p → Does line c p q → ⊥
 does_not_full line (Call node pid op) p q full does = ends_not_full line p q (next p.world (event.Call node pid op)) full does
+does_not_full line (Deliver number) p q full does =
+    let made = delivery p (slice_get p.world.sent (index_of number)) in
+    ends_not_full line (after_delivery (index_of number) p made) q made full does
+does_not_full line (Lose number) p q full does = full
+does_not_full line (Retry node pid) p q full does = ends_not_full line p q (next p.world (event.Retry node pid)) full does
+does_not_full line (Resend file) p q full does = ends_not_full line p q (next p.world (event.Resend file)) full does
 does_not_full line Settle p q full does =
-    settles_not_full line p full.mid q full.messages does.0 full.message full.settled full.next_one full.full does.1 does.2
+    settles_not_full line p full.mid q full.messages does.0 full.index full.message full.settled full.next_one full.full does.1 does.2
 
 runs_one : (p q s : Progress) (ls : List LineFields) → RunsTo p ls q → RunsTo p ls s → q ≡ s
 runs_one p q s [] a b = sym a ∙ b

@@ -1,9 +1,11 @@
 -- Runs of scripts lead from world to world.
-use Rattle.std.proofs.Common.{◌≡◌, ℕ, ◌+◌, ◌<◌, refl, sym, ◌∙◌, ap, subst, List, [], ◌∷◌, ◌++◌, length, take, drop, get_or}
+use Rattle.std.proofs.Common.{◌≡◌, ℕ, ◌+◌, ◌<◌, Bool, true, false, if◌then◌else◌, Option, Some, None, refl, sym, ◌∙◌, ap, subst, List, [], ◌∷◌, ◌++◌, length, take, drop, get_or}
+use Rattle.std.specs.Prelude.{nat_lt, slice_get}
 use Rattle.std.specs.declared.result.Result.{Result}
 use Rattle.std.specs.declared.result.Result.TheVariants.{Ok, Err}
 use Rattle.std.proofs.lemmas.List.{map-append, take_more, drop_more, take-append-drop}
 use Rattle.messages.specs.declared.refusal.Refused.{Refused}
+use Rattle.messages.specs.declared.refusal.Refused.TheVariants.{Stranger}
 use Rattle.messages.specs.declared.event.Event.{Event}
 use Rattle.messages.specs.declared.event.Event.TheVariants as event
 use Rattle.messages.specs.declared.message.Message.{Message}
@@ -15,9 +17,9 @@ use Rattle.cluster_core.specs.Runs.{Leads}
 use Rattle.cluster_core.specs.Journals.{events_of}
 use Rattle.cluster_core.proofs.JournalRuns.{leads_push, entry_event}
 use Rattle.lockscript.specs.declared.script_line.Command.{Command}
-use Rattle.lockscript.specs.declared.script_line.Command.TheVariants.{Call, Settle}
+use Rattle.lockscript.specs.declared.script_line.Command.TheVariants.{Call, Deliver, Lose, Settle, Retry, Resend}
 use Rattle.lockscript.specs.Scripts.{LineFields}
-use Rattle.replay.specs.Progress.{Progress, first_progress, Ends, Happens, Delivers, DeliversAll, Does, RunsTo, IsFullIn}
+use Rattle.replay.specs.Progress.{Progress, first_progress, after_refusal, delivery, index_of, lost, settling, Comes, Ends, Happens, Delivers, DeliversAll, Does, RunsTo, IsFullIn}
 use Rattle.replay.specs.Played.{FillsJournal}
 
 -- the entries so far lead from a world to the world so far
@@ -36,14 +38,30 @@ happens_leads : (w : WorldState) (line : ℕ) (ev : Event) (p q : Progress) → 
 happens_leads w line ev p q leads happens = ends_leads w line ev p q (next p.world ev) refl leads happens
 
 delivers_leads : (w : WorldState) (line : ℕ) (m : Message) (p q : Progress) → LeadsFrom w p → Delivers line p m q → LeadsFrom w q
-delivers_leads w line m p q leads delivers = happens_leads w line (event.Deliver m) (record p { settled = p.settled + 1 }) q leads delivers.1
+delivers_leads w line m p q leads delivers = happens_leads w line (event.Deliver m) (settling delivers.0 p) q leads delivers.2
 
 all_leads : (w : WorldState) (line : ℕ) (p q : Progress) (ms : List Message) → LeadsFrom w p → DeliversAll line p ms q → LeadsFrom w q
 all_leads w line p q [] leads is = let Q : Progress → Type 0 = λ x. LeadsFrom w x in subst Q is leads
 all_leads w line p q (m ∷ ms) leads all = all_leads w line all.0 q ms (delivers_leads w line m p all.0 leads all.1) all.2
 
+deliver_leads : (w : WorldState) (line index : ℕ) (m : Message) (p q : Progress) (r : Result (WorldState × Entry) Refused) → next p.world (event.Deliver m) ≡ r → LeadsFrom w p → Comes line index p r q → LeadsFrom w q
+deliver_leads w line index m p q (Ok made) is leads comes = ends_leads w line (event.Deliver m) (settling index p) q (Ok made) is leads comes
+deliver_leads w line index m p q (Err refusal) is leads comes = ends_leads w line (event.Deliver m) p q (Err refusal) is leads comes
+
+comes_leads : (w : WorldState) (line index : ℕ) (p q : Progress) (o : Option Message) → LeadsFrom w p → Comes line index p (delivery p o) q → LeadsFrom w q
+comes_leads w line index p q (Some m) leads comes = deliver_leads w line index m p q (next p.world (event.Deliver m)) refl leads comes
+comes_leads w line index p q None leads comes = let Q : Progress → Type 0 = λ x. LeadsFrom w x in subst Q (sym comes.1) leads
+
+lost_leads : (w : WorldState) (line index : ℕ) (p q : Progress) (b : Bool) → LeadsFrom w p → q ≡ (if b then settling index p else after_refusal p line Stranger) → LeadsFrom w q
+lost_leads w line index p q true leads is = let Q : Progress → Type 0 = λ x. LeadsFrom w x in subst Q (sym is) leads
+lost_leads w line index p q false leads is = let Q : Progress → Type 0 = λ x. LeadsFrom w x in subst Q (sym is) leads
+
 does_leads : (w : WorldState) (line : ℕ) (c : Command) (p q : Progress) → LeadsFrom w p → Does line c p q → LeadsFrom w q
 does_leads w line (Call node pid op) p q leads does = happens_leads w line (event.Call node pid op) p q leads does
+does_leads w line (Deliver number) p q leads does = comes_leads w line (index_of number) p q (slice_get p.world.sent (index_of number)) leads does
+does_leads w line (Lose number) p q leads does = lost_leads w line (index_of number) p q (nat_lt (index_of number) (length p.world.sent)) leads does
+does_leads w line (Retry node pid) p q leads does = happens_leads w line (event.Retry node pid) p q leads does
+does_leads w line (Resend file) p q leads does = happens_leads w line (event.Resend file) p q leads does
 does_leads w line Settle p q leads does = all_leads w line p q does.0 leads does.1
 
 runs_leads : (w : WorldState) (p q : Progress) (ls : List LineFields) → LeadsFrom w p → RunsTo p ls q → LeadsFrom w q
@@ -54,10 +72,10 @@ runs_leads w p q (l ∷ ls) leads runs = runs_leads w runs.0 q ls (does_leads w 
 pub lines_lead : (shape : ShapeFields) (ls : List LineFields) (q : Progress) → RunsTo (first_progress shape) ls q → Leads (first_world shape) q.entries q.world
 lines_lead shape ls q runs = runs_leads (first_world shape) (first_progress shape) q ls refl runs
 
--- one more message is settled
-pub all_push : (line : ℕ) (p q r : Progress) (ms : List Message) (m : Message) → DeliversAll line p ms q → Delivers line q m r → DeliversAll line p (ms ++ m ∷ []) r
-all_push line p q r [] m is delivers = let P : Progress → Type 0 = λ x. Delivers line x m r in (r, subst P (sym is) delivers, refl)
-all_push line p q r (n ∷ ms) m all delivers = (all.0, all.1, all_push line all.0 q r ms m all.2 delivers)
+-- one more message of a line is settled
+pub all_push : (line : ℕ) (p q s r : Progress) (ms : List Message) (m : Message) → DeliversAll line p ms q → s ≡ q → Delivers line s m r → DeliversAll line p (ms ++ m ∷ []) r
+all_push line p q s r [] m is same delivers = let P : Progress → Type 0 = λ x. Delivers line x m r in (r, subst P (same ∙ sym is) delivers, refl)
+all_push line p q s r (n ∷ ms) m all same delivers = (all.0, all.1, all_push line all.0 q s r ms m all.2 same delivers)
 
 -- one more line is run
 pub runs_push : (p q r : Progress) (ls : List LineFields) (l : LineFields) → RunsTo p ls q → Does l.number l.command q r → RunsTo p (ls ++ l ∷ []) r

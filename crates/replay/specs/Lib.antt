@@ -1,6 +1,7 @@
 pub mod Statuses
 pub mod Faults
 pub mod Progress
+pub mod Settled
 pub mod Played
 pub mod Laws
 pub mod Parts

@@ -5,15 +5,16 @@ use Rattle.cluster_core.specs.Journals.{JournalFields}
 use Rattle.cluster_core.specs.Parts.{WorldParts, world_state}
 use Rattle.replay.specs.Progress.{Progress}
 use Rattle.replay.specs.Played.{PlayedState}
+use Rattle.replay.specs.Settled.{SettledParts, settled_in}
 
 pub record PlayerParts : Type 0 where
   pub world : WorldParts
   pub entries : List Entry
-  pub settled : ℕ
+  pub settled : SettledParts
   pub refused : List (ℕ × ℕ)
 
 abbrev pub progress : PlayerParts → Progress
-progress p = record { entries = p.entries; world = world_state p.world; settled = p.settled; refused = p.refused }
+progress p = record { entries = p.entries; world = world_state p.world; settled = settled_in p.settled; refused = p.refused }
 
 pub record PlayedParts : Type 0 where
   pub journal : JournalFields

@@ -10,6 +10,7 @@ pub mod play;
 pub mod played;
 mod player;
 pub mod respond;
+mod settled;
 pub mod store;
 #[cfg(test)]
 mod tests;

@@ -30,7 +30,15 @@ and the lines after it are
   call N PID open F rw
   call N PID set FD proc read|write START LEN
   call N PID unlock FD proc START LEN
+  deliver K
+  lose K
   settle
+  retry N PID
+  resend F
+K is the number of a message in the order of sending, from 1. A message may be
+delivered again and again. settle delivers the earliest message that no line has
+delivered, lost or passed over, again and again until none is left. retry tries
+the open call of a process again; resend sends again what has no answer.
 The listing has five sections: the refused lines, the replies, the tokens, the
 locks, and one history of all calls in one table.";
 

@@ -1,20 +1,20 @@
 //! The run of a script, line by line.
-ghost use Rattle.std.specs.Prelude.{◌≡◌, ◌+◌, ◌<◌, slice_get, IfErr, IfOk, IfSome, OnOk};
+ghost use Rattle.std.specs.Prelude.{◌≡◌, ◌+◌, ◌<◌, ◌≤◌, Err, Some, None, IfErr, IfOk, IfSome, MatchOption, OnOk};
 ghost use Rattle.messages.specs.declared.entry.Entry.{Entry};
 ghost use Rattle.cluster_core.specs.Histories.{HasOneHistory};
 ghost use Rattle.cluster_core.specs.Journals.{events_of};
 ghost use Rattle.cluster_core.specs.Runs.{Leads};
 ghost use Rattle.cluster_core.specs.World.{first_world};
-ghost use Rattle.lockscript.specs.declared.script_line.Command.TheVariants.{Settle};
 ghost use Rattle.replay.specs.declared.play.PlayError.TheVariants.{NoMemory, JournalFull};
 ghost use Rattle.replay.specs.Parts.{progress, state_of};
 ghost use Rattle.replay.specs.Played.{played_of};
-ghost use Rattle.replay.specs.Progress.{first_progress, Delivers, Does, FindsItFull, Happens, IsFullIn, IsNextMessage, Settles, SettlesToFull};
+ghost use Rattle.replay.specs.Progress.{after_refusal, delivery, first_progress, Comes, Delivers, Does, FindsItFull, Happens, IsFullIn, IsListed, IsNextMessage, IsSettled, Settles, SettlesToFull};
 
 use crate::play::PlayError;
 use crate::played::Played;
+use crate::settled::Settled;
 use cluster_core::journal::run;
-use cluster_core::world::World;
+use cluster_core::world::{JOURNAL_LIMIT, World};
 use lockscript::script_line::{Command, ScriptLine};
 use messages::entry::Entry;
 use messages::event::Event;
@@ -24,13 +24,13 @@ use messages::shape::Shape;
 use std::alloc::{AllocError, Global};
 use std::marker::Model;
 
-/// What came of the lines so far: the world, the entries that led to it, the number of messages that
-/// are settled, which are the first that were sent, and the lines that were refused.
+/// What came of the lines so far: the world, the entries that led to it, the messages that are
+/// settled, and the lines that were refused.
 #[derive(Drop)]
 pub(crate) struct Player {
     world: World,
     entries: Vec<Entry>,
-    settled: usize,
+    settled: Settled,
     refused: Vec<(u32, u16)>,
 }
 
@@ -51,7 +51,7 @@ impl Player {
         Ok(Player {
             world: World::new(alloc, shape)?,
             entries: Vec::new(alloc),
-            settled: 0,
+            settled: Settled::new(alloc),
             refused: Vec::new(alloc),
         })
     }
@@ -65,7 +65,13 @@ impl Player {
             Command::Call { node, pid, op } => {
                 self.step(alloc, line.number(), Event::Call { node, pid, op })
             }
+            Command::Deliver { message } => self.deliver(alloc, line.number(), message),
+            Command::Lose { message } => self.lose(line.number(), message),
             Command::Settle => self.settle(alloc, line.number()),
+            Command::Retry { node, pid } => {
+                self.step(alloc, line.number(), Event::Retry { node, pid })
+            }
+            Command::Resend { file } => self.step(alloc, line.number(), Event::Resend { file }),
         }
     }
 
@@ -73,33 +79,110 @@ impl Player {
     fn step(&mut self, alloc: Global, line: u32, event: Event) -> Result<(), PlayError>
         ensures ok { OnOk result (Happens line event (progress self.old) (progress self.new)) }
         ensures full { IfErr result (λ error. error ≡ JournalFull → FindsItFull (progress self.old) event) }
+        ensures rests { OnOk result (self.new.settled ≡ self.old.settled) }
     {
         match self.world.step(alloc, event) {
             Ok(entry) => self.entries.push(entry)?,
-            Err(Refused::NoMemory) => return Err(PlayError::NoMemory),
-            Err(Refused::JournalFull) => return Err(PlayError::JournalFull),
-            Err(refusal) => self.refused.push((line, refusal.number()))?,
+            Err(refusal) => self.refuse(line, refusal)?,
         }
         Ok(())
     }
 
-    // The earliest message that is not settled.
-    fn unsettled(&self) -> Option<Message>
-        ensures message { result ≡ slice_get (progress self.now).world.sent self.now.settled }
-        ensures room { IfSome result (λ _. self.now.settled < usize.MAX) }
+    // Lists a line with its refusal, unless the refusal ends the run.
+    fn refuse(&mut self, line: u32, refusal: Refused) -> Result<(), PlayError>
+        ensures listed { OnOk result (IsListed refusal) }
+        ensures ok { OnOk result (progress self.new ≡ after_refusal (progress self.old) line refusal) }
+        ensures full { IfErr result (λ error. error ≡ JournalFull → refusal ≡ Refused.JournalFull) }
+        ensures rests { OnOk result (self.new.settled ≡ self.old.settled) }
     {
-        self.world.sent().get(self.settled).copied()
+        match refusal {
+            Refused::NoMemory => return Err(PlayError::NoMemory),
+            Refused::JournalFull => return Err(PlayError::JournalFull),
+            listed => self.refused.push((line, listed.number()))?,
+        }
+        Ok(())
     }
 
-    // Delivers the message, or passes over it where its delivery is refused.
-    fn deliver(&mut self, alloc: Global, line: u32, message: Message) -> Result<(), PlayError>
-        requires next_one { IsNextMessage (progress self.old) message }
-        requires room { self.old.settled < usize.MAX }
+    // Why a message that was not sent can't be delivered.
+    fn unsent(&self) -> Refused
+        ensures { delivery (progress self.now) None ≡ Err result }
+    {
+        if self.entries.len() >= JOURNAL_LIMIT as usize {
+            Refused::JournalFull
+        } else {
+            Refused::Stranger
+        }
+    }
+
+    // Delivers the message of this number, which settles it unless its delivery is refused.
+    fn deliver(&mut self, alloc: Global, line: u32, number: u32) -> Result<(), PlayError>
+        requires counted { 1 ≤ number }
+        ensures ok { OnOk result (Does line (Command.Deliver number) (progress self.old) (progress self.new)) }
+        ensures full { IfErr result (λ error. error ≡ JournalFull → IsFullIn line (Command.Deliver number) (progress self.old)) }
+    {
+        let index = number as usize - 1;
+        match self.world.sent().get(index).copied() {
+            Some(message) => self.deliver_sent(alloc, line, index, message),
+            None => self.refuse(line, self.unsent()),
+        }
+    }
+
+    // Delivers the message of this index.
+    fn deliver_sent(
+        &mut self,
+        alloc: Global,
+        line: u32,
+        index: usize,
+        message: Message,
+    ) -> Result<(), PlayError>
+        ensures ok { OnOk result (Comes line index (progress self.old) (delivery (progress self.old) (Some message)) (progress self.new)) }
+        ensures full { IfErr result (λ error. error ≡ JournalFull → delivery (progress self.old) (Some message) ≡ Err Refused.JournalFull) }
+    {
+        match self.world.step(alloc, Event::Deliver(message)) {
+            Ok(entry) => {
+                self.entries.push(entry)?;
+                self.settled.settle(index)?;
+            }
+            Err(refusal) => self.refuse(line, refusal)?,
+        }
+        Ok(())
+    }
+
+    // Loses the message of this number: it is settled, and nothing happens.
+    fn lose(&mut self, line: u32, number: u32) -> Result<(), PlayError>
+        requires counted { 1 ≤ number }
+        ensures ok { OnOk result (Does line (Command.Lose number) (progress self.old) (progress self.new)) }
+        ensures err { IfErr result (λ error. error ≡ NoMemory) }
+    {
+        let index = number as usize - 1;
+        if index < self.world.sent().len() {
+            self.settled.settle(index)?;
+        } else {
+            self.refuse(line, Refused::Stranger)?;
+        }
+        Ok(())
+    }
+
+    // The earliest message that is not settled, at which the cursor stands from now on.
+    fn next_message(&mut self) -> Option<Message>
+        ensures same { progress self.new ≡ progress self.old }
+        ensures message { MatchOption result (IsSettled (progress self.new)) (λ message. IsNextMessage (progress self.new) self.new.settled.cursor message) }
+        ensures room { IfSome result (λ _. self.new.settled.cursor < usize.MAX) }
+        ensures rises { self.old.settled.cursor ≤ self.new.settled.cursor }
+    {
+        self.settled.advance();
+        self.world.sent().get(self.settled.cursor()).copied()
+    }
+
+    // Delivers the message at the cursor, or passes over it where its delivery is refused.
+    fn deliver_next(&mut self, alloc: Global, line: u32, message: Message) -> Result<(), PlayError>
+        requires next_one { IsNextMessage (progress self.old) self.old.settled.cursor message }
+        requires room { self.old.settled.cursor < usize.MAX }
         ensures ok { OnOk result (Delivers line (progress self.old) message (progress self.new)) }
         ensures full { IfErr result (λ error. error ≡ JournalFull → FindsItFull (progress self.old) (Event.Deliver message)) }
-        ensures count { OnOk result (self.new.settled ≡ self.old.settled + 1) }
+        ensures rises { OnOk result (self.new.settled.cursor ≡ self.old.settled.cursor + 1) }
     {
-        self.settled += 1;
+        self.settled.pass();
         self.step(alloc, line, Event::Deliver(message))
     }
 
@@ -109,8 +192,8 @@ impl Player {
         ensures ok { OnOk result (Settles line (progress self.old) (progress self.new)) }
         ensures full { IfErr result (λ error. error ≡ JournalFull → SettlesToFull line (progress self.old)) }
     {
-        while let Some(message) = self.unsettled() {
-            self.deliver(alloc, line, message)?;
+        while let Some(message) = self.next_message() {
+            self.deliver_next(alloc, line, message)?;
         }
         Ok(())
     }

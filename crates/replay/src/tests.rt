@@ -4,6 +4,8 @@ use crate::play::play;
 use crate::respond::respond;
 use crate::store::{Store, StoreError};
 use lockscript::script::Script;
+use messages::shape::Shape;
+use model::policy::Policy;
 use std::alloc::Global;
 use std::io;
 use std::io::Write;
@@ -157,6 +159,119 @@ locks
 history
 ";
 
+const LOST: &[u8] = b"cluster nodes 1 files 1 policy exact
+call 1 1 spawn
+call 1 1 open 1 rw
+call 1 1 set 0 proc write 0 100
+deliver 2
+lose 3
+deliver 1
+deliver 1
+lose 2
+settle
+deliver 2
+deliver 2
+lose 4
+settle
+deliver 4
+call 1 1 unlock 0 proc 40 20
+";
+
+const LOST_LISTING: &str = "refused
+line 5 code 14
+line 6 code 14
+replies
+      1 1.1.1            done
+      2 1.1.2            fd 0
+      6 1.1.3            done
+     10 1.1.4            done
+tokens
+1.1        1                   0                  99 exclusive
+locks
+p1@1.1             1                   0                  39 write
+p1@1.1             1                  60                  99 write
+history
+      1 1.1.1            1 spawn -> done
+      2 1.1.2            1 open 1 rw -> fd 0
+      6 1.1.3            1 set 0 proc write 0 100 -> done
+     10 1.1.4            1 unlock 0 proc 40 20 -> done
+";
+
+const AGAIN: &[u8] = b"cluster nodes 1 files 1 policy exact
+call 1 1 spawn
+call 1 1 open 1 rw
+call 1 1 set 0 proc write 0 100
+lose 1
+retry 1 1
+retry 2 1
+deliver 2
+resend 1
+resend 2
+lose 3
+settle
+retry 1 1
+call 1 1 unlock 0 proc 0 100
+";
+
+const AGAIN_LISTING: &str = "refused
+line 7 code 14
+line 10 code 14
+replies
+      1 1.1.1            done
+      2 1.1.2            fd 0
+      7 1.1.3            done
+     10 1.1.4            done
+tokens
+1.1        1                   0                  99 exclusive
+locks
+history
+      1 1.1.1            1 spawn -> done
+      2 1.1.2            1 open 1 rw -> fd 0
+      7 1.1.3            1 set 0 proc write 0 100 -> done
+     10 1.1.4            1 unlock 0 proc 0 100 -> done
+";
+
+const TWO_NODES: &[u8] = b"cluster nodes 2 files 1 policy exact
+call 1 1 spawn
+call 1 1 open 1 rw
+call 2 1 spawn
+call 2 1 open 1 rw
+call 1 1 set 0 proc write 0 100
+lose 1
+retry 1 1
+deliver 2
+resend 1
+deliver 4
+deliver 3
+deliver 5
+deliver 6
+call 2 1 set 0 proc write 100 100
+settle
+";
+
+const TWO_NODES_LISTING: &str = "refused
+replies
+      1 1.1.1            done
+      2 1.1.2            fd 0
+      3 2.1.1            done
+      4 2.1.2            fd 0
+      9 1.1.3            done
+     15 2.1.3            done
+tokens
+1.1        1                   0                  99 exclusive
+2.1        1                 100                 199 exclusive
+locks
+p1@1.1             1                   0                  99 write
+p1@2.1             1                 100                 199 write
+history
+      1 1.1.1            1 spawn -> done
+      2 1.1.2            1 open 1 rw -> fd 0
+      3 2.1.1            1 spawn -> done
+      4 2.1.2            1 open 1 rw -> fd 0
+      9 1.1.3            1 set 0 proc write 0 100 -> done
+     15 2.1.3            1 set 0 proc write 100 100 -> done
+";
+
 #[test]
 fn reads_a_command_line(rt: HostRuntime) {
     let Ok(line) = Line::read(rt.alloc(), RUN.as_slice()) else {
@@ -191,6 +306,8 @@ fn prints_listings(rt: HostRuntime) -> Result<(), Fail> {
         (FIRST, FIRST_LISTING),
         (TWO, TWO_LISTING),
         (STRANGER, STRANGER_LISTING),
+        (LOST, LOST_LISTING),
+        (AGAIN, AGAIN_LISTING),
     ];
     for (bytes, listing) in cases {
         let mut out = Vec::new(alloc);
@@ -199,6 +316,24 @@ fn prints_listings(rt: HostRuntime) -> Result<(), Fail> {
         assert_eq!(rt; str::from_utf8(out.as_slice())?, listing);
         assert_eq!(rt; err.as_slice(), b"".as_slice());
         assert_eq!(rt; status, 0);
+    }
+    Ok(())
+}
+
+// A script of two nodes is played once shapes have two; until then its first line is bad.
+#[test]
+fn prints_a_listing_of_two_nodes(rt: HostRuntime) -> Result<(), Fail> {
+    let alloc = rt.alloc();
+    let mut out = Vec::new(alloc);
+    let mut err = Vec::new(alloc);
+    let mut shelf = Shelf { bytes: TWO_NODES };
+    let status = respond(alloc, &RUN, &mut shelf, &mut out, &mut err);
+    if Shape::new(2, 1, Policy::Exact).is_ok() {
+        assert_eq!(rt; str::from_utf8(out.as_slice())?, TWO_NODES_LISTING);
+        assert_eq!(rt; status, 0);
+    } else {
+        assert_eq!(rt; err.as_slice(), b"bad line 1\n".as_slice());
+        assert_eq!(rt; status, 3);
     }
     Ok(())
 }

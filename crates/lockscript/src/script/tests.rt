@@ -61,8 +61,33 @@ fn has_its_lines(rt: HostRuntime) -> Result<(), Fail> {
     Ok(())
 }
 
+const MESSAGES: &str = "cluster nodes 1 files 1 policy wide
+deliver 1
+deliver 4294967295
+lose 4294967295
+retry 64 256
+resend 256
+";
+
+#[test]
+fn has_its_lines_of_messages(rt: HostRuntime) -> Result<(), Fail> {
+    let script = Script::parse(rt.alloc(), MESSAGES)?;
+    let want = [
+        Command::Deliver { message: 1 },
+        Command::Deliver { message: u32::MAX },
+        Command::Lose { message: u32::MAX },
+        Command::Retry { node: 64, pid: 256 },
+        Command::Resend { file: 256 },
+    ];
+    assert_eq!(rt; script.lines().len(), want.len());
+    for (line, command) in script.lines().iter().zip(want.iter()) {
+        assert_eq!(rt; line.command(), *command);
+    }
+    Ok(())
+}
+
 // What may not stand in line 2.
-const BAD_SECOND_LINES: [&str; 49] = [
+const BAD_SECOND_LINES: [&str; 66] = [
     "cluster nodes 1 files 1 policy wide",
     "Settle",
     "settle ",
@@ -111,7 +136,24 @@ const BAD_SECOND_LINES: [&str; 49] = [
     "call 1 1 exit",
     "call 1 1 wait 0 proc write 0 1",
     "call 1 1 query 0 proc write 0 1",
-    "deliver 1",
+    "deliver",
+    "deliver 0",
+    "deliver 01",
+    "deliver 4294967296",
+    "deliver 1 1",
+    "lose",
+    "lose 0",
+    "lose +1",
+    "lose 4294967296",
+    "retry 1",
+    "retry 0 1",
+    "retry 65 1",
+    "retry 1 257",
+    "retry 1 1 1",
+    "resend 0",
+    "resend 257",
+    "resend 1 ",
+    "interrupt 1 1",
 ];
 
 #[test]

@@ -8,4 +8,4 @@ abbrev pub invariant-loop-message : goal.invariant-loop-message
 invariant-loop-message l = (ms : List Message) × DeliversAll l.line (progress l.initial.self) ms (progress l.self)
 
 abbrev pub decreases-loop-message : goal.decreases-loop-message
-decreases-loop-message l = 2 ^ 64 - l.self.settled
+decreases-loop-message l = 2 ^ 64 - l.self.settled.cursor
