@@ -4,8 +4,6 @@ use crate::play::play;
 use crate::respond::respond;
 use crate::store::{Store, StoreError};
 use lockscript::script::Script;
-use messages::shape::Shape;
-use model::policy::Policy;
 use std::alloc::Global;
 use std::io;
 use std::io::Write;
@@ -308,6 +306,7 @@ fn prints_listings(rt: HostRuntime) -> Result<(), Fail> {
         (STRANGER, STRANGER_LISTING),
         (LOST, LOST_LISTING),
         (AGAIN, AGAIN_LISTING),
+        (TWO_NODES, TWO_NODES_LISTING),
     ];
     for (bytes, listing) in cases {
         let mut out = Vec::new(alloc);
@@ -316,24 +315,6 @@ fn prints_listings(rt: HostRuntime) -> Result<(), Fail> {
         assert_eq!(rt; str::from_utf8(out.as_slice())?, listing);
         assert_eq!(rt; err.as_slice(), b"".as_slice());
         assert_eq!(rt; status, 0);
-    }
-    Ok(())
-}
-
-// A script of two nodes is played once shapes have two; until then its first line is bad.
-#[test]
-fn prints_a_listing_of_two_nodes(rt: HostRuntime) -> Result<(), Fail> {
-    let alloc = rt.alloc();
-    let mut out = Vec::new(alloc);
-    let mut err = Vec::new(alloc);
-    let mut shelf = Shelf { bytes: TWO_NODES };
-    let status = respond(alloc, &RUN, &mut shelf, &mut out, &mut err);
-    if Shape::new(2, 1, Policy::Exact).is_ok() {
-        assert_eq!(rt; str::from_utf8(out.as_slice())?, TWO_NODES_LISTING);
-        assert_eq!(rt; status, 0);
-    } else {
-        assert_eq!(rt; err.as_slice(), b"bad line 1\n".as_slice());
-        assert_eq!(rt; status, 3);
     }
     Ok(())
 }
