@@ -1,5 +1,5 @@
 #!/bin/sh
-# Times lockreplay on scripts of 10,000, 100,000 and 1,000,000 lines.
+# Times lockreplay on scripts of 10,000, 100,000 and 1,000,000 lines of each kind.
 here=$(dirname -- "$(readlink -f -- "$0")") || exit 1
 folder=$1
 if [ -z "$folder" ]; then
@@ -8,12 +8,13 @@ if [ -z "$folder" ]; then
 fi
 "$here/../lockreplay" --help >/dev/null || exit 1
 
-echo "lines      entries    seconds  entries/s  peak MB"
-for lines in 10000 100000 1000000; do
-    script=$folder/$lines.lock
-    listing=$folder/$lines.listing
-    sh "$here/script.sh" "$lines" >"$script" || exit 1
-    measured=$(python3 - "$here/../crates/lockreplay/out/lockreplay" "$script" "$listing" <<'PYTHON'
+echo "kind     lines      entries    seconds  entries/s  peak MB"
+for kind in covered readers lossy; do
+    for lines in 10000 100000 1000000; do
+        script=$folder/$kind-$lines.lock
+        listing=$folder/$kind-$lines.listing
+        sh "$here/script.sh" "$kind" "$lines" >"$script" || exit 1
+        measured=$(python3 - "$here/../crates/lockreplay/out/lockreplay" "$script" "$listing" <<'PYTHON'
 import resource, subprocess, sys, time
 program, script, listing = sys.argv[1:]
 with open(listing, "wb") as out:
@@ -25,7 +26,8 @@ if status != 0:
 kilobytes = resource.getrusage(resource.RUSAGE_CHILDREN).ru_maxrss
 print(f"{seconds:.2f} {kilobytes // 1024}")
 PYTHON
-    ) || exit 1
-    entries=$(awk '/^history$/ { exit } /^replies$/ { inside = 1; next } /^tokens$/ { inside = 0 } inside { last = $1 } END { print last + 0 }' "$listing")
-    echo "$lines $entries $measured" | awk '{ printf "%-10d %-10d %-8.2f %-10.0f %d\n", $1, $2, $3, $2 / ($3 > 0 ? $3 : 0.01), $4 }'
+        ) || exit 1
+        entries=$(awk '/^history$/ { exit } /^replies$/ { inside = 1; next } /^tokens$/ { inside = 0 } inside { last = $1 } END { print last + 0 }' "$listing")
+        echo "$kind $lines $entries $measured" | awk '{ printf "%-8s %-10d %-10d %-8.2f %-10.0f %d\n", $1, $2, $3, $4, $3 / ($4 > 0 ? $4 : 0.01), $5 }'
+    done
 done

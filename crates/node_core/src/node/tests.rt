@@ -3,7 +3,6 @@ ghost use Rattle.std.specs.Prelude.{◌≤◌};
 
 use super::*;
 use intervals::span::GREATEST;
-use model::owner::Owner;
 use model::policy::Policy;
 use std::test::Fail;
 
@@ -194,33 +193,6 @@ fn locks_the_bytes_that_it_was_granted(rt: HostRuntime) -> Result<(), Fail> {
     Ok(())
 }
 
-// What process 1 has locked of the file.
-const HELD: LockInfo = LockInfo {
-    owner: Owner {
-        node: 1,
-        incarnation: 1,
-        kind: Kind::OfProcess,
-        number: 1,
-    },
-    mode: Mode::Write,
-    span: Span { lo: 0, hi: 99 },
-};
-
-#[test]
-fn asks_its_own_locks_before_its_token(rt: HostRuntime) -> Result<(), Fail> {
-    let alloc = rt.alloc();
-    let mut node = two_processes(alloc, Policy::Wide)?;
-    take(&mut node, alloc, set(1, Mode::Write, 0, 100))?;
-    let busy = refusal(&node, alloc, unlock(1, 0, 1));
-    assert_eq!(rt; busy, Some(StepError::Busy));
-    let granted = grant(1, id(5), Mode::Write, WHOLE);
-    assert!(rt; finishes(&mut node, alloc, granted, 5, taken(1, 5))?);
-    let blocked = Reply::Again(HELD);
-    assert!(rt; answers(&mut node, alloc, set(2, Mode::Read, 99, 5), 6, blocked)?);
-    assert!(rt; answers(&mut node, alloc, set(2, Mode::Read, 100, 5), 7, Reply::Done)?);
-    Ok(())
-}
-
 #[test]
 fn does_each_command_once_and_in_order(rt: HostRuntime) -> Result<(), Fail> {
     let alloc = rt.alloc();
@@ -234,42 +206,6 @@ fn does_each_command_once_and_in_order(rt: HostRuntime) -> Result<(), Fail> {
     assert!(rt; !node.same(&before));
     assert!(rt; repeats(&node, alloc, granted, taken(1, 5))?);
     assert!(rt; stays(&node, alloc, grant(0, id(5), Mode::Write, bytes))?);
-    Ok(())
-}
-
-#[test]
-fn asks_for_what_its_policy_says(rt: HostRuntime) -> Result<(), Fail> {
-    let alloc = rt.alloc();
-    let bytes = Span { lo: 10, hi: 19 };
-    let read = set(1, Mode::Read, 10, 10);
-    let mut exact = two_processes(alloc, Policy::Exact)?;
-    let narrow = request(5, Mode::Read, Wanted::new(bytes, bytes));
-    assert!(rt; asks(&mut exact, alloc, read, narrow)?);
-    let mut wide = two_processes(alloc, Policy::Wide)?;
-    let whole = request(5, Mode::Read, Wanted::new(bytes, WHOLE));
-    assert!(rt; asks(&mut wide, alloc, read, whole)?);
-    take(&mut wide, alloc, grant(1, id(5), Mode::Read, bytes))?;
-    let rest = Span {
-        lo: 15,
-        hi: GREATEST,
-    };
-    let wanted = Wanted::new(Span { lo: 15, hi: 24 }, rest);
-    let asked = request(6, Mode::Read, wanted);
-    assert!(rt; asks(&mut wide, alloc, set(2, Mode::Read, 15, 10), asked)?);
-    Ok(())
-}
-
-#[test]
-fn a_grant_of_fewer_bytes_leaves_the_call_open(rt: HostRuntime) -> Result<(), Fail> {
-    let alloc = rt.alloc();
-    let mut node = two_processes(alloc, Policy::Exact)?;
-    take(&mut node, alloc, set(1, Mode::Write, 0, 10))?;
-    let fewer = Span { lo: 0, hi: 8 };
-    let outcome = take(&mut node, alloc, grant(1, id(5), Mode::Write, fewer))?;
-    assert!(rt; outcome.reply.is_none());
-    let required = Span { lo: 0, hi: 9 };
-    let again = request(5, Mode::Write, Wanted::new(required, required));
-    assert!(rt; outcome.sends.as_slice() == [taken(1, 5), again].as_slice());
     Ok(())
 }
 
@@ -290,52 +226,6 @@ fn a_retry_asks_again_with_its_own_number(rt: HostRuntime) -> Result<(), Fail> {
 }
 
 #[test]
-fn a_retry_is_answered_where_the_token_came(rt: HostRuntime) -> Result<(), Fail> {
-    let alloc = rt.alloc();
-    let mut node = two_processes(alloc, Policy::Wide)?;
-    take(&mut node, alloc, set(1, Mode::Write, 0, 10))?;
-    take(&mut node, alloc, set(2, Mode::Write, 20, 10))?;
-    let granted = grant(1, id(5), Mode::Write, WHOLE);
-    assert!(rt; finishes(&mut node, alloc, granted, 5, taken(1, 5))?);
-    let outcome = take(&mut node, alloc, NodeEvent::Retry { pid: 2 })?;
-    assert_eq!(rt; outcome.call, None);
-    assert_eq!(rt; outcome.reply, Some((id(6), Reply::Done)));
-    assert!(rt; outcome.sends.is_empty());
-    Ok(())
-}
-
-#[test]
-fn answers_by_the_first_test_that_fails(rt: HostRuntime) -> Result<(), Fail> {
-    let alloc = rt.alloc();
-    let mut node = begins(alloc, Policy::Wide)?;
-    let far = set(1, Mode::Read, -1, 1);
-    assert!(rt; answers(&mut node, alloc, far, 1, Reply::NoProcess)?);
-    assert!(rt; answers(&mut node, alloc, call(1, Op::Spawn), 2, Reply::Done)?);
-    assert!(rt; answers(&mut node, alloc, call(1, Op::Spawn), 3, Reply::Exists)?);
-    assert!(rt; answers(&mut node, alloc, far, 4, Reply::BadFd)?);
-    assert!(rt; answers(&mut node, alloc, call(2, OPEN), 5, Reply::NoProcess)?);
-    Ok(())
-}
-
-#[test]
-fn a_segment_is_tested_before_the_open_mode(rt: HostRuntime) -> Result<(), Fail> {
-    let alloc = rt.alloc();
-    let mut node = begins(alloc, Policy::Wide)?;
-    take(&mut node, alloc, call(1, Op::Spawn))?;
-    let file = 2;
-    let access = Access::ReadOnly;
-    take(&mut node, alloc, call(1, Op::Open { file, access }))?;
-    let far = set(1, Mode::Write, -1, 1);
-    assert!(rt; answers(&mut node, alloc, far, 3, Reply::Invalid)?);
-    let long = set(1, Mode::Write, i64::MAX, 2);
-    assert!(rt; answers(&mut node, alloc, long, 4, Reply::Overflow)?);
-    let short = set(1, Mode::Write, 0, 1);
-    assert!(rt; answers(&mut node, alloc, short, 5, Reply::BadFd)?);
-    assert!(rt; answers(&mut node, alloc, unlock(1, 0, 1), 6, Reply::Done)?);
-    Ok(())
-}
-
-#[test]
 fn refuses_calls_of_strangers(rt: HostRuntime) -> Result<(), Fail> {
     let alloc = rt.alloc();
     let node = two_processes(alloc, Policy::Wide)?;
@@ -346,56 +236,5 @@ fn refuses_calls_of_strangers(rt: HostRuntime) -> Result<(), Fail> {
         let refused = refusal(&node, alloc, call(pid, op));
         assert_eq!(rt; refused, Some(StepError::Stranger));
     }
-    Ok(())
-}
-
-#[test]
-fn refuses_messages_for_others(rt: HostRuntime) -> Result<(), Fail> {
-    let alloc = rt.alloc();
-    let node = two_processes(alloc, Policy::Wide)?;
-    let another = CallId {
-        node: 2,
-        incarnation: 1,
-        number: 5,
-    };
-    for (file, call) in [(1, another), (3, id(5)), (0, id(5))] {
-        let message = Message::Grant {
-            file,
-            number: 1,
-            call,
-            mode: Mode::Read,
-            span: WHOLE,
-        };
-        let refused = refusal(&node, alloc, NodeEvent::Deliver(message));
-        assert_eq!(rt; refused, Some(StepError::Stranger));
-    }
-    let refused = refusal(&node, alloc, NodeEvent::Deliver(taken(1, 5)));
-    assert_eq!(rt; refused, Some(StepError::Stranger));
-    Ok(())
-}
-
-#[test]
-fn a_message_for_another_incarnation_does_nothing(rt: HostRuntime) -> Result<(), Fail> {
-    let alloc = rt.alloc();
-    let mut node = two_processes(alloc, Policy::Wide)?;
-    take(&mut node, alloc, set(1, Mode::Write, 0, 10))?;
-    let call = CallId {
-        node: 1,
-        incarnation: 2,
-        number: 5,
-    };
-    assert!(rt; stays(&node, alloc, grant(1, call, Mode::Write, WHOLE))?);
-    Ok(())
-}
-
-#[test]
-fn takes_no_call_without_a_number(rt: HostRuntime) -> Result<(), Fail> {
-    let alloc = rt.alloc();
-    let mut node = two_processes(alloc, Policy::Wide)?;
-    node.calls = u32::MAX;
-    let spent = refusal(&node, alloc, call(3, Op::Spawn));
-    assert_eq!(rt; spent, Some(StepError::Spent));
-    let stranger = refusal(&node, alloc, call(257, Op::Spawn));
-    assert_eq!(rt; stranger, Some(StepError::Stranger));
     Ok(())
 }

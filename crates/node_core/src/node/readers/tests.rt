@@ -1,6 +1,7 @@
 use super::*;
 use crate::event::NodeEvent;
 use intervals::span::GREATEST;
+use intervals::span_map::NoMemory;
 use messages::message::Message;
 use messages::shape::Shape;
 use model::access::Access;
@@ -61,29 +62,56 @@ fn waits(alloc: Global) -> Result<Node, Fail> {
     step(alloc, &opened, call(set))
 }
 
-#[test]
-fn a_node_lists_its_token_and_its_locks(rt: HostRuntime) -> Result<(), Fail> {
-    let alloc = rt.alloc();
+// The same node after the grant.
+fn holds(alloc: Global) -> Result<Node, Fail> {
     let waiting = waits(alloc)?;
-    assert_eq!(rt; waiting.incarnation(), 7);
-    assert!(rt; waiting.token_runs(alloc, 2)?.is_empty());
-    assert!(rt; waiting.regions(2)?.is_empty());
-    let holder = step(alloc, &waiting, grant())?;
-    let token = (WHOLE, Level::Exclusive);
-    assert!(rt; holder.token_runs(alloc, 2)?.as_slice() == [token].as_slice());
-    assert!(rt; holder.token_runs(alloc, 1)?.is_empty());
-    assert!(rt; holder.token_runs(alloc, 3)?.is_empty());
-    let owner = Owner {
+    step(alloc, &waiting, grant())
+}
+
+// Whether the node has no token of the file.
+fn has_no_token(node: &Node, alloc: Global, file: u16) -> Result<bool, NoMemory> {
+    Ok(node.token_runs(alloc, file)?.is_empty())
+}
+
+// Whether the node's token of the file is just the run.
+fn has_token(node: &Node, alloc: Global, file: u16, run: (Span, Level)) -> Result<bool, NoMemory> {
+    Ok(node.token_runs(alloc, file)?.as_slice() == [run].as_slice())
+}
+
+// Whether the node's only lock of the file is this one.
+fn has_lock(node: &Node, file: u16, lock: LockInfo) -> Result<bool, NoMemory> {
+    Ok(node.regions(file)?.as_slice() == [lock].as_slice())
+}
+
+// Ten bytes that process 1 has locked.
+const LOCK: LockInfo = LockInfo {
+    owner: Owner {
         node: 1,
         incarnation: 7,
         kind: Kind::OfProcess,
         number: 1,
-    };
-    let lock = LockInfo {
-        owner,
-        mode: Mode::Write,
-        span: Span { lo: 0, hi: 9 },
-    };
-    assert!(rt; holder.regions(2)?.as_slice() == [lock].as_slice());
+    },
+    mode: Mode::Write,
+    span: Span { lo: 0, hi: 9 },
+};
+
+#[test]
+fn a_node_that_waits_holds_nothing(rt: HostRuntime) -> Result<(), Fail> {
+    let alloc = rt.alloc();
+    let node = waits(alloc)?;
+    assert_eq!(rt; node.incarnation(), 7);
+    assert!(rt; has_no_token(&node, alloc, 2)?);
+    assert!(rt; node.regions(2)?.is_empty());
+    Ok(())
+}
+
+#[test]
+fn a_node_lists_its_token_and_its_locks(rt: HostRuntime) -> Result<(), Fail> {
+    let alloc = rt.alloc();
+    let node = holds(alloc)?;
+    assert!(rt; has_token(&node, alloc, 2, (WHOLE, Level::Exclusive))?);
+    assert!(rt; has_no_token(&node, alloc, 1)?);
+    assert!(rt; has_no_token(&node, alloc, 3)?);
+    assert!(rt; has_lock(&node, 2, LOCK)?);
     Ok(())
 }
