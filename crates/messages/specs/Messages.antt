@@ -2,33 +2,50 @@
 use Rattle.std.specs.Prelude.{◌≡◌, ℕ, Bool, true, false, ◌&&◌, ◌==◌, nat_le, ◌↔◌, IsTrue, List, None}
 use Rattle.std.specs.List.{list_any}
 use Rattle.intervals.specs.Bytes.{Range}
-use Rattle.model.specs.Owners.{same_mode}
+use Rattle.model.specs.Owners.{same_mode, same_owner, host_of_call}
 use Rattle.model.specs.declared.call.CallId.{CallId}
+use Rattle.model.specs.declared.host.Host.{Host}
+use Rattle.model.specs.declared.lock_info.LockInfo.{LockInfo}
 use Rattle.messages.specs.Wants.{Wants}
 use Rattle.messages.specs.declared.actor.Actor.{Actor}
 use Rattle.messages.specs.declared.actor.Actor.TheVariants.{Node as ANode, Server as AServer}
 use Rattle.messages.specs.declared.message.Urgency.{Urgency}
 use Rattle.messages.specs.declared.message.Urgency.TheVariants.{Now, Waits}
 use Rattle.messages.specs.declared.message.Message.{Message}
-use Rattle.messages.specs.declared.message.Message.TheVariants.{Request, Grant, Taken}
+use Rattle.messages.specs.declared.message.Message.TheVariants.{Request, Grant, Revoke, Taken, Released, Conflict, Deny, Freed}
 use Rattle.messages.specs.declared.outcome.Outcome.{Outcome}
 
 -- who takes the message
 abbrev pub addressee : Message → Actor
 addressee (Request file call urgency mode wanted) = AServer file
 addressee (Grant file number call mode span) = ANode call.node
+addressee (Revoke file number holder call mode wanted) = ANode holder.node
 addressee (Taken file number call) = AServer file
+addressee (Released file number holder call span) = AServer file
+addressee (Conflict file number holder call lock) = AServer file
+addressee (Deny file call holder number lock) = ANode call.node
+addressee (Freed file holder) = AServer file
 
--- the call that a message names
-abbrev pub call_of : Message → CallId
-call_of (Request file call urgency mode wanted) = call
-call_of (Grant file number call mode span) = call
-call_of (Taken file number call) = call
+-- the node, in its incarnation, that sends the message or takes it
+abbrev pub host_of : Message → Host
+host_of (Request file call urgency mode wanted) = host_of_call call
+host_of (Grant file number call mode span) = host_of_call call
+host_of (Revoke file number holder call mode wanted) = holder
+host_of (Taken file number call) = host_of_call call
+host_of (Released file number holder call span) = holder
+host_of (Conflict file number holder call lock) = holder
+host_of (Deny file call holder number lock) = host_of_call call
+host_of (Freed file holder) = holder
 
 abbrev pub file_of : Message → ℕ
 file_of (Request file call urgency mode wanted) = file
 file_of (Grant file number call mode span) = file
+file_of (Revoke file number holder call mode wanted) = file
 file_of (Taken file number call) = file
+file_of (Released file number holder call span) = file
+file_of (Conflict file number holder call lock) = file
+file_of (Deny file call holder number lock) = file
+file_of (Freed file holder) = file
 
 -- the greatest number of a call or a command
 abbrev pub greatest_number : ℕ
@@ -56,11 +73,22 @@ same_urgency Now Now = true
 same_urgency Waits Waits = true
 same_urgency _ _ = false
 
+abbrev pub same_host : Host → Host → Bool
+same_host a b = (a.node == b.node) && (a.incarnation == b.incarnation)
+
+abbrev pub same_lock : LockInfo → LockInfo → Bool
+same_lock a b = same_owner a.owner b.owner && (same_mode a.mode b.mode && same_range a.span b.span)
+
 -- messages are equal by value
 abbrev pub same_message : Message → Message → Bool
 same_message (Request f c u m w) (Request g d v n x) = (f == g) && (same_call c d && (same_urgency u v && (same_mode m n && same_wants w x)))
 same_message (Grant f k c m s) (Grant g l d n t) = (f == g) && ((k == l) && (same_call c d && (same_mode m n && same_range s t)))
+same_message (Revoke f k h c m w) (Revoke g l i d n x) = (f == g) && ((k == l) && (same_host h i && (same_call c d && (same_mode m n && same_wants w x))))
 same_message (Taken f k c) (Taken g l d) = (f == g) && ((k == l) && same_call c d)
+same_message (Released f k h c s) (Released g l i d t) = (f == g) && ((k == l) && (same_host h i && (same_call c d && same_range s t)))
+same_message (Conflict f k h c a) (Conflict g l i d b) = (f == g) && ((k == l) && (same_host h i && (same_call c d && same_lock a b)))
+same_message (Deny f c h k a) (Deny g d i l b) = (f == g) && (same_call c d && (same_host h i && ((k == l) && same_lock a b)))
+same_message (Freed f h) (Freed g i) = (f == g) && same_host h i
 same_message _ _ = false
 
 -- the message is one of those

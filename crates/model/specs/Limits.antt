@@ -32,6 +32,10 @@ pub record IsHost (node incarnation : ℕ) : Type 0 where
   pub node_in : IsNumber most_nodes node
   pub incarnation_in : IsNumber 65535 incarnation
 
+pub record HostFields : Type 0 where
+  pub node : ℕ
+  pub incarnation : ℕ
+
 pub record ProcessFields : Type 0 where
   pub node : ℕ
   pub incarnation : ℕ

@@ -8,6 +8,8 @@ use Rattle.model.specs.declared.mode.Mode.TheVariants.{Read, Write}
 use Rattle.model.specs.declared.owner.Kind.{Kind}
 use Rattle.model.specs.declared.owner.Kind.TheVariants.{OfProcess, OfDescription}
 use Rattle.model.specs.declared.owner.Owner.{Owner}
+use Rattle.model.specs.declared.call.CallId.{CallId}
+use Rattle.model.specs.declared.host.Host.{Host}
 use Rattle.model.specs.declared.process.Process.{Process}
 use Rattle.model.specs.Limits.{most_processes}
 
@@ -23,6 +25,10 @@ same_kind _ _ = false
 
 abbrev pub same_owner : Owner → Owner → Bool
 same_owner a b = (a.node == b.node) && ((a.incarnation == b.incarnation) && (same_kind a.kind b.kind && (a.number == b.number)))
+
+-- the node, in its incarnation, of a call
+abbrev pub host_of_call : CallId → Host
+host_of_call c = record { node = c.node; incarnation = c.incarnation }
 
 -- the process as an owner of locks
 abbrev pub process_owner : Process → Owner

@@ -3,9 +3,9 @@ use Rattle.std.specs.Prelude.{◌≡◌, Result, Ok, Err, Some, None}
 use Rattle.model.specs.declared.mode.Mode.{Mode}
 use Rattle.model.specs.declared.process.Process.{Process}
 use Rattle.model.specs.declared.op.Op.{Op}
-use Rattle.model.specs.declared.op.Op.TheVariants.{Spawn, Open, Set, Unlock}
+use Rattle.model.specs.declared.op.Op.TheVariants.{Spawn, Open, Set, Unlock, Query}
 use Rattle.model.specs.declared.reply.Reply.{Reply}
-use Rattle.model.specs.declared.reply.Reply.TheVariants.{Done, Again, NoLocks}
+use Rattle.model.specs.declared.reply.Reply.TheVariants.{Done, Again, NoLocks, Free, Blocked}
 use Rattle.model.specs.Locks.{IsFree, Blocks}
 use Rattle.model.specs.Descriptors.{after_spawn, after_open}
 use Rattle.model.specs.Table.{Table, Target, around, beside, target, lock_within, after_unlock}
@@ -30,9 +30,16 @@ SetStep old mode Done new c = Unblocked old c mode × Is (lock_within old c (Som
 SetStep old mode NoLocks new c = Unblocked old c mode × Is (lock_within old c (Some mode)) NoLocks new
 SetStep old mode _ new c = ⊥
 
+-- POSIX.1-2017 fcntl(), F_GETLK: where a lock of another owner would block, one such lock is named; nothing changes
+abbrev pub QueryStep : Table → Mode → Reply → Table → Target → Type 0
+QueryStep old mode (Blocked lock) new c = Blocks (old.locks c.file) c.owner c.span mode lock × (new ≡ old)
+QueryStep old mode Free new c = Unblocked old c mode × (new ≡ old)
+QueryStep old mode _ new c = ⊥
+
 -- from the old table the call of the process may get this reply and leave the new one
 abbrev pub Step : Table → Process → Op → Reply → Table → Type 0
 Step old p Spawn reply new = Is (beside old p (after_spawn (around old p) p.pid)) reply new
 Step old p (Open file access) reply new = Is (beside old p (after_open (around old p) p.pid file access)) reply new
 Step old p (Set fd kind mode start len) reply new = AfterTests old (target old p (Some mode) fd kind start len) reply new (SetStep old mode reply new)
 Step old p (Unlock fd kind start len) reply new = Is (after_unlock old (target old p None fd kind start len)) reply new
+Step old p (Query fd kind mode start len) reply new = AfterTests old (target old p None fd kind start len) reply new (QueryStep old mode reply new)

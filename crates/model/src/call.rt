@@ -1,4 +1,8 @@
 //! Names of calls.
+ghost use Rattle.std.specs.Prelude.{◌≡◌};
+ghost use Rattle.model.specs.Owners.{host_of_call};
+
+use crate::host::Host;
 use std::marker::Model;
 
 /// A call, by its node (1 to 64), the node's incarnation (from 1) and its number there (from 1).
@@ -19,4 +23,16 @@ impl Model for CallId {
     ghost invariant = { λ c. IsCall (record { node = c.node; incarnation = c.incarnation; number = c.number }) };
 
     ghost inverse = { λ c. record { node = c.node; incarnation = c.incarnation; number = c.number } };
+}
+
+impl CallId {
+    /// The node, in its incarnation, that the call is of.
+    pub fn host(&self) -> Host
+        ensures { result ≡ host_of_call self.now }
+    {
+        Host {
+            node: self.node,
+            incarnation: self.incarnation,
+        }
+    }
 }

@@ -5,6 +5,7 @@ pub mod access;
 pub mod call;
 pub mod change;
 pub mod equality;
+pub mod host;
 pub mod laws;
 pub mod level;
 pub mod lock_call;

@@ -28,4 +28,13 @@ pub enum Op {
         start: i64,
         len: i64,
     },
+    /// Whether a lock on a segment would be in the way of another owner's, and which one is
+    /// (POSIX.1-2017 `fcntl()`, F_GETLK).
+    Query {
+        fd: u8,
+        kind: Kind,
+        mode: Mode,
+        start: i64,
+        len: i64,
+    },
 }

@@ -9,6 +9,10 @@ pub enum Reply {
     Fd(u8),
     /// A lock of another owner that blocks, a whole region (POSIX.1-2017 `fcntl()`, EAGAIN).
     Again(LockInfo),
+    /// No lock blocks (POSIX.1-2017 `fcntl()`, F_GETLK with F_UNLCK).
+    Free,
+    /// A lock of another owner that would block, a whole region (POSIX.1-2017 `fcntl()`, F_GETLK).
+    Blocked(LockInfo),
     /// The caller doesn't run.
     NoProcess,
     /// The process runs already.

@@ -2,19 +2,21 @@
 use Rattle.std.specs.Prelude.{ℕ, ◌+◌, Bool, true, not, ◌&&◌, nat_lt, if◌then◌else◌, [], ◌∷◌, ◌++◌, is_some, Option, Some, None, Result, Ok, Err}
 use Rattle.model.specs.declared.mode.Mode.{Mode}
 use Rattle.model.specs.declared.op.Op.{Op}
-use Rattle.model.specs.declared.op.Op.TheVariants.{Spawn, Open, Set, Unlock}
+use Rattle.model.specs.declared.op.Op.TheVariants.{Spawn, Open, Set, Unlock, Query}
 use Rattle.model.specs.declared.reply.Reply.{Reply}
 use Rattle.model.specs.Limits.{most_processes}
 use Rattle.model.specs.Descriptors.{after_spawn, after_open}
-use Rattle.model.specs.Table.{Target, around, beside, target, after_unlock}
+use Rattle.model.specs.Table.{Target, around, beside, target}
 use Rattle.messages.specs.Shapes.{ShapeFields}
 use Rattle.messages.specs.declared.refusal.StepError.{StepError}
 use Rattle.messages.specs.declared.refusal.StepError.TheVariants.{Busy, Stranger, Spent}
 use Rattle.messages.specs.declared.outcome.Outcome.{Outcome}
 use Rattle.messages.specs.Messages.{is_within, greatest_number}
+use Rattle.node_core.specs.declared.open_call.Intent.{Intent}
+use Rattle.node_core.specs.declared.open_call.Intent.TheVariants as intent
 use Rattle.node_core.specs.declared.open_call.OpenCall.{OpenCall}
 use Rattle.node_core.specs.State.{NodeState, Effect, answered, open_call_of, process, id_of, outcome}
-use Rattle.node_core.specs.Try.{settled, tried}
+use Rattle.node_core.specs.Try.{settled, locked_by, tried}
 
 -- the number is one of a process
 abbrev pub is_pid : ℕ → Bool
@@ -25,19 +27,25 @@ abbrev pub is_in_shape : ShapeFields → Op → Bool
 is_in_shape shape (Open file access) = is_within shape.files file
 is_in_shape shape _ = true
 
--- a set that passes its first tests is open, and is tried
-abbrev pub lock_call : NodeState → ℕ → ℕ → Mode → Result Target Reply → Effect
-lock_call s number pid mode (Err refusal) = answered s number refusal
-lock_call s number pid mode (Ok target) =
-    let c : OpenCall = record { number = number; pid = pid; file = target.file; owner = target.owner; mode = mode; span = target.span } in
+-- a call about a lock that passes its first tests is open, and is tried
+abbrev pub lock_call : NodeState → ℕ → ℕ → Intent → Mode → Result Target Reply → Effect
+lock_call s number pid intent mode (Err refusal) = answered s number refusal
+lock_call s number pid intent mode (Ok target) =
+    let c : OpenCall = record { number = number; pid = pid; intent = intent; file = target.file; owner = target.owner; mode = mode; span = target.span } in
     tried (record s { pending = s.pending ++ c ∷ [] }) c
 
--- the call with that number: all but set are answered in the same step
+-- the bytes are freed, if the call passes its first tests
+abbrev pub unlock_call : NodeState → ℕ → Result Target Reply → Effect
+unlock_call s number (Err refusal) = answered s number refusal
+unlock_call s number (Ok target) = locked_by s number target None
+
+-- the call with that number: all but set and query are answered in the same step
 abbrev pub called : NodeState → ℕ → ℕ → Op → Effect
 called s number pid Spawn = settled s number (beside s.table (process s pid) (after_spawn (around s.table (process s pid)) pid))
 called s number pid (Open file access) = settled s number (beside s.table (process s pid) (after_open (around s.table (process s pid)) pid file access))
-called s number pid (Set fd kind mode start len) = lock_call s number pid mode (target s.table (process s pid) (Some mode) fd kind start len)
-called s number pid (Unlock fd kind start len) = settled s number (after_unlock s.table (target s.table (process s pid) None fd kind start len))
+called s number pid (Set fd kind mode start len) = lock_call s number pid intent.Set mode (target s.table (process s pid) (Some mode) fd kind start len)
+called s number pid (Unlock fd kind start len) = unlock_call s number (target s.table (process s pid) None fd kind start len)
+called s number pid (Query fd kind mode start len) = lock_call s number pid intent.Query mode (target s.table (process s pid) None fd kind start len)
 
 -- the call takes the next number
 abbrev pub after_call : NodeState → ℕ → Op → NodeState × Outcome

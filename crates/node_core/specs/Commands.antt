@@ -1,19 +1,27 @@
 -- A node takes a message of a token server.
-use Rattle.std.specs.Prelude.{ℕ, ◌+◌, Bool, false, not, ◌&&◌, ◌==◌, nat_le, if◌then◌else◌, ◌∷◌, Option, Some, None, Result, Ok, Err}
+use Rattle.std.specs.Prelude.{ℕ, ◌+◌, Bool, true, false, not, ◌&&◌, ◌||◌, ◌==◌, nat_le, if◌then◌else◌, ◌∷◌, Option, Some, None, Result, Ok, Err}
 use Rattle.intervals.specs.Bytes.{Range}
 use Rattle.model.specs.declared.mode.Mode.{Mode}
 use Rattle.model.specs.declared.call.CallId.{CallId}
-use Rattle.token_set.specs.Tokens.{raised}
+use Rattle.model.specs.declared.host.Host.{Host}
+use Rattle.model.specs.declared.lock_info.LockInfo.{LockInfo}
+use Rattle.token_set.specs.Tokens.{Token, raised}
+use Rattle.token_set.specs.declared.gave_up.GaveUp.{GaveUp}
+use Rattle.token_set.specs.declared.gave_up.GaveUp.TheVariants.{Released, Conflict}
+use Rattle.token_set.specs.Releases.{gave_up, after_giving_up}
+use Rattle.node_core.specs.declared.open_call.OpenCall.{OpenCall}
 use Rattle.messages.specs.declared.refusal.StepError.{StepError}
 use Rattle.messages.specs.declared.refusal.StepError.TheVariants.{Stranger}
 use Rattle.messages.specs.declared.message.Message.{Message}
-use Rattle.messages.specs.declared.message.Message.TheVariants.{Grant, Taken}
+use Rattle.messages.specs.declared.message.Message.TheVariants as message
+use Rattle.messages.specs.declared.message.Message.TheVariants.{Grant, Revoke, Taken, Deny}
+use Rattle.messages.specs.Wants.{Wants}
 use Rattle.messages.specs.declared.outcome.Outcome.{Outcome}
 use Rattle.messages.specs.declared.actor.Actor.{Actor}
 use Rattle.messages.specs.declared.actor.Actor.TheVariants.{Node as ANode, Server as AServer}
-use Rattle.messages.specs.Messages.{addressee, call_of, file_of, is_within}
-use Rattle.node_core.specs.State.{FileState, NodeState, Effect, with_file, quiet, sent, outcome, open_call}
-use Rattle.node_core.specs.Try.{tried_if}
+use Rattle.messages.specs.Messages.{addressee, host_of, file_of, is_within}
+use Rattle.node_core.specs.State.{FileState, NodeState, Effect, with_file, quiet, sent, answered, host, outcome, open_call}
+use Rattle.node_core.specs.Try.{refusal_of, tried_if}
 
 -- the answer to the last command is sent again
 abbrev pub remembered : NodeState → Option Message → Effect
@@ -30,19 +38,42 @@ in_order s file number effect =
 abbrev pub before : Message → Effect → Effect
 before first e = record { state = e.state; reply = e.reply; sends = first ∷ e.sends }
 
--- the token is raised, the command is done, and this is the answer to it
-abbrev pub after_grant : NodeState → ℕ → ℕ → CallId → Mode → Range → NodeState
-after_grant s file number call mode span =
-    with_file s file (record { token = raised (s.files file).token span mode; last = number; answer = Some (Taken file number call) })
+-- the command is done: the file has this token from now on, and this is the answer
+abbrev pub after_command : NodeState → ℕ → Token → ℕ → Message → Bool → NodeState
+after_command s file token number answer asked = with_file s file (record { token = token; last = number; answer = Some answer; asked = asked })
 
 -- the token is raised, and the call that it was for is tried if it is still open
 abbrev pub granted : NodeState → ℕ → ℕ → CallId → Mode → Range → Effect
 granted s file number call mode span =
-    let next = after_grant s file number call mode span in
+    let next = after_command s file (raised (s.files file).token span mode) number (Taken file number call) (s.files file).asked in
     before (Taken file number call) (tried_if next (open_call next call.number))
+
+-- the answer to a revoke
+abbrev pub answer_to : ℕ → ℕ → Host → CallId → GaveUp → Message
+answer_to file number holder call (Released span) = message.Released file number holder call span
+answer_to file number holder call (Conflict lock) = message.Conflict file number holder call lock
+
+-- a lock was named in the way
+abbrev pub is_conflict : GaveUp → Bool
+is_conflict (Released span) = false
+is_conflict (Conflict lock) = true
+
+-- the token is given up as far as no lock is in the way; a lock in the way of what is required is named
+abbrev pub revoked : NodeState → ℕ → ℕ → CallId → Mode → Wants → Effect
+revoked s file number call mode wanted =
+    let gives = gave_up (s.table.locks file) s.node s.incarnation mode wanted.required wanted.desired in
+    let answer = answer_to file number (host s) call gives in
+    sent (after_command s file (after_giving_up (s.files file).token mode gives) number answer (is_conflict gives || (s.files file).asked)) answer
+
+-- an open call is answered with the lock in its way
+abbrev pub denied : NodeState → LockInfo → Option OpenCall → Effect
+denied s lock None = quiet s
+denied s lock (Some c) = answered s c.number (refusal_of c.intent lock)
 
 abbrev pub delivered : NodeState → Message → Effect
 delivered s (Grant file number call mode span) = in_order s file number (granted s file number call mode span)
+delivered s (Revoke file number holder call mode wanted) = in_order s file number (revoked s file number call mode wanted)
+delivered s (Deny file call holder number lock) = denied s lock (open_call s call.number)
 delivered s _ = quiet s
 
 abbrev pub is_node : ℕ → Actor → Bool
@@ -53,5 +84,5 @@ is_node node (AServer file) = false
 abbrev pub deliver_rule : NodeState → Message → Result (NodeState × Outcome) StepError
 deliver_rule s m =
     if not (is_node s.node (addressee m) && is_within s.shape.files (file_of m)) then Err Stranger
-    else (if (call_of m).incarnation == s.incarnation then Ok (outcome None (delivered s m))
+    else (if (host_of m).incarnation == s.incarnation then Ok (outcome None (delivered s m))
     else Ok (outcome None (quiet s)))

@@ -7,7 +7,7 @@ use Rattle.node_core.specs.State.{FileState, first_file}
 
 -- what a row says of its file
 abbrev pub state_of : FileRow → FileState
-state_of r = record { token = token_of r.token; last = r.last; answer = r.answer }
+state_of r = record { token = token_of r.token; last = r.last; answer = r.answer; asked = r.asked }
 
 abbrev pub state_or : Option FileRow → FileState
 state_or None = first_file

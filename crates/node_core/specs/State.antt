@@ -1,7 +1,8 @@
 -- What a node knows.
-use Rattle.std.specs.Prelude.{◌≡◌, ℕ, not, ◌==◌, if◌then◌else◌, List, [], ◌∷◌, filter, find, Option, Some, None}
+use Rattle.std.specs.Prelude.{◌≡◌, ℕ, Bool, false, not, ◌==◌, if◌then◌else◌, List, [], ◌∷◌, filter, find, Option, Some, None}
 use Rattle.model.specs.declared.process.Process.{Process}
 use Rattle.model.specs.declared.call.CallId.{CallId}
+use Rattle.model.specs.declared.host.Host.{Host}
 use Rattle.model.specs.declared.reply.Reply.{Reply}
 use Rattle.model.specs.Table.{Table, Target, empty_table}
 use Rattle.token_set.specs.Tokens.{Token, no_token}
@@ -10,11 +11,12 @@ use Rattle.messages.specs.declared.message.Message.{Message}
 use Rattle.messages.specs.declared.outcome.Outcome.{Outcome}
 use Rattle.node_core.specs.declared.open_call.OpenCall.{OpenCall}
 
--- of one file: the token, the number of the last command done (0 at first), and the answer to it
+-- of one file: the token, the number of the last command done (0 at first), the answer to it, and whether a lock was named in the way of another node since the server last heard that locks may be gone
 pub record FileState : Type 0 where
   pub token : Token
   pub last : ℕ
   pub answer : Option Message
+  pub asked : Bool
 
 -- a node in one incarnation: how many calls it took, its processes and their locks, its open calls in order of arrival, its files
 pub record NodeState : Type 0 where
@@ -27,7 +29,7 @@ pub record NodeState : Type 0 where
   pub files : ℕ → FileState
 
 abbrev pub first_file : FileState
-first_file = record { token = no_token; last = 0; answer = None }
+first_file = record { token = no_token; last = 0; answer = None; asked = false }
 
 -- a node that begins
 abbrev pub first_node : ShapeFields → ℕ → ℕ → NodeState
@@ -50,6 +52,10 @@ open_call_of s pid = find (λ c. c.pid == pid) s.pending
 
 abbrev pub process : NodeState → ℕ → Process
 process s pid = record { node = s.node; incarnation = s.incarnation; pid = pid }
+
+-- the node in its incarnation
+abbrev pub host : NodeState → Host
+host s = record { node = s.node; incarnation = s.incarnation }
 
 abbrev pub id_of : NodeState → ℕ → CallId
 id_of s number = record { node = s.node; incarnation = s.incarnation; number = number }

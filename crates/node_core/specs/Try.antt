@@ -1,16 +1,20 @@
--- A node tries an open lock call.
-use Rattle.std.specs.Prelude.{ℕ, if◌then◌else◌, Option, Some, None}
+-- A node tries an open call about a lock.
+use Rattle.std.specs.Prelude.{ℕ, Bool, true, false, if◌then◌else◌, [], ◌∷◌, ◌++◌, Option, Some, None}
+use Rattle.model.specs.declared.mode.Mode.{Mode}
+use Rattle.model.specs.declared.mode.Mode.TheVariants.{Read}
 use Rattle.model.specs.declared.lock_info.LockInfo.{LockInfo}
 use Rattle.model.specs.declared.reply.Reply.{Reply}
-use Rattle.model.specs.declared.reply.Reply.TheVariants.{Again}
+use Rattle.model.specs.declared.reply.Reply.TheVariants.{Done, Again, Free, Blocked}
 use Rattle.model.specs.Locks.{lowest_blocker}
-use Rattle.model.specs.Table.{Table, lock_within}
+use Rattle.model.specs.Table.{Table, Target, lock_within}
 use Rattle.token_set.specs.Tokens.{covers, desired}
 use Rattle.messages.specs.Wants.{Wants}
 use Rattle.messages.specs.declared.message.Urgency.TheVariants.{Now}
-use Rattle.messages.specs.declared.message.Message.TheVariants.{Request}
+use Rattle.messages.specs.declared.message.Message.TheVariants.{Request, Freed}
+use Rattle.node_core.specs.declared.open_call.Intent.{Intent}
+use Rattle.node_core.specs.declared.open_call.Intent.TheVariants.{Set, Query}
 use Rattle.node_core.specs.declared.open_call.OpenCall.{OpenCall}
-use Rattle.node_core.specs.State.{NodeState, Effect, quiet, sent, answered, id_of, target_of}
+use Rattle.node_core.specs.State.{NodeState, Effect, quiet, sent, answered, with_file, host, id_of, target_of}
 
 -- the table's answer to a call
 abbrev pub settled : NodeState → ℕ → Table × Reply → Effect
@@ -22,15 +26,41 @@ requested s c =
     let wanted : Wants = record { required = c.span; desired = desired s.shape.policy (s.files c.file).token c.span } in
     sent s (Request c.file (id_of s c.number) Now c.mode wanted)
 
+-- the answer that names a lock in the way
+abbrev pub refusal_of : Intent → LockInfo → Reply
+refusal_of Set lock = Again lock
+refusal_of Query lock = Blocked lock
+
+-- locks of other nodes may have been in the way of what the bytes were: they are freed, or only read locks from now on
+abbrev pub may_free : Option Mode → Reply → Bool
+may_free None Done = true
+may_free (Some Read) Done = true
+may_free _ _ = false
+
+-- the server of the file hears that locks may be gone, where one was named to it
+abbrev pub with_freed : ℕ → Effect → Effect
+with_freed file e =
+    if (e.state.files file).asked
+    then record { state = with_file e.state file (record (e.state.files file) { asked = false }); reply = e.reply; sends = e.sends ++ Freed file (host e.state) ∷ [] }
+    else e
+
+-- the bytes are set to the mode or freed, and the server hears of it where that may help others
+abbrev pub locked_by : NodeState → ℕ → Target → Option Mode → Effect
+locked_by s number target mode =
+    let answer = lock_within s.table target mode in
+    if may_free mode answer.1 then with_freed target.file (settled s number answer) else settled s number answer
+
+-- the node's own table answers
+abbrev pub answered_here : NodeState → OpenCall → Intent → Effect
+answered_here s c Set = locked_by s c.number (target_of c) (Some c.mode)
+answered_here s c Query = answered s c.number Free
+
 -- no lock of the node is in the way: where its token covers the call the node answers by itself
 abbrev pub unblocked : NodeState → OpenCall → Effect
-unblocked s c =
-    if covers (s.files c.file).token c.span c.mode
-    then settled s c.number (lock_within s.table (target_of c) (Some c.mode))
-    else requested s c
+unblocked s c = if covers (s.files c.file).token c.span c.mode then answered_here s c c.intent else requested s c
 
 abbrev pub tried_against : NodeState → OpenCall → Option LockInfo → Effect
-tried_against s c (Some lock) = answered s c.number (Again lock)
+tried_against s c (Some lock) = answered s c.number (refusal_of c.intent lock)
 tried_against s c None = unblocked s c
 
 -- first the node's own locks of other owners are asked, then its token, and then the server

@@ -7,7 +7,7 @@ use Rattle.token_set.specs.Tokens.{Token, raised, conflicts, level_conflicts}
 use Rattle.messages.specs.declared.refusal.StepError.{StepError}
 use Rattle.messages.specs.declared.refusal.StepError.TheVariants.{Spent}
 use Rattle.messages.specs.declared.message.Message.{Message}
-use Rattle.messages.specs.declared.message.Message.TheVariants.{Grant}
+use Rattle.messages.specs.declared.message.Message.TheVariants.{Grant, Revoke}
 use Rattle.messages.specs.Messages.{greatest_number}
 use Rattle.token_server.specs.declared.held.Held.{Held}
 use Rattle.token_server.specs.State.{Row, ServerState, with_row}
@@ -52,10 +52,18 @@ granted_to s r None = Ok (s, [])
 granted_to s r (Some row) =
     commanded s r.call.node row (raised row.token (granted_span s r) r.mode) (Grant s.file (row.number + 1) r.call r.mode (granted_span s r))
 
--- the request is granted unless another node's row conflicts with it: then it stays
+-- the holder of the row is told to give up what the request needs, and as much of what it would like to have as it can
+abbrev pub revoked_from : ServerState → Held → ℕ → Option Row → Result (ServerState × List Message) StepError
+revoked_from s r node None = Ok (s, [])
+revoked_from s r node (Some row) =
+    commanded s node row row.token (Revoke s.file (row.number + 1) (record { node = node; incarnation = row.incarnation }) r.call r.mode r.wanted)
+
+-- the request is granted; but where other nodes' rows conflict with it, the token of the least such node is revoked first
 abbrev pub served : ServerState → Option Held → Result (ServerState × List Message) StepError
 served s None = Ok (s, [])
-served s (Some r) = if nat_le (conflicting_node s r) s.shape.nodes then Ok (s, []) else granted_to s r (s.rows r.call.node)
+served s (Some r) =
+    let node = conflicting_node s r in
+    if nat_le node s.shape.nodes then revoked_from s r node (s.rows node) else granted_to s r (s.rows r.call.node)
 
 abbrev pub serve : ServerState → Result (ServerState × List Message) StepError
 serve s =

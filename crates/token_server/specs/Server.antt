@@ -1,21 +1,33 @@
 -- The rule of a token server.
-use Rattle.std.specs.Prelude.{ℕ, ◌-◌, Bool, false, not, ◌&&◌, ◌||◌, ◌==◌, nat_le, if◌then◌else◌, List, [], ◌∷◌, ◌++◌, Option, Some, None, Result, Ok, Err}
+use Rattle.std.specs.Prelude.{ℕ, ◌-◌, Bool, false, not, ◌&&◌, ◌||◌, ◌==◌, nat_le, if◌then◌else◌, List, [], ◌∷◌, ◌++◌, option_map, Option, Some, None, Result, Ok, Err}
 use Rattle.std.specs.List.{list_any}
+use Rattle.intervals.specs.Bytes.{Range}
 use Rattle.model.specs.declared.call.CallId.{CallId}
+use Rattle.model.specs.declared.host.Host.{Host}
+use Rattle.model.specs.declared.lock_info.LockInfo.{LockInfo}
+use Rattle.model.specs.declared.mode.Mode.{Mode}
+use Rattle.model.specs.Owners.{host_of_call}
+use Rattle.token_set.specs.Tokens.{Token}
+use Rattle.token_set.specs.Releases.{lowered}
 use Rattle.messages.specs.declared.refusal.StepError.{StepError}
 use Rattle.messages.specs.declared.refusal.StepError.TheVariants.{Stranger}
+use Rattle.messages.specs.declared.message.Urgency.TheVariants.{Now}
 use Rattle.messages.specs.declared.message.Message.{Message}
-use Rattle.messages.specs.declared.message.Message.TheVariants.{Request, Grant, Taken}
+use Rattle.messages.specs.declared.message.Message.TheVariants.{Request, Grant, Revoke, Taken, Released, Conflict, Deny, Freed}
 use Rattle.messages.specs.declared.outcome.Outcome.{Outcome}
 use Rattle.messages.specs.declared.actor.Actor.{Actor}
 use Rattle.messages.specs.declared.actor.Actor.TheVariants.{Node as ANode, Server as AServer}
-use Rattle.messages.specs.Messages.{addressee, call_of, is_within, sending}
+use Rattle.messages.specs.Messages.{addressee, host_of, is_within, same_urgency, sending}
 use Rattle.token_server.specs.declared.held.Held.{Held}
 use Rattle.token_server.specs.declared.event.ServerEvent.{ServerEvent}
 use Rattle.token_server.specs.declared.event.ServerEvent.TheVariants.{Deliver, Resend}
 use Rattle.token_server.specs.State.{Row, ServerState, empty_row, with_row, is_of_call, unless, forgotten}
 use Rattle.token_server.specs.Serve.{serve}
-use Rattle.token_server.specs.Resends.{resend_rule}
+use Rattle.token_server.specs.Resends.{sending_first, resend_rule}
+
+-- a new state, and the messages that are sent before the server serves
+abbrev pub Change : Type 0
+Change = ServerState × List Message
 
 abbrev pub with_a_row : ServerState → CallId → Option Row → ServerState
 with_a_row s call None = with_row s call.node (Some (empty_row call.incarnation))
@@ -40,19 +52,57 @@ abbrev pub is_grant : ℕ → Option Message → Bool
 is_grant number (Some (Grant file k call mode span)) = k == number
 is_grant number _ = false
 
--- the command is answered; the request that it names is served no longer
-abbrev pub taken : ServerState → CallId → Row → ServerState
-taken s call row = record (with_row s call.node (Some (record row { outstanding = None }))) { active = unless (is_of_call call) s.active }
+-- the mode that the command with that number revokes, if it revokes one
+abbrev pub revoked_mode : ℕ → Option Message → Option Mode
+revoked_mode number (Some (Revoke file k holder call mode wanted)) = if k == number then Some mode else None
+revoked_mode number _ = None
 
--- an answer counts where the row is of its incarnation and waits for an answer with this number; else nothing happens
-abbrev pub taken_if : ServerState → CallId → ℕ → Option Row → Option ServerState
-taken_if s call number None = None
-taken_if s call number (Some row) = if (row.incarnation == call.incarnation) && is_grant number row.outstanding then Some (taken s call row) else None
+-- the row has this token, and no command is under way to its node
+abbrev pub acknowledged : ServerState → ℕ → Row → Token → ServerState
+acknowledged s node row token = with_row s node (Some (record row { token = token; outstanding = None }))
 
--- what a message changes before the server serves, or nothing at all
-abbrev pub delivered : ServerState → Message → Option ServerState
-delivered s (Request file call urgency mode wanted) = Some (asked s (record { call = call; urgency = urgency; mode = mode; wanted = wanted }))
-delivered s (Taken file number call) = taken_if s call number (s.rows call.node)
+-- the request of the call is served no longer
+abbrev pub ended : CallId → ServerState → ServerState
+ended call s = record s { active = unless (is_of_call call) s.active }
+
+-- the call is denied, where its request is the one that is served and may not wait
+abbrev pub denial : CallId → Message → Option Held → List Message
+denial call deny None = []
+denial call deny (Some r) = if is_of_call call r && same_urgency r.urgency Now then deny ∷ [] else []
+
+-- the row is of that incarnation
+abbrev pub row_of_incarnation : ℕ → Option Row → Option Row
+row_of_incarnation incarnation None = None
+row_of_incarnation incarnation (Some row) = if row.incarnation == incarnation then Some row else None
+
+-- the node has what it was granted: the request is served no longer
+abbrev pub taken : ServerState → ℕ → CallId → Option Row → Option Change
+taken s number call None = None
+taken s number call (Some row) = if is_grant number row.outstanding then Some (ended call (acknowledged s call.node row row.token), []) else None
+
+-- a holder gave the span up: the request that it was for is served on
+abbrev pub released : ServerState → ℕ → Host → Range → Option Row → Option Change
+released s number holder span None = None
+released s number holder span (Some row) =
+    option_map (λ mode. (acknowledged s holder.node row (lowered row.token span mode), [])) (revoked_mode number row.outstanding)
+
+-- a lock of the holder is in the way: the request that it was for is denied
+abbrev pub in_conflict : ServerState → ℕ → Host → CallId → LockInfo → Option Row → Option Change
+in_conflict s number holder call lock None = None
+in_conflict s number holder call lock (Some row) =
+    option_map (λ mode. (ended call (acknowledged s holder.node row row.token), denial call (Deny s.file call holder number lock) s.active)) (revoked_mode number row.outstanding)
+
+-- the row of the node, if it is of that incarnation
+abbrev pub row_of_host : ServerState → Host → Option Row
+row_of_host s h = row_of_incarnation h.incarnation (s.rows h.node)
+
+-- what a message changes before the server serves, and what is sent for it, or nothing at all: an answer counts where the row is of its incarnation and waits for an answer of its kind with this number
+abbrev pub delivered : ServerState → Message → Option Change
+delivered s (Request file call urgency mode wanted) = Some (asked s (record { call = call; urgency = urgency; mode = mode; wanted = wanted }), [])
+delivered s (Taken file number call) = taken s number call (row_of_host s (host_of_call call))
+delivered s (Released file number holder call span) = released s number holder span (row_of_host s holder)
+delivered s (Conflict file number holder call lock) = in_conflict s number holder call lock (row_of_host s holder)
+delivered s (Freed file holder) = Some (s, [])
 delivered s _ = None
 
 abbrev pub is_server : ℕ → Actor → Bool
@@ -60,20 +110,16 @@ is_server file (ANode node) = false
 is_server file (AServer f) = f == file
 
 -- a message of an incarnation known to be dead does nothing
-abbrev pub change : ServerState → Message → Result (Option ServerState) StepError
+abbrev pub change : ServerState → Message → Result (Option Change) StepError
 change s m =
-    if not (is_server s.file (addressee m) && is_within s.shape.nodes (call_of m).node) then Err Stranger
-    else (if nat_le (call_of m).incarnation (s.dead (call_of m).node) then Ok None
+    if not (is_server s.file (addressee m) && is_within s.shape.nodes (host_of m).node) then Err Stranger
+    else (if nat_le (host_of m).incarnation (s.dead (host_of m).node) then Ok None
     else Ok (delivered s m))
 
-abbrev pub as_outcome : Result (ServerState × List Message) StepError → Result (ServerState × Outcome) StepError
-as_outcome (Err e) = Err e
-as_outcome (Ok done) = Ok (done.0, sending done.1)
-
-abbrev pub then_serve : ServerState → Result (Option ServerState) StepError → Result (ServerState × Outcome) StepError
+abbrev pub then_serve : ServerState → Result (Option Change) StepError → Result (ServerState × Outcome) StepError
 then_serve s (Err e) = Err e
 then_serve s (Ok None) = Ok (s, sending [])
-then_serve s (Ok (Some changed)) = as_outcome (serve changed)
+then_serve s (Ok (Some changed)) = sending_first changed.1 (serve changed.0)
 
 -- what a server does at an event, or why it refuses it
 abbrev pub server_rule : ServerState → ServerEvent → Result (ServerState × Outcome) StepError
