@@ -1,4 +1,4 @@
--- A call that is answered alike leaves one table, and, unless a lock blocks it, has one answer.
+-- A call that is answered alike leaves one table, and, unless a lock is named, has one answer.
 use Rattle.std.specs.Prelude.{◌↔◌, IsTrue, MatchOption, ℤ, pos, negsuc, nat_le}
 use Rattle.std.proofs.Common.{◌≡◌, ℕ, zero, suc, ◌+◌, ◌-◌, ◌≤◌, Bool, true, false, if◌then◌else◌, refl, sym, ◌∙◌, ap, subst, inl, inr, arith, Option, Some, None, Result, Ok, Err}
 use Rattle.std.proofs.lemmas.Bool.{both_ways, cases_lt}
@@ -15,15 +15,15 @@ use Rattle.model.specs.declared.opened.Opened.{Opened}
 use Rattle.model.specs.declared.process.Process.{Process}
 use Rattle.model.specs.declared.lock_info.LockInfo.{LockInfo}
 use Rattle.model.specs.declared.op.Op.{Op}
-use Rattle.model.specs.declared.op.Op.TheVariants.{Spawn, Open, Set, Unlock}
+use Rattle.model.specs.declared.op.Op.TheVariants.{Spawn, Open, Set, Unlock, Query}
 use Rattle.model.specs.declared.reply.Reply.{Reply}
-use Rattle.model.specs.declared.reply.Reply.TheVariants.{Done, Fd, Again, NoProcess, TooManyFiles, NoLocks}
+use Rattle.model.specs.declared.reply.Reply.TheVariants.{Done, Fd, Again, Free, Blocked, NoProcess, TooManyFiles, NoLocks}
 use Rattle.model.specs.Locks.{excludes, bars}
-use Rattle.model.specs.Descriptors.{Processes}
+use Rattle.model.specs.Descriptors.{Processes, after_spawn, after_open}
 use Rattle.model.specs.Table.{Table, Target, around, beside, is_running, descriptor, allows, target_at, target, lock_within, after_unlock}
 use Rattle.model.specs.OneTable.{BlocksCall}
-use Rattle.model.specs.Step.{Unblocked, AfterTests, SetStep, Step}
-use Rattle.model.specs.Replay.{NeverAnswers, NotAgain}
+use Rattle.model.specs.Step.{Unblocked, AfterTests, SetStep, QueryStep, Step}
+use Rattle.model.specs.Replay.{NeverAnswers, NamesNoLock}
 
 -- a span has a byte
 abbrev HasByte : Result Range SpanError → Type 0
@@ -50,32 +50,32 @@ seg-byte (pos s) (negsuc n) = before (nat_le (suc n) s)
 -- a call's span has a byte, and a test that fails names no lock
 abbrev pub IsTarget : Result Target Reply → Type 0
 IsTarget (Ok c) = c.span.lo ≤ c.span.hi
-IsTarget (Err e) = NotAgain e
+IsTarget (Err e) = NamesNoLock e
 
 target_if : (b : Bool) (x y : Result Target Reply) → IsTarget x → IsTarget y → IsTarget (if b then x else y)
 target_if true x y p q = p
 target_if false x y p q = q
 
 target_at-is : (p : Process) (need : Option Mode) (kind : Kind) (o : Option Opened) (segment : Result Range SpanError) → HasByte segment → IsTarget (target_at p need kind o segment)
-target_at-is p need kind None segment h = λ lock e. cc
-target_at-is p need kind (Some o) (Err Invalid) h = λ lock e. cc
-target_at-is p need kind (Some o) (Err Overflow) h = λ lock e. cc
-target_at-is p need kind (Some o) (Ok span) h = target_if (allows o.access need) _ _ h (λ lock e. cc)
+target_at-is p need kind None segment h = λ lock. (λ e. cc, λ e. cc)
+target_at-is p need kind (Some o) (Err Invalid) h = λ lock. (λ e. cc, λ e. cc)
+target_at-is p need kind (Some o) (Err Overflow) h = λ lock. (λ e. cc, λ e. cc)
+target_at-is p need kind (Some o) (Ok span) h = target_if (allows o.access need) _ _ h (λ lock. (λ e. cc, λ e. cc))
 
 pub target-is : (t : Table) (p : Process) (need : Option Mode) (fd : ℕ) (kind : Kind) (start len : ℤ) → IsTarget (target t p need fd kind start len)
-target-is t p need fd kind start len = target_if (is_running t p) _ _ (target_at-is p need kind (descriptor t p fd) (seg start len) (seg-byte start len)) (λ lock e. cc)
+target-is t p need fd kind start len = target_if (is_running t p) _ _ (target_at-is p need kind (descriptor t p fd) (seg start len) (seg-byte start len)) (λ lock. (λ e. cc, λ e. cc))
 
 -- a call beside the locks names none
 abbrev NamesNone : Table × Reply → Type 0
-NamesNone answer = NotAgain answer.1
+NamesNone answer = NamesNoLock answer.1
 
 names_none_if : (t : Table) (p : Process) (b : Bool) (x y : Result (Processes × Reply) Reply) → NamesNone (beside t p x) → NamesNone (beside t p y) → NamesNone (beside t p (if b then x else y))
 names_none_if t p true x y h k = h
 names_none_if t p false x y h k = k
 
 within-names_none : (b : Bool) (t u : Table) → NamesNone (if b then (t, Done) else (u, NoLocks))
-within-names_none true t u lock e = cc
-within-names_none false t u lock e = cc
+within-names_none true t u lock = (λ e. cc, λ e. cc)
+within-names_none false t u lock = (λ e. cc, λ e. cc)
 
 unlock-names_none : (t : Table) (r : Result Target Reply) → IsTarget r → NamesNone (after_unlock t r)
 unlock-names_none t (Err e) h = h
@@ -93,28 +93,46 @@ blocked_is_not_free t c mode lock span blocks free = elim (cases_lt c.span.lo lo
         both_ways (excludes lock.mode mode) (sym (ap (bars mode) (blocks.region.all b from to)) ∙ free lock.owner b blocks.is_other low high) blocks.conflicts
 
 -- an answer of a call that no lock blocks
-settled : (t : Table) (mode : Mode) (b : Reply) (m : Table) (c : Target) → NotAgain b → SetStep t mode b m c → Unblocked t c mode × (b ≡ (lock_within t c (Some mode)).1)
-settled t mode (Again lock) m c none k = absurd (none lock refl)
+settled : (t : Table) (mode : Mode) (b : Reply) (m : Table) (c : Target) → NamesNoLock b → SetStep t mode b m c → Unblocked t c mode × (b ≡ (lock_within t c (Some mode)).1)
+settled t mode (Again lock) m c none k = absurd ((none lock).0 refl)
 settled t mode Done m c none k = (k.0, k.1.0)
 settled t mode NoLocks m c none k = (k.0, k.1.0)
 settled t mode _ m c none k = absurd k
 
-set_replies : (t : Table) (mode : Mode) (a b : Reply) (n m : Table) (c : Target) → c.span.lo ≤ c.span.hi → NotAgain b → SetStep t mode a n c → SetStep t mode b m c → a ≡ b
+set_replies : (t : Table) (mode : Mode) (a b : Reply) (n m : Table) (c : Target) → c.span.lo ≤ c.span.hi → NamesNoLock b → SetStep t mode a n c → SetStep t mode b m c → a ≡ b
 set_replies t mode (Again lock) b n m c span none h k = absurd (blocked_is_not_free t c mode lock span h.0 (settled t mode b m c none k).0)
 set_replies t mode Done b n m c span none h k = h.1.0 ∙ sym (settled t mode b m c none k).1
 set_replies t mode NoLocks b n m c span none h k = h.1.0 ∙ sym (settled t mode b m c none k).1
 set_replies t mode _ b n m c span none h k = absurd h
 
-tests_replies : (t : Table) (mode : Mode) (a b : Reply) (n m : Table) (r : Result Target Reply) → IsTarget r → NotAgain b → AfterTests t r a n (SetStep t mode a n) → AfterTests t r b m (SetStep t mode b m) → a ≡ b
-tests_replies t mode a b n m (Err e) is none h k = h.0 ∙ sym k.0
-tests_replies t mode a b n m (Ok c) is none h k = set_replies t mode a b n m c is none h k
+-- an answer of a query that names no lock
+query_free : (t : Table) (mode : Mode) (b : Reply) (m : Table) (c : Target) → NamesNoLock b → QueryStep t mode b m c → Unblocked t c mode × (b ≡ Free)
+query_free t mode (Blocked lock) m c none k = absurd ((none lock).1 refl)
+query_free t mode Free m c none k = (k.0, refl)
+query_free t mode _ m c none k = absurd k
+
+query_replies : (t : Table) (mode : Mode) (a b : Reply) (n m : Table) (c : Target) → c.span.lo ≤ c.span.hi → NamesNoLock b → QueryStep t mode a n c → QueryStep t mode b m c → a ≡ b
+query_replies t mode (Blocked lock) b n m c span none h k = absurd (blocked_is_not_free t c mode lock span h.0 (query_free t mode b m c none k).0)
+query_replies t mode Free b n m c span none h k = sym (query_free t mode b m c none k).1
+query_replies t mode _ b n m c span none h k = absurd h
+
+-- what a lock call may be answered after its tests, and the table that it then leaves
+abbrev LockAnswers : Type 1
+LockAnswers = Reply → Table → Target → Type 0
+
+tests_replies : (Answer : LockAnswers) (t : Table) (a b : Reply) (n m : Table) (r : Result Target Reply) → IsTarget r → ((c : Target) → c.span.lo ≤ c.span.hi → Answer a n c → Answer b m c → a ≡ b) → AfterTests t r a n (Answer a n) → AfterTests t r b m (Answer b m) → a ≡ b
+tests_replies Answer t a b n m (Err e) is one h k = h.0 ∙ sym k.0
+tests_replies Answer t a b n m (Ok c) is one h k = one c is h k
 
 -- a call that may get an answer that names no lock gets no other
-pub replies_are_one : (t : Table) (p : Process) (op : Op) (a b : Reply) (n m : Table) → NotAgain b → Step t p op a n → Step t p op b m → a ≡ b
+pub replies_are_one : (t : Table) (p : Process) (op : Op) (a b : Reply) (n m : Table) → NamesNoLock b → Step t p op a n → Step t p op b m → a ≡ b
 replies_are_one t p Spawn a b n m none h k = h.0 ∙ sym k.0
 replies_are_one t p (Open file access) a b n m none h k = h.0 ∙ sym k.0
-replies_are_one t p (Set fd kind mode start len) a b n m none h k = tests_replies t mode a b n m (target t p (Some mode) fd kind start len) (target-is t p (Some mode) fd kind start len) none h k
+replies_are_one t p (Set fd kind mode start len) a b n m none h k =
+    tests_replies (SetStep t mode) t a b n m (target t p (Some mode) fd kind start len) (target-is t p (Some mode) fd kind start len) (λ c span. set_replies t mode a b n m c span none) h k
 replies_are_one t p (Unlock fd kind start len) a b n m none h k = h.0 ∙ sym k.0
+replies_are_one t p (Query fd kind mode start len) a b n m none h k =
+    tests_replies (QueryStep t mode) t a b n m (target t p None fd kind start len) (target-is t p None fd kind start len) (λ c span. query_replies t mode a b n m c span none) h k
 
 set_tables : (t : Table) (mode : Mode) (a : Reply) (n m : Table) (c : Target) → SetStep t mode a n c → SetStep t mode a m c → n ≡ m
 set_tables t mode (Again lock) n m c h k = h.1 ∙ sym k.1
@@ -122,46 +140,101 @@ set_tables t mode Done n m c h k = h.1.1 ∙ sym k.1.1
 set_tables t mode NoLocks n m c h k = h.1.1 ∙ sym k.1.1
 set_tables t mode _ n m c h k = absurd h
 
-tests_tables : (t : Table) (mode : Mode) (a : Reply) (n m : Table) (r : Result Target Reply) → AfterTests t r a n (SetStep t mode a n) → AfterTests t r a m (SetStep t mode a m) → n ≡ m
-tests_tables t mode a n m (Err e) h k = h.1 ∙ sym k.1
-tests_tables t mode a n m (Ok c) h k = set_tables t mode a n m c h k
+query_tables : (t : Table) (mode : Mode) (a : Reply) (n m : Table) (c : Target) → QueryStep t mode a n c → QueryStep t mode a m c → n ≡ m
+query_tables t mode (Blocked lock) n m c h k = h.1 ∙ sym k.1
+query_tables t mode Free n m c h k = h.1 ∙ sym k.1
+query_tables t mode _ n m c h k = absurd h
+
+tests_tables : (Answer : LockAnswers) (t : Table) (a : Reply) (n m : Table) (r : Result Target Reply) → ((c : Target) → Answer a n c → Answer a m c → n ≡ m) → AfterTests t r a n (Answer a n) → AfterTests t r a m (Answer a m) → n ≡ m
+tests_tables Answer t a n m (Err e) one h k = h.1 ∙ sym k.1
+tests_tables Answer t a n m (Ok c) one h k = one c h k
 
 -- one answer leaves one table
 pub tables_are_one : (t : Table) (p : Process) (op : Op) (a : Reply) (n m : Table) → Step t p op a n → Step t p op a m → n ≡ m
 tables_are_one t p Spawn a n m h k = h.1 ∙ sym k.1
 tables_are_one t p (Open file access) a n m h k = h.1 ∙ sym k.1
-tables_are_one t p (Set fd kind mode start len) a n m h k = tests_tables t mode a n m (target t p (Some mode) fd kind start len) h k
+tables_are_one t p (Set fd kind mode start len) a n m h k = tests_tables (SetStep t mode) t a n m (target t p (Some mode) fd kind start len) (set_tables t mode a n m) h k
 tables_are_one t p (Unlock fd kind start len) a n m h k = h.1 ∙ sym k.1
+tables_are_one t p (Query fd kind mode start len) a n m h k = tests_tables (QueryStep t mode) t a n m (target t p None fd kind start len) (query_tables t mode a n m) h k
 
 -- no call but one for a lock is answered by a lock
+spawn-names_none : (t : Table) (p : Process) → NamesNone (beside t p (after_spawn (around t p) p.pid))
+spawn-names_none t p = names_none_if t p ((around t p).runs p.pid) _ _ (λ lock. (λ e. cc, λ e. cc)) (λ lock. (λ e. cc, λ e. cc))
+
 pub spawn_never : (t : Table) (p : Process) (lock : LockInfo) → NeverAnswers t p Spawn (Again lock)
-spawn_never t p lock new h = names_none_if t p ((around t p).runs p.pid) _ _ (λ l e. cc) (λ l e. cc) lock h.0
+spawn_never t p lock new h = (spawn-names_none t p lock).0 h.0
+
+pub spawn_never-blocked : (t : Table) (p : Process) (lock : LockInfo) → NeverAnswers t p Spawn (Blocked lock)
+spawn_never-blocked t p lock new h = (spawn-names_none t p lock).1 h.0
 
 opened-names_none : (t : Table) (p : Process) (b : Bool) (ps : Processes) (fd : ℕ) → NamesNone (beside t p (if b then Ok (ps, Fd fd) else Err TooManyFiles))
-opened-names_none t p true ps fd lock e = cc
-opened-names_none t p false ps fd lock e = cc
+opened-names_none t p true ps fd lock = (λ e. cc, λ e. cc)
+opened-names_none t p false ps fd lock = (λ e. cc, λ e. cc)
+
+open-names_none : (t : Table) (p : Process) (file : ℕ) (access : Access) → NamesNone (beside t p (after_open (around t p) p.pid file access))
+open-names_none t p file access = names_none_if t p (is_running t p) _ (Err NoProcess) (opened-names_none t p _ _ _) (λ lock. (λ e. cc, λ e. cc))
 
 pub open_never : (t : Table) (p : Process) (file : ℕ) (access : Access) (lock : LockInfo) → NeverAnswers t p (Open file access) (Again lock)
-open_never t p file access lock new h = names_none_if t p (is_running t p) _ (Err NoProcess) (opened-names_none t p _ _ _) (λ l e. cc) lock h.0
+open_never t p file access lock new h = (open-names_none t p file access lock).0 h.0
+
+pub open_never-blocked : (t : Table) (p : Process) (file : ℕ) (access : Access) (lock : LockInfo) → NeverAnswers t p (Open file access) (Blocked lock)
+open_never-blocked t p file access lock new h = (open-names_none t p file access lock).1 h.0
 
 pub unlock_never : (t : Table) (p : Process) (fd : ℕ) (kind : Kind) (start len : ℤ) (lock : LockInfo) → NeverAnswers t p (Unlock fd kind start len) (Again lock)
-unlock_never t p fd kind start len lock new h = unlock-names_none t (target t p None fd kind start len) (target-is t p None fd kind start len) lock h.0
+unlock_never t p fd kind start len lock new h = (unlock-names_none t (target t p None fd kind start len) (target-is t p None fd kind start len) lock).0 h.0
 
--- nor is one that a test refuses, and a blocked one only by a lock that blocks
+pub unlock_never-blocked : (t : Table) (p : Process) (fd : ℕ) (kind : Kind) (start len : ℤ) (lock : LockInfo) → NeverAnswers t p (Unlock fd kind start len) (Blocked lock)
+unlock_never-blocked t p fd kind start len lock new h = (unlock-names_none t (target t p None fd kind start len) (target-is t p None fd kind start len) lock).1 h.0
+
+-- a test names no lock
+tests_never : (Answer : Target → Type 0) (t new : Table) (reply : Reply) (r : Result Target Reply) → IsTarget r → ((e : Reply) → NamesNoLock e → reply ≡ e → ⊥) → ((c : Target) → Answer c → ⊥) → AfterTests t r reply new Answer → ⊥
+tests_never Answer t new reply (Err e) is differs none h = differs e is h.0
+tests_never Answer t new reply (Ok c) is differs none h = none c h
+
+-- a lock that blocks is named to a set in one way, to a query in another
+pub set_never-blocked : (t : Table) (p : Process) (fd : ℕ) (kind : Kind) (mode : Mode) (start len : ℤ) (lock : LockInfo) → NeverAnswers t p (Set fd kind mode start len) (Blocked lock)
+set_never-blocked t p fd kind mode start len lock new h =
+    tests_never (SetStep t mode (Blocked lock) new) t new (Blocked lock) (target t p (Some mode) fd kind start len) (target-is t p (Some mode) fd kind start len) (λ e no is. (no lock).1 is) (λ c k. k) h
+
+pub query_never-again : (t : Table) (p : Process) (fd : ℕ) (kind : Kind) (mode : Mode) (start len : ℤ) (lock : LockInfo) → NeverAnswers t p (Query fd kind mode start len) (Again lock)
+query_never-again t p fd kind mode start len lock new h =
+    tests_never (QueryStep t mode (Again lock) new) t new (Again lock) (target t p None fd kind start len) (target-is t p None fd kind start len) (λ e no is. (no lock).0 is) (λ c k. k) h
+
+-- nor is a call answered so that a test refuses
+refused_names : (Answer : Target → Type 0) (t new : Table) (reply : Reply) (r : Result Target Reply) (e : Reply) → r ≡ Err e → IsTarget r → AfterTests t r reply new Answer → NamesNoLock e × (reply ≡ e)
+refused_names Answer t new reply r e is target h =
+    let P : Result Target Reply → Type 0 = λ x. AfterTests t x reply new Answer in
+    (subst IsTarget is target, (subst P is h).0)
+
 pub refused_never : (t : Table) (p : Process) (fd : ℕ) (kind : Kind) (mode : Mode) (start len : ℤ) (lock : LockInfo) (e : Reply) → target t p (Some mode) fd kind start len ≡ Err e → NeverAnswers t p (Set fd kind mode start len) (Again lock)
 refused_never t p fd kind mode start len lock e is new h =
-    let P : Result Target Reply → Type 0 = λ r. AfterTests t r (Again lock) new (SetStep t mode (Again lock) new) in
-    let none : NotAgain e = subst IsTarget is (target-is t p (Some mode) fd kind start len) in
-    none lock (subst P is h).0
+    let names = refused_names (SetStep t mode (Again lock) new) t new (Again lock) (target t p (Some mode) fd kind start len) e is (target-is t p (Some mode) fd kind start len) h in
+    (names.0 lock).0 names.1
 
+pub refused_never-blocked : (t : Table) (p : Process) (fd : ℕ) (kind : Kind) (mode : Mode) (start len : ℤ) (lock : LockInfo) (e : Reply) → target t p None fd kind start len ≡ Err e → NeverAnswers t p (Query fd kind mode start len) (Blocked lock)
+refused_never-blocked t p fd kind mode start len lock e is new h =
+    let names = refused_names (QueryStep t mode (Blocked lock) new) t new (Blocked lock) (target t p None fd kind start len) e is (target-is t p None fd kind start len) h in
+    (names.0 lock).1 names.1
+
+-- a blocked call is answered by the locks that block it, and by no other
 pub blocked-only_by : (t : Table) (p : Process) (fd : ℕ) (kind : Kind) (mode : Mode) (start len : ℤ) (lock : LockInfo) (c : Target) → target t p (Some mode) fd kind start len ≡ Ok c → (BlocksCall t c mode lock → ⊥) → NeverAnswers t p (Set fd kind mode start len) (Again lock)
 blocked-only_by t p fd kind mode start len lock c is none new h =
     let P : Result Target Reply → Type 0 = λ r. AfterTests t r (Again lock) new (SetStep t mode (Again lock) new) in
     none (subst P is h).0
 
+pub query_blocked-only_by : (t : Table) (p : Process) (fd : ℕ) (kind : Kind) (mode : Mode) (start len : ℤ) (lock : LockInfo) (c : Target) → target t p None fd kind start len ≡ Ok c → (BlocksCall t c mode lock → ⊥) → NeverAnswers t p (Query fd kind mode start len) (Blocked lock)
+query_blocked-only_by t p fd kind mode start len lock c is none new h =
+    let P : Result Target Reply → Type 0 = λ r. AfterTests t r (Blocked lock) new (QueryStep t mode (Blocked lock) new) in
+    none (subst P is h).0
+
 pub blocked-by : (t : Table) (p : Process) (fd : ℕ) (kind : Kind) (mode : Mode) (start len : ℤ) (lock : LockInfo) (c : Target) → target t p (Some mode) fd kind start len ≡ Ok c → BlocksCall t c mode lock → Step t p (Set fd kind mode start len) (Again lock) t
 blocked-by t p fd kind mode start len lock c is blocks =
     let P : Result Target Reply → Type 0 = λ r. AfterTests t r (Again lock) t (SetStep t mode (Again lock) t) in
+    subst P (sym is) (blocks, refl)
+
+pub query_blocked-by : (t : Table) (p : Process) (fd : ℕ) (kind : Kind) (mode : Mode) (start len : ℤ) (lock : LockInfo) (c : Target) → target t p None fd kind start len ≡ Ok c → BlocksCall t c mode lock → Step t p (Query fd kind mode start len) (Blocked lock) t
+query_blocked-by t p fd kind mode start len lock c is blocks =
+    let P : Result Target Reply → Type 0 = λ r. AfterTests t r (Blocked lock) t (QueryStep t mode (Blocked lock) t) in
     subst P (sym is) (blocks, refl)
 
 -- the run at the first byte of a span is the one region there

@@ -1,10 +1,10 @@
 -- Replies that a single machine's table does not give.
-use Rattle.std.specs.Prelude.{◌≡◌}
+use Rattle.std.specs.Prelude.{◌≢◌}
 use Rattle.model.specs.declared.lock_info.LockInfo.{LockInfo}
 use Rattle.model.specs.declared.process.Process.{Process}
 use Rattle.model.specs.declared.op.Op.{Op}
 use Rattle.model.specs.declared.reply.Reply.{Reply}
-use Rattle.model.specs.declared.reply.Reply.TheVariants.{Again}
+use Rattle.model.specs.declared.reply.Reply.TheVariants.{Again, Blocked}
 use Rattle.model.specs.Table.{Table}
 use Rattle.model.specs.Step.{Step}
 
@@ -13,5 +13,5 @@ abbrev pub NeverAnswers : Table → Process → Op → Reply → Type 0
 NeverAnswers old p op reply = (new : Table) → Step old p op reply new → ⊥
 
 -- the reply names no lock
-abbrev pub NotAgain : Reply → Type 0
-NotAgain reply = (lock : LockInfo) → Again lock ≡ reply → ⊥
+abbrev pub NamesNoLock : Reply → Type 0
+NamesNoLock reply = (lock : LockInfo) → (Again lock ≢ reply) × (Blocked lock ≢ reply)

@@ -2,7 +2,7 @@
 ghost use Rattle.std.specs.Prelude.{◌≡◌, ◌≢◌, ℕ, false, MatchOption, IfOk, IfSome, IsTrue, OnOk, OnErr};
 ghost use Rattle.intervals.specs.Search.{some_passes};
 ghost use Rattle.intervals.specs.Runs.{value_at};
-ghost use Rattle.model.specs.declared.op.Op.TheVariants.{Spawn, Open, Set, Unlock};
+ghost use Rattle.model.specs.declared.op.Op.TheVariants.{Spawn, Open, Set, Unlock, Query};
 ghost use Rattle.model.specs.Limits.{IsNumber, IsHost, most_descriptors, most_descriptions};
 ghost use Rattle.model.specs.Descriptors.{is_of, is_open, lowest_fd, lowest_description};
 ghost use Rattle.model.specs.Table.{empty_table, around, is_running, descriptor, allows, owner_of, target, regions_with, lock_within, closed, closed_if, exited, exited_if, gone};
@@ -168,6 +168,13 @@ impl OneTable {
                 start,
                 len,
             } => self.unlock(process, fd, kind, start, len),
+            Op::Query {
+                fd,
+                kind,
+                mode,
+                start,
+                len,
+            } => self.query(process, fd, kind, mode, start, len),
         }
     }
 
@@ -464,6 +471,29 @@ impl OneTable {
         match self.block(call, mode)? {
             Some(lock) => Ok(Reply::Again(lock)),
             None => self.lock_within(call, Some(mode)),
+        }
+    }
+
+    // Whether a lock on a segment would be in the way of another owner's.
+    fn query(
+        &self,
+        process: Process,
+        fd: u8,
+        kind: Kind,
+        mode: Mode,
+        start: i64,
+        len: i64,
+    ) -> Result<Reply, NoMemory>
+        ensures { IfOk result (λ reply.
+            Step (table_of self.now) process (Query fd kind mode start len) reply (table_of self.now)) }
+    {
+        let call = match self.target(process, None, fd, kind, start, len) {
+            Ok(call) => call,
+            Err(refusal) => return Ok(refusal),
+        };
+        match self.block(call, mode)? {
+            Some(lock) => Ok(Reply::Blocked(lock)),
+            None => Ok(Reply::Free),
         }
     }
 

@@ -1,10 +1,10 @@
 //! Calls of the one table that are answered already.
 ghost use Rattle.std.specs.Prelude.{◌≡◌, true, false, Some, ◌↔◌, IsTrue, IfOk, OnErr};
-ghost use Rattle.model.specs.declared.reply.Reply.TheVariants.{Again};
+ghost use Rattle.model.specs.declared.reply.Reply.TheVariants.{Again, Blocked};
 ghost use Rattle.model.specs.Locks.{excludes, IsRegion};
 ghost use Rattle.model.specs.OneTable.{table_of, BlocksCall};
 ghost use Rattle.model.specs.Step.{Step};
-ghost use Rattle.model.specs.Replay.{NeverAnswers, NotAgain};
+ghost use Rattle.model.specs.Replay.{NeverAnswers, NamesNoLock};
 
 use crate::lock_call::LockCall;
 use crate::lock_info::LockInfo;
@@ -52,13 +52,14 @@ impl OneTable {
     {
         match reply {
             Reply::Again(lock) => self.may_deny(process, op, lock),
+            Reply::Blocked(lock) => self.may_block(process, op, lock),
             _ => self.take_answer(process, op, reply),
         }
     }
 
-    // The step that is answered so, where no lock blocks the call.
+    // The step that is answered so, where the answer names no lock.
     fn take_answer(&mut self, process: Process, op: Op, reply: Reply) -> Result<bool, NoMemory>
-        requires { NotAgain reply }
+        requires { NamesNoLock reply }
         ensures taken { IfOk result (λ yes. yes ≡ true → Step (table_of self.old) process op reply (table_of self.new)) }
         ensures never { IfOk result (λ yes. yes ≡ false → NeverAnswers (table_of self.old) process op reply) }
         ensures stays { IfOk result (λ yes. yes ≡ false → self.new ≡ self.old) }
@@ -89,6 +90,27 @@ impl OneTable {
             return Ok(false);
         };
         let Ok(call) = self.target(process, Some(mode), fd, kind, start, len) else {
+            return Ok(false);
+        };
+        self.is_blocked_by(call, mode, &lock)
+    }
+
+    // Whether the query may be answered by this lock, as one that would be in the way.
+    fn may_block(&self, process: Process, op: Op, lock: LockInfo) -> Result<bool, NoMemory>
+        ensures may { IfOk result (λ yes. yes ≡ true → Step (table_of self.now) process op (Blocked lock) (table_of self.now)) }
+        ensures never { IfOk result (λ yes. yes ≡ false → NeverAnswers (table_of self.now) process op (Blocked lock)) }
+    {
+        let Op::Query {
+            fd,
+            kind,
+            mode,
+            start,
+            len,
+        } = op
+        else {
+            return Ok(false);
+        };
+        let Ok(call) = self.target(process, None, fd, kind, start, len) else {
             return Ok(false);
         };
         self.is_blocked_by(call, mode, &lock)
@@ -160,6 +182,14 @@ mod tests {
         })
     }
 
+    // A region of the first process that would be in the way.
+    fn in_way(mode: Mode, span: Span) -> Reply {
+        match held(mode, span) {
+            Reply::Again(lock) => Reply::Blocked(lock),
+            reply => reply,
+        }
+    }
+
     // Both processes have the file open, and the first holds bytes 0 to 9 and 20 to 29.
     fn two_regions(rt: &impl AllocGlobal) -> Result<OneTable, Fail> {
         let mut table = OneTable::new(rt.alloc());
@@ -195,6 +225,29 @@ mod tests {
         assert!(rt; table.take(SECOND, early, held(Mode::Write, Span { lo: 0, hi: 9 }))?);
         assert!(rt; !table.take(SECOND, early, held(Mode::Read, Span { lo: 20, hi: 29 }))?);
         assert!(rt; !table.take(FIRST, all, held(Mode::Write, Span { lo: 0, hi: 9 }))?);
+        Ok(())
+    }
+
+    #[test]
+    fn names_each_lock_that_would_block(rt: HostRuntime) -> Result<(), Fail> {
+        let mut table = two_regions(&rt)?;
+        let all = Op::Query {
+            fd: 0,
+            kind: Kind::OfProcess,
+            mode: Mode::Write,
+            start: 5,
+            len: 20,
+        };
+        for (reply, may) in [
+            (in_way(Mode::Write, Span { lo: 0, hi: 9 }), true),
+            (in_way(Mode::Read, Span { lo: 20, hi: 29 }), true),
+            (in_way(Mode::Write, Span { lo: 5, hi: 9 }), false),
+            (held(Mode::Write, Span { lo: 0, hi: 9 }), false),
+            (Reply::Free, false),
+        ] {
+            assert_eq!(rt; table.take(SECOND, all, reply)?, may, "{reply:?}");
+        }
+        assert!(rt; table.take(FIRST, all, Reply::Free)?);
         Ok(())
     }
 

@@ -1,5 +1,7 @@
 //! What the one table answers, at values from outside and worked out by hand.
 use crate::access::Access;
+use crate::call::CallId;
+use crate::host::Host;
 use crate::lock_info::LockInfo;
 use crate::mode::Mode;
 use crate::one_table::OneTable;
@@ -54,6 +56,16 @@ fn unlock(fd: u8, start: i64, len: i64) -> Op {
     Op::Unlock {
         fd,
         kind: Kind::OfProcess,
+        start,
+        len,
+    }
+}
+
+fn query(fd: u8, mode: Mode, start: i64, len: i64) -> Op {
+    Op::Query {
+        fd,
+        kind: Kind::OfProcess,
+        mode,
         start,
         len,
     }
@@ -119,6 +131,51 @@ fn names_the_whole_region_that_blocks(rt: HostRuntime) -> Result<(), Fail> {
         Reply::Done
     );
     Ok(())
+}
+
+#[test]
+fn queries_name_what_would_block(rt: HostRuntime) -> Result<(), Fail> {
+    let mut table = two_processes(&rt)?;
+    assert_eq!(rt; table.step(SECOND, open(Access::ReadOnly))?, Reply::Fd(1));
+    table.step(FIRST, set(0, Mode::Read, 0, 100))?;
+    let blocked = Reply::Blocked(LockInfo {
+        owner: FIRST_OWNER,
+        mode: Mode::Read,
+        span: Span { lo: 0, hi: 99 },
+    });
+    for (process, op, reply) in [
+        (SECOND, query(0, Mode::Write, 99, 5), blocked),
+        (SECOND, query(1, Mode::Write, 99, 5), blocked),
+        (SECOND, query(0, Mode::Read, 99, 5), Reply::Free),
+        (SECOND, query(0, Mode::Write, 100, 0), Reply::Free),
+        (FIRST, query(0, Mode::Write, 99, 5), Reply::Free),
+        (SECOND, query(2, Mode::Read, 99, 5), Reply::BadFd),
+        (SECOND, query(0, Mode::Read, -1, 5), Reply::Invalid),
+        (ELSEWHERE, query(0, Mode::Read, 99, 5), Reply::NoProcess),
+    ] {
+        assert_eq!(rt; table.step(process, op)?, reply);
+    }
+    let second_owner = Owner {
+        number: 2,
+        ..FIRST_OWNER
+    };
+    assert_eq!(rt; table.mode_at(1, second_owner, 100), None);
+    assert_eq!(rt; table.mode_at(1, FIRST_OWNER, 99), Some(Mode::Read));
+    Ok(())
+}
+
+#[test]
+fn calls_are_of_their_node(rt: HostRuntime) {
+    let call = CallId {
+        node: 3,
+        incarnation: 7,
+        number: 9,
+    };
+    let host = Host {
+        node: 3,
+        incarnation: 7,
+    };
+    assert_eq!(rt; call.host(), host);
 }
 
 #[test]
