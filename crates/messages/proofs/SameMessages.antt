@@ -222,12 +222,12 @@ call_events node pid n p op o = search rules
 calls_Decide : (node pid n p : ℕ) (op o : Op) (same : Bool) → Decides same (op ≡ o) → Decides ((node == n) && ((pid == p) && same)) (Call node pid op ≡ Call n p o)
 calls_Decide node pid n p op o same d = (
   λ h.
-    let first = and_parts _ _ h in
-    let second = and_parts _ _ first.1 in
-    let nodes = eqb-true _ _ first.0 in
-    let pids = eqb-true _ _ second.0 in
-    let ops = d.0 second.1 in
-    λ i. Call (nodes i) (pids i) (ops i),
+      let first = and_parts _ _ h in
+      let second = and_parts _ _ first.1 in
+      let nodes = eqb-true _ _ first.0 in
+      let pids = eqb-true _ _ second.0 in
+      let ops = d.0 second.1 in
+      λ i. Call (nodes i) (pids i) (ops i),
   λ e. and_from _ _ (eq-eqb node n (cc)) (and_from _ _ (eq-eqb pid p (cc)) (d.1 (cc))),
 )
 
