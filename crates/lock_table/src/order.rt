@@ -23,7 +23,7 @@ fn lower(a: LockInfo, b: LockInfo) -> LockInfo
 }
 
 /// The one of those there are that comes first.
-pub(crate) fn lowest_of(a: Option<LockInfo>, b: Option<LockInfo>) -> Option<LockInfo>
+pub fn lowest_of(a: Option<LockInfo>, b: Option<LockInfo>) -> Option<LockInfo>
     ensures either { (result ≡ a) ⊎ (result ≡ b) }
     ensures first { IfSome a (λ lock. IsSomeAnd result (λ least. IsNotAfter least lock)) }
     ensures second { IfSome b (λ lock. IsSomeAnd result (λ least. IsNotAfter least lock)) }

@@ -1,7 +1,7 @@
 //! What the lock table does, at values that were worked out by hand.
 use crate::error::LockError;
 use crate::lock_table::LockTable;
-use crate::order::cmp_regions;
+use crate::order::{cmp_regions, lowest_of};
 use crate::{Kind, LockInfo, Mode, Owner};
 use intervals::span::Span;
 use std::cmp::Ordering;
@@ -211,4 +211,14 @@ fn regions_stand_by_first_byte_and_then_by_owner(rt: HostRuntime) {
     assert_eq!(rt; cmp_regions(&low, &high), Ordering::Less);
     assert_eq!(rt; cmp_regions(&low, &first), Ordering::Greater);
     assert_eq!(rt; cmp_regions(&low, &low), Ordering::Equal);
+}
+
+#[test]
+fn the_lowest_of_two_regions_comes_first(rt: HostRuntime) {
+    let low = region(FIRST, Mode::Read, Span { lo: 0, hi: 9 });
+    let same = region(SECOND, Mode::Write, Span { lo: 0, hi: 3 });
+    assert_eq!(rt; lowest_of(Some(same), Some(low)), Some(low));
+    assert_eq!(rt; lowest_of(Some(low), None), Some(low));
+    assert_eq!(rt; lowest_of(None, Some(same)), Some(same));
+    assert_eq!(rt; lowest_of(None, None), None);
 }

@@ -1,10 +1,10 @@
 -- The lowest lock that blocks.
-use Rattle.std.specs.Prelude.{◌≡◌, ◌≢◌, ℕ, suc, ◌+◌, ◌-◌, ◌<◌, ◌≤◌, ◌⊎◌, Bool, true, false, ◌&&◌, nat_lt, nat_le, if◌then◌else◌, Option, Some, None, MatchOption, refl}
+use Rattle.std.specs.Prelude.{◌≡◌, ◌≢◌, ℕ, ◌+◌, ◌-◌, ◌<◌, ◌≤◌, Bool, true, false, ◌&&◌, nat_lt, nat_le, if◌then◌else◌, Option, Some, None, MatchOption, refl}
 use Rattle.std.specs.declared.cmp.Ordering.{Ordering}
 use Rattle.std.specs.declared.cmp.Ordering.TheVariants.{Less, Equal, Greater}
-use Rattle.std.specs.Ordering.{nat_cmp, ordering_then, MatchOrdering}
+use Rattle.std.specs.Ordering.{nat_cmp, ordering_then}
 use Rattle.std.proofs.Common.{arith, ap, sym, ◌∙◌, inl, inr, subst}
-use Rattle.std.proofs.lemmas.Bool.{cases_lt, cases_order, cases_Bool, and_parts, and_from, le-leb, leb-true, both_ways}
+use Rattle.std.proofs.lemmas.Bool.{cases_lt, cases_order, cases_Bool, le-leb, leb-true, both_ways}
 use Rattle.std.proofs.lemmas.Bool.Decides.{nat_tests}
 use Rattle.intervals.specs.Search.{first_answer}
 use Rattle.intervals.specs.Bytes.{Range, greatest, is_start, run_from, IsRun}
@@ -15,10 +15,10 @@ use Rattle.model.specs.declared.owner.Owner.{Owner}
 use Rattle.model.specs.declared.lock_info.LockInfo.{LockInfo}
 use Rattle.model.specs.Limits.{most_processes}
 use Rattle.model.specs.Owners.{same_mode, same_owner, kind_cmp, owner_cmp, owner_at, most_owners}
-use Rattle.model.specs.Locks.{FileLocks, excludes, bars, IsFree, Blocks, IsNotAfter, IsLowestBlocker, region_at, blocking_at, lowest_blocker, IsOfNode, LowestIsLowest}
+use Rattle.model.specs.Locks.{FileLocks, excludes, bars, IsFree, IsRegion, Blocks, IsNotAfter, IsLowestBlocker, region_at, blocking_at, lowest_blocker, IsOfNode, LowestIsLowest}
 use Rattle.model.proofs.OwnerLaws.{owner_exact, owner_refl}
 use Rattle.model.proofs.AnswerLaws.{Answers, IsFirstAnswer, first_answer_is}
-use Rattle.model.proofs.RunLaws.{BeginsAt, some_start, start_begins, start_from, run_ends, run_from-is_run}
+use Rattle.model.proofs.RunLaws.{some_start, start_from, run_ends, run_from-is_run}
 
 -- the order of numbers
 nat_equal : (a : ℕ) → nat_cmp a a ≡ Equal
@@ -86,7 +86,7 @@ by_kind node incarnation a b e = less (sym (then_equal _ _ (nat_equal incarnatio
     less e = cc
 
 -- and so do the owners of a node by their places
-abbrev owner_if : ℕ → ℕ → Bool → ℕ → Owner
+abbrev pub owner_if : ℕ → ℕ → Bool → ℕ → Owner
 owner_if node incarnation b k = if b then record { node = node; incarnation = incarnation; kind = OfProcess; number = k + 1 } else record { node = node; incarnation = incarnation; kind = OfDescription; number = k + 1 - most_processes }
 
 processes_first : (j k : ℕ) → j ≤ k → nat_lt j most_processes ≡ false → nat_lt k most_processes ≡ true → ⊥
@@ -208,7 +208,7 @@ module _ (h : FileLocks) (owner : Owner) (s : Range) (mode : Mode) (own : IsOfNo
       under lo h = omega arith
 
   -- a byte that is barred is one of a lock that blocks
-  barred_blocks : (other : Owner) (b : ℕ) (held : Mode) → other ≢ owner → s.lo ≤ b → b ≤ s.hi → h other b ≡ Some held → excludes held mode ≡ true → (lock : LockInfo) × Blocks h owner s mode lock
+  pub barred_blocks : (other : Owner) (b : ℕ) (held : Mode) → other ≢ owner → s.lo ≤ b → b ≤ s.hi → h other b ≡ Some held → excludes held mode ≡ true → (lock : LockInfo) × Blocks h owner s mode lock
   barred_blocks other b held apart above below here conflicts =
       let start = some_start (h other) held b here in
       let lo = start.0 in
@@ -287,24 +287,28 @@ same_start a b (inl lt) (inr same) = absurd (let e = same.0 in omega arith)
 same_start a b (inr same) (inl gt) = absurd (let e = same.0 in omega arith)
 same_start a b (inr first) (inr second) = (first.0, first.1, second.1)
 
--- two lowest locks are one
-pub one_lowest : (h : FileLocks) (owner : Owner) (s : Range) (mode : Mode) (a b : LockInfo) → IsLowestBlocker h owner s mode a → IsLowestBlocker h owner s mode b → a ≡ b
-one_lowest h owner s mode a b x y =
-    let start = same_start a b (x.lowest b y.blocks) (y.lowest a x.blocks) in
+-- two regions of which neither comes before the other are one
+pub one_region : (h : FileLocks) (a b : LockInfo) → IsRegion h a → IsRegion h b → IsNotAfter a b → IsNotAfter b a → a ≡ b
+one_region h a b x y before after =
+    let start = same_start a b before after in
     let owners : a.owner ≡ b.owner = owners_both a.owner b.owner start.1 start.2 in
-    let at_a = x.blocks.region.all a.span.lo (omega arith) x.blocks.region.ordered in
-    let at_b = y.blocks.region.all b.span.lo (omega arith) y.blocks.region.ordered in
+    let at_a = x.all a.span.lo (omega arith) x.ordered in
+    let at_b = y.all b.span.lo (omega arith) y.ordered in
     let modes : a.mode ≡ b.mode = same_mode_of (sym at_a ∙ ap (h a.owner) start.0 ∙ ap (λ o. h o b.span.lo) owners ∙ at_b) in
     let P : Owner → Mode → Type 0 = λ o m. IsRun (h o) b.span m in
-    let run : IsRun (h a.owner) b.span a.mode = subst (λ o. P o a.mode) (sym owners) (subst (P b.owner) (sym modes) y.blocks.region) in
-    let ends : a.span.hi ≡ b.span.hi = run_ends (h a.owner) a.mode a.span b.span x.blocks.region run start.0 in
+    let run : IsRun (h a.owner) b.span a.mode = subst (λ o. P o a.mode) (sym owners) (subst (P b.owner) (sym modes) y) in
+    let ends : a.span.hi ≡ b.span.hi = run_ends (h a.owner) a.mode a.span b.span x run start.0 in
     λ i. record { owner = owners i; mode = modes i; span = record { lo = start.0 i; hi = ends i } }
   where
     same_mode_of : {m n : Mode} → Some m ≡ Some n → m ≡ n
     same_mode_of e = cc
 
+-- two lowest locks are one
+pub one_lowest : (h : FileLocks) (owner : Owner) (s : Range) (mode : Mode) (a b : LockInfo) → IsLowestBlocker h owner s mode a → IsLowestBlocker h owner s mode b → a ≡ b
+one_lowest h owner s mode a b x y = one_region h a b x.blocks.region y.blocks.region (x.lowest b y.blocks) (y.lowest a x.blocks)
+
 -- a lock that blocks bars one of the bytes
-blocks_bars : (h : FileLocks) (owner : Owner) (s : Range) (mode : Mode) (lock : LockInfo) → s.lo ≤ s.hi → Blocks h owner s mode lock → IsFree h owner s mode → ⊥
+pub blocks_bars : (h : FileLocks) (owner : Owner) (s : Range) (mode : Mode) (lock : LockInfo) → s.lo ≤ s.hi → Blocks h owner s mode lock → IsFree h owner s mode → ⊥
 blocks_bars h owner s mode lock order b free = elim (cases_lt s.lo lock.span.lo) [
   | inl lt ↦ at_byte lock.span.lo (omega arith) b.starts (omega arith) b.region.ordered
   | inr le ↦ at_byte s.lo (omega arith) order le b.ends

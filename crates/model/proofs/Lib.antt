@@ -10,3 +10,4 @@ pub mod AnswerLaws
 pub mod RunLaws
 pub mod BlockerLaws
 pub mod ReplayLaws
+pub mod WayLaws

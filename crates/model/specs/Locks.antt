@@ -1,5 +1,5 @@
 -- Locks of files: what each owner holds at each byte.
-use Rattle.std.specs.Prelude.{◌≡◌, ◌≢◌, ℕ, ◌≤◌, ◌<◌, ◌+◌, ◌⊎◌, Bool, true, false, not, ◌&&◌, ◌==◌, nat_le, if◌then◌else◌, Option, Some, None, MatchOption}
+use Rattle.std.specs.Prelude.{◌≡◌, ◌≢◌, ℕ, ◌≤◌, ◌<◌, ◌+◌, ◌⊎◌, Bool, true, false, ◌&&◌, ◌==◌, nat_le, if◌then◌else◌, Option, Some, None, MatchOption}
 use Rattle.std.specs.declared.cmp.Ordering.TheVariants.{Greater}
 use Rattle.intervals.specs.Search.{first_answer}
 use Rattle.intervals.specs.Bytes.{Range, greatest, nothing, put, is_start, number_of_runs, run_from, IsRun}
@@ -112,3 +112,41 @@ LowestIsLowest =
     → s.lo ≤ s.hi
     → s.hi ≤ greatest
     → MatchOption (lowest_blocker h owner s mode) (IsFree h owner s mode) (IsLowestBlocker h owner s mode)
+
+-- no lock on the span excludes the mode
+abbrev pub IsClear : FileLocks → Range → Mode → Type 0
+IsClear h s mode = (o : Owner) (b : ℕ) → s.lo ≤ b → b ≤ s.hi → bars mode (h o b) ≡ false
+
+-- the lock reaches into the span and excludes the mode
+pub record IsInWay (s : Range) (mode : Mode) (lock : LockInfo) : Type 0 where
+  pub conflicts : excludes lock.mode mode ≡ true
+  pub starts : lock.span.lo ≤ s.hi
+  pub ends : s.lo ≤ lock.span.hi
+
+-- of the locks of a kind that are in the way, the one that comes before the others
+pub record IsLowestInWay (IsOne : LockInfo → Type 0) (s : Range) (mode : Mode) (lock : LockInfo) : Type 0 where
+  pub is_one : IsOne lock
+  pub in_way : IsInWay s mode lock
+  pub lowest : (other : LockInfo) → IsOne other → IsInWay s mode other → IsNotAfter lock other
+
+-- of the regions of all owners of a node that are in the way, the lowest: by first byte, then by owner
+unfoldable pub lowest_in_way : FileLocks → ℕ → ℕ → Range → Mode → Option LockInfo
+lowest_in_way h node incarnation s mode =
+    first_answer (λ lo. first_answer (λ k. region_at h s mode (owner_at node incarnation k) lo (h (owner_at node incarnation k) lo)) 0 most_owners) 0 (s.hi + 1)
+
+-- what `lowest_in_way` gives
+abbrev pub LowestInWayIsLowest : Type 0
+LowestInWayIsLowest =
+    (h : FileLocks) (node incarnation : ℕ) (s : Range) (mode : Mode)
+    → IsOfNode h node incarnation
+    → s.lo ≤ s.hi
+    → s.hi ≤ greatest
+    → MatchOption (lowest_in_way h node incarnation s mode) (IsClear h s mode) (IsLowestInWay (IsRegion h) s mode)
+
+-- two regions that are both the lowest in the way are one
+abbrev pub LowestInWayIsOne : Type 0
+LowestInWayIsOne =
+    (h : FileLocks) (s : Range) (mode : Mode) (a b : LockInfo)
+    → IsLowestInWay (IsRegion h) s mode a
+    → IsLowestInWay (IsRegion h) s mode b
+    → a ≡ b

@@ -11,7 +11,7 @@ pub enum Mode {
 
 impl Mode {
     ghost use Rattle.std.specs.Prelude.{◌≡◌};
-    ghost use Rattle.model.specs.Locks.{bar_of};
+    ghost use Rattle.model.specs.Locks.{bar_of, excludes};
 
     /// The mode of locks that exclude this one on a byte; `None` where locks of either mode do.
     pub fn bar(self) -> Option<Mode>
@@ -21,6 +21,13 @@ impl Mode {
             Mode::Read => Some(Mode::Write),
             Mode::Write => None,
         }
+    }
+
+    /// Whether locks of the two modes, of two owners, may not share a byte.
+    pub fn excludes(self, other: Mode) -> bool
+        ensures { result ≡ excludes self other }
+    {
+        self == Mode::Write || other == Mode::Write
     }
 }
 

@@ -1,7 +1,7 @@
 //! Calls of the one table that are answered already.
 ghost use Rattle.std.specs.Prelude.{◌≡◌, true, false, Some, ◌↔◌, IsTrue, IfOk, OnErr};
 ghost use Rattle.model.specs.declared.reply.Reply.TheVariants.{Again, Blocked};
-ghost use Rattle.model.specs.Locks.{excludes, IsRegion};
+ghost use Rattle.model.specs.Locks.{IsRegion};
 ghost use Rattle.model.specs.OneTable.{table_of, BlocksCall};
 ghost use Rattle.model.specs.Step.{Step};
 ghost use Rattle.model.specs.Replay.{NeverAnswers, NamesNoLock};
@@ -28,13 +28,6 @@ fn is_found(found: &Option<(Span, Mode)>, lock: &LockInfo) -> bool
     ensures { IsTrue result ↔ (found.now ≡ Some (lock.now.span, lock.now.mode)) }
 {
     *found == Some((lock.span, lock.mode))
-}
-
-// Whether a lock in one mode bars another owner's in the other.
-fn excludes(held: Mode, mode: Mode) -> bool
-    ensures { result ≡ excludes held mode }
-{
-    held == Mode::Write || mode == Mode::Write
 }
 
 impl OneTable {
@@ -120,7 +113,7 @@ impl OneTable {
     fn is_blocked_by(&self, call: LockCall, mode: Mode, lock: &LockInfo) -> Result<bool, NoMemory>
         ensures { IfOk result (λ yes. IsTrue yes ↔ BlocksCall (table_of self.now) call mode lock.now) }
     {
-        if lock.owner == call.owner || !excludes(lock.mode, mode) {
+        if lock.owner == call.owner || !lock.mode.excludes(mode) {
             return Ok(false);
         }
         if lock.span.lo > call.span.hi || call.span.lo > lock.span.hi {

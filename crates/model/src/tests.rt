@@ -348,3 +348,11 @@ fn fails_one_incarnation(rt: HostRuntime) -> Result<(), Fail> {
     );
     Ok(())
 }
+
+#[test]
+fn read_locks_alone_share(rt: HostRuntime) {
+    assert!(rt; !Mode::Read.excludes(Mode::Read));
+    assert!(rt; Mode::Read.excludes(Mode::Write));
+    assert!(rt; Mode::Write.excludes(Mode::Read));
+    assert!(rt; Mode::Write.excludes(Mode::Write));
+}

@@ -2,3 +2,6 @@ pub mod SearchLaws
 pub mod AroundLaws
 pub mod TokenLaws
 pub mod RunLaws
+pub mod ReleaseLaws
+pub mod ListLaws
+pub mod LevelLaws

@@ -1,3 +1,4 @@
 pub mod Tokens
 pub mod Sets
 pub mod Runs
+pub mod Releases

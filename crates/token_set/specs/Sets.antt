@@ -1,13 +1,13 @@
 -- The token that a map of levels is.
-use Rattle.std.specs.Prelude.{◌≢◌, ℕ, ◌<◌, ◌≤◌, Option, Some, None, IsSome}
+use Rattle.std.specs.Prelude.{◌≢◌, ℕ, ◌&&◌, if◌then◌else◌, ◌<◌, ◌≤◌, Option, Some, None, IsSome}
 use Rattle.intervals.specs.declared.vec_map.VecMap.{VecMap}
-use Rattle.intervals.specs.Bytes.{Range, AllAre}
+use Rattle.intervals.specs.Bytes.{Range, is_in, AllAre}
 use Rattle.intervals.specs.Runs.{value_at}
 use Rattle.model.specs.declared.mode.Mode.{Mode}
 use Rattle.model.specs.declared.mode.Mode.TheVariants.{Read, Write}
 use Rattle.model.specs.declared.level.Level.{Level}
 use Rattle.model.specs.declared.level.Level.TheVariants.{Exclusive}
-use Rattle.token_set.specs.Tokens.{Token}
+use Rattle.token_set.specs.Tokens.{Token, level_conflicts}
 
 -- the token of a token set
 abbrev pub token_of : VecMap Level → Token
@@ -29,3 +29,7 @@ pub record IsFirstExclusive (t : Token) (span s : Range) : Type 0 where
   pub ends_within : s.hi ≤ span.hi
   pub here : AllAre t s (Some Exclusive)
   pub none_before : (b : ℕ) → span.lo ≤ b → b < s.lo → t b ≢ Some Exclusive
+
+-- f, but the level at each byte of the span that is exclusive in t
+abbrev pub at_exclusive : Token → Range → Level → Token → Token
+at_exclusive t s level f b = if is_in s b && level_conflicts (t b) Read then Some level else f b

@@ -2,6 +2,8 @@
 #![tactic(auto)]
 
 pub mod desired;
+pub mod gave_up;
+pub mod laws;
 pub mod set;
 
 pub use model::level::Level;

@@ -1,14 +1,17 @@
 //! The token of one node for one file.
-ghost use Rattle.std.specs.Prelude.{◌≡◌, ◌≤◌, true, Some, IfOk, OnOk, OnErr, IsTrue, ◌↔◌, MatchOption};
+ghost use Rattle.std.specs.Prelude.{◌≡◌, ◌≤◌, true, Some, IfOk, OnOk, OnErr, IsTrue, ◌↔◌, MatchOption, Contains};
 ghost use Rattle.intervals.specs.Bytes.{IsLargest, NoneIn, largest_around};
 ghost use Rattle.token_set.specs.Tokens.{no_token, covers, raised, conflicts, level_conflicts, holds_nothing};
-ghost use Rattle.token_set.specs.Sets.{token_of, bar_of, HasLevels, IsFirstExclusive};
+ghost use Rattle.token_set.specs.Sets.{token_of, bar_of, HasLevels, IsFirstExclusive, at_exclusive};
+ghost use Rattle.token_set.specs.Releases.{lowered, IsGivenUp, after_giving_up};
 ghost use Rattle.token_set.specs.Runs.{NothingFrom, IsNextRun, ListsRuns};
 
+use crate::gave_up::GaveUp;
 use intervals::span::{GREATEST, Span};
 use intervals::span_map::{NoMemory, SpanMap};
 use intervals::vec_map::VecMap;
 use model::level::Level;
+use model::lock_info::LockInfo;
 use model::mode::Mode;
 use std::alloc::Global;
 use std::marker::Model;
@@ -55,21 +58,43 @@ fn first_exclusive(levels: &Levels, span: Span) -> Option<Span>
     })
 }
 
-// The levels with each byte of the span that has none raised to shared.
-fn shared(levels: &Levels, span: Span) -> Result<Levels, NoMemory>
-    ensures { IfOk result (λ new. token_of new ≡ raised (token_of levels.now) span Mode.Read) }
+// Gives each byte of the span that is exclusive in `levels` the level in `new`.
+fn set_exclusive(
+    new: &mut Levels,
+    levels: &Levels,
+    span: Span,
+    level: Level,
+) -> Result<(), NoMemory>
+    ensures { OnOk result (token_of new.new ≡ at_exclusive (token_of levels.now) span level (token_of new.old)) }
 {
-    let mut new = levels.copy()?;
-    new.set(span, Level::Shared)?;
     let mut lo = span.lo;
     while lo <= span.hi {
         let rest = Span { lo, hi: span.hi };
         let Some(exclusive) = first_exclusive(levels, rest) else {
             break;
         };
-        new.set(exclusive, Level::Exclusive)?;
+        new.set(exclusive, level)?;
         lo = exclusive.hi + 1;
     }
+    Ok(())
+}
+
+// The levels with each byte of the span that has none raised to shared.
+fn shared(levels: &Levels, span: Span) -> Result<Levels, NoMemory>
+    ensures { IfOk result (λ new. token_of new ≡ raised (token_of levels.now) span Mode.Read) }
+{
+    let mut new = levels.copy()?;
+    new.set(span, Level::Shared)?;
+    set_exclusive(&mut new, levels, span, Level::Exclusive)?;
+    Ok(new)
+}
+
+// The levels with each exclusive byte of the span lowered to shared.
+fn unexclusive(levels: &Levels, span: Span) -> Result<Levels, NoMemory>
+    ensures { IfOk result (λ new. token_of new ≡ lowered (token_of levels.now) span Mode.Read) }
+{
+    let mut new = levels.copy()?;
+    set_exclusive(&mut new, levels, span, Level::Shared)?;
     Ok(new)
 }
 
@@ -126,6 +151,53 @@ impl TokenSet {
             Mode::Write => self.levels.set(span, Level::Exclusive)?,
         }
         Ok(())
+    }
+
+    /// Lowers each byte of the span: for write to none, for read from exclusive to shared, so that a
+    /// byte that has no level stays so.
+    ///
+    /// # Errors
+    /// `NoMemory` where a request for memory was refused.
+    pub fn lower(&mut self, span: Span, mode: Mode) -> Result<(), NoMemory>
+        ensures ok { OnOk result (token_of self.new ≡ lowered (token_of self.old) span mode) }
+        ensures err { OnErr result (self.new ≡ self.old) }
+    {
+        match mode {
+            Mode::Read => self.levels = unexclusive(&self.levels, span)?,
+            Mode::Write => self.levels.clear(span)?,
+        }
+        Ok(())
+    }
+
+    /// Gives up bytes that a token server revokes for a mode, as far as the node's locks of the file
+    /// let it; they may be listed in any order. A write lock is in the way of either mode, a read
+    /// lock of write. Where no lock in the way reaches into `required`, the largest span that
+    /// contains `required`, lies in `desired` and has no byte of a lock in the way is lowered, and
+    /// `Released` names it. Else the token stays, and `Conflict` names the lock in the way that
+    /// reaches into `required`: the one of the lowest first byte, and of those with one first byte
+    /// the one of the lowest owner. (Revocation with required and desired ranges: Schmuck and
+    /// Haskin, FAST 2002.)
+    ///
+    /// # Errors
+    /// `NoMemory` where a request for memory was refused.
+    pub fn give_up(
+        &mut self,
+        mode: Mode,
+        required: Span,
+        desired: Span,
+        locks: &[LockInfo],
+    ) -> Result<GaveUp, NoMemory>
+        requires starts_within { desired.lo ≤ required.lo }
+        requires ends_within { required.hi ≤ desired.hi }
+        ensures answer { IfOk result (λ answer. IsGivenUp (Contains locks.now) mode required desired answer) }
+        ensures token { IfOk result (λ answer. token_of self.new ≡ after_giving_up (token_of self.old) mode answer) }
+        ensures err { OnErr result (self.new ≡ self.old) }
+    {
+        let answer = GaveUp::by_locks(mode, required, desired, locks);
+        if let GaveUp::Released(span) = answer {
+            self.lower(span, mode)?;
+        }
+        Ok(answer)
     }
 
     /// Whether the node may lock each byte of the span in the mode without asking: a read lock where

@@ -1,0 +1,115 @@
+-- Levels that are put in place of exclusive ones.
+use Rattle.std.specs.Prelude.{◌≡◌, ◌≢◌, ℕ, ◌+◌, ◌<◌, ◌≤◌, Bool, true, false, ◌&&◌, if◌then◌else◌, Option, Some, None, refl}
+use Rattle.std.proofs.Common.{arith, ap, sym, ◌∙◌, inl, inr}
+use Rattle.std.proofs.lemmas.Bool.{cases_lt, and_from, and_right, le-leb}
+use Rattle.std.proofs.lemmas.Bool.Decides.{nat_tests}
+use Rattle.intervals.specs.Bytes.{Range, is_in, NoneIn, put}
+use Rattle.model.specs.declared.mode.Mode.TheVariants.{Read}
+use Rattle.model.specs.declared.level.Level.{Level}
+use Rattle.model.specs.declared.level.Level.TheVariants.{Shared, Exclusive}
+use Rattle.token_set.specs.Tokens.{Token, level_conflicts, raised_level, raised}
+use Rattle.token_set.specs.Sets.{IsFirstExclusive, at_exclusive}
+use Rattle.token_set.specs.Releases.{lowered_level, lowered}
+
+-- the bytes below `from` are done, and those from there on are as in f
+pub record IsDoneTo (t : Token) (s : Range) (level : Level) (f g : Token) (from : ℕ) : Type 0 where
+  pub starts : s.lo ≤ from
+  pub ends : from ≤ s.hi + 1
+  pub done : (b : ℕ) → b < from → g b ≡ at_exclusive t s level f b
+  pub left : (b : ℕ) → from ≤ b → g b ≡ f b
+
+inside : (s : Range) (b : ℕ) → s.lo ≤ b → b ≤ s.hi → is_in s b ≡ true
+inside s b above below = and_from _ _ (le-leb _ _ above) (le-leb _ _ below)
+
+below_it : (s : Range) (b : ℕ) → b < s.lo → is_in s b ≡ false
+below_it s b lt = grind (arith, nat_tests)
+
+above_it : (s : Range) (b : ℕ) → s.hi < b → is_in s b ≡ false
+above_it s b lt = grind (arith, nat_tests)
+
+not_exclusive : (x : Option Level) → x ≢ Some Exclusive → level_conflicts x Read ≡ false
+not_exclusive None h = refl
+not_exclusive (Some Shared) h = refl
+not_exclusive (Some Exclusive) h = absurd (h refl)
+
+module _ (t : Token) (s : Range) (level : Level) (f : Token) where
+  -- a byte outside the span, or that is not exclusive, is as in f
+  as_it_was : (b : ℕ) → (s.lo ≤ b → b ≤ s.hi → t b ≢ Some Exclusive) → at_exclusive t s level f b ≡ f b
+  as_it_was b h = elim (cases_lt b s.lo) [
+    | inl lt ↦ ap (λ i. if i && level_conflicts (t b) Read then Some level else f b) (below_it s b lt)
+    | inr ge ↦ elim (cases_lt s.hi b) [
+      | inl gt ↦ ap (λ i. if i && level_conflicts (t b) Read then Some level else f b) (above_it s b gt)
+      | inr le ↦ ap (λ i. if i then Some level else f b) (and_right (is_in s b) _ (not_exclusive (t b) (h ge le)))
+    ]
+  ]
+
+  exclusive_at : (b : ℕ) → s.lo ≤ b → b ≤ s.hi → t b ≡ Some Exclusive → at_exclusive t s level f b ≡ Some level
+  exclusive_at b above below is = ap (λ i. if i then Some level else f b) (and_from _ _ (inside s b above below) (ap (λ x. level_conflicts x Read) is))
+
+  pub done-start : s.lo ≤ s.hi → IsDoneTo t s level f f s.lo
+  done-start order = record {
+    starts = omega arith;
+    ends = omega arith;
+    done = λ b lt. sym (as_it_was b (λ above below. absurd (omega arith)));
+    left = λ b above. refl;
+  }
+
+  -- the next exclusive bytes are done
+  pub done-more : (g : Token) (from : ℕ) (e : Range) → IsDoneTo t s level f g from → IsFirstExclusive t (record { lo = from; hi = s.hi }) e → IsDoneTo t s level f (put g e (Some level)) (e.hi + 1)
+  done-more g from e d x = record {
+    starts = omega (arith, d.starts, x.starts_within, x.ordered);
+    ends = omega (arith, x.ends_within);
+    done = λ b lt. elim (cases_lt b e.lo) [
+      | inl under ↦ ap (λ i. if i then Some level else g b) (below_it e b under) ∙ elim (cases_lt b from) [
+        | inl before ↦ d.done b before
+        | inr after ↦ d.left b after ∙ sym (as_it_was b (λ above below. x.none_before b after under))
+      ]
+      | inr here ↦ ap (λ i. if i then Some level else g b) (inside e b here (omega arith)) ∙ sym (exclusive_at b (omega (arith, d.starts, x.starts_within)) (omega (arith, x.ends_within)) (x.here b here (omega arith)))
+    ];
+    left = λ b above. ap (λ i. if i then Some level else g b) (above_it e b (omega arith)) ∙ d.left b (omega (arith, x.starts_within, x.ordered));
+  }
+
+  -- nothing is left
+  pub done-end : (g : Token) (from : ℕ) → IsDoneTo t s level f g from → s.hi < from → g ≡ at_exclusive t s level f
+  done-end g from d end = λ i b. at b i
+    where
+      at : (b : ℕ) → g b ≡ at_exclusive t s level f b
+      at b = elim (cases_lt b from) [
+        | inl before ↦ d.done b before
+        | inr after ↦ d.left b after ∙ sym (as_it_was b (λ above below. absurd (omega arith)))
+      ]
+
+  pub done-none : (g : Token) (from : ℕ) → IsDoneTo t s level f g from → NoneIn (λ b. t b ≡ Some Exclusive) (record { lo = from; hi = s.hi }) → g ≡ at_exclusive t s level f
+  done-none g from d none = λ i b. at b i
+    where
+      at : (b : ℕ) → g b ≡ at_exclusive t s level f b
+      at b = elim (cases_lt b from) [
+        | inl before ↦ d.done b before
+        | inr after ↦ d.left b after ∙ sym (as_it_was b (λ above below is. none b after below is))
+      ]
+
+-- a grant for read: shared everywhere, and exclusive again where it was
+raised_level-is : (x : Option Level) → (if level_conflicts x Read then Some Exclusive else Some Shared) ≡ raised_level x Read
+raised_level-is None = refl
+raised_level-is (Some Shared) = refl
+raised_level-is (Some Exclusive) = refl
+
+pub raised-is : (t : Token) (s : Range) → at_exclusive t s Exclusive (put t s (Some Shared)) ≡ raised t s Read
+raised-is t s = λ i b. at b (is_in s b) i
+  where
+    at : (b : ℕ) (i : Bool) → (if i && level_conflicts (t b) Read then Some Exclusive else (if i then Some Shared else t b)) ≡ (if i then raised_level (t b) Read else t b)
+    at b true = raised_level-is (t b)
+    at b false = refl
+
+-- a revoke for read: shared where it was exclusive
+lowered_level-is : (x : Option Level) → (if level_conflicts x Read then Some Shared else x) ≡ lowered_level x Read
+lowered_level-is None = refl
+lowered_level-is (Some Shared) = refl
+lowered_level-is (Some Exclusive) = refl
+
+pub lowered-is : (t : Token) (s : Range) → at_exclusive t s Shared t ≡ lowered t s Read
+lowered-is t s = λ i b. at b (is_in s b) i
+  where
+    at : (b : ℕ) (i : Bool) → (if i && level_conflicts (t b) Read then Some Shared else t b) ≡ (if i then lowered_level (t b) Read else t b)
+    at b true = lowered_level-is (t b)
+    at b false = refl

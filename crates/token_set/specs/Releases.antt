@@ -1,0 +1,115 @@
+-- What a node gives up where a server revokes.
+use Rattle.std.specs.Prelude.{◌≡◌, ℕ, ◌≤◌, Bool, true, if◌then◌else◌, Option, Some, None, IsSome, List, Contains, All}
+use Rattle.intervals.specs.Search.{some_passes}
+use Rattle.intervals.specs.Bytes.{Range, greatest, is_in, IsLargest, largest_around}
+use Rattle.model.specs.declared.mode.Mode.{Mode}
+use Rattle.model.specs.declared.mode.Mode.TheVariants.{Read, Write}
+use Rattle.model.specs.declared.level.Level.{Level}
+use Rattle.model.specs.declared.level.Level.TheVariants.{Shared, Exclusive}
+use Rattle.model.specs.declared.owner.Owner.{Owner}
+use Rattle.model.specs.declared.lock_info.LockInfo.{LockInfo}
+use Rattle.model.specs.Owners.{owner_at, most_owners}
+use Rattle.model.specs.Locks.{FileLocks, bars, IsRegion, IsOfNode, IsClear, IsInWay, IsLowestInWay, lowest_in_way}
+use Rattle.token_set.specs.Tokens.{Token, serves}
+use Rattle.token_set.specs.declared.gave_up.GaveUp.{GaveUp}
+use Rattle.token_set.specs.declared.gave_up.GaveUp.TheVariants.{Released, Conflict}
+
+-- a revoke for read lowers exclusive to shared, a revoke for write lowers to none
+abbrev pub lowered_level : Option Level → Mode → Option Level
+lowered_level level Write = None
+lowered_level None Read = None
+lowered_level (Some level) Read = Some Shared
+
+abbrev pub lowered : Token → Range → Mode → Token
+lowered t s mode b = if is_in s b then lowered_level (t b) mode else t b
+
+-- some owner of the node has a lock at the byte that excludes the mode
+abbrev pub is_in_way : FileLocks → ℕ → ℕ → Mode → ℕ → Bool
+is_in_way h node incarnation mode b = some_passes (λ k. bars mode (h (owner_at node incarnation k) b)) 0 most_owners
+
+-- FAST 2002, required and desired ranges: the largest span around the required bytes, within the desired ones, on which no lock of the node is in the way
+abbrev pub given_up_span : FileLocks → ℕ → ℕ → Mode → Range → Range → Range
+given_up_span h node incarnation mode required desired = largest_around (is_in_way h node incarnation mode) required desired
+
+-- the lock, if there is one, is a conflict, else the span is released
+abbrev pub answer_of : Option LockInfo → Range → GaveUp
+answer_of None s = Released s
+answer_of (Some lock) s = Conflict lock
+
+-- a node's answer to a revoke: the lowest of its locks that is in the way of the required bytes, else the span that it gives up
+abbrev pub gave_up : FileLocks → ℕ → ℕ → Mode → Range → Range → GaveUp
+gave_up h node incarnation mode required desired =
+    answer_of (lowest_in_way h node incarnation required mode) (given_up_span h node incarnation mode required desired)
+
+-- the token after the answer: what was released is lowered
+abbrev pub after_giving_up : Token → Mode → GaveUp → Token
+after_giving_up t mode (Released s) = lowered t s mode
+after_giving_up t mode (Conflict lock) = t
+
+-- no lock of a kind is in the way on the span
+abbrev pub NoneInWay : (LockInfo → Type 0) → Range → Mode → Type 0
+NoneInWay IsOne s mode = (lock : LockInfo) → IsOne lock → IsInWay s mode lock → ⊥
+
+-- a lock of a kind has the byte, and excludes the mode
+abbrev pub HasInWay : (LockInfo → Type 0) → Mode → ℕ → Type 0
+HasInWay IsOne mode b = (lock : LockInfo) × IsOne lock × IsInWay (record { lo = b; hi = b }) mode lock
+
+-- the answer to a revoke by the locks of a kind: the lowest in the way of the required bytes, or there is none, and the largest span around them without one
+abbrev pub IsGivenUp : (LockInfo → Type 0) → Mode → Range → Range → GaveUp → Type 0
+IsGivenUp IsOne mode required desired (Conflict lock) = IsLowestInWay IsOne required mode lock
+IsGivenUp IsOne mode required desired (Released s) = NoneInWay IsOne required mode × IsLargest (HasInWay IsOne mode) required desired s
+
+-- bytes that a revoke can name
+pub record IsRevocable (required desired : Range) : Type 0 where
+  pub ordered : required.lo ≤ required.hi
+  pub within : required.hi ≤ greatest
+  pub starts : desired.lo ≤ required.lo
+  pub ends : required.hi ≤ desired.hi
+
+-- what `gave_up` gives
+abbrev pub GaveUpIsGivenUp : Type 0
+GaveUpIsGivenUp =
+    (h : FileLocks) (node incarnation : ℕ) (mode : Mode) (required desired : Range)
+    → IsOfNode h node incarnation
+    → IsRevocable required desired
+    → IsGivenUp (IsRegion h) mode required desired (gave_up h node incarnation mode required desired)
+
+-- the answer by a list that has each region of the node's locks, and nothing else, is what `gave_up` gives
+abbrev pub ListGivesUp : Type 0
+ListGivesUp =
+    (h : FileLocks) (node incarnation : ℕ) (locks : List LockInfo) (mode : Mode) (required desired : Range) (answer : GaveUp)
+    → IsOfNode h node incarnation
+    → All (IsRegion h) locks
+    → ((lock : LockInfo) → IsRegion h lock → Contains locks lock)
+    → IsRevocable required desired
+    → IsGivenUp (Contains locks) mode required desired answer
+    → answer ≡ gave_up h node incarnation mode required desired
+
+-- on the span that is released no lock of the node excludes the mode
+abbrev pub ReleasedIsClear : Type 0
+ReleasedIsClear =
+    (h : FileLocks) (node incarnation : ℕ) (mode : Mode) (required desired s : Range)
+    → IsOfNode h node incarnation
+    → IsRevocable required desired
+    → gave_up h node incarnation mode required desired ≡ Released s
+    → IsClear h s mode
+
+-- a level lets a node lock no more than another
+abbrev pub IsAtMost : Option Level → Option Level → Type 0
+IsAtMost None y = Unit {0}
+IsAtMost (Some Shared) y = IsSome y
+IsAtMost (Some Exclusive) y = y ≡ Some Exclusive
+
+-- lowering raises no byte
+abbrev pub LoweringLowers : Type 0
+LoweringLowers = (t : Token) (s : Range) (mode : Mode) (b : ℕ) → IsAtMost (lowered t s mode b) (t b)
+
+-- where no lock on the span excludes the mode, the lowered token still serves the locks that the token served
+abbrev pub LoweringKeepsLocks : Type 0
+LoweringKeepsLocks =
+    (h : FileLocks) (t : Token) (s : Range) (mode : Mode)
+    → IsClear h s mode
+    → ((o : Owner) (b : ℕ) (held : Mode) → h o b ≡ Some held → serves (t b) held ≡ true)
+    → (o : Owner) (b : ℕ) (held : Mode)
+    → h o b ≡ Some held
+    → serves (lowered t s mode b) held ≡ true

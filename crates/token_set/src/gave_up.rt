@@ -1,0 +1,211 @@
+//! What a node gives up where a token server revokes.
+ghost use Rattle.std.specs.Prelude.{◌≤◌, ◌<◌, ◌⊎◌, ◌≡◌, true, IsTrue, ◌↔◌, MatchOption, Contains};
+ghost use Rattle.intervals.specs.Bytes.{IsLargest, is_in};
+ghost use Rattle.model.specs.Locks.{IsInWay, IsLowestInWay};
+ghost use Rattle.token_set.specs.Releases.{NoneInWay, HasInWay, IsGivenUp};
+
+use intervals::span::Span;
+use lock_table::order::lowest_of;
+use model::lock_info::LockInfo;
+use model::mode::Mode;
+
+/// A node's answer where a token server revokes bytes of its token.
+#[derive(Clone, Copy, Debug, PartialEq, Eq)]
+pub enum GaveUp {
+    /// The bytes that were given up.
+    Released(Span),
+    /// The lock of the node that was in the way, so that nothing was given up.
+    Conflict(LockInfo),
+}
+
+impl GaveUp {
+    /// What a node answers by its locks, in any order, where bytes are revoked for a mode; each lock
+    /// that excludes the mode is in the way of it. `Conflict` names the lock in the way that reaches
+    /// into `required`: the one of the lowest first byte, and of those with one first byte the one
+    /// of the lowest owner. Where there is none, `Released` has the largest span that contains
+    /// `required`, lies in `desired` and has no byte of a lock in the way.
+    pub(crate) fn by_locks(mode: Mode, required: Span, desired: Span, locks: &[LockInfo]) -> GaveUp
+        requires starts_within { desired.lo ≤ required.lo }
+        requires ends_within { required.hi ≤ desired.hi }
+        ensures { IsGivenUp (Contains locks.now) mode required desired result }
+    {
+        match first_in_way(locks, required, mode) {
+            Some(lock) => GaveUp::Conflict(lock),
+            None => GaveUp::Released(span_beside(locks, required, desired, mode)),
+        }
+    }
+}
+
+// Whether the lock reaches into the span and excludes the mode.
+fn is_in_way(lock: &LockInfo, span: Span, mode: Mode) -> bool
+    ensures { IsTrue result ↔ IsInWay span mode lock.now }
+{
+    lock.mode.excludes(mode) && lock.span.lo <= span.hi && span.lo <= lock.span.hi
+}
+
+// Of the locks in the way, the one that comes first.
+fn first_in_way(locks: &[LockInfo], span: Span, mode: Mode) -> Option<LockInfo>
+    ensures { MatchOption result (NoneInWay (Contains locks.now) span mode) (IsLowestInWay (Contains locks.now) span mode) }
+{
+    let mut first = None;
+    for lock in locks {
+        if is_in_way(lock, span, mode) {
+            first = lowest_of(first, Some(*lock));
+        }
+    }
+    first
+}
+
+// The largest span that contains `required`, lies in `within` and has no byte of `taken`, which has
+// none of `required`.
+fn beside(taken: Span, required: Span, within: Span) -> Span
+    requires starts_within { within.lo ≤ required.lo }
+    requires ends_within { required.hi ≤ within.hi }
+    requires apart { (taken.hi < required.lo) ⊎ (required.hi < taken.lo) }
+    ensures { IsLargest (λ b. is_in taken b ≡ true) required within result }
+{
+    if taken.hi < required.lo {
+        Span {
+            lo: within.lo.max(taken.hi + 1),
+            hi: within.hi,
+        }
+    } else {
+        Span {
+            lo: within.lo,
+            hi: within.hi.min(taken.lo - 1),
+        }
+    }
+}
+
+// The largest span that contains `required`, lies in `desired` and has no byte of a lock in the way.
+fn span_beside(locks: &[LockInfo], required: Span, desired: Span, mode: Mode) -> Span
+    requires starts_within { desired.lo ≤ required.lo }
+    requires ends_within { required.hi ≤ desired.hi }
+    requires free { NoneInWay (Contains locks.now) required mode }
+    ensures { IsLargest (HasInWay (Contains locks.now) mode) required desired result }
+{
+    let _ = &required.lo; // tells the proof that the span has a byte
+    let mut span = desired;
+    for lock in locks {
+        if lock.mode.excludes(mode) {
+            span = beside(lock.span, required, span);
+        }
+    }
+    span
+}
+
+#[cfg(test)]
+mod tests {
+    use super::*;
+    use crate::set::TokenSet;
+    use intervals::span::GREATEST;
+    use model::owner::{Kind, Owner};
+    use std::alloc::Global;
+    use std::test::Fail;
+
+    const WHOLE: Span = Span {
+        lo: 0,
+        hi: GREATEST,
+    };
+
+    // A lock of a process of the node.
+    const LOW: LockInfo = LockInfo {
+        owner: Owner {
+            node: 1,
+            incarnation: 1,
+            kind: Kind::OfProcess,
+            number: 1,
+        },
+        mode: Mode::Write,
+        span: Span { lo: 0, hi: 99 },
+    };
+
+    // A lock of a description of the node.
+    const HIGH: LockInfo = LockInfo {
+        owner: Owner {
+            node: 1,
+            incarnation: 1,
+            kind: Kind::OfDescription,
+            number: 1,
+        },
+        mode: Mode::Read,
+        span: Span { lo: 300, hi: 399 },
+    };
+
+    // The token with every byte at the level that serves the mode.
+    fn token_for(alloc: Global, mode: Mode) -> Result<TokenSet, Fail> {
+        let mut token = TokenSet::new(alloc);
+        token.grant(WHOLE, mode)?;
+        Ok(token)
+    }
+
+    // Whether the token's answer is this one, where the node has both locks.
+    fn answers(
+        token: &mut TokenSet,
+        mode: Mode,
+        required: Span,
+        desired: Span,
+        want: GaveUp,
+    ) -> Result<bool, Fail> {
+        let answer = token.give_up(mode, required, desired, &[HIGH, LOW])?;
+        Ok(answer == want)
+    }
+
+    #[test]
+    fn the_first_lock_in_the_way_is_a_conflict(rt: HostRuntime) -> Result<(), Fail> {
+        let mut token = token_for(rt.alloc(), Mode::Write)?;
+        let low = GaveUp::Conflict(LOW);
+        let high = GaveUp::Conflict(HIGH);
+        let middle = Span { lo: 50, hi: 59 };
+        assert!(rt; answers(&mut token, Mode::Read, middle, WHOLE, low)?);
+        let both = Span { lo: 99, hi: 300 };
+        assert!(rt; answers(&mut token, Mode::Write, both, both, low)?);
+        let last = Span { lo: 399, hi: 400 };
+        assert!(rt; answers(&mut token, Mode::Write, last, WHOLE, high)?);
+        assert!(rt; token.covers(WHOLE, Mode::Write));
+        Ok(())
+    }
+
+    #[test]
+    fn a_revoke_for_read_leaves_a_shared_token(rt: HostRuntime) -> Result<(), Fail> {
+        let mut token = token_for(rt.alloc(), Mode::Write)?;
+        let required = Span { lo: 200, hi: 209 };
+        let above = Span {
+            lo: 100,
+            hi: GREATEST,
+        };
+        let want = GaveUp::Released(above);
+        assert!(rt; answers(&mut token, Mode::Read, required, WHOLE, want)?);
+        assert!(rt; token.covers(LOW.span, Mode::Write));
+        assert!(rt; token.covers(above, Mode::Read));
+        assert!(rt; !token.conflicts(above, Mode::Read));
+        Ok(())
+    }
+
+    #[test]
+    fn a_revoke_for_write_takes_all(rt: HostRuntime) -> Result<(), Fail> {
+        let mut token = token_for(rt.alloc(), Mode::Read)?;
+        let required = Span { lo: 200, hi: 209 };
+        let between = Span { lo: 100, hi: 299 };
+        let want = GaveUp::Released(between);
+        assert!(rt; answers(&mut token, Mode::Write, required, WHOLE, want)?);
+        assert!(rt; token.covers(LOW.span, Mode::Read));
+        assert!(rt; !token.conflicts(between, Mode::Write));
+        assert!(rt; token.covers(HIGH.span, Mode::Read));
+        Ok(())
+    }
+
+    #[test]
+    fn a_token_is_lowered_by_level(rt: HostRuntime) -> Result<(), Fail> {
+        let mut token = token_for(rt.alloc(), Mode::Read)?;
+        let exclusive = Span { lo: 10, hi: 19 };
+        token.grant(exclusive, Mode::Write)?;
+        token.lower(Span { lo: 15, hi: 29 }, Mode::Read)?;
+        assert!(rt; token.covers(Span { lo: 10, hi: 14 }, Mode::Write));
+        assert!(rt; token.covers(WHOLE, Mode::Read));
+        assert!(rt; !token.conflicts(Span { lo: 15, hi: 29 }, Mode::Read));
+        token.lower(exclusive, Mode::Write)?;
+        assert!(rt; !token.conflicts(exclusive, Mode::Write));
+        Ok(())
+    }
+}
