@@ -9,6 +9,8 @@ pub mod perform;
 pub mod play;
 pub mod played;
 mod player;
+#[cfg(test)]
+mod reader_tests;
 pub mod respond;
 mod settled;
 pub mod store;

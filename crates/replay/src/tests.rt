@@ -325,6 +325,11 @@ fn names_the_fault(rt: HostRuntime) {
     let cases = [
         ("a.lock", b"".as_slice(), b"bad line 1\n".as_slice()),
         ("a.lock", b"# none\n", b"bad line 2\n"),
+        (
+            "a.lock",
+            b"cluster nodes 65 files 1 policy exact\n",
+            b"bad line 1\n",
+        ),
         ("a.lock", b"\xff\n", b"cannot read a.lock\n"),
         ("a.lock", b"settle\n\xc3", b"cannot read a.lock\n"),
         ("b.lock", EMPTY, b"cannot read b.lock\n"),
