@@ -11,16 +11,10 @@ use Rattle.lockscript.specs.Listing.{listing_text}
 use Rattle.lockscript.specs.Scripts.{ScriptFields, IsScript, IsFirstBad}
 use Rattle.replay.specs.declared.fault.Fault.{Fault}
 use Rattle.replay.specs.declared.fault.Fault.TheVariants.{BadLine, CannotRead, CannotWriteOutput, NoMemory, JournalFull}
-use Rattle.replay.specs.declared.line.Line.{Line}
-use Rattle.replay.specs.declared.line.Line.TheVariants.{Run}
 use Rattle.replay.specs.declared.store.StoreError.{StoreError}
 use Rattle.replay.specs.declared.store.StoreError.TheVariants.{Failed}
 use Rattle.replay.specs.Played.{PlayedState, ComesTo, FillsJournal}
 use Rattle.replay.specs.Statuses.{status_of}
-
--- the path of the script
-abbrev pub path_of : Line → List ℕ
-path_of (Run script) = script.now
 
 -- the bytes are text, and write this script
 abbrev pub HasScriptIn : List ℕ → ScriptFields → Type 0
