@@ -1,6 +1,7 @@
 //! Journals of runs.
 ghost use Rattle.std.specs.Prelude.{◌≡◌, ◌≢◌, ◌++◌, ◌∷◌, [], IfOk, IfErr, OnOk};
 ghost use Rattle.messages.specs.declared.refusal.Refused.TheVariants.{NoMemory};
+ghost use Rattle.messages.specs.Shapes.{IsShape};
 ghost use Rattle.cluster_core.specs.Runs.{IsRun};
 ghost use Rattle.cluster_core.specs.Journals.{events_of, IsFirstRefusal};
 ghost use Rattle.cluster_core.specs.Histories.{HasOneHistory};
@@ -22,27 +23,30 @@ pub struct Journal {
 }
 
 impl Model for Journal {
-    ghost use Rattle.cluster_core.specs.Journals.{JournalFields};
-    ghost use Rattle.cluster_core.specs.Runs.{IsRun};
+    ghost use Rattle.cluster_core.specs.Journals.{JournalFields, IsJournal};
 
     ghost Value = { JournalFields };
 
     ghost view = { λ j. record { shape = j.shape; entries = j.entries.items } };
 
-    ghost invariant = { λ j. IsRun j.shape j.entries.items };
+    ghost invariant = { λ j. IsJournal (record { shape = j.shape; entries = j.entries.items }) };
 }
 
 impl Journal {
+    /// The shape of the cluster: one that is served.
     pub fn shape(&self) -> Shape
-        ensures { result ≡ self.now.shape }
+        ensures value { result ≡ self.now.shape }
+        ensures served { IsShape result }
     {
         self.shape
     }
 
-    /// The entries, the first at position 1.
+    /// The entries, the first at position 1. They are a run, after which tokens of two nodes don't
+    /// conflict, and locks are covered by tokens.
     pub fn entries(&self) -> &[Entry]
         ensures value { result.now ≡ self.now.entries }
         ensures run { IsRun self.now.shape self.now.entries }
+        ensures safe { LeadsToSafe self.now.shape self.now.entries }
     {
         self.entries.as_slice()
     }

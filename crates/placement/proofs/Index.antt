@@ -1,10 +1,10 @@
 -- The index of the calls of a run that goes on by one entry.
-use Rattle.std.proofs.Common.{◌≡◌, ℕ, ◌+◌, ◌<◌, ◌≤◌, Bool, true, false, cond, refl, sym, ◌∙◌, ap, subst, rules, arith, List, [], ◌∷◌, ◌++◌, length, take, get_or, Option, Some, None, is_some}
+use Rattle.std.proofs.Common.{◌≡◌, ℕ, ◌+◌, ◌<◌, ◌≤◌, Bool, true, false, cond, refl, sym, ◌∙◌, ap, subst, arith, List, [], ◌∷◌, ◌++◌, length, take, get_or, Option, Some, None, is_some}
 use Rattle.std.specs.Option.{option_or}
 use Rattle.std.specs.HashMap.{get, Updates}
 use Rattle.std.specs.Map.{lookup}
 use Rattle.std.proofs.lemmas.List.{take_more, take_all, length-take-le}
-use Rattle.std.proofs.lemmas.Bool.{and_from, eq-eqb, both_ways}
+use Rattle.std.proofs.lemmas.Bool.{both_ways}
 use Rattle.model.specs.declared.call.CallId.{CallId}
 use Rattle.model.specs.declared.op.Op.{Op}
 use Rattle.model.specs.contracts.call.CallIdPartialEq.TheImpl as derived
@@ -12,18 +12,13 @@ use Rattle.messages.specs.declared.event.Event.{Event}
 use Rattle.messages.specs.declared.event.Event.TheVariants.{Call, Deliver, Retry, Resend}
 use Rattle.messages.specs.declared.entry.Entry.{Entry}
 use Rattle.messages.specs.Messages.{same_call}
+use Rattle.token_server.proofs.RequestLaws.{eq-same_call, same_call-symm}
 use Rattle.cluster_core.specs.declared.item.Item.{Item}
 use Rattle.cluster_core.specs.Placement.{is_named, called_by, find_call, items_at, history_of}
 use Rattle.cluster_core.proofs.Fitting.{call_is, history_of-push}
 use Rattle.placement.specs.Calls.{Calls, Indexes}
 
--- the derived `==` of names is the test of the definitions
-pub call_eq : (a b : CallId) → derived.ghosts.eq a b ≡ same_call a b
-call_eq a b = search rules
-
-pub eq-same_call : derived.ghosts.eq ≡ same_call
-eq-same_call i a b = call_eq a b i
-
+-- a look-up is by the test of the definitions
 pub get-same_call : (calls : Calls) (id : CallId) → get derived.ghosts.eq calls id ≡ get same_call calls id
 get-same_call calls id = ap (λ (eq : CallId → CallId → Bool). get eq calls id) eq-same_call
 
@@ -87,12 +82,6 @@ placing_more es i e calls next items more lt is before indexes adds =
 pub placing_whole : (es : List Entry) (i : ℕ) (calls : Calls) (items : List Item) → length es ≤ i → Placing (take i es) calls items → items ≡ history_of es
 placing_whole es i calls items all before = before.placed ∙ ap history_of (take_all i es all)
 
-call_itself : (a : CallId) → same_call a a ≡ true
-call_itself a = and_from _ _ (eq-eqb a.node a.node refl) (and_from _ _ (eq-eqb a.incarnation a.incarnation refl) (eq-eqb a.number a.number refl))
-
-same_call-turned : (a b : CallId) → same_call a b ≡ true → same_call b a ≡ true
-same_call-turned a b h = let P : CallId → Type 0 = λ x. same_call b x ≡ true in subst P (sym (call_is a b h)) (call_itself b)
-
 not_found : {A : Type 0} (x : Option A) → is_some x ≡ false → x ≡ None
 not_found None h = refl
 not_found (Some x) h = absurd (cc)
@@ -123,8 +112,8 @@ module _ (es : List Entry) (e : Entry) where
   -- a call that the index has not is added
   adds : (q id : CallId) (x y : Option (ℕ × Op)) (b c : Bool) → same_call id q ≡ b → same_call q id ≡ c → (id ≡ q → x ≡ None) → cond b y x ≡ option_or x (cond c y None)
   adds q id x y true true h k fresh = ap (λ (z : Option (ℕ × Op)). option_or z y) (sym (fresh (call_is id q h)))
-  adds q id x y true false h k fresh = absurd (both_ways (same_call q id) k (same_call-turned id q h))
-  adds q id x y false true h k fresh = absurd (both_ways (same_call id q) h (same_call-turned q id k))
+  adds q id x y true false h k fresh = absurd (both_ways (same_call q id) k (same_call-symm q id ∙ h))
+  adds q id x y false true h k fresh = absurd (both_ways (same_call id q) h (same_call-symm id q ∙ k))
   adds q id x y false false h k fresh = sym (option_or-none x)
 
   pub indexes_new : (calls next : Calls) (id : CallId) (node pid : ℕ) (op : Op) → e.call ≡ Some id → e.event ≡ Call node pid op → is_some (get derived.ghosts.eq calls id) ≡ false → Updates derived.ghosts.eq calls next id (Some (pid, op)) → Indexes calls es → Indexes next (es ++ e ∷ [])

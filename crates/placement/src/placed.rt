@@ -1,10 +1,10 @@
 //! The history of a run.
 ghost use Rattle.std.specs.Prelude.{◌≡◌, ◌≤◌, List, ◌++◌, ◌∷◌, [], length, IfOk, OnOk};
 ghost use Rattle.messages.specs.declared.entry.Entry.{Entry};
-ghost use Rattle.messages.specs.Shapes.{IsShape};
 ghost use Rattle.cluster_core.specs.World.{journal_limit};
 ghost use Rattle.cluster_core.specs.Histories.{HasHistory, EachAtItsReply};
 ghost use Rattle.cluster_core.specs.Placement.{items_at, history_of};
+ghost use Rattle.cluster_core.specs.Safe.{LeadsToSafe};
 ghost use Rattle.placement.specs.Calls.{Indexes};
 
 use crate::history::History;
@@ -13,7 +13,6 @@ use cluster_core::journal::Journal;
 use intervals::span_map::NoMemory;
 use messages::entry::Entry;
 use messages::event::Event;
-use messages::shape::Shape;
 use model::call::CallId;
 use model::op::Op;
 use std::alloc::Global;
@@ -31,21 +30,13 @@ type Calls = HashMap<CallId, (u16, Op)>;
 pub fn placed(alloc: Global, journal: &Journal) -> Result<History, NoMemory>
     ensures history { IfOk result (λ history. HasHistory journal.now.shape journal.now.entries history) }
     ensures at_replies { IfOk result (λ history. EachAtItsReply journal.now.entries history) }
+
+    // Tokens of two nodes don't conflict after the run, and locks are covered by tokens.
+    ensures safe { LeadsToSafe journal.now.shape journal.now.entries }
 {
-    let _ = shape_of(journal);
+    let _ = journal.shape();
     let items = items_of(alloc, journal.entries())?;
     Ok(History::of_rising(items))
-}
-
-// The shape of the journal's cluster: one that is served.
-fn shape_of(journal: &Journal) -> Shape
-    ensures value { result ≡ journal.now.shape }
-    ensures served { IsShape result }
-{
-    let shape = journal.shape();
-    let _ = shape.nodes();
-    let _ = shape.files();
-    shape
 }
 
 // The items of the entries of a run.
@@ -108,6 +99,7 @@ fn answer(
 mod tests {
     use super::*;
     use cluster_core::journal::run;
+    use messages::shape::Shape;
     use model::policy::Policy;
     use model::reply::Reply;
     use std::test::Fail;

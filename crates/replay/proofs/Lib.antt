@@ -2,4 +2,3 @@ pub mod Marks
 pub mod Progresses
 pub mod OneRun
 pub mod OneOutcome
-pub mod CommandLine

@@ -9,6 +9,8 @@ use Rattle.cluster_core.specs.World.{WorldState, first_world}
 use Rattle.cluster_core.specs.Next.{next}
 use Rattle.cluster_core.specs.Runs.{Leads, IsRun}
 use Rattle.cluster_core.specs.Journals.{JournalFields, events_of}
+use Rattle.cluster_core.specs.Safe.{LeadsToSafe}
+use Rattle.replay.specs.Played.{EndsIn}
 
 -- the same entries and the same world
 abbrev pub Same : List Entry → List Entry → WorldState → WorldState → Type 0
@@ -48,3 +50,11 @@ journal_is shape es w events j leads are shape_is made run =
     let same = one_run (first_world shape) run.0 w j.entries es (made ∙ are) run.1 leads in
     ap (λ (s : ShapeFields). let k : JournalFields = record { shape = s; entries = j.entries } in k) shape_is
     ∙ ap (λ (ds : List Entry). let k : JournalFields = record { shape = shape; entries = ds } in k) same.0
+
+-- and it ends in the same world, which is safe
+pub ends_in : (shape : ShapeFields) (es : List Entry) (w : WorldState) (events : List Event) (j : JournalFields) → Leads (first_world shape) es w → events ≡ events_of es → j.shape ≡ shape → events_of j.entries ≡ events → IsRun shape j.entries → LeadsToSafe shape j.entries → EndsIn j w
+ends_in shape es w events j leads are shape_is made run safe =
+    let P : JournalFields → Type 0 = λ k. Leads (first_world k.shape) k.entries w in
+    let Q : ShapeFields → Type 0 = λ s. Leads (first_world s) j.entries w in
+    let led = subst P (sym (journal_is shape es w events j leads are shape_is made run)) leads in
+    record { leads = led; safe = safe w (subst Q shape_is led) }

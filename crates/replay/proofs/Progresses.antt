@@ -19,7 +19,7 @@ use Rattle.cluster_core.proofs.JournalRuns.{leads_push, entry_event}
 use Rattle.lockscript.specs.declared.script_line.Command.{Command}
 use Rattle.lockscript.specs.declared.script_line.Command.TheVariants.{Call, Deliver, Lose, Settle, Retry, Resend}
 use Rattle.lockscript.specs.Scripts.{LineFields}
-use Rattle.replay.specs.Progress.{Progress, first_progress, after_refusal, delivery, index_of, lost, settling, Comes, Ends, Happens, Delivers, DeliversAll, Does, RunsTo, IsFullIn}
+use Rattle.replay.specs.Progress.{Progress, first_progress, after_refusal, delivery, index_of, settling, Comes, Ends, Happens, Delivers, DeliversAll, Does, RunsTo, IsFullIn}
 use Rattle.replay.specs.Played.{FillsJournal}
 
 -- the entries so far lead from a world to the world so far

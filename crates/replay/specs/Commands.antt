@@ -6,20 +6,15 @@ use Rattle.cluster_core.specs.declared.item.Item.{Item}
 use Rattle.cluster_core.specs.declared.token_run.TokenRun.{TokenRun}
 use Rattle.cluster_core.specs.Histories.{HasHistory, EachAtItsReply}
 use Rattle.cluster_core.specs.Listings.{IsTokenListing, IsLockListing}
+use Rattle.cluster_core.specs.Safe.{IsSafe}
 use Rattle.lockscript.specs.Listing.{listing_text}
 use Rattle.lockscript.specs.Scripts.{ScriptFields, IsScript, IsFirstBad}
 use Rattle.replay.specs.declared.fault.Fault.{Fault}
 use Rattle.replay.specs.declared.fault.Fault.TheVariants.{BadLine, CannotRead, CannotWriteOutput, NoMemory, JournalFull}
-use Rattle.replay.specs.declared.line.Line.{Line}
-use Rattle.replay.specs.declared.line.Line.TheVariants.{Run}
 use Rattle.replay.specs.declared.store.StoreError.{StoreError}
 use Rattle.replay.specs.declared.store.StoreError.TheVariants.{Failed}
 use Rattle.replay.specs.Played.{PlayedState, ComesTo, FillsJournal}
 use Rattle.replay.specs.Statuses.{status_of}
-
--- the path of the script
-abbrev pub path_of : Line → List ℕ
-path_of (Run script) = script.now
 
 -- the bytes are text, and write this script
 abbrev pub HasScriptIn : List ℕ → ScriptFields → Type 0
@@ -29,13 +24,14 @@ HasScriptIn bytes script = IsUtf8 bytes × IsScript bytes script
 abbrev pub HasScript : (Result (List ℕ) StoreError → Type 0) → ScriptFields → Type 0
 HasScript Gives script = (bytes : List ℕ) × Gives (Ok bytes) × HasScriptIn bytes script
 
--- the listing of a run: its refused lines, its entries, the tokens and the locks at its end, and a history of one table, each call of it at its reply
+-- the listing of a run: its refused lines, its entries, the tokens and the locks at its end, which are safe, and a history of one table, each call of it at its reply
 pub record IsListing (played : PlayedState) (text : List ℕ) : Type 0 where
   pub tokens : List TokenRun
   pub locks : List HeldLock
   pub history : List Item
   pub tokens_at_end : IsTokenListing played.world tokens
   pub locks_at_end : IsLockListing played.world locks
+  pub safe_at_end : IsSafe played.world
   pub one_table : HasHistory played.journal.shape played.journal.entries history
   pub at_replies : EachAtItsReply played.journal.entries history
   pub sections : text ≡ listing_text played.refused played.journal.entries tokens locks history

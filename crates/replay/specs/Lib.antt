@@ -5,5 +5,4 @@ pub mod Settled
 pub mod Played
 pub mod Laws
 pub mod Parts
-pub mod Words
 pub mod Commands

@@ -1,8 +1,10 @@
 -- What came of a script.
 use Rattle.std.specs.Prelude.{◌≡◌, ℕ, List, ◌∷◌, ◌++◌}
 use Rattle.messages.specs.Shapes.{ShapeFields}
-use Rattle.cluster_core.specs.World.{WorldState}
+use Rattle.cluster_core.specs.World.{WorldState, first_world}
 use Rattle.cluster_core.specs.Journals.{JournalFields}
+use Rattle.cluster_core.specs.Runs.{Leads}
+use Rattle.cluster_core.specs.Safe.{IsSafe}
 use Rattle.lockscript.specs.Scripts.{LineFields}
 use Rattle.replay.specs.Progress.{Progress, first_progress, RunsTo, IsFullIn}
 
@@ -11,6 +13,11 @@ pub record PlayedState : Type 0 where
   pub journal : JournalFields
   pub world : WorldState
   pub refused : List (ℕ × ℕ)
+
+-- the entries of the journal lead to the world, which is safe
+pub record EndsIn (journal : JournalFields) (world : WorldState) : Type 0 where
+  pub leads : Leads (first_world journal.shape) journal.entries world
+  pub safe : IsSafe world
 
 abbrev pub played_of : ShapeFields → Progress → PlayedState
 played_of shape p = record { journal = record { shape = shape; entries = p.entries }; world = p.world; refused = p.refused }

@@ -1,14 +1,15 @@
-//! Running scripts: the command line, the files, the run and what is printed of it.
+//! Running scripts: the files, the run and what is printed of it.
 #![tactic(auto)]
 
 pub mod disk;
 pub mod fault;
 pub mod laws;
-pub mod line;
 pub mod perform;
 pub mod play;
 pub mod played;
 mod player;
+#[cfg(test)]
+mod reader_tests;
 pub mod respond;
 mod settled;
 pub mod store;

@@ -1,16 +1,17 @@
 //! Doing what a command line asks for.
 ghost use Rattle.std.specs.Prelude.{◌≡◌, ◌≢◌, ◌⊎◌, string_bytes, IfErr, IfOk, OnErr, OnOk};
 ghost use Rattle.std.specs.Io.KnownBytes.{Appends};
+ghost use Rattle.command_line.specs.Words.{path_of};
 ghost use Rattle.replay.specs.declared.fault.Fault.TheVariants.{CannotWriteOutput};
-ghost use Rattle.replay.specs.Commands.{path_of, HasListing, HasScript, HasScriptIn, IsFault, IsFaultIn, IsListing, ShowsListing, TellsFault, WritesNothing};
+ghost use Rattle.replay.specs.Commands.{HasListing, HasScript, HasScriptIn, IsFault, IsFaultIn, IsListing, ShowsListing, TellsFault, WritesNothing};
 ghost use Rattle.replay.specs.Parts.{state_of};
 ghost use Rattle.replay.specs.Statuses.{status_of, IsStatus};
 
 use crate::fault::Fault;
-use crate::line::Line;
 use crate::play::play;
 use crate::played::Played;
 use crate::store::{Store, StoreError};
+use command_line::line::Line;
 use intervals::span_map::NoMemory;
 use lockscript::listing::listing;
 use lockscript::script::Script;
@@ -109,8 +110,8 @@ fn script_in<'a>(alloc: Global, bytes: &[u8], path: &'a str) -> Result<Script, F
     }
 }
 
-// The listing of a run.
-fn listing_of(alloc: Global, played: &Played) -> Result<String, NoMemory>
+/// The listing of a run.
+pub(crate) fn listing_of(alloc: Global, played: &Played) -> Result<String, NoMemory>
     ensures { IfOk result (λ text. IsListing (state_of played.now) (string_bytes text)) }
 {
     let history = placed(alloc, played.journal())?;

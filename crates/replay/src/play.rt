@@ -1,6 +1,8 @@
 //! Running scripts.
 ghost use Rattle.std.specs.Prelude.{◌≡◌, IfErr, IfOk};
 ghost use Rattle.cluster_core.specs.Histories.{HasOneHistory};
+ghost use Rattle.cluster_core.specs.Parts.{world_state};
+ghost use Rattle.cluster_core.specs.Safe.{IsSafe};
 ghost use Rattle.replay.specs.declared.play.PlayError.TheVariants.{NoMemory, JournalFull};
 ghost use Rattle.replay.specs.Parts.{state_of};
 ghost use Rattle.replay.specs.Played.{ComesTo, FillsJournal};
@@ -53,6 +55,9 @@ pub fn play(alloc: Global, script: &Script) -> Result<Played, PlayError>
     // One table explains every reply, and ends as what the nodes hold.
     ensures history { IfOk result (λ played. HasOneHistory script.now.shape played.journal.entries) }
 
+    // Tokens of two nodes don't conflict at the end, and locks are covered by tokens.
+    ensures safe { IfOk result (λ played. IsSafe (world_state played.world)) }
+
     // Else some line needs an entry for which there is no room.
     ensures full { IfErr result (λ error. error ≡ JournalFull → FillsJournal script.now.shape script.now.lines) }
 {
@@ -63,6 +68,7 @@ pub fn play(alloc: Global, script: &Script) -> Result<Played, PlayError>
 fn play_lines(alloc: Global, shape: Shape, lines: &[ScriptLine]) -> Result<Played, PlayError>
     ensures played { IfOk result (λ played. ComesTo shape lines.now (state_of played)) }
     ensures history { IfOk result (λ played. HasOneHistory shape played.journal.entries) }
+    ensures safe { IfOk result (λ played. IsSafe (world_state played.world)) }
     ensures full { IfErr result (λ error. error ≡ JournalFull → FillsJournal shape lines.now) }
 {
     let mut player = Player::new(alloc, shape)?;

@@ -2,7 +2,9 @@
 ghost use Rattle.std.specs.Prelude.{◌≡◌};
 ghost use Rattle.cluster_core.specs.Parts.{world_state};
 ghost use Rattle.cluster_core.specs.Runs.{Leads};
+ghost use Rattle.cluster_core.specs.Safe.{IsSafe};
 ghost use Rattle.cluster_core.specs.World.{first_world};
+ghost use Rattle.replay.specs.Played.{EndsIn};
 
 use cluster_core::journal::Journal;
 use cluster_core::world::World;
@@ -19,20 +21,19 @@ pub struct Played {
 
 impl Model for Played {
     ghost use Rattle.cluster_core.specs.Parts.{world_state};
-    ghost use Rattle.cluster_core.specs.Runs.{Leads};
-    ghost use Rattle.cluster_core.specs.World.{first_world};
     ghost use Rattle.replay.specs.Parts.{PlayedParts};
+    ghost use Rattle.replay.specs.Played.{EndsIn};
 
     ghost Value = { PlayedParts };
 
     ghost view = { λ p. record { journal = p.journal; world = p.world; refused = p.refused.items } };
 
-    ghost invariant = { λ p. Leads (first_world p.journal.shape) p.journal.entries (world_state p.world) };
+    ghost invariant = { λ p. EndsIn p.journal (world_state p.world) };
 }
 
 impl Played {
     pub(crate) fn new(journal: Journal, world: World, refused: Vec<(u32, u16)>) -> Played
-        requires { Leads (first_world journal.shape) journal.entries (world_state world) }
+        requires { EndsIn journal (world_state world) }
         ensures { result ≡ record { journal = journal; world = world; refused = refused.items } }
     {
         Played {
@@ -49,10 +50,11 @@ impl Played {
         &self.journal
     }
 
-    /// The world at the end.
+    /// The world at the end: tokens of two nodes don't conflict, and locks are covered by tokens.
     pub fn world(&self) -> &World
         ensures value { result.now ≡ self.now.world }
         ensures leads { Leads (first_world self.now.journal.shape) self.now.journal.entries (world_state self.now.world) }
+        ensures safe { IsSafe (world_state self.now.world) }
     {
         &self.world
     }

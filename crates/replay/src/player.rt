@@ -3,7 +3,9 @@ ghost use Rattle.std.specs.Prelude.{◌≡◌, ◌+◌, ◌<◌, ◌≤◌, Err,
 ghost use Rattle.messages.specs.declared.entry.Entry.{Entry};
 ghost use Rattle.cluster_core.specs.Histories.{HasOneHistory};
 ghost use Rattle.cluster_core.specs.Journals.{events_of};
+ghost use Rattle.cluster_core.specs.Parts.{world_state};
 ghost use Rattle.cluster_core.specs.Runs.{Leads};
+ghost use Rattle.cluster_core.specs.Safe.{IsSafe};
 ghost use Rattle.cluster_core.specs.World.{first_world};
 ghost use Rattle.replay.specs.declared.play.PlayError.TheVariants.{NoMemory, JournalFull};
 ghost use Rattle.replay.specs.Parts.{progress, state_of};
@@ -204,6 +206,7 @@ impl Player {
         requires { Leads (first_world shape) self.entries (progress self).world }
         ensures ok { IfOk result (λ played. state_of played ≡ played_of shape (progress self)) }
         ensures history { IfOk result (λ played. HasOneHistory shape played.journal.entries) }
+        ensures safe { IfOk result (λ played. IsSafe (world_state played.world)) }
         ensures err { IfErr result (λ error. error ≡ NoMemory) }
     {
         let events = events_in(alloc, self.entries.as_slice())?;

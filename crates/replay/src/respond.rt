@@ -1,16 +1,15 @@
 //! The program as a function of its words.
 ghost use Rattle.std.specs.Prelude.{◌≡◌, ◌≢◌, ◌⊎◌, ℕ, List, map};
-ghost use Rattle.clap.specs.Words.{kind_of};
+ghost use Rattle.command_line.specs.declared.refusal.Refusal.TheVariants.{NoMemory};
+ghost use Rattle.command_line.specs.Words.{AsksToRun};
 ghost use Rattle.replay.specs.Commands.{ShowsListing, TellsFault, WritesNothing};
 ghost use Rattle.replay.specs.Statuses.{IsStatus};
-ghost use Rattle.replay.specs.Words.{AsksToRun};
 
 use crate::fault::Fault;
-use crate::line::Line;
 use crate::perform::{perform, report, show};
 use crate::store::Store;
-use clap::Error;
-use clap::error::ErrorKind;
+use command_line::line::Line;
+use command_line::refusal::Refusal;
 use std::alloc::Global;
 use std::convert::AsStr;
 use std::io::Write;
@@ -40,30 +39,27 @@ pub fn respond<W: AsStr, S: Store, O: Write, E: Write>(
 {
     match Line::read(alloc, words) {
         Ok(line) => perform(alloc, &line, store, out, err),
-        Err(error) => explain(alloc, &error, out, err),
+        Err(refusal) => explain(&refusal, out, err),
     }
 }
 
-// What the words get in place of a command: help, or what is wrong with them.
-fn explain<O: Write, E: Write>(alloc: Global, error: &Error, out: &mut O, err: &mut E) -> u8
+// What the words get in place of a run: help, or what is wrong with them.
+fn explain<O: Write, E: Write>(refusal: &Refusal, out: &mut O, err: &mut E) -> u8
     ensures status { (result ≡ 2) ⊎ IsStatus result }
     ensures refused { result ≡ 2 → out.new ≡ out.old }
-    ensures memory { kind_of error.now ≡ ErrorKind.OutOfMemory → result ≡ 4 }
-    ensures silent { kind_of error.now ≡ ErrorKind.OutOfMemory → out.new ≡ out.old }
+    ensures memory { refusal.now ≡ NoMemory → result ≡ 4 }
+    ensures silent { refusal.now ≡ NoMemory → out.new ≡ out.old }
 {
-    if error.kind() == ErrorKind::OutOfMemory {
-        return report(&Fault::NoMemory, err);
-    }
-    if error.use_stderr() {
-        let _ = write!(err, "{error}");
-        let _ = err.flush();
-        return 2;
-    }
-    match error.to_string(alloc) {
-        Ok(help) => match show(out, help.as_str()) {
+    match refusal {
+        Refusal::Help(help) => match show(out, help.as_str()) {
             Ok(()) => 0,
             Err(fault) => report(&fault, err),
         },
-        Err(_) => report(&Fault::NoMemory, err),
+        Refusal::Wrong(text) => {
+            let _ = write!(err, "{text}");
+            let _ = err.flush();
+            2
+        }
+        Refusal::NoMemory => report(&Fault::NoMemory, err),
     }
 }

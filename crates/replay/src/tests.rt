@@ -1,5 +1,4 @@
 use crate::fault::Fault;
-use crate::line::Line;
 use crate::play::play;
 use crate::respond::respond;
 use crate::store::{Store, StoreError};
@@ -271,14 +270,6 @@ history
 ";
 
 #[test]
-fn reads_a_command_line(rt: HostRuntime) {
-    let Ok(line) = Line::read(rt.alloc(), RUN.as_slice()) else {
-        panic!(rt; "the words are a command and a path");
-    };
-    assert_eq!(rt; line, Line::Run { script: PATH });
-}
-
-#[test]
 fn plays_a_script(rt: HostRuntime) -> Result<(), Fail> {
     let alloc = rt.alloc();
     let script = Script::parse(alloc, str::from_utf8(TWO)?)?;
@@ -325,6 +316,11 @@ fn names_the_fault(rt: HostRuntime) {
     let cases = [
         ("a.lock", b"".as_slice(), b"bad line 1\n".as_slice()),
         ("a.lock", b"# none\n", b"bad line 2\n"),
+        (
+            "a.lock",
+            b"cluster nodes 65 files 1 policy exact\n",
+            b"bad line 1\n",
+        ),
         ("a.lock", b"\xff\n", b"cannot read a.lock\n"),
         ("a.lock", b"settle\n\xc3", b"cannot read a.lock\n"),
         ("b.lock", EMPTY, b"cannot read b.lock\n"),
@@ -343,28 +339,20 @@ fn names_the_fault(rt: HostRuntime) {
 #[test]
 fn refuses_words(rt: HostRuntime) -> Result<(), Fail> {
     let alloc = rt.alloc();
-    let cases = [
-        ["lockreplay", "walk", "a.lock"].as_slice(),
-        ["lockreplay", "run"].as_slice(),
-        ["lockreplay", "run", "a.lock", "b.lock"].as_slice(),
-        ["lockreplay", "run", "--fast", "a.lock"].as_slice(),
-        ["lockreplay"].as_slice(),
-    ];
-    for words in cases {
-        let mut out = Vec::new(alloc);
-        let mut err = Vec::new(alloc);
-        let status = respond(
-            alloc,
-            words,
-            &mut Shelf { bytes: EMPTY },
-            &mut out,
-            &mut err,
-        );
-        let text = str::from_utf8(err.as_slice())?;
-        assert!(rt; text.contains("Usage: lockreplay"), "{text}");
-        assert_eq!(rt; out.as_slice(), b"".as_slice());
-        assert_eq!(rt; status, 2);
-    }
+    let mut out = Vec::new(alloc);
+    let mut err = Vec::new(alloc);
+    let words = ["lockreplay", "walk", "a.lock"];
+    let status = respond(
+        alloc,
+        &words,
+        &mut Shelf { bytes: EMPTY },
+        &mut out,
+        &mut err,
+    );
+    let text = str::from_utf8(err.as_slice())?;
+    assert!(rt; text.contains("Usage: lockreplay"), "{text}");
+    assert_eq!(rt; out.as_slice(), b"".as_slice());
+    assert_eq!(rt; status, 2);
     Ok(())
 }
 

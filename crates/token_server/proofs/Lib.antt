@@ -1,4 +1,5 @@
 pub mod ClientLaws
 pub mod HeldLaws
+pub mod RequestLaws
 pub mod GrantLaws
 pub mod ResendLaws

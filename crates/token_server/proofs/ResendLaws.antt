@@ -1,5 +1,5 @@
 -- Commands that have no answer yet, one node after the other.
-use Rattle.std.specs.Prelude.{◌≡◌, ℕ, ◌+◌, List, [], ◌∷◌, ◌++◌, slice_get, Option, Some, None}
+use Rattle.std.specs.Prelude.{◌≡◌, ℕ, ◌+◌, List, [], ◌∷◌, ◌++◌, slice_get, Option, Some}
 use Rattle.std.specs.List.{filter_map, range_with_len, cons_option}
 use Rattle.std.proofs.Common.{refl, ap, sym, arith, ◌∙◌}
 use Rattle.std.proofs.lemmas.List.{map-id}

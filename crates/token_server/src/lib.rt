@@ -5,5 +5,6 @@ mod client;
 mod clients;
 pub mod event;
 pub mod held;
+mod requests;
 mod row;
 pub mod server;

@@ -1,5 +1,5 @@
 //! The token server of a file.
-ghost use Rattle.std.specs.Prelude.{◌≡◌, ◌≢◌, ◌+◌, ◌<◌, ◌≤◌, ◌↔◌, not, ◌&&◌, ◌||◌, ◌==◌, if◌then◌else◌, IsTrue, IsFalse, false, IsSome, IfSome, IfNone, IfOk, IfErr, OnOk, [], ◌∷◌, filter, Some, None, Ok, Err};
+ghost use Rattle.std.specs.Prelude.{◌≡◌, ◌≢◌, ◌+◌, ◌<◌, ◌≤◌, ◌↔◌, not, ◌&&◌, ◌||◌, ◌==◌, if◌then◌else◌, IsTrue, IsFalse, false, IsSome, IfSome, IfNone, IfOk, IfErr, OnOk, [], ◌∷◌, Some, None, Ok, Err};
 ghost use Rattle.std.specs.List.{list_any};
 ghost use Rattle.std.specs.Option.{option_map};
 ghost use Rattle.model.specs.Limits.{IsNumber};
@@ -14,6 +14,7 @@ ghost use Rattle.token_server.specs.Parts.{server_state, rows_of, deaths_of, giv
 use crate::clients::Clients;
 use crate::event::ServerEvent;
 use crate::held::Held;
+use crate::requests::Requests;
 use intervals::span::Span;
 use intervals::span_map::NoMemory;
 use messages::actor::Actor;
@@ -33,7 +34,7 @@ pub struct Server {
     shape: Shape,
     file: u16,
     clients: Clients,
-    queue: Vec<Held>,
+    queue: Requests,
     active: Option<Held>,
 }
 
@@ -42,9 +43,9 @@ impl Model for Server {
 
     ghost Value = { ServerParts };
 
-    ghost view = { λ s. record { shape = s.shape; file = s.file; clients = s.clients; queue = s.queue.items; active = s.active } };
+    ghost view = { λ s. record { shape = s.shape; file = s.file; clients = s.clients; queue = s.queue; active = s.active } };
 
-    ghost invariant = { λ s. IsServer (record { shape = s.shape; file = s.file; clients = s.clients; queue = s.queue.items; active = s.active }) };
+    ghost invariant = { λ s. IsServer (record { shape = s.shape; file = s.file; clients = s.clients; queue = s.queue; active = s.active }) };
 }
 
 impl Server {
@@ -60,7 +61,7 @@ impl Server {
             shape,
             file,
             clients: Clients::new(alloc, shape.nodes())?,
-            queue: Vec::new(alloc),
+            queue: Requests::new(alloc),
             active: None,
         })
     }
@@ -76,7 +77,7 @@ impl Server {
             shape: self.shape,
             file: self.file,
             clients: self.clients.copy()?,
-            queue: Vec::from_slice(*self.queue.allocator(), &self.queue)?,
+            queue: self.queue.copy()?,
             active: self.active,
         })
     }
@@ -89,7 +90,7 @@ impl Server {
         if self.shape != other.shape || self.file != other.file {
             return false;
         }
-        if !same_requests(&self.queue, &other.queue) || !same_request(&self.active, &other.active) {
+        if !self.queue.same(&other.queue) || !same_request(&self.active, &other.active) {
             return false;
         }
         self.clients.same(&other.clients)
@@ -102,7 +103,7 @@ impl Server {
         ensures shape { self.new.shape ≡ self.old.shape }
     {
         self.clients.forget(node, incarnation);
-        forget_requests(&mut self.queue, node, incarnation);
+        self.queue.forget(node, incarnation);
         self.active = unless_up_to(self.active, node, incarnation);
     }
 
@@ -121,7 +122,7 @@ impl Server {
     fn holds(&self, call: CallId) -> bool
         ensures { result ≡ (is_active call self.now.active || list_any (is_of_call call) self.now.queue) }
     {
-        is_active(&self.active, call) || is_queued(&self.queue, call)
+        is_active(&self.active, call) || self.queue.has(call)
     }
 
     // Queues the request, unless its call has one.
@@ -178,8 +179,8 @@ impl Server {
     fn admit(&mut self)
         ensures { server_state self.new ≡ admitted (server_state self.old) self.old.active self.old.queue }
     {
-        if self.active.is_none() && !self.queue.is_empty() {
-            self.active = Some(self.queue.remove(0));
+        if self.active.is_none() {
+            self.active = self.queue.take_first();
         }
     }
 
@@ -381,25 +382,11 @@ impl Server {
     }
 }
 
-// Whether both are the same requests in the same order.
-fn same_requests(one: &[Held], other: &[Held]) -> bool
-    ensures { IsTrue result ↔ (one.now ≡ other.now) }
-{
-    one == other
-}
-
 // Whether both are the same request, or none.
 fn same_request(one: &Option<Held>, other: &Option<Held>) -> bool
     ensures { IsTrue result ↔ (one.now ≡ other.now) }
 {
     one == other
-}
-
-// Drops the requests of the node in that incarnation or an older one.
-fn forget_requests(queue: &mut Vec<Held>, node: u8, incarnation: u16)
-    ensures { queue.new.items ≡ filter (λ r. not (is_up_to node incarnation r)) queue.old.items }
-{
-    queue.retain(|request| !request.is_up_to(node, incarnation));
 }
 
 // The request, unless it is of the node in that incarnation or an older one.
@@ -430,18 +417,6 @@ fn is_active(active: &Option<Held>, call: CallId) -> bool
         Some(request) => request.is_of_call(call),
         None => false,
     }
-}
-
-// Whether a request of the call is queued.
-fn is_queued(queue: &[Held], call: CallId) -> bool
-    ensures { result ≡ list_any (is_of_call call) queue.now }
-{
-    for request in queue {
-        if request.is_of_call(call) {
-            return true;
-        }
-    }
-    false
 }
 
 // Whether the command is the Grant with that number.

@@ -81,11 +81,15 @@ mod tests {
 
     #[test]
     fn each_refusal_has_its_reply(rt: HostRuntime) {
-        assert_eq!(rt; ProcessError::NoProcess.reply(), Ok(Reply::NoProcess));
-        assert_eq!(rt; ProcessError::Exists.reply(), Ok(Reply::Exists));
-        assert_eq!(rt; ProcessError::TooManyFiles.reply(), Ok(Reply::TooManyFiles));
-        assert_eq!(rt; ProcessError::NoMemory.reply(), Err(AllocError));
-        assert_eq!(rt; FdError::NoProcess.reply(), Reply::NoProcess);
-        assert_eq!(rt; FdError::BadFd.reply(), Reply::BadFd);
+        for (error, reply) in [
+            (ProcessError::NoProcess, Ok(Reply::NoProcess)),
+            (ProcessError::Exists, Ok(Reply::Exists)),
+            (ProcessError::TooManyFiles, Ok(Reply::TooManyFiles)),
+            (ProcessError::NoMemory, Err(AllocError)),
+        ] {
+            assert!(rt; error.reply() == reply);
+        }
+        assert!(rt; FdError::NoProcess.reply() == Reply::NoProcess);
+        assert!(rt; FdError::BadFd.reply() == Reply::BadFd);
     }
 }

@@ -16,37 +16,33 @@ const WHOLE: Span = Span {
     hi: GREATEST,
 };
 
+const HUNDRED: Span = Span { lo: 0, hi: 99 };
+
 fn call(pid: u16, op: Op) -> NodeEvent {
     NodeEvent::Call { pid, op }
 }
 
-fn set(pid: u16, mode: Mode, start: i64, len: i64) -> NodeEvent {
-    let fd = 0;
-    let kind = Kind::OfProcess;
-    call(
-        pid,
-        Op::Set {
-            fd,
-            kind,
-            mode,
-            start,
-            len,
-        },
-    )
+// A process locks the hundred bytes from the first on.
+fn lock_hundred(pid: u16) -> NodeEvent {
+    let op = Op::Set {
+        fd: 0,
+        kind: Kind::OfProcess,
+        mode: Mode::Write,
+        start: 0,
+        len: 100,
+    };
+    call(pid, op)
 }
 
-fn unlock(pid: u16, start: i64, len: i64) -> NodeEvent {
-    let fd = 0;
-    let kind = Kind::OfProcess;
-    call(
-        pid,
-        Op::Unlock {
-            fd,
-            kind,
-            start,
-            len,
-        },
-    )
+// A process unlocks bytes 40 to 59.
+fn unlock_middle(pid: u16) -> NodeEvent {
+    let op = Op::Unlock {
+        fd: 0,
+        kind: Kind::OfProcess,
+        start: 40,
+        len: 20,
+    };
+    call(pid, op)
 }
 
 fn id(number: u32) -> CallId
@@ -59,24 +55,27 @@ fn id(number: u32) -> CallId
     }
 }
 
-fn request(number: u32, mode: Mode, wanted: Wanted) -> Message
+// The call asks for the hundred bytes.
+fn request(number: u32, wanted: Wanted) -> Message
     requires { 1 ≤ number }
 {
     Message::Request {
         file: 1,
         call: id(number),
         urgency: Urgency::Now,
-        mode,
+        mode: Mode::Write,
         wanted,
     }
 }
 
-fn grant(command: u32, call: CallId, mode: Mode, span: Span) -> NodeEvent {
+fn grant(command: u32, number: u32, span: Span) -> NodeEvent
+    requires { 1 ≤ number }
+{
     NodeEvent::Deliver(Message::Grant {
         file: 1,
         number: command,
-        call,
-        mode,
+        call: id(number),
+        mode: Mode::Write,
         span,
     })
 }
@@ -91,86 +90,176 @@ fn taken(command: u32, number: u32) -> Message
     }
 }
 
-fn begins(alloc: Global, policy: Policy) -> Result<Node, Fail> {
-    let shape = Shape::new(1, 2, policy)?;
-    Ok(Node::new(alloc, shape, 1, 1)?)
+// An event, and what it must come to: the call that it makes, the reply, the one message that is
+// sent, and whether the node is another after it.
+#[derive(Clone, Copy)]
+struct Move {
+    event: NodeEvent,
+    call: Option<CallId>,
+    reply: Option<(CallId, Reply)>,
+    message: Option<Message>,
+    changes: bool,
 }
 
-// Goes on from what the event gives.
-fn take(node: &mut Node, alloc: Global, event: NodeEvent) -> Result<Outcome, StepError> {
-    let (next, outcome) = node.step(alloc, &event)?;
-    *node = next;
-    Ok(outcome)
-}
-
-// Two processes that each have the file open at descriptor 0, by calls 1 to 4.
-fn two_processes(alloc: Global, policy: Policy) -> Result<Node, Fail> {
-    let mut node = begins(alloc, policy)?;
-    for pid in 1..3 {
-        take(&mut node, alloc, call(pid, Op::Spawn))?;
-        take(&mut node, alloc, call(pid, OPEN))?;
+// A call that is answered at once.
+fn answered(event: NodeEvent, number: u32, reply: Reply) -> Move
+    requires { 1 ≤ number }
+{
+    Move {
+        event,
+        call: Some(id(number)),
+        reply: Some((id(number), reply)),
+        message: None,
+        changes: true,
     }
-    Ok(node)
 }
 
-// Goes on from what the call gives; whether it has this number, this reply, and sends nothing.
-fn answers(
-    node: &mut Node,
-    alloc: Global,
-    event: NodeEvent,
-    number: u32,
-    reply: Reply,
-) -> Result<bool, StepError>
+// A call that stays open and sends a message.
+fn opened(event: NodeEvent, number: u32, message: Message) -> Move
     requires { 1 ≤ number }
 {
-    let outcome = take(node, alloc, event)?;
-    let named = outcome.call == Some(id(number));
-    Ok(named && outcome.reply == Some((id(number), reply)) && outcome.sends.is_empty())
+    Move {
+        event,
+        call: Some(id(number)),
+        reply: None,
+        message: Some(message),
+        changes: true,
+    }
 }
 
-// Goes on from what the event gives; whether it answers nothing and sends just that message.
-fn asks(
-    node: &mut Node,
-    alloc: Global,
-    event: NodeEvent,
-    message: Message,
-) -> Result<bool, StepError> {
-    let outcome = take(node, alloc, event)?;
-    Ok(outcome.reply.is_none() && outcome.sends.as_slice() == [message].as_slice())
-}
-
-// Goes on from what the event gives; whether it answers the call with Done and sends just that
-// message.
-fn finishes(
-    node: &mut Node,
-    alloc: Global,
-    event: NodeEvent,
-    number: u32,
-    message: Message,
-) -> Result<bool, StepError>
+// An event that answers the open call with Done and sends a message.
+fn finished(event: NodeEvent, number: u32, message: Message) -> Move
     requires { 1 ≤ number }
 {
-    let outcome = take(node, alloc, event)?;
-    let done = outcome.reply == Some((id(number), Reply::Done));
-    Ok(done && outcome.call.is_none() && outcome.sends.as_slice() == [message].as_slice())
+    Move {
+        event,
+        call: None,
+        reply: Some((id(number), Reply::Done)),
+        message: Some(message),
+        changes: true,
+    }
 }
 
-// Whether the event answers nothing, sends nothing and changes nothing.
-fn stays(node: &Node, alloc: Global, event: NodeEvent) -> Result<bool, StepError> {
-    let (next, outcome) = node.step(alloc, &event)?;
-    Ok(outcome.reply.is_none() && outcome.sends.is_empty() && next.same(node))
+// An event that changes nothing and sends that message or none.
+fn quiet(event: NodeEvent, message: Option<Message>) -> Move {
+    Move {
+        event,
+        call: None,
+        reply: None,
+        message,
+        changes: false,
+    }
 }
 
-// Whether the event answers nothing, changes nothing, and sends just that message.
-fn repeats(
+// Whether just that message was sent, or none.
+fn has_sent(outcome: &Outcome, message: Option<Message>) -> bool {
+    match message {
+        Some(message) => outcome.sends.as_slice() == [message].as_slice(),
+        None => outcome.sends.is_empty(),
+    }
+}
+
+fn is_right(expected: &Move, outcome: &Outcome) -> bool {
+    expected.call == outcome.call
+        && expected.reply == outcome.reply
+        && has_sent(outcome, expected.message)
+}
+
+// The node in a box. A test keeps no other, since one is dropped in fewer steps, each of which the
+// check proves.
+fn boxed(alloc: Global, node: Node) -> Result<Box<Node>, StepError> {
+    Ok(Box::new(alloc, node)?)
+}
+
+fn begins(alloc: Global, policy: Policy) -> Result<Box<Node>, Fail> {
+    let shape = Shape::new(1, 2, policy)?;
+    let node = Node::new(alloc, shape, 1, 1)?;
+    Ok(boxed(alloc, node)?)
+}
+
+// What the event gives.
+fn stepped(
+    alloc: Global,
     node: &Node,
-    alloc: Global,
     event: NodeEvent,
-    message: Message,
-) -> Result<bool, StepError> {
+) -> Result<(Box<Node>, Outcome), StepError> {
     let (next, outcome) = node.step(alloc, &event)?;
-    let quiet = outcome.reply.is_none() && next.same(node);
-    Ok(quiet && outcome.sends.as_slice() == [message].as_slice())
+    Ok((boxed(alloc, next)?, outcome))
+}
+
+// Goes on from what the event gives; whether this is what it must be.
+fn takes(alloc: Global, node: &mut Box<Node>, expected: &Move) -> Result<bool, StepError> {
+    let (next, outcome) = stepped(alloc, node, expected.event)?;
+    let changes = !next.same(node);
+    *node = next;
+    Ok(changes == expected.changes && is_right(expected, &outcome))
+}
+
+// The place of the first event that comes to something else than it must, if there is one.
+fn first_wrong(
+    alloc: Global,
+    node: &mut Box<Node>,
+    moves: &[Move],
+) -> Result<Option<usize>, StepError> {
+    for (place, expected) in moves.iter().enumerate() {
+        if !takes(alloc, node, expected)? {
+            return Ok(Some(place));
+        }
+    }
+    Ok(None)
+}
+
+#[test]
+fn locks_the_bytes_that_it_was_granted(rt: HostRuntime) -> Result<(), Fail> {
+    let alloc = rt.alloc();
+    let moves = [
+        answered(call(1, Op::Spawn), 1, Reply::Done),
+        answered(call(1, OPEN), 2, Reply::Fd(0)),
+        opened(lock_hundred(1), 3, request(3, Wanted::new(HUNDRED, WHOLE))),
+        finished(grant(1, 3, WHOLE), 3, taken(1, 3)),
+        answered(unlock_middle(1), 4, Reply::Done),
+    ];
+    let mut node = begins(alloc, Policy::Wide)?;
+    assert_eq!(rt; first_wrong(alloc, &mut node, &moves)?, None);
+    Ok(())
+}
+
+#[test]
+fn does_each_command_once_and_in_order(rt: HostRuntime) -> Result<(), Fail> {
+    let alloc = rt.alloc();
+    let moves = [
+        answered(call(2, Op::Spawn), 1, Reply::Done),
+        answered(call(2, OPEN), 2, Reply::Fd(0)),
+        opened(
+            lock_hundred(2),
+            3,
+            request(3, Wanted::new(HUNDRED, HUNDRED)),
+        ),
+        quiet(grant(2, 3, HUNDRED), None),
+        finished(grant(1, 3, HUNDRED), 3, taken(1, 3)),
+        quiet(grant(1, 3, HUNDRED), Some(taken(1, 3))),
+        quiet(grant(0, 3, HUNDRED), None),
+    ];
+    let mut node = begins(alloc, Policy::Exact)?;
+    assert_eq!(rt; first_wrong(alloc, &mut node, &moves)?, None);
+    Ok(())
+}
+
+#[test]
+fn a_retry_asks_again_with_its_own_number(rt: HostRuntime) -> Result<(), Fail> {
+    let alloc = rt.alloc();
+    let asked = request(3, Wanted::new(HUNDRED, HUNDRED));
+    let moves = [
+        answered(call(1, Op::Spawn), 1, Reply::Done),
+        answered(call(1, OPEN), 2, Reply::Fd(0)),
+        opened(lock_hundred(1), 3, asked),
+        answered(call(2, Op::Spawn), 4, Reply::Done),
+        quiet(NodeEvent::Retry { pid: 1 }, Some(asked)),
+        quiet(NodeEvent::Retry { pid: 2 }, None),
+    ];
+    let mut node = begins(alloc, Policy::Exact)?;
+    assert_eq!(rt; first_wrong(alloc, &mut node, &moves)?, None);
+    Ok(())
 }
 
 // Why the event is refused, if it is.
@@ -179,62 +268,69 @@ fn refusal(node: &Node, alloc: Global, event: NodeEvent) -> Option<StepError> {
 }
 
 #[test]
-fn locks_the_bytes_that_it_was_granted(rt: HostRuntime) -> Result<(), Fail> {
+fn refuses_a_second_call_of_a_process_that_waits(rt: HostRuntime) -> Result<(), Fail> {
     let alloc = rt.alloc();
-    let mut node = begins(alloc, Policy::Wide)?;
-    assert!(rt; answers(&mut node, alloc, call(1, Op::Spawn), 1, Reply::Done)?);
-    assert!(rt; answers(&mut node, alloc, call(1, OPEN), 2, Reply::Fd(0))?);
-    let wanted = Wanted::new(Span { lo: 0, hi: 99 }, WHOLE);
-    let asked = request(3, Mode::Write, wanted);
-    assert!(rt; asks(&mut node, alloc, set(1, Mode::Write, 0, 100), asked)?);
-    let granted = grant(1, id(3), Mode::Write, WHOLE);
-    assert!(rt; finishes(&mut node, alloc, granted, 3, taken(1, 3))?);
-    assert!(rt; answers(&mut node, alloc, unlock(1, 40, 20), 4, Reply::Done)?);
+    let moves = [
+        answered(call(1, Op::Spawn), 1, Reply::Done),
+        answered(call(1, OPEN), 2, Reply::Fd(0)),
+        opened(
+            lock_hundred(1),
+            3,
+            request(3, Wanted::new(HUNDRED, HUNDRED)),
+        ),
+    ];
+    let mut node = begins(alloc, Policy::Exact)?;
+    assert_eq!(rt; first_wrong(alloc, &mut node, &moves)?, None);
+    let refused = refusal(&node, alloc, unlock_middle(1));
+    assert_eq!(rt; refused, Some(StepError::Busy));
     Ok(())
 }
 
-#[test]
-fn does_each_command_once_and_in_order(rt: HostRuntime) -> Result<(), Fail> {
-    let alloc = rt.alloc();
-    let mut node = two_processes(alloc, Policy::Exact)?;
-    take(&mut node, alloc, set(1, Mode::Write, 0, 100))?;
-    let bytes = Span { lo: 0, hi: 99 };
-    let before = node.copy(alloc)?;
-    assert!(rt; stays(&node, alloc, grant(2, id(5), Mode::Write, bytes))?);
-    let granted = grant(1, id(5), Mode::Write, bytes);
-    assert!(rt; finishes(&mut node, alloc, granted, 5, taken(1, 5))?);
-    assert!(rt; !node.same(&before));
-    assert!(rt; repeats(&node, alloc, granted, taken(1, 5))?);
-    assert!(rt; stays(&node, alloc, grant(0, id(5), Mode::Write, bytes))?);
-    Ok(())
-}
-
-#[test]
-fn a_retry_asks_again_with_its_own_number(rt: HostRuntime) -> Result<(), Fail> {
-    let alloc = rt.alloc();
-    let mut node = two_processes(alloc, Policy::Exact)?;
-    take(&mut node, alloc, set(1, Mode::Write, 0, 10))?;
-    let bytes = Span { lo: 0, hi: 9 };
-    let asked = request(5, Mode::Write, Wanted::new(bytes, bytes));
-    assert!(rt; repeats(&node, alloc, NodeEvent::Retry { pid: 1 }, asked)?);
-    assert!(rt; stays(&node, alloc, NodeEvent::Retry { pid: 2 })?);
-    for pid in [0, 257] {
-        let refused = refusal(&node, alloc, NodeEvent::Retry { pid });
-        assert_eq!(rt; refused, Some(StepError::Stranger));
+// Whether the node refuses each of the events as one of a stranger.
+fn refuses(alloc: Global, node: &Node, events: &[NodeEvent]) -> bool {
+    for event in events {
+        if refusal(node, alloc, *event) != Some(StepError::Stranger) {
+            return false;
+        }
     }
-    Ok(())
+    true
 }
 
 #[test]
-fn refuses_calls_of_strangers(rt: HostRuntime) -> Result<(), Fail> {
+fn refuses_events_of_strangers(rt: HostRuntime) -> Result<(), Fail> {
     let alloc = rt.alloc();
-    let node = two_processes(alloc, Policy::Wide)?;
     let access = Access::ReadOnly;
-    let far = Op::Open { file: 3, access };
-    let nowhere = Op::Open { file: 0, access };
-    for (pid, op) in [(0, Op::Spawn), (257, Op::Spawn), (1, far), (1, nowhere)] {
-        let refused = refusal(&node, alloc, call(pid, op));
-        assert_eq!(rt; refused, Some(StepError::Stranger));
-    }
+    let events = [
+        call(0, Op::Spawn),
+        call(257, Op::Spawn),
+        call(1, Op::Open { file: 3, access }),
+        call(1, Op::Open { file: 0, access }),
+        NodeEvent::Retry { pid: 0 },
+        NodeEvent::Retry { pid: 257 },
+        NodeEvent::Deliver(taken(1, 1)),
+    ];
+    let node = begins(alloc, Policy::Wide)?;
+    assert!(rt; refuses(alloc, &node, &events));
+    Ok(())
+}
+
+// Whether a copy is the same node.
+fn is_copied(alloc: Global, node: &Node) -> Result<bool, StepError> {
+    let copy = boxed(alloc, node.copy(alloc)?)?;
+    Ok(copy.same(node))
+}
+
+// Whether the node is another after the event.
+fn is_changed(alloc: Global, node: &Node, event: NodeEvent) -> Result<bool, StepError> {
+    let (next, _) = stepped(alloc, node, event)?;
+    Ok(!next.same(node))
+}
+
+#[test]
+fn a_copy_is_the_same_node(rt: HostRuntime) -> Result<(), Fail> {
+    let alloc = rt.alloc();
+    let node = begins(alloc, Policy::Wide)?;
+    assert!(rt; is_copied(alloc, &node)?);
+    assert!(rt; is_changed(alloc, &node, call(1, Op::Spawn))?);
     Ok(())
 }

@@ -26,7 +26,7 @@ fn call(number: u32, pid: u16) -> OpenCall
 }
 
 // Call 3 of process 1, and then these of processes 2 and 4.
-fn three(alloc: Global, second: u32, third: u32) -> Result<OpenCalls, Fail>
+fn three(alloc: Global, second: u32, third: u32) -> Result<OpenCalls, AllocError>
     requires second { second ≢ 3 }
     requires third { third ≢ 3 }
     requires apart { third ≢ second }
@@ -38,29 +38,52 @@ fn three(alloc: Global, second: u32, third: u32) -> Result<OpenCalls, Fail>
     Ok(calls)
 }
 
+// Whether calls 5 and 9 are found by their numbers and by their processes, and no others are.
+fn are_found(calls: &OpenCalls) -> bool {
+    let by_number = calls.get(5) == Some(call(5, 4)) && calls.get(4).is_none();
+    let by_process = calls.call_of(4) == Some(call(5, 4)) && calls.call_of(3).is_none();
+    by_number && by_process && calls.has_call_of(2) && !calls.has_call_of(3)
+}
+
 #[test]
 fn finds_calls_by_number_and_by_process(rt: HostRuntime) -> Result<(), Fail> {
     let calls = three(rt.alloc(), 9, 5)?;
-    assert_eq!(rt; calls.get(5), Some(call(5, 4)));
-    assert_eq!(rt; calls.get(4), None);
-    assert_eq!(rt; calls.call_of(4), Some(call(5, 4)));
-    assert_eq!(rt; calls.call_of(3), None);
-    assert!(rt; calls.has_call_of(2));
-    assert!(rt; !calls.has_call_of(3));
+    assert!(rt; are_found(&calls));
+    Ok(())
+}
+
+// Whether a copy is the same calls.
+fn is_copied(calls: &OpenCalls) -> Result<bool, AllocError> {
+    let copy = calls.copy()?;
+    Ok(copy.same(calls))
+}
+
+// Calls 9 and 5, in this order.
+fn two(alloc: Global) -> Result<OpenCalls, AllocError> {
+    let mut calls = OpenCalls::new(alloc);
+    calls.push(call(9, 2))?;
+    calls.push(call(5, 4))?;
+    Ok(calls)
+}
+
+// Whether the calls are others until call 3 is open no longer.
+fn keep_the_order(calls: &mut OpenCalls, rest: &OpenCalls) -> bool {
+    let were_same = calls.same(rest);
+    calls.remove(3);
+    !were_same && calls.same(rest)
+}
+
+#[test]
+fn a_copy_is_the_same_calls(rt: HostRuntime) -> Result<(), Fail> {
+    let calls = three(rt.alloc(), 9, 5)?;
+    assert!(rt; is_copied(&calls)?);
     Ok(())
 }
 
 #[test]
 fn keeps_the_order_of_arrival(rt: HostRuntime) -> Result<(), Fail> {
+    let rest = two(rt.alloc())?;
     let mut calls = three(rt.alloc(), 9, 5)?;
-    let before = calls.copy()?;
-    assert!(rt; calls.same(&before));
-    calls.remove(3);
-    assert!(rt; !calls.same(&before));
-    let mut other = OpenCalls::new(rt.alloc());
-    other.push(call(9, 2))?;
-    assert!(rt; !calls.same(&other));
-    other.push(call(5, 4))?;
-    assert!(rt; calls.same(&other));
+    assert!(rt; keep_the_order(&mut calls, &rest));
     Ok(())
 }

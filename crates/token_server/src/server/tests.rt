@@ -9,9 +9,15 @@ use model::mode::Mode;
 use model::policy::Policy;
 use std::test::Fail;
 
-fn new_server(alloc: Global) -> Result<Server, Fail> {
+// The server in a box. A test keeps no other, since one is dropped in fewer steps, each of which the
+// check proves.
+fn boxed(alloc: Global, server: Server) -> Result<Box<Server>, StepError> {
+    Ok(Box::new(alloc, server)?)
+}
+
+fn new_server(alloc: Global) -> Result<Box<Server>, Fail> {
     let shape = Shape::new(1, 4, Policy::Wide)?;
-    Ok(Server::new(alloc, shape, 2)?)
+    Ok(boxed(alloc, Server::new(alloc, shape, 2)?)?)
 }
 
 fn call(incarnation: u16, number: u32) -> CallId
@@ -64,13 +70,13 @@ fn taken(number: u32, call: CallId) -> ServerEvent {
 
 // Goes on from what the event gives; whether it sends just that message, or none.
 fn sends(
-    server: &mut Server,
+    server: &mut Box<Server>,
     alloc: Global,
     event: ServerEvent,
     message: Option<Message>,
 ) -> Result<bool, StepError> {
     let (next, outcome) = server.step(alloc, &event)?;
-    *server = next;
+    *server = boxed(alloc, next)?;
     Ok(match message {
         Some(message) => outcome.sends.as_slice() == [message].as_slice(),
         None => outcome.sends.is_empty(),
@@ -178,7 +184,7 @@ fn gives_no_number_past_the_greatest(rt: HostRuntime) -> Result<(), Fail> {
         )?
     );
     assert!(rt; sends(&mut server, alloc, taken(u32::MAX, two), None)?);
-    let before = server.copy()?;
+    let before = boxed(alloc, server.copy()?)?;
     assert_eq!(rt;
         refusal(&server, alloc, request(2, one)),
         Some(StepError::Spent)

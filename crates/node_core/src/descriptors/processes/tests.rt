@@ -1,57 +1,84 @@
 use super::*;
 use std::test::Fail;
 
+// Whether the first process gets descriptors 0 to 63 and no more.
+fn fills(processes: &mut Processes) -> Result<bool, ProcessError> {
+    processes.spawn(1)?;
+    for fd in 0u8..64 {
+        if processes.open(1, 1, Access::ReadWrite)? != fd {
+            return Ok(false);
+        }
+    }
+    Ok(processes.open(1, 1, Access::ReadWrite) == Err(ProcessError::TooManyFiles))
+}
+
+// Whether another process gets descriptor 0 after that, and description 65.
+fn opens_after(processes: &mut Processes) -> Result<bool, ProcessError> {
+    processes.spawn(256)?;
+    let fd = processes.open(256, 2, Access::ReadOnly)?;
+    let opened = Opened {
+        file: 2,
+        description: 65,
+        access: Access::ReadOnly,
+    };
+    Ok(fd == 0 && processes.resolve(256, 0) == Ok(opened))
+}
+
 #[test]
 fn gives_the_lowest_numbers(rt: HostRuntime) -> Result<(), Fail> {
     let mut processes = Processes::new(rt.alloc());
-    processes.spawn(1)?;
-    processes.spawn(256)?;
-    for fd in 0u8..64 {
-        let opened = processes.open(1, 1, Access::ReadWrite)?;
-        assert_eq!(rt; opened, fd);
-    }
-    let refused = processes.open(1, 1, Access::ReadWrite);
-    assert_eq!(rt; refused, Err(ProcessError::TooManyFiles));
-    let opened = processes.open(256, 2, Access::ReadOnly)?;
-    assert_eq!(rt; opened, 0);
-    let opened = processes.resolve(256, 0)?;
-    assert_eq!(rt; (opened.file, opened.description), (2, 65));
-    assert_eq!(rt; opened.access, Access::ReadOnly);
+    assert!(rt; fills(&mut processes)?);
+    assert!(rt; opens_after(&mut processes)?);
     Ok(())
 }
 
 #[test]
 fn answers_by_the_first_test_that_fails(rt: HostRuntime) -> Result<(), Fail> {
     let mut processes = Processes::new(rt.alloc());
-    assert_eq!(rt; processes.resolve(1, 0), Err(FdError::NoProcess));
-    assert_eq!(rt;
-        processes.open(1, 1, Access::ReadOnly),
-        Err(ProcessError::NoProcess)
-    );
+    assert!(rt; processes.resolve(1, 0) == Err(FdError::NoProcess));
+    assert!(rt; processes.open(1, 1, Access::ReadOnly) == Err(ProcessError::NoProcess));
     processes.spawn(1)?;
-    assert_eq!(rt; processes.spawn(1), Err(ProcessError::Exists));
-    assert_eq!(rt; processes.resolve(1, 0), Err(FdError::BadFd));
-    assert_eq!(rt; processes.resolve(1, 64), Err(FdError::BadFd));
-    assert_eq!(rt; processes.resolve(0, 0), Err(FdError::NoProcess));
-    assert_eq!(rt; processes.resolve(65535, 0), Err(FdError::NoProcess));
+    assert!(rt; processes.spawn(1) == Err(ProcessError::Exists));
+    for (pid, fd, error) in [
+        (1, 0, FdError::BadFd),
+        (1, 64, FdError::BadFd),
+        (0, 0, FdError::NoProcess),
+        (65535, 0, FdError::NoProcess),
+    ] {
+        assert!(rt; processes.resolve(pid, fd) == Err(error));
+    }
     Ok(())
+}
+
+// Two processes that run.
+fn begun(alloc: Global, first: u16, second: u16) -> Result<Processes, ProcessError> {
+    let mut processes = Processes::new(alloc);
+    processes.spawn(first)?;
+    processes.spawn(second)?;
+    Ok(processes)
+}
+
+// Whether a copy is the same until process 3 opens a file.
+fn changes(processes: &mut Processes) -> Result<bool, ProcessError> {
+    let copy = processes.copy()?;
+    let was_same = copy.same(processes);
+    processes.open(3, 1, Access::ReadWrite)?;
+    Ok(was_same && !copy.same(processes))
+}
+
+// Whether the two are the same, but where one has a file open that the other has not.
+fn differ_by_a_file(one: &mut Processes, other: &mut Processes) -> Result<bool, ProcessError> {
+    let were_same = one.same(other);
+    let one_changes = changes(one)?;
+    let are_apart = !one.same(other);
+    let other_changes = changes(other)?;
+    Ok(were_same && one_changes && are_apart && other_changes && one.same(other))
 }
 
 #[test]
 fn compares_what_runs_and_what_is_open(rt: HostRuntime) -> Result<(), Fail> {
-    let mut one = Processes::new(rt.alloc());
-    let mut other = Processes::new(rt.alloc());
-    one.spawn(1)?;
-    one.spawn(3)?;
-    other.spawn(3)?;
-    assert!(rt; !one.same(&other));
-    other.spawn(1)?;
-    assert!(rt; one.same(&other));
-    let copy = one.copy()?;
-    one.open(3, 1, Access::ReadWrite)?;
-    assert!(rt; !one.same(&other));
-    assert!(rt; copy.same(&other));
-    other.open(3, 1, Access::ReadWrite)?;
-    assert!(rt; one.same(&other));
+    let mut one = begun(rt.alloc(), 1, 3)?;
+    let mut other = begun(rt.alloc(), 3, 1)?;
+    assert!(rt; differ_by_a_file(&mut one, &mut other)?);
     Ok(())
 }

@@ -3,6 +3,7 @@ use crate::event::NodeEvent;
 use intervals::span::GREATEST;
 use intervals::span_map::NoMemory;
 use messages::message::Message;
+use messages::refusal::StepError;
 use messages::shape::Shape;
 use model::access::Access;
 use model::call::CallId;
@@ -16,11 +17,6 @@ const WHOLE: Span = Span {
     lo: 0,
     hi: GREATEST,
 };
-
-fn step(alloc: Global, node: &Node, event: NodeEvent) -> Result<Node, Fail> {
-    let (next, _) = node.step(alloc, &event)?;
-    Ok(next)
-}
 
 fn call(op: Op) -> NodeEvent {
     NodeEvent::Call { pid: 1, op }
@@ -42,16 +38,30 @@ fn grant() -> NodeEvent {
     })
 }
 
-// A node, one process of which opens file 2 and waits for a lock on 10 bytes.
-fn waits(alloc: Global) -> Result<Node, Fail> {
+// The node in a box, as a test keeps it.
+fn boxed(alloc: Global, node: Node) -> Result<Box<Node>, StepError> {
+    Ok(Box::new(alloc, node)?)
+}
+
+fn begins(alloc: Global) -> Result<Box<Node>, Fail> {
     let shape = Shape::new(1, 2, Policy::Wide)?;
-    let begun = Node::new(alloc, shape, 1, 7)?;
-    let spawned = step(alloc, &begun, call(Op::Spawn))?;
+    let node = Node::new(alloc, shape, 1, 7)?;
+    Ok(boxed(alloc, node)?)
+}
+
+// Goes on from what the event gives.
+fn step(alloc: Global, node: &mut Box<Node>, event: NodeEvent) -> Result<(), StepError> {
+    let (next, _) = node.step(alloc, &event)?;
+    *node = boxed(alloc, next)?;
+    Ok(())
+}
+
+// A process opens file 2 and waits for a lock on 10 bytes.
+fn wait(alloc: Global, node: &mut Box<Node>) -> Result<(), StepError> {
     let open = Op::Open {
         file: 2,
         access: Access::ReadWrite,
     };
-    let opened = step(alloc, &spawned, call(open))?;
     let set = Op::Set {
         fd: 0,
         kind: Kind::OfProcess,
@@ -59,13 +69,10 @@ fn waits(alloc: Global) -> Result<Node, Fail> {
         start: 0,
         len: 10,
     };
-    step(alloc, &opened, call(set))
-}
-
-// The same node after the grant.
-fn holds(alloc: Global) -> Result<Node, Fail> {
-    let waiting = waits(alloc)?;
-    step(alloc, &waiting, grant())
+    for op in [Op::Spawn, open, set] {
+        step(alloc, node, call(op))?;
+    }
+    Ok(())
 }
 
 // Whether the node has no token of the file.
@@ -76,6 +83,11 @@ fn has_no_token(node: &Node, alloc: Global, file: u16) -> Result<bool, NoMemory>
 // Whether the node's token of the file is just the run.
 fn has_token(node: &Node, alloc: Global, file: u16, run: (Span, Level)) -> Result<bool, NoMemory> {
     Ok(node.token_runs(alloc, file)?.as_slice() == [run].as_slice())
+}
+
+// Whether the node has no lock of the file.
+fn has_no_lock(node: &Node, file: u16) -> Result<bool, NoMemory> {
+    Ok(node.regions(file)?.is_empty())
 }
 
 // Whether the node's only lock of the file is this one.
@@ -98,17 +110,20 @@ const LOCK: LockInfo = LockInfo {
 #[test]
 fn a_node_that_waits_holds_nothing(rt: HostRuntime) -> Result<(), Fail> {
     let alloc = rt.alloc();
-    let node = waits(alloc)?;
-    assert_eq!(rt; node.incarnation(), 7);
+    let mut node = begins(alloc)?;
+    wait(alloc, &mut node)?;
+    assert!(rt; node.incarnation() == 7);
     assert!(rt; has_no_token(&node, alloc, 2)?);
-    assert!(rt; node.regions(2)?.is_empty());
+    assert!(rt; has_no_lock(&node, 2)?);
     Ok(())
 }
 
 #[test]
 fn a_node_lists_its_token_and_its_locks(rt: HostRuntime) -> Result<(), Fail> {
     let alloc = rt.alloc();
-    let node = holds(alloc)?;
+    let mut node = begins(alloc)?;
+    wait(alloc, &mut node)?;
+    step(alloc, &mut node, grant())?;
     assert!(rt; has_token(&node, alloc, 2, (WHOLE, Level::Exclusive))?);
     assert!(rt; has_no_token(&node, alloc, 1)?);
     assert!(rt; has_no_token(&node, alloc, 3)?);

@@ -13,12 +13,12 @@ items_of-requires c =
 
 pub of_rising-requires : goal.of_rising-requires
 of_rising-requires c =
-    (is_placed c.args.journal.now.shape c.args.journal.now.entries c.entries.result.now c.in_ok-items.items.items (subst IsShape c.shape_of.ensures.value c.shape_of.ensures.served) c.entries.ensures.run c.entries.ensures.value c.in_ok-items.ensures).history.fits.rising
+    (is_placed c.args.journal.now.shape c.args.journal.now.entries c.entries.result.now c.in_ok-items.items.items (subst IsShape c.shape.ensures.value c.shape.ensures.served) c.entries.ensures.run c.entries.ensures.value c.in_ok-items.ensures).history.fits.rising
 
 pub returns-clause-history : goal.returns-clause-history
 returns-clause-history c =
-    (is_placed c.args.journal.now.shape c.args.journal.now.entries c.entries.result.now c.of_rising.result (subst IsShape c.shape_of.ensures.value c.shape_of.ensures.served) c.entries.ensures.run c.entries.ensures.value (c.of_rising.ensures ∙ c.in_ok-items.ensures)).history
+    (is_placed c.args.journal.now.shape c.args.journal.now.entries c.entries.result.now c.of_rising.result (subst IsShape c.shape.ensures.value c.shape.ensures.served) c.entries.ensures.run c.entries.ensures.value (c.of_rising.ensures ∙ c.in_ok-items.ensures)).history
 
 pub returns-clause-at_replies : goal.returns-clause-at_replies
 returns-clause-at_replies c =
-    (is_placed c.args.journal.now.shape c.args.journal.now.entries c.entries.result.now c.of_rising.result (subst IsShape c.shape_of.ensures.value c.shape_of.ensures.served) c.entries.ensures.run c.entries.ensures.value (c.of_rising.ensures ∙ c.in_ok-items.ensures)).at_replies
+    (is_placed c.args.journal.now.shape c.args.journal.now.entries c.entries.result.now c.of_rising.result (subst IsShape c.shape.ensures.value c.shape.ensures.served) c.entries.ensures.run c.entries.ensures.value (c.of_rising.ensures ∙ c.in_ok-items.ensures)).at_replies

@@ -1,12 +1,10 @@
-use Rattle.std.proofs.Common.{◌≡◌, ◌<◌, ◌≤◌, List, length, get_or, subst, sym, arith}
+use Rattle.std.proofs.Common.{◌≡◌, ◌<◌, ◌≤◌, List, length, get_or, subst, arith}
 use Rattle.std.specs.declared.result.Result.TheVariants.{Ok}
 use Rattle.messages.specs.declared.event.Event.{Event}
 use Rattle.messages.specs.declared.entry.Entry.{Entry}
 use Rattle.cluster_core.specs.Next.{next}
 use Rattle.cluster_core.specs.Parts.{world_state}
-use Rattle.messages.specs.Shapes.{ShapeFields, IsShape}
 use Rattle.cluster_core.proofs.Replayed.{replayed_more, replayed_all}
-use Rattle.cluster_core.proofs.Runs.{safe_run}
 use Rattle.cluster_core.proofs.world.World.after.Goals as goal
 
 pub loop-entry-preserved : goal.loop-entry-preserved
@@ -31,5 +29,4 @@ returns-clause-safe c =
     let end = c.loop-entry-test.false in
     let read : length c.entries-entry-items.result.now ≤ i = omega arith in
     let past : length entries ≤ i = subst (λ (es : List Entry). length es ≤ i) c.entries-entry-items.ensures.value read in
-    let is : IsShape shape = subst (λ (s : ShapeFields). IsShape s) c.shape.ensures c.in_ok-world.ensures.within in
-    safe_run shape entries w is (replayed_all shape entries i w past c.loop-entry.invariant)
+    c.entries-entry-items.ensures.safe w (replayed_all shape entries i w past c.loop-entry.invariant)

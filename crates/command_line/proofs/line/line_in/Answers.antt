@@ -1,9 +1,9 @@
 use Rattle.std.proofs.Common.{ap, ap₂, ◌∙◌}
 use Rattle.std.proofs.lemmas.Result.{err_from_is_err_and}
 use Rattle.clap.specs.Words.{is_simple, subcommand_of, takes}
-use Rattle.replay.specs.Words.{value_in}
-use Rattle.replay.proofs.CommandLine.{is_simple_program, taken_is, value_is, same_text, no_text}
-use Rattle.replay.proofs.line.Line.read.Goals as goal
+use Rattle.command_line.specs.Program.{value_in}
+use Rattle.command_line.proofs.CommandLine.{is_simple_program, taken_is, value_is, same_text, no_text}
+use Rattle.command_line.proofs.line.line_in.Goals as goal
 
 pub returns-in_err-matches : goal.returns-in_err-matches
 returns-in_err-matches g c = λ path asks.

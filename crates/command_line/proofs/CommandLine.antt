@@ -6,7 +6,7 @@ use Rattle.std.proofs.lemmas.Bool.{ne_eqb}
 use Rattle.clap.specs.Lexer.{strip_byte}
 use Rattle.clap.specs.Words.{Row, Text, first_of, is_simple, subcommand_of, takes}
 use Rattle.clap.proofs.OnLiterals.{clap_on_literals}
-use Rattle.replay.specs.Words.{program_app, value_in}
+use Rattle.command_line.specs.Program.{program_app, value_in}
 
 abbrev pub words_of : Text → Text → List Text
 words_of program path = program ∷ codes "run" ∷ path ∷ []

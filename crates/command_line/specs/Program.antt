@@ -1,21 +1,16 @@
--- The words of a command line.
-use Rattle.std.specs.Prelude.{◌≡◌, ◌≢◌, ℕ, true, codes, List, [], ◌∷◌, option_map, slice_get, Option, Some}
+-- The command line as clap reads it.
+use Rattle.std.specs.Prelude.{true, codes, List, option_map, Option}
 use Rattle.clap.specs.Words.{App, Row, Rule, Text, first_of, new_app, new_rule, with_rule, with_subcommand}
 use Rattle.clap.specs.Simple.{on_top}
 
--- the words are `PROGRAM run SCRIPT`; a word that begins with `-` is taken for an option
-pub record AsksToRun (words : List (List ℕ)) (path : List ℕ) : Type 0 where
-  pub program : List ℕ
-  pub words_are : words ≡ program ∷ codes "run" ∷ path ∷ []
-  pub no_option : slice_get path 0 ≢ Some 45
-
--- the command line as clap reads it: `run` takes one path, and no command is no command line
+-- `run` takes one path, which must be there
 abbrev pub script_rule : Rule
 script_rule = record (new_rule (codes "SCRIPT")) { required = true }
 
 abbrev pub run_app : App
 run_app = with_rule (new_app (codes "run")) script_rule
 
+-- no command is no command line
 abbrev pub bare_app : App
 bare_app = on_top (λ s. record s { subcommand_required = true; arg_required_else_help = true }) (new_app (codes "lockreplay"))
 

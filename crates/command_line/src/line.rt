@@ -1,8 +1,11 @@
-//! The command line.
-ghost use Rattle.std.specs.Prelude.{◌≡◌, ℕ, List, codes, option_map, IfOk};
-ghost use Rattle.clap.specs.Words.{app_of, subcommand_rows_of};
-ghost use Rattle.replay.specs.Words.{program_app, value_in};
+//! The lines that words may ask for.
+ghost use Rattle.std.specs.Prelude.{◌≡◌, ℕ, List, codes, map, option_map, IfOk, MatchResult};
+ghost use Rattle.clap.specs.Words.{app_of, kind_of, subcommand_rows_of};
+ghost use Rattle.command_line.specs.declared.refusal.Refusal.TheVariants.{NoMemory};
+ghost use Rattle.command_line.specs.Program.{program_app, value_in};
+ghost use Rattle.command_line.specs.Words.{path_of, AsksToRun};
 
+use crate::refusal::Refusal;
 use clap::error::ErrorKind;
 use clap::{Arg, ArgMatches, Command, Error};
 use std::alloc::{AllocError, Global};
@@ -43,27 +46,33 @@ The listing has five sections: the refused lines, the replies, the tokens, the
 locks, and one history of all calls in one table.";
 
 impl<'a> Line<'a> {
-    ghost use Rattle.std.specs.Prelude.{◌≡◌, ℕ, List, map, MatchResult};
-    ghost use Rattle.clap.specs.Words.{kind_of};
-    ghost use Rattle.replay.specs.Commands.{path_of};
-    ghost use Rattle.replay.specs.Words.{AsksToRun};
-
     /// What the words ask for, the first of them being the program's name.
     ///
     /// # Errors
-    /// The text to be shown in its place, with its exit status: what is wrong with the words, or the
-    /// help that they ask for.
-    pub fn read<S: AsStr>(alloc: Global, words: &'a [S]) -> Result<Line<'a>, Error>
+    /// What is shown in its place: what is wrong with the words, or the help that they ask for;
+    /// `NoMemory` where a request for memory was refused.
+    pub fn read<S: AsStr>(alloc: Global, words: &'a [S]) -> Result<Line<'a>, Refusal>
         // `PROGRAM run SCRIPT` is read as that, while there is memory.
         ensures { (path : List ℕ) → AsksToRun (map S.text words.entry.now) path
-            → MatchResult result (λ line. path_of line ≡ path) (λ error. kind_of error ≡ ErrorKind.OutOfMemory) }
+            → MatchResult result (λ line. path_of line ≡ path) (λ refusal. refusal ≡ NoMemory) }
     {
-        let mut command = program(alloc)?;
-        let matches = command.try_get_matches_from_mut(words)?;
-        match script_in(&matches) {
-            Some(script) => Ok(Line::Run { script }),
-            None => Err(command.error(ErrorKind::MissingSubcommand, "no command is given")?),
+        match line_in(alloc, words) {
+            Ok(line) => Ok(line),
+            Err(error) => Err(Refusal::of(alloc, &error)),
         }
+    }
+}
+
+// The line, or the parser's error.
+fn line_in<'a, S: AsStr>(alloc: Global, words: &'a [S]) -> Result<Line<'a>, Error>
+    ensures { (path : List ℕ) → AsksToRun (map S.text words.entry.now) path
+        → MatchResult result (λ line. path_of line ≡ path) (λ error. kind_of error ≡ ErrorKind.OutOfMemory) }
+{
+    let mut command = program(alloc)?;
+    let matches = command.try_get_matches_from_mut(words)?;
+    match script_in(&matches) {
+        Some(script) => Ok(Line::Run { script }),
+        None => Err(command.error(ErrorKind::MissingSubcommand, "no command is given")?),
     }
 }
 

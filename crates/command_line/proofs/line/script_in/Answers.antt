@@ -1,8 +1,8 @@
 use Rattle.std.proofs.Common.{codes, ◌∙◌}
 use Rattle.clap.specs.Words.{found_of, rows_of, subcommand_rows_of}
 use Rattle.clap.proofs.WalkLemmas.{first_value-rows}
-use Rattle.replay.proofs.CommandLine.{value_of_rows}
-use Rattle.replay.proofs.line.script_in.Goals as goal
+use Rattle.command_line.proofs.CommandLine.{value_of_rows}
+use Rattle.command_line.proofs.line.script_in.Goals as goal
 
 pub returns : goal.returns
 returns c = λ path is.

@@ -2,8 +2,8 @@ use Rattle.std.proofs.Common.{rules, ap, ap₂, codes, true, ◌≡◌, ◌∙�
 use Rattle.std.proofs.lemmas.Result.{IfOk-weaker}
 use Rattle.clap.specs.Words.{App, app_of, new_app, rule_of, with_rule, with_subcommand}
 use Rattle.clap.specs.Simple.{app_of_fields, on_top}
-use Rattle.replay.specs.Words.{script_rule, run_app, bare_app}
-use Rattle.replay.proofs.line.program.Goals as goal
+use Rattle.command_line.specs.Program.{script_rule, run_app, bare_app}
+use Rattle.command_line.proofs.line.program.Goals as goal
 
 pub returns : goal.returns
 returns c =

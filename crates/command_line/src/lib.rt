@@ -1,0 +1,7 @@
+//! The command line: what its words ask for, and what is shown where they are refused.
+#![tactic(auto)]
+
+pub mod line;
+pub mod refusal;
+#[cfg(test)]
+mod tests;

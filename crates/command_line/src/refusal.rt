@@ -1,0 +1,38 @@
+//! Why words are no command line.
+ghost use Rattle.std.specs.Prelude.{◌≡◌};
+ghost use Rattle.clap.specs.Words.{kind_of};
+ghost use Rattle.command_line.specs.declared.refusal.Refusal.TheVariants.{NoMemory};
+
+use clap::error::ErrorKind;
+use std::alloc::Global;
+use thiserror::Error;
+
+/// Why words are no command line. Its text is what is shown in place of a run.
+#[derive(Debug, PartialEq, Eq, Drop, Error)]
+pub enum Refusal {
+    /// They ask for help, which is this text.
+    #[error("{0}")]
+    Help(String),
+    /// They are wrong in the way that the text says.
+    #[error("{0}")]
+    Wrong(String),
+    /// A request for memory was refused.
+    #[error("no memory")]
+    NoMemory,
+}
+
+impl Refusal {
+    // What the parser's error says.
+    pub(crate) fn of(alloc: Global, error: &clap::Error) -> Refusal
+        ensures { kind_of error.now ≡ ErrorKind.OutOfMemory → result ≡ NoMemory }
+    {
+        if error.kind() == ErrorKind::OutOfMemory {
+            return Refusal::NoMemory;
+        }
+        match error.to_string(alloc) {
+            Ok(text) if error.use_stderr() => Refusal::Wrong(text),
+            Ok(text) => Refusal::Help(text),
+            Err(_) => Refusal::NoMemory,
+        }
+    }
+}

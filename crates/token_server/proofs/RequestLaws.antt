@@ -1,0 +1,75 @@
+-- Requests by their calls, and as a list.
+use Rattle.std.specs.Prelude.{◌≡◌, Bool, true, false, cond, ◌||◌, ◌&&◌, List, [], ◌∷◌, All, filter, drop, Option, None, Some, is_some, refl}
+use Rattle.std.specs.List.{list_any}
+use Rattle.std.specs.Map.{values_of, lookup}
+use Rattle.std.specs.Cmp.{nat_eq_equiv}
+use Rattle.std.proofs.Common.{ap, sym, subst, ◌∙◌, rules}
+use Rattle.std.proofs.lemmas.List.Elements.{All-head, All-tail}
+use Rattle.model.specs.declared.call.CallId.{CallId}
+use Rattle.model.specs.contracts.call.CallIdPartialEq.TheImpl as derived
+use Rattle.messages.specs.Messages.{same_call}
+use Rattle.indexmap.specs.IndexMap.{IndexMap, IsUnique}
+use Rattle.token_server.specs.declared.held.Held.{Held}
+use Rattle.token_server.specs.State.{is_of_call}
+
+-- the derived `==` of calls is the test of the definitions
+pub call_eq : (a b : CallId) → derived.ghosts.eq a b ≡ same_call a b
+call_eq a b = search rules
+
+pub eq-same_call : derived.ghosts.eq ≡ same_call
+eq-same_call i a b = call_eq a b i
+
+-- so calls that are distinct by the one are by the other
+pub unique-same_call : {S : Type 0} (m : IndexMap CallId Held S) → IsUnique derived.ghosts.eq m → IsUnique same_call m
+unique-same_call m unique = subst (λ (eq : CallId → CallId → Bool). IsUnique eq m) eq-same_call unique
+
+-- the request is kept at its call
+abbrev pub IsAtCall : CallId × Held → Type 0
+IsAtCall e = e.0 ≡ e.1.call
+
+-- the order of two calls does not matter
+pub same_call-symm : (a b : CallId) → same_call a b ≡ same_call b a
+same_call-symm a b = λ i. nat_eq_equiv.symm a.node b.node i && (nat_eq_equiv.symm a.incarnation b.incarnation i && nat_eq_equiv.symm a.number b.number i)
+
+-- the test of a key is that of its request
+test-is : (call : CallId) (e : CallId × Held) → IsAtCall e → derived.ghosts.eq call e.0 ≡ is_of_call call e.1
+test-is call e at = call_eq call e.0 ∙ ap (same_call call) at ∙ same_call-symm call e.1.call
+
+-- whether a look-up finds something
+pub has-by_call : (call : CallId) (es : List (CallId × Held)) → All IsAtCall es → is_some (lookup (derived.ghosts.eq call) es) ≡ list_any (is_of_call call) (values_of es)
+has-by_call call [] at = refl
+has-by_call call (e ∷ es) at = by (derived.ghosts.eq call e.0) refl (has-by_call call es (All-tail IsAtCall e es at))
+  where
+    same : derived.ghosts.eq call e.0 ≡ is_of_call call e.1
+    same = test-is call e (All-head IsAtCall e es at)
+
+    by : (b : Bool) → derived.ghosts.eq call e.0 ≡ b → is_some (lookup (derived.ghosts.eq call) es) ≡ list_any (is_of_call call) (values_of es) → is_some (lookup (derived.ghosts.eq call) (e ∷ es)) ≡ list_any (is_of_call call) (values_of (e ∷ es))
+    by true is rest =
+        (λ i. is_some (cond (is i) (Some e.1) (lookup (derived.ghosts.eq call) es)))
+        ∙ sym (λ i. (sym same ∙ is) i || list_any (is_of_call call) (values_of es))
+    by false is rest =
+        (λ i. is_some (cond (is i) (Some e.1) (lookup (derived.ghosts.eq call) es)))
+        ∙ rest
+        ∙ sym (λ i. (sym same ∙ is) i || list_any (is_of_call call) (values_of es))
+
+-- a call that no request has is no key
+pub not-found : (call : CallId) (es : List (CallId × Held)) (rs : List Held) → All IsAtCall es → values_of es ≡ rs → list_any (is_of_call call) rs ≡ false → lookup (derived.ghosts.eq call) es ≡ None
+not-found call es rs at is none = nothing (lookup (derived.ghosts.eq call) es) (has-by_call call es at ∙ ap (list_any (is_of_call call)) is ∙ none)
+  where
+    nothing : (x : Option Held) → is_some x ≡ false → x ≡ None
+    nothing None h = refl
+    nothing (Some r) h = absurd (cc)
+
+-- the values that pass are those of the entries whose values pass
+pub filter-values : {K X : Type 0} (test : X → Bool) (es : List (K × X)) → values_of (filter (λ e. test e.1) es) ≡ filter test (values_of es)
+filter-values test [] = refl
+filter-values test (e ∷ es) = by (test e.1) (filter-values test es)
+  where
+    by : (b : Bool) → values_of (filter (λ d. test d.1) es) ≡ filter test (values_of es) → values_of (cond b (e ∷ filter (λ d. test d.1) es) (filter (λ d. test d.1) es)) ≡ cond b (e.1 ∷ filter test (values_of es)) (filter test (values_of es))
+    by true rest = ap (λ xs. e.1 ∷ xs) rest
+    by false rest = rest
+
+-- what holds of each holds of those after the first
+pub All-rest : {X : Type 0} (P : X → Type 0) (xs : List X) → All P xs → All P (drop 1 xs)
+All-rest P [] each = each
+All-rest P (x ∷ xs) each = All-tail P x xs each
