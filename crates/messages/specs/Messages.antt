@@ -91,6 +91,11 @@ same_message (Deny f c h k a) (Deny g d i l b) = (f == g) && (same_call c d && (
 same_message (Freed f h) (Freed g i) = (f == g) && same_host h i
 same_message _ _ = false
 
+-- the message tells that a lock of the holder is in the way, as its answer to the command with that number
+abbrev pub is_conflict : ℕ → Host → ℕ → Message → Bool
+is_conflict file holder number (Conflict f k h call lock) = (f == file) && ((k == number) && same_host h holder)
+is_conflict file holder number _ = false
+
 -- the message is one of those
 abbrev pub is_among : List Message → Message → Bool
 is_among messages m = list_any (same_message m) messages
