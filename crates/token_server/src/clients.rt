@@ -158,13 +158,14 @@ impl Clients {
     }
 
     /// A row of the node in that incarnation, which has got no command yet.
-    pub fn add_row(&mut self, alloc: Global, host: Host)
-        requires { IsNumber (length self.old) host.node }
-        ensures rows { rows_of self.new ≡ with_change host.node (λ row. Some (empty_row host.incarnation)) (rows_of self.old) }
+    pub fn add_row(&mut self, alloc: Global, node: u8, incarnation: u16)
+        requires node_in { IsNumber (length self.old) node }
+        requires counted { 1 ≤ incarnation }
+        ensures rows { rows_of self.new ≡ with_change node (λ row. Some (empty_row incarnation)) (rows_of self.old) }
         ensures deaths { deaths_of self.new ≡ deaths_of self.old }
         ensures len { length self.new ≡ length self.old }
     {
-        self.clients[usize::from(host.node) - 1].add_row(alloc, host.incarnation);
+        self.clients[usize::from(node) - 1].add_row(alloc, incarnation);
     }
 
     /// The command to the node is answered.

@@ -117,7 +117,7 @@ impl Server {
         ensures { server_state self.new ≡ with_a_row (server_state self.old) call (rows_of self.old.clients call.node) }
     {
         if self.clients.row(call.node).is_none() {
-            self.clients.add_row(alloc, call.host());
+            self.clients.add_row(alloc, call.node, call.incarnation);
         }
     }
 
