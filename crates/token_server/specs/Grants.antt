@@ -1,5 +1,5 @@
 -- What a token server promises to a request that nothing stands in the way of.
-use Rattle.std.specs.Prelude.{◌≡◌, ◌≢◌, ℕ, ◌+◌, ◌<◌, ◌≤◌, false, List, [], ◌∷◌, Option, Some, None, Result, Ok}
+use Rattle.std.specs.Prelude.{◌≡◌, ◌≢◌, ℕ, ◌+◌, ◌<◌, ◌≤◌, false, [], ◌∷◌, Some, None, Ok}
 use Rattle.intervals.specs.Bytes.{Range}
 use Rattle.model.specs.Limits.{IsNumber}
 use Rattle.messages.specs.declared.message.Message.TheVariants.{Grant}
