@@ -64,7 +64,7 @@ changed {A} f g clients node place client new within e read made n = elim (eqb_t
 ]
 
 -- the rows after a change of one client
-pub rows_of-set : (clients : List Client) (node place : ℕ) (client new : Client) (g : Option Row → Option Row) → IsNumber (length clients) node → place ≡ node - 1 → client ≡ slice_index_or clients place client → row_seen new.dead new.row ≡ g (row_seen client.dead client.row) → rows_of (slice_set clients place new) ≡ with_change node g (rows_of clients)
+pub rows_of-set : (clients : List Client) (node place : ℕ) (client new : Client) (g : Option Row → Option Row) → IsNumber (length clients) node → place ≡ node - 1 → client ≡ slice_index_or clients place client → row_seen new.row ≡ g (row_seen client.row) → rows_of (slice_set clients place new) ≡ with_change node g (rows_of clients)
 unfolding rows_of
 rows_of-set clients node place client new g within e read made =
     λ i n. changed row_of g clients node place client new within e read made n i
@@ -85,7 +85,7 @@ deaths_of-set_same clients node place client new within e read made =
     deaths_of-set clients node place client new (λ dead. dead) within e read made ∙ (λ i n. same_either (n == node) (deaths_of clients n) i)
 
 -- what is known of the client that is read at a place
-pub rows_of-read : (clients : List Client) (node place : ℕ) (client : Client) → IsNumber (length clients) node → place ≡ node - 1 → client ≡ slice_index_or clients place client → rows_of clients node ≡ row_seen client.dead client.row
+pub rows_of-read : (clients : List Client) (node place : ℕ) (client : Client) → IsNumber (length clients) node → place ≡ node - 1 → client ≡ slice_index_or clients place client → rows_of clients node ≡ row_seen client.row
 unfolding rows_of
 rows_of-read clients node place client within e read = ap row_of (client_at-read clients node place client within e read)
 
@@ -140,9 +140,9 @@ unfolding rows_of deaths_of
 same_known clients others same k within = (ap (λ f. f (suc k)) same.0, ap (λ f. f (suc k)) same.1)
 
 -- the row behind a reference
-pub row_read : (o : Option (Bor KeptRow)) (row : Option KeptRow) (dead : ℕ) → option_copied o ≡ row → MatchOption o (row_seen dead row ≡ None) (λ r. row_seen dead row ≡ Some (row_state (dead + 1) r.now))
-row_read None row dead e = ap (row_seen dead) (sym e)
-row_read (Some r) row dead e = ap (row_seen dead) (sym e)
+pub row_read : (o : Option (Bor KeptRow)) (row : Option KeptRow) → option_copied o ≡ row → MatchOption o (row_seen row ≡ None) (λ r. row_seen row ≡ Some (row_state r.now))
+row_read None row e = ap row_seen (sym e)
+row_read (Some r) row e = ap row_seen (sym e)
 
 -- whether the same is known of each two says whether both have the same rows
 pub same_clients : (b : Bool) (clients others these those : List Client) → these ≡ clients → those ≡ others → length clients ≡ length others → IsTrue b ↔ SameClients these those → IsTrue b ↔ ((rows_of clients ≡ rows_of others) × (deaths_of clients ≡ deaths_of others))

@@ -3,3 +3,4 @@ pub mod HeldLaws
 pub mod RequestLaws
 pub mod GrantLaws
 pub mod ResendLaws
+pub mod ServeLaws

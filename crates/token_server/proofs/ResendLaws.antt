@@ -21,11 +21,11 @@ outstanding_to-more rows n node e =
     ap (filter_map (λ k. outstanding_of (rows k))) (counting_more 1 n node e)
     ∙ filter_map-append (λ k. outstanding_of (rows k)) (range_with_len 1 n) (node ∷ [])
 
-read_row : (clients : List Client) (i : ℕ) (client : Client) → slice_get clients i ≡ Some client → rows_of clients (i + 1) ≡ row_seen client.dead client.row
+read_row : (clients : List Client) (i : ℕ) (client : Client) → slice_get clients i ≡ Some client → rows_of clients (i + 1) ≡ row_seen client.row
 unfolding rows_of
 read_row clients i client there = ap row_of (client_at-place clients (i + 1) i refl ∙ there)
 
-pub outstanding-next : (clients : List Client) (i : ℕ) (client : Client) (command : Option Message) → slice_get clients i ≡ Some client → command ≡ outstanding_of (row_seen client.dead client.row) → outstanding_to (rows_of clients) (i + 1) ≡ outstanding_to (rows_of clients) i ++ cons_option command []
+pub outstanding-next : (clients : List Client) (i : ℕ) (client : Client) (command : Option Message) → slice_get clients i ≡ Some client → command ≡ outstanding_of (row_seen client.row) → outstanding_to (rows_of clients) (i + 1) ≡ outstanding_to (rows_of clients) i ++ cons_option command []
 outstanding-next clients i client command there is =
     outstanding_to-more (rows_of clients) i (i + 1) (omega arith)
     ∙ ap (λ o. outstanding_to (rows_of clients) i ++ cons_option o []) (ap outstanding_of (read_row clients i client there) ∙ sym is)

@@ -1,11 +1,15 @@
 -- What the code keeps of a server, and the state that it stands for.
-use Rattle.std.specs.Prelude.{◌≡◌, ℕ, zero, suc, ◌+◌, ◌<◌, ◌==◌, if◌then◌else◌, List, length, slice_get, Option, Some, None}
+use Rattle.std.specs.Prelude.{◌≡◌, ℕ, zero, suc, ◌+◌, ◌<◌, ◌==◌, nat_lt, if◌then◌else◌, List, length, slice_get, is_some, Option, Some, None, Result, Ok, Err}
 use Rattle.intervals.specs.Bytes.{Range}
 use Rattle.model.specs.declared.mode.Mode.{Mode}
 use Rattle.model.specs.Limits.{IsNumber}
 use Rattle.token_set.specs.Tokens.{raised}
+use Rattle.token_set.specs.Releases.{lowered}
 use Rattle.token_set.specs.Sets.{token_of}
+use Rattle.messages.specs.declared.refusal.StepError.{StepError}
+use Rattle.messages.specs.declared.refusal.StepError.TheVariants.{Spent}
 use Rattle.messages.specs.declared.message.Message.{Message}
+use Rattle.messages.specs.Messages.{greatest_number}
 use Rattle.messages.specs.Shapes.{ShapeFields}
 use Rattle.token_server.specs.declared.held.Held.{Held}
 use Rattle.token_server.specs.declared.row.Row.{Row as KeptRow}
@@ -13,21 +17,20 @@ use Rattle.token_server.specs.declared.client.Client.{Client}
 use Rattle.token_server.specs.State.{Row, ServerState}
 
 -- the row in the rules
-abbrev pub row_state : ℕ → KeptRow → Row
-row_state incarnation row = record { incarnation = incarnation; token = token_of row.token; number = row.number; outstanding = row.outstanding }
+abbrev pub row_state : KeptRow → Row
+row_state row = record { incarnation = row.incarnation; token = token_of row.token; number = row.number; outstanding = row.outstanding }
 
--- the row of a node whose incarnations up to `dead` are known to be dead: it is of the next one
-abbrev pub row_seen : ℕ → Option KeptRow → Option Row
-row_seen dead None = None
-row_seen dead (Some row) = Some (row_state (dead + 1) row)
+abbrev pub row_seen : Option KeptRow → Option Row
+row_seen None = None
+row_seen (Some row) = Some (row_state row)
 
 -- the rows say the same
 abbrev pub SameRow : KeptRow → KeptRow → Type 0
-SameRow a b = (token_of a.token ≡ token_of b.token) × (a.number ≡ b.number) × (a.outstanding ≡ b.outstanding)
+SameRow a b = (a.incarnation ≡ b.incarnation) × (token_of a.token ≡ token_of b.token) × (a.number ≡ b.number) × (a.outstanding ≡ b.outstanding)
 
 abbrev pub row_of : Option Client → Option Row
 row_of None = None
-row_of (Some client) = row_seen client.dead client.row
+row_of (Some client) = row_seen client.row
 
 abbrev pub dead_of : Option Client → ℕ
 dead_of None = 0
@@ -54,9 +57,21 @@ rows_of clients node = row_of (client_at clients node)
 unfoldable pub deaths_of : List Client → ℕ → ℕ
 deaths_of clients node = dead_of (client_at clients node)
 
+-- the number of the next command, unless one is under way
+abbrev pub next_number : Row → Result (Option ℕ) StepError
+next_number row = if is_some row.outstanding then Ok None else (if nat_lt row.number greatest_number then Ok (Some (row.number + 1)) else Err Spent)
+
 -- the row once its command is answered
 abbrev pub answered : Row → Row
 answered row = record row { outstanding = None }
+
+-- the row once its node has given up the span
+abbrev pub relieved : Range → Mode → Row → Row
+relieved span mode row = record row { token = lowered row.token span mode; outstanding = None }
+
+-- the row once a command was sent that leaves its token
+abbrev pub told : Message → Row → Row
+told command row = record row { number = row.number + 1; outstanding = Some command }
 
 -- the row once a command has given its node the span
 abbrev pub given : Range → Mode → Message → Row → Row

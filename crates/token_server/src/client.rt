@@ -1,9 +1,9 @@
 //! Nodes, as a token server knows them.
-ghost use Rattle.std.specs.Prelude.{◌≡◌, ◌+◌, ◌<◌, ◌↔◌, max, IsTrue, IfOk, IfSome, OnOk, OnErr, Some, None};
+ghost use Rattle.std.specs.Prelude.{◌≡◌, if◌then◌else◌, ◌≤◌, ◌<◌, ◌↔◌, max, IsTrue, IfOk, IfSome, OnOk, OnErr, Some, None};
 ghost use Rattle.std.specs.Option.{option_map};
 ghost use Rattle.messages.specs.Messages.{greatest_number};
 ghost use Rattle.token_server.specs.State.{empty_row, row_above};
-ghost use Rattle.token_server.specs.Parts.{row_seen, answered, given, SameKnown};
+ghost use Rattle.token_server.specs.Parts.{row_seen, answered, relieved, told, given, SameKnown};
 ghost use Rattle.token_server.specs.Resends.{outstanding_of};
 
 use crate::row::Row;
@@ -14,7 +14,7 @@ use model::mode::Mode;
 use std::alloc::Global;
 
 /// A node, as the server of a file knows it: the greatest incarnation known to be dead (0 at first),
-/// and the row of the next one, if that asked.
+/// and the row of a later one, if that asked.
 #[derive(Drop)]
 pub struct Client {
     pub dead: u16,
@@ -31,26 +31,37 @@ impl Client {
 
     /// The incarnations up to this one are known to be dead: a row of one of them goes.
     pub fn forget(&mut self, incarnation: u16)
-        ensures row { row_seen self.new.dead self.new.row ≡ row_above incarnation (row_seen self.old.dead self.old.row) }
+        ensures row { row_seen self.new.row ≡ row_above incarnation (row_seen self.old.row) }
         ensures dead { self.new.dead ≡ max self.old.dead incarnation }
     {
-        if self.dead < incarnation {
-            self.dead = incarnation;
+        if self.has_row_up_to(incarnation) {
             self.row = None;
+        }
+        self.dead = self.dead.max(incarnation);
+    }
+
+    // Whether there is a row, of that incarnation or an older one.
+    fn has_row_up_to(&self, incarnation: u16) -> bool
+        ensures { row_above incarnation (row_seen self.now.row) ≡ (if result then None else row_seen self.now.row) }
+    {
+        match &self.row {
+            Some(row) => row.incarnation <= incarnation,
+            None => false,
         }
     }
 
-    /// A row of the incarnation after the dead ones, that has got no command yet.
-    pub fn add_row(&mut self, alloc: Global)
-        ensures row { row_seen self.new.dead self.new.row ≡ Some (empty_row (self.old.dead + 1)) }
+    /// A row of the incarnation, that has got no command yet.
+    pub fn add_row(&mut self, alloc: Global, incarnation: u16)
+        requires { 1 ≤ incarnation }
+        ensures row { row_seen self.new.row ≡ Some (empty_row incarnation) }
         ensures dead { self.new.dead ≡ self.old.dead }
     {
-        self.row = Some(Row::new(alloc));
+        self.row = Some(Row::new(alloc, incarnation));
     }
 
     /// The command to it is answered.
     pub fn answer(&mut self)
-        ensures row { row_seen self.new.dead self.new.row ≡ option_map answered (row_seen self.old.dead self.old.row) }
+        ensures row { row_seen self.new.row ≡ option_map answered (row_seen self.old.row) }
         ensures dead { self.new.dead ≡ self.old.dead }
     {
         if let Some(row) = &mut self.row {
@@ -58,9 +69,35 @@ impl Client {
         }
     }
 
+    /// The command to it is answered: it gave up the span for the mode.
+    ///
+    /// # Errors
+    /// `NoMemory` where a request for memory was refused; all stays as it was.
+    pub fn release(&mut self, span: Span, mode: Mode) -> Result<(), NoMemory>
+        ensures row { OnOk result (row_seen self.new.row ≡ option_map (relieved span mode) (row_seen self.old.row)) }
+        ensures dead { self.new.dead ≡ self.old.dead }
+        ensures err { OnErr result (self.new ≡ self.old) }
+    {
+        if let Some(row) = &mut self.row {
+            row.release(span, mode)?;
+        }
+        Ok(())
+    }
+
+    /// The next command to it, which leaves its token as it is.
+    pub fn tell(&mut self, command: Message)
+        requires { IfSome (row_seen self.old.row) (λ row. row.number < greatest_number) }
+        ensures row { row_seen self.new.row ≡ option_map (told command) (row_seen self.old.row) }
+        ensures dead { self.new.dead ≡ self.old.dead }
+    {
+        if let Some(row) = &mut self.row {
+            row.tell(command);
+        }
+    }
+
     /// The command to it that has no answer yet.
     pub fn outstanding(&self) -> Option<Message>
-        ensures { result ≡ outstanding_of (row_seen self.now.dead self.now.row) }
+        ensures { result ≡ outstanding_of (row_seen self.now.row) }
     {
         match &self.row {
             Some(row) => row.outstanding,
@@ -73,8 +110,8 @@ impl Client {
     /// # Errors
     /// `NoMemory` where a request for memory was refused; all stays as it was.
     pub fn give(&mut self, span: Span, mode: Mode, command: Message) -> Result<(), NoMemory>
-        requires { IfSome (row_seen self.old.dead self.old.row) (λ row. row.number < greatest_number) }
-        ensures row { OnOk result (row_seen self.new.dead self.new.row ≡ option_map (given span mode command) (row_seen self.old.dead self.old.row)) }
+        requires { IfSome (row_seen self.old.row) (λ row. row.number < greatest_number) }
+        ensures row { OnOk result (row_seen self.new.row ≡ option_map (given span mode command) (row_seen self.old.row)) }
         ensures dead { self.new.dead ≡ self.old.dead }
         ensures err { OnErr result (self.new ≡ self.old) }
     {

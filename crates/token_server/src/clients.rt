@@ -6,8 +6,9 @@ ghost use Rattle.model.specs.Limits.{IsNumber};
 ghost use Rattle.messages.specs.Messages.{greatest_number};
 ghost use Rattle.token_server.specs.State.{empty_row, row_above};
 ghost use Rattle.token_server.specs.Serve.{row_conflicts, row_conflicts_at};
-ghost use Rattle.token_server.specs.Parts.{row_state, rows_of, deaths_of, answered, given, with_change, SameClients};
+ghost use Rattle.token_server.specs.Parts.{row_state, rows_of, deaths_of, answered, relieved, told, given, with_change, SameClients};
 ghost use Rattle.token_server.specs.Resends.{outstanding_to};
+ghost use Rattle.token_server.specs.Server.{row_of_incarnation};
 
 use crate::client::Client;
 use crate::row::Row;
@@ -15,6 +16,7 @@ use intervals::span::Span;
 use intervals::span_map::NoMemory;
 use messages::items::Items;
 use messages::message::Message;
+use model::host::Host;
 use model::mode::Mode;
 use std::alloc::Global;
 use std::marker::Model;
@@ -93,16 +95,29 @@ impl Clients {
         self.clients[usize::from(node) - 1].dead
     }
 
-    /// The row of a node, of the incarnation after the dead ones.
+    /// The row of a node.
     pub fn row(&self, node: u8) -> Option<&Row>
         requires { 1 ≤ node }
-        ensures row { MatchOption result (rows_of self.now node ≡ None) (λ row. rows_of self.now node ≡ Some (row_state (deaths_of self.now node + 1) row.now)) }
+        ensures row { MatchOption result (rows_of self.now node ≡ None) (λ row. rows_of self.now node ≡ Some (row_state row.now)) }
         ensures within { OnSome result (node ≤ length self.now) }
     {
         if usize::from(node) > self.clients.len() {
             return None;
         }
         self.clients[usize::from(node) - 1].row.as_ref()
+    }
+
+    /// The row of a node, if it is of that incarnation.
+    pub fn row_of(&self, host: Host) -> Option<&Row>
+        ensures row { MatchOption result (row_of_incarnation host.incarnation (rows_of self.now host.node) ≡ None) (λ row. row_of_incarnation host.incarnation (rows_of self.now host.node) ≡ Some (row_state row.now)) }
+        ensures same { IfSome result (λ row. rows_of self.now host.node ≡ Some (row_state row.now)) }
+    {
+        let row = self.row(host.node)?;
+        if row.incarnation == host.incarnation {
+            Some(row)
+        } else {
+            None
+        }
     }
 
     /// Whether the row of a node conflicts with the mode at some byte of the span.
@@ -142,14 +157,15 @@ impl Clients {
         self.clients[usize::from(node) - 1].forget(incarnation);
     }
 
-    /// A row of the incarnation after the dead ones, that has got no command yet.
-    pub fn add_row(&mut self, alloc: Global, node: u8)
-        requires { IsNumber (length self.old) node }
-        ensures rows { rows_of self.new ≡ with_change node (λ row. Some (empty_row (deaths_of self.old node + 1))) (rows_of self.old) }
+    /// A row of the node in that incarnation, which has got no command yet.
+    pub fn add_row(&mut self, alloc: Global, node: u8, incarnation: u16)
+        requires node_in { IsNumber (length self.old) node }
+        requires counted { 1 ≤ incarnation }
+        ensures rows { rows_of self.new ≡ with_change node (λ row. Some (empty_row incarnation)) (rows_of self.old) }
         ensures deaths { deaths_of self.new ≡ deaths_of self.old }
         ensures len { length self.new ≡ length self.old }
     {
-        self.clients[usize::from(node) - 1].add_row(alloc);
+        self.clients[usize::from(node) - 1].add_row(alloc, incarnation);
     }
 
     /// The command to the node is answered.
@@ -160,6 +176,20 @@ impl Clients {
         ensures len { length self.new ≡ length self.old }
     {
         self.clients[usize::from(node) - 1].answer();
+    }
+
+    /// The command to the node is answered: it gave up the span for the mode.
+    ///
+    /// # Errors
+    /// `NoMemory` where a request for memory was refused; all stays as it was.
+    pub fn release(&mut self, node: u8, span: Span, mode: Mode) -> Result<(), NoMemory>
+        requires { IsNumber (length self.old) node }
+        ensures rows { OnOk result (rows_of self.new ≡ with_change node (option_map (relieved span mode)) (rows_of self.old)) }
+        ensures deaths { OnOk result (deaths_of self.new ≡ deaths_of self.old) }
+        ensures len { OnOk result (length self.new ≡ length self.old) }
+        ensures err { OnErr result (self.new ≡ self.old) }
+    {
+        self.clients[usize::from(node) - 1].release(span, mode)
     }
 
     /// The commands that have no answer yet, by rising node.
@@ -176,6 +206,17 @@ impl Clients {
             }
         }
         Ok(commands)
+    }
+
+    /// The next command to the node, which leaves its token as it is.
+    pub fn tell(&mut self, node: u8, command: Message)
+        requires node_in { IsNumber (length self.old) node }
+        requires room { IfSome (rows_of self.old node) (λ row. row.number < greatest_number) }
+        ensures rows { rows_of self.new ≡ with_change node (option_map (told command)) (rows_of self.old) }
+        ensures deaths { deaths_of self.new ≡ deaths_of self.old }
+        ensures len { length self.new ≡ length self.old }
+    {
+        self.clients[usize::from(node) - 1].tell(command);
     }
 
     /// The next command to the node, which gives it the span in the mode.

@@ -18,6 +18,17 @@ pub struct Held {
 }
 
 impl Held {
+    pub(crate) fn new(call: CallId, urgency: Urgency, mode: Mode, wanted: Wanted) -> Held
+        ensures { result ≡ record { call = call; urgency = urgency; mode = mode; wanted = wanted } }
+    {
+        Held {
+            call,
+            urgency,
+            mode,
+            wanted,
+        }
+    }
+
     /// Whether the request is of the call.
     pub(crate) fn is_of_call(&self, call: CallId) -> bool
         ensures { result ≡ is_of_call call self.now }

@@ -5,6 +5,7 @@ mod client;
 mod clients;
 pub mod event;
 pub mod held;
+pub mod laws;
 mod requests;
 mod row;
 pub mod server;

@@ -1,15 +1,16 @@
 //! The token server of a file.
-ghost use Rattle.std.specs.Prelude.{◌≡◌, ◌≢◌, ◌+◌, ◌<◌, ◌≤◌, ◌↔◌, not, ◌&&◌, ◌||◌, ◌==◌, if◌then◌else◌, IsTrue, IsFalse, false, IsSome, IfSome, IfNone, IfOk, IfErr, OnOk, [], ◌∷◌, Some, None, Ok, Err};
+ghost use Rattle.std.specs.Prelude.{◌≡◌, ◌≢◌, ◌+◌, ◌<◌, ◌≤◌, ◌↔◌, not, ◌&&◌, ◌||◌, ◌==◌, if◌then◌else◌, IsTrue, IsFalse, false, IsSome, IsNone, IfSome, IfOk, IfErr, OnOk, MatchOption, [], ◌∷◌, Some, None, Ok, Err};
 ghost use Rattle.std.specs.List.{list_any};
 ghost use Rattle.std.specs.Option.{option_map};
-ghost use Rattle.model.specs.Limits.{IsNumber};
+ghost use Rattle.model.specs.Limits.{IsNumber, most_nodes};
+ghost use Rattle.model.specs.Owners.{host_of_call};
 ghost use Rattle.intervals.specs.Bytes.{largest_around};
-ghost use Rattle.messages.specs.Messages.{greatest_number, addressee, call_of, is_within};
+ghost use Rattle.messages.specs.Messages.{greatest_number, addressee, host_of, is_within};
 ghost use Rattle.token_server.specs.State.{first_server, is_of_call, is_up_to, unless, with_row, forgotten};
-ghost use Rattle.token_server.specs.Serve.{admitted, row_conflicts, row_conflicts_at, granted_span, conflicting_node, granted_to, serve};
-ghost use Rattle.token_server.specs.Resends.{outstanding, resend_rule};
-ghost use Rattle.token_server.specs.Server.{server_rule, with_a_row, is_active, enqueued, asked, is_grant, taken_if, delivered, is_server};
-ghost use Rattle.token_server.specs.Parts.{server_state, rows_of, deaths_of, given};
+ghost use Rattle.token_server.specs.Serve.{admitted, row_conflicts, row_conflicts_at, granted_span, conflicting_node, granted_to, revoked_from, serve};
+ghost use Rattle.token_server.specs.Resends.{outstanding, sending_first, resend_rule};
+ghost use Rattle.token_server.specs.Server.{server_rule, with_a_row, is_active, enqueued, asked, denial, row_of_host, revoked_mode, taken, released, in_conflict, delivered, is_server};
+ghost use Rattle.token_server.specs.Parts.{server_state, rows_of, deaths_of, told, given};
 
 use crate::clients::Clients;
 use crate::event::ServerEvent;
@@ -19,11 +20,14 @@ use intervals::span::Span;
 use intervals::span_map::NoMemory;
 use messages::actor::Actor;
 use messages::items::Items;
-use messages::message::Message;
+use messages::message::{Message, Urgency};
 use messages::outcome::Outcome;
 use messages::refusal::StepError;
 use messages::shape::Shape;
 use model::call::CallId;
+use model::host::Host;
+use model::lock_info::LockInfo;
+use model::mode::Mode;
 use std::alloc::Global;
 use std::marker::Model;
 
@@ -109,12 +113,11 @@ impl Server {
 
     // A row for the call's node where there is none.
     fn add_row(&mut self, alloc: Global, call: CallId)
-        requires node_in { IsNumber self.old.shape.nodes call.node }
-        requires next { deaths_of self.old.clients call.node + 1 ≡ call.incarnation }
+        requires { IsNumber self.old.shape.nodes call.node }
         ensures { server_state self.new ≡ with_a_row (server_state self.old) call (rows_of self.old.clients call.node) }
     {
         if self.clients.row(call.node).is_none() {
-            self.clients.add_row(alloc, call.node);
+            self.clients.add_row(alloc, call.node, call.incarnation);
         }
     }
 
@@ -138,8 +141,7 @@ impl Server {
 
     // Takes a request: older incarnations of its node are dead, and there is a row from now on.
     fn ask(&mut self, alloc: Global, request: Held) -> Result<(), NoMemory>
-        requires node_in { IsNumber self.old.shape.nodes request.call.node }
-        requires alive { deaths_of self.old.clients request.call.node < request.call.incarnation }
+        requires { IsNumber self.old.shape.nodes request.call.node }
         ensures { OnOk result (server_state self.new ≡ asked (server_state self.old) request) }
     {
         let call = request.call;
@@ -148,31 +150,76 @@ impl Server {
         self.enqueue(request)
     }
 
-    // Whether the row of the call's node is of its incarnation and waits for an answer with this
-    // number.
-    fn awaits(&self, call: CallId, number: u32) -> bool
-        requires { IsNumber self.now.shape.nodes call.node }
-        ensures row { IfSome (rows_of self.now.clients call.node) (λ row. result ≡ ((row.incarnation == call.incarnation) && is_grant number row.outstanding)) }
-        ensures none { IfNone (rows_of self.now.clients call.node) (IsFalse result) }
+    // The mode that the command with that number revokes, if it is under way to that holder.
+    fn revoked_mode(&self, number: u32, holder: Host) -> Option<Mode>
+        ensures { MatchOption (row_of_host (server_state self.now) holder) (result ≡ None) (λ row. result ≡ revoked_mode number row.outstanding) }
     {
-        let Some(row) = self.clients.row(call.node) else {
-            return false;
-        };
-        self.clients.dead(call.node) == call.incarnation - 1 && is_grant(&row.outstanding, number)
+        self.clients.row_of(holder)?.revoked_mode(number)
     }
 
-    // Takes an answer to a command, if it counts; then the request that it names is served no longer.
-    fn take_answer(&mut self, call: CallId, number: u32) -> bool
+    // Takes a node's answer to a Grant: the call's request is served no longer. What is sent, or `None`
+    // where the answer doesn't count.
+    fn take_taken(&mut self, alloc: Global, number: u32, call: CallId) -> Option<Items<Message>>
         requires { IsNumber self.old.shape.nodes call.node }
-        ensures state { taken_if (server_state self.old) call number (rows_of self.old.clients call.node) ≡ (if result then Some (server_state self.new) else None) }
-        ensures unchanged { IsFalse result → self.new ≡ self.old }
+        ensures state { taken (server_state self.old) number call (row_of_host (server_state self.old) (host_of_call call)) ≡ option_map (λ sends. (server_state self.new, sends)) result }
+        ensures unchanged { IsNone result → self.new ≡ self.old }
     {
-        if !self.awaits(call, number) {
-            return false;
+        if !self.clients.row_of(call.host())?.grants(number) {
+            return None;
         }
         self.clients.answer(call.node);
         self.active = unless_of_call(self.active, call);
-        true
+        Some(Items::new(alloc))
+    }
+
+    // Takes a holder's answer that it gave up a span. What is sent, or `None` where the answer doesn't
+    // count.
+    fn take_released(
+        &mut self,
+        alloc: Global,
+        number: u32,
+        holder: Host,
+        span: Span,
+    ) -> Result<Option<Items<Message>>, NoMemory>
+        requires { IsNumber self.old.shape.nodes holder.node }
+        ensures state { IfOk result (λ sends. released (server_state self.old) number holder span (row_of_host (server_state self.old) holder) ≡ option_map (λ sends. (server_state self.new, sends)) sends) }
+        ensures unchanged { IfOk result (λ sends. IsNone sends → self.new ≡ self.old) }
+    {
+        let Some(mode) = self.revoked_mode(number, holder) else {
+            return Ok(None);
+        };
+        self.clients.release(holder.node, span, mode)?;
+        Ok(Some(Items::new(alloc)))
+    }
+
+    // Takes a holder's answer that a lock is in the way: the call's request is served no longer. What is
+    // sent, or `None` where the answer doesn't count.
+    fn take_conflict(
+        &mut self,
+        alloc: Global,
+        number: u32,
+        holder: Host,
+        call: CallId,
+        lock: LockInfo,
+    ) -> Result<Option<Items<Message>>, NoMemory>
+        requires { IsNumber self.old.shape.nodes holder.node }
+        ensures state { IfOk result (λ sends. in_conflict (server_state self.old) number holder call lock (row_of_host (server_state self.old) holder) ≡ option_map (λ sends. (server_state self.new, sends)) sends) }
+        ensures unchanged { IfOk result (λ sends. IsNone sends → self.new ≡ self.old) }
+    {
+        if self.revoked_mode(number, holder).is_none() {
+            return Ok(None);
+        }
+        let deny = Message::Deny {
+            file: self.file,
+            call,
+            holder,
+            number,
+            lock,
+        };
+        let sends = denial(alloc, &self.active, call, &deny)?;
+        self.clients.answer(holder.node);
+        self.active = unless_of_call(self.active, call);
+        Ok(Some(sends))
     }
 
     // Serves the first of the queue where no request is served.
@@ -197,6 +244,7 @@ impl Server {
 
     // The least other node whose row conflicts with what the request needs.
     fn conflicting_node(&self, request: &Held) -> Option<u8>
+        ensures node_in { IfSome result (λ node. IsNumber self.now.shape.nodes node × IsNumber most_nodes node) }
         ensures within { IsSome result ↔ (conflicting_node (server_state self.now) request.now ≤ self.now.shape.nodes) }
         ensures value { IfSome result (λ node. node ≡ conflicting_node (server_state self.now) request.now) }
     {
@@ -226,7 +274,7 @@ impl Server {
     }
 
     // Sends the request's node the next command, which gives it the span.
-    fn send(
+    fn give(
         &mut self,
         alloc: Global,
         request: &Held,
@@ -250,28 +298,71 @@ impl Server {
         ensures ok { IfOk result (λ sends. granted_to (server_state self.old) request.now (rows_of self.old.clients request.now.call.node) ≡ Ok (server_state self.new, sends)) }
         ensures err { IfErr result (λ e. e ≢ StepError.NoMemory → granted_to (server_state self.old) request.now (rows_of self.old.clients request.now.call.node) ≡ Err e) }
     {
-        let node = request.call.node;
-        let Some(row) = self.clients.row(node) else {
+        let Some(row) = self.clients.row(request.call.node) else {
             return Ok(Items::new(alloc));
         };
-        if row.outstanding.is_some() {
+        let Some(number) = row.next_number()? else {
             return Ok(Items::new(alloc));
-        }
-        if row.number == u32::MAX {
-            return Err(StepError::Spent);
-        }
+        };
         let span = self.granted_span(request);
         let command = Message::Grant {
             file: self.file,
-            number: row.number + 1,
+            number,
             call: request.call,
             mode: request.mode,
             span,
         };
-        Ok(self.send(alloc, request, span, &command)?)
+        Ok(self.give(alloc, request, span, &command)?)
     }
 
-    // Serves a request: it is granted, unless another node's row conflicts with it.
+    // Sends a node the next command, which leaves its token as it is.
+    fn tell(
+        &mut self,
+        alloc: Global,
+        node: u8,
+        command: &Message,
+    ) -> Result<Items<Message>, NoMemory>
+        requires node_in { IsNumber self.old.shape.nodes node }
+        requires room { IfSome (rows_of self.old.clients node) (λ row. row.number < greatest_number) }
+        ensures state { OnOk result (server_state self.new ≡ with_row (server_state self.old) node (option_map (told command.now) (rows_of self.old.clients node))) }
+        ensures sends { IfOk result (λ sends. sends ≡ command.now ∷ []) }
+    {
+        let sends = Items::one(alloc, *command)?;
+        self.clients.tell(node, *command);
+        Ok(sends)
+    }
+
+    // Tells a node to give up what the request needs, unless a command to it is under way.
+    fn revoke(
+        &mut self,
+        alloc: Global,
+        node: u8,
+        request: &Held,
+    ) -> Result<Items<Message>, StepError>
+        requires node_in { IsNumber self.old.shape.nodes node × IsNumber most_nodes node }
+        ensures ok { IfOk result (λ sends. revoked_from (server_state self.old) request.now node (rows_of self.old.clients node) ≡ Ok (server_state self.new, sends)) }
+        ensures err { IfErr result (λ e. e ≢ StepError.NoMemory → revoked_from (server_state self.old) request.now node (rows_of self.old.clients node) ≡ Err e) }
+    {
+        let Some(row) = self.clients.row(node) else {
+            return Ok(Items::new(alloc));
+        };
+        let Some(number) = row.next_number()? else {
+            return Ok(Items::new(alloc));
+        };
+        let incarnation = row.incarnation;
+        let command = Message::Revoke {
+            file: self.file,
+            number,
+            holder: Host { node, incarnation },
+            call: request.call,
+            mode: request.mode,
+            wanted: request.wanted,
+        };
+        Ok(self.tell(alloc, node, &command)?)
+    }
+
+    // Serves a request: it is granted, but where other nodes' rows conflict with it, the token of the
+    // least such node is revoked first.
     fn serve(&mut self, alloc: Global) -> Result<Items<Message>, StepError>
         ensures ok { IfOk result (λ sends. serve (server_state self.old) ≡ Ok (server_state self.new, sends)) }
         ensures err { IfErr result (λ e. e ≢ StepError.NoMemory → serve (server_state self.old) ≡ Err e) }
@@ -280,20 +371,24 @@ impl Server {
         let Some(request) = self.active else {
             return Ok(Items::new(alloc));
         };
-        if self.conflicting_node(&request).is_some() {
-            return Ok(Items::new(alloc));
+        match self.conflicting_node(&request) {
+            Some(node) => self.revoke(alloc, node, &request),
+            None => self.grant(alloc, &request),
         }
-        self.grant(alloc, &request)
     }
 
-    // What a message changes before the server serves; whether it changes anything.
-    fn deliver(&mut self, alloc: Global, message: &Message) -> Result<bool, NoMemory>
-        requires node_in { IsNumber self.old.shape.nodes (call_of message.now).node }
-        requires alive { deaths_of self.old.clients (call_of message.now).node < (call_of message.now).incarnation }
-        ensures state { IfOk result (λ changes. delivered (server_state self.old) message.now ≡ (if changes then Some (server_state self.new) else None)) }
-        ensures unchanged { IfOk result (λ changes. IsFalse changes → self.new ≡ self.old) }
+    // What a message changes before the server serves. What is sent for it, or `None` where it does
+    // nothing at all.
+    fn deliver(
+        &mut self,
+        alloc: Global,
+        message: &Message,
+    ) -> Result<Option<Items<Message>>, NoMemory>
+        requires { IsNumber self.old.shape.nodes (host_of message.now).node }
+        ensures state { IfOk result (λ sends. delivered (server_state self.old) message.now ≡ option_map (λ sends. (server_state self.new, sends)) sends) }
+        ensures unchanged { IfOk result (λ sends. IsNone sends → self.new ≡ self.old) }
     {
-        match message {
+        match *message {
             Message::Request {
                 call,
                 urgency,
@@ -301,30 +396,50 @@ impl Server {
                 wanted,
                 ..
             } => {
-                self.ask(
-                    alloc,
-                    Held {
-                        call: *call,
-                        urgency: *urgency,
-                        mode: *mode,
-                        wanted: *wanted,
-                    },
-                )?;
-                Ok(true)
+                self.ask(alloc, Held::new(call, urgency, mode, wanted))?;
+                Ok(Some(Items::new(alloc)))
             }
-            Message::Taken { number, call, .. } => Ok(self.take_answer(*call, *number)),
-            Message::Grant { .. } => Ok(false),
+            Message::Taken { number, call, .. } => Ok(self.take_taken(alloc, number, call)),
+            Message::Released {
+                number,
+                holder,
+                span,
+                ..
+            } => self.take_released(alloc, number, holder, span),
+            Message::Conflict {
+                number,
+                holder,
+                call,
+                lock,
+                ..
+            } => self.take_conflict(alloc, number, holder, call, lock),
+            Message::Freed { .. } => Ok(Some(Items::new(alloc))),
+            Message::Grant { .. } | Message::Revoke { .. } | Message::Deny { .. } => Ok(None),
         }
     }
 
     // Whether the message is for this server, from a node of the cluster.
     fn is_addressed_by(&self, message: &Message) -> bool
-        ensures { result ≡ (is_server self.now.file (addressee message.now) && is_within self.now.shape.nodes (call_of message.now).node) }
+        ensures { result ≡ (is_server self.now.file (addressee message.now) && is_within self.now.shape.nodes (host_of message.now).node) }
     {
         if message.addressee() != Actor::Server(self.file) {
             return false;
         }
-        message.call().node <= self.shape.nodes()
+        message.host().node <= self.shape.nodes()
+    }
+
+    // Serves after those messages were sent.
+    fn serve_after(
+        &mut self,
+        alloc: Global,
+        mut sends: Items<Message>,
+    ) -> Result<Outcome, StepError>
+        ensures ok { IfOk result (λ outcome. sending_first sends (serve (server_state self.old)) ≡ Ok (server_state self.new, outcome)) }
+        ensures err { IfErr result (λ e. e ≢ StepError.NoMemory → sending_first sends (serve (server_state self.old)) ≡ Err e) }
+    {
+        let served = self.serve(alloc)?;
+        sends.append(served)?;
+        Ok(Outcome::sending(sends))
     }
 
     // Takes a message.
@@ -335,14 +450,14 @@ impl Server {
         if !self.is_addressed_by(message) {
             return Err(StepError::Stranger);
         }
-        let call = message.call();
-        if call.incarnation <= self.clients.dead(call.node) {
+        let host = message.host();
+        if host.incarnation <= self.clients.dead(host.node) {
             return Ok(Outcome::sending(Items::new(alloc)));
         }
-        if !self.deliver(alloc, message)? {
+        let Some(sends) = self.deliver(alloc, message)? else {
             return Ok(Outcome::sending(Items::new(alloc)));
-        }
-        Ok(Outcome::sending(self.serve(alloc)?))
+        };
+        self.serve_after(alloc, sends)
     }
 
     // The commands that have no answer yet.
@@ -357,10 +472,8 @@ impl Server {
         ensures ok { IfOk result (λ outcome. resend_rule (server_state self.old) ≡ Ok (server_state self.new, outcome)) }
         ensures err { IfErr result (λ e. e ≢ StepError.NoMemory → resend_rule (server_state self.old) ≡ Err e) }
     {
-        let mut sends = self.outstanding(alloc)?;
-        let served = self.serve(alloc)?;
-        sends.append(served)?;
-        Ok(Outcome::sending(sends))
+        let commands = self.outstanding(alloc)?;
+        self.serve_after(alloc, commands)
     }
 
     /// What the server does at an event: the server after it, and what it sends.
@@ -419,13 +532,20 @@ fn is_active(active: &Option<Held>, call: CallId) -> bool
     }
 }
 
-// Whether the command is the Grant with that number.
-fn is_grant(command: &Option<Message>, number: u32) -> bool
-    ensures { result ≡ is_grant number command.now }
+// The denial of a call, where its request is the one that is served and may not wait.
+fn denial(
+    alloc: Global,
+    active: &Option<Held>,
+    call: CallId,
+    deny: &Message,
+) -> Result<Items<Message>, NoMemory>
+    ensures { IfOk result (λ sends. sends ≡ denial call deny.now active.now) }
 {
-    match command {
-        Some(Message::Grant { number: own, .. }) => *own == number,
-        _ => false,
+    match active {
+        Some(request) if request.is_of_call(call) && request.urgency == Urgency::Now => {
+            Items::one(alloc, *deny)
+        }
+        _ => Ok(Items::new(alloc)),
     }
 }
 

@@ -69,3 +69,13 @@ fn keeps_the_order_of_arrival(rt: HostRuntime) -> Result<(), Fail> {
     assert_eq!(rt; requests.take_first(), None);
     Ok(())
 }
+
+#[test]
+fn tells_orders_apart(rt: HostRuntime) -> Result<(), Fail> {
+    let requests = three(rt.alloc(), 9, 5)?;
+    let same = three(rt.alloc(), 9, 5)?;
+    let turned = three(rt.alloc(), 5, 9)?;
+    assert!(rt; requests.same(&same));
+    assert!(rt; !requests.same(&turned));
+    Ok(())
+}

@@ -5,9 +5,59 @@ use super::*;
 use intervals::span::GREATEST;
 use messages::message::Urgency;
 use messages::wanted::Wanted;
-use model::mode::Mode;
+use model::owner::{Kind, Owner};
 use model::policy::Policy;
 use std::test::Fail;
+
+const LOW: Span = Span { lo: 0, hi: 9 };
+
+const HIGH: Span = Span { lo: 200, hi: 299 };
+
+const ABOVE: Span = Span {
+    lo: 100,
+    hi: GREATEST,
+};
+
+const WHOLE: Span = Span {
+    lo: 0,
+    hi: GREATEST,
+};
+
+// A node that holds a token, its call, and its lock.
+const HOLDER: Host = Host {
+    node: 1,
+    incarnation: 1,
+};
+
+const HELD: CallId = CallId {
+    node: 1,
+    incarnation: 1,
+    number: 3,
+};
+
+const LOCK: LockInfo = LockInfo {
+    owner: Owner {
+        node: 1,
+        incarnation: 1,
+        kind: Kind::OfProcess,
+        number: 1,
+    },
+    mode: Mode::Read,
+    span: LOW,
+};
+
+// Calls of another node.
+const ASKS: CallId = CallId {
+    node: 2,
+    incarnation: 1,
+    number: 3,
+};
+
+const NEXT: CallId = CallId {
+    node: 2,
+    incarnation: 1,
+    number: 4,
+};
 
 // The server in a box. A test keeps no other, since one is dropped in fewer steps, each of which the
 // check proves.
@@ -16,7 +66,7 @@ fn boxed(alloc: Global, server: Server) -> Result<Box<Server>, StepError> {
 }
 
 fn new_server(alloc: Global) -> Result<Box<Server>, Fail> {
-    let shape = Shape::new(1, 4, Policy::Wide)?;
+    let shape = Shape::new(2, 4, Policy::Wide)?;
     Ok(boxed(alloc, Server::new(alloc, shape, 2)?)?)
 }
 
@@ -111,6 +161,83 @@ fn grants_one_request_after_the_other(rt: HostRuntime) -> Result<(), Fail> {
     Ok(())
 }
 
+// A request for those bytes, or, if it can be, for all.
+fn asks(call: CallId, mode: Mode, required: Span) -> ServerEvent {
+    let _ = &required.lo; // tells the proof that the span ends by the greatest offset
+    ServerEvent::Deliver(Message::Request {
+        file: 2,
+        call,
+        urgency: Urgency::Now,
+        mode,
+        wanted: Wanted {
+            required,
+            desired: WHOLE,
+        },
+    })
+}
+
+fn given(number: u32, call: CallId, mode: Mode, span: Span) -> Option<Message> {
+    Some(Message::Grant {
+        file: 2,
+        number,
+        call,
+        mode,
+        span,
+    })
+}
+
+fn revoke(number: u32, call: CallId, mode: Mode, required: Span) -> Message {
+    let _ = &required.lo; // tells the proof that the span ends by the greatest offset
+    Message::Revoke {
+        file: 2,
+        number,
+        holder: HOLDER,
+        call,
+        mode,
+        wanted: Wanted {
+            required,
+            desired: WHOLE,
+        },
+    }
+}
+
+fn released(number: u32, call: CallId, span: Span) -> ServerEvent {
+    ServerEvent::Deliver(Message::Released {
+        file: 2,
+        number,
+        holder: HOLDER,
+        call,
+        span,
+    })
+}
+
+fn conflict(number: u32, call: CallId) -> ServerEvent {
+    ServerEvent::Deliver(Message::Conflict {
+        file: 2,
+        number,
+        holder: HOLDER,
+        call,
+        lock: LOCK,
+    })
+}
+
+fn deny(call: CallId, number: u32) -> Message {
+    Message::Deny {
+        file: 2,
+        call,
+        holder: HOLDER,
+        number,
+        lock: LOCK,
+    }
+}
+
+fn freed() -> ServerEvent {
+    ServerEvent::Deliver(Message::Freed {
+        file: 2,
+        holder: HOLDER,
+    })
+}
+
 // Whether the event sends just that message and changes nothing.
 fn repeats(
     server: &Server,
@@ -155,15 +282,19 @@ fn refuses_messages_for_others(rt: HostRuntime) -> Result<(), Fail> {
     let alloc = rt.alloc();
     let server = new_server(alloc)?;
     let elsewhere = CallId {
-        node: 2,
+        node: 3,
         incarnation: 1,
         number: 1,
     };
     let stranger = Some(StepError::Stranger);
     assert_eq!(rt; refusal(&server, alloc, request(3, call(1, 1))), stranger);
     assert_eq!(rt; refusal(&server, alloc, request(2, elsewhere)), stranger);
-    let command = ServerEvent::Deliver(grant(1, call(1, 1)));
-    assert_eq!(rt; refusal(&server, alloc, command), stranger);
+    for command in [grant(1, HELD), revoke(1, ASKS, Mode::Read, LOW)] {
+        assert_eq!(rt;
+            refusal(&server, alloc, ServerEvent::Deliver(command)),
+            stranger
+        );
+    }
     Ok(())
 }
 
@@ -190,5 +321,98 @@ fn gives_no_number_past_the_greatest(rt: HostRuntime) -> Result<(), Fail> {
         Some(StepError::Spent)
     );
     assert!(rt; server.same(&before));
+    Ok(())
+}
+
+// A server of whose file node 1 has all bytes in the mode, by its first command.
+fn held(alloc: Global, mode: Mode) -> Result<Box<Server>, Fail> {
+    let mut server = new_server(alloc)?;
+    let _grant = sends(&mut server, alloc, asks(HELD, mode, LOW), None)?;
+    let _none = sends(&mut server, alloc, taken(1, HELD), None)?;
+    Ok(server)
+}
+
+#[test]
+fn grants_what_a_holder_gave_up(rt: HostRuntime) -> Result<(), Fail> {
+    let alloc = rt.alloc();
+    let mut server = held(alloc, Mode::Write)?;
+    let wants = asks(ASKS, Mode::Write, HIGH);
+    let revokes = revoke(2, ASKS, Mode::Write, HIGH);
+    let grants = given(1, ASKS, Mode::Write, ABOVE);
+    assert!(rt; sends(&mut server, alloc, wants, Some(revokes))?);
+    assert!(rt; stays(&server, alloc, wants)?);
+    assert!(rt; stays(&server, alloc, released(1, ASKS, ABOVE))?);
+    assert!(rt; repeats(&server, alloc, ServerEvent::Resend, revokes)?);
+    assert!(rt; sends(&mut server, alloc, released(2, ASKS, ABOVE), grants)?);
+    assert!(rt; stays(&server, alloc, released(2, ASKS, ABOVE))?);
+    Ok(())
+}
+
+#[test]
+fn a_revoke_for_read_leaves_a_shared_token(rt: HostRuntime) -> Result<(), Fail> {
+    let alloc = rt.alloc();
+    let mut server = held(alloc, Mode::Write)?;
+    let revokes = revoke(2, ASKS, Mode::Read, LOW);
+    let grants = given(1, ASKS, Mode::Read, WHOLE);
+    assert!(rt;
+        sends(
+            &mut server,
+            alloc,
+            asks(ASKS, Mode::Read, LOW),
+            Some(revokes)
+        )?
+    );
+    assert!(rt; sends(&mut server, alloc, released(2, ASKS, WHOLE), grants)?);
+    assert!(rt; sends(&mut server, alloc, taken(1, ASKS), None)?);
+    let again = revoke(3, NEXT, Mode::Write, LOW);
+    assert!(rt;
+        sends(
+            &mut server,
+            alloc,
+            asks(NEXT, Mode::Write, LOW),
+            Some(again)
+        )?
+    );
+    Ok(())
+}
+
+#[test]
+fn a_lock_in_the_way_denies_the_call(rt: HostRuntime) -> Result<(), Fail> {
+    let alloc = rt.alloc();
+    let mut server = held(alloc, Mode::Read)?;
+    let grants = given(1, ASKS, Mode::Read, WHOLE);
+    let revokes = revoke(2, NEXT, Mode::Write, LOW);
+    assert!(rt; sends(&mut server, alloc, asks(ASKS, Mode::Read, LOW), grants)?);
+    assert!(rt; sends(&mut server, alloc, taken(1, ASKS), None)?);
+    assert!(rt;
+        sends(
+            &mut server,
+            alloc,
+            asks(NEXT, Mode::Write, LOW),
+            Some(revokes)
+        )?
+    );
+    assert!(rt; stays(&server, alloc, freed())?);
+    assert!(rt; sends(&mut server, alloc, conflict(2, NEXT), Some(deny(NEXT, 2)))?);
+    assert!(rt; stays(&server, alloc, conflict(2, NEXT))?);
+    Ok(())
+}
+
+#[test]
+fn a_conflict_denies_no_other_call(rt: HostRuntime) -> Result<(), Fail> {
+    let alloc = rt.alloc();
+    let mut server = held(alloc, Mode::Write)?;
+    let revokes = revoke(2, NEXT, Mode::Write, LOW);
+    let again = revoke(3, NEXT, Mode::Write, LOW);
+    assert!(rt;
+        sends(
+            &mut server,
+            alloc,
+            asks(NEXT, Mode::Write, LOW),
+            Some(revokes)
+        )?
+    );
+    assert!(rt; sends(&mut server, alloc, conflict(2, ASKS), Some(again))?);
+    assert!(rt; sends(&mut server, alloc, conflict(3, NEXT), Some(deny(NEXT, 3)))?);
     Ok(())
 }

@@ -1,4 +1,4 @@
-use Rattle.std.specs.Prelude.{Some, ◌+◌}
+use Rattle.std.specs.Prelude.{Some}
 use Rattle.std.specs.Option.{option_map}
 use Rattle.std.proofs.Common.{ap, ◌∙◌, sym}
 use Rattle.token_server.specs.Parts.{row_seen, given}
@@ -6,5 +6,4 @@ use Rattle.token_server.proofs.client.Client.give.Goals as goal
 
 pub returns-in_ok-give-clause-row : goal.returns-in_ok-give-clause-row
 returns-in_ok-give-clause-row c =
-    let d = c.args.self.now.dead in
-    ap Some (c.in_ok-give.ensures.ok (d + 1)) ∙ ap (λ row. option_map (given c.args.span c.args.mode c.args.command) (row_seen d row)) (sym c.in-Some.is)
+    ap Some c.in_ok-give.ensures.ok ∙ ap (λ row. option_map (given c.args.span c.args.mode c.args.command) (row_seen row)) (sym c.in-Some.is)

@@ -1,0 +1,19 @@
+use Rattle.std.specs.Prelude.{◌-◌}
+use Rattle.std.specs.Option.{option_map}
+use Rattle.std.proofs.Common.{ap}
+use Rattle.token_server.specs.Parts.{told}
+use Rattle.token_server.proofs.ClientLaws.{rows_of-set, rows_of-read, deaths_of-set_same}
+use Rattle.token_server.proofs.clients.Clients.tell.Goals as goal
+
+pub tell-requires : goal.tell-requires
+tell-requires c =
+    let rows = rows_of-read _ c.args.node _ _ (rw c.self.view_is c.requires.node_in) (ap (λ n. n - 1) c.from.ensures) c.index_mut.ensures.value in
+    rw (← rows, c.self.view_is) c.requires.room
+
+pub returns-clause-rows : goal.returns-clause-rows
+returns-clause-rows c =
+    rw (← c.self.view_is) (rows_of-set _ c.args.node _ _ _ (option_map (told c.args.command)) (rw c.self.view_is c.requires.node_in) (ap (λ n. n - 1) c.from.ensures) c.index_mut.ensures.value c.tell.ensures.row)
+
+pub returns-clause-deaths : goal.returns-clause-deaths
+returns-clause-deaths c =
+    rw (← c.self.view_is) (deaths_of-set_same _ c.args.node _ _ _ (rw c.self.view_is c.requires.node_in) (ap (λ n. n - 1) c.from.ensures) c.index_mut.ensures.value c.tell.ensures.dead)
