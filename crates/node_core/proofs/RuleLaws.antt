@@ -39,7 +39,7 @@ use Rattle.node_core.specs.declared.open_call.OpenCall.{OpenCall}
 use Rattle.node_core.specs.declared.open_call.Intent.{Intent}
 use Rattle.node_core.specs.declared.open_call.Intent.TheVariants as intent
 use Rattle.node_core.specs.State.{FileState, NodeState, Effect, host, process, id_of, open_call_of, target_of, outcome}
-use Rattle.node_core.specs.Try.{requested, with_freed, locked_by, answered_here, tried_against}
+use Rattle.node_core.specs.Try.{settled, requested, may_free, with_freed, locked_by, answered_here, tried_against}
 use Rattle.node_core.specs.Calls.{is_pid, lock_call, after_call}
 use Rattle.node_core.specs.Commands.{answer_to, is_conflict, revoked}
 use Rattle.node_core.specs.Parts.{IsSpan}
@@ -106,7 +106,10 @@ with_freed-reply : (file : ℕ) (e : Effect) → (with_freed file e).reply ≡ e
 with_freed-reply file e = reply_if (e.state.files file).asked _ e refl
 
 locked_by-reply : (s : NodeState) (number : ℕ) (t : Target) (mode : Option Mode) → (locked_by s number t mode).reply ≡ Some (id_of s number, (lock_within s.table t mode).1)
-locked_by-reply s number t mode = reply_if _ _ _ (with_freed-reply t.file _)
+locked_by-reply s number t mode =
+    let answer = lock_within s.table t mode in
+    let e : Effect = settled s number answer in
+    reply_if (may_free mode answer.1) (with_freed t.file e) e (with_freed-reply t.file e)
 
 lock_within-done : (t : Table) (c : Target) (mode : Option Mode) → regions_with t c mode ≤ 1024 → (lock_within t c mode).1 ≡ Done
 lock_within-done t c mode h = taken (λ (a : Table × Reply). a.1 ≡ Done) (nat_le (regions_with t c mode) 1024) (locked t c mode, Done) (t, NoLocks) (le-leb _ _ h) refl
@@ -116,9 +119,9 @@ tried-done : (s : NodeState) (c : OpenCall) (r : Option LockInfo) → r ≡ None
 tried-done s c r none set covered few =
     ap (λ (r : Option LockInfo). (tried_against s c r).reply) none
     ∙ taken (λ (e : Effect). e.reply ≡ Some (id_of s c.number, Done)) (covers (s.files c.file).token c.span c.mode) (answered_here s c c.intent) (requested s c) covered (
-        ap (λ (i : Intent). (answered_here s c i).reply) set
-        ∙ locked_by-reply s c.number (target_of c) (Some c.mode)
-        ∙ ap (λ (a : Reply). Some (id_of s c.number, a)) (lock_within-done s.table (target_of c) (Some c.mode) few))
+    ap (λ (i : Intent). (answered_here s c i).reply) set
+    ∙ locked_by-reply s c.number (target_of c) (Some c.mode)
+    ∙ ap (λ (a : Reply). Some (id_of s c.number, a)) (lock_within-done s.table (target_of c) (Some c.mode) few))
 
 pub covered_set_is_done : CoveredSetIsDone
 covered_set_is_done s pid fd kind mode start len t may is own free covered few =
@@ -131,11 +134,11 @@ covered_set_is_done s pid fd kind mode start len t may is own free covered few =
     let none = sym (is_lowest_blocker (s.table.locks t.file) t.owner t.span mode None of_host about.span.ordered about.span.ends free) in
     let numbered : NodeState = record s { calls = s.calls + 1 } in
     let c : OpenCall = record { number = s.calls + 1; pid = pid; intent = intent.Set; file = t.file; owner = t.owner; mode = mode; span = t.span } in
-    let open : NodeState = record numbered { pending = s.pending ++ c ∷ [] } in
-    let done = ap (λ (r : Result Target Reply). (lock_call numbered (s.calls + 1) pid intent.Set mode r).reply) is ∙ tried-done open c _ none refl covered few in
+    let opened : NodeState = record numbered { pending = s.pending ++ c ∷ [] } in
+    let done = ap (λ (r : Result Target Reply). (lock_call numbered (s.calls + 1) pid intent.Set mode r).reply) is ∙ tried-done opened c _ none refl covered few in
     passed Q (is_pid pid && true) (Err Stranger) _ (and_from _ _ (and_from _ _ (le-leb _ _ may.pid_in.0) (le-leb _ _ may.pid_in.1)) refl) (
-      not_taken Q (is_some (open_call_of s pid)) (Err Busy) _ (ap is_some may.idle) (
-        taken Q (nat_lt s.calls 4294967295) (Ok (after_call s pid op)) (Err Spent) (lt-ltb _ _ may.left) done))
+    not_taken Q (is_some (open_call_of s pid)) (Err Busy) _ (ap is_some may.idle) (
+    taken Q (nat_lt s.calls 4294967295) (Ok (after_call s pid op)) (Err Spent) (lt-ltb _ _ may.left) done))
 
 -- a lowered level is in nobody's way
 lowered_level-apart : (x : Option Level) (mode : Mode) → level_conflicts (lowered_level x mode) mode ≡ false
@@ -152,7 +155,7 @@ gives-apart h node incarnation t mode required desired (Released s) own order cl
     none_passes-from (λ b. level_conflicts (lowered t s mode b) mode) required.lo (required.hi + 1 - required.lo) (λ b above below. lowered-apart t s mode b (within b above below))
   where
     within : (b : ℕ) → required.lo ≤ b → b < required.lo + (required.hi + 1 - required.lo) → is_in s b ≡ true
-    within b above below = and_from _ _ (le-leb _ _ (let k = given.1.has_first in omega arith)) (le-leb _ _ (let k = given.1.has_last in omega arith))
+    within b above below = and_from _ _ (le-leb s.lo b (let k : s.lo ≤ required.lo = given.1.has_first in omega arith)) (le-leb b s.hi (let k : required.hi ≤ s.hi = given.1.has_last in omega arith))
 
 pub clear_revoke_gives_up : ClearRevokeGivesUp
 clear_revoke_gives_up s file number call mode wanted within next own revocable clear =
@@ -164,7 +167,7 @@ clear_revoke_gives_up s file number call mode wanted within next own revocable c
     let done = revoked s file number call mode wanted in
     let file_done : FileState = record { token = after_giving_up (s.files file).token mode gives; last = number; answer = Some (answer_to file number (host s) call gives); asked = is_conflict gives || (s.files file).asked } in
     passed Q ((s.node == s.node) && is_within s.shape.files file) (Err Stranger) _ (and_from _ _ (eq-eqb s.node s.node refl) (and_from _ _ (le-leb _ _ within.0) (le-leb _ _ within.1))) (
-      taken Q (s.incarnation == s.incarnation) _ _ (eq-eqb s.incarnation s.incarnation refl) (
-        taken (λ (e : Effect). P (outcome None e)) (number == (s.files file).last + 1) done _ (eq-eqb _ _ next) (
-          taken (λ (f : FileState). conflicts f.token wanted.required mode ≡ false) (file == file) file_done (s.files file) (eq-eqb file file refl) (
-            gives-apart h s.node s.incarnation (s.files file).token mode wanted.required wanted.desired gives own revocable.ordered clear given))))
+    taken Q (s.incarnation == s.incarnation) _ _ (eq-eqb s.incarnation s.incarnation refl) (
+    taken (λ (e : Effect). P (outcome None e)) (number == (s.files file).last + 1) done _ (eq-eqb _ _ next) (
+    taken (λ (f : FileState). conflicts f.token wanted.required mode ≡ false) (file == file) file_done (s.files file) (eq-eqb file file refl) (
+    gives-apart h s.node s.incarnation (s.files file).token mode wanted.required wanted.desired gives own revocable.ordered clear given))))

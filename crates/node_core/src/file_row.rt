@@ -34,8 +34,8 @@ fn same_answers(one: &Option<Message>, other: &Option<Message>) -> bool
 }
 
 // Whether a lock was named as in the way.
-fn is_conflict(gives: GaveUp) -> bool
-    ensures { result ≡ is_conflict gives }
+fn is_conflict(gives: &GaveUp) -> bool
+    ensures { result ≡ is_conflict gives.now }
 {
     match gives {
         GaveUp::Released(_) => false,
@@ -57,8 +57,8 @@ impl FileRow {
     }
 
     /// The grant is done: the token is raised, and the answer is remembered.
-    pub fn take(&mut self, command: Command, span: Span) -> Result<(), AllocError>
-        ensures { OnOk result (state_of self.new ≡ granted_file (state_of self.old) command span) }
+    pub fn take(&mut self, command: &Command, span: Span) -> Result<(), AllocError>
+        ensures { OnOk result (state_of self.new ≡ granted_file (state_of self.old) command.now span) }
     {
         self.token.grant(span, command.mode)?;
         self.last = command.number;
@@ -70,20 +70,20 @@ impl FileRow {
     /// them is in the way, the answer is remembered, and the file is asked where one was named.
     pub fn revoke(
         &mut self,
-        command: Command,
+        command: &Command,
         holder: Host,
         wanted: Wanted,
         locks: &[LockInfo],
     ) -> Result<GaveUp, AllocError>
-        ensures answer { IfOk result (λ gives. IsGivenUp (Contains locks.now) command.mode wanted.required wanted.desired gives) }
-        ensures state { IfOk result (λ gives. state_of self.new ≡ revoked_file (state_of self.old) command holder gives) }
+        ensures answer { IfOk result (λ gives. IsGivenUp (Contains locks.now) command.now.mode wanted.required wanted.desired gives) }
+        ensures state { IfOk result (λ gives. state_of self.new ≡ revoked_file (state_of self.old) command.now holder gives) }
     {
         let gives = self
             .token
             .give_up(command.mode, wanted.required, wanted.desired, locks)?;
         self.last = command.number;
         self.answer = Some(command.answer(holder, gives));
-        self.asked = is_conflict(gives) || self.asked;
+        self.asked = is_conflict(&gives) || self.asked;
         Ok(gives)
     }
 

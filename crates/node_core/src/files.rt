@@ -60,9 +60,9 @@ pub fn file_of(files: &[FileRow], file: u16) -> &FileRow
 }
 
 /// The grant is done at its file.
-pub fn take_grant(files: &mut [FileRow], command: Command, span: Span) -> Result<(), AllocError>
-    requires { IsNumber (length files.old) command.file }
-    ensures { OnOk result (file_state files.new ≡ with_state (file_state files.old) command.file (granted_file (file_state files.old command.file) command span)) }
+pub fn take_grant(files: &mut [FileRow], command: &Command, span: Span) -> Result<(), AllocError>
+    requires { IsNumber (length files.old) command.now.file }
+    ensures { OnOk result (file_state files.new ≡ with_state (file_state files.old) command.now.file (granted_file (file_state files.old command.now.file) command.now span)) }
 {
     let row = &mut files[command.file as usize - 1];
     row.take(command, span)?;
@@ -72,14 +72,14 @@ pub fn take_grant(files: &mut [FileRow], command: Command, span: Span) -> Result
 /// The revoke is done at its file, by the holder's locks of the file.
 pub fn take_revoke(
     files: &mut [FileRow],
-    command: Command,
+    command: &Command,
     holder: Host,
     wanted: Wanted,
     locks: &[LockInfo],
 ) -> Result<GaveUp, AllocError>
-    requires { IsNumber (length files.old) command.file }
-    ensures answer { IfOk result (λ gives. IsGivenUp (Contains locks.now) command.mode wanted.required wanted.desired gives) }
-    ensures state { IfOk result (λ gives. file_state files.new ≡ with_state (file_state files.old) command.file (revoked_file (file_state files.old command.file) command holder gives)) }
+    requires { IsNumber (length files.old) command.now.file }
+    ensures answer { IfOk result (λ gives. IsGivenUp (Contains locks.now) command.now.mode wanted.required wanted.desired gives) }
+    ensures state { IfOk result (λ gives. file_state files.new ≡ with_state (file_state files.old) command.now.file (revoked_file (file_state files.old command.now.file) command.now holder gives)) }
 {
     let row = &mut files[command.file as usize - 1];
     let gives = row.revoke(command, holder, wanted, locks)?;

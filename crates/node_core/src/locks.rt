@@ -48,8 +48,8 @@ pub fn lock_reply(error: LockError) -> Result<Reply, AllocError>
 
 /// Whether locks of other nodes may have been in the way of what the bytes were before the reply: they
 /// are freed, or only read locks from then on.
-pub fn may_free(mode: Option<Mode>, reply: Reply) -> bool
-    ensures { result ≡ may_free mode reply }
+pub fn may_free(mode: Option<Mode>, reply: &Reply) -> bool
+    ensures { result ≡ may_free mode reply.now }
 {
     match (mode, reply) {
         (None | Some(Mode::Read), Reply::Done) => true,

@@ -42,17 +42,17 @@ impl Node {
     }
 
     // Whether the command is the one after the last that was done.
-    fn is_next(&self, command: Command) -> bool
-        requires { IsNumber (node_state self.now).shape.files command.file }
-        ensures { result ≡ (command.number == ((node_state self.now).files command.file).last + 1) }
+    fn is_next(&self, command: &Command) -> bool
+        requires { IsNumber (node_state self.now).shape.files command.now.file }
+        ensures { result ≡ (command.now.number == ((node_state self.now).files command.now.file).last + 1) }
     {
         command.number as u64 == self.last(command.file) as u64 + 1
     }
 
     // A command that is not the next one: the last one done is answered again, others do nothing.
-    fn take_out_of_order(&self, alloc: Global, command: Command) -> Result<Effect, AllocError>
-        requires { IsNumber (node_state self.now).shape.files command.file }
-        ensures { IfOk result (λ effect. out_of_order (node_state self.now) command.file command.number ≡ effect_of (node_state self.now) effect) }
+    fn take_out_of_order(&self, alloc: Global, command: &Command) -> Result<Effect, AllocError>
+        requires { IsNumber (node_state self.now).shape.files command.now.file }
+        ensures { IfOk result (λ effect. out_of_order (node_state self.now) command.now.file command.now.number ≡ effect_of (node_state self.now) effect) }
     {
         if command.number == self.last(command.file) && command.number >= 1 {
             return self.remembered(alloc, command.file);
@@ -62,17 +62,17 @@ impl Node {
 
     // The token is raised, the command is done, and the answer to it is remembered.
     #[tactic(auto, unfolding(crate::specs::Parts::node_state))]
-    fn raise(&mut self, command: Command, span: Span) -> Result<(), AllocError>
-        requires { IsNumber (node_state self.old).shape.files command.file }
-        ensures { OnOk result (node_state self.new ≡ after_grant (node_state self.old) command span) }
+    fn raise(&mut self, command: &Command, span: Span) -> Result<(), AllocError>
+        requires { IsNumber (node_state self.old).shape.files command.now.file }
+        ensures { OnOk result (node_state self.new ≡ after_grant (node_state self.old) command.now span) }
     {
         take_grant(&mut self.files, command, span)
     }
 
     // The token is raised, and the call that it was for is tried if it is still open.
-    fn grant(&mut self, alloc: Global, command: Command, span: Span) -> Result<Effect, AllocError>
-        requires { IsNumber (node_state self.old).shape.files command.file }
-        ensures { IfOk result (λ effect. granted (node_state self.old) command.file command.number command.call command.mode span ≡ effect_of (node_state self.new) effect) }
+    fn grant(&mut self, alloc: Global, command: &Command, span: Span) -> Result<Effect, AllocError>
+        requires { IsNumber (node_state self.old).shape.files command.now.file }
+        ensures { IfOk result (λ effect. granted (node_state self.old) command.now.file command.now.number command.now.call command.now.mode span ≡ effect_of (node_state self.new) effect) }
     {
         self.raise(command, span)?;
         let waiting = self.open_call(command.call.number);
@@ -84,11 +84,11 @@ impl Node {
     fn grant_in_order(
         &mut self,
         alloc: Global,
-        command: Command,
+        command: &Command,
         span: Span,
     ) -> Result<Effect, AllocError>
-        requires { IsNumber (node_state self.old).shape.files command.file }
-        ensures { IfOk result (λ effect. in_order (node_state self.old) command.file command.number (granted (node_state self.old) command.file command.number command.call command.mode span) ≡ effect_of (node_state self.new) effect) }
+        requires { IsNumber (node_state self.old).shape.files command.now.file }
+        ensures { IfOk result (λ effect. in_order (node_state self.old) command.now.file command.now.number (granted (node_state self.old) command.now.file command.now.number command.now.call command.now.mode span) ≡ effect_of (node_state self.new) effect) }
     {
         if !self.is_next(command) {
             return self.take_out_of_order(alloc, command);
@@ -98,10 +98,11 @@ impl Node {
 
     // The token is given up as far as no lock is in the way, the command is done, and the answer to
     // it is remembered.
-    fn give_up(&mut self, command: Command, wanted: Wanted) -> Result<GaveUp, AllocError>
-        requires { IsNumber (node_state self.old).shape.files command.file }
-        ensures answer { IfOk result (λ gives. gives ≡ gave_up ((node_state self.old).table.locks command.file) (node_state self.old).node (node_state self.old).incarnation command.mode wanted.required wanted.desired) }
-        ensures state { IfOk result (λ gives. node_state self.new ≡ after_revoke (node_state self.old) command gives) }
+    #[tactic(auto, unfolding(crate::specs::Parts::node_state))]
+    fn give_up(&mut self, command: &Command, wanted: Wanted) -> Result<GaveUp, AllocError>
+        requires { IsNumber (node_state self.old).shape.files command.now.file }
+        ensures answer { IfOk result (λ gives. gives ≡ gave_up ((node_state self.old).table.locks command.now.file) (node_state self.old).node (node_state self.old).incarnation command.now.mode wanted.required wanted.desired) }
+        ensures state { IfOk result (λ gives. node_state self.new ≡ after_revoke (node_state self.old) command.now gives) }
     {
         let _ = &wanted.required.lo; // tells the proof what each span keeps
         let locks = self.locks.locks(command.file)?;
@@ -114,11 +115,11 @@ impl Node {
     fn revoke(
         &mut self,
         alloc: Global,
-        command: Command,
+        command: &Command,
         wanted: Wanted,
     ) -> Result<Effect, AllocError>
-        requires { IsNumber (node_state self.old).shape.files command.file }
-        ensures { IfOk result (λ effect. revoked (node_state self.old) command.file command.number command.call command.mode wanted ≡ effect_of (node_state self.new) effect) }
+        requires { IsNumber (node_state self.old).shape.files command.now.file }
+        ensures { IfOk result (λ effect. revoked (node_state self.old) command.now.file command.now.number command.now.call command.now.mode wanted ≡ effect_of (node_state self.new) effect) }
     {
         let holder = self.host();
         let gives = self.give_up(command, wanted)?;
@@ -129,11 +130,11 @@ impl Node {
     fn revoke_in_order(
         &mut self,
         alloc: Global,
-        command: Command,
+        command: &Command,
         wanted: Wanted,
     ) -> Result<Effect, AllocError>
-        requires { IsNumber (node_state self.old).shape.files command.file }
-        ensures { IfOk result (λ effect. in_order (node_state self.old) command.file command.number (revoked (node_state self.old) command.file command.number command.call command.mode wanted) ≡ effect_of (node_state self.new) effect) }
+        requires { IsNumber (node_state self.old).shape.files command.now.file }
+        ensures { IfOk result (λ effect. in_order (node_state self.old) command.now.file command.now.number (revoked (node_state self.old) command.now.file command.now.number command.now.call command.now.mode wanted) ≡ effect_of (node_state self.new) effect) }
     {
         if !self.is_next(command) {
             return self.take_out_of_order(alloc, command);
@@ -190,7 +191,7 @@ impl Node {
                     call: *call,
                     mode: *mode,
                 };
-                self.grant_in_order(alloc, command, *span)
+                self.grant_in_order(alloc, &command, *span)
             }
             Message::Revoke {
                 file,
@@ -206,7 +207,7 @@ impl Node {
                     call: *call,
                     mode: *mode,
                 };
-                self.revoke_in_order(alloc, command, *wanted)
+                self.revoke_in_order(alloc, &command, *wanted)
             }
             Message::Deny { call, lock, .. } => {
                 let waiting = self.open_call(call.number);

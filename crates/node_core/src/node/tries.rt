@@ -1,5 +1,5 @@
 //! A node tries an open call about a lock.
-ghost use Rattle.std.specs.Prelude.{◌≡◌, ◌≤◌, IfOk, IfSome, Some};
+ghost use Rattle.std.specs.Prelude.{◌≡◌, ◌≤◌, false, IfOk, IfSome, Some};
 ghost use Rattle.model.specs.Limits.{IsNumber};
 ghost use Rattle.model.specs.Locks.{lowest_blocker};
 ghost use Rattle.model.specs.Table.{lock_within};
@@ -114,7 +114,7 @@ impl Node {
     {
         let reply = self.lock_within(target, mode)?;
         let effect = self.answer(alloc, number, reply);
-        if !may_free(mode, reply) {
+        if !may_free(mode, &reply) {
             return Ok(effect);
         }
         self.tell_freed(target.file, effect)
