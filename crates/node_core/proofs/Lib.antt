@@ -3,3 +3,4 @@ pub mod FileLaws
 pub mod CallLaws
 pub mod NodeLaws
 pub mod ReaderLaws
+pub mod RuleLaws

@@ -1,5 +1,5 @@
 -- A node's parts and its state.
-use Rattle.std.specs.Prelude.{◌≡◌, ℕ, zero, suc, ◌+◌, ◌-◌, ◌<◌, ◌≤◌, ◌&&◌, ◌==◌, Bool, true, false, nat_le, nat_lt, if◌then◌else◌, List, [], ◌∷◌, ◌++◌, Option, Some, None, Result, Ok, Err, All, IfOk, IfErr, IfSome, MatchOption, MatchResult, find, filter, length, ℤ, refl}
+use Rattle.std.specs.Prelude.{◌≡◌, ℕ, zero, suc, ◌+◌, ◌-◌, ◌<◌, ◌≤◌, ◌&&◌, ◌==◌, Bool, true, false, nat_le, nat_lt, if◌then◌else◌, List, [], ◌∷◌, ◌++◌, Option, Some, None, Result, Ok, Err, All, Contains, IfOk, IfErr, IfSome, MatchOption, MatchResult, find, filter, length, ℤ, refl}
 use Rattle.std.proofs.Common.{arith, ap, sym, subst, ◌∙◌, inl, inr}
 use Rattle.std.proofs.lemmas.Bool.{cases_Bool, and_parts, and_from, eq-eqb, eqb-true, le-leb, lt-leb, leb-true, both_ways}
 use Rattle.std.proofs.lemmas.Bool.Decides.{nat_tests}
@@ -29,9 +29,13 @@ use Rattle.model.specs.Table.{Table, Target, around, beside, with_processes, tar
 use Rattle.model.proofs.OwnerLaws.{owner_exact}
 use Rattle.lock_table.specs.declared.row.Row.{Row as LockRow}
 use Rattle.lock_table.specs.Rows.{held}
+use Rattle.lock_table.specs.Listing.{IsListing}
 use Rattle.lock_table.specs.declared.error.LockError.{LockError}
 use Rattle.lock_table.specs.declared.error.LockError.TheVariants as lock
 use Rattle.token_set.specs.Tokens.{Token, desired, holds_nothing}
+use Rattle.token_set.specs.Releases.{IsRevocable, IsGivenUp, gave_up}
+use Rattle.token_set.specs.declared.gave_up.GaveUp.{GaveUp}
+use Rattle.token_set.proofs.ReleaseLaws.{list_gives_up}
 use Rattle.std.specs.declared.alloc.AllocError.{AllocError}
 use Rattle.messages.specs.Shapes.{ShapeFields}
 use Rattle.node_core.specs.declared.descriptors.row.Row.{Row as ProcessRow}
@@ -266,6 +270,12 @@ node-blocker p c r own is x =
     let of_node : IsOfNode (held p.locks c.file) c.owner.node p.incarnation = subst (λ n. IsOfNode (held p.locks c.file) n p.incarnation) (sym own.own.of_node) (is.own c.file) in
     let of_host : IsOfNode (held p.locks c.file) c.owner.node c.owner.incarnation = subst (λ n. IsOfNode (held p.locks c.file) c.owner.node n) (sym own.own.of_incarnation) of_node in
     is_lowest_blocker (held p.locks c.file) c.owner c.span c.mode r of_host own.span.ordered own.span.ends x
+
+-- what a node gives up by the list of its locks
+pub node-gives : (p : NodeParts) (file : ℕ) (locks : List LockInfo) (mode : Mode) (required desired : Range) (gives : GaveUp) → IsNode p → IsListing (held p.locks file) locks → IsRevocable required desired → IsGivenUp (Contains locks) mode required desired gives → gives ≡ gave_up ((node_state p).table.locks file) (node_state p).node (node_state p).incarnation mode required desired
+unfolding node_state
+node-gives p file locks mode required desired gives is listing revocable given =
+    list_gives_up (held p.locks file) p.node p.incarnation locks mode required desired gives (is.own file) listing.regions listing.complete revocable given
 
 -- what a lock call of a process is about
 pub target-refused : (p : NodeParts) (pid : ℕ) (need : Option Mode) (fd : ℕ) (kind : Kind) (segment : Result Range SpanError) (e : FdError) → resolved (processes p.processes) pid fd ≡ Err e → target_in (around (node_state p).table (process (node_state p) pid)) (process (node_state p) pid) need fd kind segment ≡ Err (fd_reply e)

@@ -1,5 +1,5 @@
 -- What a node is made of, and the state that it is.
-use Rattle.std.specs.Prelude.{◌≡◌, ℕ, ◌≤◌, ◌<◌, Bool, ◌&&◌, ◌==◌, if◌then◌else◌, List, All, length, Option, Some, None}
+use Rattle.std.specs.Prelude.{◌≡◌, ℕ, ◌≤◌, ◌<◌, Bool, ◌&&◌, ◌||◌, ◌==◌, nat_le, if◌then◌else◌, List, All, length, Option, Some, None}
 use Rattle.intervals.specs.Bytes.{Range, greatest}
 use Rattle.model.specs.declared.access.Access.{Access}
 use Rattle.model.specs.declared.opened.Opened.{Opened}
@@ -13,6 +13,12 @@ use Rattle.lock_table.specs.declared.row.Row.{Row as LockRow}
 use Rattle.lock_table.specs.Rows.{held}
 use Rattle.messages.specs.Shapes.{ShapeFields}
 use Rattle.messages.specs.declared.message.Message.{Message}
+use Rattle.messages.specs.declared.message.Message.TheVariants.{Taken}
+use Rattle.model.specs.declared.host.Host.{Host}
+use Rattle.token_set.specs.Tokens.{raised}
+use Rattle.token_set.specs.Releases.{after_giving_up}
+use Rattle.token_set.specs.declared.gave_up.GaveUp.{GaveUp}
+use Rattle.node_core.specs.declared.command.Command.{Command}
 use Rattle.messages.specs.Messages.{addressee, file_of, is_within, greatest_number}
 use Rattle.node_core.specs.declared.descriptors.row.Row.{Row as ProcessRow}
 use Rattle.node_core.specs.declared.file_row.FileRow.{FileRow}
@@ -20,8 +26,8 @@ use Rattle.node_core.specs.declared.open_call.OpenCall.{OpenCall}
 use Rattle.node_core.specs.declared.effect.Effect.{Effect as EffectFields}
 use Rattle.node_core.specs.Rows.{processes}
 use Rattle.node_core.specs.Files.{file_state}
-use Rattle.node_core.specs.State.{NodeState, Effect, process, open_call}
-use Rattle.node_core.specs.Commands.{is_node}
+use Rattle.node_core.specs.State.{FileState, NodeState, Effect, with_file, quiet, host, process, open_call}
+use Rattle.node_core.specs.Commands.{remembered, answer_to, is_conflict, is_node}
 
 pub record NodeParts : Type 0 where
   pub shape : ShapeFields
@@ -105,3 +111,31 @@ IsCallOf s c = IsOwnCall s.shape.files s.node s.incarnation c
 pub record IsNewNumber (s : NodeState) (number : ℕ) : Type 0 where
   pub given : number ≤ s.calls
   pub free : open_call s number ≡ None
+
+-- what the grant makes of the node's knowledge of the file
+abbrev pub granted_file : FileState → Command → Range → FileState
+granted_file f c span = record { token = raised f.token span c.mode; last = c.number; answer = Some (Taken c.file c.number c.call); asked = f.asked }
+
+-- what the revoke makes of it, where the holder gives this up
+abbrev pub revoked_file : FileState → Command → Host → GaveUp → FileState
+revoked_file f c holder gives =
+    record { token = after_giving_up f.token c.mode gives; last = c.number; answer = Some (answer_to c.file c.number holder c.call gives); asked = is_conflict gives || f.asked }
+
+-- the files, but this of one of them
+abbrev pub with_state : (ℕ → FileState) → ℕ → FileState → ℕ → FileState
+with_state files file state f = if f == file then state else files f
+
+-- the node after a command
+abbrev pub after_grant : NodeState → Command → Range → NodeState
+after_grant s c span = with_file s c.file (granted_file (s.files c.file) c span)
+
+abbrev pub after_revoke : NodeState → Command → GaveUp → NodeState
+after_revoke s c gives = with_file s c.file (revoked_file (s.files c.file) c (host s) gives)
+
+-- a command that is not the next one: the last one done is answered again, others do nothing
+abbrev pub out_of_order : NodeState → ℕ → ℕ → Effect
+out_of_order s file number = if (number == (s.files file).last) && nat_le 1 number then remembered s (s.files file).answer else quiet s
+
+-- the node with the file asked or not
+abbrev pub with_asked : NodeState → ℕ → Bool → NodeState
+with_asked s file asked = with_file s file (record (s.files file) { asked = asked })

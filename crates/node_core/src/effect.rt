@@ -1,5 +1,5 @@
 //! What a step gives.
-ghost use Rattle.std.specs.Prelude.{◌≡◌, None, [], ◌∷◌, IfOk};
+ghost use Rattle.std.specs.Prelude.{◌≡◌, None, [], ◌∷◌, ◌++◌, IfOk};
 
 use messages::items::Items;
 use messages::message::Message;
@@ -42,6 +42,18 @@ impl Effect {
     {
         let mut sends = Items::one(alloc, first)?;
         sends.append(self.sends)?;
+        Ok(Effect {
+            reply: self.reply,
+            sends,
+        })
+    }
+
+    /// The message is sent after the others.
+    pub fn before(self, last: Message) -> Result<Effect, AllocError>
+        ensures { IfOk result (λ effect. effect ≡ record { reply = self.reply; sends = self.sends ++ last ∷ [] }) }
+    {
+        let mut sends = self.sends;
+        sends.push(last)?;
         Ok(Effect {
             reply: self.reply,
             sends,

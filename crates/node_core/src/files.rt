@@ -1,17 +1,19 @@
 //! The files of a node.
-ghost use Rattle.std.specs.Prelude.{◌≡◌, ◌≤◌, ◌↔◌, ◌==◌, if◌then◌else◌, IfOk, OnOk, IsTrue, Some, length};
+ghost use Rattle.std.specs.Prelude.{◌≡◌, ◌↔◌, false, IfOk, OnOk, IsTrue, Contains, length};
 ghost use Rattle.model.specs.Limits.{IsNumber};
-ghost use Rattle.token_set.specs.Tokens.{raised};
-ghost use Rattle.messages.specs.declared.message.Message.TheVariants.{Taken};
+ghost use Rattle.token_set.specs.Releases.{IsGivenUp};
 ghost use Rattle.node_core.specs.State.{first_file};
 ghost use Rattle.node_core.specs.Files.{state_of, file_state};
+ghost use Rattle.node_core.specs.Parts.{with_state, granted_file, revoked_file};
 
+use crate::command::Command;
 use crate::file_row::FileRow;
 use intervals::span::Span;
-use messages::items::Items;
-use model::call::CallId;
-use model::mode::Mode;
+use messages::wanted::Wanted;
+use model::host::Host;
+use model::lock_info::LockInfo;
 use std::alloc::{AllocError, Global};
+use token_set::gave_up::GaveUp;
 
 /// So many files of which nothing is known.
 pub fn new_files(alloc: Global, count: u16) -> Result<Vec<FileRow>, AllocError>
@@ -57,19 +59,38 @@ pub fn file_of(files: &[FileRow], file: u16) -> &FileRow
     &files[file as usize - 1]
 }
 
-/// The grant with that number is done at the file.
-pub fn take_grant(
+/// The grant is done at its file.
+pub fn take_grant(files: &mut [FileRow], command: &Command, span: Span) -> Result<(), AllocError>
+    requires { IsNumber (length files.old) command.now.file }
+    ensures { OnOk result (file_state files.new ≡ with_state (file_state files.old) command.now.file (granted_file (file_state files.old command.now.file) command.now span)) }
+{
+    let row = &mut files[command.file as usize - 1];
+    row.take(command, span)?;
+    Ok(())
+}
+
+/// The revoke is done at its file, by the holder's locks of the file.
+pub fn take_revoke(
     files: &mut [FileRow],
-    file: u16,
-    number: u32,
-    call: CallId,
-    mode: Mode,
-    span: Span,
-) -> Result<(), AllocError>
+    command: &Command,
+    holder: Host,
+    wanted: Wanted,
+    locks: &[LockInfo],
+) -> Result<GaveUp, AllocError>
+    requires { IsNumber (length files.old) command.now.file }
+    ensures answer { IfOk result (λ gives. IsGivenUp (Contains locks.now) command.now.mode wanted.required wanted.desired gives) }
+    ensures state { IfOk result (λ gives. file_state files.new ≡ with_state (file_state files.old) command.now.file (revoked_file (file_state files.old command.now.file) command.now holder gives)) }
+{
+    let row = &mut files[command.file as usize - 1];
+    let gives = row.revoke(command, holder, wanted, locks)?;
+    Ok(gives)
+}
+
+/// The file is asked no longer.
+pub fn clear_asked(files: &mut [FileRow], file: u16)
     requires { IsNumber (length files.old) file }
-    ensures { OnOk result (file_state files.new ≡ (λ f. if f == file then record { token = raised (file_state files.old file).token span mode; last = number; answer = Some (Taken file number call) } else file_state files.old f)) }
+    ensures { file_state files.new ≡ with_state (file_state files.old) file (record (file_state files.old file) { asked = false }) }
 {
     let row = &mut files[file as usize - 1];
-    row.take(file, number, call, mode, span)?;
-    Ok(())
+    row.clear_asked();
 }

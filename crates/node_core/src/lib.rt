@@ -1,11 +1,13 @@
 //! A node: its processes, their locks and open calls, and its tokens.
 #![tactic(auto)]
 
+pub mod command;
 pub mod descriptors;
 pub mod effect;
 pub mod event;
 pub mod file_row;
 mod files;
+pub mod laws;
 mod locks;
 pub mod node;
 mod numbers;

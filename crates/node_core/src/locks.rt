@@ -4,6 +4,7 @@ ghost use Rattle.intervals.specs.Bytes.{put};
 ghost use Rattle.model.specs.Limits.{most_regions};
 ghost use Rattle.model.specs.Locks.{with_lock, regions};
 ghost use Rattle.lock_table.specs.Rows.{held};
+ghost use Rattle.node_core.specs.Try.{may_free};
 
 use lock_table::error::LockError;
 use lock_table::lock_table::LockTable;
@@ -42,5 +43,16 @@ pub fn lock_reply(error: LockError) -> Result<Reply, AllocError>
     match error {
         LockError::NoLocks => Ok(Reply::NoLocks),
         LockError::NoMemory => Err(AllocError),
+    }
+}
+
+/// Whether locks of other nodes may have been in the way of what the bytes were before the reply: they
+/// are freed, or only read locks from then on.
+pub fn may_free(mode: Option<Mode>, reply: &Reply) -> bool
+    ensures { result ≡ may_free mode reply.now }
+{
+    match (mode, reply) {
+        (None | Some(Mode::Read), Reply::Done) => true,
+        _ => false,
     }
 }

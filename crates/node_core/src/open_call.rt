@@ -1,9 +1,14 @@
 //! Open calls.
 ghost use Rattle.std.specs.Prelude.{◌≡◌, ◌↔◌, IsTrue};
+ghost use Rattle.node_core.specs.State.{target_of};
+ghost use Rattle.node_core.specs.Try.{refusal_of};
 
 use intervals::span::Span;
+use model::lock_call::LockCall;
+use model::lock_info::LockInfo;
 use model::mode::Mode;
 use model::owner::Owner;
+use model::reply::Reply;
 
 /// What an open call asks for: the lock, or whether it would be free.
 #[derive(Clone, Copy, Debug, PartialEq, Eq)]
@@ -12,6 +17,18 @@ pub enum Intent {
     Set,
     /// Whether a lock is in the way, and which (POSIX.1-2017 `fcntl()`, F_GETLK).
     Query,
+}
+
+impl Intent {
+    /// The reply that names a lock in the way.
+    pub fn refusal(self, lock: LockInfo) -> Reply
+        ensures { result ≡ refusal_of self lock }
+    {
+        match self {
+            Intent::Set => Reply::Again(lock),
+            Intent::Query => Reply::Blocked(lock),
+        }
+    }
 }
 
 /// A call that has no reply yet: its number, its process, what it asks for, and the lock that it is
@@ -28,6 +45,17 @@ pub struct OpenCall {
 }
 
 impl OpenCall {
+    /// What the call is about.
+    pub fn target(&self) -> LockCall
+        ensures { result ≡ target_of self.now }
+    {
+        LockCall {
+            file: self.file,
+            owner: self.owner,
+            span: self.span,
+        }
+    }
+
     /// Whether both are one and the same call.
     pub fn same(&self, other: &OpenCall) -> bool
         ensures { IsTrue result ↔ (self.now ≡ other.now) }

@@ -2,7 +2,14 @@
 ghost use Rattle.std.specs.Prelude.{◌≤◌};
 
 use super::*;
-use intervals::span::GREATEST;
+use intervals::span::{GREATEST, Span};
+use messages::message::{Message, Urgency};
+use messages::wanted::Wanted;
+use model::access::Access;
+use model::lock_info::LockInfo;
+use model::mode::Mode;
+use model::op::Op;
+use model::owner::{Kind, Owner};
 use model::policy::Policy;
 use std::test::Fail;
 
@@ -17,6 +24,35 @@ const WHOLE: Span = Span {
 };
 
 const HUNDRED: Span = Span { lo: 0, hi: 99 };
+
+const HERE: Host = Host {
+    node: 1,
+    incarnation: 1,
+};
+
+// A call of another node.
+const OTHER_CALL: CallId = CallId {
+    node: 2,
+    incarnation: 1,
+    number: 7,
+};
+
+// A lock of a process on the hundred bytes from the first on.
+fn lock_of(node: u8, pid: u16) -> LockInfo
+    requires node { (1 ≤ node) × (node ≤ 64) }
+    requires pid { (1 ≤ pid) × (pid ≤ 256) }
+{
+    LockInfo {
+        owner: Owner {
+            node,
+            incarnation: 1,
+            kind: Kind::OfProcess,
+            number: pid,
+        },
+        mode: Mode::Write,
+        span: HUNDRED,
+    }
+}
 
 fn call(pid: u16, op: Op) -> NodeEvent {
     NodeEvent::Call { pid, op }
@@ -41,6 +77,29 @@ fn unlock_middle(pid: u16) -> NodeEvent {
         kind: Kind::OfProcess,
         start: 40,
         len: 20,
+    };
+    call(pid, op)
+}
+
+// A process asks for a lock on the ten bytes from that one on, or whether one would be free.
+fn set_ten(pid: u16, mode: Mode, start: i64) -> NodeEvent {
+    let op = Op::Set {
+        fd: 0,
+        kind: Kind::OfProcess,
+        mode,
+        start,
+        len: 10,
+    };
+    call(pid, op)
+}
+
+fn query_ten(pid: u16, start: i64) -> NodeEvent {
+    let op = Op::Query {
+        fd: 0,
+        kind: Kind::OfProcess,
+        mode: Mode::Write,
+        start,
+        len: 10,
     };
     call(pid, op)
 }
@@ -90,6 +149,65 @@ fn taken(command: u32, number: u32) -> Message
     }
 }
 
+// The server revokes the span for write from the node in its incarnation.
+fn revoke(command: u32, incarnation: u16, required: Span) -> NodeEvent
+    requires { 1 ≤ incarnation }
+{
+    let _ = &required.lo; // tells the proof what each span keeps
+    NodeEvent::Deliver(Message::Revoke {
+        file: 1,
+        number: command,
+        holder: Host {
+            node: 1,
+            incarnation,
+        },
+        call: OTHER_CALL,
+        mode: Mode::Write,
+        wanted: Wanted::new(required, WHOLE),
+    })
+}
+
+fn released(command: u32, span: Span) -> Message {
+    Message::Released {
+        file: 1,
+        number: command,
+        holder: HERE,
+        call: OTHER_CALL,
+        span,
+    }
+}
+
+fn conflict(command: u32, lock: LockInfo) -> Message {
+    Message::Conflict {
+        file: 1,
+        number: command,
+        holder: HERE,
+        call: OTHER_CALL,
+        lock,
+    }
+}
+
+// The call is denied for a lock of node 2.
+fn deny(number: u32, lock: LockInfo) -> NodeEvent
+    requires { 1 ≤ number }
+{
+    NodeEvent::Deliver(Message::Deny {
+        file: 1,
+        call: id(number),
+        holder: Host {
+            node: 2,
+            incarnation: 1,
+        },
+        number: 1,
+        lock,
+    })
+}
+
+const FREED: Message = Message::Freed {
+    file: 1,
+    holder: HERE,
+};
+
 // An event, and what it must come to: the call that it makes, the reply, the one message that is
 // sent, and whether the node is another after it.
 #[derive(Clone, Copy)]
@@ -121,6 +239,43 @@ fn opened(event: NodeEvent, number: u32, message: Message) -> Move
     Move {
         event,
         call: Some(id(number)),
+        reply: None,
+        message: Some(message),
+        changes: true,
+    }
+}
+
+// A call that is answered at once and sends Freed.
+fn freed(event: NodeEvent, number: u32) -> Move
+    requires { 1 ≤ number }
+{
+    Move {
+        event,
+        call: Some(id(number)),
+        reply: Some((id(number), Reply::Done)),
+        message: Some(FREED),
+        changes: true,
+    }
+}
+
+// An event that answers the open call.
+fn denied(event: NodeEvent, number: u32, reply: Reply) -> Move
+    requires { 1 ≤ number }
+{
+    Move {
+        event,
+        call: None,
+        reply: Some((id(number), reply)),
+        message: None,
+        changes: true,
+    }
+}
+
+// An event that changes the node and sends a message.
+fn sends(event: NodeEvent, message: Message) -> Move {
+    Move {
+        event,
+        call: None,
         reply: None,
         message: Some(message),
         changes: true,
@@ -262,6 +417,89 @@ fn a_retry_asks_again_with_its_own_number(rt: HostRuntime) -> Result<(), Fail> {
     Ok(())
 }
 
+#[test]
+fn a_query_names_a_lock_or_is_free_under_the_token(rt: HostRuntime) -> Result<(), Fail> {
+    let alloc = rt.alloc();
+    let ten = Span { lo: 200, hi: 209 };
+    let moves = [
+        answered(call(1, Op::Spawn), 1, Reply::Done),
+        answered(call(1, OPEN), 2, Reply::Fd(0)),
+        answered(call(2, Op::Spawn), 3, Reply::Done),
+        answered(call(2, OPEN), 4, Reply::Fd(0)),
+        opened(
+            lock_hundred(1),
+            5,
+            request(5, Wanted::new(HUNDRED, HUNDRED)),
+        ),
+        finished(grant(1, 5, HUNDRED), 5, taken(1, 5)),
+        answered(query_ten(2, 50), 6, Reply::Blocked(lock_of(1, 1))),
+        answered(query_ten(1, 50), 7, Reply::Free),
+        opened(query_ten(2, 200), 8, request(8, Wanted::new(ten, ten))),
+        denied(deny(8, lock_of(2, 1)), 8, Reply::Blocked(lock_of(2, 1))),
+    ];
+    let mut node = begins(alloc, Policy::Exact)?;
+    assert_eq!(rt; first_wrong(alloc, &mut node, &moves)?, None);
+    Ok(())
+}
+
+#[test]
+fn gives_up_what_no_lock_has(rt: HostRuntime) -> Result<(), Fail> {
+    let alloc = rt.alloc();
+    let above = Span {
+        lo: 100,
+        hi: GREATEST,
+    };
+    let ten = Span { lo: 200, hi: 209 };
+    let asked = request(
+        5,
+        Wanted::new(
+            ten,
+            Span {
+                lo: 200,
+                hi: GREATEST,
+            },
+        ),
+    );
+    let moves = [
+        answered(call(1, Op::Spawn), 1, Reply::Done),
+        answered(call(1, OPEN), 2, Reply::Fd(0)),
+        opened(lock_hundred(1), 3, request(3, Wanted::new(HUNDRED, WHOLE))),
+        finished(grant(1, 3, WHOLE), 3, taken(1, 3)),
+        quiet(revoke(2, 2, ten), None),
+        sends(revoke(2, 1, ten), released(2, above)),
+        quiet(revoke(2, 1, ten), Some(released(2, above))),
+        answered(unlock_middle(1), 4, Reply::Done),
+        opened(set_ten(1, Mode::Write, 200), 5, asked),
+        denied(deny(5, lock_of(2, 1)), 5, Reply::Again(lock_of(2, 1))),
+        quiet(deny(5, lock_of(2, 1)), None),
+    ];
+    let mut node = begins(alloc, Policy::Wide)?;
+    assert_eq!(rt; first_wrong(alloc, &mut node, &moves)?, None);
+    Ok(())
+}
+
+#[test]
+fn tells_once_that_locks_may_be_gone(rt: HostRuntime) -> Result<(), Fail> {
+    let alloc = rt.alloc();
+    let byte = Span { lo: 99, hi: 99 };
+    let named = lock_of(1, 1);
+    let moves = [
+        answered(call(1, Op::Spawn), 1, Reply::Done),
+        answered(call(1, OPEN), 2, Reply::Fd(0)),
+        opened(lock_hundred(1), 3, request(3, Wanted::new(HUNDRED, WHOLE))),
+        finished(grant(1, 3, WHOLE), 3, taken(1, 3)),
+        sends(revoke(2, 1, byte), conflict(2, named)),
+        answered(set_ten(1, Mode::Write, 200), 4, Reply::Done),
+        freed(set_ten(1, Mode::Read, 200), 5),
+        sends(revoke(3, 1, byte), conflict(3, named)),
+        freed(unlock_middle(1), 6),
+        answered(unlock_middle(1), 7, Reply::Done),
+    ];
+    let mut node = begins(alloc, Policy::Wide)?;
+    assert_eq!(rt; first_wrong(alloc, &mut node, &moves)?, None);
+    Ok(())
+}
+
 // Why the event is refused, if it is.
 fn refusal(node: &Node, alloc: Global, event: NodeEvent) -> Option<StepError> {
     node.step(alloc, &event).err()
@@ -308,9 +546,29 @@ fn refuses_events_of_strangers(rt: HostRuntime) -> Result<(), Fail> {
         NodeEvent::Retry { pid: 0 },
         NodeEvent::Retry { pid: 257 },
         NodeEvent::Deliver(taken(1, 1)),
+        NodeEvent::Deliver(FREED),
     ];
     let node = begins(alloc, Policy::Wide)?;
     assert!(rt; refuses(alloc, &node, &events));
+    Ok(())
+}
+
+// A node that took as many calls as it can.
+fn spent(alloc: Global) -> Result<Node, Fail> {
+    let shape = Shape::new(1, 2, Policy::Wide)?;
+    let node = Node::new(alloc, shape, 1, 1)?;
+    Ok(Node {
+        calls: u32::MAX,
+        ..node
+    })
+}
+
+#[test]
+fn refuses_a_call_for_which_no_number_is_left(rt: HostRuntime) -> Result<(), Fail> {
+    let alloc = rt.alloc();
+    let node = boxed(alloc, spent(alloc)?)?;
+    let refused = refusal(&node, alloc, call(1, Op::Spawn));
+    assert_eq!(rt; refused, Some(StepError::Spent));
     Ok(())
 }
 

@@ -2,6 +2,7 @@
 ghost use Rattle.std.specs.Prelude.{◌≡◌, ◌≢◌};
 
 use super::*;
+use crate::open_call::Intent;
 use intervals::span::Span;
 use model::mode::Mode;
 use model::owner::{Kind, Owner};
@@ -13,6 +14,7 @@ fn call(number: u32, pid: u16) -> OpenCall
     OpenCall {
         number,
         pid,
+        intent: Intent::Set,
         file: 1,
         owner: Owner {
             node: 1,
@@ -85,5 +87,21 @@ fn keeps_the_order_of_arrival(rt: HostRuntime) -> Result<(), Fail> {
     let rest = two(rt.alloc())?;
     let mut calls = three(rt.alloc(), 9, 5)?;
     assert!(rt; keep_the_order(&mut calls, &rest));
+    Ok(())
+}
+
+// The same calls, the other way round.
+fn two_turned(alloc: Global) -> Result<OpenCalls, AllocError> {
+    let mut calls = OpenCalls::new(alloc);
+    calls.push(call(5, 4))?;
+    calls.push(call(9, 2))?;
+    Ok(calls)
+}
+
+#[test]
+fn calls_in_another_order_are_others(rt: HostRuntime) -> Result<(), Fail> {
+    let calls = two(rt.alloc())?;
+    let turned = two_turned(rt.alloc())?;
+    assert!(rt; !calls.same(&turned));
     Ok(())
 }

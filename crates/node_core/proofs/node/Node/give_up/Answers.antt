@@ -1,0 +1,15 @@
+use Rattle.std.specs.Prelude.{Contains}
+use Rattle.std.proofs.Common.{List, subst, arith}
+use Rattle.model.specs.declared.lock_info.LockInfo.{LockInfo}
+use Rattle.token_set.specs.Releases.{IsRevocable, IsGivenUp}
+use Rattle.node_core.proofs.NodeLaws.{node-gives}
+use Rattle.node_core.proofs.node.Node.give_up.Goals as goal
+
+pub returns-clause-answer : goal.returns-clause-answer
+returns-clause-answer c =
+    let w = c.args.wanted in
+    let mode = c.args.command.now.mode in
+    let gives = c.in_ok-gives.gives in
+    let given = subst (λ (locks : List LockInfo). IsGivenUp (Contains locks) mode w.required w.desired gives) c.deref.ensures.value c.in_ok-gives.ensures.answer in
+    let revocable : IsRevocable w.required w.desired = ? in
+    rw (← c.self.view_is) (node-gives _ c.args.command.now.file c.in_ok-locks.locks.items mode w.required w.desired gives c.self.invariant c.in_ok-locks.ensures revocable given)

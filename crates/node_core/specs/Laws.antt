@@ -1,0 +1,47 @@
+-- Laws of the rule of a node.
+use Rattle.std.specs.Prelude.{◌≡◌, ℕ, ◌+◌, ◌≤◌, ◌<◌, true, false, Some, None, Ok, ℤ, IsOkAnd}
+use Rattle.model.specs.declared.mode.Mode.{Mode}
+use Rattle.model.specs.declared.owner.Kind.{Kind}
+use Rattle.model.specs.declared.call.CallId.{CallId}
+use Rattle.model.specs.declared.op.Op.TheVariants.{Set}
+use Rattle.model.specs.declared.reply.Reply.TheVariants.{Done}
+use Rattle.model.specs.Limits.{IsNumber, most_processes, most_regions}
+use Rattle.model.specs.Locks.{IsFree, IsOfNode, IsClear}
+use Rattle.model.specs.Table.{Target, target, regions_with}
+use Rattle.token_set.specs.Tokens.{covers, conflicts}
+use Rattle.token_set.specs.Releases.{IsRevocable}
+use Rattle.messages.specs.Messages.{greatest_number}
+use Rattle.messages.specs.Wants.{Wants}
+use Rattle.messages.specs.declared.message.Message.TheVariants.{Revoke}
+use Rattle.node_core.specs.declared.event.NodeEvent.TheVariants.{Call, Deliver}
+use Rattle.node_core.specs.State.{NodeState, host, process, id_of, open_call_of}
+use Rattle.node_core.specs.Node.{node_rule}
+
+-- the process may call: it is one of the node, it has no open call, and a number is left
+pub record MayCall (s : NodeState) (pid : ℕ) : Type 0 where
+  pub pid_in : IsNumber most_processes pid
+  pub idle : open_call_of s pid ≡ None
+  pub left : s.calls < greatest_number
+
+-- a set that no lock of another owner of the node blocks, whose bytes the token covers, and that leaves its owner within the limit of regions, is answered Done in its own step
+abbrev pub CoveredSetIsDone : Type 0
+CoveredSetIsDone =
+    (s : NodeState) (pid fd : ℕ) (kind : Kind) (mode : Mode) (start len : ℤ) (t : Target)
+    → MayCall s pid
+    → target s.table (process s pid) (Some mode) fd kind start len ≡ Ok t
+    → IsOfNode (s.table.locks t.file) s.node s.incarnation
+    → IsFree (s.table.locks t.file) t.owner t.span mode
+    → covers (s.files t.file).token t.span mode ≡ true
+    → regions_with s.table t (Some mode) ≤ most_regions
+    → IsOkAnd (node_rule s (Call pid (Set fd kind mode start len))) (λ r. r.1.reply ≡ Some (id_of s (s.calls + 1), Done))
+
+-- after a revoke that is next in order, where no lock of the node excludes the mode on the required bytes, none of them is in the way of the mode in the node's token
+abbrev pub ClearRevokeGivesUp : Type 0
+ClearRevokeGivesUp =
+    (s : NodeState) (file number : ℕ) (call : CallId) (mode : Mode) (wanted : Wants)
+    → IsNumber s.shape.files file
+    → number ≡ (s.files file).last + 1
+    → IsOfNode (s.table.locks file) s.node s.incarnation
+    → IsRevocable wanted.required wanted.desired
+    → IsClear (s.table.locks file) wanted.required mode
+    → IsOkAnd (node_rule s (Deliver (Revoke file number (host s) call mode wanted))) (λ r. conflicts (r.0.files file).token wanted.required mode ≡ false)

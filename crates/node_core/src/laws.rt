@@ -1,0 +1,14 @@
+//! Laws of a node's rule, each the contract of a function that does nothing.
+ghost use Rattle.node_core.specs.Laws.{CoveredSetIsDone, ClearRevokeGivesUp};
+
+/// A set that no lock of another owner of the node blocks, whose bytes the node's token covers, and that
+/// leaves its owner within the limit of regions, is answered Done in its own step.
+pub fn a_covered_set_is_done()
+    ensures { CoveredSetIsDone }
+{}
+
+/// A revoke that is next in order is done where no lock of the node excludes its mode on the required
+/// bytes: none of them is in the way of the mode in the node's token from then on.
+pub fn a_clear_revoke_gives_up()
+    ensures { ClearRevokeGivesUp }
+{}

@@ -1,0 +1,238 @@
+//! A node takes a message of a token server.
+ghost use Rattle.std.specs.Prelude.{◌≡◌, ◌≢◌, ◌==◌, ◌+◌, true, Ok, Err, IfOk, IfErr, IfSome, OnOk};
+ghost use Rattle.model.specs.Limits.{IsNumber};
+ghost use Rattle.token_set.specs.Releases.{gave_up};
+ghost use Rattle.messages.specs.Messages.{is_within, host_of, file_of};
+ghost use Rattle.node_core.specs.Commands.{remembered, in_order, granted, revoked, denied, delivered, deliver_rule};
+ghost use Rattle.node_core.specs.Parts.{node_state, effect_of, after_grant, after_revoke, out_of_order, is_for, IsCallOf};
+
+use super::Node;
+use crate::command::Command;
+use crate::effect::Effect;
+use crate::files::{take_grant, take_revoke};
+use crate::numbers::{is_node, is_within};
+use crate::open_call::OpenCall;
+use intervals::span::Span;
+use messages::message::Message;
+use messages::outcome::Outcome;
+use messages::refusal::StepError;
+use messages::wanted::Wanted;
+use model::lock_info::LockInfo;
+use std::alloc::{AllocError, Global};
+use token_set::gave_up::GaveUp;
+
+impl Node {
+    // The number of the last command done.
+    fn last(&self, file: u16) -> u32
+        requires { IsNumber (node_state self.now).shape.files file }
+        ensures { result ≡ ((node_state self.now).files file).last }
+    {
+        self.file(file).last
+    }
+
+    // The answer to the last command is sent again.
+    fn remembered(&self, alloc: Global, file: u16) -> Result<Effect, AllocError>
+        requires { IsNumber (node_state self.now).shape.files file }
+        ensures { IfOk result (λ effect. remembered (node_state self.now) ((node_state self.now).files file).answer ≡ effect_of (node_state self.now) effect) }
+    {
+        match self.file(file).answer {
+            None => Ok(Effect::quiet(alloc)),
+            Some(answer) => Effect::sent(alloc, answer),
+        }
+    }
+
+    // Whether the command is the one after the last that was done.
+    fn is_next(&self, command: &Command) -> bool
+        requires { IsNumber (node_state self.now).shape.files command.now.file }
+        ensures { result ≡ (command.now.number == ((node_state self.now).files command.now.file).last + 1) }
+    {
+        command.number as u64 == self.last(command.file) as u64 + 1
+    }
+
+    // A command that is not the next one: the last one done is answered again, others do nothing.
+    fn take_out_of_order(&self, alloc: Global, command: &Command) -> Result<Effect, AllocError>
+        requires { IsNumber (node_state self.now).shape.files command.now.file }
+        ensures { IfOk result (λ effect. out_of_order (node_state self.now) command.now.file command.now.number ≡ effect_of (node_state self.now) effect) }
+    {
+        if command.number == self.last(command.file) && command.number >= 1 {
+            return self.remembered(alloc, command.file);
+        }
+        Ok(Effect::quiet(alloc))
+    }
+
+    // The token is raised, the command is done, and the answer to it is remembered.
+    #[tactic(auto, unfolding(crate::specs::Parts::node_state))]
+    fn raise(&mut self, command: &Command, span: Span) -> Result<(), AllocError>
+        requires { IsNumber (node_state self.old).shape.files command.now.file }
+        ensures { OnOk result (node_state self.new ≡ after_grant (node_state self.old) command.now span) }
+    {
+        take_grant(&mut self.files, command, span)
+    }
+
+    // The token is raised, and the call that it was for is tried if it is still open.
+    fn grant(&mut self, alloc: Global, command: &Command, span: Span) -> Result<Effect, AllocError>
+        requires { IsNumber (node_state self.old).shape.files command.now.file }
+        ensures { IfOk result (λ effect. granted (node_state self.old) command.now.file command.now.number command.now.call command.now.mode span ≡ effect_of (node_state self.new) effect) }
+    {
+        self.raise(command, span)?;
+        let waiting = self.open_call(command.call.number);
+        let effect = self.try_if(alloc, waiting)?;
+        effect.after(alloc, command.taken())
+    }
+
+    // Grants are done in the order of their numbers, each once.
+    fn grant_in_order(
+        &mut self,
+        alloc: Global,
+        command: &Command,
+        span: Span,
+    ) -> Result<Effect, AllocError>
+        requires { IsNumber (node_state self.old).shape.files command.now.file }
+        ensures { IfOk result (λ effect. in_order (node_state self.old) command.now.file command.now.number (granted (node_state self.old) command.now.file command.now.number command.now.call command.now.mode span) ≡ effect_of (node_state self.new) effect) }
+    {
+        if !self.is_next(command) {
+            return self.take_out_of_order(alloc, command);
+        }
+        self.grant(alloc, command, span)
+    }
+
+    // The token is given up as far as no lock is in the way, the command is done, and the answer to
+    // it is remembered.
+    #[tactic(auto, unfolding(crate::specs::Parts::node_state))]
+    fn give_up(&mut self, command: &Command, wanted: Wanted) -> Result<GaveUp, AllocError>
+        requires { IsNumber (node_state self.old).shape.files command.now.file }
+        ensures answer { IfOk result (λ gives. gives ≡ gave_up ((node_state self.old).table.locks command.now.file) (node_state self.old).node (node_state self.old).incarnation command.now.mode wanted.required wanted.desired) }
+        ensures state { IfOk result (λ gives. node_state self.new ≡ after_revoke (node_state self.old) command.now gives) }
+    {
+        let _ = &wanted.required.lo; // tells the proof what each span keeps
+        let locks = self.locks.locks(command.file)?;
+        let holder = self.host();
+        let gives = take_revoke(&mut self.files, command, holder, wanted, &locks)?;
+        Ok(gives)
+    }
+
+    // The token is given up as far as no lock is in the way, and the answer is sent.
+    fn revoke(
+        &mut self,
+        alloc: Global,
+        command: &Command,
+        wanted: Wanted,
+    ) -> Result<Effect, AllocError>
+        requires { IsNumber (node_state self.old).shape.files command.now.file }
+        ensures { IfOk result (λ effect. revoked (node_state self.old) command.now.file command.now.number command.now.call command.now.mode wanted ≡ effect_of (node_state self.new) effect) }
+    {
+        let holder = self.host();
+        let gives = self.give_up(command, wanted)?;
+        Effect::sent(alloc, command.answer(holder, gives))
+    }
+
+    // Revokes are done in the order of their numbers, each once.
+    fn revoke_in_order(
+        &mut self,
+        alloc: Global,
+        command: &Command,
+        wanted: Wanted,
+    ) -> Result<Effect, AllocError>
+        requires { IsNumber (node_state self.old).shape.files command.now.file }
+        ensures { IfOk result (λ effect. in_order (node_state self.old) command.now.file command.now.number (revoked (node_state self.old) command.now.file command.now.number command.now.call command.now.mode wanted) ≡ effect_of (node_state self.new) effect) }
+    {
+        if !self.is_next(command) {
+            return self.take_out_of_order(alloc, command);
+        }
+        self.revoke(alloc, command, wanted)
+    }
+
+    // A call that may be open no longer is answered with the lock in its way.
+    fn deny(&mut self, alloc: Global, call: Option<OpenCall>, lock: LockInfo) -> Effect
+        requires { IfSome call (IsCallOf (node_state self.old)) }
+        ensures { denied (node_state self.old) lock call ≡ effect_of (node_state self.new) result }
+    {
+        match call {
+            None => Effect::quiet(alloc),
+            Some(call) => self.answer(alloc, call.number, call.intent.refusal(lock)),
+        }
+    }
+
+    // Whether the message is for this node, and about a file of the shape.
+    #[tactic(auto, unfolding(crate::specs::Parts::node_state))]
+    fn is_for_me(&self, message: &Message) -> bool
+        ensures { result ≡ is_for (node_state self.now) message.now }
+    {
+        if !is_node(self.node, message.addressee()) {
+            return false;
+        }
+        is_within(self.shape.files(), message.file())
+    }
+
+    // Whether the message is for this incarnation.
+    #[tactic(auto, unfolding(crate::specs::Parts::node_state))]
+    fn is_for_now(&self, message: &Message) -> bool
+        ensures { result ≡ ((host_of message.now).incarnation == (node_state self.now).incarnation) }
+    {
+        message.host().incarnation == self.incarnation
+    }
+
+    // A message that is for this node and this incarnation.
+    fn deliver(&mut self, alloc: Global, message: &Message) -> Result<Effect, AllocError>
+        requires { is_within (node_state self.old).shape.files (file_of message.now) ≡ true }
+        ensures { IfOk result (λ effect. delivered (node_state self.old) message.now ≡ effect_of (node_state self.new) effect) }
+    {
+        match message {
+            Message::Grant {
+                file,
+                number,
+                call,
+                mode,
+                span,
+            } => {
+                let command = Command {
+                    file: *file,
+                    number: *number,
+                    call: *call,
+                    mode: *mode,
+                };
+                self.grant_in_order(alloc, &command, *span)
+            }
+            Message::Revoke {
+                file,
+                number,
+                call,
+                mode,
+                wanted,
+                ..
+            } => {
+                let command = Command {
+                    file: *file,
+                    number: *number,
+                    call: *call,
+                    mode: *mode,
+                };
+                self.revoke_in_order(alloc, &command, *wanted)
+            }
+            Message::Deny { call, lock, .. } => {
+                let waiting = self.open_call(call.number);
+                Ok(self.deny(alloc, waiting, *lock))
+            }
+            _ => Ok(Effect::quiet(alloc)),
+        }
+    }
+
+    // A message comes. One for another incarnation of the node does nothing.
+    pub(super) fn take_message(
+        &mut self,
+        alloc: Global,
+        message: &Message,
+    ) -> Result<Outcome, StepError>
+        ensures ok { IfOk result (λ outcome. deliver_rule (node_state self.old) message.now ≡ Ok (node_state self.new, outcome)) }
+        ensures err { IfErr result (λ error. error ≢ StepError.NoMemory → deliver_rule (node_state self.old) message.now ≡ Err error) }
+    {
+        if !self.is_for_me(message) {
+            return Err(StepError::Stranger);
+        }
+        if !self.is_for_now(message) {
+            return Ok(Effect::quiet(alloc).outcome(None));
+        }
+        let effect = self.deliver(alloc, message)?;
+        Ok(effect.outcome(None))
+    }
+}
