@@ -13,18 +13,20 @@ use Rattle.model.specs.declared.owner.Owner.{Owner}
 use Rattle.model.specs.declared.opened.Opened.{Opened}
 use Rattle.model.specs.declared.process.Process.{Process}
 use Rattle.model.specs.declared.op.Op.{Op}
-use Rattle.model.specs.declared.op.Op.TheVariants.{Spawn, Open, Set, Unlock}
+use Rattle.model.specs.declared.op.Op.TheVariants.{Spawn, Open, Set, Unlock, Query}
 use Rattle.model.specs.declared.reply.Reply.{Reply}
-use Rattle.model.specs.declared.reply.Reply.TheVariants.{Done, Again, NoProcess, BadFd, NoLocks}
+use Rattle.model.specs.declared.reply.Reply.TheVariants.{Done, Again, NoProcess, BadFd, NoLocks, Free, Blocked}
 use Rattle.model.specs.Limits.{most_descriptors, most_regions}
 use Rattle.model.specs.Owners.{owner_at, same_owner, process_owner, description_owner}
 use Rattle.model.specs.Locks.{bars, replace, without_owner, without_owner_anywhere, regions, IsFree, Blocks}
 use Rattle.model.specs.Descriptors.{Processes, with_process, with_descriptor, is_open, after_spawn, after_open}
 use Rattle.model.specs.Table.{Table, Target, around, is_running, descriptor, beside, with_processes, allows, target, target_at, owner_of, locked, lock_within, regions_with, after_unlock, after_last_close, closed, closed_if, closed_below, exited}
-use Rattle.model.specs.Step.{Is, AfterTests, SetStep, Step}
+use Rattle.model.specs.Step.{Is, AfterTests, SetStep, QueryStep, Step}
 use Rattle.model.proofs.OwnerLaws.{owner_exact}
+use Rattle.cluster_core.specs.Evidence.{IsAbout}
 use Rattle.cluster_core.proofs.Targets.{if_ok, if_then}
 use Rattle.cluster_core.proofs.NodeTables.{IsOwn, itself}
+use Rattle.cluster_core.proofs.Tries.{IsUnhindered}
 
 -- the owner is one of the node in that incarnation
 abbrev pub is_of_host : ℕ → ℕ → Owner → Bool
@@ -36,10 +38,6 @@ joined others node incarnation t = record {
   on = λ n i. if (n == node) && (i == incarnation) then t.on n i else others.on n i;
   locks = λ file owner. if is_of_host node incarnation owner then t.locks file owner else others.locks file owner;
 }
-
--- a lock is set, or would be but for the number of its owner's regions
-abbrev pub IsUnhindered : Reply → Type 0
-IsUnhindered reply = (reply ≡ Done) ⊎ (reply ≡ NoLocks)
 
 -- the other's change within one's own part
 within_part : {A : Type 0} (own this : Bool) (x y z : A) → (this ≡ true → own ≡ true) → (if own then (if this then x else y) else z) ≡ (if this then x else (if own then y else z))
@@ -138,6 +136,14 @@ module _ (others : Table) (p : Process) where
   pub target-joined : (t : Table) (need : Option Mode) (fd : ℕ) (kind : Kind) (start len : ℤ) → target (all t) p need fd kind start len ≡ target t p need fd kind start len
   target-joined t need fd kind start len = ap (λ (ps : Processes). if ps.runs p.pid then target_at p need kind (ps.opened p.pid fd) (seg start len) else Err NoProcess) (around-joined t)
 
+  -- what a call is about
+  pub about-joined : (t : Table) (op : Op) (mode : Mode) (c : Target) → IsAbout t p op mode c → IsAbout (all t) p op mode c
+  about-joined t (Set fd kind m start len) mode c a = (a.0, target-joined t (Some m) fd kind start len ∙ a.1)
+  about-joined t (Query fd kind m start len) mode c a = (a.0, target-joined t None fd kind start len ∙ a.1)
+  about-joined t Spawn mode c a = a
+  about-joined t (Open file access) mode c a = a
+  about-joined t (Unlock fd kind start len) mode c a = a
+
   pub lock_within-joined : (t : Table) (c : Target) (mode : Option Mode) → is_own c.owner ≡ true → lock_within (all t) c mode ≡ answer_of_all (lock_within t c mode)
   lock_within-joined t c mode own =
       let same : regions_with (all t) c mode ≡ regions_with t c mode = ap (λ (f : ℕ → Option Mode). regions (put f c.span mode)) (locks-joined t c.file c.owner own) in
@@ -222,23 +228,24 @@ module _ (others : Table) (p : Process) where
   is-joined : (answer now : Table × Reply) (reply : Reply) (u : Table) → now ≡ answer_of_all answer → Is answer reply u → Is now reply (all u)
   is-joined answer now reply u same h = (h.0 ∙ ap (λ (a : Table × Reply). a.1) (sym same), ap all h.1 ∙ ap (λ (a : Table × Reply). a.0) (sym same))
 
-  set-joined : (t u : Table) (mode : Mode) (reply : Reply) (c : Target) → IsOwn t p.node p.incarnation → is_own c.owner ≡ true → (IsUnhindered reply → (o : Owner) (b : ℕ) → is_own o ≡ false → c.span.lo ≤ b → b ≤ c.span.hi → bars mode (others.locks c.file o b) ≡ false) → SetStep t mode reply u c → SetStep (all t) mode reply (all u) c
+  -- no lock beside the table is in the way on the bytes
+  abbrev pub IsFreeAt : Mode → Target → Type 0
+  IsFreeAt mode c = (o : Owner) (b : ℕ) → is_own o ≡ false → c.span.lo ≤ b → b ≤ c.span.hi → bars mode (others.locks c.file o b) ≡ false
+
+  set-joined : (t u : Table) (mode : Mode) (reply : Reply) (c : Target) → IsOwn t p.node p.incarnation → is_own c.owner ≡ true → (IsUnhindered reply → IsFreeAt mode c) → SetStep t mode reply u c → SetStep (all t) mode reply (all u) c
   set-joined t u mode (Again lock) c own of elsewhere h = (blocks-joined t c.file c.owner c.span mode lock own h.0, ap all h.1)
-  set-joined t u mode Done c own of elsewhere h = (free-joined t c.file c.owner c.span mode (elsewhere (inl refl)) h.0, is-joined (lock_within t c (Some mode)) (lock_within (all t) c (Some mode)) Done u (lock_within-joined t c (Some mode) of) h.1)
-  set-joined t u mode NoLocks c own of elsewhere h = (free-joined t c.file c.owner c.span mode (elsewhere (inr refl)) h.0, is-joined (lock_within t c (Some mode)) (lock_within (all t) c (Some mode)) NoLocks u (lock_within-joined t c (Some mode) of) h.1)
+  set-joined t u mode Done c own of elsewhere h = (free-joined t c.file c.owner c.span mode (elsewhere tt) h.0, is-joined (lock_within t c (Some mode)) (lock_within (all t) c (Some mode)) Done u (lock_within-joined t c (Some mode) of) h.1)
+  set-joined t u mode NoLocks c own of elsewhere h = (free-joined t c.file c.owner c.span mode (elsewhere tt) h.0, is-joined (lock_within t c (Some mode)) (lock_within (all t) c (Some mode)) NoLocks u (lock_within-joined t c (Some mode) of) h.1)
   set-joined t u mode _ c own of elsewhere h = absurd h
 
-  -- where a set goes unhindered, no lock beside the table is in its way
+  query-joined : (t u : Table) (mode : Mode) (reply : Reply) (c : Target) → IsOwn t p.node p.incarnation → (IsUnhindered reply → IsFreeAt mode c) → QueryStep t mode reply u c → QueryStep (all t) mode reply (all u) c
+  query-joined t u mode (Blocked lock) c own elsewhere h = (blocks-joined t c.file c.owner c.span mode lock own h.0, ap all h.1)
+  query-joined t u mode Free c own elsewhere h = (free-joined t c.file c.owner c.span mode (elsewhere tt) h.0, ap all h.1)
+  query-joined t u mode _ c own elsewhere h = absurd h
+
+  -- where a call goes unhindered, no lock beside the table is in its way
   abbrev pub IsFreeBeside : Table → Op → Reply → Type 0
-  IsFreeBeside t op reply =
-      (fd : ℕ) (kind : Kind) (mode : Mode) (start len : ℤ) (c : Target) (o : Owner) (b : ℕ)
-      → op ≡ Set fd kind mode start len
-      → IsUnhindered reply
-      → target t p (Some mode) fd kind start len ≡ Ok c
-      → is_own o ≡ false
-      → c.span.lo ≤ b
-      → b ≤ c.span.hi
-      → bars mode (others.locks c.file o b) ≡ false
+  IsFreeBeside t op reply = (mode : Mode) (c : Target) → IsUnhindered reply → IsAbout t p op mode c → IsFreeAt mode c
 
   -- a step of the node's table is a step of all together
   pub step-joined : (t u : Table) (op : Op) (reply : Reply) → IsOwn t p.node p.incarnation → IsFreeBeside t op reply → Step t p op reply u → Step (all t) p op reply (all u)
@@ -254,7 +261,15 @@ module _ (others : Table) (p : Process) where
       subst P (sym (target-joined t (Some mode) fd kind start len))
       (elim found as (λ x. found ≡ x → AfterTests t x reply u (SetStep t mode reply u) → P x) [
         | Err refusal ↦ λ is step. (step.0, ap all step.1)
-        | Ok c ↦ λ is step. set-joined t u mode reply c own (target_of_host t p (Some mode) fd kind start len c is) (λ unhindered o b. elsewhere fd kind mode start len c o b refl unhindered is) step
+        | Ok c ↦ λ is step. set-joined t u mode reply c own (target_of_host t p (Some mode) fd kind start len c is) (λ unhindered. elsewhere mode c unhindered (refl, is)) step
+      ] refl h)
+  step-joined t u (Query fd kind mode start len) reply own elsewhere h =
+      let found = target t p None fd kind start len in
+      let P : Result Target Reply → Type 0 = λ x. AfterTests (all t) x reply (all u) (QueryStep (all t) mode reply (all u)) in
+      subst P (sym (target-joined t None fd kind start len))
+      (elim found as (λ x. found ≡ x → AfterTests t x reply u (QueryStep t mode reply u) → P x) [
+        | Err refusal ↦ λ is step. (step.0, ap all step.1)
+        | Ok c ↦ λ is step. query-joined t u mode reply c own (λ unhindered. elsewhere mode c unhindered (refl, is)) step
       ] refl h)
   step-joined t u (Unlock fd kind start len) reply own elsewhere h =
       let found = target t p None fd kind start len in

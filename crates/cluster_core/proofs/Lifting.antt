@@ -1,16 +1,14 @@
 -- A step of one node's table is a step of the union of all.
-use Rattle.std.proofs.Common.{◌≡◌, ℕ, ◌≤◌, Bool, true, false, if◌then◌else◌, ◌&&◌, ◌==◌, inl, inr, refl, sym, ◌∙◌, ap, subst, ℤ, Option, Some, Ok}
+use Rattle.std.proofs.Common.{◌≡◌, ℕ, ◌≤◌, Bool, true, false, if◌then◌else◌, ◌&&◌, ◌==◌, inl, inr, refl, sym, ◌∙◌, ap, subst, Option}
 use Rattle.std.proofs.lemmas.Bool.{and_parts, and_from, eqb-true, eq-eqb, cases_Bool, both_ways}
 use Rattle.intervals.specs.Bytes.{nothing}
 use Rattle.model.specs.declared.mode.Mode.{Mode}
-use Rattle.model.specs.declared.owner.Kind.{Kind}
 use Rattle.model.specs.declared.owner.Owner.{Owner}
 use Rattle.model.specs.declared.op.Op.{Op}
-use Rattle.model.specs.declared.op.Op.TheVariants.{Set}
 use Rattle.model.specs.declared.reply.Reply.{Reply}
 use Rattle.model.specs.Locks.{bars}
 use Rattle.model.specs.Descriptors.{no_processes}
-use Rattle.model.specs.Table.{Table, Target, target}
+use Rattle.model.specs.Table.{Table, Target}
 use Rattle.model.specs.Step.{Step}
 use Rattle.messages.specs.Shapes.{ShapeFields}
 use Rattle.messages.specs.Messages.{is_within}
@@ -18,20 +16,17 @@ use Rattle.node_core.specs.State.{NodeState, process}
 use Rattle.cluster_core.specs.World.{WorldState, has_node, is_live}
 use Rattle.cluster_core.specs.Union.{union}
 use Rattle.cluster_core.proofs.NodeTables.{IsOwn}
-use Rattle.cluster_core.proofs.Joined.{IsUnhindered, IsFreeBeside, is_of_host, joined, step-joined}
+use Rattle.cluster_core.specs.Evidence.{IsAbout}
+use Rattle.cluster_core.proofs.Tries.{IsUnhindered}
+use Rattle.cluster_core.proofs.Joined.{IsFreeBeside, is_of_host, joined, step-joined, about-joined}
 
--- where a set of a process of the node goes unhindered, no lock of another node is in its way
+-- no lock of another node is in the way of a lock of that mode on these bytes
+abbrev pub IsFreeOfOthers : WorldState → ℕ → Mode → Target → Type 0
+IsFreeOfOthers w n mode c = (m : ℕ) (o : Owner) (b : ℕ) → has_node w m ≡ true → (m ≡ n → ⊥) → c.span.lo ≤ b → b ≤ c.span.hi → bars mode ((w.nodes m).table.locks c.file o b) ≡ false
+
+-- where a call of a process of the node goes unhindered, no lock of another node is in its way
 abbrev pub IsFreeElsewhere : WorldState → ℕ → ℕ → Op → Reply → Type 0
-IsFreeElsewhere w n pid op reply =
-    (fd : ℕ) (kind : Kind) (mode : Mode) (start len : ℤ) (c : Target) (m : ℕ) (o : Owner) (b : ℕ)
-    → op ≡ Set fd kind mode start len
-    → IsUnhindered reply
-    → target (w.nodes n).table (process (w.nodes n) pid) (Some mode) fd kind start len ≡ Ok c
-    → has_node w m ≡ true
-    → (m ≡ n → ⊥)
-    → c.span.lo ≤ b
-    → b ≤ c.span.hi
-    → bars mode ((w.nodes m).table.locks c.file o b) ≡ false
+IsFreeElsewhere w n pid op reply = (mode : Mode) (c : Target) → IsUnhindered reply → IsAbout (w.nodes n).table (process (w.nodes n) pid) op mode c → IsFreeOfOthers w n mode c
 
 -- the worlds differ in the state of one node alone, which stays in its incarnation
 pub record DiffersAt (w v : WorldState) (n : ℕ) : Type 0 where
@@ -105,7 +100,7 @@ module _ (w v : WorldState) (n : ℕ) (there : has_node w n ≡ true) (named : (
 
 -- what no lock of another node hinders no lock beside the node's table does
 free_beside : (w : WorldState) (n pid : ℕ) (op : Op) (reply : Reply) → (w.nodes n).node ≡ n → IsFreeElsewhere w n pid op reply → IsFreeBeside (union w) (process (w.nodes n) pid) (w.nodes n).table op reply
-free_beside w n pid op reply named free fd kind mode start len c o b is_set unhindered passes apart above below =
+free_beside w n pid op reply named free mode c unhindered about o b apart above below =
     let s = w.nodes n in
     elim (cases_Bool (is_live w o.node o.incarnation)) [
       | inl live ↦
@@ -113,7 +108,7 @@ free_beside w n pid op reply named free fd kind mode start len c o b is_set unhi
           let other : o.node ≡ n → ⊥ = λ same.
           let incarnation : o.incarnation ≡ s.incarnation = eqb-true _ _ parts.1 ∙ ap (λ (k : ℕ). (w.nodes k).incarnation) same in
           both_ways (is_of_host s.node s.incarnation o) apart (and_from _ _ (eq-eqb o.node s.node (same ∙ sym named)) (eq-eqb o.incarnation s.incarnation incarnation)) in
-          ap (λ (f : ℕ → Option Mode). bars mode (f b)) (union_locks-live w c.file o live) ∙ free fd kind mode start len c o.node o b is_set unhindered passes parts.0 other above below
+          ap (λ (f : ℕ → Option Mode). bars mode (f b)) (union_locks-live w c.file o live) ∙ free mode c unhindered about o.node o b parts.0 other above below
       | inr dead ↦ ap (λ (f : ℕ → Option Mode). bars mode (f b)) (union_locks-dead w c.file o dead)
     ]
 
@@ -128,3 +123,11 @@ step_lifts w v n pid op reply there named own differs free step =
     let P : Table → Type 0 = λ t. Step t p op reply (union v) in
     let Q : Table → Type 0 = λ t. Step (joined (union w) s.node s.incarnation s.table) p op reply t in
     subst P (sym old) (subst Q (sym new) (step-joined (union w) p s.table (v.nodes n).table op reply own (free_beside w n pid op reply named free) step))
+
+-- what a call of a process of the node is about in the node's table it is about in the union
+pub about_lifts : (w : WorldState) (n pid : ℕ) (op : Op) (mode : Mode) (c : Target) → has_node w n ≡ true → (w.nodes n).node ≡ n → IsAbout (w.nodes n).table (process (w.nodes n) pid) op mode c → IsAbout (union w) (process (w.nodes n) pid) op mode c
+about_lifts w n pid op mode c there named about =
+    let s = w.nodes n in
+    let same : union w ≡ joined (union w) s.node s.incarnation s.table = union_joined w w n there named (record { shape = refl; incarnation = refl; others = λ m other. refl }) in
+    let P : Table → Type 0 = λ t. IsAbout t (process s pid) op mode c in
+    subst P (sym same) (about-joined (union w) (process s pid) s.table op mode c about)

@@ -1,31 +1,36 @@
 -- Each step of a node keeps what holds of it.
-use Rattle.std.proofs.Common.{◌≡◌, ℕ, ◌+◌, ◌≤◌, Bool, true, false, if◌then◌else◌, ◌==◌, ◌&&◌, inl, inr, refl, sym, ◌∙◌, ap, subst, arith, nat_le, List, [], ◌∷◌, ◌++◌, find, Option, Some, None}
+use Rattle.std.proofs.Common.{◌≡◌, ℕ, ◌+◌, ◌≤◌, Bool, true, false, if◌then◌else◌, ◌==◌, ◌&&◌, inl, inr, refl, sym, ◌∙◌, ap, subst, arith, nat_le, List, [], ◌∷◌, ◌++◌, find, Contains, Option, Some, None}
+use Rattle.std.proofs.lemmas.Bool.{eqb-true}
 use Rattle.std.proofs.lemmas.Option.{same_Some}
-use Rattle.std.proofs.lemmas.List.Elements.{All-same, All-push}
+use Rattle.std.proofs.lemmas.List.Elements.{All-same, All-push, All-contains}
 use Rattle.intervals.specs.Bytes.{Range}
 use Rattle.model.specs.declared.mode.Mode.{Mode}
 use Rattle.model.specs.declared.call.CallId.{CallId}
+use Rattle.model.specs.declared.host.Host.{Host}
+use Rattle.model.specs.declared.lock_info.LockInfo.{LockInfo}
 use Rattle.model.specs.declared.op.Op.{Op}
 use Rattle.model.specs.declared.reply.Reply.{Reply}
 use Rattle.model.specs.Limits.{IsProcess}
+use Rattle.token_set.specs.Tokens.{raised}
+use Rattle.messages.specs.Wants.{Wants}
 use Rattle.messages.specs.declared.message.Message.{Message}
-use Rattle.messages.specs.declared.message.Message.TheVariants.{Request, Grant, Taken}
+use Rattle.messages.specs.declared.message.Message.TheVariants.{Request, Grant, Revoke, Taken, Released, Conflict, Deny, Freed}
 use Rattle.messages.specs.declared.event.Event.{Event}
-use Rattle.messages.specs.declared.event.Event.TheVariants.{Call}
+use Rattle.messages.specs.declared.event.Event.TheVariants.{Call, Deliver}
 use Rattle.messages.specs.declared.entry.Entry.{Entry}
+use Rattle.messages.specs.Messages.{addressee, host_of}
 use Rattle.node_core.specs.declared.open_call.OpenCall.{OpenCall}
 use Rattle.node_core.specs.State.{NodeState, Effect, quiet, without_call, process, id_of, outcome}
-use Rattle.node_core.specs.Try.{tried, tried_if}
+use Rattle.node_core.specs.Try.{refusal_of, tried, tried_if}
 use Rattle.node_core.specs.Calls.{called, after_call}
-use Rattle.node_core.specs.Commands.{remembered, before, after_grant, granted, delivered}
+use Rattle.node_core.specs.Commands.{remembered, in_order, before, after_command, granted, revoked, denied, delivered, is_node}
 use Rattle.cluster_core.specs.Histories.{IsRepliedAt}
 use Rattle.cluster_core.specs.Next.{entry}
 use Rattle.cluster_core.proofs.Entries.{not_there, IsNamed, Unanswered, unanswered-push, named-push}
 use Rattle.cluster_core.proofs.Fitting.{Called, called-keeps, called-last}
 use Rattle.cluster_core.proofs.NodeTables.{IsOwn, same_follows}
-use Rattle.cluster_core.proofs.Covering.{Covered, after_grant_covered, tried_covered, after_call_covered}
 use Rattle.cluster_core.proofs.Tries.{Continues, IsAnswered, IsSilent, tried_ends, called_ends}
-use Rattle.cluster_core.proofs.Nodes.{IsOpen, Holds, Moves, open-continues, opened, all_wait, others_wait, found_open}
+use Rattle.cluster_core.proofs.Nodes.{IsOpen, Holds, Moves, IsNoDenial, open-continues, opened, all_wait, others_wait, found_open, stay_same, stay_closed, stay_opened}
 
 -- an entry that names no call counts none
 same_numbers : (past : List Entry) (e : Entry) (s u : NodeState) → Continues s u → u.calls ≡ s.calls → e.call ≡ None → Holds past s → (id : CallId) → IsNamed (past ++ e ∷ []) id → id.node ≡ u.node → id.incarnation ≡ u.incarnation → id.number ≤ u.calls
@@ -34,33 +39,40 @@ same_numbers past e s u g calls none holds id named node incarnation = elim (nam
   | inr new ↦ absurd (not_there e.call id none new)
 ]
 
+own_after : (s u : NodeState) → Continues s u → IsOwn u.table u.node u.incarnation
+own_after s u g = subst (λ (i : ℕ). IsOwn u.table u.node i) (sym g.incarnation) (subst (λ (n : ℕ). IsOwn u.table n s.incarnation) (sym g.node) g.follows.own)
+
 -- a step that names no call and answers none
-pub silent_moves : (past : List Entry) (e : Entry) (s u : NodeState) → Continues s u → u.calls ≡ s.calls → u.pending ≡ s.pending → e.call ≡ None → IsSilent s u e.reply → Covered u → Holds past s → Moves past s u e
-silent_moves past e s u g calls pending none silent covered holds = record {
+pub silent_moves : (past : List Entry) (e : Entry) (s u : NodeState) → Continues s u → u.calls ≡ s.calls → u.pending ≡ s.pending → e.call ≡ None → IsSilent s u e.reply → Holds past s → Moves past s u e
+silent_moves past e s u g calls pending none silent holds = record {
   holds = record {
-    own = subst (λ (i : ℕ). IsOwn u.table u.node i) (sym g.incarnation) (subst (λ (n : ℕ). IsOwn u.table n s.incarnation) (sym g.node) g.follows.own);
-    covered = covered;
+    own = own_after s u g;
     waiting = All-same (IsOpen (past ++ e ∷ []) u) u.pending s.pending pending (all_wait past e s u s.pending g silent.no_reply holds.waiting);
     numbers = same_numbers past e s u g calls none holds;
   };
   node = g.node;
   incarnation = g.incarnation;
   fresh = λ id h. absurd (not_there e.call id none h);
-  ends = inr silent;
+  stay = stay_same s u e pending;
+  ends = inr (inr silent);
+}
+
+-- what holds of the node after an open call is answered
+closed_holds : (past : List Entry) (e : Entry) (s u : NodeState) (number : ℕ) (reply : Reply) → Continues s u → u.calls ≡ s.calls → e.call ≡ None → e.reply ≡ Some (id_of s number, reply) → u.pending ≡ (without_call s number).pending → Holds past s → Holds (past ++ e ∷ []) u
+closed_holds past e s u number reply g calls none is_reply closed holds = record {
+  own = own_after s u g;
+  waiting = All-same (IsOpen (past ++ e ∷ []) u) u.pending (without_call s number).pending closed (others_wait past e s u number reply g is_reply holds.waiting);
+  numbers = same_numbers past e s u g calls none holds;
 }
 
 -- a step that answers an open call
-pub answer_moves : (past : List Entry) (e : Entry) (s u : NodeState) (c : OpenCall) (o : IsOpen past s c) → Continues s u → u.calls ≡ s.calls → e.call ≡ None → IsAnswered s c.number c.pid o.op u e.reply → Covered u → Holds past s → Moves past s u e
-answer_moves past e s u c o g calls none a covered holds = record {
-  holds = record {
-    own = subst (λ (i : ℕ). IsOwn u.table u.node i) (sym g.incarnation) (subst (λ (n : ℕ). IsOwn u.table n s.incarnation) (sym g.node) g.follows.own);
-    covered = covered;
-    waiting = All-same (IsOpen (past ++ e ∷ []) u) u.pending (without_call s c.number).pending a.closed (others_wait past e s u c.number a.reply g a.is_reply holds.waiting);
-    numbers = same_numbers past e s u g calls none holds;
-  };
+pub answer_moves : (past : List Entry) (e : Entry) (s u : NodeState) (c : OpenCall) (o : IsOpen past s c) → IsNoDenial e.event → Continues s u → u.calls ≡ s.calls → e.call ≡ None → IsAnswered s c.number c.pid o.op u e.reply → Holds past s → Moves past s u e
+answer_moves past e s u c o undenied g calls none a holds = record {
+  holds = closed_holds past e s u c.number a.reply g calls none a.is_reply a.closed holds;
   node = g.node;
   incarnation = g.incarnation;
   fresh = λ id h. absurd (not_there e.call id none h);
+  stay = stay_closed s u e c.number a.closed;
   ends = inl (record {
     number = c.number;
     pid = c.pid;
@@ -72,7 +84,7 @@ answer_moves past e s u c o g calls none a covered holds = record {
     fresh = o.unanswered;
     step = a.step;
     served = a.served;
-  });
+  }, undenied);
 }
 
 -- what a message does, and that it does little where no call is open
@@ -80,80 +92,145 @@ pub record Receives (past : List Entry) (s u : NodeState) (e : Entry) : Type 0 w
   pub moves : Moves past s u e
   pub idle : s.pending ≡ [] → (u.pending ≡ []) × IsSilent s u e.reply
 
-module _ (past : List Entry) (s : NodeState) (event : Event) (holds : Holds past s) where
+pub found_none : (test : OpenCall → Bool) (calls : List OpenCall) (c : OpenCall) → calls ≡ [] → find test calls ≡ Some c → ⊥
+found_none test calls c none h = let e : find test [] ≡ Some c = subst (λ (x : List OpenCall). find test x ≡ Some c) none h in cc
+
+-- the message is to the node, in its incarnation
+pub record IsTo (s : NodeState) (m : Message) : Type 0 where
+  pub node : is_node s.node (addressee m) ≡ true
+  pub incarnation : (host_of m).incarnation ≡ s.incarnation
+
+module _ (past : List Entry) (s : NodeState) (holds : Holds past s) where
   -- the entry of an effect that names no call
-  abbrev said : Effect → Entry
-  said e = entry event 0 (outcome None e).1
+  abbrev said : Event → Effect → Entry
+  said event e = entry event 0 (outcome None e).1
 
   still : Continues s s
   still = record { node = refl; incarnation = refl; follows = same_follows s.table s.node s.incarnation holds.own }
 
   -- nothing but messages
-  pub quiet_receives : (e : Effect) → e.state ≡ s → e.reply ≡ None → Receives past s e.state (said e)
-  quiet_receives e same none =
-      let P : NodeState → Type 0 = λ u. Receives past s u (said e) in
+  pub quiet_receives : (event : Event) (e : Effect) → e.state ≡ s → e.reply ≡ None → Receives past s e.state (said event e)
+  quiet_receives event e same none =
+      let P : NodeState → Type 0 = λ u. Receives past s u (said event e) in
       subst P (sym same) (record {
-        moves = silent_moves past (said e) s s still refl refl refl (record { no_reply = none; table = refl }) holds.covered holds;
+        moves = silent_moves past (said event e) s s still refl refl refl (record { no_reply = none; table = refl }) holds;
         idle = λ h. (h, record { no_reply = none; table = refl });
       })
 
-  pub remembered_receives : (answer : Option Message) → Receives past s (remembered s answer).state (said (remembered s answer))
-  remembered_receives None = quiet_receives (quiet s) refl refl
-  remembered_receives (Some m) = quiet_receives (remembered s (Some m)) refl refl
-
-  found_none : (test : OpenCall → Bool) (calls : List OpenCall) (c : OpenCall) → calls ≡ [] → find test calls ≡ Some c → ⊥
-  found_none test calls c none h = let e : find test [] ≡ Some c = subst (λ (x : List OpenCall). find test x ≡ Some c) none h in cc
+  remembered_receives : (event : Event) (answer : Option Message) → Receives past s (remembered s answer).state (said event (remembered s answer))
+  remembered_receives event None = quiet_receives event (quiet s) refl refl
+  remembered_receives event (Some m) = quiet_receives event (remembered s (Some m)) refl refl
 
   -- a grant: the call that it was for is tried
-  pub granted_receives : (file number : ℕ) (call : CallId) (mode : Mode) (span : Range) → Receives past s (granted s file number call mode span).state (said (granted s file number call mode span))
-  granted_receives file number call mode span =
-      let next = after_grant s file number call mode span in
+  granted_receives : (event : Event) (file number : ℕ) (call : CallId) (mode : Mode) (span : Range) → IsNoDenial event → Receives past s (granted s file number call mode span).state (said event (granted s file number call mode span))
+  granted_receives event file number call mode span undenied =
+      let next = after_command s file (raised (s.files file).token span mode) number (Taken file number call) (s.files file).asked in
       let first = Taken file number call in
-      let e = λ (x : Option OpenCall). said (before first (tried_if next x)) in
-      let raised = after_grant_covered s file number call mode span holds.covered in
-      let found = find (λ c. c.number == call.number) s.pending in
+      let e = λ (x : Option OpenCall). said event (before first (tried_if next x)) in
+      let test : OpenCall → Bool = λ c. c.number == call.number in
+      let found = find test s.pending in
       elim found as (λ x. found ≡ x → Receives past s (tried_if next x).state (e x)) [
         | None ↦ λ h.
             let silent : IsSilent s next None = record { no_reply = refl; table = refl } in
             record {
-              moves = silent_moves past (e None) s next (record { node = refl; incarnation = refl; follows = same_follows s.table s.node s.incarnation holds.own }) refl refl refl silent raised holds;
+              moves = silent_moves past (e None) s next (record { node = refl; incarnation = refl; follows = same_follows s.table s.node s.incarnation holds.own }) refl refl refl silent holds;
               idle = λ none. (none, silent);
             }
         | Some c ↦ λ h.
-            let o = (found_open (IsOpen past s) call.number s.pending c holds.waiting h).0 in
+            let o = All-contains (IsOpen past s) s.pending c holds.waiting (found_open test s.pending c h).0 in
             let u = (tried next c).state in
-            let t = tried_ends next c o.op o.is_process.pid_in holds.own (record { fd = o.ready.fd; kind = o.ready.kind; start = o.ready.start; len = o.ready.len; is_set = o.ready.is_set; passes = o.ready.passes }) in
+            let t = tried_ends next c o.op o.is_process.pid_in holds.own o.ready in
             let g : Continues s u = record { node = t.continues.node; incarnation = t.continues.incarnation; follows = t.continues.follows } in
             record {
               moves = elim t.ends [
-                | inl a ↦ answer_moves past (e (Some c)) s u c o g t.calls refl (record { reply = a.reply; is_reply = a.is_reply; step = a.step; served = a.served; closed = a.closed }) (tried_covered next c raised) holds
-                | inr q ↦ silent_moves past (e (Some c)) s u g t.calls q.1 refl (record { no_reply = q.0.no_reply; table = q.0.table }) (tried_covered next c raised) holds
+                | inl a ↦ answer_moves past (e (Some c)) s u c o undenied g t.calls refl (record { reply = a.reply; is_reply = a.is_reply; step = a.step; served = a.served; closed = a.closed }) holds
+                | inr q ↦ silent_moves past (e (Some c)) s u g t.calls q.1 refl (record { no_reply = q.0.no_reply; table = q.0.table }) holds
               ];
-              idle = λ none. absurd (found_none (λ d. d.number == call.number) s.pending c none h);
+              idle = λ none. absurd (found_none test s.pending c none h);
             }
       ] refl
 
-  pub delivered_receives : (m : Message) → Receives past s (delivered s m).state (said (delivered s m))
-  delivered_receives (Grant file number call mode span) =
-      let f = s.files file in
-      let effect = granted s file number call mode span in
-      elim (number == f.last + 1) as (λ b. Receives past s (both b).state (said (both b))) [
-        | true ↦ granted_receives file number call mode span
-        | false ↦ elim ((number == f.last) && nat_le 1 number) as (λ b. Receives past s (again b).state (said (again b))) [ true ↦ remembered_receives f.answer | false ↦ quiet_receives (quiet s) refl refl ]
+  -- a revoke answers no call
+  revoked_receives : (event : Event) (file number : ℕ) (call : CallId) (mode : Mode) (wanted : Wants) → Receives past s (revoked s file number call mode wanted).state (said event (revoked s file number call mode wanted))
+  revoked_receives event file number call mode wanted =
+      let e = revoked s file number call mode wanted in
+      let silent : IsSilent s e.state None = record { no_reply = refl; table = refl } in
+      record {
+        moves = silent_moves past (said event e) s e.state (record { node = refl; incarnation = refl; follows = same_follows s.table s.node s.incarnation holds.own }) refl refl refl silent holds;
+        idle = λ none. (none, silent);
+      }
+
+  -- a denial: the call is answered if it is open
+  denied_receives : (file : ℕ) (call : CallId) (holder : Host) (number : ℕ) (lock : LockInfo) → IsTo s (Deny file call holder number lock) → (o : Option OpenCall) → find (λ c. c.number == call.number) s.pending ≡ o → Receives past s (denied s lock o).state (said (Deliver (Deny file call holder number lock)) (denied s lock o))
+  denied_receives file call holder number lock to None h = quiet_receives (Deliver (Deny file call holder number lock)) (quiet s) refl refl
+  denied_receives file call holder number lock to (Some c) h =
+      let test : OpenCall → Bool = λ d. d.number == call.number in
+      let e = said (Deliver (Deny file call holder number lock)) (denied s lock (Some c)) in
+      let u = without_call s c.number in
+      let g : Continues s u = record { node = refl; incarnation = refl; follows = same_follows s.table s.node s.incarnation holds.own } in
+      let found = found_open test s.pending c h in
+      let same_node : s.node ≡ call.node = sym (eqb-true call.node s.node to.node) in
+      let same_incarnation : s.incarnation ≡ call.incarnation = sym to.incarnation in
+      let same_number : c.number ≡ call.number = eqb-true c.number call.number found.1 in
+      record {
+        moves = record {
+          holds = closed_holds past e s u c.number (refusal_of c.intent lock) g refl refl refl refl holds;
+          node = refl;
+          incarnation = refl;
+          fresh = λ id is. absurd (not_there e.call id refl is);
+          stay = stay_closed s u e c.number refl;
+          ends = inr (inl (record {
+            file = file;
+            call = call;
+            holder = holder;
+            number = number;
+            lock = lock;
+            is_deny = refl;
+            answering = c;
+            there = found.0;
+            named = λ i. record { node = same_node i; incarnation = same_incarnation i; number = same_number i };
+            is_reply = λ i. Some (record { node = same_node i; incarnation = same_incarnation i; number = same_number i }, refusal_of c.intent lock);
+            table = refl;
+          }));
+        };
+        idle = λ none. absurd (found_none test s.pending c none h);
+      }
+
+  -- a command: it is done, or the answer to the last one is sent again, or nothing
+  in_order_receives : (event : Event) (file number : ℕ) (effect : Effect) → Receives past s effect.state (said event effect) → (let all = in_order s file number effect in Receives past s all.state (said event all))
+  in_order_receives event file number effect done =
+      elim (number == (s.files file).last + 1) as (λ b. Receives past s (both b).state (said event (both b))) [
+        | true ↦ done
+        | false ↦ elim ((number == (s.files file).last) && nat_le 1 number) as (λ b. Receives past s (again b).state (said event (again b))) [ true ↦ remembered_receives event (s.files file).answer | false ↦ quiet_receives event (quiet s) refl refl ]
       ]
     where
       again : Bool → Effect
       again b = if b then remembered s (s.files file).answer else quiet s
 
       both : Bool → Effect
-      both b = if b then granted s file number call mode span else again ((number == (s.files file).last) && nat_le 1 number)
-  delivered_receives (Request file call urgency mode wanted) = quiet_receives (quiet s) refl refl
-  delivered_receives (Taken file number call) = quiet_receives (quiet s) refl refl
+      both b = if b then effect else again ((number == (s.files file).last) && nat_le 1 number)
+
+  pub delivered_receives : (m : Message) → IsTo s m → Receives past s (delivered s m).state (said (Deliver m) (delivered s m))
+  delivered_receives (Grant file number call mode span) to =
+      let event = Deliver (Grant file number call mode span) in
+      in_order_receives event file number (granted s file number call mode span) (granted_receives event file number call mode span tt)
+  delivered_receives (Revoke file number holder call mode wanted) to =
+      let event = Deliver (Revoke file number holder call mode wanted) in
+      in_order_receives event file number (revoked s file number call mode wanted) (revoked_receives event file number call mode wanted)
+  delivered_receives (Deny file call holder number lock) to = denied_receives file call holder number lock to (find (λ c. c.number == call.number) s.pending) refl
+  delivered_receives (Request file call urgency mode wanted) to = quiet_receives (Deliver (Request file call urgency mode wanted)) (quiet s) refl refl
+  delivered_receives (Taken file number call) to = quiet_receives (Deliver (Taken file number call)) (quiet s) refl refl
+  delivered_receives (Released file number holder call span) to = quiet_receives (Deliver (Released file number holder call span)) (quiet s) refl refl
+  delivered_receives (Conflict file number holder call lock) to = quiet_receives (Deliver (Conflict file number holder call lock)) (quiet s) refl refl
+  delivered_receives (Freed file holder) to = quiet_receives (Deliver (Freed file holder)) (quiet s) refl refl
 
 -- a new call
 module _ (past : List Entry) (s : NodeState) (node pid : ℕ) (op : Op) (holds : Holds past s) (named : s.node ≡ node) (is_process : IsProcess (process s pid)) (known : (id : CallId) (reply : Reply) (at : ℕ) → IsRepliedAt past id reply at → IsNamed past id) where
   not_named : IsNamed past (id_of s (s.calls + 1)) → ⊥
   not_named n = let below = holds.numbers (id_of s (s.calls + 1)) n refl refl in absurd (omega arith)
+
+  named_by : (u : NodeState) (c : OpenCall) → u.node ≡ s.node → u.incarnation ≡ s.incarnation → c.number ≡ s.calls + 1 → ◌≡◌ {A = Option CallId} (Some (id_of s (s.calls + 1))) (Some (id_of u c.number))
+  named_by u c same_node same_incarnation number = λ i. Some (record { node = sym same_node i; incarnation = sym same_incarnation i; number = sym number i })
 
   pub call_moves : Moves past s (after_call s pid op).0 (entry (Call node pid op) 0 (after_call s pid op).1)
   call_moves =
@@ -168,8 +245,7 @@ module _ (past : List Entry) (s : NodeState) (node pid : ℕ) (op : Op) (holds :
       let fresh : Unanswered past id = λ reply at r. not_named (known id reply at r) in
       record {
         holds = record {
-          own = subst (λ (i : ℕ). IsOwn u.table u.node i) (sym g.incarnation) (subst (λ (n : ℕ). IsOwn u.table n s.incarnation) (sym g.node) g.follows.own);
-          covered = after_call_covered s pid op holds.covered;
+          own = own_after s u g;
           waiting = elim t.ends [
             | inl a ↦ All-same (IsOpen (past ++ e ∷ []) u) u.pending (without_call s number).pending a.closed (others_wait past e s u number a.reply g a.is_reply holds.waiting)
             | inr o ↦
@@ -188,8 +264,12 @@ module _ (past : List Entry) (s : NodeState) (node pid : ℕ) (op : Op) (holds :
         fresh = λ other h.
             let is = same_Some id other h in
             (ap (λ (x : CallId). x.node) (sym is), λ n. not_named (subst (λ (x : CallId). IsNamed past x) (sym is) n));
+        stay = elim t.ends [
+          | inl a ↦ stay_closed s u e number a.closed
+          | inr o ↦ stay_opened s u e o.call o.pending (named_by u o.call g.node g.incarnation o.number_is)
+        ];
         ends = elim t.ends [
-          | inl a ↦ inl (record { number = number; pid = pid; op = op; reply = a.reply; is_reply = a.is_reply; is_process = is_process; called = here; fresh = fresh; step = a.step; served = a.served })
-          | inr o ↦ inr (record { no_reply = o.silent.no_reply; table = o.silent.table })
+          | inl a ↦ inl (record { number = number; pid = pid; op = op; reply = a.reply; is_reply = a.is_reply; is_process = is_process; called = here; fresh = fresh; step = a.step; served = a.served }, tt)
+          | inr o ↦ inr (inr (record { no_reply = o.silent.no_reply; table = o.silent.table }))
         ];
       }

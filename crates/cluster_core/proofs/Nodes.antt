@@ -1,20 +1,29 @@
 -- What holds of a node after each run, and what its steps make of that.
-use Rattle.std.proofs.Common.{◌≡◌, ℕ, ◌≤◌, Bool, true, false, not, if◌then◌else◌, ◌==◌, ◌⊎◌, refl, sym, ◌∙◌, ap, subst, List, [], ◌∷◌, ◌++◌, filter, find, All, Some, None}
-use Rattle.std.proofs.lemmas.Bool.{eqb-true, eq-eqb, both_ways}
-use Rattle.std.proofs.lemmas.List.Elements.{All-head, All-tail, All-filter, All-weaker, filter_passes}
+use Rattle.std.proofs.Common.{◌≡◌, ℕ, suc, ◌≤◌, Bool, true, false, not, if◌then◌else◌, ◌==◌, ◌⊎◌, refl, sym, ◌∙◌, ap, subst, arith, List, [], ◌∷◌, ◌++◌, filter, find, All, Contains, inl, inr, Some, None}
+use Rattle.std.proofs.lemmas.Bool.{eq-eqb, both_ways}
+use Rattle.std.proofs.lemmas.List.Elements.{All-filter, All-weaker, All-same, All-push, All-contains_itself, filter_passes}
 use Rattle.model.specs.declared.call.CallId.{CallId}
+use Rattle.model.specs.declared.host.Host.{Host}
+use Rattle.model.specs.declared.lock_info.LockInfo.{LockInfo}
+use Rattle.model.specs.declared.mode.Mode.{Mode}
 use Rattle.model.specs.declared.op.Op.{Op}
+use Rattle.model.specs.declared.op.Op.TheVariants.{Spawn, Open, Set, Unlock, Query}
 use Rattle.model.specs.declared.process.Process.{Process}
 use Rattle.model.specs.declared.reply.Reply.{Reply}
 use Rattle.model.specs.Limits.{IsProcess}
+use Rattle.model.specs.Table.{Table, Target}
 use Rattle.model.specs.Step.{Step}
+use Rattle.messages.specs.declared.message.Message.TheVariants.{Deny}
+use Rattle.messages.specs.declared.event.Event.{Event}
+use Rattle.messages.specs.declared.event.Event.TheVariants.{Deliver}
 use Rattle.messages.specs.declared.entry.Entry.{Entry}
 use Rattle.node_core.specs.declared.open_call.OpenCall.{OpenCall}
 use Rattle.node_core.specs.State.{NodeState, without_call, process, id_of, target_of}
+use Rattle.node_core.specs.Try.{refusal_of}
 use Rattle.cluster_core.proofs.Entries.{not_there, same_answer, IsNamed, Unanswered, unanswered-push}
 use Rattle.cluster_core.proofs.Fitting.{Called, called-keeps}
-use Rattle.cluster_core.proofs.NodeTables.{IsOwn, target_goes_on}
-use Rattle.cluster_core.proofs.Covering.{Covered}
+use Rattle.cluster_core.specs.Evidence.{IsAbout}
+use Rattle.cluster_core.proofs.NodeTables.{IsOwn, GoesOn, target_goes_on}
 use Rattle.cluster_core.proofs.Tries.{IsReady, IsServed, Continues, IsSilent}
 
 -- an open call: it passes its tests, stands in the run, and is not answered there
@@ -28,7 +37,6 @@ pub record IsOpen (past : List Entry) (s : NodeState) (c : OpenCall) : Type 0 wh
 -- what holds of a node after a run
 pub record Holds (past : List Entry) (s : NodeState) : Type 0 where
   pub own : IsOwn s.table s.node s.incarnation
-  pub covered : Covered s
   pub waiting : All (IsOpen past s) s.pending
   pub numbers : (id : CallId) → IsNamed past id → id.node ≡ s.node → id.incarnation ≡ s.incarnation → id.number ≤ s.calls
 
@@ -48,17 +56,21 @@ open-push past e s c other o = record {
   unanswered = unanswered-push past e (id_of s c.number) o.unanswered other;
 }
 
+-- what a call is about it stays about while its process goes on
+about_goes_on : (t u : Table) (node incarnation pid : ℕ) (op : Op) (mode : Mode) (c : Target) → GoesOn (t.on node incarnation) (u.on node incarnation) → IsAbout t (record { node = node; incarnation = incarnation; pid = pid }) op mode c → IsAbout u (record { node = node; incarnation = incarnation; pid = pid }) op mode c
+about_goes_on t u node incarnation pid (Set fd kind m start len) mode c g a = (a.0, target_goes_on t u node incarnation pid (Some m) fd kind start len c g a.1)
+about_goes_on t u node incarnation pid (Query fd kind m start len) mode c g a = (a.0, target_goes_on t u node incarnation pid None fd kind start len c g a.1)
+about_goes_on t u node incarnation pid Spawn mode c g a = a
+about_goes_on t u node incarnation pid (Open file access) mode c g a = a
+about_goes_on t u node incarnation pid (Unlock fd kind start len) mode c g a = a
+
 -- and while its node goes on
 pub ready-continues : (s u : NodeState) (pid : ℕ) (op : Op) (c : OpenCall) → Continues s u → IsReady s.table (process s pid) op c → IsReady u.table (process u pid) op c
 ready-continues s u pid op c g r =
     let P : Process → Type 0 = λ p. IsReady u.table p op c in
     subst P (sym (same_process s u pid g.node g.incarnation)) (record {
-      fd = r.fd;
-      kind = r.kind;
-      start = r.start;
-      len = r.len;
-      is_set = r.is_set;
-      passes = target_goes_on s.table u.table s.node s.incarnation pid (Some c.mode) r.fd r.kind r.start r.len (target_of c) g.follows.goes_on r.passes;
+      is_for = r.is_for;
+      passes = about_goes_on s.table u.table s.node s.incarnation pid op c.mode (target_of c) g.follows.goes_on r.passes;
     })
 
 pub open-continues : (past : List Entry) (s u : NodeState) (c : OpenCall) → Continues s u → IsOpen past s c → IsOpen past u c
@@ -101,16 +113,38 @@ others_wait past e s u number reply g is waiting =
     All-both : ((c : OpenCall) → IsOpen past s c → not (c.number == number) ≡ true → IsOpen (past ++ e ∷ []) u c) → (cs : List OpenCall) → All (IsOpen past s) cs → All (λ c. not (c.number == number) ≡ true) cs → All (IsOpen (past ++ e ∷ []) u) cs
     All-both f cs a b k d lt = f _ (a k d lt) (b k d lt)
 
--- an open call that is found is one of those
-pub found_open : (P : OpenCall → Type 0) (number : ℕ) (calls : List OpenCall) (c : OpenCall) → All P calls → find (λ d. d.number == number) calls ≡ Some c → P c × (c.number ≡ number)
-found_open P number [] c a h = absurd (cc)
-found_open P number (d ∷ ds) c a h =
-    elim (d.number == number) as (λ b. (d.number == number) ≡ b → (if b then Some d else find (λ x. x.number == number) ds) ≡ Some c → P c × (c.number ≡ number)) [
+-- an open call that is found is one of those, and passes
+pub found_open : (test : OpenCall → Bool) (calls : List OpenCall) (c : OpenCall) → find test calls ≡ Some c → Contains calls c × (test c ≡ true)
+found_open test [] c h = absurd (cc)
+found_open test (d ∷ ds) c h =
+    elim (test d) as (λ b. test d ≡ b → (if b then Some d else find test ds) ≡ Some c → Contains (d ∷ ds) c × (test c ≡ true)) [
       | true ↦ λ t f.
           let same : d ≡ c = cc in
-          (subst P same (All-head P d ds a), ap (λ (x : OpenCall). x.number) (sym same) ∙ eqb-true d.number number t)
-      | false ↦ λ t f. found_open P number ds c (All-tail P d ds a) f
+          subst (λ (x : OpenCall). Contains (d ∷ ds) x × (test x ≡ true)) same ((0, omega arith, refl), t)
+      | false ↦ λ t f.
+          let later = found_open test ds c f in
+          let place = later.0 in
+          let below = place.1 in
+          ((suc place.0, omega arith, place.2), later.1)
     ] refl h
+
+-- each open call was open before, or is the one that the entry names
+abbrev pub StayOpen : NodeState → NodeState → Entry → Type 0
+StayOpen s u e = All (λ c. Contains s.pending c ⊎ (e.call ≡ Some (id_of u c.number))) u.pending
+
+-- calls that stay, that are closed, and one that opens
+pub stay_same : (s u : NodeState) (e : Entry) → u.pending ≡ s.pending → StayOpen s u e
+stay_same s u e same = All-weaker (Contains s.pending) (λ c. Contains s.pending c ⊎ (e.call ≡ Some (id_of u c.number))) (λ c there. inl there) u.pending (All-same (Contains s.pending) u.pending s.pending same (All-contains_itself s.pending))
+
+pub stay_closed : (s u : NodeState) (e : Entry) (number : ℕ) → u.pending ≡ (without_call s number).pending → StayOpen s u e
+stay_closed s u e number same =
+    let test : OpenCall → Bool = λ c. not (c.number == number) in
+    All-weaker (Contains s.pending) (λ c. Contains s.pending c ⊎ (e.call ≡ Some (id_of u c.number))) (λ c there. inl there) u.pending (All-same (Contains s.pending) u.pending (filter test s.pending) same (All-filter test (Contains s.pending) s.pending (All-contains_itself s.pending)))
+
+pub stay_opened : (s u : NodeState) (e : Entry) (c : OpenCall) → u.pending ≡ s.pending ++ c ∷ [] → e.call ≡ Some (id_of u c.number) → StayOpen s u e
+stay_opened s u e c same named =
+    let P : OpenCall → Type 0 = λ d. Contains s.pending d ⊎ (e.call ≡ Some (id_of u d.number)) in
+    All-same P u.pending (s.pending ++ c ∷ []) same (All-push P s.pending c (All-weaker (Contains s.pending) P (λ d there. inl there) s.pending (All-contains_itself s.pending)) (inr named))
 
 -- what an entry says of calls of this node: it answers one of them by a step of its table and under its token, or leaves the table
 pub record IsExplained (past : List Entry) (s u : NodeState) (e : Entry) : Type 0 where
@@ -125,13 +159,37 @@ pub record IsExplained (past : List Entry) (s u : NodeState) (e : Entry) : Type 
   pub step : Step s.table (process s pid) op reply u.table
   pub served : IsServed s.table (process s pid) op reply u
 
+-- the entry answers an open call that a server denied, with the lock that it names, and leaves the table
+pub record IsDenied (s u : NodeState) (e : Entry) : Type 0 where
+  pub file : ℕ
+  pub call : CallId
+  pub holder : Host
+  pub number : ℕ
+  pub lock : LockInfo
+  pub is_deny : e.event ≡ Deliver (Deny file call holder number lock)
+  pub answering : OpenCall
+  pub there : Contains s.pending answering
+  pub named : id_of s answering.number ≡ call
+  pub is_reply : e.reply ≡ Some (call, refusal_of answering.intent lock)
+  pub table : u.table ≡ s.table
+
+-- no reply comes of a denial but that
+abbrev pub IsNoDenial : Event → Type 0
+IsNoDenial (Deliver (Deny file call holder number lock)) = ⊥
+IsNoDenial _ = Unit {0}
+
+-- what an entry says of calls of this node
+abbrev pub Ends : List Entry → NodeState → NodeState → Entry → Type 0
+Ends past s u e = (IsExplained past s u e × IsNoDenial e.event) ⊎ (IsDenied s u e ⊎ IsSilent s u e.reply)
+
 -- a step of a node with its entry
 pub record Moves (past : List Entry) (s u : NodeState) (e : Entry) : Type 0 where
   pub holds : Holds (past ++ e ∷ []) u
   pub node : u.node ≡ s.node
   pub incarnation : u.incarnation ≡ s.incarnation
   pub fresh : (id : CallId) → e.call ≡ Some id → (id.node ≡ s.node) × (IsNamed past id → ⊥)
-  pub ends : IsExplained past s u e ⊎ IsSilent s u e.reply
+  pub stay : StayOpen s u e
+  pub ends : Ends past s u e
 
 -- a call that opens
 pub opened : (past : List Entry) (e : Entry) (s : NodeState) (number pid : ℕ) (op : Op) (c : OpenCall) → c.number ≡ number → c.pid ≡ pid → IsReady s.table (process s pid) op c → IsProcess (process s pid) → Called (past ++ e ∷ []) (id_of s number) pid op → Unanswered (past ++ e ∷ []) (id_of s number) → IsOpen (past ++ e ∷ []) s c

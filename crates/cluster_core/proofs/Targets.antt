@@ -134,3 +134,10 @@ target-keeps t u p need fd kind start len c runs stands h =
     let now : target_at p need kind (descriptor u p fd) (seg start len) ≡ Ok c = subst P (sym there) (subst P passes.there before.1) in
     let Q : Bool → Type 0 = λ b. (if b then target_at p need kind (descriptor u p fd) (seg start len) else Err NoProcess) ≡ Ok c in
     subst Q (sym (runs before.0)) now
+
+-- what passes its tests is about bytes of a file
+pub target_span : (t : Table) (p : Process) (need : Option Mode) (fd : ℕ) (kind : Kind) (start len : ℤ) (c : Target) → target t p need fd kind start len ≡ Ok c → IsSpan c.span
+target_span t p need fd kind start len c h =
+    let runs = if_then (is_running t p) (target_at p need kind (descriptor t p fd) (seg start len)) c NoProcess h in
+    let passes = passes_at p need kind (descriptor t p fd) (seg start len) c runs.1 in
+    subst (λ (x : Target). IsSpan x.span) passes.is (seg_span start len passes.span passes.names)

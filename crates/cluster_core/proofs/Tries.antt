@@ -1,6 +1,6 @@
 -- What a node makes of a call: it answers as its own table may, or leaves the call open.
 use Rattle.std.proofs.Common.{◌≡◌, ℕ, Bool, true, false, not, if◌then◌else◌, ◌==◌, ◌⊎◌, inl, inr, refl, sym, ◌∙◌, ap, subst, ℤ, nat_le, List, [], ◌∷◌, ◌++◌, filter, append-nil, Option, Some, None, MatchOption, Result, Ok, Err}
-use Rattle.std.proofs.lemmas.Bool.{eq-eqb}
+use Rattle.std.proofs.lemmas.Bool.{eqb-true, eq-eqb}
 use Rattle.std.proofs.lemmas.List.Elements.{filter-append}
 use Rattle.model.specs.declared.mode.Mode.{Mode}
 use Rattle.model.specs.declared.owner.Kind.{Kind}
@@ -9,31 +9,82 @@ use Rattle.model.specs.declared.lock_info.LockInfo.{LockInfo}
 use Rattle.model.specs.declared.process.Process.{Process}
 use Rattle.model.specs.declared.call.CallId.{CallId}
 use Rattle.model.specs.declared.op.Op.{Op}
-use Rattle.model.specs.declared.op.Op.TheVariants.{Spawn, Open, Set, Unlock}
+use Rattle.model.specs.declared.op.Op.TheVariants.{Spawn, Open, Set, Unlock, Query}
 use Rattle.model.specs.declared.reply.Reply.{Reply}
-use Rattle.model.specs.declared.reply.Reply.TheVariants.{Done, Again, BadFd, NoLocks}
+use Rattle.model.specs.declared.reply.Reply.TheVariants.{Done, NoLocks, Free}
 use Rattle.model.specs.Limits.{IsNumber, most_processes, most_regions}
-use Rattle.model.specs.Locks.{IsOfNode, IsFree, IsLowestBlocker, lowest_blocker}
+use Rattle.model.specs.Locks.{IsOfNode, IsFree, IsLowestBlocker, Blocks, lowest_blocker}
 use Rattle.model.proofs.BlockerLaws.{lowest_is_lowest}
 use Rattle.model.specs.Descriptors.{after_spawn, after_open}
 use Rattle.model.specs.Table.{Table, Target, around, beside, target, lock_within, locked, regions_with, after_unlock}
-use Rattle.model.specs.Step.{Step, SetStep, AfterTests, Unblocked}
-use Rattle.token_set.specs.Tokens.{covers}
+use Rattle.model.specs.Step.{Step, SetStep, QueryStep, AfterTests, Unblocked}
+use Rattle.token_set.specs.Tokens.{Token, covers}
+use Rattle.messages.specs.declared.message.Message.TheVariants.{Freed}
+use Rattle.node_core.specs.declared.open_call.Intent.{Intent}
+use Rattle.node_core.specs.declared.open_call.Intent.TheVariants as intent
 use Rattle.node_core.specs.declared.open_call.OpenCall.{OpenCall}
-use Rattle.node_core.specs.State.{NodeState, Effect, without_call, process, id_of, target_of}
-use Rattle.node_core.specs.Try.{settled, requested, tried, tried_against}
-use Rattle.node_core.specs.Calls.{called, lock_call}
-use Rattle.cluster_core.proofs.Targets.{ok_is}
+use Rattle.node_core.specs.State.{NodeState, Effect, without_call, with_file, host, process, id_of, target_of}
+use Rattle.node_core.specs.Try.{settled, requested, refusal_of, may_free, with_freed, locked_by, answered_here, tried, tried_against}
+use Rattle.node_core.specs.Calls.{called, lock_call, unlock_call}
+use Rattle.cluster_core.specs.Evidence.{IsAbout}
+use Rattle.cluster_core.proofs.Targets.{IsTarget, ok_is}
 use Rattle.cluster_core.proofs.NodeTables.{IsOwn, Follows, same_follows, spawn_follows, open_follows, lock_follows, unlock_follows, target_own}
 
--- the open call is this set of its process, and passes its tests
+-- what an open call asks for
+abbrev pub IsFor : Intent → Op → Type 0
+IsFor intent.Set (Set fd kind mode start len) = Unit {0}
+IsFor intent.Query (Query fd kind mode start len) = Unit {0}
+IsFor _ _ = ⊥
+
+-- the open call is this call of its process, and passes its tests
 pub record IsReady (t : Table) (p : Process) (op : Op) (c : OpenCall) : Type 0 where
-  pub fd : ℕ
-  pub kind : Kind
-  pub start : ℤ
-  pub len : ℤ
-  pub is_set : op ≡ Set fd kind c.mode start len
-  pub passes : target t p (Some c.mode) fd kind start len ≡ Ok (target_of c)
+  pub is_for : IsFor c.intent op
+  pub passes : IsAbout t p op c.mode (target_of c)
+
+-- a call is about one thing
+pub about_one : (t : Table) (p : Process) (op : Op) (m n : Mode) (c d : Target) → IsAbout t p op m c → IsAbout t p op n d → (m ≡ n) × (c ≡ d)
+about_one t p (Set fd kind mode start len) m n c d a b = (sym a.0 ∙ b.0, ok_is c d (sym a.1 ∙ b.1))
+about_one t p (Query fd kind mode start len) m n c d a b = (sym a.0 ∙ b.0, ok_is c d (sym a.1 ∙ b.1))
+about_one t p Spawn m n c d a b = absurd a
+about_one t p (Open file access) m n c d a b = absurd a
+about_one t p (Unlock fd kind start len) m n c d a b = absurd a
+
+-- what the one table may answer to it
+abbrev pub LockStep : Table → Intent → Mode → Reply → Table → Target → Type 0
+LockStep t intent.Set = SetStep t
+LockStep t intent.Query = QueryStep t
+
+-- a call that passes its tests is answered as its answer says
+pub about_step : (t : Table) (p : Process) (op : Op) (i : Intent) (mode : Mode) (c : Target) (reply : Reply) (u : Table) → IsFor i op → IsAbout t p op mode c → LockStep t i mode reply u c → Step t p op reply u
+about_step t p (Set fd kind m start len) intent.Set mode c reply u f a step =
+    let P : Mode → Type 0 = λ k. SetStep t k reply u c in
+    let Q : Result Target Reply → Type 0 = λ x. AfterTests t x reply u (SetStep t m reply u) in
+    subst Q (sym a.1) (subst P (sym a.0) step)
+about_step t p (Query fd kind m start len) intent.Query mode c reply u f a step =
+    let P : Mode → Type 0 = λ k. QueryStep t k reply u c in
+    let Q : Result Target Reply → Type 0 = λ x. AfterTests t x reply u (QueryStep t m reply u) in
+    subst Q (sym a.1) (subst P (sym a.0) step)
+about_step t p (Set fd kind m start len) intent.Query mode c reply u f a step = absurd f
+about_step t p (Query fd kind m start len) intent.Set mode c reply u f a step = absurd f
+about_step t p Spawn i mode c reply u f a step = absurd a
+about_step t p (Open file access) i mode c reply u f a step = absurd a
+about_step t p (Unlock fd kind start len) i mode c reply u f a step = absurd a
+
+-- a lock in the way is named
+pub blocked_step : (t : Table) (i : Intent) (mode : Mode) (lock : LockInfo) (c : Target) → Blocks (t.locks c.file) c.owner c.span mode lock → LockStep t i mode (refusal_of i lock) t c
+blocked_step t intent.Set mode lock c b = (b, refl)
+blocked_step t intent.Query mode lock c b = (b, refl)
+
+-- the reply tells that no lock is in the way
+abbrev pub IsUnhindered : Reply → Type 0
+IsUnhindered Done = Unit {0}
+IsUnhindered NoLocks = Unit {0}
+IsUnhindered Free = Unit {0}
+IsUnhindered _ = ⊥
+
+hindered : (i : Intent) (lock : LockInfo) → IsUnhindered (refusal_of i lock) → ⊥
+hindered intent.Set lock u = u
+hindered intent.Query lock u = u
 
 -- the node goes on: its name stays, and its table follows
 pub record Continues (s u : NodeState) : Type 0 where
@@ -41,9 +92,9 @@ pub record Continues (s u : NodeState) : Type 0 where
   pub incarnation : u.incarnation ≡ s.incarnation
   pub follows : Follows s.table u.table s.node s.incarnation
 
--- a set that is done, or refused for the number of regions, asked for bytes that the token covers
+-- where the reply tells that no lock is in the way, the token covers the bytes
 abbrev pub IsServed : Table → Process → Op → Reply → NodeState → Type 0
-IsServed t p op reply u = (fd : ℕ) (kind : Kind) (mode : Mode) (start len : ℤ) (c : Target) → op ≡ Set fd kind mode start len → (reply ≡ Done) ⊎ (reply ≡ NoLocks) → target t p (Some mode) fd kind start len ≡ Ok c → covers (u.files c.file).token c.span mode ≡ true
+IsServed t p op reply u = (mode : Mode) (c : Target) → IsUnhindered reply → IsAbout t p op mode c → covers (u.files c.file).token c.span mode ≡ true
 
 -- the call is answered as the node's table and token may answer it, and is open no longer
 pub record IsAnswered (s : NodeState) (number pid : ℕ) (op : Op) (u : NodeState) (o : Option (CallId × Reply)) : Type 0 where
@@ -82,57 +133,72 @@ pub record Taken (s : NodeState) (number pid : ℕ) (op : Op) (u : NodeState) (o
 same_continues : (s : NodeState) (pending : List OpenCall) → IsOwn s.table s.node s.incarnation → Continues s (record s { pending = pending })
 same_continues s pending own = record { node = refl; incarnation = refl; follows = same_follows s.table s.node s.incarnation own }
 
--- the table's answer
-settled_continues : (s : NodeState) (number : ℕ) (answer : Table × Reply) → Follows s.table answer.0 s.node s.incarnation → Continues s (settled s number answer).state
-settled_continues s number answer follows = record { node = refl; incarnation = refl; follows = follows }
+-- the call is answered by the table, and tokens stay
+pub record Settles (s : NodeState) (number : ℕ) (answer : Table × Reply) (e : Effect) : Type 0 where
+  pub node : e.state.node ≡ s.node
+  pub incarnation : e.state.incarnation ≡ s.incarnation
+  pub calls : e.state.calls ≡ s.calls
+  pub table : e.state.table ≡ answer.0
+  pub is_reply : e.reply ≡ Some (id_of s number, answer.1)
+  pub closed : e.state.pending ≡ (without_call s number).pending
+  pub tokens : (file : ℕ) → (e.state.files file).token ≡ (s.files file).token
 
-settled_answers : (s : NodeState) (number pid : ℕ) (op : Op) (answer : Table × Reply) → Step s.table (process s pid) op answer.1 answer.0 → IsServed s.table (process s pid) op answer.1 s → IsAnswered s number pid op (settled s number answer).state (settled s number answer).reply
-settled_answers s number pid op answer step served = record { reply = answer.1; is_reply = refl; step = step; served = served; closed = refl }
+settled_settles : (s : NodeState) (number : ℕ) (answer : Table × Reply) → Settles s number answer (settled s number answer)
+settled_settles s number answer = record { node = refl; incarnation = refl; calls = refl; table = refl; is_reply = refl; closed = refl; tokens = λ file. refl }
 
-settled_taken : (s : NodeState) (number pid : ℕ) (op : Op) (answer : Table × Reply) → Step s.table (process s pid) op answer.1 answer.0 → IsServed s.table (process s pid) op answer.1 s → Follows s.table answer.0 s.node s.incarnation → Taken s number pid op (settled s number answer).state (settled s number answer).reply
-settled_taken s number pid op answer step served follows = record { continues = settled_continues s number answer follows; calls = refl; ends = inl (settled_answers s number pid op answer step served) }
+-- that locks may be gone is told at most
+freed_settles : (s : NodeState) (number file : ℕ) (answer : Table × Reply) → Settles s number answer (with_freed file (settled s number answer))
+freed_settles s number file answer =
+    let e = settled s number answer in
+    let told : Effect = record { state = with_file e.state file (record (e.state.files file) { asked = false }); reply = e.reply; sends = e.sends ++ Freed file (host e.state) ∷ [] } in
+    elim (s.files file).asked as (λ b. Settles s number answer (if b then told else e)) [
+      | true ↦ record { node = refl; incarnation = refl; calls = refl; table = refl; is_reply = refl; closed = refl; tokens = token }
+      | false ↦ settled_settles s number answer
+    ]
+  where
+    token : (f : ℕ) → (if f == file then record (s.files file) { asked = false } else s.files f).token ≡ (s.files f).token
+    token f = elim (f == file) as (λ b. (f == file) ≡ b → (if b then record (s.files file) { asked = false } else s.files f).token ≡ (s.files f).token) [
+      | true ↦ λ h. ap (λ (k : ℕ). (s.files k).token) (sym (eqb-true f file h))
+      | false ↦ λ h. refl
+    ] refl
 
--- what a set is about
-abbrev sought : Table → Process → Op → Result Target Reply
-sought t p (Set fd kind mode start len) = target t p (Some mode) fd kind start len
-sought t p _ = Err BadFd
+locked_by_settles : (s : NodeState) (number : ℕ) (c : Target) (mode : Option Mode) → Settles s number (lock_within s.table c mode) (locked_by s number c mode)
+locked_by_settles s number c mode =
+    let answer = lock_within s.table c mode in
+    elim (may_free mode answer.1) as (λ b. Settles s number answer (if b then with_freed c.file (settled s number answer) else settled s number answer)) [
+      | true ↦ freed_settles s number c.file answer
+      | false ↦ settled_settles s number answer
+    ]
 
-abbrev mode_of : Op → Mode → Mode
-mode_of (Set fd kind mode start len) otherwise = mode
-mode_of _ otherwise = otherwise
+unlock_settles : (s : NodeState) (number : ℕ) (found : Result Target Reply) → Settles s number (after_unlock s.table found) (unlock_call s number found)
+unlock_settles s number (Err refusal) = record { node = refl; incarnation = refl; calls = refl; table = refl; is_reply = refl; closed = refl; tokens = λ file. refl }
+unlock_settles s number (Ok c) = locked_by_settles s number c None
 
--- a set whose bytes the token covers
-set_served : (t : Table) (p : Process) (op : Op) (c : OpenCall) (reply : Reply) (u : NodeState) → IsReady t p op c → covers (u.files c.file).token c.span c.mode ≡ true → IsServed t p op reply u
-set_served t p op c reply u ready given fd kind mode start len d is answer there =
-    let same = sym ready.is_set ∙ is in
-    let about : target_of c ≡ d = ok_is (target_of c) d (sym ready.passes ∙ ap (sought t p) same ∙ there) in
-    let modes : c.mode ≡ mode = ap (λ o. mode_of o mode) same in
-    subst (λ (x : Target). covers (u.files x.file).token x.span mode ≡ true) about (subst (λ (m : Mode). covers (u.files c.file).token c.span m ≡ true) modes given)
+module _ (s : NodeState) (number : ℕ) (answer : Table × Reply) (e : Effect) (h : Settles s number answer e) where
+  settles_continues : Follows s.table answer.0 s.node s.incarnation → Continues s e.state
+  settles_continues follows =
+      let P : Table → Type 0 = λ t. Follows s.table t s.node s.incarnation in
+      record { node = h.node; incarnation = h.incarnation; follows = subst P (sym h.table) follows }
 
--- one that fails a test, or that another lock blocks
-refused_served : (t : Table) (p : Process) (op : Op) (refusal reply : Reply) (u : NodeState) → sought t p op ≡ Err refusal → IsServed t p op reply u
-refused_served t p op refusal reply u err fd kind mode start len d is answer there = let e : Err refusal ≡ Ok d = sym err ∙ ap (sought t p) is ∙ there in absurd (cc)
+  settles_answers : (pid : ℕ) (op : Op) → Step s.table (process s pid) op answer.1 answer.0 → IsServed s.table (process s pid) op answer.1 s → IsAnswered s number pid op e.state e.reply
+  settles_answers pid op step served =
+      let P : Table → Type 0 = λ t. Step s.table (process s pid) op answer.1 t in
+      record {
+        reply = answer.1;
+        is_reply = h.is_reply;
+        step = subst P (sym h.table) step;
+        served = λ mode c free about. subst (λ (t : Token). covers t c.span mode ≡ true) (sym (h.tokens c.file)) (served mode c free about);
+        closed = h.closed;
+      }
 
-again_served : (t : Table) (p : Process) (op : Op) (lock : LockInfo) (u : NodeState) → IsServed t p op (Again lock) u
-again_served t p op lock u fd kind mode start len d is (inl e) there = absurd (cc)
-again_served t p op lock u fd kind mode start len d is (inr e) there = absurd (cc)
+  settles_taken : (pid : ℕ) (op : Op) → Step s.table (process s pid) op answer.1 answer.0 → IsServed s.table (process s pid) op answer.1 s → Follows s.table answer.0 s.node s.incarnation → Taken s number pid op e.state e.reply
+  settles_taken pid op step served follows = record { continues = settles_continues follows; calls = h.calls; ends = inl (settles_answers pid op step served) }
 
--- and other calls
-spawn_served : (t : Table) (p : Process) (reply : Reply) (u : NodeState) → IsServed t p Spawn reply u
-spawn_served t p reply u fd kind mode start len d is answer there = absurd (cc)
-
-open_served : (t : Table) (p : Process) (file : ℕ) (access : Access) (reply : Reply) (u : NodeState) → IsServed t p (Open file access) reply u
-open_served t p file access reply u fd kind mode start len d is answer there = absurd (cc)
-
-unlock_served : (t : Table) (p : Process) (k : ℕ) (of : Kind) (from count : ℤ) (reply : Reply) (u : NodeState) → IsServed t p (Unlock k of from count) reply u
-unlock_served t p k of from count reply u fd kind mode start len d is answer there = absurd (cc)
-
--- a set that passes its tests is answered as its answer says
-set_step : (t : Table) (p : Process) (op : Op) (c : OpenCall) (reply : Reply) (u : Table) → IsReady t p op c → SetStep t c.mode reply u (target_of c) → Step t p op reply u
-set_step t p op c reply u ready step =
-    let P : Op → Type 0 = λ o. Step t p o reply u in
-    let Q : Result Target Reply → Type 0 = λ x. AfterTests t x reply u (SetStep t c.mode reply u) in
-    subst P (sym ready.is_set) (subst Q (sym ready.passes) step)
+-- what the token covers is served
+served_by : (t : Table) (p : Process) (op : Op) (m : Mode) (c : Target) (reply : Reply) (u : NodeState) → IsAbout t p op m c → covers (u.files c.file).token c.span m ≡ true → IsServed t p op reply u
+served_by t p op m c reply u about given mode d free other =
+    let same = about_one t p op m mode c d about other in
+    subst (λ (x : Target). covers (u.files x.file).token x.span mode ≡ true) same.1 (subst (λ (k : Mode). covers (u.files c.file).token c.span k ≡ true) same.0 given)
 
 -- where no other lock is in the way the table answers by itself
 lock_step : (t : Table) (c : Target) (mode : Mode) → Unblocked t c mode → SetStep t mode (lock_within t c (Some mode)).1 (lock_within t c (Some mode)).0 c
@@ -148,27 +214,63 @@ of_owner : (t : Table) (node incarnation file n i : ℕ) → n ≡ node → i �
 of_owner t node incarnation file n i same_node same_incarnation own =
     subst (λ (k : ℕ). IsOfNode (t.locks file) k i) (sym same_node) (subst (λ (k : ℕ). IsOfNode (t.locks file) node k) (sym same_incarnation) (own.locks file))
 
+-- what a call of the node is about
+pub about_own : (t : Table) (node incarnation pid : ℕ) (op : Op) (mode : Mode) (c : Target) → IsNumber most_processes pid → IsOwn t node incarnation → IsAbout t (record { node = node; incarnation = incarnation; pid = pid }) op mode c → IsTarget node incarnation c
+about_own t node incarnation pid (Set fd kind m start len) mode c pid_in own a = target_own t node incarnation pid (Some m) fd kind start len c pid_in own a.1
+about_own t node incarnation pid (Query fd kind m start len) mode c pid_in own a = target_own t node incarnation pid None fd kind start len c pid_in own a.1
+about_own t node incarnation pid Spawn mode c pid_in own a = absurd a
+about_own t node incarnation pid (Open file access) mode c pid_in own a = absurd a
+about_own t node incarnation pid (Unlock fd kind start len) mode c pid_in own a = absurd a
+
+-- a call that the token covers is answered by the node's own table
+here_ends : (s : NodeState) (c : OpenCall) (op : Op) (i : Intent) → IsTarget s.node s.incarnation (target_of c) → IsOwn s.table s.node s.incarnation → IsFor i op → IsAbout s.table (process s c.pid) op c.mode (target_of c) → Unblocked s.table (target_of c) c.mode → covers (s.files c.file).token c.span c.mode ≡ true → Tried s c.number c.pid op (answered_here s c i).state (answered_here s c i).reply
+here_ends s c op intent.Set is own is_for about free given =
+    let p = process s c.pid in
+    let answer = lock_within s.table (target_of c) (Some c.mode) in
+    let e = locked_by s c.number (target_of c) (Some c.mode) in
+    let h = locked_by_settles s c.number (target_of c) (Some c.mode) in
+    let step = about_step s.table p op intent.Set c.mode (target_of c) answer.1 answer.0 is_for about (lock_step s.table (target_of c) c.mode free) in
+    record {
+      continues = settles_continues s c.number answer e h (lock_follows s.table s.node s.incarnation (target_of c) (Some c.mode) is own);
+      calls = h.calls;
+      ends = inl (settles_answers s c.number answer e h c.pid op step (served_by s.table p op c.mode (target_of c) answer.1 s about given));
+    }
+here_ends s c op intent.Query is own is_for about free given =
+    let p = process s c.pid in
+    record {
+      continues = same_continues s (without_call s c.number).pending own;
+      calls = refl;
+      ends = inl (record {
+        reply = Free;
+        is_reply = refl;
+        step = about_step s.table p op intent.Query c.mode (target_of c) Free s.table is_for about (free, refl);
+        served = served_by s.table p op c.mode (target_of c) Free s about given;
+        closed = refl;
+      });
+    }
+
 -- an open call is tried
 pub tried_ends : (s : NodeState) (c : OpenCall) (op : Op) → IsNumber most_processes c.pid → IsOwn s.table s.node s.incarnation → IsReady s.table (process s c.pid) op c → Tried s c.number c.pid op (tried s c).state (tried s c).reply
 tried_ends s c op pid_in own ready =
     let h = s.table.locks c.file in
     let p = process s c.pid in
-    let is = target_own s.table s.node s.incarnation c.pid (Some c.mode) ready.fd ready.kind ready.start ready.len (target_of c) pid_in own ready.passes in
-    let answer = lock_within s.table (target_of c) (Some c.mode) in
+    let is = about_own s.table s.node s.incarnation c.pid op c.mode (target_of c) pid_in own ready.passes in
     elim (lowest_blocker h c.owner c.span c.mode) as (λ x. MatchOption x (IsFree h c.owner c.span c.mode) (IsLowestBlocker h c.owner c.span c.mode) → Tried s c.number c.pid op (tried_against s c x).state (tried_against s c x).reply) [
       | Some lock ↦ λ found. record {
         continues = same_continues s (without_call s c.number).pending own;
         calls = refl;
-        ends = inl (record { reply = Again lock; is_reply = refl; step = set_step s.table p op c (Again lock) s.table ready (found.blocks, refl); served = again_served s.table p op lock s; closed = refl });
+        ends = inl (record {
+          reply = refusal_of c.intent lock;
+          is_reply = refl;
+          step = about_step s.table p op c.intent c.mode (target_of c) (refusal_of c.intent lock) s.table ready.is_for ready.passes (blocked_step s.table c.intent c.mode lock (target_of c) found.blocks);
+          served = λ mode d free about. absurd (hindered c.intent lock free);
+          closed = refl;
+        });
       }
       | None ↦ λ free.
-          let out : Bool → Effect = λ b. if b then settled s c.number answer else requested s c in
+          let out : Bool → Effect = λ b. if b then answered_here s c c.intent else requested s c in
           elim (covers (s.files c.file).token c.span c.mode) as (λ b. covers (s.files c.file).token c.span c.mode ≡ b → Tried s c.number c.pid op (out b).state (out b).reply) [
-            | true ↦ λ given. record {
-              continues = settled_continues s c.number answer (lock_follows s.table s.node s.incarnation (target_of c) (Some c.mode) is own);
-              calls = refl;
-              ends = inl (settled_answers s c.number c.pid op answer (set_step s.table p op c answer.1 answer.0 ready (lock_step s.table (target_of c) c.mode free)) (set_served s.table p op c answer.1 s ready given));
-            }
+            | true ↦ λ given. here_ends s c op c.intent is own ready.is_for ready.passes free given
             | false ↦ λ other. record { continues = same_continues s s.pending own; calls = refl; ends = inr (record { no_reply = refl; table = refl }, refl) }
           ] refl
     ] (lowest_is_lowest h c.owner c.span c.mode (of_owner s.table s.node s.incarnation c.file c.owner.node c.owner.incarnation is.owner.node_is is.owner.incarnation_is own) is.span.ordered is.span.ends)
@@ -182,41 +284,60 @@ closed_again pending c =
     ∙ ap (λ b. kept ++ drop b) (eq-eqb c.number c.number refl)
     ∙ append-nil kept
 
-set_taken : (s : NodeState) (number pid fd : ℕ) (kind : Kind) (mode : Mode) (start len : ℤ) → IsNumber most_processes pid → IsOwn s.table s.node s.incarnation → Taken s number pid (Set fd kind mode start len) (called s number pid (Set fd kind mode start len)).state (called s number pid (Set fd kind mode start len)).reply
-set_taken s number pid fd kind mode start len pid_in own =
-    let p = process s pid in
-    let op = Set fd kind mode start len in
-    let found = target s.table p (Some mode) fd kind start len in
-    elim found as (λ x. found ≡ x → Taken s number pid op (lock_call s number pid mode x).state (lock_call s number pid mode x).reply) [
-      | Err refusal ↦ λ h. record {
-        continues = same_continues s (without_call s number).pending own;
-        calls = refl;
-        ends = inl (record {
-          reply = refusal;
-          is_reply = refl;
-          step = let Q : Result Target Reply → Type 0 = λ x. AfterTests s.table x refusal s.table (SetStep s.table mode refusal s.table) in subst Q (sym h) (refl, refl);
-          served = refused_served s.table p op refusal refusal s h;
-          closed = refl;
-        });
-      }
-      | Ok about ↦ λ h.
-          let c : OpenCall = record { number = number; pid = pid; file = about.file; owner = about.owner; mode = mode; span = about.span } in
-          let next = record s { pending = s.pending ++ c ∷ [] } in
-          let ready : IsReady s.table p op c = record { fd = fd; kind = kind; start = start; len = len; is_set = refl; passes = h } in
-          let t = tried_ends next c op pid_in own (record { fd = fd; kind = kind; start = start; len = len; is_set = refl; passes = h }) in
-          record {
-            continues = record { node = t.continues.node; incarnation = t.continues.incarnation; follows = t.continues.follows };
-            calls = t.calls;
-            ends = elim t.ends [
-              | inl a ↦ inl (record { reply = a.reply; is_reply = a.is_reply; step = a.step; served = a.served; closed = a.closed ∙ closed_again s.pending c })
-              | inr q ↦ inr (record { silent = record { no_reply = q.0.no_reply; table = q.0.table }; call = c; number_is = refl; pid_is = refl; ready = ready; pending = q.1 })
-            ];
-          }
-    ] refl
+-- a call that fails a test is refused by the one table too, and is about nothing
+pub record IsRefused (t : Table) (p : Process) (op : Op) (refusal : Reply) : Type 0 where
+  pub step : Step t p op refusal t
+  pub about_none : (mode : Mode) (c : Target) → IsAbout t p op mode c → ⊥
+
+-- a call about a lock
+lock_taken : (s : NodeState) (number pid : ℕ) (op : Op) (i : Intent) (mode : Mode) (found : Result Target Reply) → IsNumber most_processes pid → IsOwn s.table s.node s.incarnation → ((refusal : Reply) → found ≡ Err refusal → IsRefused s.table (process s pid) op refusal) → ((c : Target) → found ≡ Ok c → IsFor i op × IsAbout s.table (process s pid) op mode c) → Taken s number pid op (lock_call s number pid i mode found).state (lock_call s number pid i mode found).reply
+lock_taken s number pid op i mode (Err refusal) pid_in own fails passes =
+    let refused = fails refusal refl in
+    record {
+      continues = same_continues s (without_call s number).pending own;
+      calls = refl;
+      ends = inl (record { reply = refusal; is_reply = refl; step = refused.step; served = λ m c free about. absurd (refused.about_none m c about); closed = refl });
+    }
+lock_taken s number pid op i mode (Ok about) pid_in own fails passes =
+    let c : OpenCall = record { number = number; pid = pid; intent = i; file = about.file; owner = about.owner; mode = mode; span = about.span } in
+    let next = record s { pending = s.pending ++ c ∷ [] } in
+    let asks = passes about refl in
+    let ready : IsReady s.table (process s pid) op c = record { is_for = asks.0; passes = asks.1 } in
+    let t = tried_ends next c op pid_in own (record { is_for = asks.0; passes = asks.1 }) in
+    record {
+      continues = record { node = t.continues.node; incarnation = t.continues.incarnation; follows = t.continues.follows };
+      calls = t.calls;
+      ends = elim t.ends [
+        | inl a ↦ inl (record { reply = a.reply; is_reply = a.is_reply; step = a.step; served = a.served; closed = a.closed ∙ closed_again s.pending c })
+        | inr q ↦ inr (record { silent = record { no_reply = q.0.no_reply; table = q.0.table }; call = c; number_is = refl; pid_is = refl; ready = ready; pending = q.1 })
+      ];
+    }
+
+found_err : {A E : Type 0} (x : Result A E) (e : E) (a : A) → x ≡ Err e → x ≡ Ok a → ⊥
+found_err {A = A} {E = E} x e a fails passes = let both : ◌≡◌ {A = Result A E} (Err e) (Ok a) = sym fails ∙ passes in absurd (cc)
 
 -- a call is taken
 pub called_ends : (s : NodeState) (number pid : ℕ) (op : Op) → IsNumber most_processes pid → IsOwn s.table s.node s.incarnation → Taken s number pid op (called s number pid op).state (called s number pid op).reply
-called_ends s number pid Spawn pid_in own = settled_taken s number pid Spawn (beside s.table (process s pid) (after_spawn (around s.table (process s pid)) pid)) (refl, refl) (spawn_served s.table (process s pid) (beside s.table (process s pid) (after_spawn (around s.table (process s pid)) pid)).1 s) (spawn_follows s.table s.node s.incarnation pid own)
-called_ends s number pid (Open file access) pid_in own = settled_taken s number pid (Open file access) (beside s.table (process s pid) (after_open (around s.table (process s pid)) pid file access)) (refl, refl) (open_served s.table (process s pid) file access (beside s.table (process s pid) (after_open (around s.table (process s pid)) pid file access)).1 s) (open_follows s.table s.node s.incarnation pid file access pid_in own)
-called_ends s number pid (Set fd kind mode start len) pid_in own = set_taken s number pid fd kind mode start len pid_in own
-called_ends s number pid (Unlock fd kind start len) pid_in own = settled_taken s number pid (Unlock fd kind start len) (after_unlock s.table (target s.table (process s pid) None fd kind start len)) (refl, refl) (unlock_served s.table (process s pid) fd kind start len (after_unlock s.table (target s.table (process s pid) None fd kind start len)).1 s) (unlock_follows s.table s.node s.incarnation pid fd kind start len pid_in own)
+called_ends s number pid Spawn pid_in own =
+    let answer = beside s.table (process s pid) (after_spawn (around s.table (process s pid)) pid) in
+    settles_taken s number answer (settled s number answer) (settled_settles s number answer) pid Spawn (refl, refl) (λ mode c free about. absurd about) (spawn_follows s.table s.node s.incarnation pid own)
+called_ends s number pid (Open file access) pid_in own =
+    let answer = beside s.table (process s pid) (after_open (around s.table (process s pid)) pid file access) in
+    settles_taken s number answer (settled s number answer) (settled_settles s number answer) pid (Open file access) (refl, refl) (λ mode c free about. absurd about) (open_follows s.table s.node s.incarnation pid file access pid_in own)
+called_ends s number pid (Set fd kind mode start len) pid_in own =
+    let p = process s pid in
+    let found = target s.table p (Some mode) fd kind start len in
+    let Q : Reply → Result Target Reply → Type 0 = λ reply x. AfterTests s.table x reply s.table (SetStep s.table mode reply s.table) in
+    lock_taken s number pid (Set fd kind mode start len) intent.Set mode found pid_in own
+    (λ refusal h. record { step = subst (Q refusal) (sym h) (refl, refl); about_none = λ m c a. found_err found refusal c h a.1 })
+    (λ c h. (tt, (refl, h)))
+called_ends s number pid (Query fd kind mode start len) pid_in own =
+    let p = process s pid in
+    let found = target s.table p None fd kind start len in
+    let Q : Reply → Result Target Reply → Type 0 = λ reply x. AfterTests s.table x reply s.table (QueryStep s.table mode reply s.table) in
+    lock_taken s number pid (Query fd kind mode start len) intent.Query mode found pid_in own
+    (λ refusal h. record { step = subst (Q refusal) (sym h) (refl, refl); about_none = λ m c a. found_err found refusal c h a.1 })
+    (λ c h. (tt, (refl, h)))
+called_ends s number pid (Unlock fd kind start len) pid_in own =
+    let found = target s.table (process s pid) None fd kind start len in
+    settles_taken s number (after_unlock s.table found) (unlock_call s number found) (unlock_settles s number found) pid (Unlock fd kind start len) (refl, refl) (λ mode c free about. absurd about) (unlock_follows s.table s.node s.incarnation pid fd kind start len pid_in own)

@@ -1,93 +1,153 @@
 -- What holds of the cluster after each run.
-use Rattle.std.proofs.Common.{◌≡◌, ℕ, ◌+◌, true, false, if◌then◌else◌, ◌==◌, inl, inr, refl, sym, ◌∙◌, ap, subst, List, [], ◌∷◌, ◌++◌, length, Option, Some, None}
+use Rattle.std.proofs.Common.{◌≡◌, ℕ, ◌+◌, ◌≤◌, Bool, true, false, ◌||◌, if◌then◌else◌, ◌==◌, ◌⊎◌, inl, inr, refl, sym, ◌∙◌, ap, subst, arith, List, [], ◌∷◌, ◌++◌, length, length-append, get_or, All, Contains, Option, Some, None, Ok}
+use Rattle.std.specs.List.{list_any}
 use Rattle.std.proofs.lemmas.Bool.{eqb-true, eq-eqb, cases_Bool, both_ways}
-use Rattle.std.proofs.lemmas.List.Elements.{All-weaker}
+use Rattle.std.proofs.lemmas.List.Folds.{list_any-append}
+use Rattle.std.proofs.lemmas.List.Elements.{All-nil, All-same, All-append, All-weaker, All-contains, All-contains_itself}
 use Rattle.model.specs.declared.call.CallId.{CallId}
+use Rattle.model.specs.declared.mode.Mode.{Mode}
 use Rattle.model.specs.declared.op.Op.{Op}
 use Rattle.model.specs.declared.reply.Reply.{Reply}
-use Rattle.model.specs.Limits.{IsNumber}
-use Rattle.model.specs.Table.{Table, empty_table}
+use Rattle.model.specs.Limits.{IsNumber, IsProcess}
+use Rattle.model.specs.Table.{Table, Target}
 use Rattle.model.specs.Step.{Step}
+use Rattle.messages.specs.Shapes.{ShapeFields}
+use Rattle.messages.specs.declared.message.Message.{Message}
 use Rattle.messages.specs.declared.event.Event.{Event}
 use Rattle.messages.specs.declared.entry.Entry.{Entry}
 use Rattle.messages.specs.declared.outcome.Outcome.{Outcome}
-use Rattle.node_core.specs.State.{NodeState, process, id_of}
+use Rattle.node_core.specs.declared.open_call.OpenCall.{OpenCall}
+use Rattle.node_core.specs.State.{NodeState, process, id_of, target_of}
+use Rattle.node_core.specs.Try.{refusal_of}
 use Rattle.token_server.specs.State.{ServerState}
 use Rattle.cluster_core.specs.declared.item.Item.{Item}
-use Rattle.cluster_core.specs.declared.item.Item.TheVariants.{Answered}
-use Rattle.cluster_core.specs.World.{WorldState, has_node}
-use Rattle.cluster_core.specs.Next.{entry, recorded, with_node, with_server}
+use Rattle.cluster_core.specs.declared.item.Item.TheVariants.{Answered, Gone}
+use Rattle.cluster_core.specs.World.{WorldState, first_world, has_node}
+use Rattle.cluster_core.specs.Next.{next, entry, recorded, with_node, with_server}
+use Rattle.cluster_core.specs.Runs.{Leads}
 use Rattle.cluster_core.specs.Union.{union}
-use Rattle.cluster_core.specs.Histories.{IsRepliedAt, OneCall, OneReply, Legal, HasCall}
-use Rattle.cluster_core.specs.Placement.{items_at, item_of, history_of}
-use Rattle.cluster_core.proofs.Entries.{not_there, same_answer, IsNamed, Unanswered, named-push, named_called, one_call-push, one_reply-push}
-use Rattle.cluster_core.proofs.Fitting.{Fitting, Answers, IsExact, fitting-push, history_of-push}
+use Rattle.cluster_core.specs.Histories.{caller, EntryAt, IsRepliedAt, IsCalledAt, OneCall, OneReply}
+use Rattle.cluster_core.specs.Evidence.{IsAbout, IsAsked, HasEvidence}
+use Rattle.cluster_core.specs.Placement.{slots_of}
+use Rattle.cluster_core.proofs.JournalRuns.{leads_push}
+use Rattle.cluster_core.proofs.Entries.{not_there, same_answer, IsNamed, Unanswered, entry_at-push, called_at-push, named-push, named_called, one_call-push, one_reply-push}
+use Rattle.cluster_core.proofs.Fitting.{Called}
 use Rattle.cluster_core.proofs.Tries.{IsSilent}
-use Rattle.cluster_core.proofs.Nodes.{IsOpen, Holds, IsExplained, Moves, open-push}
+use Rattle.cluster_core.proofs.Nodes.{IsOpen, Holds, IsExplained, IsDenied, IsNoDenial, Moves, open-push}
 use Rattle.cluster_core.proofs.Unions.{union_same}
-use Rattle.cluster_core.proofs.Lifting.{IsFreeElsewhere, DiffersAt, step_lifts}
+use Rattle.cluster_core.proofs.Lifting.{IsFreeElsewhere, DiffersAt, step_lifts, about_lifts}
+use Rattle.cluster_core.proofs.Prefixes.{after_all}
+use Rattle.cluster_core.proofs.Slots.{Slotted, AllSlotted, Stands}
+use Rattle.cluster_core.proofs.Placing.{Placed, nothing_placed, answer_placed, denial_placed}
+use Rattle.cluster_core.proofs.Requested.{Comes, comes-weaker}
+use Rattle.cluster_core.proofs.Sends.{AsksFor}
+use Rattle.cluster_core.proofs.Witnesses.{IsAskedBy, Denies, Backed, HeldFor, StaysOpen, asked-keeps, backed-keeps}
+
+-- each message that an entry sent is among those that were sent
+abbrev pub Told : List Entry → List Message → Type 0
+Told past sent = (k : ℕ) (e : Entry) (test : Message → Bool) → EntryAt past k e → list_any test sent ≡ false → list_any test e.sends ≡ false
 
 -- the actors after a run, and the run itself
-pub record Good (past : List Entry) (w : WorldState) : Type 0 where
+pub record Good (shape : ShapeFields) (past : List Entry) (w : WorldState) : Type 0 where
+  pub leads : Leads (first_world shape) past w
   pub named : (n : ℕ) → (w.nodes n).node ≡ n
   pub incarnations : (n : ℕ) → IsNumber 65535 (w.nodes n).incarnation
   pub holds : (n : ℕ) → Holds past (w.nodes n)
   pub strangers : (n : ℕ) → has_node w n ≡ false → (w.nodes n).pending ≡ []
   pub one_call : OneCall past
   pub one_reply : OneReply past
-  pub fitting : Fitting past (history_of past)
-  pub legal : Legal empty_table (history_of past) (union w)
-
-pub Legal-append : (t u v : Table) (xs ys : List Item) → Legal t xs u → Legal u ys v → Legal t (xs ++ ys) v
-Legal-append t u v [] ys l m = let P : Table → Type 0 = λ x. Legal x ys v in subst P (sym l) m
-Legal-append t u v (x ∷ xs) ys l m = (l.0, l.1, Legal-append l.0 u v xs ys l.2 m)
+  pub told : Told past w.sent
+  pub asked : (n : ℕ) → All (IsAskedBy shape past (w.nodes n)) (w.nodes n).pending
+  pub backed : All (Backed shape past w) w.sent
+  pub comes : (file : ℕ) → Comes file (HeldFor shape past file) (Backed shape past w) (w.servers file)
+  pub slotted : Slotted shape past (slots_of past)
+  pub all : AllSlotted past (slots_of past)
 
 -- a call that is answered stands in the run
-pub replied_named : (past : List Entry) (h : List Item) → Fitting past h → (id : CallId) (reply : Reply) (at : ℕ) → IsRepliedAt past id reply at → IsNamed past id
-replied_named past h f id reply at r =
-    let c : HasCall h id reply = f.answered id reply at r in
-    let x : IsExact past (Answered c.1 id c.2 c.3 reply) = f.exact c.0 (Answered c.1 id c.2 c.3 reply) c.4 in
-    named_called past id c.2 c.3 x.0 x.1
+pub replied_named : (shape : ShapeFields) (past : List Entry) (w : WorldState) → Good shape past w → (id : CallId) (reply : Reply) (at : ℕ) → IsRepliedAt past id reply at → IsNamed past id
+replied_named shape past w g id reply at r =
+    let s = g.all id reply at r in
+    let stands : Stands past s.0 (Answered s.1 id s.2 s.3 reply) = g.slotted.stands s.0 (Answered s.1 id s.2 s.3 reply) s.4 in
+    named_called past id s.2 s.3 stands.1.interval.call_at stands.1.interval.called
 
 -- what holds of a node still holds after an entry that neither names nor answers a call of it
 unmentioned : (past : List Entry) (e : Entry) (s : NodeState) → ((id : CallId) → e.call ≡ Some id → id.node ≡ s.node → ⊥) → ((id : CallId) (reply : Reply) → e.reply ≡ Some (id, reply) → id.node ≡ s.node → ⊥) → Holds past s → Holds (past ++ e ∷ []) s
 unmentioned past e s no_call no_reply holds = record {
   own = holds.own;
-  covered = holds.covered;
   waiting = All-weaker (IsOpen past s) (IsOpen (past ++ e ∷ []) s) (λ c o. open-push past e s c (λ reply h. no_reply (id_of s c.number) reply h refl) o) s.pending holds.waiting;
   numbers = λ id n node incarnation. elim (named-push past e id n) [ inl old ↦ holds.numbers id old node incarnation | inr new ↦ absurd (no_call id new node) ];
 }
 
+both_false : (a b : Bool) → (a || b) ≡ false → (a ≡ false) × (b ≡ false)
+both_false true b h = absurd (cc)
+both_false false b h = (refl, h)
+
+told-push : (past : List Entry) (sent : List Message) (e : Entry) → Told past sent → Told (past ++ e ∷ []) (sent ++ e.sends)
+told-push past sent e told k d test at none =
+    let parts = both_false (list_any test sent) (list_any test e.sends) (sym (list_any-append test sent e.sends) ∙ none) in
+    elim (entry_at-push past e d k at) [
+      | inl old ↦ told k d test old parts.0
+      | inr new ↦ ap (λ (x : Entry). list_any test x.sends) (sym new.1) ∙ parts.1
+    ]
+
+stays_same : (past : List Entry) (s : NodeState) → StaysOpen past s s
+stays_same past s =
+    let P : OpenCall → Type 0 = λ c. (Contains s.pending c × (id_of s c.number ≡ id_of s c.number)) ⊎ (IsNamed past (id_of s c.number) → ⊥) in
+    All-weaker (Contains s.pending) P (λ c there. inl (there, refl)) s.pending (All-contains_itself s.pending)
+
+-- what servers keep, of which one may have made a step
+comes-push : (shape : ShapeFields) (past : List Entry) (e : Entry) (w v : WorldState) (file : ℕ) (t : ServerState) → ((n : ℕ) → StaysOpen past (w.nodes n) (v.nodes n)) → Comes file (HeldFor shape past file) (Backed shape past w) t → Comes file (HeldFor shape (past ++ e ∷ []) file) (Backed shape (past ++ e ∷ []) v) t
+comes-push shape past e w v file t stays c = comes-weaker file (HeldFor shape past file) (HeldFor shape (past ++ e ∷ []) file) (Backed shape past w) (Backed shape (past ++ e ∷ []) v) t
+    (λ r h. asked-keeps shape past e file r.call r.mode r.wanted.required h)
+    (λ m b. backed-keeps shape past e w v stays m b) c
+
 -- a step of a server
-module _ (past : List Entry) (w : WorldState) (file : ℕ) (t : ServerState) (event : Event) (o : Outcome) (no_call : o.call ≡ None) (no_reply : o.reply ≡ None) (g : Good past w) where
-  pub server_good : Good (past ++ entry event 0 o ∷ []) (recorded (with_server w file t) event 0 o).0
+module _ (shape : ShapeFields) (past : List Entry) (w : WorldState) (file : ℕ) (t : ServerState) (event : Event) (o : Outcome) (no_call : o.call ≡ None) (no_reply : o.reply ≡ None) (g : Good shape past w) (step : next w event ≡ Ok (recorded (with_server w file t) event 0 o)) (comes : Comes file (HeldFor shape past file) (Backed shape past w) t) (sends : All (Backed shape past w) o.sends) where
+  pub server_good : Good shape (past ++ entry event 0 o ∷ []) (recorded (with_server w file t) event 0 o).0
   server_good =
       let e = entry event 0 o in
       let v = (recorded (with_server w file t) event 0 o).0 in
-      let none : items_at (past ++ e ∷ []) (length past + 1) e.reply ≡ [] = ap (items_at (past ++ e ∷ []) (length past + 1)) no_reply in
+      let run = past ++ e ∷ [] in
+      let leads = leads_push (first_world shape) w v past e g.leads step in
+      let stays : (n : ℕ) → StaysOpen past (w.nodes n) (v.nodes n) = λ n. stays_same past (w.nodes n) in
+      let P : Message → Type 0 = Backed shape past w in
+      let Q : Message → Type 0 = Backed shape run v in
+      let keep : (m : Message) → P m → Q m = λ m b. backed-keeps shape past e w v stays m b in
+      let placed = nothing_placed shape past w v e g.slotted g.all g.leads leads no_reply refl in
       record {
+        leads = leads;
         named = g.named;
         incarnations = g.incarnations;
         holds = λ n. unmentioned past e (w.nodes n) (λ id h same. not_there o.call id no_call h) (λ id reply h same. not_there o.reply (id, reply) no_reply h) (g.holds n);
         strangers = g.strangers;
         one_call = one_call-push past e g.one_call (λ id h n. not_there o.call id no_call h);
         one_reply = one_reply-push past e g.one_reply (λ id reply h. absurd (not_there o.reply (id, reply) no_reply h));
-        fitting = subst (Fitting (past ++ e ∷ [])) (sym (history_of-push past e)) (fitting-push past (history_of past) e e.reply refl (subst (Answers (past ++ e ∷ [])) (sym no_reply) tt) g.fitting);
-        legal =
-            let P : List Item → Type 0 = λ is. Legal empty_table is (union v) in
-            let Q : List Item → Type 0 = λ is. Legal (union w) is (union v) in
-            subst P (sym (history_of-push past e)) (Legal-append empty_table (union w) (union v) (history_of past) _ g.legal (subst Q (sym none) refl));
+        told = told-push past w.sent e g.told;
+        asked = λ n. All-weaker (IsAskedBy shape past (w.nodes n)) (IsAskedBy shape run (w.nodes n)) (λ c a. asked-keeps shape past e c.file (id_of (w.nodes n) c.number) c.mode c.span a) (w.nodes n).pending (g.asked n);
+        backed = All-append Q w.sent o.sends (All-weaker P Q keep w.sent g.backed) (All-weaker P Q keep o.sends sends);
+        comes = λ f. comes-push shape past e w v f (v.servers f) stays (each f);
+        slotted = placed.slotted;
+        all = placed.all;
       }
+    where
+      each : (f : ℕ) → Comes f (HeldFor shape past f) (Backed shape past w) (if f == file then t else w.servers f)
+      each f = elim (f == file) as (λ b. (f == file) ≡ b → Comes f (HeldFor shape past f) (Backed shape past w) (if b then t else w.servers f)) [
+        | true ↦ λ h. subst (λ (k : ℕ). Comes k (HeldFor shape past k) (Backed shape past w) t) (sym (eqb-true f file h)) comes
+        | false ↦ λ h. g.comes f
+      ] refl
 
--- a step of a node, of which no other node's lock is in the way
-module _ (past : List Entry) (w : WorldState) (n : ℕ) (u : NodeState) (event : Event) (incarnation : ℕ) (o : Outcome) (g : Good past w) (moves : Moves past (w.nodes n) u (entry event incarnation o)) (strange : has_node w n ≡ false → (u.pending ≡ []) × IsSilent (w.nodes n) u o.reply) (free_elsewhere : (x : IsExplained past (w.nodes n) u (entry event incarnation o)) → has_node w n ≡ true → IsFreeElsewhere w n x.pid x.op x.reply) where
-  abbrev before : NodeState
+-- a step of a node
+module _ (shape : ShapeFields) (past : List Entry) (w : WorldState) (n : ℕ) (u : NodeState) (event : Event) (incarnation : ℕ) (o : Outcome) (g : Good shape past w) (step : next w event ≡ Ok (recorded (with_node w n u) event incarnation o)) (moves : Moves past (w.nodes n) u (entry event incarnation o)) (strange : has_node w n ≡ false → (u.pending ≡ []) × IsSilent (w.nodes n) u o.reply) where
+  abbrev pub before : NodeState
   before = w.nodes n
 
-  abbrev made : Entry
+  abbrev pub made : Entry
   made = entry event incarnation o
 
-  abbrev later : WorldState
+  abbrev pub run : List Entry
+  run = past ++ made ∷ []
+
+  abbrev pub later : WorldState
   later = (recorded (with_node w n u) event incarnation o).0
 
   -- each node is this one or another
@@ -100,34 +160,36 @@ module _ (past : List Entry) (w : WorldState) (n : ℕ) (u : NodeState) (event :
   other_call : (m : ℕ) → (m ≡ n → ⊥) → (id : CallId) → made.call ≡ Some id → id.node ≡ (w.nodes m).node → ⊥
   other_call m other id h same = other (sym (g.named m) ∙ sym same ∙ (moves.fresh id h).0 ∙ g.named n)
 
-  other_reply : (m : ℕ) → (m ≡ n → ⊥) → (id : CallId) (reply : Reply) → made.reply ≡ Some (id, reply) → id.node ≡ (w.nodes m).node → ⊥
-  other_reply m other id reply h same = elim moves.ends [
+  -- the call that is answered is of this node, and was not answered before
+  pub record IsFirstReply (id : CallId) : Type 0 where
+    pub node : id.node ≡ before.node
+    pub fresh : Unanswered past id
+
+  first_reply : (id : CallId) (reply : Reply) → made.reply ≡ Some (id, reply) → IsFirstReply id
+  first_reply id reply h = elim moves.ends [
     | inl x ↦
-        let is = (same_answer made.reply id (id_of before x.number) reply x.reply h x.is_reply).0 in
-        other (sym (g.named m) ∙ sym same ∙ ap (λ (c : CallId). c.node) is ∙ g.named n)
-    | inr silent ↦ not_there made.reply (id, reply) silent.no_reply h
+        let is = (same_answer made.reply id (id_of before x.0.number) reply x.0.reply h x.0.is_reply).0 in
+        record { node = ap (λ (c : CallId). c.node) is; fresh = subst (Unanswered past) (sym is) x.0.fresh }
+    | inr rest ↦ elim rest [
+      | inl d ↦
+          let is = (same_answer made.reply id d.call reply (refusal_of d.answering.intent d.lock) h d.is_reply).0 ∙ sym d.named in
+          let its = All-contains (IsOpen past before) before.pending d.answering (g.holds n).waiting d.there in
+          record { node = ap (λ (c : CallId). c.node) is; fresh = subst (Unanswered past) (sym is) its.unanswered }
+      | inr silent ↦ absurd (not_there made.reply (id, reply) silent.no_reply h)
+    ]
   ]
 
-  fresh_reply : (id : CallId) (reply : Reply) → made.reply ≡ Some (id, reply) → Unanswered past id
-  fresh_reply id reply h = elim moves.ends [
-    | inl x ↦ subst (Unanswered past) (sym (same_answer made.reply id (id_of before x.number) reply x.reply h x.is_reply).0) x.fresh
-    | inr silent ↦ absurd (not_there made.reply (id, reply) silent.no_reply h)
-  ]
-
-  answers : Answers (past ++ made ∷ []) made.reply
-  answers = elim moves.ends [
-    | inl x ↦ subst (Answers (past ++ made ∷ [])) (sym x.is_reply) (x.pid, x.op, x.called)
-    | inr silent ↦ subst (Answers (past ++ made ∷ [])) (sym silent.no_reply) tt
-  ]
+  other_reply : (m : ℕ) → (m ≡ n → ⊥) → (id : CallId) (reply : Reply) → made.reply ≡ Some (id, reply) → id.node ≡ (w.nodes m).node → ⊥
+  other_reply m other id reply h same = other (sym (g.named m) ∙ sym same ∙ (first_reply id reply h).node ∙ g.named n)
 
   pub all_named : (m : ℕ) → (later.nodes m).node ≡ m
   all_named = at_each (λ x m. x.node ≡ m) (moves.node ∙ g.named n) (λ m other. g.named m)
 
-  pub all_hold : (m : ℕ) → Holds (past ++ made ∷ []) (later.nodes m)
-  all_hold = at_each (λ x m. Holds (past ++ made ∷ []) x) moves.holds (λ m other. unmentioned past made (w.nodes m) (other_call m other) (other_reply m other) (g.holds m))
+  all_hold : (m : ℕ) → Holds run (later.nodes m)
+  all_hold = at_each (λ x m. Holds run x) moves.holds (λ m other. unmentioned past made (w.nodes m) (other_call m other) (other_reply m other) (g.holds m))
 
-  -- the union stays where nothing is answered
-  union_stays : u.table ≡ before.table → union later ≡ union w
+  -- the union stays where the table does
+  pub union_stays : u.table ≡ before.table → union later ≡ union w
   union_stays same = union_same w later refl
       (at_each (λ x m. x.incarnation ≡ (w.nodes m).incarnation) moves.incarnation (λ m other. refl))
       (at_each (λ x m. x.table ≡ (w.nodes m).table) same (λ m other. refl))
@@ -135,42 +197,142 @@ module _ (past : List Entry) (w : WorldState) (n : ℕ) (u : NodeState) (event :
   after : later.nodes n ≡ u
   after = rw (eq-eqb n n refl) refl
 
-  others_stay : (m : ℕ) → (m ≡ n → ⊥) → later.nodes m ≡ w.nodes m
+  pub others_stay : (m : ℕ) → (m ≡ n → ⊥) → later.nodes m ≡ w.nodes m
   others_stay m other = elim (cases_Bool (m == n)) [ inl same ↦ absurd (other (eqb-true m n same)) | inr apart ↦ rw apart refl ]
 
   differs : DiffersAt w later n
   differs = record { shape = refl; incarnation = ap (λ (x : NodeState). x.incarnation) after ∙ moves.incarnation; others = others_stay }
 
-  -- and makes the step of the node's table
-  union_steps : (pid : ℕ) (op : Op) (reply : Reply) → has_node w n ≡ true → IsFreeElsewhere w n pid op reply → Step before.table (process before pid) op reply u.table → Step (union w) (process before pid) op reply (union later)
-  union_steps pid op reply there free step =
-      let P : Table → Type 0 = λ t. Step before.table (process before pid) op reply t in
-      step_lifts w later n pid op reply there (g.named n) (g.holds n).own differs free (subst P (ap (λ (x : NodeState). x.table) (sym after)) step)
+  pub leads_on : Leads (first_world shape) run later
+  leads_on = leads_push (first_world shape) w later past made g.leads step
 
-  item_legal : Legal (union w) (items_at (past ++ made ∷ []) (length past + 1) made.reply) (union later)
-  item_legal =
-      let P : Option (CallId × Reply) → Type 0 = λ r. Legal (union w) (items_at (past ++ made ∷ []) (length past + 1) r) (union later) in
-      elim moves.ends [
-        | inl x ↦
-            let id = id_of before x.number in
-            let Q : Option (ℕ × Op) → Type 0 = λ c. Legal (union w) (item_of (length past + 1) id x.reply c) (union later) in
-            elim (cases_Bool (has_node w n)) [
-              | inl there ↦ subst P (sym x.is_reply) (subst Q (sym x.called.found) (union later, (x.is_process, union_steps x.pid x.op x.reply there (free_elsewhere x there) x.step), refl))
-              | inr stranger ↦ absurd (not_there made.reply (id, x.reply) (strange stranger).1.no_reply x.is_reply)
-            ]
-        | inr silent ↦ subst P (sym silent.no_reply) (sym (union_stays silent.table))
+  -- open calls were open before, or are new
+  pub stays : (m : ℕ) → StaysOpen past (w.nodes m) (later.nodes m)
+  stays = at_each (λ x m. StaysOpen past (w.nodes m) x) here (λ m other. stays_same past (w.nodes m))
+    where
+      P : OpenCall → Type 0
+      P c = Contains before.pending c ⊎ (made.call ≡ Some (id_of u c.number))
+
+      Q : OpenCall → Type 0
+      Q c = (Contains before.pending c × (id_of before c.number ≡ id_of u c.number)) ⊎ (IsNamed past (id_of u c.number) → ⊥)
+
+      same_id : (number : ℕ) → id_of before number ≡ id_of u number
+      same_id number = λ i. record { node = sym moves.node i; incarnation = sym moves.incarnation i; number = number }
+
+      here : StaysOpen past before u
+      here = All-weaker P Q (λ c stay. elim stay [ inl old ↦ inl (old, same_id c.number) | inr new ↦ inr (moves.fresh (id_of u c.number) new).1 ]) u.pending moves.stay
+
+  -- what a new call is about
+  new_asked : (c : OpenCall) → has_node w n ≡ true → IsOpen run u c → (IsNamed past (id_of u c.number) → ⊥) → IsAskedBy shape run u c
+  new_asked c there its new =
+      let id = id_of u c.number in
+      let called = its.called in
+      let late : length run ≤ called.at = elim (called_at-push past made id c.pid its.op called.at called.there) [
+        | inl old ↦ absurd (new (named_called past id c.pid its.op called.at old))
+        | inr last ↦ let is = last.0 in let long = length-append past (made ∷ []) in omega arith
+      ] in
+      let P : NodeState → Type 0 = λ x. IsAbout x.table (process x c.pid) its.op c.mode (target_of c) in
+      let Q : NodeState → Type 0 = λ x. IsAbout (union later) (process x c.pid) its.op c.mode (target_of c) in
+      record {
+        at = called.at;
+        pid = c.pid;
+        op = its.op;
+        called = called.there;
+        world = later;
+        after = after_all shape run called.at later late leads_on;
+        about = target_of c;
+        asks = subst Q after (about_lifts later n c.pid its.op c.mode (target_of c) there (all_named n) (subst P (sym after) its.ready.passes));
+        file_is = refl;
+        span_is = refl;
+      }
+
+  all_asked : (m : ℕ) → All (IsAskedBy shape run (later.nodes m)) (later.nodes m).pending
+  all_asked = at_each (λ x m. All (IsAskedBy shape run x) x.pending) here (λ m other. All-weaker (IsAskedBy shape past (w.nodes m)) (IsAskedBy shape run (w.nodes m)) (λ c a. asked-keeps shape past made c.file (id_of (w.nodes m) c.number) c.mode c.span a) (w.nodes m).pending (g.asked m))
+    where
+      same_id : (number : ℕ) → id_of before number ≡ id_of u number
+      same_id number = λ i. record { node = sym moves.node i; incarnation = sym moves.incarnation i; number = number }
+
+      one : (c : OpenCall) → has_node w n ≡ true → IsOpen run u c → Contains before.pending c ⊎ (made.call ≡ Some (id_of u c.number)) → IsAskedBy shape run u c
+      one c there its (inl old) =
+          let a = All-contains (IsAskedBy shape past before) before.pending c (g.asked n) old in
+          subst (λ (id : CallId). IsAsked shape run c.file id c.mode c.span) (same_id c.number) (asked-keeps shape past made c.file (id_of before c.number) c.mode c.span a)
+      one c there its (inr new) = new_asked c there its (moves.fresh (id_of u c.number) new).1
+
+      here : All (IsAskedBy shape run u) u.pending
+      here = elim (cases_Bool (has_node w n)) [
+        | inl there ↦ λ k d lt. one (get_or u.pending k d) there (moves.holds.waiting k d lt) (moves.stay k d lt)
+        | inr stranger ↦ All-same (IsAskedBy shape run u) u.pending [] (strange stranger).0 (All-nil (IsAskedBy shape run u))
       ]
 
-  pub node_good : Good (past ++ entry event incarnation o ∷ []) (recorded (with_node w n u) event incarnation o).0
-  node_good = record {
-    named = all_named;
-    incarnations = at_each (λ x m. IsNumber 65535 x.incarnation) (subst (IsNumber 65535) (sym moves.incarnation) (g.incarnations n)) (λ m other. g.incarnations m);
-    holds = all_hold;
-    strangers = at_each (λ x m. has_node w m ≡ false → x.pending ≡ []) (λ h. (strange h).0) (λ m other. g.strangers m);
-    one_call = one_call-push past made g.one_call (λ id h. (moves.fresh id h).1);
-    one_reply = one_reply-push past made g.one_reply fresh_reply;
-    fitting = subst (Fitting (past ++ made ∷ [])) (sym (history_of-push past made)) (fitting-push past (history_of past) made made.reply refl answers g.fitting);
-    legal =
-        let P : List Item → Type 0 = λ is. Legal empty_table is (union later) in
-        subst P (sym (history_of-push past made)) (Legal-append empty_table (union w) (union later) (history_of past) _ g.legal item_legal);
-  }
+  -- what the node asks for is backed
+  pub asks : AsksFor (Backed shape run later) u
+  asks c wanted there same =
+      let P : NodeState → Type 0 = λ x. All (IsAskedBy shape run x) x.pending in
+      let a = All-contains (IsAskedBy shape run u) u.pending c (subst P after (all_asked n)) there in
+      subst (IsAsked shape run c.file (id_of u c.number) c.mode) (sym same) a
+
+  -- and makes the step of the node's table
+  union_steps : (pid : ℕ) (op : Op) (reply : Reply) → has_node w n ≡ true → IsFreeElsewhere w n pid op reply → Step before.table (process before pid) op reply u.table → Step (union w) (process before pid) op reply (union later)
+  union_steps pid op reply there free local =
+      let P : Table → Type 0 = λ t. Step before.table (process before pid) op reply t in
+      step_lifts w later n pid op reply there (g.named n) (g.holds n).own differs free (subst P (ap (λ (x : NodeState). x.table) (sym after)) local)
+
+  -- the slots: a reply has the item of its call
+  module _ (free_elsewhere : (x : IsExplained past (w.nodes n) u (entry event incarnation o)) → has_node w n ≡ true → IsFreeElsewhere w n x.pid x.op x.reply) (denied : (d : IsDenied (w.nodes n) u (entry event incarnation o)) → Denies shape past w d.file d.call d.holder d.number d.lock) (sends : All (Backed shape run later) o.sends) where
+    abbrev Slots_placed : Type 0
+    Slots_placed = Placed shape past w later made g.slotted g.all g.leads leads_on
+
+    explained_placed : (x : IsExplained past before u made) → IsNoDenial made.event → Slots_placed
+    explained_placed x undenied = elim (cases_Bool (has_node w n)) [
+      | inl there ↦ answer_placed shape past w later made g.slotted g.all g.leads leads_on (id_of before x.number) x.pid x.op x.reply x.is_reply undenied x.called (x.is_process, union_steps x.pid x.op x.reply there (free_elsewhere x there) x.step)
+      | inr stranger ↦ absurd (not_there made.reply (id_of before x.number, x.reply) (strange stranger).1.no_reply x.is_reply)
+    ]
+
+    denied_placed : IsDenied before u made → Slots_placed
+    denied_placed d =
+        let c = d.answering in
+        let its = All-contains (IsOpen past before) before.pending c (g.holds n).waiting d.there in
+        let denial = denied d in
+        let ev = denial.evidence in
+        let reply = refusal_of c.intent d.lock in
+        let t = w.nodes d.call.node in
+        let node : d.call.node ≡ n = ap (λ (id : CallId). id.node) (sym d.named) ∙ g.named n in
+        let A : NodeState → Type 0 = λ x. All (λ (b : OpenCall). id_of x b.number ≡ d.call → Step (union ev.world) (caller d.call ev.asked.pid) ev.asked.op (refusal_of b.intent d.lock) (union ev.world)) x.pending in
+        let allowed = subst A (ap w.nodes node) denial.allows in
+        let step_there = All-contains (λ (b : OpenCall). id_of before b.number ≡ d.call → Step (union ev.world) (caller d.call ev.asked.pid) ev.asked.op (refusal_of b.intent d.lock) (union ev.world)) before.pending c allowed d.there d.named in
+        denial_placed shape past w later made g.slotted g.all g.leads leads_on d.call c.pid its.op reply d.is_reply d.file d.number d.holder d.lock ev d.is_deny
+        (subst (λ (id : CallId). Called past id c.pid its.op) d.named its.called)
+        (subst (Unanswered past) d.named its.unanswered)
+        g.one_call (sym (union_stays d.table))
+        (subst (λ (id : CallId). IsProcess (caller id c.pid)) d.named its.is_process)
+        step_there
+
+    placed : Slots_placed
+    placed = elim moves.ends [
+      | inl x ↦ explained_placed x.0 x.1
+      | inr rest ↦ elim rest [
+        | inl d ↦ denied_placed d
+        | inr silent ↦ nothing_placed shape past w later made g.slotted g.all g.leads leads_on silent.no_reply (sym (union_stays silent.table))
+      ]
+    ]
+
+    pub node_good : Good shape run later
+    node_good =
+        let P : Message → Type 0 = Backed shape past w in
+        let Q : Message → Type 0 = Backed shape run later in
+        let keep : (m : Message) → P m → Q m = λ m b. backed-keeps shape past made w later stays m b in
+        record {
+          leads = leads_on;
+          named = all_named;
+          incarnations = at_each (λ x m. IsNumber 65535 x.incarnation) (subst (IsNumber 65535) (sym moves.incarnation) (g.incarnations n)) (λ m other. g.incarnations m);
+          holds = all_hold;
+          strangers = at_each (λ x m. has_node w m ≡ false → x.pending ≡ []) (λ h. (strange h).0) (λ m other. g.strangers m);
+          one_call = one_call-push past made g.one_call (λ id h. (moves.fresh id h).1);
+          one_reply = one_reply-push past made g.one_reply (λ id reply h. (first_reply id reply h).fresh);
+          told = told-push past w.sent made g.told;
+          asked = all_asked;
+          backed = All-append Q w.sent o.sends (All-weaker P Q keep w.sent g.backed) sends;
+          comes = λ f. comes-push shape past made w later f (w.servers f) stays (g.comes f);
+          slotted = placed.slotted;
+          all = placed.all;
+        }

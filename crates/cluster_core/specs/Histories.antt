@@ -1,6 +1,8 @@
 -- One history for every run.
-use Rattle.std.specs.Prelude.{◌≡◌, ℕ, ◌+◌, ◌≤◌, ◌<◌, List, [], ◌∷◌, slice_get, Option, Some, None}
+use Rattle.std.specs.Prelude.{◌≡◌, ℕ, ◌+◌, ◌≤◌, ◌<◌, Bool, true, false, List, [], ◌∷◌, slice_get, Option, Some, None}
+use Rattle.std.specs.List.{list_any}
 use Rattle.model.specs.declared.call.CallId.{CallId}
+use Rattle.model.specs.declared.host.Host.{Host}
 use Rattle.model.specs.declared.op.Op.{Op}
 use Rattle.model.specs.declared.reply.Reply.{Reply}
 use Rattle.model.specs.declared.process.Process.{Process}
@@ -8,7 +10,10 @@ use Rattle.model.specs.Limits.{IsProcess}
 use Rattle.model.specs.Table.{Table, empty_table, gone}
 use Rattle.model.specs.Step.{Step}
 use Rattle.messages.specs.Shapes.{ShapeFields, IsShape}
-use Rattle.messages.specs.declared.event.Event.TheVariants.{Call}
+use Rattle.messages.specs.Messages.{is_conflict}
+use Rattle.messages.specs.declared.message.Message.TheVariants.{Deny}
+use Rattle.messages.specs.declared.event.Event.{Event}
+use Rattle.messages.specs.declared.event.Event.TheVariants.{Call, Deliver}
 use Rattle.messages.specs.declared.entry.Entry.{Entry}
 use Rattle.cluster_core.specs.declared.item.Item.{Item}
 use Rattle.cluster_core.specs.declared.item.Item.TheVariants.{Answered, Gone}
@@ -105,18 +110,40 @@ pub record HasHistory (shape : ShapeFields) (es : List Entry) (h : List Item) : 
   pub fits : Fits es h
   pub legal : Legal empty_table h (union world)
 
--- a call stands at the entry of its reply
-abbrev pub StandsAtReply : List Entry → Item → Type 0
-StandsAtReply es (Answered at id pid op reply) = IsRepliedAt es id reply at
-StandsAtReply es (Gone at node incarnation) = ⊥
+-- the entry tells the server that a lock of the holder is in the way, as the answer to the revoke with that number
+abbrev pub names_conflict : ℕ → Host → ℕ → Entry → Bool
+names_conflict file holder number e = list_any (is_conflict file holder number) e.sends
 
--- the history has each call at its reply
-abbrev pub EachAtItsReply : List Entry → List Item → Type 0
-EachAtItsReply es h = (k : ℕ) (i : Item) → slice_get h k ≡ Some i → StandsAtReply es i
+-- the first entry that does: there the holder did that revoke
+pub record IsRevokedAt (es : List Entry) (file : ℕ) (holder : Host) (number : ℕ) (at : ℕ) : Type 0 where
+  pub revoking : Entry
+  pub there : EntryAt es at revoking
+  pub names : names_conflict file holder number revoking ≡ true
+  pub first : (k : ℕ) (e : Entry) → k < at → EntryAt es k e → names_conflict file holder number e ≡ false
 
--- one history, the same for all nodes, files and calls, with each call at its reply
+-- where a call stands that is answered by an entry at that position: a call that a server denied stands where its holder first did the revoke that the denial names, every other call at its reply
+abbrev pub IsPlaceOf : List Entry → Event → ℕ → ℕ → Type 0
+IsPlaceOf es (Deliver (Deny file call holder number lock)) reply_at at = IsRevokedAt es file holder number at
+IsPlaceOf es _ reply_at at = at ≡ reply_at
+
+pub record StandsAtItsPlace (es : List Entry) (id : CallId) (reply : Reply) (at : ℕ) : Type 0 where
+  pub reply_at : ℕ
+  pub replying : Entry
+  pub there : EntryAt es reply_at replying
+  pub is_reply : replying.reply ≡ Some (id, reply)
+  pub place : IsPlaceOf es replying.event reply_at at
+
+abbrev pub IsAtItsPlace : List Entry → Item → Type 0
+IsAtItsPlace es (Answered at id pid op reply) = StandsAtItsPlace es id reply at
+IsAtItsPlace es (Gone at node incarnation) = ⊥
+
+-- the history has each call at its place
+abbrev pub EachAtItsPlace : List Entry → List Item → Type 0
+EachAtItsPlace es h = (k : ℕ) (i : Item) → slice_get h k ≡ Some i → IsAtItsPlace es i
+
+-- one history, the same for all nodes, files and calls, with each call at its place
 abbrev pub HasOneHistory : ShapeFields → List Entry → Type 0
-HasOneHistory shape es = (h : List Item) × HasHistory shape es h × EachAtItsReply es h
+HasOneHistory shape es = (h : List Item) × HasHistory shape es h × EachAtItsPlace es h
 
 -- every run has one
 abbrev pub EveryRunHasAHistory : Type 0

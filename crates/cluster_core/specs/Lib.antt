@@ -7,5 +7,6 @@ pub mod Journals
 pub mod Union
 pub mod Histories
 pub mod Placement
+pub mod Evidence
 pub mod Listings
 pub mod Safe

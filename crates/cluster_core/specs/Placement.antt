@@ -1,14 +1,16 @@
--- The history of a run, each answered call at its reply.
-use Rattle.std.specs.Prelude.{ℕ, ◌+◌, Bool, false, if◌then◌else◌, List, [], ◌∷◌, ◌++◌, length, Option, Some, None}
+-- The history of a run, each answered call at its place.
+use Rattle.std.specs.Prelude.{ℕ, ◌+◌, Bool, false, if◌then◌else◌, List, [], ◌∷◌, ◌++◌, length, position, filter_map, slice_set, Option, Some, None}
 use Rattle.model.specs.declared.call.CallId.{CallId}
 use Rattle.model.specs.declared.op.Op.{Op}
 use Rattle.model.specs.declared.reply.Reply.{Reply}
 use Rattle.messages.specs.declared.event.Event.{Event}
-use Rattle.messages.specs.declared.event.Event.TheVariants.{Call}
+use Rattle.messages.specs.declared.message.Message.TheVariants.{Deny}
+use Rattle.messages.specs.declared.event.Event.TheVariants.{Call, Deliver}
 use Rattle.messages.specs.declared.entry.Entry.{Entry}
 use Rattle.messages.specs.Messages.{same_call}
 use Rattle.cluster_core.specs.declared.item.Item.{Item}
 use Rattle.cluster_core.specs.declared.item.Item.TheVariants.{Answered}
+use Rattle.cluster_core.specs.Histories.{names_conflict}
 
 -- the name is this one
 abbrev pub is_named : CallId → Option CallId → Bool
@@ -25,20 +27,42 @@ abbrev pub find_call : List Entry → CallId → Option (ℕ × Op)
 find_call [] id = None
 find_call (e ∷ es) id = if is_named id e.call then called_by e.event (find_call es id) else find_call es id
 
-abbrev pub item_of : ℕ → CallId → Reply → Option (ℕ × Op) → List Item
-item_of at id reply None = []
-item_of at id reply (Some c) = Answered at id c.0 c.1 reply ∷ []
+abbrev pub item_of : ℕ → CallId → Reply → Option (ℕ × Op) → Option Item
+item_of at id reply None = None
+item_of at id reply (Some c) = Some (Answered at id c.0 c.1 reply)
 
--- the item of an entry that gives this reply, or none where it gives no reply
-abbrev pub items_at : List Entry → ℕ → Option (CallId × Reply) → List Item
-items_at es at None = []
-items_at es at (Some r) = item_of at r.0 r.1 (find_call es r.0)
+-- for each entry the item that stands there, if one does
+abbrev pub Slots : Type 0
+Slots = List (Option Item)
 
--- the items of the entries after those that are past
-abbrev pub history_from : List Entry → List Entry → List Item
-history_from past [] = []
-history_from past (e ∷ es) = items_at (past ++ e ∷ []) (length past + 1) e.reply ++ history_from (past ++ e ∷ []) es
+-- the slot with that index gets the item of its position
+abbrev pub filled : Slots → Option ℕ → (ℕ → Option Item) → Slots
+filled slots None item = slots
+filled slots (Some k) item = slice_set slots k (item (k + 1))
+
+-- one more slot, for an entry that answers a call: a call that a server denied goes to the slot of the first entry that names the conflict, every other call into the new one
+abbrev pub placed_by : List Entry → Slots → Event → (ℕ → Option Item) → Slots
+placed_by past slots (Deliver (Deny file call holder number lock)) item = filled (slots ++ None ∷ []) (position (names_conflict file holder number) past) item
+placed_by past slots _ item = slots ++ item (length past + 1) ∷ []
+
+-- one more slot, for an entry with this reply
+abbrev pub slots_after : List Entry → Slots → Entry → Option (CallId × Reply) → Slots
+slots_after past slots e None = slots ++ None ∷ []
+slots_after past slots e (Some r) = placed_by past slots e.event (λ at. item_of at r.0 r.1 (find_call (past ++ e ∷ []) r.0))
+
+-- those of the entries after those that are past
+abbrev pub slots_from : List Entry → Slots → List Entry → Slots
+slots_from past slots [] = slots
+slots_from past slots (e ∷ es) = slots_from (past ++ e ∷ []) (slots_after past slots e e.reply) es
+
+-- what stands at each entry of a run
+abbrev pub slots_of : List Entry → Slots
+slots_of es = slots_from [] [] es
+
+-- the items that stand in the slots, in their order
+abbrev pub items_in : Slots → List Item
+items_in slots = filter_map (λ slot. slot) slots
 
 -- the history of a run
 abbrev pub history_of : List Entry → List Item
-history_of es = history_from [] es
+history_of es = items_in (slots_of es)

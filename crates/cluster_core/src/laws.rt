@@ -1,11 +1,13 @@
 //! What holds of every run of the cluster.
+ghost use Rattle.cluster_core.specs.Evidence.{EveryDenialHasEvidence};
 ghost use Rattle.cluster_core.specs.Histories.{EveryRunHasAHistory};
 ghost use Rattle.cluster_core.specs.Safe.{EveryRunIsSafe};
 
 /// Whatever calls come, and in whatever order messages are delivered, lost or repeated: there is one
-/// history in which each answered call stands once, at its reply, that a single machine's table
-/// allows from the first call to the last, and that ends with the processes, descriptors and locks
-/// of the live nodes.
+/// history in which each answered call stands once, at its reply, or, where a server denied it, where
+/// the holder of the lock first did the revoke that the denial names. A single machine's table allows
+/// it from the first call to the last, and it ends with the processes, descriptors and locks of the
+/// live nodes.
 pub fn every_run_has_a_history()
     ensures { EveryRunHasAHistory }
 {}
@@ -14,4 +16,12 @@ pub fn every_run_has_a_history()
 /// is covered by the token of the lock's node. So no lock of a node conflicts with one of another.
 pub fn every_run_is_safe()
     ensures { EveryRunIsSafe }
+{}
+
+/// Each conflict that a node tells of, and each denial for it, has its evidence in the run, whatever
+/// came later: after the call was made the holder first did the revoke of that number, this conflict
+/// was its one answer, and in the world after that the lock was a region of the holder in the way of
+/// the call.
+pub fn every_denial_has_evidence()
+    ensures { EveryDenialHasEvidence }
 {}

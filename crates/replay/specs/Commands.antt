@@ -4,7 +4,7 @@ use Rattle.std.specs.Io.KnownBytes.{Appends}
 use Rattle.cluster_core.specs.declared.held_lock.HeldLock.{HeldLock}
 use Rattle.cluster_core.specs.declared.item.Item.{Item}
 use Rattle.cluster_core.specs.declared.token_run.TokenRun.{TokenRun}
-use Rattle.cluster_core.specs.Histories.{HasHistory, EachAtItsReply}
+use Rattle.cluster_core.specs.Histories.{HasHistory, EachAtItsPlace}
 use Rattle.cluster_core.specs.Listings.{IsTokenListing, IsLockListing}
 use Rattle.cluster_core.specs.Safe.{IsSafe}
 use Rattle.lockscript.specs.Listing.{listing_text}
@@ -24,7 +24,7 @@ HasScriptIn bytes script = IsUtf8 bytes × IsScript bytes script
 abbrev pub HasScript : (Result (List ℕ) StoreError → Type 0) → ScriptFields → Type 0
 HasScript Gives script = (bytes : List ℕ) × Gives (Ok bytes) × HasScriptIn bytes script
 
--- the listing of a run: its refused lines, its entries, the tokens and the locks at its end, which are safe, and a history of one table, each call of it at its reply
+-- the listing of a run: its refused lines, its entries, the tokens and the locks at its end, which are safe, and a history of one table, each call of it at its place
 pub record IsListing (played : PlayedState) (text : List ℕ) : Type 0 where
   pub tokens : List TokenRun
   pub locks : List HeldLock
@@ -33,7 +33,7 @@ pub record IsListing (played : PlayedState) (text : List ℕ) : Type 0 where
   pub locks_at_end : IsLockListing played.world locks
   pub safe_at_end : IsSafe played.world
   pub one_table : HasHistory played.journal.shape played.journal.entries history
-  pub at_replies : EachAtItsReply played.journal.entries history
+  pub at_places : EachAtItsPlace played.journal.entries history
   pub sections : text ≡ listing_text played.refused played.journal.entries tokens locks history
 
 -- the listing of what the script of the file comes to

@@ -11,6 +11,8 @@ mod player;
 #[cfg(test)]
 mod reader_tests;
 pub mod respond;
+#[cfg(test)]
+mod revocation_tests;
 mod settled;
 pub mod store;
 #[cfg(test)]

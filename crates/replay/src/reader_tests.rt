@@ -138,15 +138,16 @@ fn listing_text(alloc: Global) -> Result<String, AllocError> {
     Ok(text)
 }
 
-fn listing_of_script(alloc: Global) -> Result<String, Fail> {
-    let script = Script::parse(alloc, script_text(alloc)?.as_str())?;
+pub(crate) fn listing_of_script(alloc: Global, text: &str) -> Result<String, Fail> {
+    let script = Script::parse(alloc, text)?;
     let played = play(alloc, &script)?;
     Ok(listing_of(alloc, &played)?)
 }
 
 #[test]
 fn serves_readers_on_every_node(rt: HostRuntime) -> Result<(), Fail> {
-    let made = listing_of_script(rt.alloc())?;
+    let script = script_text(rt.alloc())?;
+    let made = listing_of_script(rt.alloc(), script.as_str())?;
     let expected = listing_text(rt.alloc())?;
     assert_eq!(rt; made.as_str(), expected.as_str());
     Ok(())

@@ -1,0 +1,480 @@
+-- Each step of the cluster keeps what holds of it and of its past, where tokens are apart and answers are known.
+use Rattle.std.proofs.Common.{◌≡◌, ℕ, ◌+◌, ◌<◌, ◌≤◌, Bool, true, false, not, if◌then◌else◌, ◌&&◌, ◌||◌, ◌==◌, ◌⊎◌, inl, inr, refl, sym, ◌∙◌, ap, subst, arith, nat_le, nat_lt, is_some, List, [], ◌∷◌, ◌++◌, append-nil, append_assoc, All, Contains, Option, Some, None, Result, Ok, Err}
+use Rattle.std.specs.List.{list_any}
+use Rattle.std.proofs.lemmas.Bool.{and_parts, both_ways, cases_Bool, eqb-true, eq-eqb, false≢true, or_right}
+use Rattle.std.proofs.lemmas.Bool.Decides.{nat_tests}
+use Rattle.std.proofs.lemmas.Option.{none-some, same_Some}
+use Rattle.std.proofs.lemmas.List.Elements.{All-nil, All-head, All-tail}
+use Rattle.intervals.specs.Bytes.{Range}
+use Rattle.model.specs.declared.call.CallId.{CallId}
+use Rattle.model.specs.declared.host.Host.{Host}
+use Rattle.model.specs.declared.lock_info.LockInfo.{LockInfo}
+use Rattle.model.specs.declared.mode.Mode.{Mode}
+use Rattle.model.specs.declared.op.Op.{Op}
+use Rattle.model.specs.Limits.{IsNumber, IsProcess, most_nodes, most_processes}
+use Rattle.model.specs.Locks.{lowest_in_way}
+use Rattle.token_set.specs.Releases.{given_up_span, answer_of}
+use Rattle.messages.specs.Shapes.{ShapeFields, IsShape}
+use Rattle.messages.specs.Wants.{Wants}
+use Rattle.messages.specs.Messages.{addressee, host_of, file_of, is_among, is_conflict, is_within, same_host, same_message}
+use Rattle.messages.proofs.SameMessages.{same_message-is-equality}
+use Rattle.messages.specs.declared.refusal.StepError.{StepError}
+use Rattle.messages.specs.declared.refusal.StepError.TheVariants as step
+use Rattle.messages.specs.declared.refusal.Refused.TheVariants.{Stranger, JournalFull}
+use Rattle.messages.specs.declared.message.Message.{Message}
+use Rattle.messages.specs.declared.message.Message.TheVariants.{Request, Grant, Revoke, Taken, Released, Conflict, Deny, Freed}
+use Rattle.messages.specs.declared.event.Event.{Event}
+use Rattle.messages.specs.declared.event.Event.TheVariants.{Call, Deliver, Retry, Resend}
+use Rattle.messages.specs.declared.entry.Entry.{Entry}
+use Rattle.messages.specs.declared.outcome.Outcome.{Outcome}
+use Rattle.node_core.specs.declared.event.NodeEvent.TheVariants as node
+use Rattle.node_core.specs.declared.open_call.OpenCall.{OpenCall}
+use Rattle.node_core.specs.State.{NodeState, Effect, quiet, sent, host, outcome, process, open_call_of}
+use Rattle.node_core.specs.Try.{tried_if}
+use Rattle.node_core.specs.Calls.{is_pid, is_in_shape, after_call}
+use Rattle.node_core.specs.Commands.{remembered, in_order, after_command, answer_to, revoked, delivered, is_node, deliver_rule}
+use Rattle.node_core.specs.Retries.{retry_rule}
+use Rattle.node_core.specs.Node.{node_rule}
+use Rattle.token_server.specs.declared.event.ServerEvent.{ServerEvent}
+use Rattle.token_server.specs.declared.event.ServerEvent.TheVariants as server
+use Rattle.token_server.specs.State.{ServerState}
+use Rattle.token_server.specs.Server.{server_rule}
+use Rattle.cluster_core.specs.World.{WorldState, first_world, journal_limit, has_node}
+use Rattle.cluster_core.specs.Next.{has_actor, is_known, entry, recorded, named_incarnation, with_node, with_server, after_node, after_server, taken, next}
+use Rattle.cluster_core.specs.Runs.{Leads}
+use Rattle.cluster_core.specs.Safe.{IsSafe}
+use Rattle.cluster_core.proofs.Heard.{IsHeard}
+use Rattle.cluster_core.specs.Histories.{EntryAt, names_conflict, HasHistory, EachAtItsPlace}
+use Rattle.cluster_core.specs.Evidence.{IsTold, HasEvidence}
+use Rattle.cluster_core.specs.Placement.{slots_of, history_of}
+use Rattle.cluster_core.proofs.Entries.{none_named, none_called, none_replied}
+use Rattle.cluster_core.proofs.Targets.{ok_is, if_ok}
+use Rattle.cluster_core.proofs.ServerSteps.{IsSending, server_rule-sending}
+use Rattle.cluster_core.proofs.NodeTables.{IsOwn, own_empty}
+use Rattle.cluster_core.proofs.Tries.{IsSilent}
+use Rattle.cluster_core.proofs.Nodes.{IsOpen, IsExplained, IsDenied, Moves, IsNoDenial, found_open}
+use Rattle.cluster_core.proofs.Moves.{IsTo, delivered_receives, quiet_receives, call_moves}
+use Rattle.cluster_core.proofs.Retries.{retried_receives}
+use Rattle.cluster_core.proofs.Lifting.{IsFreeElsewhere}
+use Rattle.cluster_core.proofs.Unbarred.{safe_free}
+use Rattle.cluster_core.proofs.Requested.{Comes, Makes, Tells, delivered-steps, resend-steps}
+use Rattle.cluster_core.proofs.Sends.{IsFreely, AsksFor, Conflicts, called-sends, tried_if-sends, delivered-sends}
+use Rattle.cluster_core.proofs.Slots.{slotted_first, all_slotted_first, slots_fit, slots_legal, slots_at_their_places}
+use Rattle.cluster_core.proofs.Witnesses.{IsAskedBy, Denies, Backed, HeldFor, StaysOpen, backed-keeps}
+use Rattle.cluster_core.proofs.Denials.{Revokes, denies_now}
+use Rattle.cluster_core.proofs.Worlds.{Good, replied_named, server_good, node_good, stays, asks, leads_on, union_stays, others_stay}
+
+-- a step that is not refused
+let_through : {A E : Type 0} (full known : Bool) (x : Result A E) (p : A) (a b : E) → ◌≡◌ {A = Result A E} (if full then Err a else (if not known then Err b else x)) (Ok p) → (known ≡ true) × (x ≡ Ok p)
+let_through true known x p a b h = absurd (cc)
+let_through false true x p a b h = (refl, h)
+let_through false false x p a b h = absurd (cc)
+
+taken_call : {A E : Type 0} (stranger busy few : Bool) (x p : A) (a b c : E) → ◌≡◌ {A = Result A E} (if stranger then Err a else (if busy then Err b else (if few then Ok x else Err c))) (Ok p) → x ≡ p
+taken_call true busy few x p a b c h = absurd (cc)
+taken_call false true few x p a b c h = absurd (cc)
+taken_call false false true x p a b c h = ok_is x p h
+taken_call false false false x p a b c h = absurd (cc)
+
+-- a message that is not refused is taken, or does nothing
+taken_message : {A E : Type 0} (ours known here : Bool) (x y p : A) (a : E) → ◌≡◌ {A = Result A E} (if not (ours && known) then Err a else (if here then Ok x else Ok y)) (Ok p) → ((ours ≡ true) × (here ≡ true) × (x ≡ p)) ⊎ (y ≡ p)
+taken_message false known here x y p a h = absurd (cc)
+taken_message true false here x y p a h = absurd (cc)
+taken_message true true true x y p a h = inl (refl, refl, ok_is x p h)
+taken_message true true false x y p a h = inr (ok_is y p h)
+
+-- the message that is delivered
+message_in : Event → Option Message
+message_in (Deliver m) = Some m
+message_in _ = None
+
+same_message_of : (m k : Message) → Deliver m ≡ Deliver k → m ≡ k
+unfolding message_in
+same_message_of m k h = same_Some m k (ap message_in h)
+
+-- a message that was sent is backed
+among_backed : (P : Message → Type 0) (ms : List Message) (m : Message) → All P ms → is_among ms m ≡ true → P m
+among_backed P [] m all h = absurd (false≢true h)
+among_backed P (x ∷ xs) m all h =
+    elim (same_message m x) as (λ b. same_message m x ≡ b → (b || list_any (same_message m) xs) ≡ true → P m) [
+      | true ↦ λ same here. subst P (sym ((same_message-is-equality m x).0 same)) (All-head P x xs all)
+      | false ↦ λ other here. among_backed P xs m (All-tail P x xs all) here
+    ] refl h
+
+-- one that passes a test is among them
+passing : (test : Message → Bool) (ms : List Message) → list_any test ms ≡ true → (m : Message) × (is_among ms m ≡ true) × (test m ≡ true)
+passing test [] h = absurd (false≢true h)
+passing test (x ∷ xs) h =
+    elim (test x) as (λ b. test x ≡ b → (b || list_any test xs) ≡ true → (m : Message) × (is_among (x ∷ xs) m ≡ true) × (test m ≡ true)) [
+      | true ↦ λ passes here. (x, ap (λ (b : Bool). b || list_any (same_message x) xs) ((same_message-is-equality x x).1 refl), passes)
+      | false ↦ λ fails here.
+          let later = passing test xs here in
+          (later.0, or_right (same_message later.0 x) (list_any (same_message later.0) xs) later.1, later.2)
+    ] refl h
+
+-- the conflict of that number
+conflict_is : (file : ℕ) (holder : Host) (number : ℕ) (m : Message) → is_conflict file holder number m ≡ true → (call : CallId) × (lock : LockInfo) × (m ≡ Conflict file number holder call lock)
+conflict_is file holder number (Conflict f k h call lock) is =
+    let first = and_parts (f == file) ((k == number) && same_host h holder) is in
+    let second = and_parts (k == number) (same_host h holder) first.1 in
+    let third = and_parts (h.node == holder.node) (h.incarnation == holder.incarnation) second.1 in
+    let files = eqb-true f file first.0 in
+    let numbers = eqb-true k number second.0 in
+    let nodes = eqb-true h.node holder.node third.0 in
+    let incarnations = eqb-true h.incarnation holder.incarnation third.1 in
+    (call, lock, λ i. Conflict (files i) (numbers i) (record { node = nodes i; incarnation = incarnations i }) call lock)
+conflict_is file holder number (Request f call urgency mode wanted) is = absurd (false≢true is)
+conflict_is file holder number (Grant f k call mode span) is = absurd (false≢true is)
+conflict_is file holder number (Revoke f k h call mode wanted) is = absurd (false≢true is)
+conflict_is file holder number (Taken f k call) is = absurd (false≢true is)
+conflict_is file holder number (Released f k h call span) is = absurd (false≢true is)
+conflict_is file holder number (Deny f call h k lock) is = absurd (false≢true is)
+conflict_is file holder number (Freed f h) is = absurd (false≢true is)
+
+-- a node that first does a revoke in whose way a lock is names it, and does nothing else that others see
+pub record Names (s : NodeState) (file number : ℕ) (call : CallId) (lock : LockInfo) (e : Effect) : Type 0 where
+  pub answer : e.sends ≡ Conflict file number (host s) call lock ∷ []
+  pub no_reply : e.reply ≡ None
+  pub table : e.state.table ≡ s.table
+
+names_first : (s : NodeState) (file number : ℕ) (holder : Host) (call : CallId) (mode : Mode) (wanted : Wants) (lock : LockInfo) → number ≡ (s.files file).last + 1 → lowest_in_way (s.table.locks file) s.node s.incarnation wanted.required mode ≡ Some lock → Names s file number call lock (delivered s (Revoke file number holder call mode wanted))
+names_first s file number holder call mode wanted lock is here =
+    let e = revoked s file number call mode wanted in
+    let again = if (number == (s.files file).last) && nat_le 1 number then remembered s (s.files file).answer else quiet s in
+    let span : Range = given_up_span (s.table.locks file) s.node s.incarnation mode wanted.required wanted.desired in
+    let first = eq-eqb number ((s.files file).last + 1) is in
+    record {
+      answer = ap (λ (b : Bool). (if b then e else again).sends) first ∙ ap (λ (o : Option LockInfo). answer_to file number (host s) call (answer_of o span) ∷ []) here;
+      no_reply = ap (λ (b : Bool). (if b then e else again).reply) first;
+      table = ap (λ (b : Bool). (if b then e else again).state.table) first;
+    }
+
+module _ (shape : ShapeFields) (past : List Entry) (w : WorldState) (few : IsNumber most_nodes w.shape.nodes) (g : Good shape past w) (heard : IsHeard w) where
+  -- the world and the entry after a step that leaves tokens apart
+  abbrev After : Event → WorldState × Entry → Type 0
+  After event p = next w event ≡ Ok p → IsSafe p.0 → IsNumber most_nodes p.0.shape.nodes × Good shape (past ++ p.1 ∷ []) p.0
+
+  known_backed : (m : Message) → is_among w.sent m ≡ true → Backed shape past w m
+  known_backed m known = among_backed (Backed shape past w) w.sent m g.backed known
+
+  freely : (run : List Entry) (v : WorldState) → IsFreely (Backed shape run v)
+  freely run v = record { taken = λ file number call. tt; released = λ file number holder call span. tt; freed = λ file holder. tt }
+
+  -- a process that may call
+  process_in : (n pid : ℕ) (op : Op) → is_known w (Call n pid op) ≡ true → IsProcess (process (w.nodes n) pid)
+  process_in n pid op known =
+      let parts = and_parts (has_node w n) (is_pid pid && is_in_shape w.shape op) known in
+      let node : IsNumber most_nodes n = within (w.shape.nodes) n few parts.0 in
+      record {
+        host = record { node_in = subst (IsNumber most_nodes) (sym (g.named n)) node; incarnation_in = g.incarnations n };
+        pid_in = number most_processes pid (and_parts (is_pid pid) (is_in_shape w.shape op) parts.1).0;
+      }
+    where
+      number : (most k : ℕ) → is_within most k ≡ true → IsNumber most k
+      number most k h =
+          let tests = and_parts (nat_le 1 k) (nat_le k most) h in
+          (grind (arith, nat_tests, tests.0), grind (arith, nat_tests, tests.1))
+
+      within : (nodes k : ℕ) → IsNumber most_nodes nodes → is_within nodes k ≡ true → IsNumber most_nodes k
+      within nodes k few h =
+          let most = few.1 in
+          let is = number nodes k h in
+          let above = is.1 in
+          (is.0, omega arith)
+
+  -- a step of a node, whatever the event
+  module _ (n : ℕ) (u : NodeState) (event : Event) (incarnation : ℕ) (o : Outcome) (there : has_node w n ≡ true) (moves : Moves past (w.nodes n) u (entry event incarnation o)) (known : (m : Message) → event ≡ Deliver m → is_among w.sent m ≡ true) where
+    abbrev made : Entry
+    made = entry event incarnation o
+
+    abbrev later : WorldState
+    later = (recorded (with_node w n u) event incarnation o).0
+
+    here : later.nodes n ≡ u
+    here = rw (eq-eqb n n refl) refl
+
+    not_strange : has_node w n ≡ false → (u.pending ≡ []) × IsSilent (w.nodes n) u o.reply
+    not_strange strange = absurd (both_ways (has_node w n) strange there)
+
+    module _ (made_so : next w event ≡ Ok (recorded (with_node w n u) event incarnation o)) where
+      free : IsSafe later → (x : IsExplained past (w.nodes n) u made) → has_node w n ≡ true → IsFreeElsewhere w n x.pid x.op x.reply
+      free safe x there_now = safe_free w later n u x.pid x.op x.reply refl here (others_stay shape past w n u event incarnation o g made_so moves not_strange) safe there x.served (λ m h. h)
+
+      denied : (d : IsDenied (w.nodes n) u made) → Denies shape past w d.file d.call d.holder d.number d.lock
+      denied d = known_backed (Deny d.file d.call d.holder d.number d.lock) (known (Deny d.file d.call d.holder d.number d.lock) d.is_deny)
+
+      pub keeps : ((asks : AsksFor (Backed shape (past ++ made ∷ []) later) u) → All (Backed shape (past ++ made ∷ []) later) o.sends) → IsSafe later → IsNumber most_nodes w.shape.nodes × Good shape (past ++ made ∷ []) later
+      keeps sends safe = (few, node_good shape past w n u event incarnation o g made_so moves not_strange (free safe) denied (sends (asks shape past w n u event incarnation o g made_so moves not_strange)))
+
+  call_good : (n pid : ℕ) (op : Op) → is_known w (Call n pid op) ≡ true → After (Call n pid op) (recorded (with_node w n (after_call (w.nodes n) pid op).0) (Call n pid op) 0 (after_call (w.nodes n) pid op).1)
+  call_good n pid op known made_so safe =
+      let s = w.nodes n in
+      let r = after_call s pid op in
+      let event = Call n pid op in
+      let moves = call_moves past s n pid op (g.holds n) (g.named n) (process_in n pid op known) (replied_named shape past w g) in
+      let there = (and_parts (has_node w n) (is_pid pid && is_in_shape w.shape op) known).0 in
+      let run = past ++ entry event 0 r.1 ∷ [] in
+      let v = (recorded (with_node w n r.0) event 0 r.1).0 in
+      keeps n r.0 event 0 r.1 there moves (λ m h. absurd (cc)) made_so (called-sends (Backed shape run v) (freely run v) (record s { calls = s.calls + 1 }) (s.calls + 1) pid op) safe
+
+  retry_good : (n pid : ℕ) (done : NodeState × Outcome) → has_node w n ≡ true → retry_rule (w.nodes n) pid ≡ Ok done → After (Retry n pid) (recorded (with_node w n done.0) (Retry n pid) (w.nodes n).incarnation done.1)
+  retry_good n pid done there h =
+      let s = w.nodes n in
+      let event = Retry n pid in
+      let effect = tried_if s (open_call_of s pid) in
+      let P : NodeState × Outcome → Type 0 = λ d. After event (recorded (with_node w n d.0) event s.incarnation d.1) in
+      let received = retried_receives past s event s.incarnation tt (g.holds n) pid in
+      let is = (if_ok (is_pid pid) (outcome None effect) done step.Stranger h).1 in
+      let o = (outcome None effect).1 in
+      let run = past ++ entry event s.incarnation o ∷ [] in
+      let v = (recorded (with_node w n effect.state) event s.incarnation o).0 in
+      let test : OpenCall → Bool = λ c. c.pid == pid in
+      subst P is (λ made_so safe. keeps n effect.state event s.incarnation o there received.moves (λ m h. absurd (cc)) made_so (tried_if-sends (Backed shape run v) (freely run v) s (open_call_of s pid) (λ c f. (found_open test s.pending c f).0)) safe)
+
+  -- a message for another incarnation does nothing
+  idle_good : (n : ℕ) (m : Message) → has_node w n ≡ true → is_among w.sent m ≡ true → After (Deliver m) (recorded (with_node w n (w.nodes n)) (Deliver m) 0 (outcome None (quiet (w.nodes n))).1)
+  idle_good n m there known made_so safe =
+      let s = w.nodes n in
+      let event = Deliver m in
+      let o = (outcome None (quiet s)).1 in
+      let run = past ++ entry event 0 o ∷ [] in
+      let v = (recorded (with_node w n s) event 0 o).0 in
+      let received = quiet_receives past s (g.holds n) event (quiet s) refl refl in
+      keeps n s event 0 o there received.moves (λ k h. subst (λ (x : Message). is_among w.sent x ≡ true) (same_message_of m k h) known) made_so (λ all. All-nil (Backed shape run v)) safe
+
+  -- a message for the node in its incarnation
+  module _ (n : ℕ) (m : Message) (there : has_node w n ≡ true) (known : is_among w.sent m ≡ true) (to : IsTo (w.nodes n) m) where
+    abbrev s : NodeState
+    s = w.nodes n
+
+    abbrev effect : Effect
+    effect = delivered s m
+
+    abbrev told : Outcome
+    told = (outcome None effect).1
+
+    abbrev run : List Entry
+    run = past ++ entry (Deliver m) 0 told ∷ []
+
+    abbrev v : WorldState
+    v = (recorded (with_node w n effect.state) (Deliver m) 0 told).0
+
+    its_moves : Moves past s effect.state (entry (Deliver m) 0 told)
+    its_moves = (delivered_receives past s (g.holds n) m to).moves
+
+    not_strange_too : has_node w n ≡ false → (effect.state.pending ≡ []) × IsSilent s effect.state told.reply
+    not_strange_too strange = absurd (both_ways (has_node w n) strange there)
+
+    module _ (made_so : next w (Deliver m) ≡ Ok (recorded (with_node w n effect.state) (Deliver m) 0 told)) where
+      its_stays : (k : ℕ) → StaysOpen past (w.nodes k) (v.nodes k)
+      its_stays = stays shape past w n effect.state (Deliver m) 0 told g made_so its_moves not_strange_too
+
+      remembers : (file : ℕ) (k : Message) → (s.files file).answer ≡ Some k → Backed shape run v k
+      remembers file k h = backed-keeps shape past (entry (Deliver m) 0 told) w v its_stays k (known_backed k (heard.answers n file k there h))
+
+      -- no conflict of that number was sent before
+      unsaid : (file number : ℕ) → number ≡ (s.files file).last + 1 → (k : ℕ) (e : Entry) → EntryAt past k e → names_conflict file (host s) number e ≡ false
+      unsaid file number is k e at = g.told k e (is_conflict file (host s) number) at (elim (cases_Bool (list_any (is_conflict file (host s) number) w.sent)) [
+        | inl some ↦
+            let found = passing (is_conflict file (host s) number) w.sent some in
+            let named = conflict_is file (host s) number found.0 found.2 in
+            let sent_before = subst (λ (x : Message). is_among w.sent x ≡ true) named.2 found.1 in
+            let below = heard.counted n file number named.0 named.1 there sent_before in
+            absurd (omega arith)
+        | inr none ↦ none
+      ])
+
+    conflict_there : (file number : ℕ) (holder : Host) (call : CallId) (mode : Mode) (wanted : Wants) → m ≡ Revoke file number holder call mode wanted → (made_so : next w (Deliver m) ≡ Ok (recorded (with_node w n effect.state) (Deliver m) 0 told)) (lock : LockInfo) → number ≡ (s.files file).last + 1 → lowest_in_way (s.table.locks file) s.node s.incarnation wanted.required mode ≡ Some lock → Denies shape run v file call (host s) number lock
+    conflict_there file number holder call mode wanted is made_so lock next_one in_way =
+        let names : Names s file number call lock effect = subst (λ (x : Message). Names s file number call lock (delivered s x)) (sym is) (names_first s file number holder call mode wanted lock next_one in_way) in
+        let behind : Backed shape past w (Revoke file number holder call mode wanted) = known_backed (Revoke file number holder call mode wanted) (subst (λ (x : Message). is_among w.sent x ≡ true) is known) in
+        let addressed : IsTo s (Revoke file number holder call mode wanted) = subst (IsTo s) is to in
+        let node_is = eqb-true holder.node s.node addressed.node in
+        let incarnation_is = addressed.incarnation in
+        let holder_is : holder ≡ host s = λ i. record { node = node_is i; incarnation = incarnation_is i } in
+        denies_now shape past w v (entry (Deliver m) 0 told) n file number call mode wanted lock (record {
+          there = there;
+          named = g.named;
+          own = (g.holds n).own;
+          asked = behind.0;
+          other = λ same. behind.1 (node_is ∙ same);
+          does = ap Deliver is ∙ ap (λ (h : Host). Deliver (Revoke file number h call mode wanted)) holder_is;
+          no_reply = names.no_reply;
+          answer = names.answer;
+          unsaid = unsaid made_so file number next_one;
+          here = in_way;
+          leads_on = leads_on shape past w n effect.state (Deliver m) 0 told g made_so its_moves not_strange_too;
+          same = union_stays shape past w n effect.state (Deliver m) 0 told g made_so its_moves not_strange_too names.table;
+          others_stay = others_stay shape past w n effect.state (Deliver m) 0 told g made_so its_moves not_strange_too;
+          one_call = g.one_call;
+          waiting = λ k. (g.holds k).waiting;
+          about = g.asked;
+          strangers = g.strangers;
+        })
+
+    conflicts : (made_so : next w (Deliver m) ≡ Ok (recorded (with_node w n effect.state) (Deliver m) 0 told)) (x : Message) → m ≡ x → Conflicts (Backed shape run v) (freely run v) s x
+    conflicts made_so (Revoke file number holder call mode wanted) is = λ lock next_one in_way. conflict_there file number holder call mode wanted is made_so lock next_one in_way
+    conflicts made_so (Request f call urgency mode wanted) is = tt
+    conflicts made_so (Grant f number call mode span) is = tt
+    conflicts made_so (Taken f number call) is = tt
+    conflicts made_so (Released f number holder call span) is = tt
+    conflicts made_so (Conflict f number holder call lock) is = tt
+    conflicts made_so (Deny f call holder number lock) is = tt
+    conflicts made_so (Freed f holder) is = tt
+
+    pub delivered_good : After (Deliver m) (recorded (with_node w n effect.state) (Deliver m) 0 told)
+    delivered_good made_so safe =
+        keeps n effect.state (Deliver m) 0 told there its_moves (λ k h. subst (λ (x : Message). is_among w.sent x ≡ true) (same_message_of m k h) known) made_so
+        (delivered-sends (Backed shape run v) (freely run v) s m (remembers made_so) (conflicts made_so m refl)) safe
+
+  message_good : (n : ℕ) (m : Message) (done : NodeState × Outcome) → has_node w n ≡ true → is_among w.sent m ≡ true → deliver_rule (w.nodes n) m ≡ Ok done → After (Deliver m) (recorded (with_node w n done.0) (Deliver m) 0 done.1)
+  message_good n m done there known h =
+      let s = w.nodes n in
+      let P : NodeState × Outcome → Type 0 = λ d. After (Deliver m) (recorded (with_node w n d.0) (Deliver m) 0 d.1) in
+      elim (taken_message (is_node s.node (addressee m)) (is_within s.shape.files (file_of m)) ((host_of m).incarnation == s.incarnation) (outcome None (delivered s m)) (outcome None (quiet s)) done step.Stranger h) [
+        | inl is ↦ subst P is.2 (delivered_good n m there known (record { node = is.0; incarnation = eqb-true (host_of m).incarnation s.incarnation is.1 }))
+        | inr is ↦ subst P is (idle_good n m there known)
+      ]
+
+  -- a step of a server
+  makes : (file : ℕ) → Makes file (HeldFor shape past file) (Backed shape past w)
+  makes file = record { grants = λ number call mode span. tt; revokes = λ number holder r held other. (held, other) }
+
+  abbrev Serves : ℕ → Result (ServerState × Outcome) StepError → Type 0
+  Serves file r = (done : ServerState × Outcome) → r ≡ Ok done → Comes file (HeldFor shape past file) (Backed shape past w) done.0 × All (Backed shape past w) done.1.sends
+
+  server_next : (event : Event) (file : ℕ) (r : Result (ServerState × Outcome) StepError) (p : WorldState × Entry) → ((done : ServerState × Outcome) → r ≡ Ok done → IsSending done) → Serves file r → after_server w event file r ≡ Ok p → After event p
+  server_next event file (Ok done) p sends serves h =
+      let both = sends done refl in
+      let kept = serves done refl in
+      subst (After event) (ok_is _ p h) (λ made_so safe. (few, server_good shape past w file done.0 event done.1 both.0 both.1 g made_so kept.0 kept.1))
+  server_next event file (Err e) p sends serves h = absurd (cc)
+
+  told_good : (m : Message) (file : ℕ) (p : WorldState × Entry) → Tells file (HeldFor shape past file) (Backed shape past w) m → after_server w (Deliver m) file (server_rule (w.servers file) (server.Deliver m)) ≡ Ok p → After (Deliver m) p
+  told_good m file p tells h =
+      let t = w.servers file in
+      server_next (Deliver m) file (server_rule t (server.Deliver m)) p (λ done is. server_rule-sending t (server.Deliver m) done is) (delivered-steps file (HeldFor shape past file) (Backed shape past w) (makes file) t m tells (g.comes file)) h
+
+  resend_good : (file : ℕ) (p : WorldState × Entry) → after_server w (Resend file) file (server_rule (w.servers file) server.Resend) ≡ Ok p → After (Resend file) p
+  resend_good file p h =
+      let t = w.servers file in
+      server_next (Resend file) file (server_rule t server.Resend) p (λ done is. server_rule-sending t server.Resend done is) (resend-steps file (HeldFor shape past file) (Backed shape past w) (makes file) t (g.comes file)) h
+
+  node_next : (event : Event) (n : ℕ) (r : Result (NodeState × Outcome) StepError) (p : WorldState × Entry) → ((done : NodeState × Outcome) → r ≡ Ok done → After event (recorded (with_node w n done.0) event (named_incarnation (w.nodes n) event) done.1)) → after_node w event n r ≡ Ok p → After event p
+  node_next event n (Ok done) p good h = subst (After event) (ok_is _ p h) (good done refl)
+  node_next event n (Err e) p good h = absurd (cc)
+
+  node_told : (n : ℕ) (m : Message) (p : WorldState × Entry) → has_node w n ≡ true → is_among w.sent m ≡ true → after_node w (Deliver m) n (node_rule (w.nodes n) (node.Deliver m)) ≡ Ok p → After (Deliver m) p
+  node_told n m p there known h = node_next (Deliver m) n (node_rule (w.nodes n) (node.Deliver m)) p (λ done is. message_good n m done there known is) h
+
+  taken_good : (event : Event) (p : WorldState × Entry) → is_known w event ≡ true → taken w event ≡ Ok p → After event p
+  taken_good (Call n pid op) p known h =
+      let s = w.nodes n in
+      let P : NodeState × Outcome → Type 0 = λ d. After (Call n pid op) (recorded (with_node w n d.0) (Call n pid op) 0 d.1) in
+      node_next (Call n pid op) n (node_rule s (node.Call pid op)) p
+      (λ done is. subst P (taken_call (not (is_pid pid && is_in_shape s.shape op)) (is_some (open_call_of s pid)) (nat_lt s.calls 4294967295) (after_call s pid op) done step.Stranger step.Busy step.Spent is) (call_good n pid op known)) h
+  taken_good (Deliver (Grant file number call mode span)) p known h =
+      let m = Grant file number call mode span in
+      let both = and_parts (has_node w call.node) (is_among w.sent m) known in
+      node_told call.node m p both.0 both.1 h
+  taken_good (Deliver (Revoke file number holder call mode wanted)) p known h =
+      let m = Revoke file number holder call mode wanted in
+      let both = and_parts (has_node w holder.node) (is_among w.sent m) known in
+      node_told holder.node m p both.0 both.1 h
+  taken_good (Deliver (Deny file call holder number lock)) p known h =
+      let m = Deny file call holder number lock in
+      let both = and_parts (has_node w call.node) (is_among w.sent m) known in
+      node_told call.node m p both.0 both.1 h
+  taken_good (Deliver (Request file call urgency mode wanted)) p known h =
+      let m = Request file call urgency mode wanted in
+      told_good m file p (known_backed m (and_parts (has_actor w (addressee m)) (is_among w.sent m) known).1) h
+  taken_good (Deliver (Conflict file number holder call lock)) p known h =
+      let m = Conflict file number holder call lock in
+      told_good m file p (known_backed m (and_parts (has_actor w (addressee m)) (is_among w.sent m) known).1) h
+  taken_good (Deliver (Taken file number call)) p known h = told_good (Taken file number call) file p tt h
+  taken_good (Deliver (Released file number holder call span)) p known h = told_good (Released file number holder call span) file p tt h
+  taken_good (Deliver (Freed file holder)) p known h = told_good (Freed file holder) file p tt h
+  taken_good (Retry n pid) p known h = node_next (Retry n pid) n (node_rule (w.nodes n) (node.Retry pid)) p (λ done is. retry_good n pid done (and_parts (has_node w n) (is_pid pid) known).0 is) h
+  taken_good (Resend file) p known h = resend_good file p h
+
+  pub next_good : (event : Event) (p : WorldState × Entry) → next w event ≡ Ok p → IsSafe p.0 → IsNumber most_nodes p.0.shape.nodes × Good shape (past ++ p.1 ∷ []) p.0
+  next_good event p h safe =
+      let x = let_through (nat_le journal_limit w.length) (is_known w event) (taken w event) p JournalFull Stranger h in
+      taken_good event p x.0 x.1 h safe
+
+-- before the first entry
+good_first : (shape : ShapeFields) → Good shape [] (first_world shape)
+good_first shape = record {
+  leads = refl;
+  named = λ n. refl;
+  incarnations = λ n. (omega arith, omega arith);
+  holds = λ n. record {
+    own = own_empty n 1;
+    waiting = All-nil (IsOpen [] ((first_world shape).nodes n));
+    numbers = λ id named node incarnation. absurd (none_named id named);
+  };
+  strangers = λ n h. refl;
+  one_call = λ id p q o u j k a b. absurd (none_called id p o j a);
+  one_reply = λ id r q j k a b. absurd (none_replied id r j a);
+  told = λ k e test at none. absurd (none-some e at.2);
+  asked = λ n. All-nil (IsAskedBy shape [] ((first_world shape).nodes n));
+  backed = All-nil (Backed shape [] (first_world shape));
+  comes = λ file. record {
+    file_is = refl;
+    queued = All-nil (HeldFor shape [] file);
+    active = λ r h. absurd (none-some r h);
+    outstanding = λ n row m there h. absurd (none-some row there);
+  };
+  slotted = slotted_first shape;
+  all = all_slotted_first;
+}
+
+-- the tables of the nodes are their own
+abbrev pub AllOwn : WorldState → Type 0
+AllOwn w = (n : ℕ) → IsOwn (w.nodes n).table (w.nodes n).node (w.nodes n).incarnation
+
+-- together with what holds of tokens and answers it holds after each run
+module _ (shape : ShapeFields) (is_shape : IsShape shape) (Q : WorldState → Type 0) (begins : Q (first_world shape)) (goes_on : (w : WorldState) → AllOwn w → Q w → (event : Event) (p : WorldState × Entry) → next w event ≡ Ok p → Q p.0) (heard : (w : WorldState) → Q w → IsHeard w) where
+  pub record Both (past : List Entry) (w : WorldState) : Type 0 where
+    pub present : Q w
+    pub good : Good shape past w
+
+  both_run : (past es : List Entry) (w v : WorldState) → IsNumber most_nodes w.shape.nodes → Both past w → Leads w es v → Both (past ++ es) v
+  both_run past [] w v few b l =
+      let P : List Entry → Type 0 = λ xs. Both xs v in
+      subst P (sym (append-nil past)) (subst (Both past) l b)
+  both_run past (e ∷ es) w v few b l =
+      let P : List Entry → Type 0 = λ xs. Both xs v in
+      let present = goes_on w (λ n. (b.good.holds n).own) b.present e.event (l.0, e) l.1 in
+      let after = next_good shape past w few b.good (heard w b.present) e.event (l.0, e) l.1 (heard l.0 present).safe in
+      subst P (append_assoc past (e ∷ []) es) (both_run (past ++ e ∷ []) es l.0 v after.0 (record { present = present; good = after.1 }) l.2)
+
+  both_after : (es : List Entry) (w : WorldState) → Leads (first_world shape) es w → Both es w
+  both_after es w l = both_run [] es (first_world shape) w is_shape.nodes_in (record { present = begins; good = good_first shape }) l
+
+  pub safe_after : (es : List Entry) (w : WorldState) → Leads (first_world shape) es w → IsSafe w
+  safe_after es w l = (heard w (both_after es w l).present).safe
+
+  -- its history has each call at its place
+  pub history_after : (es : List Entry) (w : WorldState) → Leads (first_world shape) es w → HasHistory shape es (history_of es) × EachAtItsPlace es (history_of es)
+  history_after es w l =
+      let g = (both_after es w l).good in
+      let slots = slots_of es in
+      (record {
+        world = w;
+        leads = l;
+        one_call = g.one_call;
+        one_reply = g.one_reply;
+        fits = slots_fit shape es slots g.slotted g.one_reply g.all;
+        legal = slots_legal shape es slots g.slotted w l;
+      }, slots_at_their_places shape es slots g.slotted)
+
+  -- and each denial its evidence
+  pub evidence_after : (es : List Entry) (w : WorldState) (file : ℕ) (call : CallId) (holder : Host) (number : ℕ) (lock : LockInfo) → Leads (first_world shape) es w → IsTold w file call holder number lock → HasEvidence shape es file call holder number lock
+  evidence_after es w file call holder number lock l told =
+      let g = (both_after es w l).good in
+      let backed : (m : Message) → is_among w.sent m ≡ true → Backed shape es w m = λ m known. among_backed (Backed shape es w) w.sent m g.backed known in
+      elim told [
+        | inl conflict ↦ (backed (Conflict file number holder call lock) conflict).evidence
+        | inr deny ↦ (backed (Deny file call holder number lock) deny).evidence
+      ]

@@ -1,0 +1,5 @@
+use Rattle.cluster_core.proofs.Runs.{every_denial}
+use Rattle.cluster_core.proofs.laws.every_denial_has_evidence.Goals as goal
+
+pub returns : goal.returns
+returns c = every_denial

@@ -1,0 +1,76 @@
+-- What stands behind each denial.
+use Rattle.std.specs.Prelude.{◌≡◌, ◌⊎◌, ℕ, ◌<◌, true, List, [], ◌∷◌, take, Some, None, Ok}
+use Rattle.intervals.specs.Bytes.{Range}
+use Rattle.model.specs.declared.mode.Mode.{Mode}
+use Rattle.model.specs.declared.call.CallId.{CallId}
+use Rattle.model.specs.declared.host.Host.{Host}
+use Rattle.model.specs.declared.lock_info.LockInfo.{LockInfo}
+use Rattle.model.specs.declared.op.Op.{Op}
+use Rattle.model.specs.declared.op.Op.TheVariants.{Set, Query}
+use Rattle.model.specs.declared.process.Process.{Process}
+use Rattle.model.specs.Locks.{Blocks}
+use Rattle.model.specs.Table.{Table, Target, target}
+use Rattle.messages.specs.Shapes.{ShapeFields, IsShape}
+use Rattle.messages.specs.Wants.{Wants}
+use Rattle.messages.specs.declared.message.Message.{Message}
+use Rattle.messages.specs.declared.message.Message.TheVariants.{Revoke, Conflict, Deny}
+use Rattle.messages.specs.declared.event.Event.TheVariants.{Deliver}
+use Rattle.messages.specs.declared.entry.Entry.{Entry}
+use Rattle.messages.specs.Messages.{is_among}
+use Rattle.cluster_core.specs.World.{WorldState, first_world}
+use Rattle.cluster_core.specs.Runs.{Leads}
+use Rattle.cluster_core.specs.Union.{union}
+use Rattle.cluster_core.specs.Histories.{caller, IsCalledAt, IsRevokedAt}
+
+-- the call passes its tests: it is about a lock of that mode there
+abbrev pub IsAbout : Table → Process → Op → Mode → Target → Type 0
+IsAbout t p (Set fd kind m start len) mode c = (m ≡ mode) × (target t p (Some m) fd kind start len ≡ Ok c)
+IsAbout t p (Query fd kind m start len) mode c = (m ≡ mode) × (target t p None fd kind start len ≡ Ok c)
+IsAbout t p _ mode c = ⊥
+
+-- the world after the entry at a position
+abbrev pub IsWorldAfter : ShapeFields → List Entry → ℕ → WorldState → Type 0
+IsWorldAfter shape es at w = Leads (first_world shape) (take at es) w
+
+-- a call of the run is about a lock of that mode on these bytes of the file
+pub record IsAsked (shape : ShapeFields) (es : List Entry) (file : ℕ) (call : CallId) (mode : Mode) (span : Range) : Type 0 where
+  pub at : ℕ
+  pub pid : ℕ
+  pub op : Op
+  pub called : IsCalledAt es call pid op at
+  pub world : WorldState
+  pub after : IsWorldAfter shape es at world
+  pub about : Target
+  pub asks : IsAbout (union world) (caller call pid) op mode about
+  pub file_is : about.file ≡ file
+  pub span_is : about.span ≡ span
+
+-- after the call was made its holder first did the revoke of that number, and its answer was this conflict: the lock was then a region of the holder, and in the way of the call
+pub record HasEvidence (shape : ShapeFields) (es : List Entry) (file : ℕ) (call : CallId) (holder : Host) (number : ℕ) (lock : LockInfo) : Type 0 where
+  pub mode : Mode
+  pub wanted : Wants
+  pub asked : IsAsked shape es file call mode wanted.required
+  pub at : ℕ
+  pub later : asked.at < at
+  pub revoked : IsRevokedAt es file holder number at
+  pub does : revoked.revoking.event ≡ Deliver (Revoke file number holder call mode wanted)
+  pub answer : revoked.revoking.sends ≡ Conflict file number holder call lock ∷ []
+  pub no_reply : revoked.revoking.reply ≡ None
+  pub world : WorldState
+  pub after : IsWorldAfter shape es at world
+  pub of_node : lock.owner.node ≡ holder.node
+  pub of_incarnation : lock.owner.incarnation ≡ holder.incarnation
+  pub blocks : Blocks ((union world).locks file) asked.about.owner wanted.required mode lock
+
+-- a server was told of the conflict, or denied a call for it
+abbrev pub IsTold : WorldState → ℕ → CallId → Host → ℕ → LockInfo → Type 0
+IsTold w file call holder number lock = (is_among w.sent (Conflict file number holder call lock) ≡ true) ⊎ (is_among w.sent (Deny file call holder number lock) ≡ true)
+
+-- no call is denied for a lock that was not there, whatever came later
+abbrev pub EveryDenialHasEvidence : Type 0
+EveryDenialHasEvidence =
+    (shape : ShapeFields) (es : List Entry) (w : WorldState) (file : ℕ) (call : CallId) (holder : Host) (number : ℕ) (lock : LockInfo)
+    → IsShape shape
+    → Leads (first_world shape) es w
+    → IsTold w file call holder number lock
+    → HasEvidence shape es file call holder number lock
