@@ -1,7 +1,7 @@
 -- A node's parts and its state.
-use Rattle.std.specs.Prelude.{◌≡◌, ℕ, zero, suc, ◌+◌, ◌-◌, ◌<◌, ◌≤◌, ◌&&◌, ◌==◌, Bool, true, false, nat_le, nat_lt, if◌then◌else◌, List, [], ◌∷◌, ◌++◌, Option, Some, None, Result, Ok, Err, All, Contains, IfOk, IfErr, IfSome, MatchOption, MatchResult, find, filter, length, ℤ, refl}
-use Rattle.std.proofs.Common.{arith, ap, sym, subst, ◌∙◌, inl, inr}
-use Rattle.std.proofs.lemmas.Bool.{cases_Bool, and_parts, and_from, eq-eqb, eqb-true, le-leb, lt-leb, leb-true, both_ways}
+use Rattle.std.specs.Prelude.{◌≡◌, ℕ, ◌+◌, ◌-◌, ◌<◌, ◌≤◌, ◌&&◌, ◌==◌, Bool, true, false, nat_lt, if◌then◌else◌, List, [], ◌∷◌, Option, Some, None, Result, Ok, Err, All, Contains, IfOk, IfErr, IfSome, MatchOption, MatchResult, find, filter, length, refl}
+use Rattle.std.proofs.Common.{arith, ap, sym, subst, ◌∙◌}
+use Rattle.std.proofs.lemmas.Bool.{and_parts, and_from, eq-eqb, le-leb, lt-leb}
 use Rattle.std.proofs.lemmas.Bool.Decides.{nat_tests}
 use Rattle.std.proofs.lemmas.List.Elements.{All-head, All-tail, All-filter}
 use Rattle.intervals.specs.declared.span.SpanError.{SpanError}
@@ -17,15 +17,15 @@ use Rattle.model.specs.declared.process.Process.{Process}
 use Rattle.model.specs.declared.reply.Reply.{Reply}
 use Rattle.model.specs.declared.reply.Reply.TheVariants.{Done, Fd, NoLocks}
 use Rattle.model.specs.declared.reply.Reply.TheVariants as reply
-use Rattle.model.specs.Limits.{IsNumber, IsHost, most_of, most_processes, most_descriptors, most_descriptions}
+use Rattle.model.specs.Limits.{IsNumber, most_of, most_processes, most_descriptors}
 use Rattle.model.specs.Owners.{same_owner, owner_at, most_owners}
 use Rattle.model.specs.declared.lock_info.LockInfo.{LockInfo}
 use Rattle.model.specs.declared.policy.Policy.{Policy}
 use Rattle.model.specs.declared.policy.Policy.TheVariants.{Wide, Exact}
 use Rattle.model.specs.Locks.{Locks, no_locks, with_lock, regions, IsFree, IsLowestBlocker, lowest_blocker, IsOfNode}
 use Rattle.model.proofs.BlockerLaws.{is_lowest_blocker}
-use Rattle.model.specs.Descriptors.{Processes, no_processes, with_descriptor, on_lowest_fd, lowest_fd, lowest_description, after_open}
-use Rattle.model.specs.Table.{Table, Target, around, beside, with_processes, target_at, lock_within}
+use Rattle.model.specs.Descriptors.{Processes, no_processes, with_descriptor, lowest_fd, lowest_description, after_open}
+use Rattle.model.specs.Table.{Target, around, beside, with_processes, target_at, lock_within}
 use Rattle.model.proofs.OwnerLaws.{owner_exact}
 use Rattle.lock_table.specs.declared.row.Row.{Row as LockRow}
 use Rattle.lock_table.specs.Rows.{held}
@@ -48,7 +48,7 @@ use Rattle.node_core.specs.declared.open_call.OpenCall.{OpenCall}
 use Rattle.node_core.specs.State.{NodeState, first_file, first_node, process}
 use Rattle.node_core.specs.Rows.{processes, resolved, opened_or, fd_reply, Refuses}
 use Rattle.node_core.specs.Files.{file_state}
-use Rattle.node_core.specs.Parts.{NodeParts, node_state, table_of, IsOwn, IsSpan, IsOwnCall, IsNode, IsNewNumber, tabled}
+use Rattle.node_core.specs.Parts.{NodeParts, node_state, IsOwn, IsSpan, IsOwnCall, IsNode, IsNewNumber, tabled}
 use Rattle.node_core.proofs.CallLaws.{none-above}
 
 -- the node itself is its own

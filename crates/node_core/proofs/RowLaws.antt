@@ -1,18 +1,17 @@
 -- Rows of processes.
-use Rattle.std.specs.Prelude.{◌≡◌, ◌≢◌, ℕ, zero, suc, ◌+◌, ◌-◌, ◌<◌, ◌≤◌, ◌⊎◌, ◌||◌, ◌&&◌, ◌==◌, Bool, true, false, not, if◌then◌else◌, List, [], ◌∷◌, ◌++◌, Option, Some, None, IfSome, length, take, replicate, slice_index_or, slice_set, refl}
+use Rattle.std.specs.Prelude.{◌≡◌, ◌≢◌, ℕ, zero, suc, ◌+◌, ◌<◌, ◌≤◌, ◌||◌, ◌&&◌, ◌==◌, Bool, true, false, if◌then◌else◌, List, Option, Some, None, IfSome, length, replicate, slice_index_or, slice_set, refl}
 use Rattle.std.proofs.Common.{arith, ap, subst, sym, ◌∙◌, inl, inr}
-use Rattle.std.proofs.lemmas.Bool.{cases_lt, cases_Bool, cases_eq, eq-eqb, ne_eqb, eqb-true, eqb-false, both_ways, false≢true}
-use Rattle.std.proofs.lemmas.Bool.Decides.{nat_tests}
+use Rattle.std.proofs.lemmas.Bool.{cases_lt, cases_Bool, cases_eq, eq-eqb, ne_eqb, eqb-true, both_ways, false≢true}
 use Rattle.std.proofs.lemmas.List.{get_or-set_same, get_or-set_other, get_or_past}
 use Rattle.intervals.specs.Search.{some_passes}
 use Rattle.model.specs.declared.opened.Opened.{Opened}
-use Rattle.model.specs.Limits.{IsNumber, most_descriptors, most_descriptions}
-use Rattle.model.specs.Descriptors.{Processes, no_processes, with_process, with_descriptor, is_of, is_open}
-use Rattle.model.proofs.SearchLaws.{Failed, Passes, failed-start, first-passes, some_passes-found, some_passes-none}
+use Rattle.model.specs.Limits.{IsNumber, most_descriptions}
+use Rattle.model.specs.Descriptors.{Processes, with_process, with_descriptor, is_open}
+use Rattle.model.proofs.SearchLaws.{failed-start, first-passes, some_passes-found, some_passes-none}
 use Rattle.model.proofs.DescriptorLaws.{none_refers}
 use Rattle.intervals.specs.Search.{first}
 use Rattle.node_core.specs.declared.descriptors.row.Row.{Row}
-use Rattle.node_core.specs.Rows.{slot, idle, row, processes, IsSameRow, AreNumbered, AreRows, is_used, refers}
+use Rattle.node_core.specs.Rows.{slot, idle, row, processes, IsSameRow, AreNumbered, AreRows, refers}
 
 -- no number passes of none
 pub some_passes-zero : (passes : ℕ → Bool) (lo : ℕ) → some_passes passes lo 0 ≡ false

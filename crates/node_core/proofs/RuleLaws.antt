@@ -12,29 +12,26 @@ use Rattle.model.specs.declared.mode.Mode.TheVariants.{Read, Write}
 use Rattle.model.specs.declared.owner.Kind.{Kind}
 use Rattle.model.specs.declared.owner.Kind.TheVariants.{OfProcess, OfDescription}
 use Rattle.model.specs.declared.level.Level.{Level}
-use Rattle.model.specs.declared.call.CallId.{CallId}
 use Rattle.model.specs.declared.lock_info.LockInfo.{LockInfo}
 use Rattle.model.specs.declared.op.Op.TheVariants.{Set}
 use Rattle.model.specs.declared.opened.Opened.{Opened}
 use Rattle.model.specs.declared.process.Process.{Process}
 use Rattle.model.specs.declared.reply.Reply.{Reply}
 use Rattle.model.specs.declared.reply.Reply.TheVariants.{Done, NoLocks, NoProcess}
-use Rattle.model.specs.Limits.{most_regions}
-use Rattle.model.specs.Locks.{FileLocks, IsRegion, IsFree, IsOfNode, IsClear, lowest_blocker}
+use Rattle.model.specs.Locks.{FileLocks, IsRegion, IsOfNode, IsClear}
 use Rattle.model.specs.Table.{Table, Target, is_running, descriptor, allows, target_at, target, regions_with, locked, lock_within}
 use Rattle.model.proofs.BlockerLaws.{is_lowest_blocker}
 use Rattle.model.proofs.WayLaws.{clear_has_none}
 use Rattle.token_set.specs.Tokens.{Token, level_conflicts, conflicts, covers}
 use Rattle.token_set.specs.declared.gave_up.GaveUp.{GaveUp}
 use Rattle.token_set.specs.declared.gave_up.GaveUp.TheVariants.{Released, Conflict}
-use Rattle.token_set.specs.Releases.{lowered_level, lowered, gave_up, after_giving_up, IsGivenUp, IsRevocable}
+use Rattle.token_set.specs.Releases.{lowered_level, lowered, gave_up, after_giving_up, IsGivenUp}
 use Rattle.token_set.proofs.SearchLaws.{none_passes-from}
 use Rattle.token_set.proofs.ReleaseLaws.{gave_up_is_given_up}
 use Rattle.messages.specs.declared.outcome.Outcome.{Outcome}
 use Rattle.messages.specs.declared.refusal.StepError.{StepError}
 use Rattle.messages.specs.declared.refusal.StepError.TheVariants.{Stranger, Busy, Spent}
 use Rattle.messages.specs.Messages.{is_within}
-use Rattle.messages.specs.Wants.{Wants}
 use Rattle.node_core.specs.declared.open_call.OpenCall.{OpenCall}
 use Rattle.node_core.specs.declared.open_call.Intent.{Intent}
 use Rattle.node_core.specs.declared.open_call.Intent.TheVariants as intent

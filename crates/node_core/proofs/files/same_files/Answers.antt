@@ -1,4 +1,4 @@
-use Rattle.std.proofs.Common.{◌≡◌, arith, ap, sym, ◌∙◌, refl}
+use Rattle.std.proofs.Common.{◌≡◌, arith, sym, ◌∙◌, refl}
 use Rattle.std.proofs.lemmas.Bool.{iff_false, false≢true}
 use Rattle.node_core.specs.Files.{state_of}
 use Rattle.node_core.proofs.FileLaws.{file_state-same, same-file_state, row_state, same-below}

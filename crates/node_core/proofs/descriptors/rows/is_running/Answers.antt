@@ -1,4 +1,4 @@
-use Rattle.std.proofs.Common.{ap, sym, ◌∙◌}
+use Rattle.std.proofs.Common.{sym, ◌∙◌}
 use Rattle.node_core.proofs.RowLaws.{processes-runs}
 use Rattle.node_core.proofs.descriptors.rows.is_running.Goals as goal
 

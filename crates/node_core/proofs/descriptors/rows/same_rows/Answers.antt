@@ -1,4 +1,4 @@
-use Rattle.std.proofs.Common.{arith, refl, sym, ◌∙◌}
+use Rattle.std.proofs.Common.{arith, refl}
 use Rattle.std.proofs.lemmas.Bool.{iff_false, false≢true}
 use Rattle.node_core.proofs.RowLaws.{processes-same, same-processes, same-joined, same-past}
 use Rattle.node_core.proofs.descriptors.rows.same_rows.Goals as goal

@@ -1,4 +1,4 @@
-use Rattle.std.proofs.Common.{◌≡◌, ◌<◌, ℕ}
+use Rattle.std.proofs.Common.{◌<◌, ℕ}
 use Rattle.node_core.specs.Rows.{row, IsSameRow}
 use Rattle.node_core.proofs.descriptors.rows.same_rows.Given as goal
 

@@ -1,4 +1,3 @@
-use Rattle.std.proofs.Common.{ap, sym, ◌∙◌}
 use Rattle.node_core.proofs.RowLaws.{processes-spawn}
 use Rattle.node_core.proofs.descriptors.rows.start.Goals as goal
 

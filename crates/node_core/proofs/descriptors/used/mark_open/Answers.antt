@@ -1,4 +1,4 @@
-use Rattle.std.proofs.Common.{◌≡◌, ◌+◌, ◌||◌, arith, ap, sym, ◌∙◌}
+use Rattle.std.proofs.Common.{◌≡◌, ◌+◌, ◌||◌, arith, ap, ◌∙◌}
 use Rattle.intervals.specs.Search.{some_passes}
 use Rattle.node_core.specs.Rows.{is_used, row, refers}
 use Rattle.node_core.proofs.RowLaws.{marked-start, marked-more, refers-is_open}

@@ -1,4 +1,3 @@
-use Rattle.node_core.specs.Parts.{node_state}
 use Rattle.node_core.proofs.NodeLaws.{node-blocker}
 use Rattle.node_core.proofs.node.Node.blocker.Goals as goal
 

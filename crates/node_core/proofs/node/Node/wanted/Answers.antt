@@ -1,8 +1,7 @@
-use Rattle.std.proofs.Common.{ℕ, ◌≡◌, ◌≤◌, ◌∙◌, ap, sym, subst}
+use Rattle.std.proofs.Common.{◌≡◌, ◌≤◌, ◌∙◌, ap, sym, subst}
 use Rattle.intervals.specs.Bytes.{Range}
-use Rattle.model.specs.declared.policy.Policy.{Policy}
 use Rattle.messages.specs.Wants.{Wants}
-use Rattle.token_set.specs.Tokens.{Token, desired}
+use Rattle.token_set.specs.Tokens.{desired}
 use Rattle.node_core.specs.State.{FileState}
 use Rattle.node_core.specs.Parts.{NodeParts, node_state}
 use Rattle.node_core.proofs.NodeLaws.{desired-ends}
