@@ -1,5 +1,5 @@
 -- The locks of a node are covered by its tokens, and each step of the node keeps them so.
-use Rattle.std.proofs.Common.{◌≡◌, ℕ, ◌+◌, ◌≤◌, Bool, true, false, not, if◌then◌else◌, ◌&&◌, ◌==◌, nat_le, nat_lt, is_some, refl, sym, subst, ◌++◌, [], ◌∷◌, Option, Some, None, Result, Ok, Err}
+use Rattle.std.proofs.Common.{◌≡◌, ℕ, ◌+◌, ◌≤◌, Bool, true, false, not, if◌then◌else◌, ◌&&◌, ◌||◌, ◌==◌, nat_le, nat_lt, is_some, refl, sym, subst, ◌++◌, [], ◌∷◌, Option, Some, None, Result, Ok, Err}
 use Rattle.std.proofs.lemmas.Bool.{and_parts, eqb-true, leb-true}
 use Rattle.std.proofs.lemmas.Option.{none-some, same_Some}
 use Rattle.intervals.specs.Bytes.{Range, put, is_in}
@@ -7,37 +7,47 @@ use Rattle.model.specs.declared.mode.Mode.{Mode}
 use Rattle.model.specs.declared.mode.Mode.TheVariants.{Read, Write}
 use Rattle.model.specs.declared.level.Level.{Level}
 use Rattle.model.specs.declared.level.Level.TheVariants.{Shared, Exclusive}
+use Rattle.model.specs.declared.lock_info.LockInfo.{LockInfo}
 use Rattle.model.specs.declared.owner.Owner.{Owner}
 use Rattle.model.specs.declared.process.Process.{Process}
 use Rattle.model.specs.declared.call.CallId.{CallId}
 use Rattle.model.specs.declared.op.Op.{Op}
-use Rattle.model.specs.declared.op.Op.TheVariants.{Spawn, Open, Set, Unlock}
+use Rattle.model.specs.declared.op.Op.TheVariants.{Spawn, Open, Set, Unlock, Query}
 use Rattle.model.specs.declared.reply.Reply.{Reply}
 use Rattle.model.specs.declared.reply.Reply.TheVariants.{Done, NoLocks}
 use Rattle.model.specs.Limits.{most_regions}
 use Rattle.model.specs.Owners.{same_owner}
-use Rattle.model.specs.Locks.{FileLocks, Locks, bars, with_lock, lowest_blocker}
+use Rattle.model.specs.Locks.{FileLocks, Locks, IsOfNode, bars, with_lock, lowest_blocker}
 use Rattle.model.specs.Descriptors.{Processes, after_spawn, after_open}
-use Rattle.model.specs.Table.{Table, Target, around, beside, target, lock_within, locked, regions_with, after_unlock}
+use Rattle.model.specs.Table.{Table, Target, around, beside, target, lock_within, locked, regions_with}
 use Rattle.token_set.specs.Tokens.{Token, serves, covers, raised, raised_level}
+use Rattle.token_set.specs.Releases.{gave_up, after_giving_up}
+use Rattle.token_set.specs.declared.gave_up.GaveUp.{GaveUp}
+use Rattle.token_set.specs.declared.gave_up.GaveUp.TheVariants.{Released, Conflict}
 use Rattle.token_set.proofs.TokenLaws.{covers-each, covers-from}
+use Rattle.token_set.proofs.ReleaseLaws.{lowering_keeps_locks}
 use Rattle.messages.specs.Shapes.{ShapeFields}
+use Rattle.messages.specs.Wants.{Wants}
 use Rattle.messages.specs.declared.message.Message.{Message}
-use Rattle.messages.specs.declared.message.Message.TheVariants.{Request, Grant, Taken}
-use Rattle.messages.specs.Messages.{addressee, call_of, file_of, is_within}
+use Rattle.messages.specs.declared.message.Message.TheVariants.{Grant, Revoke, Taken, Deny, Freed}
+use Rattle.messages.specs.Messages.{addressee, host_of, file_of, is_within}
 use Rattle.messages.specs.declared.outcome.Outcome.{Outcome}
 use Rattle.messages.specs.declared.refusal.StepError.{StepError}
 use Rattle.messages.specs.declared.refusal.StepError.TheVariants.{Busy, Stranger, Spent}
 use Rattle.node_core.specs.declared.event.NodeEvent.{NodeEvent}
 use Rattle.node_core.specs.declared.event.NodeEvent.TheVariants.{Call, Deliver, Retry}
+use Rattle.node_core.specs.declared.open_call.Intent.{Intent}
+use Rattle.node_core.specs.declared.open_call.Intent.TheVariants as intent
 use Rattle.node_core.specs.declared.open_call.OpenCall.{OpenCall}
-use Rattle.node_core.specs.State.{NodeState, FileState, Effect, first_node, quiet, process, open_call, open_call_of, target_of, outcome}
-use Rattle.node_core.specs.Try.{settled, requested, tried, tried_against, tried_if}
-use Rattle.node_core.specs.Calls.{is_pid, is_in_shape, called, after_call, lock_call, call_rule}
-use Rattle.node_core.specs.Commands.{remembered, in_order, after_grant, granted, delivered, is_node, deliver_rule}
+use Rattle.node_core.specs.State.{NodeState, FileState, Effect, first_node, with_file, quiet, process, host, open_call, open_call_of, target_of, outcome}
+use Rattle.node_core.specs.Try.{settled, requested, may_free, with_freed, locked_by, answered_here, tried, tried_against, tried_if}
+use Rattle.node_core.specs.Calls.{is_pid, is_in_shape, called, after_call, lock_call, unlock_call, call_rule}
+use Rattle.node_core.specs.Commands.{remembered, in_order, after_command, granted, revoked, answer_to, is_conflict, denied, delivered, is_node, deliver_rule}
 use Rattle.node_core.specs.Node.{node_rule}
 use Rattle.cluster_core.specs.Safe.{Excludes}
 use Rattle.cluster_core.proofs.Targets.{ok_is, if_ok}
+use Rattle.cluster_core.proofs.Talks.{at_number}
+use Rattle.cluster_core.proofs.Clearing.{released_clear}
 
 -- the token serves each byte that is locked
 abbrev pub IsCovered : Token → FileLocks → Type 0
@@ -123,10 +133,6 @@ module _ (files : ℕ → FileState) where
       let out : Bool → Table × Reply = λ x. if x then (locked t c mode, Done) else (t, NoLocks) in
       elim (nat_le (regions_with t c mode) most_regions) as (λ x. AllCovered (out x).0.locks) [ true ↦ with_lock_covered t.locks c.file c.owner c.span mode given old | false ↦ old ]
 
-  pub unlock_covered : (t : Table) (found : Result Target Reply) → AllCovered t.locks → AllCovered (after_unlock t found).0.locks
-  unlock_covered t (Err refusal) old = old
-  unlock_covered t (Ok c) old = lock_within_covered t c None tt old
-
   -- calls that concern processes and descriptors alone
   pub beside_covered : (t : Table) (p : Process) (r : Result (Processes × Reply) Reply) → AllCovered t.locks → AllCovered (beside t p r).0.locks
   beside_covered t p (Ok answer) old = old
@@ -136,15 +142,35 @@ module _ (files : ℕ → FileState) where
 pub first_covered : (shape : ShapeFields) (node incarnation : ℕ) → Covered (first_node shape node incarnation)
 first_covered shape node incarnation file o b mode h = absurd (none-some mode h)
 
+-- the server hears that locks may be gone: no token changes
+with_freed_covered : (file : ℕ) (e : Effect) → Covered e.state → Covered (with_freed file e).state
+with_freed_covered file e old =
+    let told : Effect = record { state = with_file e.state file (record (e.state.files file) { asked = false }); reply = e.reply; sends = e.sends ++ Freed file (host e.state) ∷ [] } in
+    elim ((e.state.files file).asked) as (λ x. Covered (if x then told else e).state) [
+      | true ↦ λ f o b m held. at_number f file (λ x. serves ((if x then record (e.state.files file) { asked = false } else e.state.files f).token b) m ≡ true)
+          (λ same. subst (λ (k : ℕ). serves ((e.state.files k).token b) m ≡ true) same (old f o b m held))
+          (λ other. old f o b m held)
+      | false ↦ old
+    ]
+
+-- bytes are locked, of which the token covers each, or freed
+locked_by_covered : (s : NodeState) (number : ℕ) (about : Target) (mode : Option Mode) → IsGiven (s.files about.file).token about.span mode → Covered s → Covered (locked_by s number about mode).state
+locked_by_covered s number about mode given old =
+    let answer = lock_within s.table about mode in
+    let plain : Covered (settled s number answer).state = lock_within_covered s.files s.table about mode given old in
+    elim (may_free mode answer.1) as (λ x. Covered (if x then with_freed about.file (settled s number answer) else settled s number answer).state) [ true ↦ with_freed_covered about.file (settled s number answer) plain | false ↦ plain ]
+
+answered_here_covered : (s : NodeState) (c : OpenCall) (i : Intent) → covers (s.files c.file).token c.span c.mode ≡ true → Covered s → Covered (answered_here s c i).state
+answered_here_covered s c intent.Set given old = locked_by_covered s c.number (target_of c) (Some c.mode) given old
+answered_here_covered s c intent.Query given old = old
+
 -- an open call is tried: it is set where the token covers it
 pub tried_covered : (s : NodeState) (c : OpenCall) → Covered s → Covered (tried s c).state
 tried_covered s c old =
-    let answer = lock_within s.table (target_of c) (Some c.mode) in
-    let free : Bool → Effect = λ x. if x then settled s c.number answer else requested s c in
     elim (lowest_blocker (s.table.locks c.file) c.owner c.span c.mode) as (λ x. Covered (tried_against s c x).state) [
       | Some lock ↦ old
-      | None ↦ elim (covers (s.files c.file).token c.span c.mode) as (λ x. covers (s.files c.file).token c.span c.mode ≡ x → Covered (free x).state) [
-        | true ↦ λ given. lock_within_covered s.files s.table (target_of c) (Some c.mode) given old
+      | None ↦ elim (covers (s.files c.file).token c.span c.mode) as (λ x. covers (s.files c.file).token c.span c.mode ≡ x → Covered (if x then answered_here s c c.intent else requested s c).state) [
+        | true ↦ λ given. answered_here_covered s c c.intent given old
         | false ↦ λ other. old
       ] refl
     ]
@@ -153,37 +179,60 @@ pub tried_if_covered : (s : NodeState) (c : Option OpenCall) → Covered s → C
 tried_if_covered s None old = old
 tried_if_covered s (Some c) old = tried_covered s c old
 
-lock_call_covered : (s : NodeState) (number pid : ℕ) (mode : Mode) (found : Result Target Reply) → Covered s → Covered (lock_call s number pid mode found).state
-lock_call_covered s number pid mode (Err refusal) old = old
-lock_call_covered s number pid mode (Ok about) old =
-    let c : OpenCall = record { number = number; pid = pid; file = about.file; owner = about.owner; mode = mode; span = about.span } in
+lock_call_covered : (s : NodeState) (number pid : ℕ) (i : Intent) (mode : Mode) (found : Result Target Reply) → Covered s → Covered (lock_call s number pid i mode found).state
+lock_call_covered s number pid i mode (Err refusal) old = old
+lock_call_covered s number pid i mode (Ok about) old =
+    let c : OpenCall = record { number = number; pid = pid; intent = i; file = about.file; owner = about.owner; mode = mode; span = about.span } in
     tried_covered (record s { pending = s.pending ++ c ∷ [] }) c old
+
+unlock_call_covered : (s : NodeState) (number : ℕ) (found : Result Target Reply) → Covered s → Covered (unlock_call s number found).state
+unlock_call_covered s number (Err refusal) old = old
+unlock_call_covered s number (Ok about) old = locked_by_covered s number about None tt old
 
 -- a call is taken
 pub called_covered : (s : NodeState) (number pid : ℕ) (op : Op) → Covered s → Covered (called s number pid op).state
 called_covered s number pid Spawn old = beside_covered s.files s.table (process s pid) (after_spawn (around s.table (process s pid)) pid) old
 called_covered s number pid (Open file access) old = beside_covered s.files s.table (process s pid) (after_open (around s.table (process s pid)) pid file access) old
-called_covered s number pid (Set fd kind mode start len) old = lock_call_covered s number pid mode (target s.table (process s pid) (Some mode) fd kind start len) old
-called_covered s number pid (Unlock fd kind start len) old = unlock_covered s.files s.table (target s.table (process s pid) None fd kind start len) old
+called_covered s number pid (Set fd kind mode start len) old = lock_call_covered s number pid intent.Set mode (target s.table (process s pid) (Some mode) fd kind start len) old
+called_covered s number pid (Unlock fd kind start len) old = unlock_call_covered s number (target s.table (process s pid) None fd kind start len) old
+called_covered s number pid (Query fd kind mode start len) old = lock_call_covered s number pid intent.Query mode (target s.table (process s pid) None fd kind start len) old
 
 pub after_call_covered : (s : NodeState) (pid : ℕ) (op : Op) → Covered s → Covered (after_call s pid op).0
 after_call_covered s pid op old = called_covered (record s { calls = s.calls + 1 }) (s.calls + 1) pid op old
 
+-- the file has another token, that covers its locks too
+after_command_covered : (s : NodeState) (file : ℕ) (token : Token) (number : ℕ) (answer : Message) (asked : Bool) → IsCovered token (s.table.locks file) → Covered s → Covered (after_command s file token number answer asked)
+after_command_covered s file token number answer asked new old f o b m held =
+    let done : FileState = record { token = token; last = number; answer = Some answer; asked = asked } in
+    at_number f file (λ x. serves ((if x then done else s.files f).token b) m ≡ true)
+    (λ same. new o b m (subst (λ (k : ℕ). s.table.locks k o b ≡ Some m) same held))
+    (λ other. old f o b m held)
+
 -- a grant raises the token
-pub after_grant_covered : (s : NodeState) (file number : ℕ) (call : CallId) (mode : Mode) (span : Range) → Covered s → Covered (after_grant s file number call mode span)
-after_grant_covered s file number call mode span old f o b m held =
-    let done : FileState = record { token = raised (s.files file).token span mode; last = number; answer = Some (Taken file number call) } in
-    elim (f == file) as (λ x. (f == file) ≡ x → serves ((if x then done else s.files f).token b) m ≡ true) [
-      | true ↦ λ same.
-          let is : f ≡ file = eqb-true f file same in
-          raised-serves (s.files file).token span mode m b (subst (λ (k : ℕ). serves ((s.files k).token b) m ≡ true) is (old f o b m held))
-      | false ↦ λ other. old f o b m held
-    ] refl
+pub after_grant_covered : (s : NodeState) (file number : ℕ) (call : CallId) (mode : Mode) (span : Range) → Covered s → Covered (after_command s file (raised (s.files file).token span mode) number (Taken file number call) (s.files file).asked)
+after_grant_covered s file number call mode span old =
+    after_command_covered s file (raised (s.files file).token span mode) number (Taken file number call) (s.files file).asked
+    (λ o b m held. raised-serves (s.files file).token span mode m b (old file o b m held)) old
 
 pub granted_covered : (s : NodeState) (file number : ℕ) (call : CallId) (mode : Mode) (span : Range) → Covered s → Covered (granted s file number call mode span).state
 granted_covered s file number call mode span old =
-    let next = after_grant s file number call mode span in
+    let next = after_command s file (raised (s.files file).token span mode) number (Taken file number call) (s.files file).asked in
     tried_if_covered next (open_call next call.number) (after_grant_covered s file number call mode span old)
+
+-- all locks of the node are of owners that it can have
+abbrev pub OwnLocks : NodeState → Type 0
+OwnLocks s = (file : ℕ) → IsOfNode (s.table.locks file) s.node s.incarnation
+
+-- a revoke lowers the token where no lock is in the way
+given_up_covered : (s : NodeState) (file : ℕ) (mode : Mode) (wanted : Wants) (gives : GaveUp) → gave_up (s.table.locks file) s.node s.incarnation mode wanted.required wanted.desired ≡ gives → OwnLocks s → Covered s → IsCovered (after_giving_up (s.files file).token mode gives) (s.table.locks file)
+given_up_covered s file mode wanted (Released span) is own old =
+    lowering_keeps_locks (s.table.locks file) (s.files file).token span mode (released_clear (s.table.locks file) s.node s.incarnation (own file) mode wanted.required wanted.desired span is) (old file)
+given_up_covered s file mode wanted (Conflict lock) is own old = old file
+
+pub revoked_covered : (s : NodeState) (file number : ℕ) (call : CallId) (mode : Mode) (wanted : Wants) → OwnLocks s → Covered s → Covered (revoked s file number call mode wanted).state
+revoked_covered s file number call mode wanted own old =
+    let gives = gave_up (s.table.locks file) s.node s.incarnation mode wanted.required wanted.desired in
+    after_command_covered s file (after_giving_up (s.files file).token mode gives) number (answer_to file number (host s) call gives) (is_conflict gives || (s.files file).asked) (given_up_covered s file mode wanted gives refl own old) old
 
 remembered_covered : (s : NodeState) (answer : Option Message) → Covered s → Covered (remembered s answer).state
 remembered_covered s None old = old
@@ -198,11 +247,16 @@ in_order_covered s file number effect old new =
       | false ↦ elim ((number == f.last) && nat_le 1 number) as (λ x. Covered (again x).state) [ true ↦ remembered_covered s f.answer old | false ↦ old ]
     ]
 
+denied_covered : (s : NodeState) (lock : LockInfo) (c : Option OpenCall) → Covered s → Covered (denied s lock c).state
+denied_covered s lock None old = old
+denied_covered s lock (Some c) old = old
+
 -- a message is taken
-pub delivered_covered : (s : NodeState) (m : Message) → Covered s → Covered (delivered s m).state
-delivered_covered s (Grant file number call mode span) old = in_order_covered s file number (granted s file number call mode span) old (granted_covered s file number call mode span old)
-delivered_covered s (Request file call urgency mode wanted) old = old
-delivered_covered s (Taken file number call) old = old
+pub delivered_covered : (s : NodeState) (m : Message) → OwnLocks s → Covered s → Covered (delivered s m).state
+delivered_covered s (Grant file number call mode span) own old = in_order_covered s file number (granted s file number call mode span) old (granted_covered s file number call mode span old)
+delivered_covered s (Revoke file number holder call mode wanted) own old = in_order_covered s file number (revoked s file number call mode wanted) old (revoked_covered s file number call mode wanted own old)
+delivered_covered s (Deny file call holder number lock) own old = denied_covered s lock (open_call s call.number) old
+delivered_covered s m own old = old
 
 -- what holds of an answer that is not refused
 unless_refused : {A E : Type 0} (P : A → Type 0) (refused : Bool) (x : Result A E) (e : E) (p : A) → ((h : x ≡ Ok p) → P p) → ◌≡◌ {A = Result A E} (if refused then Err e else x) (Ok p) → P p
@@ -221,20 +275,20 @@ call_rule_covered s pid op done h old =
       | false ↦ λ is. absurd (cc)
     ])) h
 
-deliver_rule_covered : (s : NodeState) (m : Message) (done : NodeState × Outcome) → deliver_rule s m ≡ Ok done → Covered s → Covered done.0
-deliver_rule_covered s m done h old =
+deliver_rule_covered : (s : NodeState) (m : Message) (done : NodeState × Outcome) → deliver_rule s m ≡ Ok done → OwnLocks s → Covered s → Covered done.0
+deliver_rule_covered s m done h own old =
     let P : NodeState × Outcome → Type 0 = λ x. Covered x.0 in
     let taken : Bool → Result (NodeState × Outcome) StepError = λ x. if x then Ok (outcome None (delivered s m)) else Ok (outcome None (quiet s)) in
-    unless_refused P (not (is_node s.node (addressee m) && is_within s.shape.files (file_of m))) (taken ((call_of m).incarnation == s.incarnation)) Stranger done
-    (elim ((call_of m).incarnation == s.incarnation) as (λ x. taken x ≡ Ok done → P done) [
-      | true ↦ λ is. subst P (ok_is (outcome None (delivered s m)) done is) (delivered_covered s m old)
+    unless_refused P (not (is_node s.node (addressee m) && is_within s.shape.files (file_of m))) (taken ((host_of m).incarnation == s.incarnation)) Stranger done
+    (elim ((host_of m).incarnation == s.incarnation) as (λ x. taken x ≡ Ok done → P done) [
+      | true ↦ λ is. subst P (ok_is (outcome None (delivered s m)) done is) (delivered_covered s m own old)
       | false ↦ λ is. subst P (ok_is (outcome None (quiet s)) done is) old
     ]) h
 
 -- each step of a node
-pub node_rule_covered : (s u : NodeState) (event : NodeEvent) (o : Outcome) → node_rule s event ≡ Ok (u, o) → Covered s → Covered u
-node_rule_covered s u (Call pid op) o h old = call_rule_covered s pid op (u, o) h old
-node_rule_covered s u (Deliver m) o h old = deliver_rule_covered s m (u, o) h old
-node_rule_covered s u (Retry pid) o h old =
+pub node_rule_covered : (s u : NodeState) (event : NodeEvent) (o : Outcome) → node_rule s event ≡ Ok (u, o) → OwnLocks s → Covered s → Covered u
+node_rule_covered s u (Call pid op) o h own old = call_rule_covered s pid op (u, o) h old
+node_rule_covered s u (Deliver m) o h own old = deliver_rule_covered s m (u, o) h own old
+node_rule_covered s u (Retry pid) o h own old =
     let effect = tried_if s (open_call_of s pid) in
     subst (λ (x : NodeState × Outcome). Covered x.0) (if_ok (is_pid pid) (outcome None effect) (u, o) Stranger h).1 (tried_if_covered s (open_call_of s pid) old)

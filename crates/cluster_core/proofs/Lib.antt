@@ -34,6 +34,9 @@ pub mod Lists
 pub mod TokenLists
 pub mod LockLists
 pub mod Replayed
+pub mod Steps
+pub mod Lowering
+pub mod Clearing
 pub mod Talks
 pub mod TalkMoves
 pub mod NodeTokens

@@ -1,23 +1,51 @@
--- Every run is safe, and has a history.
-use Rattle.std.proofs.Common.{List}
+-- Every run is safe and has a history, and each denial its evidence.
+use Rattle.std.proofs.Common.{◌≡◌, ℕ, true, refl, List, Ok}
+use Rattle.model.specs.declared.call.CallId.{CallId}
+use Rattle.model.specs.declared.lock_info.LockInfo.{LockInfo}
 use Rattle.messages.specs.Shapes.{ShapeFields, IsShape}
+use Rattle.messages.specs.declared.message.Message.TheVariants.{Conflict}
+use Rattle.messages.specs.declared.event.Event.{Event}
 use Rattle.messages.specs.declared.entry.Entry.{Entry}
+use Rattle.node_core.specs.State.{host}
 use Rattle.cluster_core.specs.World.{WorldState, first_world}
+use Rattle.cluster_core.specs.Next.{next}
 use Rattle.cluster_core.specs.Runs.{Leads}
 use Rattle.cluster_core.specs.Safe.{IsSafe}
 use Rattle.cluster_core.specs.Histories.{EveryRunHasAHistory}
 use Rattle.cluster_core.specs.Evidence.{EveryDenialHasEvidence}
 use Rattle.cluster_core.specs.Placement.{history_of}
-use Rattle.cluster_core.proofs.Pasts.{safe_after, history_after, evidence_after}
-use Rattle.cluster_core.proofs.Heard.{Present, present_begins, present_goes_on, present_heard}
+use Rattle.cluster_core.proofs.Covering.{Covered, first_covered}
+use Rattle.cluster_core.proofs.Served.{all_covered, next_covered}
+use Rattle.cluster_core.proofs.Present.{Present}
+use Rattle.cluster_core.proofs.Apart.{next_present, present_first, present_apart, answers_counted, remembered_sent}
+use Rattle.cluster_core.proofs.Heard.{IsHeard}
+use Rattle.cluster_core.proofs.Pasts.{AllOwn, safe_after, history_after, evidence_after}
+
+-- tokens, rows and messages fit, and locks are covered
+pub record IsCovered (w : WorldState) : Type 0 where
+  pub present : Present w
+  pub covered : (n : ℕ) → Covered (w.nodes n)
+
+covered_first : (shape : ShapeFields) → IsCovered (first_world shape)
+covered_first shape = record { present = present_first shape; covered = λ n. first_covered shape n 1 }
+
+covered_next : (w : WorldState) → AllOwn w → IsCovered w → (event : Event) (p : WorldState × Entry) → next w event ≡ Ok p → IsCovered p.0
+covered_next w own c event p h = record { present = next_present w c.present event p h; covered = next_covered w event p (λ n. (own n).locks) c.covered h }
+
+covered_heard : (w : WorldState) → IsCovered w → IsHeard w
+covered_heard w c = record {
+  safe = record { apart = present_apart w c.present; covered = all_covered w c.covered };
+  answers = λ n file m there h. (remembered_sent w c.present file n m h).0;
+  counted = λ n file number call lock there sent. (answers_counted w c.present file n number (Conflict file number (host (w.nodes n)) call lock) sent (refl, refl, c.present.named n, refl)).0;
+}
 
 pub safe_run : (shape : ShapeFields) (es : List Entry) (w : WorldState) → IsShape shape → Leads (first_world shape) es w → IsSafe w
-safe_run shape es w is l = safe_after shape is Present (present_begins shape) present_goes_on present_heard es w l
+safe_run shape es w is l = safe_after shape is IsCovered (covered_first shape) covered_next covered_heard es w l
 
 pub every_run : EveryRunHasAHistory
 every_run shape es w is l =
-    let h = history_after shape is Present (present_begins shape) present_goes_on present_heard es w l in
+    let h = history_after shape is IsCovered (covered_first shape) covered_next covered_heard es w l in
     (history_of es, h.0, h.1)
 
 pub every_denial : EveryDenialHasEvidence
-every_denial shape es w file call holder number lock is l told = evidence_after shape is Present (present_begins shape) present_goes_on present_heard es w file call holder number lock l told
+every_denial shape es w file call holder number lock is l told = evidence_after shape is IsCovered (covered_first shape) covered_next covered_heard es w file call holder number lock l told

@@ -8,25 +8,21 @@ use Rattle.token_server.specs.declared.event.ServerEvent.TheVariants.{Deliver, R
 use Rattle.token_server.specs.State.{ServerState}
 use Rattle.token_server.specs.Serve.{serve}
 use Rattle.token_server.specs.Resends.{outstanding, sending_first}
-use Rattle.token_server.specs.Server.{change, then_serve, as_outcome, server_rule}
+use Rattle.token_server.specs.Server.{Change, change, then_serve, server_rule}
 use Rattle.cluster_core.proofs.Targets.{ok_is}
 
 -- nothing but messages
 abbrev pub IsSending : ServerState × Outcome → Type 0
 IsSending p = (p.1.call ≡ None) × (p.1.reply ≡ None)
 
-as_outcome-sending : (r : Result (ServerState × List Message) StepError) (p : ServerState × Outcome) → as_outcome r ≡ Ok p → IsSending p
-as_outcome-sending (Ok done) p h = subst IsSending (ok_is _ p h) (refl, refl)
-as_outcome-sending (Err e) p h = absurd (cc)
-
-then_serve-sending : (s : ServerState) (c : Result (Option ServerState) StepError) (p : ServerState × Outcome) → then_serve s c ≡ Ok p → IsSending p
-then_serve-sending s (Err e) p h = absurd (cc)
-then_serve-sending s (Ok None) p h = subst IsSending (ok_is _ p h) (refl, refl)
-then_serve-sending s (Ok (Some changed)) p h = as_outcome-sending (serve changed) p h
-
 sending_first-sending : (commands : List Message) (r : Result (ServerState × List Message) StepError) (p : ServerState × Outcome) → sending_first commands r ≡ Ok p → IsSending p
 sending_first-sending commands (Ok done) p h = subst IsSending (ok_is _ p h) (refl, refl)
 sending_first-sending commands (Err e) p h = absurd (cc)
+
+then_serve-sending : (s : ServerState) (c : Result (Option Change) StepError) (p : ServerState × Outcome) → then_serve s c ≡ Ok p → IsSending p
+then_serve-sending s (Err e) p h = absurd (cc)
+then_serve-sending s (Ok None) p h = subst IsSending (ok_is _ p h) (refl, refl)
+then_serve-sending s (Ok (Some changed)) p h = sending_first-sending changed.1 (serve changed.0) p h
 
 pub server_rule-sending : (s : ServerState) (event : ServerEvent) (p : ServerState × Outcome) → server_rule s event ≡ Ok p → IsSending p
 server_rule-sending s (Deliver m) p h = then_serve-sending s (change s m) p h

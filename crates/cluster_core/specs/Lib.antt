@@ -10,3 +10,4 @@ pub mod Placement
 pub mod Evidence
 pub mod Listings
 pub mod Safe
+pub mod Numbers

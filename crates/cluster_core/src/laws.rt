@@ -1,6 +1,7 @@
 //! What holds of every run of the cluster.
 ghost use Rattle.cluster_core.specs.Evidence.{EveryDenialHasEvidence};
 ghost use Rattle.cluster_core.specs.Histories.{EveryRunHasAHistory};
+ghost use Rattle.cluster_core.specs.Numbers.{NoNumberIsUsedTwice};
 ghost use Rattle.cluster_core.specs.Safe.{EveryRunIsSafe};
 
 /// Whatever calls come, and in whatever order messages are delivered, lost or repeated: there is one
@@ -24,4 +25,10 @@ pub fn every_run_is_safe()
 /// the call.
 pub fn every_denial_has_evidence()
     ensures { EveryDenialHasEvidence }
+{}
+
+/// After every run no two commands about one file to one incarnation of a node have one number: a
+/// number tells the command, whatever was lost, repeated or sent again.
+pub fn no_number_is_used_twice()
+    ensures { NoNumberIsUsedTwice }
 {}

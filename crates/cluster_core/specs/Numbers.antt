@@ -1,0 +1,29 @@
+-- Numbers of the commands of token servers.
+use Rattle.std.specs.Prelude.{◌≡◌, ℕ, Bool, true, false, List}
+use Rattle.messages.specs.Shapes.{ShapeFields}
+use Rattle.messages.specs.Messages.{file_of, host_of, is_among}
+use Rattle.messages.specs.declared.message.Message.{Message}
+use Rattle.messages.specs.declared.message.Message.TheVariants.{Grant, Revoke}
+use Rattle.messages.specs.declared.entry.Entry.{Entry}
+use Rattle.cluster_core.specs.World.{WorldState, first_world}
+use Rattle.cluster_core.specs.Runs.{Leads}
+
+-- a server gives a node a token, or takes one back
+abbrev pub is_command : Message → Bool
+is_command (Grant file number call mode span) = true
+is_command (Revoke file number holder call mode wanted) = true
+is_command _ = false
+
+-- the number of a command, from 1
+abbrev pub number_of : Message → ℕ
+number_of (Grant file number call mode span) = number
+number_of (Revoke file number holder call mode wanted) = number
+number_of _ = 0
+
+-- of the commands about one file to one incarnation of a node, no two have one number
+abbrev pub NumbersTellCommands : WorldState → Type 0
+NumbersTellCommands w = (m other : Message) → is_among w.sent m ≡ true → is_among w.sent other ≡ true → is_command m ≡ true → is_command other ≡ true → file_of m ≡ file_of other → host_of m ≡ host_of other → number_of m ≡ number_of other → m ≡ other
+
+-- whatever world a run leads to
+abbrev pub NoNumberIsUsedTwice : Type 0
+NoNumberIsUsedTwice = (shape : ShapeFields) (es : List Entry) (w : WorldState) → Leads (first_world shape) es w → NumbersTellCommands w
