@@ -10,7 +10,7 @@ use Rattle.model.specs.declared.access.Access.{Access}
 use Rattle.model.specs.declared.mode.Mode.{Mode}
 use Rattle.model.specs.declared.mode.Mode.TheVariants.{Read, Write}
 use Rattle.model.specs.declared.op.Op.{Op}
-use Rattle.model.specs.declared.op.Op.TheVariants.{Spawn, Open, Set, Unlock}
+use Rattle.model.specs.declared.op.Op.TheVariants.{Spawn, Open, Set, Unlock, Query}
 use Rattle.model.specs.declared.owner.Kind.{Kind}
 use Rattle.model.specs.declared.policy.Policy.{Policy}
 use Rattle.model.specs.declared.policy.Policy.TheVariants.{Wide, Exact}
@@ -20,8 +20,8 @@ use Rattle.lockscript.specs.declared.script_line.Command.TheVariants.{Call, Deli
 use Rattle.lockscript.specs.Layout.{space}
 use Rattle.lockscript.specs.Reads.{Both, after_text, pair_text}
 use Rattle.lockscript.specs.Scripts.{IsCommand, IsLine, LineFields, command_text, counts_text, greatest_message, line_text, shape_text}
-use Rattle.lockscript.specs.Served.{AreOffsets, IsDescriptor, IsServedAccess, IsServedKind, IsServedOp}
-use Rattle.lockscript.specs.Texts.{access_text, kind_text, mode_text, op_text, policy_text, segment_text}
+use Rattle.lockscript.specs.Served.{AreOffsets, IsAskedLock, IsDescriptor, IsServedAccess, IsServedKind, IsServedOp}
+use Rattle.lockscript.specs.Texts.{access_text, asked_lock_text, kind_text, mode_text, op_text, policy_text, segment_text}
 use Rattle.lockscript.proofs.Pairs.{AreWords, cancel-front, heads, same-split, tails}
 use Rattle.lockscript.proofs.SingleWords.{fd_words, file_words, kind_words, mode_words, node_words, offset_words, pid_words}
 
@@ -74,8 +74,8 @@ apart-unlock : AreApart (pair_text decimal (pair_text kind_text segment_text)) (
 apart-unlock = apart-pair decimal (pair_text kind_text segment_text) IsDescriptor (Both IsServedKind AreOffsets) fd_words apart-fd
     (apart-pair kind_text segment_text IsServedKind AreOffsets kind_words apart-kind apart-segment)
 
-apart-set : AreApart (pair_text decimal (pair_text kind_text (pair_text mode_text segment_text))) (Both IsDescriptor (Both IsServedKind (Both (λ _. ⊤) AreOffsets)))
-apart-set = apart-pair decimal (pair_text kind_text (pair_text mode_text segment_text)) IsDescriptor (Both IsServedKind (Both (λ _. ⊤) AreOffsets)) fd_words apart-fd
+apart-asked_lock : AreApart asked_lock_text IsAskedLock
+apart-asked_lock = apart-pair decimal (pair_text kind_text (pair_text mode_text segment_text)) IsDescriptor (Both IsServedKind (Both (λ _. ⊤) AreOffsets)) fd_words apart-fd
     (apart-pair kind_text (pair_text mode_text segment_text) IsServedKind (Both (λ _. ⊤) AreOffsets) kind_words apart-kind
     (apart-pair mode_text segment_text (λ _. ⊤) AreOffsets mode_words apart-mode apart-segment))
 
@@ -84,24 +84,35 @@ apart-op Spawn Spawn _ _ e = refl
 apart-op Spawn (Open f a) _ _ e = absurd (omega (arith, heads 115 111 _ _ e))
 apart-op Spawn (Set fd k m s n) _ _ e = absurd (omega (arith, heads 112 101 _ _ (tails 115 115 _ _ e)))
 apart-op Spawn (Unlock fd k s n) _ _ e = absurd (omega (arith, heads 115 117 _ _ e))
+apart-op Spawn (Query fd k m s n) _ _ e = absurd (omega (arith, heads 115 113 _ _ e))
 apart-op (Open f a) Spawn _ _ e = absurd (omega (arith, heads 111 115 _ _ e))
 apart-op (Open f a) (Open f' a') x y e =
     let same = apart-open (f, a) (f', a') x y (cancel-front (codes "open ") _ _ e) in
     ap (λ (p : ℕ × Access). Open p.0 p.1) same
 apart-op (Open f a) (Set fd k m s n) _ _ e = absurd (omega (arith, heads 111 115 _ _ e))
 apart-op (Open f a) (Unlock fd k s n) _ _ e = absurd (omega (arith, heads 111 117 _ _ e))
+apart-op (Open f a) (Query fd k m s n) _ _ e = absurd (omega (arith, heads 111 113 _ _ e))
 apart-op (Set fd k m s n) Spawn _ _ e = absurd (omega (arith, heads 101 112 _ _ (tails 115 115 _ _ e)))
 apart-op (Set fd k m s n) (Open f a) _ _ e = absurd (omega (arith, heads 115 111 _ _ e))
 apart-op (Set fd k m s n) (Set fd' k' m' s' n') x y e =
-    let same = apart-set (fd, (k, (m, (s, n)))) (fd', (k', (m', (s', n')))) (x.0, (x.1, (tt, (x.2, x.3)))) (y.0, (y.1, (tt, (y.2, y.3)))) (cancel-front (codes "set ") _ _ e) in
+    let same = apart-asked_lock (fd, (k, (m, (s, n)))) (fd', (k', (m', (s', n')))) (x.0, (x.1, (tt, (x.2, x.3)))) (y.0, (y.1, (tt, (y.2, y.3)))) (cancel-front (codes "set ") _ _ e) in
     ap (λ (p : ℕ × (Kind × (Mode × (ℤ × ℤ)))). Set p.0 p.1.0 p.1.1.0 p.1.1.1.0 p.1.1.1.1) same
 apart-op (Set fd k m s n) (Unlock fd' k' s' n') _ _ e = absurd (omega (arith, heads 115 117 _ _ e))
+apart-op (Set fd k m s n) (Query fd' k' m' s' n') _ _ e = absurd (omega (arith, heads 115 113 _ _ e))
 apart-op (Unlock fd k s n) Spawn _ _ e = absurd (omega (arith, heads 117 115 _ _ e))
 apart-op (Unlock fd k s n) (Open f a) _ _ e = absurd (omega (arith, heads 117 111 _ _ e))
 apart-op (Unlock fd k s n) (Set fd' k' m' s' n') _ _ e = absurd (omega (arith, heads 117 115 _ _ e))
 apart-op (Unlock fd k s n) (Unlock fd' k' s' n') x y e =
     let same = apart-unlock (fd, (k, (s, n))) (fd', (k', (s', n'))) (x.0, (x.1, (x.2, x.3))) (y.0, (y.1, (y.2, y.3))) (cancel-front (codes "unlock ") _ _ e) in
     ap (λ (p : ℕ × (Kind × (ℤ × ℤ))). Unlock p.0 p.1.0 p.1.1.0 p.1.1.1) same
+apart-op (Unlock fd k s n) (Query fd' k' m' s' n') _ _ e = absurd (omega (arith, heads 117 113 _ _ e))
+apart-op (Query fd k m s n) Spawn _ _ e = absurd (omega (arith, heads 113 115 _ _ e))
+apart-op (Query fd k m s n) (Open f a) _ _ e = absurd (omega (arith, heads 113 111 _ _ e))
+apart-op (Query fd k m s n) (Set fd' k' m' s' n') _ _ e = absurd (omega (arith, heads 113 115 _ _ e))
+apart-op (Query fd k m s n) (Unlock fd' k' s' n') _ _ e = absurd (omega (arith, heads 113 117 _ _ e))
+apart-op (Query fd k m s n) (Query fd' k' m' s' n') x y e =
+    let same = apart-asked_lock (fd, (k, (m, (s, n)))) (fd', (k', (m', (s', n')))) (x.0, (x.1, (tt, (x.2, x.3)))) (y.0, (y.1, (tt, (y.2, y.3)))) (cancel-front (codes "query ") _ _ e) in
+    ap (λ (p : ℕ × (Kind × (Mode × (ℤ × ℤ)))). Query p.0 p.1.0 p.1.1.0 p.1.1.1.0 p.1.1.1.1) same
 
 apart-call : AreApart (pair_text decimal (pair_text decimal op_text)) (Both (IsNumber most_nodes) (Both (IsNumber most_processes) IsServedOp))
 apart-call = apart-pair decimal (pair_text decimal op_text) (IsNumber most_nodes) (Both (IsNumber most_processes) IsServedOp) node_words (apart-number most_nodes (omega arith))

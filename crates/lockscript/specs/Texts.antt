@@ -15,10 +15,10 @@ use Rattle.model.specs.declared.policy.Policy.TheVariants.{Wide, Exact}
 use Rattle.model.specs.declared.call.CallId.{CallId}
 use Rattle.model.specs.declared.lock_info.LockInfo.{LockInfo}
 use Rattle.model.specs.declared.op.Op.{Op}
-use Rattle.model.specs.declared.op.Op.TheVariants.{Spawn, Open, Set, Unlock}
+use Rattle.model.specs.declared.op.Op.TheVariants.{Spawn, Open, Set, Unlock, Query}
 use Rattle.lockscript.specs.Reads.{pair_text}
 use Rattle.model.specs.declared.reply.Reply.{Reply}
-use Rattle.model.specs.declared.reply.Reply.TheVariants.{Done, Fd, Again, NoProcess, Exists, BadFd, TooManyFiles, NoLocks, Invalid, Overflow}
+use Rattle.model.specs.declared.reply.Reply.TheVariants.{Done, Fd, Again, Free, Blocked, NoProcess, Exists, BadFd, TooManyFiles, NoLocks, Invalid, Overflow}
 
 abbrev pub mode_text : Mode → List ℕ
 mode_text Read = codes "read"
@@ -62,6 +62,8 @@ abbrev pub reply_text : Reply → List ℕ
 reply_text Done = codes "done"
 reply_text (Fd fd) = codes "fd " ++ decimal fd
 reply_text (Again lock) = codes "again " ++ lock_text lock
+reply_text Free = codes "free"
+reply_text (Blocked lock) = codes "blocked " ++ lock_text lock
 reply_text NoProcess = codes "no-process"
 reply_text Exists = codes "exists"
 reply_text BadFd = codes "bad-fd"
@@ -74,8 +76,13 @@ reply_text Overflow = codes "overflow"
 abbrev pub segment_text : ℤ × ℤ → List ℕ
 segment_text = pair_text signed_decimal signed_decimal
 
+-- `FD KIND MODE START LEN`, the lock that a call asks for or about
+abbrev pub asked_lock_text : ℕ × (Kind × (Mode × (ℤ × ℤ))) → List ℕ
+asked_lock_text = pair_text decimal (pair_text kind_text (pair_text mode_text segment_text))
+
 abbrev pub op_text : Op → List ℕ
 op_text Spawn = codes "spawn"
 op_text (Open file access) = codes "open " ++ pair_text decimal access_text (file, access)
-op_text (Set fd kind mode start len) = codes "set " ++ pair_text decimal (pair_text kind_text (pair_text mode_text segment_text)) (fd, (kind, (mode, (start, len))))
+op_text (Set fd kind mode start len) = codes "set " ++ asked_lock_text (fd, (kind, (mode, (start, len))))
 op_text (Unlock fd kind start len) = codes "unlock " ++ pair_text decimal (pair_text kind_text segment_text) (fd, (kind, (start, len)))
+op_text (Query fd kind mode start len) = codes "query " ++ asked_lock_text (fd, (kind, (mode, (start, len))))

@@ -1,12 +1,12 @@
 //! Operations in scripts.
-ghost use Rattle.std.specs.Prelude.{decimal, FitsSigned, ⊤};
+ghost use Rattle.std.specs.Prelude.{◌++◌, codes, decimal, FitsSigned, ⊤};
 ghost use Rattle.std.specs.Fmt.{signed_decimal};
 ghost use Rattle.std.specs.Int.{w64};
 ghost use Rattle.model.specs.Limits.{IsNumber};
 ghost use Rattle.messages.specs.Shapes.{most_files};
 ghost use Rattle.lockscript.specs.Reads.{Both, Reads, pair_text};
-ghost use Rattle.lockscript.specs.Served.{AreOffsets, IsDescriptor, IsServedAccess, IsServedKind, IsServedOp};
-ghost use Rattle.lockscript.specs.Texts.{access_text, kind_text, mode_text, op_text, segment_text};
+ghost use Rattle.lockscript.specs.Served.{AreOffsets, IsAskedLock, IsDescriptor, IsServedAccess, IsServedKind, IsServedOp};
+ghost use Rattle.lockscript.specs.Texts.{access_text, asked_lock_text, kind_text, mode_text, op_text, segment_text};
 
 use crate::fields::{after, descriptor_of, file_of, split_field};
 use crate::number::offset_of;
@@ -16,8 +16,8 @@ use model::mode::Mode;
 use model::op::Op;
 use model::owner::Kind;
 
-/// The operation that the text writes, of those that are served: so far `spawn`, `open`, `set` and
-/// `unlock`.
+/// The operation that the text writes, of those that are served: so far `spawn`, `open`, `set`,
+/// `unlock` and `query`.
 pub(crate) fn op_of(text: &str) -> Option<Op>
     ensures { Reads op_text IsServedOp text.now result }
 {
@@ -25,35 +25,67 @@ pub(crate) fn op_of(text: &str) -> Option<Op>
         return Some(Op::Spawn);
     }
     if let Some(operands) = after(text, "open ") {
-        return match open_operands(operands) {
-            Some((file, access)) => Some(Op::Open { file, access }),
-            None => None,
-        };
+        return open_of(operands);
     }
     if let Some(operands) = after(text, "set ") {
-        return match set_operands(operands) {
-            Some((fd, (kind, (mode, (start, len))))) => Some(Op::Set {
-                fd,
-                kind,
-                mode,
-                start,
-                len,
-            }),
-            None => None,
-        };
+        return set_of(operands);
     }
     if let Some(operands) = after(text, "unlock ") {
-        return match unlock_operands(operands) {
-            Some((fd, (kind, (start, len)))) => Some(Op::Unlock {
-                fd,
-                kind,
-                start,
-                len,
-            }),
-            None => None,
-        };
+        return unlock_of(operands);
+    }
+    if let Some(operands) = after(text, "query ") {
+        return query_of(operands);
     }
     None
+}
+
+// `open` with these operands.
+fn open_of(operands: &str) -> Option<Op>
+    ensures { Reads op_text IsServedOp (codes "open " ++ operands.now) result }
+{
+    let (file, access) = open_operands(operands)?;
+    Some(Op::Open { file, access })
+}
+
+// `set` with these operands.
+fn set_of(operands: &str) -> Option<Op>
+    ensures { Reads op_text IsServedOp (codes "set " ++ operands.now) result }
+{
+    let (fd, (kind, (mode, (start, len)))) = asked_lock(operands)?;
+    Some(Op::Set {
+        fd,
+        kind,
+        mode,
+        start,
+        len,
+    })
+}
+
+// `unlock` with these operands.
+fn unlock_of(operands: &str) -> Option<Op>
+    ensures { Reads op_text IsServedOp (codes "unlock " ++ operands.now) result }
+{
+    let (fd, (kind, (start, len))) = unlock_operands(operands)?;
+    Some(Op::Unlock {
+        fd,
+        kind,
+        start,
+        len,
+    })
+}
+
+// `query` with these operands.
+fn query_of(operands: &str) -> Option<Op>
+    ensures { Reads op_text IsServedOp (codes "query " ++ operands.now) result }
+{
+    let (fd, (kind, (mode, (start, len)))) = asked_lock(operands)?;
+    Some(Op::Query {
+        fd,
+        kind,
+        mode,
+        start,
+        len,
+    })
 }
 
 // `F ACCESS`.
@@ -67,9 +99,8 @@ fn open_operands(text: &str) -> Option<(u16, Access)>
 }
 
 // `FD KIND MODE START LEN`.
-fn set_operands(text: &str) -> Option<(u8, (Kind, (Mode, (i64, i64))))>
-    ensures { Reads (pair_text decimal (pair_text kind_text (pair_text mode_text segment_text)))
-        (Both IsDescriptor (Both IsServedKind (Both (λ _. ⊤) AreOffsets))) text.now result }
+fn asked_lock(text: &str) -> Option<(u8, (Kind, (Mode, (i64, i64))))>
+    ensures { Reads asked_lock_text IsAskedLock text.now result }
 {
     match split_field(text) {
         Some((fd, rest)) => descriptor_of(fd).zip(kind_mode_segment(rest)),

@@ -31,6 +31,8 @@ impl Script {
     /// and lines that begin with `#` are skipped. The first other line is
     /// `cluster nodes N files F policy P`, and none of the others is; they are `call N PID OP`,
     /// `deliver K`, `lose K`, `settle`, `retry N PID` and `resend F`, in lines up to number 4294967295.
+    /// OP is `spawn`, `open F rw`, `set FD proc MODE START LEN`, `unlock FD proc START LEN` or
+    /// `query FD proc MODE START LEN`, with MODE `read` or `write`.
     /// Fields are separated by one space, and numbers are decimal, without leading zeros or a leading
     /// `+`.
     ///

@@ -1,6 +1,6 @@
 //! Texts of what listings name.
 ghost use Rattle.std.specs.Prelude.{◌≡◌, ◌++◌, string_bytes, OnOk};
-ghost use Rattle.lockscript.specs.Texts.{access_text, call_text, host_text, kind_text, level_text, lock_text, mode_text, op_text, owner_letter, owner_text, reply_text};
+ghost use Rattle.lockscript.specs.Texts.{access_text, asked_lock_text, call_text, host_text, kind_text, level_text, lock_text, mode_text, op_text, owner_letter, owner_text, reply_text};
 
 use model::access::Access;
 use model::call::CallId;
@@ -108,6 +108,11 @@ pub(crate) fn push_reply(out: &mut String, reply: &Reply) -> Result<(), AllocErr
             out.push_str("again ")?;
             push_lock(out, lock)
         }
+        Reply::Free => out.push_str("free"),
+        Reply::Blocked(lock) => {
+            out.push_str("blocked ")?;
+            push_lock(out, lock)
+        }
         Reply::NoProcess => out.push_str("no-process"),
         Reply::Exists => out.push_str("exists"),
         Reply::BadFd => out.push_str("bad-fd"),
@@ -135,9 +140,8 @@ pub(crate) fn push_op(out: &mut String, op: &Op) -> Result<(), AllocError>
             start,
             len,
         } => {
-            let kind = kind_word(*kind);
-            let mode = mode_word(*mode);
-            write!(out, "set {fd} {kind} {mode} {start} {len}")
+            out.push_str("set ")?;
+            push_asked_lock(out, *fd, *kind, *mode, *start, *len)
         }
         Op::Unlock {
             fd,
@@ -148,5 +152,31 @@ pub(crate) fn push_op(out: &mut String, op: &Op) -> Result<(), AllocError>
             let kind = kind_word(*kind);
             write!(out, "unlock {fd} {kind} {start} {len}")
         }
+        Op::Query {
+            fd,
+            kind,
+            mode,
+            start,
+            len,
+        } => {
+            out.push_str("query ")?;
+            push_asked_lock(out, *fd, *kind, *mode, *start, *len)
+        }
     }
+}
+
+// Writes `FD KIND MODE START LEN`.
+fn push_asked_lock(
+    out: &mut String,
+    fd: u8,
+    kind: Kind,
+    mode: Mode,
+    start: i64,
+    len: i64,
+) -> Result<(), AllocError>
+    ensures { OnOk result (string_bytes out.new ≡ string_bytes out.old ++ asked_lock_text (fd, (kind, (mode, (start, len))))) }
+{
+    let kind = kind_word(kind);
+    let mode = mode_word(mode);
+    write!(out, "{fd} {kind} {mode} {start} {len}")
 }

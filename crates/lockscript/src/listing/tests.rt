@@ -180,11 +180,70 @@ fn has_five_sections(rt: HostRuntime) -> Result<(), Fail> {
     Ok(())
 }
 
+const QUERIED_LISTING: &str = "refused
+replies
+      1 1.1.1            blocked read 40 59 p1@1.1
+      2 1.1.2            free
+tokens
+locks
+history
+      1 1.1.1            2 query 0 proc write 45 1 -> blocked read 40 59 p1@1.1
+      2 1.1.2            2 query 0 proc read 200 10 -> free
+";
+
+const BLOCKED: Reply = Reply::Blocked(LockInfo {
+    owner: OWNER,
+    mode: Mode::Read,
+    span: Span { lo: 40, hi: 59 },
+});
+
+const QUERIES: [Item; 2] = [
+    Item::Answered {
+        position: 1,
+        id: CALL,
+        pid: 2,
+        op: Op::Query {
+            fd: 0,
+            kind: Kind::OfProcess,
+            mode: Mode::Write,
+            start: 45,
+            len: 1,
+        },
+        reply: BLOCKED,
+    },
+    Item::Answered {
+        position: 2,
+        id: NEXT_CALL,
+        pid: 2,
+        op: Op::Query {
+            fd: 0,
+            kind: Kind::OfProcess,
+            mode: Mode::Read,
+            start: 200,
+            len: 10,
+        },
+        reply: Reply::Free,
+    },
+];
+
+#[test]
+fn shows_queries(rt: HostRuntime) -> Result<(), Fail> {
+    let alloc = rt.alloc();
+    let entries = vec![in alloc;
+        entry(alloc, CALL, Some((CALL, BLOCKED))),
+        entry(alloc, NEXT_CALL, Some((NEXT_CALL, Reply::Free))),
+    ]?;
+    let text = listing(alloc, &[], &entries, &[], &[], &QUERIES)?;
+    assert_eq!(rt; text.as_str(), QUERIED_LISTING);
+    Ok(())
+}
+
 #[test]
 fn names_each_reply(rt: HostRuntime) -> Result<(), Fail> {
     let replies = [
         (Reply::Done, "done"),
         (Reply::Fd(63), "fd 63"),
+        (Reply::Free, "free"),
         (Reply::NoProcess, "no-process"),
         (Reply::Exists, "exists"),
         (Reply::BadFd, "bad-fd"),

@@ -16,6 +16,7 @@ call 64 256 open 256 rw
 settle
 call 1 1 set 255 proc read -1 -9223372036854775808
 call 1 1 unlock 0 proc 9223372036854775807 0
+call 1 2 query 0 proc write 45 1
 ";
 
 const OPEN: Op = Op::Open {
@@ -38,6 +39,14 @@ const UNLOCK: Op = Op::Unlock {
     len: 0,
 };
 
+const QUERY: Op = Op::Query {
+    fd: 0,
+    kind: Kind::OfProcess,
+    mode: Mode::Write,
+    start: 45,
+    len: 1,
+};
+
 fn call(node: u8, pid: u16, op: Op) -> Command {
     Command::Call { node, pid, op }
 }
@@ -52,6 +61,7 @@ fn has_its_lines(rt: HostRuntime) -> Result<(), Fail> {
         (7, Command::Settle),
         (8, call(1, 1, SET)),
         (9, call(1, 1, UNLOCK)),
+        (10, call(1, 2, QUERY)),
     ];
     assert_eq!(rt; script.lines().len(), want.len());
     for (line, (number, command)) in script.lines().iter().zip(want.iter()) {
@@ -87,7 +97,7 @@ fn has_its_lines_of_messages(rt: HostRuntime) -> Result<(), Fail> {
 }
 
 // What may not stand in line 2.
-const BAD_SECOND_LINES: [&str; 66] = [
+const BAD_SECOND_LINES: [&str; 70] = [
     "cluster nodes 1 files 1 policy wide",
     "Settle",
     "settle ",
@@ -130,12 +140,16 @@ const BAD_SECOND_LINES: [&str; 66] = [
     "call 1 1 set 0 proc write 0 1 2",
     "call 1 1 unlock 0 proc write 0 1",
     "call 1 1 unlock 0 desc 0 1",
+    "call 1 1 query 0 proc shared 0 1",
+    "call 1 1 query 0 proc 0 1",
+    "call 1 1 query 0 desc write 0 1",
+    "call 1 1 query 256 proc write 0 1",
+    "call 1 1 query 0 proc write 0 1 ",
     "call 1 1 fork 2",
     "call 1 1 dup 0",
     "call 1 1 close 0",
     "call 1 1 exit",
     "call 1 1 wait 0 proc write 0 1",
-    "call 1 1 query 0 proc write 0 1",
     "deliver",
     "deliver 0",
     "deliver 01",
