@@ -48,4 +48,4 @@ every_run shape es w is l =
     (history_of es, h.0, h.1)
 
 pub every_denial : EveryDenialHasEvidence
-every_denial shape es w file call holder number lock is l told = evidence_after shape is IsCovered (covered_first shape) covered_next covered_heard es w file call holder number lock l told
+every_denial shape es is w file call holder number lock l told = evidence_after shape is IsCovered (covered_first shape) covered_next covered_heard es w file call holder number lock l told

@@ -66,11 +66,14 @@ pub record HasEvidence (shape : ShapeFields) (es : List Entry) (file : ℕ) (cal
 abbrev pub IsTold : WorldState → ℕ → CallId → Host → ℕ → LockInfo → Type 0
 IsTold w file call holder number lock = (is_among w.sent (Conflict file number holder call lock) ≡ true) ⊎ (is_among w.sent (Deny file call holder number lock) ≡ true)
 
--- no call is denied for a lock that was not there, whatever came later
-abbrev pub EveryDenialHasEvidence : Type 0
-EveryDenialHasEvidence =
-    (shape : ShapeFields) (es : List Entry) (w : WorldState) (file : ℕ) (call : CallId) (holder : Host) (number : ℕ) (lock : LockInfo)
-    → IsShape shape
+-- whatever world the entries lead to: no call is denied for a lock that was not there
+abbrev pub DenialsHaveEvidence : ShapeFields → List Entry → Type 0
+DenialsHaveEvidence shape es =
+    (w : WorldState) (file : ℕ) (call : CallId) (holder : Host) (number : ℕ) (lock : LockInfo)
     → Leads (first_world shape) es w
     → IsTold w file call holder number lock
     → HasEvidence shape es file call holder number lock
+
+-- so it is after every run
+abbrev pub EveryDenialHasEvidence : Type 0
+EveryDenialHasEvidence = (shape : ShapeFields) (es : List Entry) → IsShape shape → DenialsHaveEvidence shape es

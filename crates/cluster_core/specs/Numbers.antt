@@ -24,6 +24,10 @@ number_of _ = 0
 abbrev pub NumbersTellCommands : WorldState → Type 0
 NumbersTellCommands w = (m other : Message) → is_among w.sent m ≡ true → is_among w.sent other ≡ true → is_command m ≡ true → is_command other ≡ true → file_of m ≡ file_of other → host_of m ≡ host_of other → number_of m ≡ number_of other → m ≡ other
 
--- whatever world a run leads to
+-- whatever world the entries lead to, its numbers tell its commands
+abbrev pub LeadsToNumbers : ShapeFields → List Entry → Type 0
+LeadsToNumbers shape es = (w : WorldState) → Leads (first_world shape) es w → NumbersTellCommands w
+
+-- so it is after every run
 abbrev pub NoNumberIsUsedTwice : Type 0
-NoNumberIsUsedTwice = (shape : ShapeFields) (es : List Entry) (w : WorldState) → Leads (first_world shape) es w → NumbersTellCommands w
+NoNumberIsUsedTwice = (shape : ShapeFields) (es : List Entry) → LeadsToNumbers shape es

@@ -6,6 +6,8 @@ ghost use Rattle.cluster_core.specs.Runs.{IsRun};
 ghost use Rattle.cluster_core.specs.Journals.{events_of, IsFirstRefusal};
 ghost use Rattle.cluster_core.specs.Histories.{HasOneHistory};
 ghost use Rattle.cluster_core.specs.Safe.{LeadsToSafe};
+ghost use Rattle.cluster_core.specs.Numbers.{LeadsToNumbers};
+ghost use Rattle.cluster_core.specs.Evidence.{DenialsHaveEvidence};
 
 use crate::world::World;
 use messages::entry::Entry;
@@ -66,6 +68,13 @@ pub fn run(alloc: Global, shape: Shape, events: &[Event]) -> Result<Journal, Ref
 
     // Tokens of two nodes don't conflict, and locks are covered by tokens.
     ensures safe { IfOk result (λ journal. LeadsToSafe shape journal.entries) }
+
+    // No command of a server has the number of another to the same node about the same file.
+    ensures numbers { IfOk result (λ journal. LeadsToNumbers shape journal.entries) }
+
+    // A call is denied only for a lock that stood in its way after it was made, where the lock's
+    // holder first did the revoke that the denial names.
+    ensures evidence { IfOk result (λ journal. DenialsHaveEvidence shape journal.entries) }
 
     // Else the events before one happened, and that one is refused so.
     ensures refused { IfErr result (λ refusal. refusal ≢ NoMemory → IsFirstRefusal shape events.now refusal) }

@@ -1,6 +1,7 @@
 use Rattle.cluster_core.specs.Parts.{world_state}
 use Rattle.cluster_core.proofs.JournalRuns.{ran_empty, ran_more, first_refusal}
-use Rattle.cluster_core.proofs.Runs.{every_run, safe_run}
+use Rattle.cluster_core.proofs.Apart.{numbers_after}
+use Rattle.cluster_core.proofs.Runs.{every_run, safe_run, every_denial}
 use Rattle.cluster_core.proofs.journal.run.Goals as goal
 
 pub returns-in-Err-clause-refused : goal.returns-in-Err-clause-refused
@@ -16,3 +17,9 @@ returns-clause-one_table c = every_run _ _ _ c.in_ok-world.ensures.within c.loop
 
 pub returns-clause-safe : goal.returns-clause-safe
 returns-clause-safe c = λ w l. safe_run _ _ w c.in_ok-world.ensures.within l
+
+pub returns-clause-numbers : goal.returns-clause-numbers
+returns-clause-numbers c = numbers_after _ _
+
+pub returns-clause-evidence : goal.returns-clause-evidence
+returns-clause-evidence c = every_denial _ _ c.in_ok-world.ensures.within
