@@ -33,6 +33,7 @@ and the lines after it are
   call N PID open F rw
   call N PID set FD proc read|write START LEN
   call N PID unlock FD proc START LEN
+  call N PID query FD proc read|write START LEN
   deliver K
   lose K
   settle
