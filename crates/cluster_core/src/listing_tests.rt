@@ -19,7 +19,7 @@ use model::mode::Mode;
 use model::op::Op;
 use model::owner::{Kind, Owner};
 use model::policy::Policy;
-use std::alloc::Global;
+use std::alloc::{AllocError, Global};
 use std::test::Fail;
 
 const OPEN: Op = Op::Open {
@@ -117,21 +117,42 @@ fn held(lo: u64, hi: u64) -> HeldLock
     HeldLock { file: 1, lock }
 }
 
+// The world in a box, as a test keeps it.
+fn boxed(alloc: Global, world: World) -> Result<Box<World>, AllocError> {
+    Ok(Box::new(alloc, world)?)
+}
+
+// Whether the nodes hold just these tokens.
+fn has_tokens(world: &World, alloc: Global, tokens: &[TokenRun]) -> Result<bool, AllocError> {
+    Ok(world.tokens(alloc)?.as_slice() == tokens)
+}
+
+// Whether the nodes hold just these locks.
+fn has_locks(world: &World, alloc: Global, locks: &[HeldLock]) -> Result<bool, AllocError> {
+    Ok(world.locks(alloc)?.as_slice() == locks)
+}
+
 #[test]
 fn a_world_that_begins_holds_nothing(rt: HostRuntime) -> Result<(), Fail> {
     let alloc = rt.alloc();
     let shape = Shape::new(1, 2, Policy::Wide)?;
-    let world = World::new(alloc, shape)?;
-    assert!(rt; world.tokens(alloc)?.is_empty());
-    assert!(rt; world.locks(alloc)?.is_empty());
+    let world = boxed(alloc, World::new(alloc, shape)?)?;
+    assert!(rt; has_tokens(&world, alloc, &[])?);
+    assert!(rt; has_locks(&world, alloc, &[])?);
     Ok(())
+}
+
+// The world after the first run.
+fn after_first_run(alloc: Global) -> Result<Box<World>, Fail> {
+    let journal = first_run(alloc)?;
+    let world = World::after(alloc, &journal)?;
+    Ok(boxed(alloc, world)?)
 }
 
 #[test]
 fn the_world_after_a_run_lists_what_its_node_holds(rt: HostRuntime) -> Result<(), Fail> {
     let alloc = rt.alloc();
-    let journal = first_run(alloc)?;
-    let world = World::after(alloc, &journal)?;
+    let world = after_first_run(alloc)?;
     let token = TokenRun {
         node: 1,
         incarnation: 1,
@@ -139,8 +160,7 @@ fn the_world_after_a_run_lists_what_its_node_holds(rt: HostRuntime) -> Result<()
         span: WHOLE,
         level: Level::Exclusive,
     };
-    assert!(rt; world.tokens(alloc)?.as_slice() == [token].as_slice());
-    let locks = world.locks(alloc)?;
-    assert!(rt; locks.as_slice() == [held(0, 39), held(60, 99)].as_slice());
+    assert!(rt; has_tokens(&world, alloc, &[token])?);
+    assert!(rt; has_locks(&world, alloc, &[held(0, 39), held(60, 99)])?);
     Ok(())
 }
