@@ -11,7 +11,7 @@ use Rattle.cluster_core.specs.World.{WorldState, first_world}
 use Rattle.cluster_core.specs.Next.{next}
 use Rattle.cluster_core.specs.Runs.{Leads}
 use Rattle.cluster_core.specs.Safe.{IsSafe}
-use Rattle.cluster_core.specs.Histories.{EveryRunHasAHistory}
+use Rattle.cluster_core.specs.Histories.{HasHistory, EachAtItsPlace, EveryRunHasAHistory}
 use Rattle.cluster_core.specs.Evidence.{EveryDenialHasEvidence}
 use Rattle.cluster_core.specs.Placement.{history_of}
 use Rattle.cluster_core.proofs.Covering.{Covered, first_covered}
@@ -42,9 +42,13 @@ covered_heard w c = record {
 pub safe_run : (shape : ShapeFields) (es : List Entry) (w : WorldState) → IsShape shape → Leads (first_world shape) es w → IsSafe w
 safe_run shape es w is l = safe_after shape is IsCovered (covered_first shape) covered_next covered_heard es w l
 
+-- its history has each call at its place
+pub has_history : (shape : ShapeFields) (es : List Entry) (w : WorldState) → IsShape shape → Leads (first_world shape) es w → HasHistory shape es (history_of es) × EachAtItsPlace es (history_of es)
+has_history shape es w is l = history_after shape is IsCovered (covered_first shape) covered_next covered_heard es w l
+
 pub every_run : EveryRunHasAHistory
 every_run shape es w is l =
-    let h = history_after shape is IsCovered (covered_first shape) covered_next covered_heard es w l in
+    let h = has_history shape es w is l in
     (history_of es, h.0, h.1)
 
 pub every_denial : EveryDenialHasEvidence
