@@ -73,18 +73,21 @@ answer_moves past e s u c o undenied g calls none a holds = record {
   incarnation = g.incarnation;
   fresh = λ id h. absurd (not_there e.call id none h);
   stay = stay_closed s u e c.number a.closed;
-  ends = inl (record {
-    number = c.number;
-    pid = c.pid;
-    op = o.op;
-    reply = a.reply;
-    is_reply = a.is_reply;
-    is_process = o.is_process;
-    called = called-keeps past (e ∷ []) (id_of s c.number) c.pid o.op o.called;
-    fresh = o.unanswered;
-    step = a.step;
-    served = a.served;
-  }, undenied);
+  ends = inl (
+    record {
+      number = c.number;
+      pid = c.pid;
+      op = o.op;
+      reply = a.reply;
+      is_reply = a.is_reply;
+      is_process = o.is_process;
+      called = called-keeps past (e ∷ []) (id_of s c.number) c.pid o.op o.called;
+      fresh = o.unanswered;
+      step = a.step;
+      served = a.served;
+    },
+    undenied,
+  );
 }
 
 -- what a message does, and that it does little where no call is open

@@ -168,21 +168,23 @@ stands_at-keeps es e id reply at s = record {
 
 standing-keeps : (es : List Entry) (e : Entry) (q : ℕ) (i : Item) → Stands es q i → Stands (es ++ e ∷ []) q i
 standing-keeps es e q (Answered at id pid op reply) s =
-    let o = s.1.interval in
-    (s.0, record {
-      interval = record {
-        call_at = o.call_at;
-        reply_at = o.reply_at;
-        called = called_at-keeps es (e ∷ []) id pid op o.call_at o.called;
-        replied = replied_at-keeps es (e ∷ []) id reply o.reply_at o.replied;
-        after = o.after;
-        before = o.before;
-      };
-      place = stands_at-keeps es e id reply at s.1.place;
-      marking = s.1.marking;
-      there = entry_at-keeps es (e ∷ []) at s.1.marking s.1.there;
-      mark = s.1.mark;
-    })
+    let o = s.1.interval in (
+      s.0,
+      record {
+        interval = record {
+          call_at = o.call_at;
+          reply_at = o.reply_at;
+          called = called_at-keeps es (e ∷ []) id pid op o.call_at o.called;
+          replied = replied_at-keeps es (e ∷ []) id reply o.reply_at o.replied;
+          after = o.after;
+          before = o.before;
+        };
+        place = stands_at-keeps es e id reply at s.1.place;
+        marking = s.1.marking;
+        there = entry_at-keeps es (e ∷ []) at s.1.marking s.1.there;
+        mark = s.1.mark;
+      },
+    )
 standing-keeps es e q (Gone at node incarnation) s = absurd s
 
 pub step_between : (t u v w : Table) (o : Option Item) → v ≡ t → w ≡ u → SlotStep t o u → SlotStep v o w
