@@ -476,7 +476,13 @@ impl Server {
         self.serve_after(alloc, commands)
     }
 
-    /// What the server does at an event: the server after it, and what it sends.
+    /// What the server does at an event: the server after it, and what it sends. Requests are served one
+    /// after the other, in the order in which they came. One is granted the largest span around the bytes
+    /// that it needs, within those that it would like to have, that no other node's token stands in the
+    /// way of. Where another node's token has some of the bytes that it needs, that is revoked first, one
+    /// node after the other; where a holder then names a lock in the way, the request is denied. An answer
+    /// counts once, and only where the command with its number waits for one of its kind. (Tokens revoked
+    /// by required and desired ranges: Schmuck and Haskin, FAST 2002.)
     ///
     /// # Errors
     /// `NoMemory` where a request for memory was refused; `Stranger` where a message is not for this
