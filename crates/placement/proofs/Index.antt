@@ -1,9 +1,8 @@
 -- The index of the calls of a run that goes on by one entry.
-use Rattle.std.proofs.Common.{◌≡◌, ℕ, ◌+◌, ◌<◌, ◌≤◌, Bool, true, false, cond, refl, sym, ◌∙◌, ap, subst, arith, List, [], ◌∷◌, ◌++◌, length, take, get_or, Option, Some, None, is_some}
+use Rattle.std.proofs.Common.{◌≡◌, ℕ, Bool, true, false, cond, refl, sym, ◌∙◌, ap, subst, List, [], ◌∷◌, ◌++◌, Option, Some, None, is_some}
 use Rattle.std.specs.Option.{option_or}
 use Rattle.std.specs.HashMap.{get, Updates}
 use Rattle.std.specs.Map.{lookup}
-use Rattle.std.proofs.lemmas.List.{take_more, take_all, length-take-le}
 use Rattle.std.proofs.lemmas.Bool.{both_ways}
 use Rattle.model.specs.declared.call.CallId.{CallId}
 use Rattle.model.specs.declared.op.Op.{Op}
@@ -13,10 +12,9 @@ use Rattle.messages.specs.declared.event.Event.TheVariants.{Call, Deliver, Retry
 use Rattle.messages.specs.declared.entry.Entry.{Entry}
 use Rattle.messages.specs.Messages.{same_call}
 use Rattle.token_server.proofs.RequestLaws.{eq-same_call, same_call-symm}
-use Rattle.cluster_core.specs.declared.item.Item.{Item}
-use Rattle.cluster_core.specs.Placement.{is_named, called_by, find_call, items_at, history_of}
-use Rattle.cluster_core.proofs.Fitting.{call_is, history_of-push}
-use Rattle.placement.specs.Calls.{Calls, Indexes}
+use Rattle.cluster_core.specs.Placement.{is_named, called_by, find_call}
+use Rattle.cluster_core.proofs.Fitting.{call_is}
+use Rattle.placement.specs.Indexes.{Calls, Indexes}
 
 -- a look-up is by the test of the definitions
 pub get-same_call : (calls : Calls) (id : CallId) → get derived.ghosts.eq calls id ≡ get same_call calls id
@@ -38,7 +36,7 @@ find_call-push : (es : List Entry) (e : Entry) (id : CallId) → find_call (es +
 find_call-push [] e id = refl
 find_call-push (d ∷ ds) e id = found_on (is_named id d.call) d.event (find_call ds id) (find_call (ds ++ e ∷ []) id) (call_in e id) (find_call-push ds e id)
 
-option_or-none : {A : Type 0} (x : Option A) → option_or x None ≡ x
+pub option_or-none : {A : Type 0} (x : Option A) → option_or x None ≡ x
 option_or-none None = refl
 option_or-none (Some x) = refl
 
@@ -46,41 +44,8 @@ option_or-some : {A : Type 0} (x y : Option A) → is_some x ≡ true → option
 option_or-some None y h = absurd (cc)
 option_or-some (Some x) y h = refl
 
--- the index so far, and the history so far
-pub record Placing (past : List Entry) (calls : Calls) (items : List Item) : Type 0 where
-  pub indexed : Indexes calls past
-  pub placed : items ≡ history_of past
-
-pub placing_empty : (calls : Calls) (items : List Item) → calls.entries ≡ [] → items ≡ [] → Placing [] calls items
-placing_empty calls items none empty = record {
-  indexed = λ id. ap (λ (es : List (CallId × (ℕ × Op))). lookup (same_call id) es) none;
-  placed = empty;
-}
-
--- one more entry
-placing-push : (past : List Entry) (e : Entry) (calls next : Calls) (items more : List Item) → Placing past calls items → Indexes next (past ++ e ∷ []) → more ≡ items ++ items_at (past ++ e ∷ []) (length past + 1) e.reply → Placing (past ++ e ∷ []) next more
-placing-push past e calls next items more before indexed added = record {
-  indexed = indexed;
-  placed =
-      added
-      ∙ (ap (λ (xs : List Item). xs ++ items_at (past ++ e ∷ []) (length past + 1) e.reply) before.placed
-      ∙ sym (history_of-push past e));
-}
-
--- one more of the entries
-pub placing_more : (es : List Entry) (i : ℕ) (e : Entry) (calls next : Calls) (items more : List Item) → i < length es → e ≡ get_or es i e → Placing (take i es) calls items → ((past : List Entry) → Indexes calls past → Indexes next (past ++ e ∷ [])) → ((past : List Entry) → Indexes next past → more ≡ items ++ items_at past (i + 1) e.reply) → Placing (take (i + 1) es) next more
-placing_more es i e calls next items more lt is before indexes adds =
-    let past = take i es in
-    let long : length past ≡ i = length-take-le i es (omega arith) in
-    let indexed = indexes past before.indexed in
-    let grown : take (i + 1) es ≡ past ++ e ∷ [] = take_more es i e lt ∙ ap (λ (x : Entry). past ++ x ∷ []) (sym is) in
-    let P : List Entry → Type 0 = λ xs. Placing xs next more in
-    let Q : ℕ → Type 0 = λ n. more ≡ items ++ items_at (past ++ e ∷ []) (n + 1) e.reply in
-    subst P (sym grown) (placing-push past e calls next items more before indexed (subst Q (sym long) (adds (past ++ e ∷ []) indexed)))
-
--- all of them
-pub placing_whole : (es : List Entry) (i : ℕ) (calls : Calls) (items : List Item) → length es ≤ i → Placing (take i es) calls items → items ≡ history_of es
-placing_whole es i calls items all before = before.placed ∙ ap history_of (take_all i es all)
+pub indexes_start : (calls : Calls) → calls.entries ≡ [] → Indexes calls []
+indexes_start calls none id = ap (λ (es : List (CallId × (ℕ × Op))). lookup (same_call id) es) none
 
 not_found : {A : Type 0} (x : Option A) → is_some x ≡ false → x ≡ None
 not_found None h = refl

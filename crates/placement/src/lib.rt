@@ -4,3 +4,4 @@
 pub mod history;
 pub mod legal;
 pub mod placed;
+mod revoke_id;

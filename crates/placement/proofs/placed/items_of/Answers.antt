@@ -1,12 +1,24 @@
-use Rattle.placement.proofs.Index.{placing_empty, placing_more, placing_whole}
+use Rattle.std.proofs.Common.{◌≡◌, arith, subst, IfOk}
+use Rattle.cluster_core.specs.Placement.{Slots, items_in}
+use Rattle.placement.proofs.Placing.{as_many, all_before, placing_empty, placing_more, placing_whole}
 use Rattle.placement.proofs.placed.items_of.Goals as goal
 
 pub loop-index-init : goal.loop-index-init
-loop-index-init c = placing_empty _ _ c.new-calls.ensures.empty c.new-items.ensures.items
+loop-index-init c = placing_empty _ _ _ c.new-calls.ensures.empty c.new-conflicts.ensures.empty c.new-slots.ensures.items
+
+pub answer-requires-clause-room : goal.answer-requires-clause-room
+answer-requires-clause-room c =
+    let many = as_many c.args.entries.now c.loop-index.index c.index-entries-index.result c.loop-index.calls c.loop-index.conflicts c.loop-index.slots.items c.loop-index-test.true c.loop-index.invariant in
+    omega arith
+
+pub answer-requires-clause-before : goal.answer-requires-clause-before
+answer-requires-clause-before c =
+    all_before c.args.entries.now c.loop-index.index c.index-entries-index.result c.loop-index.calls c.loop-index.conflicts c.loop-index.slots.items c.loop-index-test.true c.loop-index.invariant
 
 pub loop-index-preserved : goal.loop-index-preserved
 loop-index-preserved c =
-    placing_more c.args.entries.now c.loop-index.index c.index-entries-index.result c.loop-index.calls c.note.new.calls c.loop-index.items.items c.answer.new.items.items c.loop-index-test.true c.index-entries-index.is c.loop-index.invariant c.in_ok-note.ensures c.in_ok-answer.ensures
+    placing_more c.args.entries.now c.loop-index.index c.index-entries-index.result c.loop-index.calls c.loop-index.conflicts c.loop-index.slots.items c.loop-index-test.true c.loop-index.invariant c.note_call.new.calls c.note_conflicts.new.conflicts c.answer.new.slots.items c.index-entries-index.is c.in_ok-note_call.ensures c.in_ok-answer.ensures c.in_ok-note_conflicts.ensures
 
 pub returns : goal.returns
-returns c = placing_whole _ _ c.loop-index.calls _ c.loop-index-test.false c.loop-index.invariant
+returns c =
+    subst (λ (slots : Slots). IfOk c.items_in.result (λ items. items.items ≡ items_in slots)) (placing_whole c.args.entries.now c.loop-index.index c.loop-index.calls c.loop-index.conflicts c.loop-index.slots.items c.loop-index-test.false c.loop-index.invariant) c.items_in.ensures

@@ -19,6 +19,6 @@ pub returns-clause-history : goal.returns-clause-history
 returns-clause-history c =
     (is_placed c.args.journal.now.shape c.args.journal.now.entries c.entries.result.now c.of_rising.result (subst IsShape c.shape.ensures.value c.shape.ensures.served) c.entries.ensures.run c.entries.ensures.value (c.of_rising.ensures ∙ c.in_ok-items.ensures)).history
 
-pub returns-clause-at_replies : goal.returns-clause-at_replies
-returns-clause-at_replies c =
-    (is_placed c.args.journal.now.shape c.args.journal.now.entries c.entries.result.now c.of_rising.result (subst IsShape c.shape.ensures.value c.shape.ensures.served) c.entries.ensures.run c.entries.ensures.value (c.of_rising.ensures ∙ c.in_ok-items.ensures)).at_replies
+pub returns-clause-at_places : goal.returns-clause-at_places
+returns-clause-at_places c =
+    (is_placed c.args.journal.now.shape c.args.journal.now.entries c.entries.result.now c.of_rising.result (subst IsShape c.shape.ensures.value c.shape.ensures.served) c.entries.ensures.run c.entries.ensures.value (c.of_rising.ensures ∙ c.in_ok-items.ensures)).at_places

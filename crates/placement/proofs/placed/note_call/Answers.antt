@@ -1,6 +1,6 @@
 use Rattle.std.proofs.Common.{sym, ◌∙◌}
 use Rattle.placement.proofs.Index.{indexes_none, indexes_known, indexes_new}
-use Rattle.placement.proofs.placed.note.Goals as goal
+use Rattle.placement.proofs.placed.note_call.Goals as goal
 
 pub returns-in_default : goal.returns-in_default
 returns-in_default c = λ es before.

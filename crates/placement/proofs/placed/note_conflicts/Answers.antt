@@ -1,0 +1,14 @@
+use Rattle.std.proofs.Common.{sym}
+use Rattle.placement.proofs.Locating.{noted_none, noted_more, noted_all}
+use Rattle.placement.proofs.placed.note_conflicts.Goals as goal
+
+pub loop-message-init : goal.loop-message-init
+loop-message-init c = noted_none c.args.conflicts.now c.args.index
+
+pub loop-message-preserved : goal.loop-message-preserved
+loop-message-preserved c =
+    noted_more c.args.conflicts.now c.loop-message.conflicts c.note_conflict.new.conflicts c.args.index c.loop-message.message-index c.sends-message-items.result.now c.message-item.result c.loop-message-test.true c.message-item.is c.loop-message.invariant c.in_ok-note_conflict.ensures
+
+pub returns : goal.returns
+returns c =
+    noted_all c.args.conflicts.now c.loop-message.conflicts c.args.index c.loop-message.message-index c.sends-message-items.result.now c.args.entry.now (sym c.sends-message-items.ensures) c.loop-message-test.false c.loop-message.invariant

@@ -1,0 +1,49 @@
+-- Indexes of the calls and of the conflicts of a run.
+use Rattle.std.specs.Prelude.{◌≡◌, ◌<◌, ℕ, Bool, ◌==◌, ◌&&◌, if◌then◌else◌, List, position, Option, Some, None}
+use Rattle.std.specs.declared.hash.FoldHasher.{FoldHasher}
+use Rattle.std.specs.declared.hash.BuildHasherDefault.{BuildHasherDefault}
+use Rattle.std.specs.HashMap.{HashMap, get}
+use Rattle.std.specs.Option.{option_or}
+use Rattle.model.specs.declared.call.CallId.{CallId}
+use Rattle.model.specs.declared.op.Op.{Op}
+use Rattle.messages.specs.declared.message.Message.{Message}
+use Rattle.messages.specs.declared.message.Message.TheVariants.{Deny}
+use Rattle.messages.specs.declared.event.Event.{Event}
+use Rattle.messages.specs.declared.event.Event.TheVariants.{Deliver}
+use Rattle.messages.specs.declared.entry.Entry.{Entry}
+use Rattle.messages.specs.Messages.{same_call, same_host, is_conflict}
+use Rattle.cluster_core.specs.Histories.{names_conflict}
+use Rattle.cluster_core.specs.Placement.{find_call}
+use Rattle.placement.specs.declared.revoke_id.RevokeId.{RevokeId}
+
+-- by the name of a call: the process that makes it, and what it asks for
+abbrev pub Calls : Type 0
+Calls = HashMap CallId (ℕ × Op) (BuildHasherDefault FoldHasher)
+
+-- the index has the calls of the entries, each as the first entry of its name has it
+abbrev pub Indexes : Calls → List Entry → Type 0
+Indexes calls es = (id : CallId) → get same_call calls id ≡ find_call es id
+
+abbrev pub same_revoke : RevokeId → RevokeId → Bool
+same_revoke a b = (a.file == b.file) && ((a.number == b.number) && same_host a.holder b.holder)
+
+-- by the name of a revoke: the index of an entry
+abbrev pub Conflicts : Type 0
+Conflicts = HashMap RevokeId ℕ (BuildHasherDefault FoldHasher)
+
+-- the index has the revokes that the entries answer by a conflict, each with the first entry that does
+abbrev pub Locates : Conflicts → List Entry → Type 0
+Locates conflicts es = (r : RevokeId) → get same_revoke conflicts r ≡ position (names_conflict r.file r.holder r.number) es
+
+-- the index has what it had, and the revoke that the message answers by a conflict, if it has not that one yet
+abbrev pub Notes : Conflicts → ℕ → Message → Conflicts → Type 0
+Notes old index m new = (r : RevokeId) → get same_revoke new r ≡ option_or (get same_revoke old r) (if is_conflict r.file r.holder r.number m then Some index else None)
+
+-- each entry of the index is one of the first n
+abbrev pub AreBefore : Conflicts → ℕ → Type 0
+AreBefore conflicts n = (r : RevokeId) (index : ℕ) → get same_revoke conflicts r ≡ Some index → index < n
+
+-- the slot for the call that an entry with this event answers, after entries that are past: that of the first entry that names the conflict for which a server denied the call, else the entry's own
+abbrev pub slot_of : List Entry → ℕ → Event → Option ℕ
+slot_of past own (Deliver (Deny file call holder number lock)) = position (names_conflict file holder number) past
+slot_of past own _ = Some own
