@@ -9,7 +9,7 @@ fi
 "$here/../lockreplay" --help >/dev/null || exit 1
 
 echo "kind     lines      entries    seconds  entries/s  peak MB"
-for kind in covered readers lossy; do
+for kind in covered readers lossy fight storm; do
     for lines in 10000 100000 1000000; do
         script=$folder/$kind-$lines.lock
         listing=$folder/$kind-$lines.listing

@@ -6,6 +6,10 @@
 #          the shared tokens of all nodes cover from their first locks on
 # lossy    one process locks ten more bytes, again and again: the request is lost, and tried again; the
 #          grant is lost, and sent again; what is left settles
+# fight    a process on each of two nodes wants to write one byte: the one that has it is asked for it and
+#          tells of its lock, the other is denied; then it frees the byte, and the other gets it
+# storm    a process on each of 8 nodes sets and unlocks small ranges anywhere in the first thousand bytes of
+#          16 files, each by a number that looks random and is the same each time
 kind=${1:?usage: script.sh KIND LINES}
 lines=${2:?usage: script.sh KIND LINES}
 exec awk -v kind="$kind" -v lines="$lines" '
@@ -68,6 +72,40 @@ function lossy() {
     }
 }
 
+function fight() {
+    put("cluster nodes 2 files 1 policy exact")
+    begin(1, 1)
+    begin(2, 1)
+    for (holder = 1; written < lines; holder = 3 - holder) {
+        put("call " holder " 1 set 0 proc write 0 1")
+        put("settle")
+        put("call " 3 - holder " 1 set 0 proc write 0 1")
+        put("settle")
+        put("call " holder " 1 unlock 0 proc 0 1")
+    }
+}
+
+function storm() {
+    put("cluster nodes 8 files 16 policy wide")
+    for (node = 1; node <= 8; node++) {
+        put("call " node " 1 spawn")
+        for (file = 1; file <= 16; file++)
+            put("call " node " 1 open " file " rw")
+    }
+    srand(1)
+    while (written < lines) {
+        node = 1 + int(rand() * 8)
+        about = int(rand() * 16) " proc "
+        range = int(rand() * 1000) " " 1 + int(rand() * 10)
+        act = rand()
+        if (act < 0.5)
+            put("call " node " 1 unlock " about range)
+        else
+            put("call " node " 1 set " about (act < 0.8 ? "read " : "write ") range)
+        put("settle")
+    }
+}
+
 BEGIN {
     if (kind == "covered")
         covered()
@@ -75,6 +113,10 @@ BEGIN {
         readers()
     else if (kind == "lossy")
         lossy()
+    else if (kind == "fight")
+        fight()
+    else if (kind == "storm")
+        storm()
     else
         exit 2
 }'
