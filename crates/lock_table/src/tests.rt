@@ -215,10 +215,10 @@ fn regions_stand_by_first_byte_and_then_by_owner(rt: HostRuntime) {
 
 #[test]
 fn the_lowest_of_two_regions_comes_first(rt: HostRuntime) {
-    let low = region(FIRST, Mode::Read, Span { lo: 0, hi: 9 });
-    let same = region(SECOND, Mode::Write, Span { lo: 0, hi: 3 });
-    assert_eq!(rt; lowest_of(Some(same), Some(low)), Some(low));
-    assert_eq!(rt; lowest_of(Some(low), None), Some(low));
-    assert_eq!(rt; lowest_of(None, Some(same)), Some(same));
+    let span = Span { lo: 0, hi: 9 };
+    let low = region(FIRST, Mode::Read, span);
+    let high = region(SECOND, Mode::Read, span);
+    let lowest = lowest_of(Some(high), Some(low));
+    assert_eq!(rt; lowest, Some(region(FIRST, Mode::Read, span)));
     assert_eq!(rt; lowest_of(None, None), None);
 }
