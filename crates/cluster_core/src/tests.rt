@@ -211,7 +211,7 @@ fn hundred(start: i64) -> Op {
 }
 
 #[test]
-fn a_request_stays_where_another_node_has_the_token(rt: HostRuntime) -> Result<(), Fail> {
+fn a_call_is_denied_where_another_node_has_a_lock(rt: HostRuntime) -> Result<(), Fail> {
     let alloc = rt.alloc();
     let mut world = two_nodes(alloc)?;
     let request = sent(&mut world, alloc, call_at(1, hundred(0)))?;
@@ -219,8 +219,11 @@ fn a_request_stays_where_another_node_has_the_token(rt: HostRuntime) -> Result<(
     let taken = delivered(&mut world, alloc, grant)?;
     assert!(rt; delivered(&mut world, alloc, taken)?.is_none());
     let request = sent(&mut world, alloc, call_at(2, hundred(99)))?;
-    assert!(rt; request.is_some());
-    assert!(rt; delivered(&mut world, alloc, request)?.is_none());
+    let revoke = delivered(&mut world, alloc, request)?;
+    let conflict = delivered(&mut world, alloc, revoke)?;
+    let denial = delivered(&mut world, alloc, conflict)?;
+    assert!(rt; denial.is_some());
+    assert!(rt; delivered(&mut world, alloc, denial)?.is_none());
     Ok(())
 }
 
