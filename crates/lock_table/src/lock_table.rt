@@ -14,14 +14,12 @@ use crate::order::{cmp_regions, lowest_of};
 use crate::row::{Row, Spans};
 use intervals::span::Span;
 use intervals::span_map::{NoMemory, SpanMap};
+use model::limits::MOST_REGIONS;
 use model::lock_info::LockInfo;
 use model::mode::Mode;
 use model::owner::Owner;
 use std::alloc::Global;
 use std::marker::Model;
-
-/// The most regions that one owner may have in one file: 1,024.
-pub const MOST_REGIONS: usize = 1024;
 
 /// The record locks of one node: what each owner holds at each byte of each file, by mode. An owner
 /// has at most 1,024 regions in a file, a region being a longest run of bytes in one mode. A call

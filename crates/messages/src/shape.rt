@@ -3,12 +3,10 @@ ghost use Rattle.std.specs.Prelude.{◌≡◌, ◌↔◌, IfOk, IsOk};
 ghost use Rattle.model.specs.Limits.{IsNumber, most_nodes};
 ghost use Rattle.messages.specs.Shapes.{most_files, IsServed};
 
+use model::limits::MOST_NODES;
 use model::policy::Policy;
 use std::marker::Model;
 use thiserror::Error;
-
-/// How many nodes a cluster may have.
-pub const MOST_NODES: u8 = 64;
 
 /// How many files a cluster may have.
 pub const MOST_FILES: u16 = 256;

@@ -8,6 +8,7 @@ pub mod equality;
 pub mod host;
 pub mod laws;
 pub mod level;
+pub mod limits;
 pub mod lock_call;
 pub mod lock_info;
 pub mod mode;

@@ -11,6 +11,9 @@ ghost use Rattle.model.specs.Step.{Is, Step, Unblocked};
 
 use crate::access::Access;
 use crate::change::{Change, put};
+use crate::limits::{
+    MOST_DESCRIPTIONS, MOST_DESCRIPTORS, MOST_NODES, MOST_PROCESSES, MOST_REGIONS,
+};
 use crate::lock_call::LockCall;
 use crate::lock_info::LockInfo;
 use crate::mode::Mode;
@@ -24,21 +27,6 @@ use intervals::span_map::{NoMemory, SpanMap};
 use intervals::vec_map::VecMap;
 use std::alloc::Global;
 use std::marker::Model;
-
-/// Nodes of a cluster.
-const MOST_NODES: u8 = 64;
-
-/// Processes of a node.
-const MOST_PROCESSES: u16 = 256;
-
-/// Descriptors of a process.
-const MOST_DESCRIPTORS: u8 = 64;
-
-/// Open file descriptions of a node.
-const MOST_DESCRIPTIONS: u16 = 16_384;
-
-/// Regions of an owner in a file.
-const MOST_REGIONS: usize = 1024;
 
 /// The one table, as the changes that made it, oldest first. It is plain and slow, and answers
 /// calls as a single machine may answer them.
