@@ -4,7 +4,7 @@ ghost use Rattle.messages.specs.Messages.{is_within};
 ghost use Rattle.node_core.specs.Calls.{is_pid};
 ghost use Rattle.node_core.specs.Commands.{is_node};
 
-use crate::descriptors::used::MOST_PROCESSES;
+use model::limits::MOST_PROCESSES;
 use messages::actor::Actor;
 
 /// Whether the number is one of a process.

@@ -6,10 +6,11 @@ ghost use Rattle.model.specs.Descriptors.{no_processes, with_process, with_descr
 ghost use Rattle.node_core.specs.Rows.{processes, resolved, Refuses, IsClosed};
 
 use crate::descriptors::error::{FdError, ProcessError};
-use crate::descriptors::row::{MOST_DESCRIPTORS, Row};
+use crate::descriptors::row::Row;
 use crate::descriptors::rows::{grow, is_running, opened_at, refer, reset, same_rows};
 use crate::descriptors::used::{is_open, lowest_description};
 use model::access::Access;
+use model::limits::MOST_DESCRIPTORS;
 use model::opened::Opened;
 use std::alloc::{AllocError, Global};
 use std::marker::Model;

@@ -3,10 +3,8 @@ ghost use Rattle.std.specs.Prelude.{◌≡◌, ◌↔◌, ◌<◌, ◌==◌, if�
 ghost use Rattle.model.specs.Descriptors.{is_of};
 ghost use Rattle.node_core.specs.Rows.{slot, refers, IsSameRow};
 
+use model::limits::MOST_DESCRIPTORS;
 use model::opened::Opened;
-
-/// How many descriptors a process may have (POSIX.1-2017 `open()`, OPEN_MAX); they are numbered from 0.
-pub const MOST_DESCRIPTORS: u8 = 64;
 
 /// Whether a process runs, and what each of its descriptors refers to.
 #[derive(Clone, Copy, Debug, PartialEq, Eq)]

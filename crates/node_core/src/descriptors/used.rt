@@ -5,15 +5,10 @@ ghost use Rattle.model.specs.Limits.{most_descriptions};
 ghost use Rattle.model.specs.Descriptors.{is_of, is_open, lowest_description};
 ghost use Rattle.node_core.specs.Rows.{slot, row, processes, AreNumbered, AreRows, is_used, refers};
 
-use crate::descriptors::row::{MOST_DESCRIPTORS, Row};
+use crate::descriptors::row::Row;
+use model::limits::{MOST_DESCRIPTIONS, MOST_DESCRIPTORS, MOST_PROCESSES};
 use model::opened::Opened;
 use std::alloc::{AllocError, Global};
-
-/// Processes of a node; they are numbered from 1.
-pub const MOST_PROCESSES: u16 = 256;
-
-/// Open file descriptions of a node: each process with all its descriptors. They are numbered from 1.
-pub const MOST_DESCRIPTIONS: u16 = 16_384;
 
 // The description that the descriptor refers to is used.
 fn mark(used: &mut [bool], opened: Option<Opened>)
