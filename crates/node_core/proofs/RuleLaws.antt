@@ -40,7 +40,7 @@ use Rattle.node_core.specs.Try.{settled, requested, may_free, with_freed, locked
 use Rattle.node_core.specs.Calls.{is_pid, lock_call, after_call}
 use Rattle.node_core.specs.Commands.{answer_to, is_conflict, revoked}
 use Rattle.node_core.specs.Parts.{IsSpan}
-use Rattle.node_core.specs.Laws.{CoveredSetIsDone, ClearRevokeGivesUp}
+use Rattle.node_core.specs.Laws.{CoveredSetIsDone, GivesUp, ClearRevokeGivesUp}
 
 -- a branch that is taken
 taken : {A : Type 0} (P : A → Type 0) (b : Bool) (x y : A) → b ≡ true → P x → P (if b then x else y)
@@ -154,17 +154,35 @@ gives-apart h node incarnation t mode required desired (Released s) own order cl
     within : (b : ℕ) → required.lo ≤ b → b < required.lo + (required.hi + 1 - required.lo) → is_in s b ≡ true
     within b above below = and_from _ _ (le-leb s.lo b (let k : s.lo ≤ required.lo = given.1.has_first in omega arith)) (le-leb b s.hi (let k : required.hi ≤ s.hi = given.1.has_last in omega arith))
 
+-- where nothing is in the way a span around the required bytes is given up
+record IsReleased (required : Range) (gives : GaveUp) : Type 0 where
+  span : Range
+  is : gives ≡ Released span
+  has_first : span.lo ≤ required.lo
+  has_last : required.hi ≤ span.hi
+
+gives-released : (h : FileLocks) (node incarnation : ℕ) (mode : Mode) (required desired : Range) (gives : GaveUp) → IsOfNode h node incarnation → required.lo ≤ required.hi → IsClear h required mode → IsGivenUp (IsRegion h) mode required desired gives → IsReleased required gives
+gives-released h node incarnation mode required desired (Conflict lock) own order clear low = absurd (clear_has_none h node incarnation own required mode lock order clear low.is_one low.in_way)
+gives-released h node incarnation mode required desired (Released s) own order clear given = record { span = s; is = refl; has_first = given.1.has_first; has_last = given.1.has_last }
+
 pub clear_revoke_gives_up : ClearRevokeGivesUp
 clear_revoke_gives_up s file number call mode wanted within next own revocable clear =
-    let P : NodeState × Outcome → Type 0 = λ r. conflicts (r.0.files file).token wanted.required mode ≡ false in
+    let P : NodeState × Outcome → Type 0 = GivesUp s file number call mode wanted.required in
     let Q : Result (NodeState × Outcome) StepError → Type 0 = λ r. IsOkAnd r P in
     let h = s.table.locks file in
     let gives = gave_up h s.node s.incarnation mode wanted.required wanted.desired in
     let given = gave_up_is_given_up h s.node s.incarnation mode wanted.required wanted.desired own revocable in
+    let released = gives-released h s.node s.incarnation mode wanted.required wanted.desired gives own revocable.ordered clear given in
     let done = revoked s file number call mode wanted in
     let file_done : FileState = record { token = after_giving_up (s.files file).token mode gives; last = number; answer = Some (answer_to file number (host s) call gives); asked = is_conflict gives || (s.files file).asked } in
     passed Q ((s.node == s.node) && is_within s.shape.files file) (Err Stranger) _ (and_from _ _ (eq-eqb s.node s.node refl) (and_from _ _ (le-leb _ _ within.0) (le-leb _ _ within.1))) (
     taken Q (s.incarnation == s.incarnation) _ _ (eq-eqb s.incarnation s.incarnation refl) (
-    taken (λ (e : Effect). P (outcome None e)) (number == (s.files file).last + 1) done _ (eq-eqb _ _ next) (
-    taken (λ (f : FileState). conflicts f.token wanted.required mode ≡ false) (file == file) file_done (s.files file) (eq-eqb file file refl) (
-    gives-apart h s.node s.incarnation (s.files file).token mode wanted.required wanted.desired gives own revocable.ordered clear given))))
+    taken (λ (e : Effect). P (outcome None e)) (number == (s.files file).last + 1) done _ (eq-eqb _ _ next) (record {
+      span = released.span;
+      has_first = released.has_first;
+      has_last = released.has_last;
+      answer = ap (λ (g : GaveUp). answer_to file number (host s) call g ∷ []) released.is;
+      clear =
+          taken (λ (f : FileState). conflicts f.token wanted.required mode ≡ false) (file == file) file_done (s.files file) (eq-eqb file file refl) (
+          gives-apart h s.node s.incarnation (s.files file).token mode wanted.required wanted.desired gives own revocable.ordered clear given);
+    })))

@@ -1,5 +1,6 @@
 -- Laws of the rule of a node.
-use Rattle.std.specs.Prelude.{◌≡◌, ℕ, ◌+◌, ◌≤◌, ◌<◌, true, false, Some, None, Ok, ℤ, IsOkAnd}
+use Rattle.std.specs.Prelude.{◌≡◌, ℕ, ◌+◌, ◌≤◌, ◌<◌, true, false, [], ◌∷◌, Some, None, Ok, ℤ, IsOkAnd}
+use Rattle.intervals.specs.Bytes.{Range}
 use Rattle.model.specs.declared.mode.Mode.{Mode}
 use Rattle.model.specs.declared.owner.Kind.{Kind}
 use Rattle.model.specs.declared.call.CallId.{CallId}
@@ -12,7 +13,8 @@ use Rattle.token_set.specs.Tokens.{covers, conflicts}
 use Rattle.token_set.specs.Releases.{IsRevocable}
 use Rattle.messages.specs.Messages.{greatest_number}
 use Rattle.messages.specs.Wants.{Wants}
-use Rattle.messages.specs.declared.message.Message.TheVariants.{Revoke}
+use Rattle.messages.specs.declared.message.Message.TheVariants.{Revoke, Released}
+use Rattle.messages.specs.declared.outcome.Outcome.{Outcome}
 use Rattle.node_core.specs.declared.event.NodeEvent.TheVariants.{Call, Deliver}
 use Rattle.node_core.specs.State.{NodeState, host, process, id_of, open_call_of}
 use Rattle.node_core.specs.Node.{node_rule}
@@ -35,7 +37,15 @@ CoveredSetIsDone =
     → regions_with s.table t (Some mode) ≤ most_regions
     → IsOkAnd (node_rule s (Call pid (Set fd kind mode start len))) (λ r. r.1.reply ≡ Some (id_of s (s.calls + 1), Done))
 
--- after a revoke that is next in order, where no lock of the node excludes the mode on the required bytes, none of them is in the way of the mode in the node's token
+-- the one answer to a revoke gives up a span around the required bytes, and none of these is in the way of the mode in the node's token any more
+pub record GivesUp (s : NodeState) (file number : ℕ) (call : CallId) (mode : Mode) (required : Range) (r : NodeState × Outcome) : Type 0 where
+  pub span : Range
+  pub has_first : span.lo ≤ required.lo
+  pub has_last : required.hi ≤ span.hi
+  pub answer : r.1.sends ≡ Released file number (host s) call span ∷ []
+  pub clear : conflicts (r.0.files file).token required mode ≡ false
+
+-- a revoke that is next in order, where no lock of the node excludes the mode on the required bytes, is answered by giving them up
 abbrev pub ClearRevokeGivesUp : Type 0
 ClearRevokeGivesUp =
     (s : NodeState) (file number : ℕ) (call : CallId) (mode : Mode) (wanted : Wants)
@@ -44,4 +54,4 @@ ClearRevokeGivesUp =
     → IsOfNode (s.table.locks file) s.node s.incarnation
     → IsRevocable wanted.required wanted.desired
     → IsClear (s.table.locks file) wanted.required mode
-    → IsOkAnd (node_rule s (Deliver (Revoke file number (host s) call mode wanted))) (λ r. conflicts (r.0.files file).token wanted.required mode ≡ false)
+    → IsOkAnd (node_rule s (Deliver (Revoke file number (host s) call mode wanted))) (GivesUp s file number call mode wanted.required)

@@ -31,7 +31,7 @@ abbrev pub refusal_of : Intent → LockInfo → Reply
 refusal_of Set lock = Again lock
 refusal_of Query lock = Blocked lock
 
--- locks of other nodes may have been in the way of what the bytes were: they are freed, or only read locks from now on
+-- what the bytes were may have been in the way of other nodes' calls: they are freed, or only read locks from now on
 abbrev pub may_free : Option Mode → Reply → Bool
 may_free None Done = true
 may_free (Some Read) Done = true

@@ -1,5 +1,5 @@
 //! What a node knows of one file.
-ghost use Rattle.std.specs.Prelude.{◌≡◌, ◌↔◌, false, IfOk, OnOk, IsTrue, Contains};
+ghost use Rattle.std.specs.Prelude.{◌≡◌, ◌↔◌, false, IfOk, OnOk, OnErr, IsTrue, Contains};
 ghost use Rattle.token_set.specs.Releases.{IsGivenUp};
 ghost use Rattle.node_core.specs.State.{first_file};
 ghost use Rattle.node_core.specs.Commands.{is_conflict};
@@ -57,8 +57,12 @@ impl FileRow {
     }
 
     /// The grant is done: the token is raised, and the answer is remembered.
+    ///
+    /// # Errors
+    /// `AllocError` where a request for memory was refused; the row is as before.
     pub fn take(&mut self, command: &Command, span: Span) -> Result<(), AllocError>
-        ensures { OnOk result (state_of self.new ≡ granted_file (state_of self.old) command.now span) }
+        ensures ok { OnOk result (state_of self.new ≡ granted_file (state_of self.old) command.now span) }
+        ensures unchanged { OnErr result (self.new ≡ self.old) }
     {
         self.token.grant(span, command.mode)?;
         self.last = command.number;
@@ -68,6 +72,9 @@ impl FileRow {
 
     /// The revoke is done by the holder's locks of the file: the token is given up as far as none of
     /// them is in the way, the answer is remembered, and the file is asked where one was named.
+    ///
+    /// # Errors
+    /// `AllocError` where a request for memory was refused; the row is as before.
     pub fn revoke(
         &mut self,
         command: &Command,
@@ -77,6 +84,7 @@ impl FileRow {
     ) -> Result<GaveUp, AllocError>
         ensures answer { IfOk result (λ gives. IsGivenUp (Contains locks.now) command.now.mode wanted.required wanted.desired gives) }
         ensures state { IfOk result (λ gives. state_of self.new ≡ revoked_file (state_of self.old) command.now holder gives) }
+        ensures unchanged { OnErr result (self.new ≡ self.old) }
     {
         let gives = self
             .token

@@ -7,8 +7,9 @@ pub fn a_covered_set_is_done()
     ensures { CoveredSetIsDone }
 {}
 
-/// A revoke that is next in order is done where no lock of the node excludes its mode on the required
-/// bytes: none of them is in the way of the mode in the node's token from then on.
+/// A revoke that is next in order, where no lock of the node excludes its mode on the required bytes, has
+/// one answer, which gives up a span around them; and none of them is in the way of the mode in the node's
+/// token from then on.
 pub fn a_clear_revoke_gives_up()
     ensures { ClearRevokeGivesUp }
 {}

@@ -46,7 +46,7 @@ pub fn lock_reply(error: LockError) -> Result<Reply, AllocError>
     }
 }
 
-/// Whether locks of other nodes may have been in the way of what the bytes were before the reply: they
+/// Whether what the bytes were before the reply may have been in the way of other nodes' calls: they
 /// are freed, or only read locks from then on.
 pub fn may_free(mode: Option<Mode>, reply: &Reply) -> bool
     ensures { result ≡ may_free mode reply.now }

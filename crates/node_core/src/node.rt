@@ -76,7 +76,7 @@ fn same_shape(shape: Shape, other: Shape) -> bool
 }
 
 impl Node {
-    /// A node that begins.
+    /// A node of the shape that begins, in that incarnation (from 1).
     ///
     /// # Errors
     /// `AllocError` where a request for memory was refused.

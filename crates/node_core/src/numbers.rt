@@ -4,8 +4,8 @@ ghost use Rattle.messages.specs.Messages.{is_within};
 ghost use Rattle.node_core.specs.Calls.{is_pid};
 ghost use Rattle.node_core.specs.Commands.{is_node};
 
-use model::limits::MOST_PROCESSES;
 use messages::actor::Actor;
+use model::limits::MOST_PROCESSES;
 
 /// Whether the number is one of a process.
 pub fn is_pid(pid: u16) -> bool

@@ -53,7 +53,7 @@ impl Model for Server {
 }
 
 impl Server {
-    /// The server of a file that no node has asked for.
+    /// The server of a file of the shape that no node has asked for.
     ///
     /// # Errors
     /// `NoMemory` where a request for memory was refused.

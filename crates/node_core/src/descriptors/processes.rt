@@ -124,7 +124,7 @@ impl Processes {
 
     /// Opens the file for the process: the lowest descriptor that is free, which it answers, refers to
     /// a new description of the file from now on, which takes the lowest number that is free on the
-    /// node (POSIX.1-2017 `open()`).
+    /// node (POSIX.1-2017 `open()`). The process's number is from 1 to 256.
     ///
     /// # Errors
     /// `NoProcess` where the process doesn't run, which is tested first; `TooManyFiles` where it has
