@@ -171,8 +171,8 @@ impl Processes {
         Ok(!is_open(&self.rows, opened.description))
     }
 
-    /// The process runs no longer, and has no descriptors; nothing changes where it doesn't run
-    /// (POSIX.1-2017 `_Exit()`). Takes no memory.
+    /// The process runs no longer, and has no descriptors, whether it ran before or not (POSIX.1-2017
+    /// `_Exit()`). Takes no memory.
     pub fn end(&mut self, pid: u16)
         ensures { processes self.new ≡ with_process (processes self.old) pid false (λ fd. None) }
     {

@@ -1,3 +1,5 @@
+ghost use Rattle.model.specs.Limits.{IsNumber, most_processes};
+
 use super::*;
 use std::test::Fail;
 
@@ -118,7 +120,9 @@ fn opens_as(
     pid: u16,
     fd: u8,
     description: u16,
-) -> Result<bool, ProcessError> {
+) -> Result<bool, ProcessError>
+    requires { IsNumber most_processes pid }
+{
     let opened = Opened {
         file: 7,
         description,
