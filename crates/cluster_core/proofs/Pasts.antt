@@ -294,10 +294,12 @@ module _ (shape : ShapeFields) (past : List Entry) (w : WorldState) (few : IsNum
         let holder_is : holder ≡ host s = λ i. record { node = node_is i; incarnation = incarnation_is i } in
         denies_now shape past w v (entry (Deliver m) 0 told) n file number call mode wanted lock (record {
           there = there;
+          leads = g.leads;
           named = g.named;
           own = (g.holds n).own;
           asked = behind.0;
           other = λ same. behind.1 (node_is ∙ same);
+          next_one = next_one;
           does = ap Deliver is ∙ ap (λ (h : Host). Deliver (Revoke file number h call mode wanted)) holder_is;
           no_reply = names.no_reply;
           answer = names.answer;
@@ -474,9 +476,13 @@ module _ (shape : ShapeFields) (is_shape : IsShape shape) (Q : WorldState → Ty
   -- and each denial its evidence
   pub evidence_after : (es : List Entry) (w : WorldState) (file : ℕ) (call : CallId) (holder : Host) (number : ℕ) (lock : LockInfo) → Leads (first_world shape) es w → IsTold w file call holder number lock → HasEvidence shape es file call holder number lock
   evidence_after es w file call holder number lock l told =
-      let g = (both_after es w l).good in
+      let both = both_after es w l in
+      let g = both.good in
       let backed : (m : Message) → is_among w.sent m ≡ true → Backed shape es w m = λ m known. among_backed (Backed shape es w) w.sent m g.backed known in
       elim told [
         | inl conflict ↦ (backed (Conflict file number holder call lock) conflict).evidence
-        | inr deny ↦ (backed (Deny file call holder number lock) deny).evidence
+        | inr rest ↦ elim rest [
+          | inl deny ↦ (backed (Deny file call holder number lock) deny).evidence
+          | inr kept ↦ (backed (Conflict file number holder call lock) ((heard w both.present).answers kept.0 kept.1 (Conflict file number holder call lock) kept.2 kept.3)).evidence
+        ]
       ]

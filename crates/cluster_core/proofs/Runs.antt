@@ -1,5 +1,5 @@
 -- Every run is safe and has a history, and each denial its evidence.
-use Rattle.std.proofs.Common.{◌≡◌, ℕ, true, refl, List, Ok}
+use Rattle.std.proofs.Common.{◌≡◌, ℕ, true, refl, List, take, Ok}
 use Rattle.model.specs.declared.call.CallId.{CallId}
 use Rattle.model.specs.declared.lock_info.LockInfo.{LockInfo}
 use Rattle.messages.specs.Shapes.{ShapeFields, IsShape}
@@ -52,4 +52,4 @@ every_run shape es w is l =
     (history_of es, h.0, h.1)
 
 pub every_denial : EveryDenialHasEvidence
-every_denial shape es is w file call holder number lock l told = evidence_after shape is IsCovered (covered_first shape) covered_next covered_heard es w file call holder number lock l told
+every_denial shape es is at w file call holder number lock l told = evidence_after shape is IsCovered (covered_first shape) covered_next covered_heard (take at es) w file call holder number lock l told

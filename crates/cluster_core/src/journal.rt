@@ -72,8 +72,8 @@ pub fn run(alloc: Global, shape: Shape, events: &[Event]) -> Result<Journal, Ref
     // No command of a server has the number of another to the same node about the same file.
     ensures numbers { IfOk result (λ journal. LeadsToNumbers shape journal.entries) }
 
-    // A call is denied only for a lock that stood in its way after it was made, where the lock's
-    // holder first did the revoke that the denial names.
+    // At each entry: a call is denied only for a lock that stood in its way after it was made, where
+    // the lock's holder first did the revoke that the denial names, at that entry or an earlier one.
     ensures evidence { IfOk result (λ journal. DenialsHaveEvidence shape journal.entries) }
 
     // Else the events before one happened, and that one is refused so.

@@ -19,10 +19,10 @@ pub fn every_run_is_safe()
     ensures { EveryRunIsSafe }
 {}
 
-/// Each conflict that a node tells of, and each denial for it, has its evidence in the run, whatever
-/// came later: after the call was made the holder first did the revoke of that number, this conflict
-/// was its one answer, and in the world after that the lock was a region of the holder in the way of
-/// the call.
+/// Each conflict that a node tells of or remembers as its answer, and each denial for it, has its
+/// evidence in the entries up to there, whatever came later: after the call was made the holder did the
+/// revoke of that number for the first time, this conflict was its one answer, and in the world after
+/// that the lock was a region of the holder in the way of the call.
 pub fn every_denial_has_evidence()
     ensures { EveryDenialHasEvidence }
 {}
