@@ -16,6 +16,7 @@ use Rattle.cluster_core.specs.Evidence.{EveryDenialHasEvidence}
 use Rattle.cluster_core.specs.Placement.{history_of}
 use Rattle.cluster_core.proofs.Covering.{Covered, first_covered}
 use Rattle.cluster_core.proofs.Served.{all_covered, next_covered}
+use Rattle.cluster_core.proofs.Unbarred.{safe_of}
 use Rattle.cluster_core.proofs.Present.{Present}
 use Rattle.cluster_core.proofs.Apart.{next_present, present_first, present_apart, answers_counted, remembered_sent}
 use Rattle.cluster_core.proofs.Heard.{IsHeard}
@@ -34,7 +35,7 @@ covered_next w own c event p h = record { present = next_present w c.present eve
 
 covered_heard : (w : WorldState) → IsCovered w → IsHeard w
 covered_heard w c = record {
-  safe = record { apart = present_apart w c.present; covered = all_covered w c.covered };
+  safe = safe_of w (present_apart w c.present) (all_covered w c.covered);
   answers = λ n file m there h. (remembered_sent w c.present file n m h).0;
   counted = λ n file number call lock there sent. (answers_counted w c.present file n number (Conflict file number (host (w.nodes n)) call lock) sent (refl, refl, c.present.named n, refl)).0;
 }

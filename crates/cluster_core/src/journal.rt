@@ -44,7 +44,7 @@ impl Journal {
     }
 
     /// The entries, the first at position 1. They are a run, after which tokens of two nodes don't
-    /// conflict, and locks are covered by tokens.
+    /// conflict, locks are covered by tokens, and locks of two nodes don't conflict.
     pub fn entries(&self) -> &[Entry]
         ensures value { result.now ≡ self.now.entries }
         ensures run { IsRun self.now.shape self.now.entries }
@@ -66,7 +66,8 @@ pub fn run(alloc: Global, shape: Shape, events: &[Event]) -> Result<Journal, Ref
     // One table explains every reply, and ends as what the nodes hold.
     ensures one_table { IfOk result (λ journal. HasOneHistory shape journal.entries) }
 
-    // Tokens of two nodes don't conflict, and locks are covered by tokens.
+    // Tokens of two nodes don't conflict, locks are covered by tokens, and locks of two nodes don't
+    // conflict.
     ensures safe { IfOk result (λ journal. LeadsToSafe shape journal.entries) }
 
     // No command of a server has the number of another to the same node about the same file.

@@ -14,7 +14,7 @@ pub fn every_run_has_a_history()
 {}
 
 /// After every run the tokens of two nodes don't conflict, byte by byte, and each byte that is locked
-/// is covered by the token of the lock's node. So no lock of a node conflicts with one of another.
+/// is covered by the token of the lock's node. And no lock of a node conflicts with one of another.
 pub fn every_run_is_safe()
     ensures { EveryRunIsSafe }
 {}
