@@ -34,6 +34,7 @@ pub mod Lists
 pub mod TokenLists
 pub mod LockLists
 pub mod Replayed
+pub mod Quiet
 pub mod Steps
 pub mod Lowering
 pub mod Clearing

@@ -1,6 +1,6 @@
 //! What holds of every run of the cluster.
 ghost use Rattle.cluster_core.specs.Evidence.{EveryDenialHasEvidence};
-ghost use Rattle.cluster_core.specs.Histories.{EveryRunHasAHistory};
+ghost use Rattle.cluster_core.specs.Histories.{EveryRunHasAHistory, QuietItemsMayStandEarlier};
 ghost use Rattle.cluster_core.specs.Numbers.{NoNumberIsUsedTwice};
 ghost use Rattle.cluster_core.specs.Safe.{EveryRunIsSafe};
 
@@ -11,6 +11,13 @@ ghost use Rattle.cluster_core.specs.Safe.{EveryRunIsSafe};
 /// live nodes.
 pub fn every_run_has_a_history()
     ensures { EveryRunHasAHistory }
+{}
+
+/// A legal list of items stays legal with one more item where that one leaves the table as it is there.
+/// A call that is denied is such an item: the replies `Again` and `Blocked` leave the table as it was.
+/// So it may be put wherever the table there allows that reply.
+pub fn what_changes_nothing_may_stand_earlier()
+    ensures { QuietItemsMayStandEarlier }
 {}
 
 /// After every run the tokens of two nodes don't conflict, byte by byte, and each byte that is locked
