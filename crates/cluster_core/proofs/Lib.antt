@@ -25,7 +25,9 @@ pub mod Lifting
 pub mod Heard
 pub mod Witnesses
 pub mod Denials
+pub mod Quiet
 pub mod Placing
+pub mod Plain
 pub mod Unbarred
 pub mod Worlds
 pub mod Pasts
@@ -34,7 +36,6 @@ pub mod Lists
 pub mod TokenLists
 pub mod LockLists
 pub mod Replayed
-pub mod Quiet
 pub mod Steps
 pub mod Lowering
 pub mod Clearing

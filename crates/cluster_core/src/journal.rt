@@ -5,6 +5,7 @@ ghost use Rattle.messages.specs.Shapes.{IsShape};
 ghost use Rattle.cluster_core.specs.Runs.{IsRun};
 ghost use Rattle.cluster_core.specs.Journals.{events_of, IsFirstRefusal};
 ghost use Rattle.cluster_core.specs.Histories.{HasOneHistory};
+ghost use Rattle.cluster_core.specs.Plain.{HasPlainHistory};
 ghost use Rattle.cluster_core.specs.Safe.{LeadsToSafe};
 ghost use Rattle.cluster_core.specs.Numbers.{LeadsToNumbers};
 ghost use Rattle.cluster_core.specs.Evidence.{DenialsHaveEvidence};
@@ -65,6 +66,9 @@ pub fn run(alloc: Global, shape: Shape, events: &[Event]) -> Result<Journal, Ref
 
     // One table explains every reply, and ends as what the nodes hold.
     ensures one_table { IfOk result (λ journal. HasOneHistory shape journal.entries) }
+
+    // It also explains those replies that name no lock, each where it is given, and ends so.
+    ensures plain { IfOk result (λ journal. HasPlainHistory shape journal.entries) }
 
     // Tokens of two nodes don't conflict, locks are covered by tokens, and locks of two nodes don't
     // conflict.

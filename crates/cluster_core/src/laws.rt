@@ -1,6 +1,7 @@
 //! What holds of every run of the cluster.
 ghost use Rattle.cluster_core.specs.Evidence.{EveryDenialHasEvidence};
 ghost use Rattle.cluster_core.specs.Histories.{EveryRunHasAHistory, QuietItemsMayStandEarlier};
+ghost use Rattle.cluster_core.specs.Plain.{EveryRunHasAPlainHistory};
 ghost use Rattle.cluster_core.specs.Numbers.{NoNumberIsUsedTwice};
 ghost use Rattle.cluster_core.specs.Safe.{EveryRunIsSafe};
 
@@ -11,6 +12,13 @@ ghost use Rattle.cluster_core.specs.Safe.{EveryRunIsSafe};
 /// live nodes.
 pub fn every_run_has_a_history()
     ensures { EveryRunHasAHistory }
+{}
+
+/// Whatever calls come, and however messages fare: the answered calls whose replies name no lock, each
+/// at the entry of its reply, are a history too. A single machine's table allows it from the first
+/// call to the last, and it ends with the processes, descriptors and locks of the live nodes.
+pub fn every_run_has_a_plain_history()
+    ensures { EveryRunHasAPlainHistory }
 {}
 
 /// A legal list of items stays legal with one more item where that one leaves the table as it is there.
