@@ -69,7 +69,7 @@ none_serves None mode none h = cc
 none_serves (Some level) mode none h = absurd (none-some level (sym none))
 
 -- a byte that serves the mode for one node bars it by no lock of the other
-unbarred_byte : (x y : Option Level) (mode : Mode) (held : Option Mode) → (x ≡ Some Exclusive → y ≡ None) → (y ≡ Some Exclusive → x ≡ None) → serves x mode ≡ true → ((m : Mode) → held ≡ Some m → serves y m ≡ true) → bars mode held ≡ false
+pub unbarred_byte : (x y : Option Level) (mode : Mode) (held : Option Mode) → (x ≡ Some Exclusive → y ≡ None) → (y ≡ Some Exclusive → x ≡ None) → serves x mode ≡ true → ((m : Mode) → held ≡ Some m → serves y m ≡ true) → bars mode held ≡ false
 unbarred_byte x y mode None there here own other = refl
 unbarred_byte x y Read (Some Read) there here own other = refl
 unbarred_byte x y Write (Some m) there here own other = absurd (none_serves y m (there (served_exclusively x own)) (other m refl))

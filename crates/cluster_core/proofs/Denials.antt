@@ -27,23 +27,25 @@ use Rattle.cluster_core.specs.World.{WorldState, first_world, has_node}
 use Rattle.cluster_core.specs.Runs.{Leads}
 use Rattle.cluster_core.specs.Union.{union}
 use Rattle.cluster_core.specs.Histories.{caller, names_conflict, EntryAt, IsCalledAt, OneCall}
-use Rattle.cluster_core.specs.Evidence.{IsAbout, IsAsked, HasEvidence}
+use Rattle.cluster_core.specs.Evidence.{IsAbout, IsAsked, IsFirstDone, HasEvidence}
 use Rattle.cluster_core.proofs.Entries.{entry_at-last, entry_at-push, entry_at-within}
 use Rattle.cluster_core.proofs.NodeTables.{IsOwn}
 use Rattle.cluster_core.proofs.Tries.{about_step, blocked_step}
 use Rattle.cluster_core.proofs.Joined.{is_of_host, holder_of_host}
 use Rattle.cluster_core.proofs.Lifting.{union_locks-host, about_lifts}
 use Rattle.cluster_core.proofs.Nodes.{IsOpen}
-use Rattle.cluster_core.proofs.Prefixes.{after_all}
+use Rattle.cluster_core.proofs.Prefixes.{after_all, after-keeps}
 use Rattle.cluster_core.proofs.Witnesses.{about_span, about_node, called_one, asked_one, asked-keeps, IsAskedBy, Denies}
 
 -- what holds where node n does that revoke
 pub record Revokes (shape : ShapeFields) (past : List Entry) (w later : WorldState) (made : Entry) (n file number : ℕ) (call : CallId) (mode : Mode) (wanted : Wants) (lock : LockInfo) : Type 0 where
   pub there : has_node w n ≡ true
+  pub leads : Leads (first_world shape) past w
   pub named : (m : ℕ) → (w.nodes m).node ≡ m
   pub own : IsOwn (w.nodes n).table (w.nodes n).node (w.nodes n).incarnation
   pub asked : IsAsked shape past file call mode wanted.required
   pub other : (w.nodes n).node ≡ call.node → ⊥
+  pub next_one : number ≡ ((w.nodes n).files file).last + 1
   pub does : made.event ≡ Deliver (Revoke file number (host (w.nodes n)) call mode wanted)
   pub no_reply : made.reply ≡ None
   pub answer : made.sends ≡ Conflict file number (host (w.nodes n)) call lock ∷ []
@@ -99,6 +101,17 @@ module _ (shape : ShapeFields) (past : List Entry) (w later : WorldState) (made 
     ends = lowest.in_way.ends;
   }
 
+  first_done_now : IsFirstDone shape (past ++ made ∷ []) file (host s) number (length past + 1)
+  first_done_now = record {
+    place = length past;
+    at_is = refl;
+    before = w;
+    up_to = after-keeps shape past (made ∷ []) (length past) w (omega arith) (after_all shape past (length past) w (omega arith) r.leads);
+    there = ap (has_node w) (r.named n) ∙ r.there;
+    holder_is = ap (λ (k : ℕ). host (w.nodes k)) (r.named n);
+    is_next = ap (λ (k : ℕ). ((w.nodes k).files file).last + 1) (r.named n) ∙ sym r.next_one;
+  }
+
   abbrev evidence_now : HasEvidence shape (past ++ made ∷ []) file call (host s) number lock
   evidence_now = record {
     mode = mode;
@@ -112,6 +125,7 @@ module _ (shape : ShapeFields) (past : List Entry) (w later : WorldState) (made 
       names = ap (list_any (is_conflict file (host s) number)) r.answer ∙ itself;
       first = λ k e lt h. elim (entry_at-push past made e k h) [ inl old ↦ r.unsaid k e old | inr new ↦ absurd (let is = new.0 in omega arith) ];
     };
+    first_done = first_done_now;
     does = r.does;
     answer = r.answer;
     no_reply = r.no_reply;

@@ -25,7 +25,9 @@ pub mod Lifting
 pub mod Heard
 pub mod Witnesses
 pub mod Denials
+pub mod Quiet
 pub mod Placing
+pub mod Plain
 pub mod Unbarred
 pub mod Worlds
 pub mod Pasts

@@ -46,7 +46,8 @@ use Rattle.cluster_core.specs.Safe.{IsSafe}
 use Rattle.cluster_core.proofs.Heard.{IsHeard}
 use Rattle.cluster_core.specs.Histories.{EntryAt, names_conflict, HasHistory, EachAtItsPlace}
 use Rattle.cluster_core.specs.Evidence.{IsTold, HasEvidence}
-use Rattle.cluster_core.specs.Placement.{slots_of, history_of}
+use Rattle.cluster_core.specs.Placement.{slots_of, items_in, history_of}
+use Rattle.cluster_core.specs.Plain.{IsPlainHistory}
 use Rattle.cluster_core.proofs.Entries.{none_named, none_called, none_replied}
 use Rattle.cluster_core.proofs.Targets.{ok_is, if_ok}
 use Rattle.cluster_core.proofs.ServerSteps.{IsSending, server_rule-sending}
@@ -60,6 +61,7 @@ use Rattle.cluster_core.proofs.Unbarred.{safe_free}
 use Rattle.cluster_core.proofs.Requested.{Comes, Makes, Tells, delivered-steps, resend-steps}
 use Rattle.cluster_core.proofs.Sends.{IsFreely, AsksFor, Conflicts, called-sends, tried_if-sends, delivered-sends}
 use Rattle.cluster_core.proofs.Slots.{slotted_first, all_slotted_first, slots_fit, slots_legal, slots_at_their_places}
+use Rattle.cluster_core.proofs.Plain.{plain_slots, plain_legal, plain_items}
 use Rattle.cluster_core.proofs.Witnesses.{IsAskedBy, Denies, Backed, HeldFor, StaysOpen, backed-keeps}
 use Rattle.cluster_core.proofs.Denials.{Revokes, denies_now}
 use Rattle.cluster_core.proofs.Worlds.{Good, replied_named, server_good, node_good, stays, asks, leads_on, union_stays, others_stay}
@@ -294,10 +296,12 @@ module _ (shape : ShapeFields) (past : List Entry) (w : WorldState) (few : IsNum
         let holder_is : holder ≡ host s = λ i. record { node = node_is i; incarnation = incarnation_is i } in
         denies_now shape past w v (entry (Deliver m) 0 told) n file number call mode wanted lock (record {
           there = there;
+          leads = g.leads;
           named = g.named;
           own = (g.holds n).own;
           asked = behind.0;
           other = λ same. behind.1 (node_is ∙ same);
+          next_one = next_one;
           does = ap Deliver is ∙ ap (λ (h : Host). Deliver (Revoke file number h call mode wanted)) holder_is;
           no_reply = names.no_reply;
           answer = names.answer;
@@ -471,12 +475,23 @@ module _ (shape : ShapeFields) (is_shape : IsShape shape) (Q : WorldState → Ty
         slots_at_their_places shape es slots g.slotted,
       )
 
+  -- and the calls that name no lock are a plain history
+  pub plain_after : (es : List Entry) (w : WorldState) → Leads (first_world shape) es w → IsPlainHistory shape es (items_in (plain_slots (slots_of es)))
+  plain_after es w l =
+      let g = (both_after es w l).good in
+      let slots = slots_of es in
+      record { world = w; leads = l; plain = plain_items shape es slots g.slotted g.one_reply g.all; legal = plain_legal shape es slots g.slotted w l }
+
   -- and each denial its evidence
   pub evidence_after : (es : List Entry) (w : WorldState) (file : ℕ) (call : CallId) (holder : Host) (number : ℕ) (lock : LockInfo) → Leads (first_world shape) es w → IsTold w file call holder number lock → HasEvidence shape es file call holder number lock
   evidence_after es w file call holder number lock l told =
-      let g = (both_after es w l).good in
+      let both = both_after es w l in
+      let g = both.good in
       let backed : (m : Message) → is_among w.sent m ≡ true → Backed shape es w m = λ m known. among_backed (Backed shape es w) w.sent m g.backed known in
       elim told [
         | inl conflict ↦ (backed (Conflict file number holder call lock) conflict).evidence
-        | inr deny ↦ (backed (Deny file call holder number lock) deny).evidence
+        | inr rest ↦ elim rest [
+          | inl deny ↦ (backed (Deny file call holder number lock) deny).evidence
+          | inr kept ↦ (backed (Conflict file number holder call lock) ((heard w both.present).answers kept.0 kept.1 (Conflict file number holder call lock) kept.2 kept.3)).evidence
+        ]
       ]

@@ -7,6 +7,7 @@ use Rattle.model.specs.declared.lock_info.LockInfo.{LockInfo}
 use Rattle.model.specs.declared.op.Op.{Op}
 use Rattle.model.specs.declared.reply.Reply.{Reply}
 use Rattle.model.specs.Limits.{IsProcess}
+use Rattle.model.specs.Replay.{NamesNoLock}
 use Rattle.model.specs.Table.{Table}
 use Rattle.model.specs.Step.{Step}
 use Rattle.messages.specs.Shapes.{ShapeFields}
@@ -111,6 +112,7 @@ module _ (shape : ShapeFields) (past : List Entry) (w later : WorldState) (made 
         let standing : IsStanding run id pid op reply at = record {
           interval = record { call_at = c.at; reply_at = at; called = c.there; replied = replied_at-last past made id reply is_reply; after = omega arith; before = omega arith };
           place = record { reply_at = at; replying = made; there = entry_at-last past made; is_reply = is_reply; place = place_own run made.event at undenied };
+          plain = λ none. replied_at-last past made id reply is_reply;
           marking = made;
           there = entry_at-last past made;
           mark = inl (reply, is_reply);
@@ -160,8 +162,8 @@ module _ (shape : ShapeFields) (past : List Entry) (w later : WorldState) (made 
           empty_or_full None h = h
           empty_or_full (Some i) h = absurd (not_full i (stand.stands k i h))
 
-      pub denial_placed : union w ≡ union later → IsProcess (caller id pid) → Step (union ev.world) (caller id ev.asked.pid) ev.asked.op reply (union ev.world) → Placed
-      denial_placed same process step =
+      pub denial_placed : (NamesNoLock reply → ⊥) → union w ≡ union later → IsProcess (caller id pid) → Step (union ev.world) (caller id ev.asked.pid) ev.asked.op reply (union ev.world) → Placed
+      denial_placed names same process step =
           let item = item_at (k + 1) in
           let wide = old ++ None ∷ [] in
           let slots = slice_set wide k (Some item) in
@@ -182,6 +184,7 @@ module _ (shape : ShapeFields) (past : List Entry) (w later : WorldState) (made 
           let standing : IsStanding run id pid op reply (k + 1) = record {
             interval = record { call_at = c.at; reply_at = length past + 1; called = called_at-keeps past (made ∷ []) id pid op c.at c.there; replied = replied_at-last past made id reply is_reply; after = omega arith; before = omega arith };
             place = record { reply_at = length past + 1; replying = made; there = entry_at-last past made; is_reply = is_reply; place = place_there };
+            plain = λ none. absurd (names none);
             marking = revoking;
             there = entry_at-keeps past (made ∷ []) (k + 1) revoking there_at;
             mark = inr (file, holder, number, lock, ev.answer);

@@ -1,5 +1,5 @@
--- Every run is safe and has a history, and each denial its evidence.
-use Rattle.std.proofs.Common.{◌≡◌, ℕ, true, refl, List, Ok}
+-- Every run is safe and has a history and a plain one, and each denial its evidence.
+use Rattle.std.proofs.Common.{◌≡◌, ℕ, true, refl, List, take, Ok}
 use Rattle.model.specs.declared.call.CallId.{CallId}
 use Rattle.model.specs.declared.lock_info.LockInfo.{LockInfo}
 use Rattle.messages.specs.Shapes.{ShapeFields, IsShape}
@@ -13,13 +13,16 @@ use Rattle.cluster_core.specs.Runs.{Leads}
 use Rattle.cluster_core.specs.Safe.{IsSafe}
 use Rattle.cluster_core.specs.Histories.{HasHistory, EachAtItsPlace, EveryRunHasAHistory}
 use Rattle.cluster_core.specs.Evidence.{EveryDenialHasEvidence}
-use Rattle.cluster_core.specs.Placement.{history_of}
+use Rattle.cluster_core.specs.Placement.{slots_of, items_in, history_of}
+use Rattle.cluster_core.specs.Plain.{EveryRunHasAPlainHistory}
 use Rattle.cluster_core.proofs.Covering.{Covered, first_covered}
 use Rattle.cluster_core.proofs.Served.{all_covered, next_covered}
+use Rattle.cluster_core.proofs.Unbarred.{safe_of}
 use Rattle.cluster_core.proofs.Present.{Present}
 use Rattle.cluster_core.proofs.Apart.{next_present, present_first, present_apart, answers_counted, remembered_sent}
 use Rattle.cluster_core.proofs.Heard.{IsHeard}
-use Rattle.cluster_core.proofs.Pasts.{AllOwn, safe_after, history_after, evidence_after}
+use Rattle.cluster_core.proofs.Plain.{plain_slots}
+use Rattle.cluster_core.proofs.Pasts.{AllOwn, safe_after, history_after, plain_after, evidence_after}
 
 -- tokens, rows and messages fit, and locks are covered
 pub record IsCovered (w : WorldState) : Type 0 where
@@ -34,7 +37,7 @@ covered_next w own c event p h = record { present = next_present w c.present eve
 
 covered_heard : (w : WorldState) → IsCovered w → IsHeard w
 covered_heard w c = record {
-  safe = record { apart = present_apart w c.present; covered = all_covered w c.covered };
+  safe = safe_of w (present_apart w c.present) (all_covered w c.covered);
   answers = λ n file m there h. (remembered_sent w c.present file n m h).0;
   counted = λ n file number call lock there sent. (answers_counted w c.present file n number (Conflict file number (host (w.nodes n)) call lock) sent (refl, refl, c.present.named n, refl)).0;
 }
@@ -51,5 +54,8 @@ every_run shape es w is l =
     let h = has_history shape es w is l in
     (history_of es, h.0, h.1)
 
+pub every_plain : EveryRunHasAPlainHistory
+every_plain shape es w is l = (items_in (plain_slots (slots_of es)), plain_after shape is IsCovered (covered_first shape) covered_next covered_heard es w l)
+
 pub every_denial : EveryDenialHasEvidence
-every_denial shape es is w file call holder number lock l told = evidence_after shape is IsCovered (covered_first shape) covered_next covered_heard es w file call holder number lock l told
+every_denial shape es is at w file call holder number lock l told = evidence_after shape is IsCovered (covered_first shape) covered_next covered_heard (take at es) w file call holder number lock l told

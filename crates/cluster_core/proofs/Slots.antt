@@ -10,6 +10,7 @@ use Rattle.model.specs.declared.host.Host.{Host}
 use Rattle.model.specs.declared.lock_info.LockInfo.{LockInfo}
 use Rattle.model.specs.declared.op.Op.{Op}
 use Rattle.model.specs.declared.reply.Reply.{Reply}
+use Rattle.model.specs.Replay.{NamesNoLock}
 use Rattle.model.specs.Table.{Table, empty_table}
 use Rattle.messages.specs.Shapes.{ShapeFields}
 use Rattle.messages.specs.declared.message.Message.TheVariants.{Conflict, Deny}
@@ -80,6 +81,15 @@ legal_slots (None ∷ os) tables steps =
     subst P (sym (steps zero None refl)) (legal_slots os (λ k. tables (suc k)) (λ k o h. steps (suc k) o h))
 legal_slots (Some i ∷ os) tables steps = (tables (suc zero), steps zero (Some i) refl, legal_slots os (λ k. tables (suc k)) (λ k o h. steps (suc k) o h))
 
+-- from the empty table to the union after a run, where the slots lead from each union to the next
+pub legal_union : (shape : ShapeFields) (es : List Entry) (slots : Slots) → length slots ≡ length es → ((k : ℕ) (o : Option Item) → slice_get slots k ≡ Some o → SlotStep (table_at shape es k) o (table_at shape es (suc k))) → (w : WorldState) → Leads (first_world shape) es w → Legal empty_table (items_in slots) (union w)
+legal_union shape es slots long steps w l =
+    let P : Table → Type 0 = λ t. Legal t (items_in slots) (union w) in
+    let Q : Table → Type 0 = λ t. Legal (table_at shape es zero) (items_in slots) t in
+    let first : table_at shape es zero ≡ empty_table = table_at-is shape es zero (first_world shape) refl ∙ sym (union_first shape) in
+    let last : table_at shape es (length slots) ≡ union w = table_at-is shape es (length slots) w (after_all shape es (length slots) w (omega arith) l) in
+    subst P first (subst Q last (legal_slots slots (table_at shape es) steps))
+
 -- each item is that of a slot
 pub in_slot : (slots : Slots) (k : ℕ) (i : Item) → slice_get (items_in slots) k ≡ Some i → (q : ℕ) × (slice_get slots q ≡ Some (Some i))
 in_slot [] k i h = absurd (cc)
@@ -120,6 +130,7 @@ IsMark e id = ((reply : Reply) × (e.reply ≡ Some (id, reply))) ⊎ ((file : �
 pub record IsStanding (es : List Entry) (id : CallId) (pid : ℕ) (op : Op) (reply : Reply) (at : ℕ) : Type 0 where
   pub interval : IsOpenAt es id pid op reply at
   pub place : StandsAtItsPlace es id reply at
+  pub plain : NamesNoLock reply → IsRepliedAt es id reply at
   pub marking : Entry
   pub there : EntryAt es at marking
   pub mark : IsMark marking id
@@ -180,6 +191,7 @@ standing-keeps es e q (Answered at id pid op reply) s =
           before = o.before;
         };
         place = stands_at-keeps es e id reply at s.1.place;
+        plain = λ none. replied_at-keeps es (e ∷ []) id reply at (s.1.plain none);
         marking = s.1.marking;
         there = entry_at-keeps es (e ∷ []) at s.1.marking s.1.there;
         mark = s.1.mark;
@@ -307,7 +319,7 @@ one_position es j k (Answered at c pid op r) (Answered to d qid oq q) id one x y
 one_position es j k (Answered at c pid op r) (Gone to node incarnation) id one x y e f = absurd y
 one_position es j k (Gone at node incarnation) b id one x y e f = absurd x
 
-stands_position : (es : List Entry) (q : ℕ) (i : Item) → Stands es q i → position_of i ≡ 0 + q + 1
+pub stands_position : (es : List Entry) (q : ℕ) (i : Item) → Stands es q i → position_of i ≡ 0 + q + 1
 stands_position es q (Answered at id pid op reply) s = let is = s.0 in omega arith
 stands_position es q (Gone at node incarnation) s = absurd s
 
@@ -352,10 +364,4 @@ module _ (shape : ShapeFields) (es : List Entry) (slots : Slots) (s : Slotted sh
   }
 
   pub slots_legal : (w : WorldState) → Leads (first_world shape) es w → Legal empty_table (items_in slots) (union w)
-  slots_legal w l =
-      let P : Table → Type 0 = λ t. Legal t (items_in slots) (union w) in
-      let Q : Table → Type 0 = λ t. Legal (table_at shape es zero) (items_in slots) t in
-      let l_is = s.long in
-      let first : table_at shape es zero ≡ empty_table = table_at-is shape es zero (first_world shape) refl ∙ sym (union_first shape) in
-      let last : table_at shape es (length slots) ≡ union w = table_at-is shape es (length slots) w (after_all shape es (length slots) w (omega arith) l) in
-      subst P first (subst Q last (legal_slots slots (table_at shape es) s.steps))
+  slots_legal w l = legal_union shape es slots s.long s.steps w l

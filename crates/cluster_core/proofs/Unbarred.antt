@@ -1,5 +1,5 @@
--- What a node answers under its token, no lock of another node is in the way of.
-use Rattle.std.proofs.Common.{◌≡◌, ℕ, ◌≤◌, true, false, refl, sym, subst}
+-- What a node answers or holds under its token, no lock of another node is in the way of.
+use Rattle.std.proofs.Common.{◌≡◌, ℕ, ◌≤◌, true, false, refl, sym, ◌∙◌, subst, Some}
 use Rattle.model.specs.declared.mode.Mode.{Mode}
 use Rattle.model.specs.declared.op.Op.{Op}
 use Rattle.model.specs.declared.owner.Owner.{Owner}
@@ -8,11 +8,22 @@ use Rattle.model.specs.Locks.{bars}
 use Rattle.model.specs.Table.{Target}
 use Rattle.node_core.specs.State.{NodeState, process}
 use Rattle.cluster_core.specs.World.{WorldState, has_node}
-use Rattle.cluster_core.specs.Safe.{Excludes, IsSafe}
+use Rattle.cluster_core.specs.Safe.{Excludes, AreApart, AreCovered, IsSafe}
 use Rattle.cluster_core.specs.Evidence.{IsAbout}
-use Rattle.cluster_core.proofs.Covering.{IsCovered, unbarred_apart}
+use Rattle.cluster_core.proofs.Covering.{IsCovered, unbarred_byte, unbarred_apart}
 use Rattle.cluster_core.proofs.Tries.{IsUnhindered, IsServed}
 use Rattle.cluster_core.proofs.Lifting.{IsFreeElsewhere}
+
+-- where tokens are apart and locks are covered, two nodes share each byte that both lock
+pub safe_of : (w : WorldState) → AreApart w → AreCovered w → IsSafe w
+safe_of w apart covered = record {
+  apart = apart;
+  covered = covered;
+  agree = λ m n file o p b one other m_in n_in differ held also.
+      let mine = ((w.nodes m).files file).token in
+      let its = ((w.nodes n).files file).token in
+      unbarred_byte (its b) (mine b) other (Some one) (apart n m file n_in m_in (λ same. differ (sym same)) b) (apart m n file m_in n_in differ b) (covered n file p b other n_in also) (λ mode is. covered m file o b mode m_in (held ∙ is));
+}
 
 -- after the step of a node the world is safe, and the other nodes are as they were
 pub safe_free : (w later : WorldState) (n : ℕ) (u : NodeState) (pid : ℕ) (op : Op) (reply : Reply) → later.shape ≡ w.shape → later.nodes n ≡ u → ((m : ℕ) → (m ≡ n → ⊥) → later.nodes m ≡ w.nodes m) → IsSafe later → has_node later n ≡ true → IsServed (w.nodes n).table (process (w.nodes n) pid) op reply u → ((m : ℕ) → has_node w m ≡ true → has_node later m ≡ true) → IsFreeElsewhere w n pid op reply

@@ -1,5 +1,5 @@
 -- What stands behind each message, and goes on standing behind it.
-use Rattle.std.proofs.Common.{◌≡◌, ℕ, true, ◌==◌, ◌⊎◌, inl, inr, refl, sym, ◌∙◌, ap, subst, List, [], ◌∷◌, ◌++◌, take, All, Contains, Some, None}
+use Rattle.std.proofs.Common.{◌≡◌, ℕ, ◌≤◌, true, ◌==◌, ◌⊎◌, inl, inr, refl, sym, ◌∙◌, ap, subst, arith, List, [], ◌∷◌, ◌++◌, length, take, All, Contains, Some, None}
 use Rattle.std.proofs.lemmas.Bool.{and_parts, eqb-true}
 use Rattle.std.proofs.lemmas.List.Elements.{All-contains, All-weaker}
 use Rattle.intervals.specs.Bytes.{Range}
@@ -26,7 +26,7 @@ use Rattle.cluster_core.specs.World.{WorldState, first_world}
 use Rattle.cluster_core.specs.Runs.{Leads}
 use Rattle.cluster_core.specs.Union.{union}
 use Rattle.cluster_core.specs.Histories.{caller, EntryAt, IsCalledAt, OneCall}
-use Rattle.cluster_core.specs.Evidence.{IsAbout, IsAsked, IsWorldAfter, HasEvidence}
+use Rattle.cluster_core.specs.Evidence.{IsAbout, IsAsked, IsWorldAfter, IsFirstDone, HasEvidence}
 use Rattle.cluster_core.proofs.Targets.{IsSpan, target_span}
 use Rattle.cluster_core.proofs.Entries.{IsNamed, named_called, entry_at-within, called_at-keeps}
 use Rattle.cluster_core.proofs.Tries.{about_one}
@@ -109,6 +109,17 @@ asked-keeps shape es e file call mode span a = record {
   span_is = a.span_is;
 }
 
+pub first_done-keeps : (shape : ShapeFields) (es : List Entry) (e : Entry) (file : ℕ) (holder : Host) (number at : ℕ) → at ≤ length es → IsFirstDone shape es file holder number at → IsFirstDone shape (es ++ e ∷ []) file holder number at
+first_done-keeps shape es e file holder number at within f = record {
+  place = f.place;
+  at_is = f.at_is;
+  before = f.before;
+  up_to = after-keeps shape es (e ∷ []) f.place f.before (let is = f.at_is in omega arith) f.up_to;
+  there = f.there;
+  holder_is = f.holder_is;
+  is_next = f.is_next;
+}
+
 abbrev pub evidence-keeps : (shape : ShapeFields) (es : List Entry) (e : Entry) (file : ℕ) (call : CallId) (holder : Host) (number : ℕ) (lock : LockInfo) → HasEvidence shape es file call holder number lock → HasEvidence shape (es ++ e ∷ []) file call holder number lock
 evidence-keeps shape es e file call holder number lock h = record {
   mode = h.mode;
@@ -117,6 +128,7 @@ evidence-keeps shape es e file call holder number lock h = record {
   at = h.at;
   later = h.later;
   revoked = revoked-keeps es e file holder number h.at h.revoked;
+  first_done = first_done-keeps shape es e file holder number h.at (entry_at-within es h.at h.revoked.revoking h.revoked.there) h.first_done;
   does = h.does;
   answer = h.answer;
   no_reply = h.no_reply;

@@ -39,6 +39,7 @@ use Rattle.cluster_core.proofs.Lifting.{IsFreeElsewhere, DiffersAt, step_lifts, 
 use Rattle.cluster_core.proofs.Prefixes.{after_all}
 use Rattle.cluster_core.proofs.Slots.{Slotted, AllSlotted, Stands}
 use Rattle.cluster_core.proofs.Placing.{Placed, nothing_placed, answer_placed, denial_placed}
+use Rattle.cluster_core.proofs.Quiet.{refusal_names}
 use Rattle.cluster_core.proofs.Requested.{Comes, comes-weaker}
 use Rattle.cluster_core.proofs.Sends.{AsksFor}
 use Rattle.cluster_core.proofs.Witnesses.{IsAskedBy, Denies, Backed, HeldFor, StaysOpen, asked-keeps, backed-keeps}
@@ -303,7 +304,7 @@ module _ (shape : ShapeFields) (past : List Entry) (w : WorldState) (n : ℕ) (u
         denial_placed shape past w later made g.slotted g.all g.leads leads_on d.call c.pid its.op reply d.is_reply d.file d.number d.holder d.lock ev d.is_deny
         (subst (λ (id : CallId). Called past id c.pid its.op) d.named its.called)
         (subst (Unanswered past) d.named its.unanswered)
-        g.one_call (sym (union_stays d.table))
+        g.one_call (refusal_names c.intent d.lock) (sym (union_stays d.table))
         (subst (λ (id : CallId). IsProcess (caller id c.pid)) d.named its.is_process)
         step_there
 

@@ -1,5 +1,5 @@
 -- What stands behind each denial.
-use Rattle.std.specs.Prelude.{◌≡◌, ◌⊎◌, ℕ, ◌<◌, true, List, [], ◌∷◌, take, Some, None, Ok}
+use Rattle.std.specs.Prelude.{◌≡◌, ◌⊎◌, ℕ, ◌+◌, ◌<◌, true, List, [], ◌∷◌, take, Some, None, Ok}
 use Rattle.intervals.specs.Bytes.{Range}
 use Rattle.model.specs.declared.mode.Mode.{Mode}
 use Rattle.model.specs.declared.call.CallId.{CallId}
@@ -17,7 +17,8 @@ use Rattle.messages.specs.declared.message.Message.TheVariants.{Revoke, Conflict
 use Rattle.messages.specs.declared.event.Event.TheVariants.{Deliver}
 use Rattle.messages.specs.declared.entry.Entry.{Entry}
 use Rattle.messages.specs.Messages.{is_among}
-use Rattle.cluster_core.specs.World.{WorldState, first_world}
+use Rattle.node_core.specs.State.{host}
+use Rattle.cluster_core.specs.World.{WorldState, first_world, has_node}
 use Rattle.cluster_core.specs.Runs.{Leads}
 use Rattle.cluster_core.specs.Union.{union}
 use Rattle.cluster_core.specs.Histories.{caller, IsCalledAt, IsRevokedAt}
@@ -45,6 +46,16 @@ pub record IsAsked (shape : ShapeFields) (es : List Entry) (file : ℕ) (call : 
   pub file_is : about.file ≡ file
   pub span_is : about.span ≡ span
 
+-- before the entry at that position the holder had not done the command of that number about the file: it was the next one
+pub record IsFirstDone (shape : ShapeFields) (es : List Entry) (file : ℕ) (holder : Host) (number at : ℕ) : Type 0 where
+  pub place : ℕ
+  pub at_is : at ≡ place + 1
+  pub before : WorldState
+  pub up_to : IsWorldAfter shape es place before
+  pub there : has_node before holder.node ≡ true
+  pub holder_is : host (before.nodes holder.node) ≡ holder
+  pub is_next : ((before.nodes holder.node).files file).last + 1 ≡ number
+
 -- after the call was made its holder first did the revoke of that number, and its answer was this conflict: the lock was then a region of the holder, and in the way of the call
 pub record HasEvidence (shape : ShapeFields) (es : List Entry) (file : ℕ) (call : CallId) (holder : Host) (number : ℕ) (lock : LockInfo) : Type 0 where
   pub mode : Mode
@@ -53,6 +64,7 @@ pub record HasEvidence (shape : ShapeFields) (es : List Entry) (file : ℕ) (cal
   pub at : ℕ
   pub later : asked.at < at
   pub revoked : IsRevokedAt es file holder number at
+  pub first_done : IsFirstDone shape es file holder number at
   pub does : revoked.revoking.event ≡ Deliver (Revoke file number holder call mode wanted)
   pub answer : revoked.revoking.sends ≡ Conflict file number holder call lock ∷ []
   pub no_reply : revoked.revoking.reply ≡ None
@@ -62,17 +74,21 @@ pub record HasEvidence (shape : ShapeFields) (es : List Entry) (file : ℕ) (cal
   pub of_incarnation : lock.owner.incarnation ≡ holder.incarnation
   pub blocks : Blocks ((union world).locks file) asked.about.owner wanted.required mode lock
 
--- a server was told of the conflict, or denied a call for it
-abbrev pub IsTold : WorldState → ℕ → CallId → Host → ℕ → LockInfo → Type 0
-IsTold w file call holder number lock = (is_among w.sent (Conflict file number holder call lock) ≡ true) ⊎ (is_among w.sent (Deny file call holder number lock) ≡ true)
+-- a node of the world remembers the conflict as the answer to its last command about a file
+abbrev pub IsRemembered : WorldState → ℕ → CallId → Host → ℕ → LockInfo → Type 0
+IsRemembered w file call holder number lock = (node of : ℕ) × (has_node w node ≡ true) × (((w.nodes node).files of).answer ≡ Some (Conflict file number holder call lock))
 
--- whatever world the entries lead to: no call is denied for a lock that was not there
+-- a server was told of the conflict, or denied a call for it, or a node remembers it
+abbrev pub IsTold : WorldState → ℕ → CallId → Host → ℕ → LockInfo → Type 0
+IsTold w file call holder number lock = (is_among w.sent (Conflict file number holder call lock) ≡ true) ⊎ ((is_among w.sent (Deny file call holder number lock) ≡ true) ⊎ IsRemembered w file call holder number lock)
+
+-- whatever is told in a world of the run has its evidence up to there: no call is denied for a lock that was not there
 abbrev pub DenialsHaveEvidence : ShapeFields → List Entry → Type 0
 DenialsHaveEvidence shape es =
-    (w : WorldState) (file : ℕ) (call : CallId) (holder : Host) (number : ℕ) (lock : LockInfo)
-    → Leads (first_world shape) es w
+    (at : ℕ) (w : WorldState) (file : ℕ) (call : CallId) (holder : Host) (number : ℕ) (lock : LockInfo)
+    → IsWorldAfter shape es at w
     → IsTold w file call holder number lock
-    → HasEvidence shape es file call holder number lock
+    → HasEvidence shape (take at es) file call holder number lock
 
 -- so it is after every run
 abbrev pub EveryDenialHasEvidence : Type 0

@@ -1,5 +1,5 @@
 -- One history for every run.
-use Rattle.std.specs.Prelude.{◌≡◌, ℕ, ◌+◌, ◌≤◌, ◌<◌, Bool, true, false, List, [], ◌∷◌, slice_get, Option, Some, None}
+use Rattle.std.specs.Prelude.{◌≡◌, ℕ, ◌+◌, ◌≤◌, ◌<◌, Bool, true, false, List, [], ◌∷◌, ◌++◌, slice_get, Option, Some, None}
 use Rattle.std.specs.List.{list_any}
 use Rattle.model.specs.declared.call.CallId.{CallId}
 use Rattle.model.specs.declared.host.Host.{Host}
@@ -46,6 +46,15 @@ Legal old (i ∷ is) new = (mid : Table) × ItemStep old i mid × Legal mid is n
 -- a history is legal: from the empty table it leads somewhere
 abbrev pub IsLegal : List Item → Type 0
 IsLegal h = (last : Table) × Legal empty_table h last
+
+-- items that lead from table to table still do with one more, where that one leaves the table as it is there
+abbrev pub QuietItemsMayStandEarlier : Type 0
+QuietItemsMayStandEarlier =
+    (t m u : Table) (xs ys : List Item) (i : Item)
+    → Legal t xs m
+    → Legal m ys u
+    → ItemStep m i m
+    → Legal t (xs ++ i ∷ ys) u
 
 -- positions rise strictly
 abbrev pub Rising : List Item → Type 0

@@ -7,6 +7,7 @@ pub mod Journals
 pub mod Union
 pub mod Histories
 pub mod Placement
+pub mod Plain
 pub mod Evidence
 pub mod Listings
 pub mod Safe

@@ -1,8 +1,9 @@
 -- What holds of tokens and locks after every run.
-use Rattle.std.specs.Prelude.{◌≡◌, ◌≢◌, ℕ, true, List, Some, None}
+use Rattle.std.specs.Prelude.{◌≡◌, ◌≢◌, ℕ, true, false, List, Some, None}
 use Rattle.model.specs.declared.mode.Mode.{Mode}
 use Rattle.model.specs.declared.owner.Owner.{Owner}
 use Rattle.model.specs.declared.level.Level.TheVariants.{Exclusive}
+use Rattle.model.specs.Locks.{excludes}
 use Rattle.token_set.specs.Tokens.{Token, serves}
 use Rattle.messages.specs.Shapes.{ShapeFields, IsShape}
 use Rattle.messages.specs.declared.entry.Entry.{Entry}
@@ -21,9 +22,14 @@ AreApart w = (m n file : ℕ) → has_node w m ≡ true → has_node w n ≡ tru
 abbrev pub AreCovered : WorldState → Type 0
 AreCovered w = (n file : ℕ) (o : Owner) (b : ℕ) (mode : Mode) → has_node w n ≡ true → (w.nodes n).table.locks file o b ≡ Some mode → serves (((w.nodes n).files file).token b) mode ≡ true
 
+-- a byte that two nodes lock they share
+abbrev pub DoAgree : WorldState → Type 0
+DoAgree w = (m n file : ℕ) (o p : Owner) (b : ℕ) (one other : Mode) → has_node w m ≡ true → has_node w n ≡ true → m ≢ n → (w.nodes m).table.locks file o b ≡ Some one → (w.nodes n).table.locks file p b ≡ Some other → excludes one other ≡ false
+
 pub record IsSafe (w : WorldState) : Type 0 where
   pub apart : AreApart w
   pub covered : AreCovered w
+  pub agree : DoAgree w
 
 -- whatever world the entries lead to is safe
 abbrev pub LeadsToSafe : ShapeFields → List Entry → Type 0

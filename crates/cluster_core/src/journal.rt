@@ -5,6 +5,7 @@ ghost use Rattle.messages.specs.Shapes.{IsShape};
 ghost use Rattle.cluster_core.specs.Runs.{IsRun};
 ghost use Rattle.cluster_core.specs.Journals.{events_of, IsFirstRefusal};
 ghost use Rattle.cluster_core.specs.Histories.{HasOneHistory};
+ghost use Rattle.cluster_core.specs.Plain.{HasPlainHistory};
 ghost use Rattle.cluster_core.specs.Safe.{LeadsToSafe};
 ghost use Rattle.cluster_core.specs.Numbers.{LeadsToNumbers};
 ghost use Rattle.cluster_core.specs.Evidence.{DenialsHaveEvidence};
@@ -44,7 +45,7 @@ impl Journal {
     }
 
     /// The entries, the first at position 1. They are a run, after which tokens of two nodes don't
-    /// conflict, and locks are covered by tokens.
+    /// conflict, locks are covered by tokens, and locks of two nodes don't conflict.
     pub fn entries(&self) -> &[Entry]
         ensures value { result.now ≡ self.now.entries }
         ensures run { IsRun self.now.shape self.now.entries }
@@ -66,14 +67,18 @@ pub fn run(alloc: Global, shape: Shape, events: &[Event]) -> Result<Journal, Ref
     // One table explains every reply, and ends as what the nodes hold.
     ensures one_table { IfOk result (λ journal. HasOneHistory shape journal.entries) }
 
-    // Tokens of two nodes don't conflict, and locks are covered by tokens.
+    // It also explains those replies that name no lock, each where it is given, and ends so.
+    ensures plain { IfOk result (λ journal. HasPlainHistory shape journal.entries) }
+
+    // Tokens of two nodes don't conflict, locks are covered by tokens, and locks of two nodes don't
+    // conflict.
     ensures safe { IfOk result (λ journal. LeadsToSafe shape journal.entries) }
 
     // No command of a server has the number of another to the same node about the same file.
     ensures numbers { IfOk result (λ journal. LeadsToNumbers shape journal.entries) }
 
-    // A call is denied only for a lock that stood in its way after it was made, where the lock's
-    // holder first did the revoke that the denial names.
+    // At each entry: a call is denied only for a lock that stood in its way after it was made, where
+    // the lock's holder first did the revoke that the denial names, at that entry or an earlier one.
     ensures evidence { IfOk result (λ journal. DenialsHaveEvidence shape journal.entries) }
 
     // Else the events before one happened, and that one is refused so.

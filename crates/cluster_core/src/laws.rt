@@ -1,6 +1,7 @@
 //! What holds of every run of the cluster.
 ghost use Rattle.cluster_core.specs.Evidence.{EveryDenialHasEvidence};
-ghost use Rattle.cluster_core.specs.Histories.{EveryRunHasAHistory};
+ghost use Rattle.cluster_core.specs.Histories.{EveryRunHasAHistory, QuietItemsMayStandEarlier};
+ghost use Rattle.cluster_core.specs.Plain.{EveryRunHasAPlainHistory};
 ghost use Rattle.cluster_core.specs.Numbers.{NoNumberIsUsedTwice};
 ghost use Rattle.cluster_core.specs.Safe.{EveryRunIsSafe};
 
@@ -13,16 +14,30 @@ pub fn every_run_has_a_history()
     ensures { EveryRunHasAHistory }
 {}
 
+/// Whatever calls come, and however messages fare: the answered calls whose replies name no lock, each
+/// at the entry of its reply, are a history too. A single machine's table allows it from the first
+/// call to the last, and it ends with the processes, descriptors and locks of the live nodes.
+pub fn every_run_has_a_plain_history()
+    ensures { EveryRunHasAPlainHistory }
+{}
+
+/// A legal list of items stays legal with one more item where that one leaves the table as it is there.
+/// A call that is denied is such an item: the replies `Again` and `Blocked` leave the table as it was.
+/// So it may be put wherever the table there allows that reply.
+pub fn what_changes_nothing_may_stand_earlier()
+    ensures { QuietItemsMayStandEarlier }
+{}
+
 /// After every run the tokens of two nodes don't conflict, byte by byte, and each byte that is locked
-/// is covered by the token of the lock's node. So no lock of a node conflicts with one of another.
+/// is covered by the token of the lock's node. And no lock of a node conflicts with one of another.
 pub fn every_run_is_safe()
     ensures { EveryRunIsSafe }
 {}
 
-/// Each conflict that a node tells of, and each denial for it, has its evidence in the run, whatever
-/// came later: after the call was made the holder first did the revoke of that number, this conflict
-/// was its one answer, and in the world after that the lock was a region of the holder in the way of
-/// the call.
+/// Each conflict that a node tells of or remembers as its answer, and each denial for it, has its
+/// evidence in the entries up to there, whatever came later: after the call was made the holder did the
+/// revoke of that number for the first time, this conflict was its one answer, and in the world after
+/// that the lock was a region of the holder in the way of the call.
 pub fn every_denial_has_evidence()
     ensures { EveryDenialHasEvidence }
 {}

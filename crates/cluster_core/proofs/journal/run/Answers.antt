@@ -1,7 +1,7 @@
 use Rattle.cluster_core.specs.Parts.{world_state}
 use Rattle.cluster_core.proofs.JournalRuns.{ran_empty, ran_more, first_refusal}
 use Rattle.cluster_core.proofs.Apart.{numbers_after}
-use Rattle.cluster_core.proofs.Runs.{every_run, safe_run, every_denial}
+use Rattle.cluster_core.proofs.Runs.{every_run, every_plain, safe_run, every_denial}
 use Rattle.cluster_core.proofs.journal.run.Goals as goal
 
 pub returns-in-Err-clause-refused : goal.returns-in-Err-clause-refused
@@ -14,6 +14,9 @@ loop-event-preserved c =
 
 pub returns-clause-one_table : goal.returns-clause-one_table
 returns-clause-one_table c = every_run _ _ _ c.in_ok-world.ensures.within c.loop-event.invariant.leads
+
+pub returns-clause-plain : goal.returns-clause-plain
+returns-clause-plain c = every_plain _ _ _ c.in_ok-world.ensures.within c.loop-event.invariant.leads
 
 pub returns-clause-safe : goal.returns-clause-safe
 returns-clause-safe c = λ w l. safe_run _ _ w c.in_ok-world.ensures.within l

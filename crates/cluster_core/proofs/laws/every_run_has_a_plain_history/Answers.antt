@@ -1,0 +1,5 @@
+use Rattle.cluster_core.proofs.Runs.{every_plain}
+use Rattle.cluster_core.proofs.laws.every_run_has_a_plain_history.Goals as goal
+
+pub returns : goal.returns
+returns c = every_plain
