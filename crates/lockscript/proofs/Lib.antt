@@ -1,10 +1,13 @@
 pub mod Feeds
 pub mod Passes
 pub mod Begun
-pub mod OneValue
 pub mod OneReading
 pub mod Outcomes
 pub mod Pairs
 pub mod SingleWords
-pub mod NoOperation
-pub mod NoCommand
+pub mod Fronts
+pub mod FieldValues
+pub mod OperationKinds
+pub mod CommandKinds
+pub mod Clusters
+pub mod SameLines

@@ -13,7 +13,8 @@ use Rattle.lockscript.specs.Scripts.IsBad.{stands_wrong, has_no_cluster, has_no_
 use Rattle.lockscript.proofs.Begun.{script_of}
 use Rattle.messages.specs.Shapes.{ShapeFields}
 use Rattle.lockscript.proofs.Feeds.{line_feeds-line}
-use Rattle.lockscript.proofs.OneValue.{apart-shape, first-same, lines-same, rest-same}
+use Rattle.lockscript.proofs.Clusters.{apart-shape}
+use Rattle.lockscript.proofs.SameLines.{first-same, lines-same, rest-same}
 use Rattle.lockscript.proofs.Pairs.{same-split}
 use Rattle.lockscript.proofs.Passes.{IsSingle, ended, kept_lines-append}
 

@@ -2,7 +2,7 @@
 use Rattle.std.proofs.Common.{◌≡◌, ◌≢◌, ℕ, suc, List, [], ◌∷◌, ◌++◌, Option, Some, None, refl, sym, ap, ◌∙◌, arith}
 use Rattle.std.specs.Option.{option_zip}
 use Rattle.lockscript.specs.Layout.{space}
-use Rattle.lockscript.specs.Reads.{Reads, Lacks, after_text, pair_text, Both}
+use Rattle.lockscript.specs.Reads.{Reads, Lacks, IsOneField, after_text, pair_text, Both}
 
 -- the first byte of a text and the bytes after it
 pub heads : (a b : ℕ) (x y : List ℕ) → a ∷ x ≡ b ∷ y → a ≡ b
@@ -20,20 +20,20 @@ same-split c (a ∷ as') (b ∷ bs) x y no_a no_b e =
     let rest = same-split c as' bs x y (λ i lt. no_a (suc i) (omega (arith, lt))) (λ i lt. no_b (suc i) (omega (arith, lt))) (tails a b (as' ++ c ∷ x) (bs ++ c ∷ y) e) in
     (cc (heads a b (as' ++ c ∷ x) (bs ++ c ∷ y) e, rest.0), rest.1)
 
--- the text has no first field with a space after it
-abbrev pub IsSingle : List ℕ → Type 0
-IsSingle bytes = (word rest : List ℕ) → Lacks space word → bytes ≢ word ++ space ∷ rest
-
 -- every text of a value that fits is one field
 abbrev pub AreWords : {A : Type 0} → (A → List ℕ) → (A → Type 0) → Type 0
 AreWords text Fits = (x : _) → Fits x → Lacks space (text x)
+
+-- two values that fit and have one text are one
+abbrev pub AreApart : {A : Type 0} → (A → List ℕ) → (A → Type 0) → Type 0
+AreApart text Fits = (x y : _) → Fits x → Fits y → text x ≡ text y → x ≡ y
 
 pub cancel-front : (front x y : List ℕ) → front ++ x ≡ front ++ y → x ≡ y
 cancel-front [] x y e = e
 cancel-front (b ∷ front) x y e = cancel-front front x y (tails b b (front ++ x) (front ++ y) e)
 
 -- what stands before the space writes no first field
-pub reads-pair_none : {A B : Type 0} (f : A → List ℕ) (g : B → List ℕ) (P : A → Type 0) (Q : B → Type 0) (bytes : List ℕ) → AreWords f P → IsSingle bytes → Reads (pair_text f g) (Both P Q) bytes None
+pub reads-pair_none : {A B : Type 0} (f : A → List ℕ) (g : B → List ℕ) (P : A → Type 0) (Q : B → Type 0) (bytes : List ℕ) → AreWords f P → IsOneField bytes → Reads (pair_text f g) (Both P Q) bytes None
 reads-pair_none f g P Q bytes words single p fits e = single (f p.0) (g p.1) (words p.0 fits.0) e
 
 -- a text of two fields writes what they write
@@ -54,3 +54,12 @@ reads-after_none front f P bytes absent x fits e = absent (f x) e
 pub reads-after : {A : Type 0} (front : List ℕ) (f : A → List ℕ) (P : A → Type 0) (bytes rest : List ℕ) → bytes ≡ front ++ rest → (a : Option A) → Reads f P rest a → Reads (after_text front f) P bytes a
 reads-after front f P bytes rest parts None none = λ x fits e. none x fits (cancel-front front rest (f x) (sym parts ∙ e))
 reads-after front f P bytes rest parts (Some x) some = (some.0, parts ∙ ap (λ (r : List ℕ). front ++ r) some.1)
+
+-- two fields have one text only where each has
+pub apart-pair : {A B : Type 0} (f : A → List ℕ) (g : B → List ℕ) (P : A → Type 0) (Q : B → Type 0) → AreWords f P → AreApart f P → AreApart g Q → AreApart (pair_text f g) (Both P Q)
+apart-pair {A} {B} f g P Q words one two p q p_fits q_fits e =
+    let parts = same-split space (f p.0) (f q.0) (g p.1) (g q.1) (words p.0 p_fits.0) (words q.0 q_fits.0) e in
+    ap (λ (x : A). (x, p.1)) (one p.0 q.0 p_fits.0 q_fits.0 parts.0) ∙ ap (λ (y : B). (q.0, y)) (two p.1 q.1 p_fits.1 q_fits.1 parts.1)
+
+pub apart-after : {A : Type 0} (front : List ℕ) (f : A → List ℕ) (P : A → Type 0) → AreApart f P → AreApart (after_text front f) P
+apart-after front f P one x y x_fits y_fits e = one x y x_fits y_fits (cancel-front front (f x) (f y) e)

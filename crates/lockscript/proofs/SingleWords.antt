@@ -1,5 +1,5 @@
 -- Texts that are one field.
-use Rattle.std.proofs.Common.{◌≡◌, ◌≢◌, ℕ, zero, suc, ◌<◌, ◌^◌, ◌++◌, Option, Some, None, MatchOption, Bor, ℤ, pos, negsuc, true, not, List, [], ◌∷◌, refl, arith, eqb, decimal, codes, FitsSigned, w64}
+use Rattle.std.proofs.Common.{◌≡◌, ◌≢◌, ℕ, zero, suc, ◌<◌, ◌^◌, ◌++◌, Option, Some, None, MatchOption, Bor, ℤ, pos, negsuc, true, not, List, [], ◌∷◌, refl, sym, arith, eqb, decimal, codes, FitsSigned, w64}
 use Rattle.std.specs.List.{list_all}
 use Rattle.std.specs.Fmt.{signed_decimal}
 use Rattle.std.proofs.lemmas.Fmt.{decimal_is_IsNumeral}
@@ -17,13 +17,29 @@ use Rattle.std.specs.Prelude.{⊤}
 use Rattle.lockscript.specs.Scripts.{greatest_message}
 use Rattle.lockscript.specs.Served.{IsDescriptor, IsServedKind}
 use Rattle.lockscript.specs.Texts.{kind_text, mode_text}
-use Rattle.lockscript.proofs.Pairs.{AreWords}
+use Rattle.lockscript.proofs.Pairs.{AreWords, heads, same-split, tails}
 
 -- a byte by byte test
 pub lacks-tested : (c : ℕ) (bytes : List ℕ) → list_all (λ b. not (eqb b c)) bytes ≡ true → Lacks c bytes
 lacks-tested c [] test i lt = absurd (omega (arith, lt))
 lacks-tested c (b ∷ bytes) test zero lt = grind (arith, test)
 lacks-tested c (b ∷ bytes) test (suc i) lt = lacks-tested c bytes (grind (arith, test)) i (omega (arith, lt))
+
+-- a word that is written out is one field
+pub one-word : (word : List ℕ) → list_all (λ b. not (eqb b space)) word ≡ true → Lacks space word
+one-word word test = lacks-tested space word test
+
+-- the first fields of one text are one
+pub first-word : (word front operands rest : List ℕ) → Lacks space word → list_all (λ b. not (eqb b space)) front ≡ true → word ++ space ∷ operands ≡ front ++ space ∷ rest → word ≡ front
+first-word word front operands rest lacks test e = (same-split space word front operands rest lacks (one-word front test) e).0
+
+-- a text with a space is no word
+pub not-one : (word operands front : List ℕ) → Lacks space word → list_all (λ b. not (eqb b space)) front ≡ true → word ++ space ∷ operands ≢ front
+not-one [] operands [] lacks test e = cc
+not-one [] operands (c ∷ front) lacks test e = one-word (c ∷ front) test 0 (omega arith) (sym (heads space c operands front e))
+not-one (b ∷ word) operands [] lacks test e = cc
+not-one (b ∷ word) operands (c ∷ front) lacks test e =
+    not-one word operands front (λ i lt. lacks (suc i) (omega (arith, lt))) (grind (arith, test)) (tails b c (word ++ space ∷ operands) front e)
 
 pub Lacks-decimal : (n : ℕ) → n < 2 ^ 64 → Lacks space (decimal n)
 Lacks-decimal n small i lt e =

@@ -11,6 +11,10 @@ Reads text Fits bytes (Some x) = Fits x × (bytes ≡ text x)
 abbrev pub Lacks : ℕ → List ℕ → Type 0
 Lacks b bytes = (i : ℕ) → i < length bytes → slice_index bytes i ≢ b
 
+-- no space ends a first field of the text
+abbrev pub IsOneField : List ℕ → Type 0
+IsOneField bytes = (word rest : List ℕ) → Lacks space word → bytes ≢ word ++ space ∷ rest
+
 -- a text in two parts
 abbrev pub after_text : {A : Type 0} → List ℕ → (A → List ℕ) → A → List ℕ
 after_text front text x = front ++ text x

@@ -1,59 +1,92 @@
 //! What the lines of scripts ask for.
-ghost use Rattle.std.specs.Prelude.{codes, decimal, ⊤};
+ghost use Rattle.std.specs.Prelude.{◌∷◌, ◌++◌, codes, decimal};
 ghost use Rattle.model.specs.Limits.{IsNumber, most_nodes, most_processes};
-ghost use Rattle.messages.specs.Shapes.{IsShape, most_files};
-ghost use Rattle.lockscript.specs.Reads.{Both, Reads, after_text, pair_text};
-ghost use Rattle.lockscript.specs.Scripts.{IsCommand, command_text, shape_text};
+ghost use Rattle.lockscript.specs.Layout.{space};
+ghost use Rattle.lockscript.specs.Reads.{Both, IsOneField, Lacks, Reads, pair_text};
+ghost use Rattle.lockscript.specs.Scripts.{IsCommand, command_text};
 ghost use Rattle.lockscript.specs.Served.{IsServedOp};
-ghost use Rattle.lockscript.specs.Texts.{op_text, policy_text};
+ghost use Rattle.lockscript.specs.Texts.{op_text};
 
-use crate::fields::{after, file_of, message_of, node_of, pid_of, split_field};
+use crate::fields::{file_of, message_of, node_of, pid_of, split_field};
 use crate::operations::op_of;
 use crate::script_line::Command;
-use crate::words::policy_of;
-use messages::shape::Shape;
 use model::op::Op;
-use model::policy::Policy;
 
 /// What the line asks for, if it is one that is served: so far `call N PID OP`, `deliver K`, `lose K`,
 /// `settle`, `retry N PID` and `resend F`.
 pub(crate) fn command_of(line: &str) -> Option<Command>
     ensures { Reads command_text IsCommand line.now result }
 {
-    if line == "settle" {
-        return Some(Command::Settle);
+    match split_field(line) {
+        Some((word, operands)) => command_with(word, operands),
+        None => command_alone(line),
     }
-    if let Some(call) = after(line, "call ") {
-        return match call_operands(call) {
-            Some((node, (pid, op))) => Some(Command::Call { node, pid, op }),
-            None => None,
-        };
+}
+
+// What the line of this word asks for, with these operands.
+fn command_with(word: &str, operands: &str) -> Option<Command>
+    requires { Lacks space word.now }
+    ensures { Reads command_text IsCommand (word.now ++ space ∷ operands.now) result }
+{
+    match word {
+        "call" => call_of(operands),
+        "deliver" => deliver_of(operands),
+        "lose" => lose_of(operands),
+        "retry" => retry_of(operands),
+        "resend" => resend_of(operands),
+        _ => None,
     }
-    if let Some(word) = after(line, "deliver ") {
-        return match message_of(word) {
-            Some(message) => Some(Command::Deliver { message }),
-            None => None,
-        };
+}
+
+// What the line of this word asks for, with no operands.
+fn command_alone(word: &str) -> Option<Command>
+    requires { IsOneField word.now }
+    ensures { Reads command_text IsCommand word.now result }
+{
+    match word {
+        "settle" => Some(Command::Settle),
+        _ => None,
     }
-    if let Some(word) = after(line, "lose ") {
-        return match message_of(word) {
-            Some(message) => Some(Command::Lose { message }),
-            None => None,
-        };
-    }
-    if let Some(operands) = after(line, "retry ") {
-        return match retry_operands(operands) {
-            Some((node, pid)) => Some(Command::Retry { node, pid }),
-            None => None,
-        };
-    }
-    if let Some(word) = after(line, "resend ") {
-        return match file_of(word) {
-            Some(file) => Some(Command::Resend { file }),
-            None => None,
-        };
-    }
-    None
+}
+
+// `call` with these operands.
+fn call_of(operands: &str) -> Option<Command>
+    ensures { Reads command_text IsCommand (codes "call " ++ operands.now) result }
+{
+    let (node, (pid, op)) = call_operands(operands)?;
+    Some(Command::Call { node, pid, op })
+}
+
+// `deliver` with this operand.
+fn deliver_of(operand: &str) -> Option<Command>
+    ensures { Reads command_text IsCommand (codes "deliver " ++ operand.now) result }
+{
+    let message = message_of(operand)?;
+    Some(Command::Deliver { message })
+}
+
+// `lose` with this operand.
+fn lose_of(operand: &str) -> Option<Command>
+    ensures { Reads command_text IsCommand (codes "lose " ++ operand.now) result }
+{
+    let message = message_of(operand)?;
+    Some(Command::Lose { message })
+}
+
+// `retry` with these operands.
+fn retry_of(operands: &str) -> Option<Command>
+    ensures { Reads command_text IsCommand (codes "retry " ++ operands.now) result }
+{
+    let (node, pid) = retry_operands(operands)?;
+    Some(Command::Retry { node, pid })
+}
+
+// `resend` with this operand.
+fn resend_of(operand: &str) -> Option<Command>
+    ensures { Reads command_text IsCommand (codes "resend " ++ operand.now) result }
+{
+    let file = file_of(operand)?;
+    Some(Command::Resend { file })
 }
 
 // `N PID OP`.
@@ -82,61 +115,6 @@ fn retry_operands(text: &str) -> Option<(u8, u16)>
 {
     match split_field(text) {
         Some((node, pid)) => node_of(node).zip(pid_of(pid)),
-        None => None,
-    }
-}
-
-/// The shape that `cluster nodes N files F policy P` names, if the line is that and such a cluster is
-/// served.
-pub(crate) fn shape_of(line: &str) -> Option<Shape>
-    ensures { Reads shape_text IsShape line.now result }
-{
-    if let Some(counts) = after(line, "cluster nodes ") {
-        return match shape_operands(counts) {
-            Some((nodes, (files, policy))) => Shape::new(nodes, files, policy).ok(),
-            None => None,
-        };
-    }
-    None
-}
-
-// `N files F policy P`.
-fn shape_operands(text: &str) -> Option<(u8, (u16, Policy))>
-    ensures { Reads (pair_text decimal (after_text (codes "files ") (pair_text decimal (after_text (codes "policy ") policy_text))))
-        (Both (IsNumber most_nodes) (Both (IsNumber most_files) (λ _. ⊤))) text.now result }
-{
-    match split_field(text) {
-        Some((nodes, rest)) => node_of(nodes).zip(files_and_policy(rest)),
-        None => None,
-    }
-}
-
-// `files F policy P`.
-fn files_and_policy(text: &str) -> Option<(u16, Policy)>
-    ensures { Reads (after_text (codes "files ") (pair_text decimal (after_text (codes "policy ") policy_text))) (Both (IsNumber most_files) (λ _. ⊤)) text.now result }
-{
-    match after(text, "files ") {
-        Some(rest) => file_and_policy(rest),
-        None => None,
-    }
-}
-
-// `F policy P`.
-fn file_and_policy(text: &str) -> Option<(u16, Policy)>
-    ensures { Reads (pair_text decimal (after_text (codes "policy ") policy_text)) (Both (IsNumber most_files) (λ _. ⊤)) text.now result }
-{
-    match split_field(text) {
-        Some((files, rest)) => file_of(files).zip(named_policy(rest)),
-        None => None,
-    }
-}
-
-// `policy P`.
-fn named_policy(text: &str) -> Option<Policy>
-    ensures { Reads (after_text (codes "policy ") policy_text) (λ _. ⊤) text.now result }
-{
-    match after(text, "policy ") {
-        Some(word) => policy_of(word),
         None => None,
     }
 }

@@ -1,6 +1,7 @@
 //! Scripts of lock calls, and the listing of what a run of them gave.
 #![tactic(auto)]
 
+mod cluster_line;
 mod columns;
 mod commands;
 pub mod error;

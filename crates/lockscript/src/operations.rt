@@ -1,14 +1,15 @@
 //! Operations in scripts.
-ghost use Rattle.std.specs.Prelude.{◌++◌, codes, decimal, FitsSigned, ⊤};
+ghost use Rattle.std.specs.Prelude.{◌∷◌, ◌++◌, codes, decimal, FitsSigned, ⊤};
 ghost use Rattle.std.specs.Fmt.{signed_decimal};
 ghost use Rattle.std.specs.Int.{w64};
 ghost use Rattle.model.specs.Limits.{IsNumber};
 ghost use Rattle.messages.specs.Shapes.{most_files};
-ghost use Rattle.lockscript.specs.Reads.{Both, Reads, pair_text};
+ghost use Rattle.lockscript.specs.Layout.{space};
+ghost use Rattle.lockscript.specs.Reads.{Both, IsOneField, Lacks, Reads, pair_text};
 ghost use Rattle.lockscript.specs.Served.{AreOffsets, IsAskedLock, IsDescriptor, IsServedAccess, IsServedKind, IsServedOp};
 ghost use Rattle.lockscript.specs.Texts.{access_text, asked_lock_text, kind_text, mode_text, op_text, segment_text};
 
-use crate::fields::{after, descriptor_of, file_of, split_field};
+use crate::fields::{descriptor_of, file_of, split_field};
 use crate::number::offset_of;
 use crate::words::{access_of, kind_of, mode_of};
 use model::access::Access;
@@ -21,22 +22,35 @@ use model::owner::Kind;
 pub(crate) fn op_of(text: &str) -> Option<Op>
     ensures { Reads op_text IsServedOp text.now result }
 {
-    if text == "spawn" {
-        return Some(Op::Spawn);
+    match split_field(text) {
+        Some((word, operands)) => op_with(word, operands),
+        None => op_alone(text),
     }
-    if let Some(operands) = after(text, "open ") {
-        return open_of(operands);
+}
+
+// The operation of this word, with these operands.
+fn op_with(word: &str, operands: &str) -> Option<Op>
+    requires { Lacks space word.now }
+    ensures { Reads op_text IsServedOp (word.now ++ space ∷ operands.now) result }
+{
+    match word {
+        "open" => open_of(operands),
+        "set" => set_of(operands),
+        "unlock" => unlock_of(operands),
+        "query" => query_of(operands),
+        _ => None,
     }
-    if let Some(operands) = after(text, "set ") {
-        return set_of(operands);
+}
+
+// The operation of this word, with no operands.
+fn op_alone(word: &str) -> Option<Op>
+    requires { IsOneField word.now }
+    ensures { Reads op_text IsServedOp word.now result }
+{
+    match word {
+        "spawn" => Some(Op::Spawn),
+        _ => None,
     }
-    if let Some(operands) = after(text, "unlock ") {
-        return unlock_of(operands);
-    }
-    if let Some(operands) = after(text, "query ") {
-        return query_of(operands);
-    }
-    None
 }
 
 // `open` with these operands.

@@ -3,7 +3,8 @@ ghost use Rattle.std.specs.Prelude.{◌≡◌, ◌≤◌, IfErr, IfOk};
 ghost use Rattle.lockscript.specs.declared.error.ParseError.TheVariants.{BadLine};
 ghost use Rattle.lockscript.specs.Scripts.{IsLine, IsNoLine, IsRefused, IsScript, line_text};
 
-use crate::commands::{command_of, shape_of};
+use crate::cluster_line::shape_of;
+use crate::commands::command_of;
 use crate::error::ParseError;
 use crate::lines::{Lines, NumberedLine};
 use crate::script_line::ScriptLine;

@@ -6,7 +6,7 @@ use Rattle.messages.specs.Shapes.{most_files}
 use Rattle.model.specs.Limits.{IsNumber, most_nodes}
 use Rattle.lockscript.proofs.Pairs.{reads-pair, reads-pair_none}
 use Rattle.lockscript.proofs.SingleWords.{node_words}
-use Rattle.lockscript.proofs.commands.shape_operands.Goals as goal
+use Rattle.lockscript.proofs.cluster_line.shape_operands.Goals as goal
 
 pub returns-in-None : goal.returns-in-None
 returns-in-None c = reads-pair_none decimal (after_text (codes "files ") (pair_text decimal (after_text (codes "policy ") policy_text))) (IsNumber most_nodes) (Both (IsNumber most_files) (λ _. ⊤)) c.args.text.now node_words c.in-None.ensures

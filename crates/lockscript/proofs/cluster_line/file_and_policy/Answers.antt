@@ -6,7 +6,7 @@ use Rattle.messages.specs.Shapes.{most_files}
 use Rattle.model.specs.Limits.{IsNumber}
 use Rattle.lockscript.proofs.Pairs.{reads-pair, reads-pair_none}
 use Rattle.lockscript.proofs.SingleWords.{file_words}
-use Rattle.lockscript.proofs.commands.file_and_policy.Goals as goal
+use Rattle.lockscript.proofs.cluster_line.file_and_policy.Goals as goal
 
 pub returns-in-None : goal.returns-in-None
 returns-in-None c = reads-pair_none decimal (after_text (codes "policy ") policy_text) (IsNumber most_files) (λ _. ⊤) c.args.text.now file_words c.in-None.ensures

@@ -1,6 +1,6 @@
 use Rattle.lockscript.specs.Scripts.{counts_text}
-use Rattle.lockscript.proofs.NoCommand.{no_cluster, shape-made}
-use Rattle.lockscript.proofs.commands.shape_of.Goals as goal
+use Rattle.lockscript.proofs.Clusters.{no_cluster, shape-made}
+use Rattle.lockscript.proofs.cluster_line.shape_of.Goals as goal
 
 pub returns-in-Some-shape_operands : goal.returns-in-Some-shape_operands
 returns-in-Some-shape_operands c =

@@ -1,0 +1,51 @@
+-- The `cluster` line.
+use Rattle.std.proofs.Common.{◌≡◌, ℕ, List, ◌++◌, Some, None, Result, Ok, Err, refl, sym, ◌∙◌, ap, arith, codes, decimal}
+use Rattle.std.specs.Prelude.{⊤, IfOk, IsOk, ◌↔◌}
+use Rattle.std.specs.Result.{result_ok}
+use Rattle.std.proofs.lemmas.Bool.{false≢true}
+use Rattle.model.specs.Limits.{IsNumber, most_nodes}
+use Rattle.model.specs.declared.policy.Policy.{Policy}
+use Rattle.messages.specs.Shapes.{IsShape, IsServed, ShapeFields, most_files}
+use Rattle.lockscript.specs.Reads.{Reads, Both, after_text, pair_text}
+use Rattle.lockscript.specs.Scripts.{counts_text, shape_text}
+use Rattle.lockscript.specs.Texts.{policy_text}
+use Rattle.lockscript.proofs.FieldValues.{apart-number, apart-policy}
+use Rattle.lockscript.proofs.Pairs.{AreApart, apart-after, apart-pair, cancel-front}
+use Rattle.lockscript.proofs.SingleWords.{file_words, node_words}
+
+abbrev pub IsCounts : ℕ × (ℕ × Policy) → Type 0
+IsCounts = Both (IsNumber most_nodes) (Both (IsNumber most_files) (λ _. ⊤))
+
+apart-counts : AreApart counts_text IsCounts
+apart-counts = apart-pair decimal (after_text (codes "files ") (pair_text decimal (after_text (codes "policy ") policy_text))) (IsNumber most_nodes) (Both (IsNumber most_files) (λ _. ⊤))
+    node_words (apart-number most_nodes (omega arith))
+    (apart-after (codes "files ") (pair_text decimal (after_text (codes "policy ") policy_text)) (Both (IsNumber most_files) (λ _. ⊤))
+    (apart-pair decimal (after_text (codes "policy ") policy_text) (IsNumber most_files) (λ _. ⊤) file_words (apart-number most_files (omega arith))
+    (apart-after (codes "policy ") policy_text (λ _. ⊤) apart-policy)))
+
+abbrev counts_of : ShapeFields → ℕ × (ℕ × Policy)
+counts_of s = (s.nodes, (s.files, s.policy))
+
+abbrev shape_with : ℕ × (ℕ × Policy) → ShapeFields
+shape_with c = record { nodes = c.0; files = c.1.0; policy = c.1.1 }
+
+counts-fit : (s : ShapeFields) → IsShape s → IsCounts (counts_of s)
+counts-fit s fits = ((fits.nodes_in.0, omega (arith, fits.nodes_in.1)), (fits.files_in, tt))
+
+-- no line names two clusters
+pub apart-shape : AreApart shape_text IsShape
+apart-shape s t s_in t_in e =
+    ap shape_with (apart-counts (counts_of s) (counts_of t) (counts-fit s s_in) (counts-fit t t_in) (cancel-front (codes "cluster nodes ") _ _ e))
+
+pub no_cluster : (line rest : List ℕ) → line ≡ codes "cluster nodes " ++ rest → Reads counts_text IsCounts rest None → Reads shape_text IsShape line None
+no_cluster line rest parts none s fits e = none (counts_of s) (counts-fit s fits) (cancel-front (codes "cluster nodes ") rest _ (sym parts ∙ e))
+
+-- the shape that is made of the counts, if it is served
+pub shape-made : {E : Type 0} (line rest : List ℕ) (nodes files : ℕ) (policy : Policy) (made : Result ShapeFields E) → line ≡ codes "cluster nodes " ++ rest → Reads counts_text IsCounts rest (Some (nodes, (files, policy)))
+    → IfOk made (λ shape. shape ≡ shape_with (nodes, (files, policy))) → IsOk made ↔ IsServed nodes files → Reads shape_text IsShape line (result_ok made)
+shape-made line rest nodes files policy (Ok shape) parts counts same served =
+    let within = served.0 refl in
+    rw same (record { nodes_in = within.0; files_in = within.1 }, parts ∙ ap (λ (r : List ℕ). codes "cluster nodes " ++ r) counts.1)
+shape-made line rest nodes files policy (Err error) parts counts same served = λ s fits e.
+    let one = apart-counts (nodes, (files, policy)) (counts_of s) counts.0 (counts-fit s fits) (sym counts.1 ∙ cancel-front (codes "cluster nodes ") rest _ (sym parts ∙ e)) in
+    false≢true (served.1 (rw (ap (λ (c : ℕ × (ℕ × Policy)). c.0) one, ap (λ (c : ℕ × (ℕ × Policy)). c.1.0) one) (fits.nodes_in, fits.files_in)))

@@ -1,0 +1,56 @@
+-- Values of one field or a few.
+use Rattle.std.proofs.Common.{◌≡◌, ℕ, ◌<◌, ◌^◌, refl, sym, ◌∙◌, arith, rules, codes, decimal, FitsSigned, w64}
+use Rattle.std.specs.Prelude.{⊤}
+use Rattle.std.specs.Fmt.{signed_decimal}
+use Rattle.std.proofs.lemmas.Fmt.{decimal_injective, signed_decimal_injective}
+use Rattle.model.specs.Limits.{IsNumber}
+use Rattle.model.specs.declared.mode.Mode.TheVariants.{Read, Write}
+use Rattle.model.specs.declared.policy.Policy.TheVariants.{Wide, Exact}
+use Rattle.messages.specs.Shapes.{most_files}
+use Rattle.lockscript.specs.Reads.{Both, pair_text}
+use Rattle.lockscript.specs.Served.{AreOffsets, IsAskedLock, IsDescriptor, IsServedAccess, IsServedKind}
+use Rattle.lockscript.specs.Texts.{access_text, asked_lock_text, kind_text, mode_text, policy_text, segment_text}
+use Rattle.lockscript.proofs.Pairs.{AreApart, apart-pair, heads}
+use Rattle.lockscript.proofs.SingleWords.{fd_words, file_words, kind_words, mode_words, offset_words}
+
+pub apart-number : (most : ℕ) → most < 2 ^ 64 → AreApart decimal (IsNumber most)
+apart-number most small m n m_in n_in e = decimal_injective m n (omega (arith, m_in.1, small)) (omega (arith, n_in.1, small)) e
+
+apart-fd : AreApart decimal IsDescriptor
+apart-fd m n m_in n_in e = decimal_injective m n (omega (arith, m_in)) (omega (arith, n_in)) e
+
+apart-offset : AreApart signed_decimal (FitsSigned w64)
+apart-offset y z y_fits z_fits e = signed_decimal_injective y z (search rules) (search rules) e
+
+pub apart-policy : AreApart policy_text (λ _. ⊤)
+apart-policy Wide Wide _ _ e = refl
+apart-policy Wide Exact _ _ e = absurd (omega (arith, heads 119 101 _ _ e))
+apart-policy Exact Wide _ _ e = absurd (omega (arith, heads 101 119 _ _ e))
+apart-policy Exact Exact _ _ e = refl
+
+apart-mode : AreApart mode_text (λ _. ⊤)
+apart-mode Read Read _ _ e = refl
+apart-mode Read Write _ _ e = absurd (omega (arith, heads 114 119 _ _ e))
+apart-mode Write Read _ _ e = absurd (omega (arith, heads 119 114 _ _ e))
+apart-mode Write Write _ _ e = refl
+
+apart-kind : AreApart kind_text IsServedKind
+apart-kind x y x_served y_served e = x_served ∙ sym y_served
+
+apart-access : AreApart access_text IsServedAccess
+apart-access x y x_served y_served e = x_served ∙ sym y_served
+
+apart-segment : AreApart segment_text AreOffsets
+apart-segment = apart-pair signed_decimal signed_decimal (FitsSigned w64) (FitsSigned w64) offset_words apart-offset apart-offset
+
+pub apart-open : AreApart (pair_text decimal access_text) (Both (IsNumber most_files) IsServedAccess)
+apart-open = apart-pair decimal access_text (IsNumber most_files) IsServedAccess file_words (apart-number most_files (omega arith)) apart-access
+
+pub apart-unlock : AreApart (pair_text decimal (pair_text kind_text segment_text)) (Both IsDescriptor (Both IsServedKind AreOffsets))
+apart-unlock = apart-pair decimal (pair_text kind_text segment_text) IsDescriptor (Both IsServedKind AreOffsets) fd_words apart-fd
+    (apart-pair kind_text segment_text IsServedKind AreOffsets kind_words apart-kind apart-segment)
+
+pub apart-asked_lock : AreApart asked_lock_text IsAskedLock
+apart-asked_lock = apart-pair decimal (pair_text kind_text (pair_text mode_text segment_text)) IsDescriptor (Both IsServedKind (Both (λ _. ⊤) AreOffsets)) fd_words apart-fd
+    (apart-pair kind_text (pair_text mode_text segment_text) IsServedKind (Both (λ _. ⊤) AreOffsets) kind_words apart-kind
+    (apart-pair mode_text segment_text (λ _. ⊤) AreOffsets mode_words apart-mode apart-segment))
