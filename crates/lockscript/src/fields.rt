@@ -8,15 +8,8 @@ ghost use Rattle.lockscript.specs.Scripts.{greatest_message};
 ghost use Rattle.lockscript.specs.Served.{IsDescriptor};
 
 use crate::number::number_of;
-
-/// How many nodes a cluster may have.
-const MOST_NODES: u64 = 64;
-
-/// How many files a cluster may have.
-const MOST_FILES: u64 = 256;
-
-/// How many processes a node may have.
-const MOST_PROCESSES: u64 = 256;
+use messages::shape::MOST_FILES;
+use model::limits::{MOST_NODES, MOST_PROCESSES};
 
 /// The greatest number of a message.
 const GREATEST_MESSAGE: u64 = 4_294_967_295;
@@ -44,7 +37,7 @@ pub(crate) fn after<'a>(text: &'a str, front: &str) -> Option<&'a str>
 pub(crate) fn node_of(word: &str) -> Option<u8>
     ensures { Reads decimal (IsNumber most_nodes) word.now result }
 {
-    match number_of(word, 1, MOST_NODES) {
+    match number_of(word, 1, MOST_NODES as u64) {
         Some(number) => Some(number as u8),
         None => None,
     }
@@ -54,7 +47,7 @@ pub(crate) fn node_of(word: &str) -> Option<u8>
 pub(crate) fn file_of(word: &str) -> Option<u16>
     ensures { Reads decimal (IsNumber most_files) word.now result }
 {
-    match number_of(word, 1, MOST_FILES) {
+    match number_of(word, 1, MOST_FILES as u64) {
         Some(number) => Some(number as u16),
         None => None,
     }
@@ -64,7 +57,7 @@ pub(crate) fn file_of(word: &str) -> Option<u16>
 pub(crate) fn pid_of(word: &str) -> Option<u16>
     ensures { Reads decimal (IsNumber most_processes) word.now result }
 {
-    match number_of(word, 1, MOST_PROCESSES) {
+    match number_of(word, 1, MOST_PROCESSES as u64) {
         Some(number) => Some(number as u16),
         None => None,
     }
