@@ -1,9 +1,10 @@
 -- A node's parts and its state.
-use Rattle.std.specs.Prelude.{◌≡◌, ℕ, ◌+◌, ◌-◌, ◌<◌, ◌≤◌, ◌&&◌, ◌==◌, Bool, true, false, nat_lt, if◌then◌else◌, List, [], ◌∷◌, Option, Some, None, Result, Ok, Err, All, Contains, IfOk, IfErr, IfSome, MatchOption, MatchResult, find, filter, length, refl}
-use Rattle.std.proofs.Common.{arith, ap, sym, subst, ◌∙◌}
+use Rattle.std.specs.Prelude.{◌≡◌, ℕ, ◌+◌, ◌-◌, ◌<◌, ◌≤◌, ◌&&◌, ◌==◌, Bool, true, false, nat_lt, if◌then◌else◌, List, [], ◌∷◌, ◌++◌, Option, Some, None, Result, Ok, Err, All, Contains, IfOk, IfErr, IfSome, MatchOption, MatchResult, find, filter, length, refl}
+use Rattle.std.specs.List.{length_refill}
+use Rattle.std.proofs.Common.{arith, ap, sym, subst, ◌∙◌, take, drop}
 use Rattle.std.proofs.lemmas.Bool.{and_parts, and_from, eq-eqb, le-leb, lt-leb}
 use Rattle.std.proofs.lemmas.Bool.Decides.{nat_tests}
-use Rattle.std.proofs.lemmas.List.Elements.{All-head, All-tail, All-filter}
+use Rattle.std.proofs.lemmas.List.Elements.{All-head, All-tail, All-filter, All-push}
 use Rattle.intervals.specs.declared.span.SpanError.{SpanError}
 use Rattle.intervals.specs.declared.span.SpanError.TheVariants.{Invalid}
 use Rattle.intervals.specs.Bytes.{Range, greatest, whole, put, is_in}
@@ -106,6 +107,21 @@ find-own P test (c ∷ calls) all =
 
 pub node-calls : (p : NodeParts) (test : OpenCall → Bool) → IsNode p → IsNode (record p { pending = filter test p.pending })
 node-calls p test h = record { host = h.host; own = h.own; files_in = h.files_in; opened_in = h.opened_in; calls_in = All-filter test (IsOwnCall p.shape.files p.node p.incarnation) p.pending h.calls_in; numbered = All-filter test (λ c. c.number ≤ p.calls) p.pending h.numbered }
+
+-- what stays where the files are written over, as behind a borrow
+pub node-files : (p : NodeParts) (n : ℕ) (files : List FileRow) → n ≡ length p.files → IsNode p → IsNode (record p { files = take n (files ++ drop (length files) p.files) })
+node-files p n files e h = record { host = h.host; own = h.own; files_in = sym (length_refill n p.files files e) ∙ e ∙ h.files_in; opened_in = h.opened_in; calls_in = h.calls_in; numbered = h.numbered }
+
+-- what stays where a call comes last
+pub node-push : (p : NodeParts) (call : OpenCall) → IsOwnCall p.shape.files p.node p.incarnation call → call.number ≤ p.calls → IsNode p → IsNode (record p { pending = p.pending ++ call ∷ [] })
+node-push p call own given h = record {
+  host = h.host;
+  own = h.own;
+  files_in = h.files_in;
+  opened_in = h.opened_in;
+  calls_in = All-push (IsOwnCall p.shape.files p.node p.incarnation) p.pending call h.calls_in own;
+  numbered = All-push (λ c. c.number ≤ p.calls) p.pending call h.numbered given;
+}
 
 -- the owners that a node can have
 pub own_place : (node incarnation : ℕ) (o : Owner) → IsOwn node incarnation o → (k : ℕ) × (k < most_owners) × (o ≡ owner_at node incarnation k)

@@ -20,6 +20,17 @@ pub struct Command {
 }
 
 impl Command {
+    pub(crate) fn new(file: u16, number: u32, call: CallId, mode: Mode) -> Command
+        ensures { result ≡ record { file = file; number = number; call = call; mode = mode } }
+    {
+        Command {
+            file,
+            number,
+            call,
+            mode,
+        }
+    }
+
     /// The answer to it as a grant.
     pub fn taken(&self) -> Message
         ensures { result ≡ Taken self.now.file self.now.number self.now.call }

@@ -30,7 +30,11 @@ pub struct FileRow {
 fn same_answers(one: &Option<Message>, other: &Option<Message>) -> bool
     ensures { IsTrue result ↔ (one.now ≡ other.now) }
 {
-    one == other
+    match (one, other) {
+        (Some(answer), Some(next)) => answer.same(next),
+        (None, None) => true,
+        _ => false,
+    }
 }
 
 // Whether a lock was named as in the way.

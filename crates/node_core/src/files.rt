@@ -65,8 +65,7 @@ pub fn take_grant(files: &mut [FileRow], command: &Command, span: Span) -> Resul
     ensures { OnOk result (file_state files.new ≡ with_state (file_state files.old) command.now.file (granted_file (file_state files.old command.now.file) command.now span)) }
 {
     let row = &mut files[command.file as usize - 1];
-    row.take(command, span)?;
-    Ok(())
+    row.take(command, span)
 }
 
 /// The revoke is done at its file, by the holder's locks of the file.
@@ -82,8 +81,7 @@ pub fn take_revoke(
     ensures state { IfOk result (λ gives. file_state files.new ≡ with_state (file_state files.old) command.now.file (revoked_file (file_state files.old command.now.file) command.now holder gives)) }
 {
     let row = &mut files[command.file as usize - 1];
-    let gives = row.revoke(command, holder, wanted, locks)?;
-    Ok(gives)
+    row.revoke(command, holder, wanted, locks)
 }
 
 /// The file is asked no longer.

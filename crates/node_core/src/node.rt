@@ -200,6 +200,18 @@ impl Node {
         }
     }
 
+    // What the event does to this node, and what that gives.
+    fn take_event(&mut self, alloc: Global, event: &NodeEvent) -> Result<Outcome, StepError>
+        ensures ok { IfOk result (λ outcome. node_rule (node_state self.old) event.now ≡ Ok (node_state self.new, outcome)) }
+        ensures err { IfErr result (λ error. error ≢ StepError.NoMemory → node_rule (node_state self.old) event.now ≡ Err error) }
+    {
+        match event {
+            NodeEvent::Call { pid, op } => self.take_call(alloc, *pid, op),
+            NodeEvent::Deliver(message) => self.take_message(alloc, message),
+            NodeEvent::Retry { pid } => self.retry(alloc, *pid),
+        }
+    }
+
     /// What the node does at an event, and what that gives. The node itself stays as it is.
     ///
     /// # Errors
@@ -211,11 +223,7 @@ impl Node {
         ensures err { IfErr result (λ error. error ≢ StepError.NoMemory → node_rule (node_state self.now) event.now ≡ Err error) }
     {
         let mut next = self.copy(alloc)?;
-        let outcome = match event {
-            NodeEvent::Call { pid, op } => next.take_call(alloc, *pid, op)?,
-            NodeEvent::Deliver(message) => next.take_message(alloc, message)?,
-            NodeEvent::Retry { pid } => next.retry(alloc, *pid)?,
-        };
+        let outcome = next.take_event(alloc, event)?;
         Ok((next, outcome))
     }
 

@@ -78,16 +78,16 @@ impl Client {
         ensures dead { self.new.dead ≡ self.old.dead }
         ensures err { OnErr result (self.new ≡ self.old) }
     {
-        if let Some(row) = &mut self.row {
-            row.release(span, mode)?;
+        match &mut self.row {
+            Some(row) => row.release(span, mode),
+            None => Ok(()),
         }
-        Ok(())
     }
 
     /// The next command to it, which leaves its token as it is.
-    pub fn tell(&mut self, command: Message)
+    pub fn tell(&mut self, command: &Message)
         requires { IfSome (row_seen self.old.row) (λ row. row.number < greatest_number) }
-        ensures row { row_seen self.new.row ≡ option_map (told command) (row_seen self.old.row) }
+        ensures row { row_seen self.new.row ≡ option_map (told command.now) (row_seen self.old.row) }
         ensures dead { self.new.dead ≡ self.old.dead }
     {
         if let Some(row) = &mut self.row {
@@ -109,16 +109,16 @@ impl Client {
     ///
     /// # Errors
     /// `NoMemory` where a request for memory was refused; all stays as it was.
-    pub fn give(&mut self, span: Span, mode: Mode, command: Message) -> Result<(), NoMemory>
+    pub fn give(&mut self, span: Span, mode: Mode, command: &Message) -> Result<(), NoMemory>
         requires { IfSome (row_seen self.old.row) (λ row. row.number < greatest_number) }
-        ensures row { OnOk result (row_seen self.new.row ≡ option_map (given span mode command) (row_seen self.old.row)) }
+        ensures row { OnOk result (row_seen self.new.row ≡ option_map (given span mode command.now) (row_seen self.old.row)) }
         ensures dead { self.new.dead ≡ self.old.dead }
         ensures err { OnErr result (self.new ≡ self.old) }
     {
-        if let Some(row) = &mut self.row {
-            row.give(span, mode, command)?;
+        match &mut self.row {
+            Some(row) => row.give(span, mode, command),
+            None => Ok(()),
         }
-        Ok(())
     }
 
     /// An equal client.

@@ -209,10 +209,10 @@ impl Clients {
     }
 
     /// The next command to the node, which leaves its token as it is.
-    pub fn tell(&mut self, node: u8, command: Message)
+    pub fn tell(&mut self, node: u8, command: &Message)
         requires node_in { IsNumber (length self.old) node }
         requires room { IfSome (rows_of self.old node) (λ row. row.number < greatest_number) }
-        ensures rows { rows_of self.new ≡ with_change node (option_map (told command)) (rows_of self.old) }
+        ensures rows { rows_of self.new ≡ with_change node (option_map (told command.now)) (rows_of self.old) }
         ensures deaths { deaths_of self.new ≡ deaths_of self.old }
         ensures len { length self.new ≡ length self.old }
     {
@@ -228,11 +228,11 @@ impl Clients {
         node: u8,
         span: Span,
         mode: Mode,
-        command: Message,
+        command: &Message,
     ) -> Result<(), NoMemory>
         requires node_in { IsNumber (length self.old) node }
         requires room { IfSome (rows_of self.old node) (λ row. row.number < greatest_number) }
-        ensures rows { OnOk result (rows_of self.new ≡ with_change node (option_map (given span mode command)) (rows_of self.old)) }
+        ensures rows { OnOk result (rows_of self.new ≡ with_change node (option_map (given span mode command.now)) (rows_of self.old)) }
         ensures deaths { OnOk result (deaths_of self.new ≡ deaths_of self.old) }
         ensures len { OnOk result (length self.new ≡ length self.old) }
         ensures err { OnErr result (self.new ≡ self.old) }

@@ -102,21 +102,21 @@ impl Row {
     }
 
     /// The next command, which leaves the token as it is.
-    pub fn tell(&mut self, command: Message)
+    pub fn tell(&mut self, command: &Message)
         requires { self.old.number < greatest_number }
-        ensures { row_state self.new ≡ told command (row_state self.old) }
+        ensures { row_state self.new ≡ told command.now (row_state self.old) }
     {
         self.number += 1;
-        self.outstanding = Some(command);
+        self.outstanding = Some(*command);
     }
 
     /// The next command, which gives the node the span in the mode.
     ///
     /// # Errors
     /// `NoMemory` where a request for memory was refused; the row stays as it was.
-    pub fn give(&mut self, span: Span, mode: Mode, command: Message) -> Result<(), NoMemory>
+    pub fn give(&mut self, span: Span, mode: Mode, command: &Message) -> Result<(), NoMemory>
         requires { self.old.number < greatest_number }
-        ensures ok { OnOk result (row_state self.new ≡ given span mode command (row_state self.old)) }
+        ensures ok { OnOk result (row_state self.new ≡ given span mode command.now (row_state self.old)) }
         ensures err { OnErr result (self.new ≡ self.old) }
     {
         self.token.grant(span, mode)?;

@@ -135,8 +135,7 @@ impl Server {
         if self.holds(request.call) {
             return Ok(());
         }
-        self.queue.push(request)?;
-        Ok(())
+        self.queue.push(request)
     }
 
     // Takes a request: older incarnations of its node are dead, and there is a row from now on.
@@ -288,7 +287,7 @@ impl Server {
     {
         let sends = Items::one(alloc, *command)?;
         self.clients
-            .give(request.call.node, span, request.mode, *command)?;
+            .give(request.call.node, span, request.mode, command)?;
         Ok(sends)
     }
 
@@ -328,7 +327,7 @@ impl Server {
         ensures sends { IfOk result (λ sends. sends ≡ command.now ∷ []) }
     {
         let sends = Items::one(alloc, *command)?;
-        self.clients.tell(node, *command);
+        self.clients.tell(node, command);
         Ok(sends)
     }
 
@@ -476,6 +475,17 @@ impl Server {
         self.serve_after(alloc, commands)
     }
 
+    // What the event does to this server, and what it sends.
+    fn take_event(&mut self, alloc: Global, event: &ServerEvent) -> Result<Outcome, StepError>
+        ensures ok { IfOk result (λ outcome. server_rule (server_state self.old) event.now ≡ Ok (server_state self.new, outcome)) }
+        ensures err { IfErr result (λ e. e ≢ StepError.NoMemory → server_rule (server_state self.old) event.now ≡ Err e) }
+    {
+        match event {
+            ServerEvent::Deliver(message) => self.take(alloc, message),
+            ServerEvent::Resend => self.resend(alloc),
+        }
+    }
+
     /// What the server does at an event: the server after it, and what it sends. Requests are served one
     /// after the other, in the order in which they came. One is granted the largest span around the bytes
     /// that it needs, within those that it would like to have, that no other node's token stands in the
@@ -493,10 +503,7 @@ impl Server {
         ensures err { IfErr result (λ e. e ≢ StepError.NoMemory → server_rule (server_state self.now) event.now ≡ Err e) }
     {
         let mut next = self.copy()?;
-        let outcome = match event {
-            ServerEvent::Deliver(message) => next.take(alloc, message)?,
-            ServerEvent::Resend => next.resend(alloc)?,
-        };
+        let outcome = next.take_event(alloc, event)?;
         Ok((next, outcome))
     }
 }

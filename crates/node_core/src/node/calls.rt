@@ -212,9 +212,9 @@ impl Node {
         requires file { is_in_shape (node_state self.old).shape op.now ≡ true }
         ensures { IfOk result (λ effect. called (node_state self.old) number pid op.now ≡ effect_of (node_state self.new) effect) }
     {
-        match op {
+        match *op {
             Op::Spawn => self.call_spawn(alloc, number, pid),
-            Op::Open { file, access } => self.call_open(alloc, number, pid, *file, *access),
+            Op::Open { file, access } => self.call_open(alloc, number, pid, file, access),
             Op::Set {
                 fd,
                 kind,
@@ -222,18 +222,15 @@ impl Node {
                 start,
                 len,
             } => {
-                let target = self.target(pid, Some(*mode), *fd, *kind, *start, *len);
-                self.lock_call(alloc, number, pid, Intent::Set, *mode, target)
+                let target = self.target(pid, Some(mode), fd, kind, start, len);
+                self.lock_call(alloc, number, pid, Intent::Set, mode, target)
             }
             Op::Unlock {
                 fd,
                 kind,
                 start,
                 len,
-            } => {
-                let target = self.target(pid, None, *fd, *kind, *start, *len);
-                self.unlock_call(alloc, number, target)
-            }
+            } => self.unlock_call(alloc, number, self.target(pid, None, fd, kind, start, len)),
             Op::Query {
                 fd,
                 kind,
@@ -241,8 +238,8 @@ impl Node {
                 start,
                 len,
             } => {
-                let target = self.target(pid, None, *fd, *kind, *start, *len);
-                self.lock_call(alloc, number, pid, Intent::Query, *mode, target)
+                let target = self.target(pid, None, fd, kind, start, len);
+                self.lock_call(alloc, number, pid, Intent::Query, mode, target)
             }
         }
     }

@@ -177,22 +177,14 @@ impl Node {
         requires { is_within (node_state self.old).shape.files (file_of message.now) ≡ true }
         ensures { IfOk result (λ effect. delivered (node_state self.old) message.now ≡ effect_of (node_state self.new) effect) }
     {
-        match message {
+        match *message {
             Message::Grant {
                 file,
                 number,
                 call,
                 mode,
                 span,
-            } => {
-                let command = Command {
-                    file: *file,
-                    number: *number,
-                    call: *call,
-                    mode: *mode,
-                };
-                self.grant_in_order(alloc, &command, *span)
-            }
+            } => self.grant_in_order(alloc, &Command::new(file, number, call, mode), span),
             Message::Revoke {
                 file,
                 number,
@@ -200,18 +192,10 @@ impl Node {
                 mode,
                 wanted,
                 ..
-            } => {
-                let command = Command {
-                    file: *file,
-                    number: *number,
-                    call: *call,
-                    mode: *mode,
-                };
-                self.revoke_in_order(alloc, &command, *wanted)
-            }
+            } => self.revoke_in_order(alloc, &Command::new(file, number, call, mode), wanted),
             Message::Deny { call, lock, .. } => {
                 let waiting = self.open_call(call.number);
-                Ok(self.deny(alloc, waiting, *lock))
+                Ok(self.deny(alloc, waiting, lock))
             }
             _ => Ok(Effect::quiet(alloc)),
         }

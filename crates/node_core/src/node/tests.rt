@@ -322,7 +322,7 @@ fn is_right(expected: &Move, outcome: &Outcome) -> bool {
 
 // The node in a box. A test keeps no other, since one is dropped in fewer steps, each of which the
 // check proves.
-fn boxed(alloc: Global, node: Node) -> Result<Box<Node>, StepError> {
+pub(super) fn boxed(alloc: Global, node: Node) -> Result<Box<Node>, StepError> {
     Ok(Box::new(alloc, node)?)
 }
 
@@ -364,6 +364,34 @@ fn first_wrong(
     Ok(None)
 }
 
+// Goes on from what each of the events gives.
+pub(super) fn goes_on(
+    alloc: Global,
+    node: &mut Box<Node>,
+    events: &[NodeEvent],
+) -> Result<(), StepError> {
+    for event in events {
+        let (next, _) = stepped(alloc, node, *event)?;
+        *node = next;
+    }
+    Ok(())
+}
+
+// A node whose process has file 1 open: it took two calls.
+fn opens(alloc: Global, policy: Policy, pid: u16) -> Result<Box<Node>, Fail> {
+    let mut node = begins(alloc, policy)?;
+    goes_on(alloc, &mut node, &[call(pid, Op::Spawn), call(pid, OPEN)])?;
+    Ok(node)
+}
+
+// A node whose process 1 has the hundred bytes locked, under a token for those: it took three calls,
+// and one command.
+fn locks(alloc: Global, policy: Policy, token: Span) -> Result<Box<Node>, Fail> {
+    let mut node = opens(alloc, policy, 1)?;
+    goes_on(alloc, &mut node, &[lock_hundred(1), grant(1, 3, token)])?;
+    Ok(node)
+}
+
 #[test]
 fn locks_the_bytes_that_it_was_granted(rt: HostRuntime) -> Result<(), Fail> {
     let alloc = rt.alloc();
@@ -382,20 +410,15 @@ fn locks_the_bytes_that_it_was_granted(rt: HostRuntime) -> Result<(), Fail> {
 #[test]
 fn does_each_command_once_and_in_order(rt: HostRuntime) -> Result<(), Fail> {
     let alloc = rt.alloc();
+    let asked = request(3, Wanted::new(HUNDRED, HUNDRED));
     let moves = [
-        answered(call(2, Op::Spawn), 1, Reply::Done),
-        answered(call(2, OPEN), 2, Reply::Fd(0)),
-        opened(
-            lock_hundred(2),
-            3,
-            request(3, Wanted::new(HUNDRED, HUNDRED)),
-        ),
+        opened(lock_hundred(2), 3, asked),
         quiet(grant(2, 3, HUNDRED), None),
         finished(grant(1, 3, HUNDRED), 3, taken(1, 3)),
         quiet(grant(1, 3, HUNDRED), Some(taken(1, 3))),
         quiet(grant(0, 3, HUNDRED), None),
     ];
-    let mut node = begins(alloc, Policy::Exact)?;
+    let mut node = opens(alloc, Policy::Exact, 2)?;
     assert_eq!(rt; first_wrong(alloc, &mut node, &moves)?, None);
     Ok(())
 }
@@ -405,14 +428,12 @@ fn a_retry_asks_again_with_its_own_number(rt: HostRuntime) -> Result<(), Fail> {
     let alloc = rt.alloc();
     let asked = request(3, Wanted::new(HUNDRED, HUNDRED));
     let moves = [
-        answered(call(1, Op::Spawn), 1, Reply::Done),
-        answered(call(1, OPEN), 2, Reply::Fd(0)),
         opened(lock_hundred(1), 3, asked),
         answered(call(2, Op::Spawn), 4, Reply::Done),
         quiet(NodeEvent::Retry { pid: 1 }, Some(asked)),
         quiet(NodeEvent::Retry { pid: 2 }, None),
     ];
-    let mut node = begins(alloc, Policy::Exact)?;
+    let mut node = opens(alloc, Policy::Exact, 1)?;
     assert_eq!(rt; first_wrong(alloc, &mut node, &moves)?, None);
     Ok(())
 }
@@ -422,22 +443,14 @@ fn a_query_names_a_lock_or_is_free_under_the_token(rt: HostRuntime) -> Result<()
     let alloc = rt.alloc();
     let ten = Span { lo: 200, hi: 209 };
     let moves = [
-        answered(call(1, Op::Spawn), 1, Reply::Done),
-        answered(call(1, OPEN), 2, Reply::Fd(0)),
-        answered(call(2, Op::Spawn), 3, Reply::Done),
-        answered(call(2, OPEN), 4, Reply::Fd(0)),
-        opened(
-            lock_hundred(1),
-            5,
-            request(5, Wanted::new(HUNDRED, HUNDRED)),
-        ),
-        finished(grant(1, 5, HUNDRED), 5, taken(1, 5)),
+        answered(call(2, Op::Spawn), 4, Reply::Done),
+        answered(call(2, OPEN), 5, Reply::Fd(0)),
         answered(query_ten(2, 50), 6, Reply::Blocked(lock_of(1, 1))),
         answered(query_ten(1, 50), 7, Reply::Free),
         opened(query_ten(2, 200), 8, request(8, Wanted::new(ten, ten))),
         denied(deny(8, lock_of(2, 1)), 8, Reply::Blocked(lock_of(2, 1))),
     ];
-    let mut node = begins(alloc, Policy::Exact)?;
+    let mut node = locks(alloc, Policy::Exact, HUNDRED)?;
     assert_eq!(rt; first_wrong(alloc, &mut node, &moves)?, None);
     Ok(())
 }
@@ -450,30 +463,23 @@ fn gives_up_what_no_lock_has(rt: HostRuntime) -> Result<(), Fail> {
         hi: GREATEST,
     };
     let ten = Span { lo: 200, hi: 209 };
-    let asked = request(
-        5,
-        Wanted::new(
-            ten,
-            Span {
-                lo: 200,
-                hi: GREATEST,
-            },
-        ),
+    let wanted = Wanted::new(
+        ten,
+        Span {
+            lo: 200,
+            hi: GREATEST,
+        },
     );
     let moves = [
-        answered(call(1, Op::Spawn), 1, Reply::Done),
-        answered(call(1, OPEN), 2, Reply::Fd(0)),
-        opened(lock_hundred(1), 3, request(3, Wanted::new(HUNDRED, WHOLE))),
-        finished(grant(1, 3, WHOLE), 3, taken(1, 3)),
         quiet(revoke(2, 2, ten), None),
         sends(revoke(2, 1, ten), released(2, above)),
         quiet(revoke(2, 1, ten), Some(released(2, above))),
         answered(unlock_middle(1), 4, Reply::Done),
-        opened(set_ten(1, Mode::Write, 200), 5, asked),
+        opened(set_ten(1, Mode::Write, 200), 5, request(5, wanted)),
         denied(deny(5, lock_of(2, 1)), 5, Reply::Again(lock_of(2, 1))),
         quiet(deny(5, lock_of(2, 1)), None),
     ];
-    let mut node = begins(alloc, Policy::Wide)?;
+    let mut node = locks(alloc, Policy::Wide, WHOLE)?;
     assert_eq!(rt; first_wrong(alloc, &mut node, &moves)?, None);
     Ok(())
 }
@@ -484,10 +490,6 @@ fn tells_once_that_locks_may_be_gone(rt: HostRuntime) -> Result<(), Fail> {
     let byte = Span { lo: 99, hi: 99 };
     let named = lock_of(1, 1);
     let moves = [
-        answered(call(1, Op::Spawn), 1, Reply::Done),
-        answered(call(1, OPEN), 2, Reply::Fd(0)),
-        opened(lock_hundred(1), 3, request(3, Wanted::new(HUNDRED, WHOLE))),
-        finished(grant(1, 3, WHOLE), 3, taken(1, 3)),
         sends(revoke(2, 1, byte), conflict(2, named)),
         answered(set_ten(1, Mode::Write, 200), 4, Reply::Done),
         freed(set_ten(1, Mode::Read, 200), 5),
@@ -495,7 +497,7 @@ fn tells_once_that_locks_may_be_gone(rt: HostRuntime) -> Result<(), Fail> {
         freed(unlock_middle(1), 6),
         answered(unlock_middle(1), 7, Reply::Done),
     ];
-    let mut node = begins(alloc, Policy::Wide)?;
+    let mut node = locks(alloc, Policy::Wide, WHOLE)?;
     assert_eq!(rt; first_wrong(alloc, &mut node, &moves)?, None);
     Ok(())
 }
@@ -508,17 +510,8 @@ fn refusal(node: &Node, alloc: Global, event: NodeEvent) -> Option<StepError> {
 #[test]
 fn refuses_a_second_call_of_a_process_that_waits(rt: HostRuntime) -> Result<(), Fail> {
     let alloc = rt.alloc();
-    let moves = [
-        answered(call(1, Op::Spawn), 1, Reply::Done),
-        answered(call(1, OPEN), 2, Reply::Fd(0)),
-        opened(
-            lock_hundred(1),
-            3,
-            request(3, Wanted::new(HUNDRED, HUNDRED)),
-        ),
-    ];
-    let mut node = begins(alloc, Policy::Exact)?;
-    assert_eq!(rt; first_wrong(alloc, &mut node, &moves)?, None);
+    let mut node = opens(alloc, Policy::Exact, 1)?;
+    goes_on(alloc, &mut node, &[lock_hundred(1)])?;
     let refused = refusal(&node, alloc, unlock_middle(1));
     assert_eq!(rt; refused, Some(StepError::Busy));
     Ok(())

@@ -1,5 +1,6 @@
 use super::*;
 use crate::event::NodeEvent;
+use crate::node::tests::{boxed, goes_on};
 use intervals::span::GREATEST;
 use intervals::span_map::NoMemory;
 use messages::message::Message;
@@ -38,22 +39,10 @@ fn grant() -> NodeEvent {
     })
 }
 
-// The node in a box, as a test keeps it.
-fn boxed(alloc: Global, node: Node) -> Result<Box<Node>, StepError> {
-    Ok(Box::new(alloc, node)?)
-}
-
 fn begins(alloc: Global) -> Result<Box<Node>, Fail> {
     let shape = Shape::new(1, 2, Policy::Wide)?;
     let node = Node::new(alloc, shape, 1, 7)?;
     Ok(boxed(alloc, node)?)
-}
-
-// Goes on from what the event gives.
-fn step(alloc: Global, node: &mut Box<Node>, event: NodeEvent) -> Result<(), StepError> {
-    let (next, _) = node.step(alloc, &event)?;
-    *node = boxed(alloc, next)?;
-    Ok(())
 }
 
 // A process opens file 2 and waits for a lock on 10 bytes.
@@ -69,10 +58,7 @@ fn wait(alloc: Global, node: &mut Box<Node>) -> Result<(), StepError> {
         start: 0,
         len: 10,
     };
-    for op in [Op::Spawn, open, set] {
-        step(alloc, node, call(op))?;
-    }
-    Ok(())
+    goes_on(alloc, node, &[call(Op::Spawn), call(open), call(set)])
 }
 
 // Whether the node has no token of the file.
@@ -123,7 +109,7 @@ fn a_node_lists_its_token_and_its_locks(rt: HostRuntime) -> Result<(), Fail> {
     let alloc = rt.alloc();
     let mut node = begins(alloc)?;
     wait(alloc, &mut node)?;
-    step(alloc, &mut node, grant())?;
+    goes_on(alloc, &mut node, &[grant()])?;
     assert!(rt; has_token(&node, alloc, 2, (WHOLE, Level::Exclusive))?);
     assert!(rt; has_no_token(&node, alloc, 1)?);
     assert!(rt; has_no_token(&node, alloc, 3)?);

@@ -13,7 +13,7 @@ give-requires c =
 
 pub returns-clause-rows : goal.returns-clause-rows
 returns-clause-rows c =
-    rw (← c.self.view_is) (on_ok_weaker c.give.result (λ row. rows_of-set _ c.args.node _ _ _ (option_map (given c.args.span c.args.mode c.args.command)) (rw c.self.view_is c.requires.node_in) (ap (λ n. n - 1) c.from.ensures) c.index_mut.ensures.value row) c.give.ensures.row)
+    rw (← c.self.view_is) (on_ok_weaker c.give.result (λ row. rows_of-set _ c.args.node _ _ _ (option_map (given c.args.span c.args.mode c.args.command.now)) (rw c.self.view_is c.requires.node_in) (ap (λ n. n - 1) c.from.ensures) c.index_mut.ensures.value row) c.give.ensures.row)
 
 pub returns-clause-deaths : goal.returns-clause-deaths
 returns-clause-deaths c =

@@ -12,7 +12,7 @@ tell-requires c =
 
 pub returns-clause-rows : goal.returns-clause-rows
 returns-clause-rows c =
-    rw (← c.self.view_is) (rows_of-set _ c.args.node _ _ _ (option_map (told c.args.command)) (rw c.self.view_is c.requires.node_in) (ap (λ n. n - 1) c.from.ensures) c.index_mut.ensures.value c.tell.ensures.row)
+    rw (← c.self.view_is) (rows_of-set _ c.args.node _ _ _ (option_map (told c.args.command.now)) (rw c.self.view_is c.requires.node_in) (ap (λ n. n - 1) c.from.ensures) c.index_mut.ensures.value c.tell.ensures.row)
 
 pub returns-clause-deaths : goal.returns-clause-deaths
 returns-clause-deaths c =
