@@ -8,7 +8,7 @@ use Rattle.messages.specs.declared.event.Event.TheVariants.{Call, Deliver, Retry
 use Rattle.messages.specs.declared.entry.Entry.{Entry}
 use Rattle.messages.specs.Messages.{same_call}
 use Rattle.cluster_core.specs.Histories.{IsCalledAt}
-use Rattle.cluster_core.specs.Placement.{is_named, called_by, find_call}
+use Rattle.cluster_core.proofs.Placement.{is_named, called_by, find_call}
 use Rattle.cluster_core.proofs.Entries.{IsNamed, called_at-keeps, called_at-last}
 
 pub call_is : (a b : CallId) → same_call a b ≡ true → a ≡ b

@@ -4,6 +4,7 @@ pub mod Numbered
 pub mod ServerSteps
 pub mod WorldSteps
 pub mod JournalRuns
+pub mod Placement
 pub mod Places
 pub mod Entries
 pub mod Fitting

@@ -46,7 +46,7 @@ use Rattle.cluster_core.specs.Safe.{IsSafe}
 use Rattle.cluster_core.proofs.Heard.{IsHeard}
 use Rattle.cluster_core.specs.Histories.{EntryAt, names_conflict, HasHistory, EachAtItsPlace}
 use Rattle.cluster_core.specs.Evidence.{IsTold, HasEvidence}
-use Rattle.cluster_core.specs.Placement.{slots_of, history_of}
+use Rattle.cluster_core.proofs.Placement.{slots_of, history_of}
 use Rattle.cluster_core.proofs.Entries.{none_named, none_called, none_replied}
 use Rattle.cluster_core.proofs.Targets.{ok_is, if_ok}
 use Rattle.cluster_core.proofs.ServerSteps.{IsSending, server_rule-sending}

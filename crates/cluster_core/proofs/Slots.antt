@@ -22,7 +22,7 @@ use Rattle.cluster_core.specs.Histories.{position_of, call_id, ItemStep, Legal, 
 use Rattle.cluster_core.specs.World.{WorldState, first_world}
 use Rattle.cluster_core.specs.Runs.{Leads}
 use Rattle.cluster_core.specs.Union.{union}
-use Rattle.cluster_core.specs.Placement.{Slots, slots_after, slots_from, slots_of, items_in}
+use Rattle.cluster_core.proofs.Placement.{Slots, slots_after, slots_from, slots_of, items_in}
 use Rattle.cluster_core.proofs.Places.{slice_get-keeps, slice_get-last, slice_get-push}
 use Rattle.cluster_core.proofs.Entries.{entry_at-keeps, entry_at-push, entry_at-within, called_at-keeps, replied_at-keeps, replied_at-push, none_replied}
 use Rattle.cluster_core.proofs.Unions.{union_first}

@@ -28,7 +28,7 @@ use Rattle.cluster_core.specs.Runs.{Leads}
 use Rattle.cluster_core.specs.Union.{union}
 use Rattle.cluster_core.specs.Histories.{caller, EntryAt, IsRepliedAt, IsCalledAt, OneCall, OneReply}
 use Rattle.cluster_core.specs.Evidence.{IsAbout, IsAsked, HasEvidence}
-use Rattle.cluster_core.specs.Placement.{slots_of}
+use Rattle.cluster_core.proofs.Placement.{slots_of}
 use Rattle.cluster_core.proofs.JournalRuns.{leads_push}
 use Rattle.cluster_core.proofs.Entries.{not_there, same_answer, IsNamed, Unanswered, entry_at-push, called_at-push, named-push, named_called, one_call-push, one_reply-push}
 use Rattle.cluster_core.proofs.Fitting.{Called}

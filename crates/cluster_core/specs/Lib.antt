@@ -6,7 +6,6 @@ pub mod Known
 pub mod Journals
 pub mod Union
 pub mod Histories
-pub mod Placement
 pub mod Evidence
 pub mod Listings
 pub mod Safe

@@ -12,7 +12,7 @@ use Rattle.messages.specs.declared.event.Event.TheVariants.{Call, Deliver, Retry
 use Rattle.messages.specs.declared.entry.Entry.{Entry}
 use Rattle.messages.specs.Messages.{same_call}
 use Rattle.token_server.proofs.RequestLaws.{eq-same_call, same_call-symm}
-use Rattle.cluster_core.specs.Placement.{is_named, called_by, find_call}
+use Rattle.cluster_core.proofs.Placement.{is_named, called_by, find_call}
 use Rattle.cluster_core.proofs.Fitting.{call_is}
 use Rattle.placement.specs.Indexes.{Calls, Indexes}
 
