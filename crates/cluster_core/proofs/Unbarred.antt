@@ -1,17 +1,12 @@
 -- What a node answers under its token, no lock of another node is in the way of.
-use Rattle.std.proofs.Common.{◌≡◌, ℕ, ◌≤◌, true, false, refl, sym, subst}
-use Rattle.model.specs.declared.mode.Mode.{Mode}
+use Rattle.std.proofs.Common.{◌≡◌, ℕ, true, sym, subst}
 use Rattle.model.specs.declared.op.Op.{Op}
-use Rattle.model.specs.declared.owner.Owner.{Owner}
 use Rattle.model.specs.declared.reply.Reply.{Reply}
-use Rattle.model.specs.Locks.{bars}
-use Rattle.model.specs.Table.{Target}
 use Rattle.node_core.specs.State.{NodeState, process}
 use Rattle.cluster_core.specs.World.{WorldState, has_node}
 use Rattle.cluster_core.specs.Safe.{Excludes, IsSafe}
-use Rattle.cluster_core.specs.Evidence.{IsAbout}
 use Rattle.cluster_core.proofs.Covering.{IsCovered, unbarred_apart}
-use Rattle.cluster_core.proofs.Tries.{IsUnhindered, IsServed}
+use Rattle.cluster_core.proofs.Tries.{IsServed}
 use Rattle.cluster_core.proofs.Lifting.{IsFreeElsewhere}
 
 -- after the step of a node the world is safe, and the other nodes are as they were
