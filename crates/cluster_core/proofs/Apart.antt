@@ -1,7 +1,6 @@
 -- The tokens of two nodes never conflict, after any run.
-use Rattle.std.specs.Prelude.{◌==◌, nat_le, nat_lt, not, is_some}
-use Rattle.std.proofs.Common.{◌≡◌, ℕ, ◌+◌, ◌≤◌, Bool, true, false, if◌then◌else◌, ◌&&◌, ◌⊎◌, inl, inr, refl, sym, ◌∙◌, ap, subst, arith, List, [], ◌∷◌, ◌++◌, Option, Some, None, Result, Ok, Err}
-use Rattle.std.proofs.lemmas.Bool.{and_parts, cases_eq, eqb-true}
+use Rattle.std.proofs.Common.{◌≡◌, ℕ, ◌+◌, ◌≤◌, true, if◌then◌else◌, ◌⊎◌, inl, inr, refl, sym, ◌∙◌, ap, subst, arith, List, [], ◌∷◌, ◌++◌, Option, Some, None, Result, Ok, Err}
+use Rattle.std.proofs.lemmas.Bool.{and_parts, cases_eq}
 use Rattle.std.specs.List.{range_with_len}
 use Rattle.std.proofs.lemmas.List.Elements.{All-nil}
 use Rattle.std.proofs.lemmas.Option.{none-some}
@@ -10,7 +9,7 @@ use Rattle.model.specs.declared.host.Host.{Host}
 use Rattle.model.specs.declared.op.Op.{Op}
 use Rattle.token_set.specs.Tokens.{Token, no_token}
 use Rattle.messages.specs.Shapes.{ShapeFields}
-use Rattle.messages.specs.Messages.{addressee, host_of, file_of, is_among, is_within, sending}
+use Rattle.messages.specs.Messages.{addressee, host_of, file_of, is_among, sending}
 use Rattle.messages.specs.declared.actor.Actor.{Actor}
 use Rattle.messages.specs.declared.actor.Actor.TheVariants.{Node as ANode, Server as AServer}
 use Rattle.messages.specs.declared.message.Message.{Message}
@@ -20,13 +19,12 @@ use Rattle.messages.specs.declared.event.Event.TheVariants.{Call, Deliver, Retry
 use Rattle.messages.specs.declared.entry.Entry.{Entry}
 use Rattle.messages.specs.declared.outcome.Outcome.{Outcome}
 use Rattle.messages.specs.declared.refusal.StepError.{StepError}
-use Rattle.messages.specs.declared.refusal.StepError.TheVariants as step
 use Rattle.node_core.specs.declared.event.NodeEvent.TheVariants as node
 use Rattle.node_core.specs.State.{FileState, NodeState, Effect, open_call, open_call_of, outcome, quiet}
 use Rattle.node_core.specs.declared.open_call.OpenCall.{OpenCall}
 use Rattle.node_core.specs.Try.{tried_if}
-use Rattle.node_core.specs.Calls.{is_pid, is_in_shape, after_call, called}
-use Rattle.node_core.specs.Commands.{delivered, deliver_rule, is_node}
+use Rattle.node_core.specs.Calls.{after_call, called}
+use Rattle.node_core.specs.Commands.{delivered, deliver_rule}
 use Rattle.node_core.specs.Node.{node_rule}
 use Rattle.token_server.specs.declared.event.ServerEvent.TheVariants as server
 use Rattle.token_server.specs.State.{ServerState}
@@ -38,14 +36,17 @@ use Rattle.cluster_core.specs.Next.{is_known, has_actor, recorded, with_node, wi
 use Rattle.cluster_core.specs.Runs.{Leads}
 use Rattle.cluster_core.specs.Safe.{Excludes, AreApart}
 use Rattle.cluster_core.specs.Numbers.{is_command, number_of, NumbersTellCommands, NoNumberIsUsedTwice}
-use Rattle.cluster_core.proofs.Targets.{ok_is, if_ok}
+use Rattle.cluster_core.proofs.Choices.{at_number}
+use Rattle.cluster_core.proofs.Refusals.{ok_is}
+use Rattle.cluster_core.proofs.KnownMessages.{sent_before, sent_now, sent_either}
+use Rattle.cluster_core.proofs.NodeSteps.{call_done, deliver_done, retry_done}
 use Rattle.cluster_core.proofs.Steps.{next_taken, node_step, server_step}
 use Rattle.cluster_core.proofs.Lowering.{IsWithin, within_itself, within_excludes}
-use Rattle.cluster_core.proofs.Talks.{at_number, Sent, IsHostOf, IsCommandTo, IsAnswerOf, same_answer_of, no_answer, command_host, answer_host, unasked, Talk, MayHold}
+use Rattle.cluster_core.proofs.Talks.{Sent, IsHostOf, IsCommandTo, IsAnswerOf, same_answer_of, no_answer, command_host, answer_host, unasked, Talk, MayHold}
 use Rattle.cluster_core.proofs.TalkMoves.{NoNews, talk-no_news, may_hold-no_news, IsDoing, done_file, talk-does, may_hold-does, IsCommanding}
 use Rattle.cluster_core.proofs.NodeTokens.{Only, IsAsking, asking_host, asking_command, asking_answer, AsksFrom, Does, Receives, called_asks, quiet_asks, tried_if_asks, denied_asks, grant_receives, revoke_receives, first_among, only_none, only_one, only_mapped}
 use Rattle.cluster_core.proofs.ServerRows.{IsCurrent, Serves, IsDenial, denial_command, denial_answer, denial_known, Commands, Served, receives, outstanding_sent, serve_serves}
-use Rattle.cluster_core.proofs.Present.{Was, Holding, StayApart, Present, sent_before, sent_now, sent_either, serves-no_news, apart-no_news, nothing_new, files_no_news, commanded_serves, commanded_apart}
+use Rattle.cluster_core.proofs.Present.{Was, Holding, StayApart, Present, serves-no_news, apart-no_news, nothing_new, files_no_news, commanded_serves, commanded_apart}
 
 -- a host of an incarnation that its node has come to
 known_host : (w : WorldState) (h : Host) (n i : ℕ) → IsHostOf n i h → i ≤ (w.nodes n).incarnation → h.incarnation ≤ (w.nodes h.node).incarnation
@@ -69,18 +70,18 @@ module _ (w : WorldState) (p : Present w) (file : ℕ) (v : ServerState) (event 
   either : (m : Message) → Was later m → (Was w m ⊎ IsDenial w.nodes m) ⊎ (is_among fresh m ≡ true)
   either m h = elim (sent_either w.sent o.sends m h) [ inl before ↦ inl (inl before) | inr new ↦ again m new ]
 
-  -- a command or an answer
-  command_either : (f n i k : ℕ) (m : Message) → Was later m → IsCommandTo f n i k m → Was w m ⊎ (is_among fresh m ≡ true)
-  command_either f n i k m h to = elim (either m h) [
-    | inl told ↦ elim told [ inl before ↦ inl before | inr denial ↦ absurd (denial_command w.nodes f n i k m denial to) ]
+  -- a message of a kind of which no denial is
+  unless_denial : (Q : Message → Type 0) → ((m : Message) → IsDenial w.nodes m → Q m → ⊥) → (m : Message) → Was later m → Q m → Was w m ⊎ (is_among fresh m ≡ true)
+  unless_denial Q none m h is = elim (either m h) [
+    | inl told ↦ elim told [ inl before ↦ inl before | inr denial ↦ absurd (none m denial is) ]
     | inr new ↦ inr new
   ]
 
+  command_either : (f n i k : ℕ) (m : Message) → Was later m → IsCommandTo f n i k m → Was w m ⊎ (is_among fresh m ≡ true)
+  command_either f n i k = unless_denial (IsCommandTo f n i k) (denial_command w.nodes f n i k)
+
   answer_either : (f n i k : ℕ) (m : Message) → Was later m → IsAnswerOf f n i k m → Was w m ⊎ (is_among fresh m ≡ true)
-  answer_either f n i k m h of = elim (either m h) [
-    | inl told ↦ elim told [ inl before ↦ inl before | inr denial ↦ absurd (denial_answer w.nodes f n i k m denial of) ]
-    | inr new ↦ inr new
-  ]
+  answer_either f n i k = unless_denial (IsAnswerOf f n i k) (denial_answer w.nodes f n i k)
 
   known_either : ((m : Message) → is_among fresh m ≡ true → (host_of m).incarnation ≤ (w.nodes (host_of m).node).incarnation) → (m : Message) → Was later m → (host_of m).incarnation ≤ (w.nodes (host_of m).node).incarnation
   known_either new_known m h = elim (either m h) [
@@ -316,18 +317,6 @@ module _ (w : WorldState) (p : Present w) (n : ℕ) (e : Effect) (event : Event)
   pub does_present : Present (recorded (with_node w n e.state) event 0 o).0
   does_present = node_present w p n e.state event o d.node_is d.incarnation_is does_goes
 
--- a step that is not refused, for one of three reasons or for one
-call_done : {A E : Type 0} (stranger busy few : Bool) (x p : A) (a b c : E) → ◌≡◌ {A = Result A E} (if stranger then Err a else (if busy then Err b else (if few then Ok x else Err c))) (Ok p) → x ≡ p
-call_done true busy few x p a b c h = absurd (cc)
-call_done false true few x p a b c h = absurd (cc)
-call_done false false true x p a b c h = ok_is x p h
-call_done false false false x p a b c h = absurd (cc)
-
-message_done : {A E : Type 0} (stranger here : Bool) (x y p : A) (a : E) → ◌≡◌ {A = Result A E} (if stranger then Err a else (if here then Ok x else Ok y)) (Ok p) → ((here ≡ true) × (x ≡ p)) ⊎ (y ≡ p)
-message_done true here x y p a h = absurd (cc)
-message_done false true x y p a h = inl (refl, ok_is x p h)
-message_done false false x y p a h = inr (ok_is y p h)
-
 module _ (w : WorldState) (p : Present w) where
   -- an effect by which the node only asks
   pub asking_present : (n : ℕ) (event : Event) (call : Option CallId) (e : Effect) → AsksFrom (w.nodes n) e → Present (recorded (with_node w n e.state) event 0 (outcome call e).1).0
@@ -377,9 +366,9 @@ module _ (w : WorldState) (p : Present w) where
   deliver_present : (n : ℕ) (m : Message) (done : NodeState × Outcome) → Was w m → addressee m ≡ ANode n → deliver_rule (w.nodes n) m ≡ Ok done → Delivered n m done
   deliver_present n m done sent to h =
       let s = w.nodes n in
-      elim (message_done (not (is_node s.node (addressee m) && is_within s.shape.files (file_of m))) ((host_of m).incarnation == s.incarnation) (outcome None (delivered s m)) (outcome None (quiet s)) done step.Stranger h) [
-        | inl is ↦ subst (Delivered n m) is.1 (received_present n m sent to (eqb-true (host_of m).incarnation s.incarnation is.0))
-        | inr is ↦ subst (Delivered n m) is (asking_present n (Deliver m) None (quiet s) (quiet_asks s))
+      elim (deliver_done s m done h) [
+        | inl taken ↦ subst (Delivered n m) taken.1 (received_present n m sent to taken.0.incarnation)
+        | inr passed ↦ subst (Delivered n m) passed (asking_present n (Deliver m) None (quiet s) (quiet_asks s))
       ]
 
   -- a server sends its commands again
@@ -397,10 +386,10 @@ module _ (w : WorldState) (p : Present w) where
 
   -- a message goes to the actor that takes it
   message_present : (m : Message) (to : Actor) (q : WorldState × Entry) → Was w m → addressee m ≡ to → routed w m to ≡ Ok q → Present q.0
-  message_present m (ANode n) q sent to h = node_step w Present (Deliver m) n (node_rule (w.nodes n) (node.Deliver m)) q (λ done is. deliver_present n m done sent to is) h
+  message_present m (ANode n) q sent to h = node_step w (λ x. Present x.0) (Deliver m) n (node_rule (w.nodes n) (node.Deliver m)) q (λ done is. deliver_present n m done sent to is) h
   message_present m (AServer file) q sent to h =
       let t = w.servers file in
-      server_step w Present (Deliver m) file (server_rule t (server.Deliver m)) q
+      server_step w (λ x. Present x.0) (Deliver m) file (server_rule t (server.Deliver m)) q
       (λ done is.
       let a = receives (Was w) w.nodes w.shape file t (p.serves file) done.0 done.1 m sent to (p.no_future m sent) is in
       again_present w p file done.0 (Deliver m) done.1 a.denied a.fresh a.sent (λ x there. inr (a.denials x there)) a.served) h
@@ -409,18 +398,17 @@ module _ (w : WorldState) (p : Present w) where
   taken_present (Call n pid op) q known h =
       let s = w.nodes n in
       let P : NodeState × Outcome → Type 0 = λ d. Present (recorded (with_node w n d.0) (Call n pid op) 0 d.1).0 in
-      node_step w Present (Call n pid op) n (node_rule s (node.Call pid op)) q
-      (λ done is. subst P (call_done (not (is_pid pid && is_in_shape s.shape op)) (is_some (open_call_of s pid)) (nat_lt s.calls 4294967295) (after_call s pid op) done step.Stranger step.Busy step.Spent is) (call_present n pid op)) h
+      node_step w (λ x. Present x.0) (Call n pid op) n (node_rule s (node.Call pid op)) q
+      (λ done is. subst P (call_done s pid op done is) (call_present n pid op)) h
   taken_present (Deliver m) q known h = message_present m (addressee m) q (and_parts (has_actor w (addressee m)) (is_among w.sent m) known).1 refl h
   taken_present (Retry n pid) q known h =
       let s = w.nodes n in
-      let effect = tried_if s (open_call_of s pid) in
       let P : NodeState × Outcome → Type 0 = λ d. Present (recorded (with_node w n d.0) (Retry n pid) 0 d.1).0 in
-      node_step w Present (Retry n pid) n (node_rule s (node.Retry pid)) q
-      (λ done is. subst P (if_ok (is_pid pid) (outcome None effect) done step.Stranger is).1 (try_present n (Retry n pid) (open_call_of s pid))) h
+      node_step w (λ x. Present x.0) (Retry n pid) n (node_rule s (node.Retry pid)) q
+      (λ done is. subst P (retry_done s pid done is) (try_present n (Retry n pid) (open_call_of s pid))) h
   taken_present (Resend file) q known h =
       let t = w.servers file in
-      server_step w Present (Resend file) file (server_rule t server.Resend) q (λ done is. resend_present file (serve t) done refl is) h
+      server_step w (λ x. Present x.0) (Resend file) file (server_rule t server.Resend) q (λ done is. resend_present file (serve t) done refl is) h
 
   -- each step keeps it
   pub next_present : (event : Event) (q : WorldState × Entry) → next w event ≡ Ok q → Present q.0
@@ -481,10 +469,6 @@ present_after shape es w l = present_run es (first_world shape) w (present_first
 -- the tokens of two nodes are apart where all that they may hold is
 pub present_apart : (w : WorldState) → Present w → AreApart w
 present_apart w p m n file m_in n_in other = p.apart file m n ((w.nodes m).files file).token ((w.nodes n).files file).token m_in n_in other (inl refl) (inl refl)
-
--- after every run, of a cluster of any number of nodes, no two tokens conflict
-pub apart_after : (shape : ShapeFields) (es : List Entry) (w : WorldState) → Leads (first_world shape) es w → AreApart w
-apart_after shape es w l = present_apart w (present_after shape es w l)
 
 -- a command is one of its file, host and number
 named_command : (m : Message) → is_command m ≡ true → IsCommandTo (file_of m) (host_of m).node (host_of m).incarnation (number_of m) m

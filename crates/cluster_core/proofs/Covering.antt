@@ -1,5 +1,5 @@
 -- The locks of a node are covered by its tokens, and each step of the node keeps them so.
-use Rattle.std.proofs.Common.{◌≡◌, ℕ, ◌+◌, ◌≤◌, Bool, true, false, not, if◌then◌else◌, ◌&&◌, ◌||◌, ◌==◌, nat_le, nat_lt, is_some, refl, sym, subst, ◌++◌, [], ◌∷◌, Option, Some, None, Result, Ok, Err}
+use Rattle.std.proofs.Common.{◌≡◌, ℕ, ◌+◌, ◌≤◌, Bool, true, false, if◌then◌else◌, ◌&&◌, ◌||◌, ◌==◌, nat_le, inl, inr, refl, sym, subst, ◌++◌, [], ◌∷◌, Option, Some, None, Result, Ok, Err}
 use Rattle.std.proofs.lemmas.Bool.{and_parts, eqb-true, leb-true}
 use Rattle.std.proofs.lemmas.Option.{none-some, same_Some}
 use Rattle.intervals.specs.Bytes.{Range, put, is_in}
@@ -24,29 +24,27 @@ use Rattle.token_set.specs.Tokens.{Token, serves, covers, raised, raised_level}
 use Rattle.token_set.specs.Releases.{gave_up, after_giving_up}
 use Rattle.token_set.specs.declared.gave_up.GaveUp.{GaveUp}
 use Rattle.token_set.specs.declared.gave_up.GaveUp.TheVariants.{Released, Conflict}
-use Rattle.token_set.proofs.TokenLaws.{covers-each, covers-from}
+use Rattle.token_set.proofs.TokenLaws.{covers-each}
 use Rattle.token_set.proofs.ReleaseLaws.{lowering_keeps_locks}
 use Rattle.messages.specs.Shapes.{ShapeFields}
 use Rattle.messages.specs.Wants.{Wants}
 use Rattle.messages.specs.declared.message.Message.{Message}
-use Rattle.messages.specs.declared.message.Message.TheVariants.{Grant, Revoke, Taken, Deny, Freed}
-use Rattle.messages.specs.Messages.{addressee, host_of, file_of, is_within}
+use Rattle.messages.specs.declared.message.Message.TheVariants.{Grant, Revoke, Taken, Deny}
 use Rattle.messages.specs.declared.outcome.Outcome.{Outcome}
-use Rattle.messages.specs.declared.refusal.StepError.{StepError}
-use Rattle.messages.specs.declared.refusal.StepError.TheVariants.{Busy, Stranger, Spent}
 use Rattle.node_core.specs.declared.event.NodeEvent.{NodeEvent}
 use Rattle.node_core.specs.declared.event.NodeEvent.TheVariants.{Call, Deliver, Retry}
 use Rattle.node_core.specs.declared.open_call.Intent.{Intent}
 use Rattle.node_core.specs.declared.open_call.Intent.TheVariants as intent
 use Rattle.node_core.specs.declared.open_call.OpenCall.{OpenCall}
-use Rattle.node_core.specs.State.{NodeState, FileState, Effect, first_node, with_file, quiet, process, host, open_call, open_call_of, target_of, outcome}
-use Rattle.node_core.specs.Try.{settled, requested, may_free, with_freed, locked_by, answered_here, tried, tried_against, tried_if}
-use Rattle.node_core.specs.Calls.{is_pid, is_in_shape, called, after_call, lock_call, unlock_call, call_rule}
-use Rattle.node_core.specs.Commands.{remembered, in_order, after_command, granted, revoked, answer_to, is_conflict, denied, delivered, is_node, deliver_rule}
+use Rattle.node_core.specs.State.{NodeState, FileState, Effect, first_node, process, host, open_call, open_call_of, target_of}
+use Rattle.node_core.specs.Try.{requested, locked_by, answered_here, tried, tried_against, tried_if}
+use Rattle.node_core.specs.Calls.{called, after_call, lock_call, unlock_call}
+use Rattle.node_core.specs.Commands.{in_order, after_command, granted, revoked, answer_to, is_conflict, denied, delivered}
 use Rattle.node_core.specs.Node.{node_rule}
 use Rattle.cluster_core.specs.Safe.{Excludes}
-use Rattle.cluster_core.proofs.Targets.{ok_is, if_ok}
-use Rattle.cluster_core.proofs.Talks.{at_number}
+use Rattle.cluster_core.proofs.Choices.{at_number}
+use Rattle.cluster_core.proofs.NodeSteps.{call_done, deliver_done, retry_done, remembered_state, in_order_either}
+use Rattle.cluster_core.proofs.Tries.{locked_by_settles}
 use Rattle.cluster_core.proofs.Clearing.{released_clear}
 
 -- the token serves each byte that is locked
@@ -89,10 +87,6 @@ raised_level-serves (Some level) Read mode h = h
 -- so does a token
 pub raised-serves : (t : Token) (span : Range) (by mode : Mode) (b : ℕ) → serves (t b) mode ≡ true → serves (raised t span by b) mode ≡ true
 raised-serves t span by mode b h = elim (is_in span b) as (λ x. serves (if x then raised_level (t b) by else t b) mode ≡ true) [ true ↦ raised_level-serves (t b) by mode h | false ↦ h ]
-
--- what a span served for a mode it serves
-pub raised-covers : (t : Token) (span wanted : Range) (by mode : Mode) → covers t wanted mode ≡ true → covers (raised t span by) wanted mode ≡ true
-raised-covers t span wanted by mode h = covers-from (raised t span by) wanted mode (λ b above below. raised-serves t span by mode b (covers-each t wanted mode b h above below))
 
 -- bytes of the span
 in_span : (s : Range) (b : ℕ) → is_in s b ≡ true → (s.lo ≤ b) × (b ≤ s.hi)
@@ -142,23 +136,12 @@ module _ (files : ℕ → FileState) where
 pub first_covered : (shape : ShapeFields) (node incarnation : ℕ) → Covered (first_node shape node incarnation)
 first_covered shape node incarnation file o b mode h = absurd (none-some mode h)
 
--- the server hears that locks may be gone: no token changes
-with_freed_covered : (file : ℕ) (e : Effect) → Covered e.state → Covered (with_freed file e).state
-with_freed_covered file e old =
-    let told : Effect = record { state = with_file e.state file (record (e.state.files file) { asked = false }); reply = e.reply; sends = e.sends ++ Freed file (host e.state) ∷ [] } in
-    elim ((e.state.files file).asked) as (λ x. Covered (if x then told else e).state) [
-      | true ↦ λ f o b m held. at_number f file (λ x. serves ((if x then record (e.state.files file) { asked = false } else e.state.files f).token b) m ≡ true)
-          (λ same. subst (λ (k : ℕ). serves ((e.state.files k).token b) m ≡ true) same (old f o b m held))
-          (λ other. old f o b m held)
-      | false ↦ old
-    ]
-
 -- bytes are locked, of which the token covers each, or freed
 locked_by_covered : (s : NodeState) (number : ℕ) (about : Target) (mode : Option Mode) → IsGiven (s.files about.file).token about.span mode → Covered s → Covered (locked_by s number about mode).state
-locked_by_covered s number about mode given old =
-    let answer = lock_within s.table about mode in
-    let plain : Covered (settled s number answer).state = lock_within_covered s.files s.table about mode given old in
-    elim (may_free mode answer.1) as (λ x. Covered (if x then with_freed about.file (settled s number answer) else settled s number answer).state) [ true ↦ with_freed_covered about.file (settled s number answer) plain | false ↦ plain ]
+locked_by_covered s number about mode given old file o b m held =
+    let settles = locked_by_settles s number about mode in
+    subst (λ (t : Token). serves (t b) m ≡ true) (sym (settles.tokens file))
+    (lock_within_covered s.files s.table about mode given old file o b m (subst (λ (t : Table). t.locks file o b ≡ Some m) settles.table held))
 
 answered_here_covered : (s : NodeState) (c : OpenCall) (i : Intent) → covers (s.files c.file).token c.span c.mode ≡ true → Covered s → Covered (answered_here s c i).state
 answered_here_covered s c intent.Set given old = locked_by_covered s c.number (target_of c) (Some c.mode) given old
@@ -234,18 +217,9 @@ revoked_covered s file number call mode wanted own old =
     let gives = gave_up (s.table.locks file) s.node s.incarnation mode wanted.required wanted.desired in
     after_command_covered s file (after_giving_up (s.files file).token mode gives) number (answer_to file number (host s) call gives) (is_conflict gives || (s.files file).asked) (given_up_covered s file mode wanted gives refl own old) old
 
-remembered_covered : (s : NodeState) (answer : Option Message) → Covered s → Covered (remembered s answer).state
-remembered_covered s None old = old
-remembered_covered s (Some m) old = old
-
 pub in_order_covered : (s : NodeState) (file number : ℕ) (effect : Effect) → Covered s → Covered effect.state → Covered (in_order s file number effect).state
 in_order_covered s file number effect old new =
-    let f = s.files file in
-    let again : Bool → Effect = λ x. if x then remembered s f.answer else quiet s in
-    elim (number == f.last + 1) as (λ x. Covered (if x then effect else again ((number == f.last) && nat_le 1 number)).state) [
-      | true ↦ new
-      | false ↦ elim ((number == f.last) && nat_le 1 number) as (λ x. Covered (again x).state) [ true ↦ remembered_covered s f.answer old | false ↦ old ]
-    ]
+    in_order_either (λ e. Covered e.state) s file number effect (λ next. new) (subst Covered (sym (remembered_state s (s.files file).answer)) old) old
 
 denied_covered : (s : NodeState) (lock : LockInfo) (c : Option OpenCall) → Covered s → Covered (denied s lock c).state
 denied_covered s lock None old = old
@@ -258,37 +232,10 @@ delivered_covered s (Revoke file number holder call mode wanted) own old = in_or
 delivered_covered s (Deny file call holder number lock) own old = denied_covered s lock (open_call s call.number) old
 delivered_covered s m own old = old
 
--- what holds of an answer that is not refused
-unless_refused : {A E : Type 0} (P : A → Type 0) (refused : Bool) (x : Result A E) (e : E) (p : A) → ((h : x ≡ Ok p) → P p) → ◌≡◌ {A = Result A E} (if refused then Err e else x) (Ok p) → P p
-unless_refused P true x e p good h = absurd (cc)
-unless_refused P false x e p good h = good h
-
-call_rule_covered : (s : NodeState) (pid : ℕ) (op : Op) (done : NodeState × Outcome) → call_rule s pid op ≡ Ok done → Covered s → Covered done.0
-call_rule_covered s pid op done h old =
-    let P : NodeState × Outcome → Type 0 = λ x. Covered x.0 in
-    let after : Result (NodeState × Outcome) StepError = Ok (after_call s pid op) in
-    let few : Result (NodeState × Outcome) StepError = if nat_lt s.calls 4294967295 then after else Err Spent in
-    unless_refused P (not (is_pid pid && is_in_shape s.shape op)) (if is_some (open_call_of s pid) then Err Busy else few) Stranger done
-    (unless_refused P (is_some (open_call_of s pid)) few Busy done
-    (elim (nat_lt s.calls 4294967295) as (λ x. ◌≡◌ {A = Result (NodeState × Outcome) StepError} (if x then after else Err Spent) (Ok done) → P done) [
-      | true ↦ λ is. subst P (ok_is (after_call s pid op) done is) (after_call_covered s pid op old)
-      | false ↦ λ is. absurd (cc)
-    ])) h
-
-deliver_rule_covered : (s : NodeState) (m : Message) (done : NodeState × Outcome) → deliver_rule s m ≡ Ok done → OwnLocks s → Covered s → Covered done.0
-deliver_rule_covered s m done h own old =
-    let P : NodeState × Outcome → Type 0 = λ x. Covered x.0 in
-    let taken : Bool → Result (NodeState × Outcome) StepError = λ x. if x then Ok (outcome None (delivered s m)) else Ok (outcome None (quiet s)) in
-    unless_refused P (not (is_node s.node (addressee m) && is_within s.shape.files (file_of m))) (taken ((host_of m).incarnation == s.incarnation)) Stranger done
-    (elim ((host_of m).incarnation == s.incarnation) as (λ x. taken x ≡ Ok done → P done) [
-      | true ↦ λ is. subst P (ok_is (outcome None (delivered s m)) done is) (delivered_covered s m own old)
-      | false ↦ λ is. subst P (ok_is (outcome None (quiet s)) done is) old
-    ]) h
-
 -- each step of a node
 pub node_rule_covered : (s u : NodeState) (event : NodeEvent) (o : Outcome) → node_rule s event ≡ Ok (u, o) → OwnLocks s → Covered s → Covered u
-node_rule_covered s u (Call pid op) o h own old = call_rule_covered s pid op (u, o) h old
-node_rule_covered s u (Deliver m) o h own old = deliver_rule_covered s m (u, o) h own old
-node_rule_covered s u (Retry pid) o h own old =
-    let effect = tried_if s (open_call_of s pid) in
-    subst (λ (x : NodeState × Outcome). Covered x.0) (if_ok (is_pid pid) (outcome None effect) (u, o) Stranger h).1 (tried_if_covered s (open_call_of s pid) old)
+node_rule_covered s u (Call pid op) o h own old = subst (λ (x : NodeState × Outcome). Covered x.0) (call_done s pid op (u, o) h) (after_call_covered s pid op old)
+node_rule_covered s u (Deliver m) o h own old =
+    let P : NodeState × Outcome → Type 0 = λ x. Covered x.0 in
+    elim (deliver_done s m (u, o) h) [ inl taken ↦ subst P taken.1 (delivered_covered s m own old) | inr passed ↦ subst P passed old ]
+node_rule_covered s u (Retry pid) o h own old = subst (λ (x : NodeState × Outcome). Covered x.0) (retry_done s pid (u, o) h) (tried_if_covered s (open_call_of s pid) old)

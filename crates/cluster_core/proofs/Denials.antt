@@ -1,23 +1,23 @@
 -- A node that first does a revoke in whose way a lock is gives the evidence for it.
-use Rattle.std.proofs.Common.{◌≡◌, ◌≢◌, ℕ, ◌+◌, ◌<◌, ◌≤◌, Bool, true, false, ◌&&◌, ◌||◌, ◌==◌, if◌then◌else◌, inl, inr, refl, sym, ◌∙◌, ap, subst, arith, List, [], ◌∷◌, ◌++◌, length, length-append, get_or, All, Option, Some, None, MatchOption}
+use Rattle.std.proofs.Common.{◌≡◌, ℕ, ◌+◌, ◌≤◌, Bool, true, false, ◌&&◌, ◌||◌, ◌==◌, inl, inr, refl, sym, ◌∙◌, ap, subst, arith, List, [], ◌∷◌, ◌++◌, length, length-append, get_or, All, Option, Some, None, MatchOption}
 use Rattle.std.specs.List.{list_any}
 use Rattle.std.proofs.lemmas.Bool.{and_parts, and_from, eqb-true, eq-eqb, cases_Bool}
 use Rattle.std.proofs.lemmas.List.Elements.{All-nil, All-same}
 use Rattle.intervals.specs.Bytes.{Range, IsRun, greatest}
 use Rattle.model.specs.declared.call.CallId.{CallId}
-use Rattle.model.specs.declared.host.Host.{Host}
 use Rattle.model.specs.declared.lock_info.LockInfo.{LockInfo}
 use Rattle.model.specs.declared.mode.Mode.{Mode}
 use Rattle.model.specs.declared.op.Op.{Op}
 use Rattle.model.specs.declared.owner.Owner.{Owner}
-use Rattle.model.specs.Locks.{IsRegion, IsClear, IsLowestInWay, Blocks, excludes, lowest_in_way}
-use Rattle.model.specs.Table.{Table, Target}
+use Rattle.model.specs.Locks.{IsRegion, IsClear, IsLowestInWay, Blocks, lowest_in_way}
+use Rattle.model.specs.Table.{Table}
 use Rattle.model.specs.Step.{Step}
 use Rattle.model.proofs.WayLaws.{lowest_in_way_is_lowest}
 use Rattle.messages.specs.Shapes.{ShapeFields}
 use Rattle.messages.specs.Wants.{Wants}
 use Rattle.messages.specs.Messages.{same_host, is_conflict}
 use Rattle.messages.specs.declared.message.Message.TheVariants.{Revoke, Conflict}
+use Rattle.messages.proofs.SameMessages.{host_refl}
 use Rattle.messages.specs.declared.event.Event.TheVariants.{Deliver}
 use Rattle.messages.specs.declared.entry.Entry.{Entry}
 use Rattle.node_core.specs.declared.open_call.OpenCall.{OpenCall}
@@ -138,7 +138,7 @@ module _ (shape : ShapeFields) (past : List Entry) (w later : WorldState) (made 
     where
       itself : list_any (is_conflict file (host s) number) (Conflict file number (host s) call lock ∷ []) ≡ true
       itself =
-          let both = and_from (file == file) ((number == number) && same_host (host s) (host s)) (eq-eqb file file refl) (and_from (number == number) (same_host (host s) (host s)) (eq-eqb number number refl) (and_from (s.node == s.node) (s.incarnation == s.incarnation) (eq-eqb s.node s.node refl) (eq-eqb s.incarnation s.incarnation refl))) in
+          let both = and_from (file == file) ((number == number) && same_host (host s) (host s)) (eq-eqb file file refl) (and_from (number == number) (same_host (host s) (host s)) (eq-eqb number number refl) (host_refl (host s))) in
           ap (λ (b : Bool). b || false) both
 
   -- while the call is open the one table may refuse it now

@@ -58,9 +58,6 @@ replied_at-push es e id reply at r = elim (entry_at-push es e r.replying at r.th
   | inr new ↦ inr (new.0, ap (λ (x : Entry). x.reply) new.1 ∙ r.is_reply)
 ]
 
-pub replied_at-within : (es : List Entry) (id : CallId) (reply : Reply) (at : ℕ) → IsRepliedAt es id reply at → at ≤ length es
-replied_at-within es id reply at r = entry_at-within es at r.replying r.there
-
 -- an entry of the run names the call
 pub record IsNamed (es : List Entry) (id : CallId) : Type 0 where
   pub place : ℕ

@@ -1,34 +1,22 @@
 -- Calls that are found in the run by their names.
 use Rattle.std.proofs.Common.{◌≡◌, ℕ, zero, suc, ◌+◌, Bool, true, false, cond, refl, sym, ◌∙◌, ap, List, [], ◌∷◌, ◌++◌, length, Option, Some, None}
-use Rattle.std.proofs.lemmas.Bool.{and_parts, and_from, eqb-true, eq-eqb, false≢true}
+use Rattle.std.proofs.lemmas.Bool.{false≢true}
 use Rattle.model.specs.declared.call.CallId.{CallId}
 use Rattle.model.specs.declared.op.Op.{Op}
 use Rattle.messages.specs.declared.event.Event.{Event}
 use Rattle.messages.specs.declared.event.Event.TheVariants.{Call, Deliver, Retry, Resend}
 use Rattle.messages.specs.declared.entry.Entry.{Entry}
-use Rattle.messages.specs.Messages.{same_call}
+use Rattle.messages.proofs.SameMessages.{call_exact, call_refl}
 use Rattle.cluster_core.specs.Histories.{IsCalledAt}
-use Rattle.cluster_core.specs.Placement.{is_named, called_by, find_call}
+use Rattle.cluster_core.proofs.Placement.{is_named, called_by, find_call}
 use Rattle.cluster_core.proofs.Entries.{IsNamed, called_at-keeps, called_at-last}
-
-pub call_is : (a b : CallId) → same_call a b ≡ true → a ≡ b
-call_is a b h =
-    let first = and_parts _ _ h in
-    let second = and_parts _ _ first.1 in
-    let nodes = eqb-true _ _ first.0 in
-    let incarnations = eqb-true _ _ second.0 in
-    let numbers = eqb-true _ _ second.1 in
-    λ i. record { node = nodes i; incarnation = incarnations i; number = numbers i }
-
-call_itself : (a : CallId) → same_call a a ≡ true
-call_itself a = and_from _ _ (eq-eqb a.node a.node refl) (and_from _ _ (eq-eqb a.incarnation a.incarnation refl) (eq-eqb a.number a.number refl))
 
 named_is : (id : CallId) (o : Option CallId) → is_named id o ≡ true → o ≡ Some id
 named_is id None h = absurd (false≢true h)
-named_is id (Some other) h = ap Some (sym (call_is id other h))
+named_is id (Some other) h = ap Some (sym (call_exact id other h))
 
 is_named-itself : (id : CallId) (o : Option CallId) → o ≡ Some id → is_named id o ≡ true
-is_named-itself id o h = rw h (call_itself id)
+is_named-itself id o h = rw h (call_refl id)
 
 -- a call that is found is found in each longer run
 go_on : (b : Bool) (event : Event) (x y : Option (ℕ × Op)) (c : ℕ × Op) → (x ≡ Some c → y ≡ Some c) → cond b (called_by event x) x ≡ Some c → cond b (called_by event y) y ≡ Some c

@@ -1,8 +1,6 @@
 -- The table of a node beside those of others: what a call of the node makes of them all.
-use Rattle.std.proofs.Common.{◌≡◌, ℕ, zero, suc, ◌≤◌, Bool, true, false, if◌then◌else◌, ◌&&◌, ◌==◌, ◌⊎◌, inl, inr, refl, sym, ◌∙◌, ap, subst, arith, ℤ, nat_le, nat_lt, Option, Some, None, Result, Ok, Err}
+use Rattle.std.proofs.Common.{◌≡◌, ℕ, zero, suc, ◌≤◌, Bool, true, false, if◌then◌else◌, ◌&&◌, ◌==◌, inl, inr, refl, sym, ◌∙◌, ap, subst, arith, ℤ, nat_le, Option, Some, None, Result, Ok, Err}
 use Rattle.std.proofs.lemmas.Bool.{and_parts, and_from, eq-eqb, cases_Bool, false≢true}
-use Rattle.intervals.specs.declared.span.SpanError.{SpanError}
-use Rattle.intervals.specs.declared.span.SpanError.TheVariants.{Invalid, Overflow}
 use Rattle.intervals.specs.Bytes.{Range, IsRun, put, nothing}
 use Rattle.intervals.specs.Segment.{seg}
 use Rattle.model.specs.declared.mode.Mode.{Mode}
@@ -15,18 +13,19 @@ use Rattle.model.specs.declared.process.Process.{Process}
 use Rattle.model.specs.declared.op.Op.{Op}
 use Rattle.model.specs.declared.op.Op.TheVariants.{Spawn, Open, Set, Unlock, Query}
 use Rattle.model.specs.declared.reply.Reply.{Reply}
-use Rattle.model.specs.declared.reply.Reply.TheVariants.{Done, Again, NoProcess, BadFd, NoLocks, Free, Blocked}
+use Rattle.model.specs.declared.reply.Reply.TheVariants.{Done, Again, NoProcess, NoLocks, Free, Blocked}
 use Rattle.model.specs.Limits.{most_descriptors, most_regions}
-use Rattle.model.specs.Owners.{owner_at, same_owner, process_owner, description_owner}
+use Rattle.model.specs.Owners.{same_owner, process_owner, description_owner}
 use Rattle.model.specs.Locks.{bars, replace, without_owner, without_owner_anywhere, regions, IsFree, Blocks}
 use Rattle.model.specs.Descriptors.{Processes, with_process, with_descriptor, is_open, after_spawn, after_open}
-use Rattle.model.specs.Table.{Table, Target, around, is_running, descriptor, beside, with_processes, allows, target, target_at, owner_of, locked, lock_within, regions_with, after_unlock, after_last_close, closed, closed_if, closed_below, exited}
+use Rattle.model.specs.Table.{Table, Target, around, is_running, descriptor, beside, with_processes, target, target_at, owner_of, locked, lock_within, regions_with, after_unlock, after_last_close, closed, closed_if, closed_below, exited}
 use Rattle.model.specs.Step.{Is, AfterTests, SetStep, QueryStep, Step}
 use Rattle.model.proofs.OwnerLaws.{owner_exact}
 use Rattle.cluster_core.specs.Evidence.{IsAbout}
-use Rattle.cluster_core.proofs.Targets.{if_ok, if_then}
-use Rattle.cluster_core.proofs.NodeTables.{IsOwn, itself}
-use Rattle.cluster_core.proofs.Tries.{IsUnhindered}
+use Rattle.cluster_core.proofs.Refusals.{if_then}
+use Rattle.cluster_core.proofs.Targets.{passes_at}
+use Rattle.cluster_core.proofs.NodeTables.{IsOwn, itself, owner_at-node, owner_at-incarnation}
+use Rattle.cluster_core.proofs.Tries.{about_maps, IsUnhindered}
 
 -- the owner is one of the node in that incarnation
 abbrev pub is_of_host : ℕ → ℕ → Owner → Bool
@@ -46,13 +45,7 @@ within_part true false x y z part = refl
 within_part false true x y z part = absurd (false≢true (part refl))
 within_part false false x y z part = refl
 
-owner_at-node : (n i k : ℕ) → (owner_at n i k).node ≡ n
-owner_at-node n i k = elim (cases_Bool (nat_lt k 256)) [ inl h ↦ rw h refl | inr h ↦ rw h refl ]
-
-owner_at-incarnation : (n i k : ℕ) → (owner_at n i k).incarnation ≡ i
-owner_at-incarnation n i k = elim (cases_Bool (nat_lt k 256)) [ inl h ↦ rw h refl | inr h ↦ rw h refl ]
-
-of_host : (node incarnation : ℕ) (o : Owner) → o.node ≡ node → o.incarnation ≡ incarnation → is_of_host node incarnation o ≡ true
+pub of_host : (node incarnation : ℕ) (o : Owner) → o.node ≡ node → o.incarnation ≡ incarnation → is_of_host node incarnation o ≡ true
 of_host node incarnation o same_node same_incarnation = and_from _ _ (eq-eqb o.node node same_node) (eq-eqb o.incarnation incarnation same_incarnation)
 
 -- each owner that holds a byte of a node's own table is of that node
@@ -66,17 +59,11 @@ owner_of_host : (p : Process) (kind : Kind) (o : Opened) → is_of_host p.node p
 owner_of_host p OfProcess o = itself p.node p.incarnation
 owner_of_host p OfDescription o = itself p.node p.incarnation
 
-target_at_host : (p : Process) (need : Option Mode) (kind : Kind) (opened : Option Opened) (segment : Result Range SpanError) (c : Target) → target_at p need kind opened segment ≡ Ok c → is_of_host p.node p.incarnation c.owner ≡ true
-target_at_host p need kind None segment c h = absurd (cc)
-target_at_host p need kind (Some o) (Err Invalid) c h = absurd (cc)
-target_at_host p need kind (Some o) (Err Overflow) c h = absurd (cc)
-target_at_host p need kind (Some o) (Ok span) c h =
-    let both = if_ok (allows o.access need) (record { file = o.file; owner = owner_of p kind o; span = span }) c BadFd h in
-    subst (λ (x : Target). is_of_host p.node p.incarnation x.owner ≡ true) both.1 (owner_of_host p kind o)
-
 pub target_of_host : (t : Table) (p : Process) (need : Option Mode) (fd : ℕ) (kind : Kind) (start len : ℤ) (c : Target) → target t p need fd kind start len ≡ Ok c → is_of_host p.node p.incarnation c.owner ≡ true
 target_of_host t p need fd kind start len c h =
-    target_at_host p need kind (descriptor t p fd) (seg start len) c (if_then (is_running t p) (target_at p need kind (descriptor t p fd) (seg start len)) c NoProcess h).1
+    let runs = if_then (is_running t p) (target_at p need kind (descriptor t p fd) (seg start len)) c NoProcess h in
+    let passes = passes_at p need kind (descriptor t p fd) (seg start len) c runs.1 in
+    subst (λ (x : Target). is_of_host p.node p.incarnation x.owner ≡ true) passes.is (owner_of_host p kind passes.what)
 
 module _ (others : Table) (p : Process) where
   -- the tables together
@@ -138,11 +125,7 @@ module _ (others : Table) (p : Process) where
 
   -- what a call is about
   pub about-joined : (t : Table) (op : Op) (mode : Mode) (c : Target) → IsAbout t p op mode c → IsAbout (all t) p op mode c
-  about-joined t (Set fd kind m start len) mode c a = (a.0, target-joined t (Some m) fd kind start len ∙ a.1)
-  about-joined t (Query fd kind m start len) mode c a = (a.0, target-joined t None fd kind start len ∙ a.1)
-  about-joined t Spawn mode c a = a
-  about-joined t (Open file access) mode c a = a
-  about-joined t (Unlock fd kind start len) mode c a = a
+  about-joined t op mode c a = about_maps t (all t) p op mode c (λ need fd kind start len h. target-joined t need fd kind start len ∙ h) a
 
   pub lock_within-joined : (t : Table) (c : Target) (mode : Option Mode) → is_own c.owner ≡ true → lock_within (all t) c mode ≡ answer_of_all (lock_within t c mode)
   lock_within-joined t c mode own =

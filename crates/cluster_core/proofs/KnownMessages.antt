@@ -1,7 +1,6 @@
 -- The set of the messages that were sent, as messages are added.
-use Rattle.std.proofs.Common.{◌≡◌, ℕ, ◌+◌, ◌<◌, ◌≤◌, Bool, true, false, cond, ◌||◌, refl, sym, ◌∙◌, ap, subst, arith, List, [], ◌∷◌, ◌++◌, length, drop, get_or, drop-cons, add-one}
-use Rattle.std.specs.List.{list_any}
-use Rattle.std.proofs.lemmas.Bool.{cases_Bool}
+use Rattle.std.proofs.Common.{◌≡◌, ℕ, ◌+◌, ◌<◌, ◌≤◌, Bool, true, false, cond, ◌||◌, ◌⊎◌, refl, sym, ◌∙◌, ap, subst, arith, List, ◌∷◌, ◌++◌, length, drop, get_or}
+use Rattle.std.proofs.lemmas.Bool.{or_cases, or_left, or_right}
 use Rattle.std.proofs.lemmas.List.Folds.{list_any-append}
 use Rattle.std.specs.HashSet.{HashSet, contains, spare, Updates}
 use Rattle.std.specs.declared.hash.FoldHasher.{FoldHasher}
@@ -10,6 +9,7 @@ use Rattle.messages.specs.declared.message.Message.{Message}
 use Rattle.messages.specs.Messages.{same_message, is_among}
 use Rattle.messages.specs.contracts.message.MessagePartialEq.TheImpl as derived
 use Rattle.messages.proofs.SameMessages.{same_message-is-equality, message_eq}
+use Rattle.cluster_core.proofs.Places.{drop_read}
 
 abbrev pub Known : Type 0
 Known = HashSet Message (BuildHasherDefault FoldHasher)
@@ -29,6 +29,15 @@ pub record Inserted (first known : Known) (all rest : List Message) : Type 0 whe
 pub is_among-append : (xs ys : List Message) (m : Message) → is_among (xs ++ ys) m ≡ (is_among xs m || is_among ys m)
 is_among-append xs ys m = list_any-append (same_message m) xs ys
 
+pub sent_before : (xs ys : List Message) (m : Message) → is_among xs m ≡ true → is_among (xs ++ ys) m ≡ true
+sent_before xs ys m h = is_among-append xs ys m ∙ or_left (is_among xs m) (is_among ys m) h
+
+pub sent_now : (xs ys : List Message) (m : Message) → is_among ys m ≡ true → is_among (xs ++ ys) m ≡ true
+sent_now xs ys m h = is_among-append xs ys m ∙ or_right (is_among xs m) (is_among ys m) h
+
+pub sent_either : (xs ys : List Message) (m : Message) → is_among (xs ++ ys) m ≡ true → (is_among xs m ≡ true) ⊎ (is_among ys m ≡ true)
+sent_either xs ys m h = or_cases (is_among xs m) (is_among ys m) (sym (is_among-append xs ys m) ∙ h)
+
 same_message-turned : (a b : Message) → same_message a b ≡ true → same_message b a ≡ true
 same_message-turned a b same = (same_message-is-equality b a).1 (sym ((same_message-is-equality a b).0 same))
 
@@ -44,9 +53,6 @@ or_moved true true r = refl
 or_moved true false r = refl
 or_moved false true r = refl
 or_moved false false r = refl
-
-drop_read : {A : Type 0} (l : List A) (i : ℕ) (x : A) → i < length l → x ≡ get_or l i x → drop i l ≡ x ∷ drop (i + 1) l
-drop_read l i x lt is = drop-cons l i x lt ∙ rw (← is, add-one) refl
 
 one_more : (first known next : Known) (all rest : List Message) (m : Message) → Inserted first known all (m ∷ rest) → Updates same_message known next m true → spare known ≤ spare next + 1 → Inserted first next all rest
 one_more first known next all rest m before updates spares = record {

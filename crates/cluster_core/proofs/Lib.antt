@@ -1,9 +1,13 @@
+pub mod Choices
+pub mod Refusals
 pub mod KnownMessages
+pub mod NodeSteps
 pub mod NodeNumbers
 pub mod Numbered
 pub mod ServerSteps
 pub mod WorldSteps
 pub mod JournalRuns
+pub mod Placement
 pub mod Places
 pub mod Entries
 pub mod Fitting
@@ -18,7 +22,6 @@ pub mod Nodes
 pub mod Sends
 pub mod Requested
 pub mod Moves
-pub mod Retries
 pub mod Unions
 pub mod Joined
 pub mod Lifting

@@ -1,6 +1,6 @@
 -- A step of one node's table is a step of the union of all.
-use Rattle.std.proofs.Common.{◌≡◌, ℕ, ◌≤◌, Bool, true, false, if◌then◌else◌, ◌&&◌, ◌==◌, inl, inr, refl, sym, ◌∙◌, ap, subst, Option}
-use Rattle.std.proofs.lemmas.Bool.{and_parts, and_from, eqb-true, eq-eqb, cases_Bool, both_ways}
+use Rattle.std.proofs.Common.{◌≡◌, ℕ, ◌≤◌, true, false, if◌then◌else◌, ◌&&◌, ◌==◌, inl, inr, refl, sym, ◌∙◌, ap, subst, Option}
+use Rattle.std.proofs.lemmas.Bool.{and_parts, eqb-true, eq-eqb, cases_Bool, both_ways}
 use Rattle.intervals.specs.Bytes.{nothing}
 use Rattle.model.specs.declared.mode.Mode.{Mode}
 use Rattle.model.specs.declared.owner.Owner.{Owner}
@@ -15,10 +15,12 @@ use Rattle.messages.specs.Messages.{is_within}
 use Rattle.node_core.specs.State.{NodeState, process}
 use Rattle.cluster_core.specs.World.{WorldState, has_node, is_live}
 use Rattle.cluster_core.specs.Union.{union}
+use Rattle.cluster_core.proofs.Choices.{if_again}
 use Rattle.cluster_core.proofs.NodeTables.{IsOwn}
 use Rattle.cluster_core.specs.Evidence.{IsAbout}
 use Rattle.cluster_core.proofs.Tries.{IsUnhindered}
-use Rattle.cluster_core.proofs.Joined.{IsFreeBeside, is_of_host, joined, step-joined, about-joined}
+use Rattle.cluster_core.proofs.Unions.{live_at}
+use Rattle.cluster_core.proofs.Joined.{IsFreeBeside, is_of_host, of_host, joined, step-joined, about-joined}
 
 -- no lock of another node is in the way of a lock of that mode on these bytes
 abbrev pub IsFreeOfOthers : WorldState → ℕ → Mode → Target → Type 0
@@ -41,29 +43,11 @@ union_locks-live w file o live = rw live refl
 pub union_locks-dead : (w : WorldState) (file : ℕ) (o : Owner) → is_live w o.node o.incarnation ≡ false → (union w).locks file o ≡ nothing
 union_locks-dead w file o dead = rw dead refl
 
-pub union_on-live : (w : WorldState) (n i : ℕ) → is_live w n i ≡ true → (union w).on n i ≡ (w.nodes n).table.on n i
-union_on-live w n i live = rw live refl
-
-pub union_on-dead : (w : WorldState) (n i : ℕ) → is_live w n i ≡ false → (union w).on n i ≡ no_processes
-union_on-dead w n i dead = rw dead refl
-
--- a node of the shape is live in its incarnation
-pub live_now : (w : WorldState) (n : ℕ) → has_node w n ≡ true → is_live w n (w.nodes n).incarnation ≡ true
-live_now w n there = and_from (has_node w n) ((w.nodes n).incarnation == (w.nodes n).incarnation) there (eq-eqb (w.nodes n).incarnation (w.nodes n).incarnation refl)
-
--- and the union is its table there
-pub union_on-host : (w : WorldState) (n : ℕ) → has_node w n ≡ true → (union w).on n (w.nodes n).incarnation ≡ (w.nodes n).table.on n (w.nodes n).incarnation
-union_on-host w n there = union_on-live w n (w.nodes n).incarnation (live_now w n there)
-
+-- where a node of the shape is live they are those of its table
 pub union_locks-host : (w : WorldState) (n file : ℕ) (o : Owner) → has_node w n ≡ true → o.node ≡ n → o.incarnation ≡ (w.nodes n).incarnation → (union w).locks file o ≡ (w.nodes n).table.locks file o
 union_locks-host w n file o there node incarnation =
-    let live : is_live w o.node o.incarnation ≡ true = and_from (has_node w o.node) (o.incarnation == (w.nodes o.node).incarnation) (ap (has_node w) node ∙ there) (eq-eqb o.incarnation (w.nodes o.node).incarnation (incarnation ∙ ap (λ (k : ℕ). (w.nodes k).incarnation) (sym node))) in
+    let live : is_live w o.node o.incarnation ≡ true = live_at w n o.node o.incarnation there node incarnation in
     union_locks-live w file o live ∙ ap (λ (k : ℕ). (w.nodes k).table.locks file o) node
-
--- one node's part and the rest
-either : {A : Type 0} (b : Bool) (x y z : A) → (if b then x else z) ≡ (if b then x else (if b then y else z))
-either true x y z = refl
-either false x y z = refl
 
 module _ (w v : WorldState) (n : ℕ) (there : has_node w n ≡ true) (named : (w.nodes n).node ≡ n) (differs : DiffersAt w v n) where
   there_still : has_node v n ≡ true
@@ -75,7 +59,7 @@ module _ (w v : WorldState) (n : ℕ) (there : has_node w n ≡ true) (named : (
   part_here : {A : Type 0} (F : NodeState → A) (none : A) (k : ℕ) → (if is_live v n k then F (v.nodes n) else none) ≡ (if (n == (w.nodes n).node) && (k == (w.nodes n).incarnation) then F (v.nodes n) else (if is_live w n k then F (w.nodes n) else none))
   part_here F none k =
       (λ i. if there_still i && (k == differs.incarnation i) then F (v.nodes n) else none)
-      ∙ either (k == (w.nodes n).incarnation) (F (v.nodes n)) (F (w.nodes n)) none
+      ∙ if_again (k == (w.nodes n).incarnation) (F (v.nodes n)) (F (w.nodes n)) none
       ∙ (λ i. if sym number i && (k == (w.nodes n).incarnation) then F (v.nodes n) else (if sym there i && (k == (w.nodes n).incarnation) then F (w.nodes n) else none))
 
   part_elsewhere : {A : Type 0} (F : NodeState → A) (none : A) (m k : ℕ) → (m == n) ≡ false → v.nodes m ≡ w.nodes m → (if is_live v m k then F (v.nodes m) else none) ≡ (if (m == (w.nodes n).node) && (k == (w.nodes n).incarnation) then F (v.nodes n) else (if is_live w m k then F (w.nodes m) else none))
@@ -107,7 +91,7 @@ free_beside w n pid op reply named free mode c unhindered about o b apart above 
           let parts = and_parts (has_node w o.node) (o.incarnation == (w.nodes o.node).incarnation) live in
           let other : o.node ≡ n → ⊥ = λ same.
           let incarnation : o.incarnation ≡ s.incarnation = eqb-true _ _ parts.1 ∙ ap (λ (k : ℕ). (w.nodes k).incarnation) same in
-          both_ways (is_of_host s.node s.incarnation o) apart (and_from _ _ (eq-eqb o.node s.node (same ∙ sym named)) (eq-eqb o.incarnation s.incarnation incarnation)) in
+          both_ways (is_of_host s.node s.incarnation o) apart (of_host s.node s.incarnation o (same ∙ sym named) incarnation) in
           ap (λ (f : ℕ → Option Mode). bars mode (f b)) (union_locks-live w c.file o live) ∙ free mode c unhindered about o.node o b parts.0 other above below
       | inr dead ↦ ap (λ (f : ℕ → Option Mode). bars mode (f b)) (union_locks-dead w c.file o dead)
     ]

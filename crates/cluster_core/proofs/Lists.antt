@@ -1,10 +1,15 @@
 -- Lists of all things of a kind, put together.
-use Rattle.std.specs.Prelude.{◌≡◌, ℕ, suc, ◌<◌, ◌⊎◌, List, [], ◌∷◌, ◌++◌, All, AllPairs, Contains, length, map}
+use Rattle.std.specs.Prelude.{◌≡◌, ℕ, suc, ◌+◌, ◌<◌, ◌≤◌, ◌⊎◌, List, [], ◌∷◌, ◌++◌, All, AllPairs, Contains, length, map}
 use Rattle.std.proofs.Common.{sym, ap, ◌∙◌, subst, inl, inr, arith, append_assoc}
+use Rattle.std.proofs.lemmas.Bool.{cases_lt}
 use Rattle.std.proofs.lemmas.List.{append-nil, get_or-map, length-map}
 use Rattle.std.proofs.lemmas.List.Elements.{All-nil, All-append, All-head, All-tail, All-map, All-weaker, Contains-append_left, Contains-append_right}
 use Rattle.std.proofs.lemmas.List.Kept.{AllPairs-cons}
 use Rattle.cluster_core.specs.Listings.{Lists, Adds}
+
+-- what two facts of each make of it
+pub All-both : {A : Type 0} (P Q R : A → Type 0) → ((x : A) → P x → Q x → R x) → (xs : List A) → All P xs → All Q xs → All R xs
+All-both P Q R f xs a b k d lt = f _ (a k d lt) (b k d lt)
 
 some_of : {A : Type 0} (xs : List A) (n : ℕ) → n < length xs → A
 some_of [] n lt = absurd (omega arith)
@@ -74,3 +79,26 @@ adds_same P Q Before old new to from p = (p.0, p.1, lists_same P Q Before p.0 to
 -- where nothing stood before, they are the list
 pub adds_all : {A : Type 0} (P : A → Type 0) (Before : A → A → Type 0) (new : List A) → Adds P Before [] new → Lists P Before new
 adds_all P Before new p = subst (Lists P Before) (sym p.1) p.2
+
+-- things by a number that each has
+module _ {A : Type 0} (Is : A → Type 0) (number : A → ℕ) where
+  abbrev pub IsAt : ℕ → A → Type 0
+  IsAt n x = Is x × (number x ≡ n)
+
+  abbrev pub IsUpTo : ℕ → A → Type 0
+  IsUpTo n x = Is x × (number x ≤ n)
+
+  module _ (Before : A → A → Type 0) where
+    pub adds_first : (old : List A) → ((x : A) → Is x → 1 ≤ number x) → Adds (IsUpTo 0) Before old old
+    adds_first old least = adds_none (IsUpTo 0) Before old (λ x is. let first = least x is.0 in absurd (omega (arith, is.1)))
+
+    pub adds_next : (i : ℕ) (old mid new : List A) → ((x y : A) → Is x → Is y → number x < number y → Before x y) → Adds (IsUpTo i) Before old mid → Adds (IsAt (i + 1)) Before mid new → Adds (IsUpTo (i + 1)) Before old new
+    adds_next i old mid new rises =
+        adds_join (IsUpTo i) (IsAt (i + 1)) (IsUpTo (i + 1)) Before old mid new
+        (λ x is. (is.0, omega (arith, is.1)))
+        (λ x is. (is.0, omega (arith, is.1)))
+        (λ x is. elim (cases_lt (number x) (i + 1)) [ inl lt ↦ inl (is.0, omega arith) | inr ge ↦ inr (is.0, omega (arith, is.1)) ])
+        (λ x y is next. rises x y is.0 next.0 (omega (arith, is.1, next.1)))
+
+    pub adds_last : (i : ℕ) (old new : List A) → ((x : A) → Is x → number x ≤ i) → Adds (IsUpTo i) Before old new → Adds Is Before old new
+    adds_last i old new most = adds_same (IsUpTo i) Is Before old new (λ x is. is.0) (λ x is. (is, most x is))

@@ -1,7 +1,7 @@
 -- The locks of a cluster, node by node and file by file.
 use Rattle.std.specs.Prelude.{◌≡◌, ℕ, ◌+◌, ◌<◌, ◌≤◌, true, false, ◌==◌, nat_le, if◌then◌else◌, List, [], ◌++◌, map}
 use Rattle.std.proofs.Common.{refl, sym, ap, ◌∙◌, subst, inl, inr, arith}
-use Rattle.std.proofs.lemmas.Bool.{and_from, and_left, and_right, eq-eqb, cases_Bool, cases_lt, cases_order, le-leb, lt-leb, leb-true, leb-false, both_ways}
+use Rattle.std.proofs.lemmas.Bool.{and_left, and_right, cases_Bool, cases_order, le-leb, lt-leb, leb-true, leb-false, both_ways}
 use Rattle.std.proofs.lemmas.List.Elements.{All-weaker}
 use Rattle.intervals.specs.Bytes.{nothing}
 use Rattle.model.specs.declared.owner.Owner.{Owner}
@@ -17,8 +17,8 @@ use Rattle.cluster_core.specs.World.{WorldState, has_node, has_file, is_live}
 use Rattle.cluster_core.specs.Union.{union}
 use Rattle.cluster_core.specs.Listings.{Lists, Adds, IsHeld, IsHeldBefore, IsLockListing, held_lock}
 use Rattle.cluster_core.proofs.WorldSteps.{within_is}
-use Rattle.cluster_core.proofs.Unions.{none_held}
-use Rattle.cluster_core.proofs.Lists.{lists_map, adds_none, adds_join, adds_same, adds_all}
+use Rattle.cluster_core.proofs.Unions.{live_at, none_held}
+use Rattle.cluster_core.proofs.Lists.{lists_map, adds_all, IsUpTo, adds_first, adds_next, adds_last}
 
 -- those of owners of the first nodes in a file
 abbrev pub first_locks : WorldState → ℕ → ℕ → FileLocks
@@ -54,8 +54,7 @@ module _ (w : WorldState) (file i : ℕ) (there : has_node w (i + 1) ≡ true) (
   dead : (o : Owner) → is_live w o.node o.incarnation ≡ false → o.node ≡ (w.nodes (i + 1)).node → o.incarnation ≡ (w.nodes (i + 1)).incarnation → ⊥
   dead o not_live node incarnation =
       let same : o.node ≡ i + 1 = node ∙ named in
-      let live = and_from (has_node w o.node) (o.incarnation == (w.nodes o.node).incarnation) (ap (has_node w) same ∙ there) (eq-eqb o.incarnation (w.nodes o.node).incarnation (incarnation ∙ ap (λ (j : ℕ). (w.nodes j).incarnation) (sym same))) in
-      both_ways (is_live w o.node o.incarnation) not_live live
+      both_ways (is_live w o.node o.incarnation) not_live (live_at w (i + 1) o.node o.incarnation there same incarnation)
 
   of_node : (o : Owner) → o.node ≡ i + 1 → (union w).locks file o ≡ own_locks o
   of_node o is = elim (cases_Bool (is_live w o.node o.incarnation)) [
@@ -103,22 +102,15 @@ adds_locks w file locks old new within l made = (map (held_lock file) locks, mad
 
 -- those of the first files
 abbrev pub IsHeldInFirst : WorldState → ℕ → HeldLock → Type 0
-IsHeldInFirst w i h = IsHeld w h × (h.file ≤ i)
+IsHeldInFirst w = IsUpTo (IsHeld w) (λ (h : HeldLock). h.file)
 
 pub held_none : (w : WorldState) (old : List HeldLock) → Adds (IsHeldInFirst w 0) IsHeldBefore old old
-held_none w old = adds_none (IsHeldInFirst w 0) IsHeldBefore old (λ h is. let least = (within_is w.shape.files h.file is.0.file_in).0 in absurd (omega (arith, is.1)))
+held_none w old = adds_first (IsHeld w) (λ (h : HeldLock). h.file) IsHeldBefore old (λ h is. (within_is w.shape.files h.file is.file_in).0)
 
 pub held_next : (w : WorldState) (i : ℕ) (old mid new : List HeldLock) → Adds (IsHeldInFirst w i) IsHeldBefore old mid → Adds (IsHeldIn w (i + 1)) IsHeldBefore mid new → Adds (IsHeldInFirst w (i + 1)) IsHeldBefore old new
-held_next w i old mid new =
-    adds_join (IsHeldInFirst w i) (IsHeldIn w (i + 1)) (IsHeldInFirst w (i + 1)) IsHeldBefore old mid new
-    (λ h is. (is.0, omega (arith, is.1)))
-    (λ h is. (is.0, omega (arith, is.1)))
-    (λ h is. elim (cases_lt h.file (i + 1)) [ inl lt ↦ inl (is.0, omega arith) | inr ge ↦ inr (is.0, omega (arith, is.1)) ])
-    (λ h k is next. inl (omega (arith, is.1, next.1)))
+held_next w i old mid new = adds_next (IsHeld w) (λ (h : HeldLock). h.file) IsHeldBefore i old mid new (λ h k is next lt. inl lt)
 
 pub held_all : (w : WorldState) (i : ℕ) (locks : List HeldLock) → w.shape.files ≤ i → Adds (IsHeldInFirst w i) IsHeldBefore [] locks → IsLockListing w locks
 held_all w i locks past adds =
-    adds_all (IsHeld w) IsHeldBefore locks (adds_same (IsHeldInFirst w i) (IsHeld w) IsHeldBefore [] locks
-    (λ h is. is.0)
-    (λ h is. (is, let most = (within_is w.shape.files h.file is.file_in).1 in omega arith))
-    adds)
+    adds_all (IsHeld w) IsHeldBefore locks
+    (adds_last (IsHeld w) (λ (h : HeldLock). h.file) IsHeldBefore i [] locks (λ h is. let most = (within_is w.shape.files h.file is.file_in).1 in omega arith) adds)

@@ -1,5 +1,5 @@
 -- Each step of a node keeps what holds of it.
-use Rattle.std.proofs.Common.{◌≡◌, ℕ, ◌+◌, ◌≤◌, Bool, true, false, if◌then◌else◌, ◌==◌, ◌&&◌, inl, inr, refl, sym, ◌∙◌, ap, subst, arith, nat_le, List, [], ◌∷◌, ◌++◌, find, Contains, Option, Some, None}
+use Rattle.std.proofs.Common.{◌≡◌, ℕ, ◌+◌, ◌≤◌, Bool, ◌==◌, inl, inr, refl, sym, ◌∙◌, ap, subst, arith, List, [], ◌∷◌, ◌++◌, find, Option, Some, None}
 use Rattle.std.proofs.lemmas.Bool.{eqb-true}
 use Rattle.std.proofs.lemmas.Option.{same_Some}
 use Rattle.std.proofs.lemmas.List.Elements.{All-same, All-push, All-contains}
@@ -18,16 +18,16 @@ use Rattle.messages.specs.declared.message.Message.TheVariants.{Request, Grant, 
 use Rattle.messages.specs.declared.event.Event.{Event}
 use Rattle.messages.specs.declared.event.Event.TheVariants.{Call, Deliver}
 use Rattle.messages.specs.declared.entry.Entry.{Entry}
-use Rattle.messages.specs.Messages.{addressee, host_of}
 use Rattle.node_core.specs.declared.open_call.OpenCall.{OpenCall}
-use Rattle.node_core.specs.State.{NodeState, Effect, quiet, without_call, process, id_of, outcome}
+use Rattle.node_core.specs.State.{NodeState, FileState, Effect, quiet, without_call, process, id_of, open_call_of, outcome}
 use Rattle.node_core.specs.Try.{refusal_of, tried, tried_if}
 use Rattle.node_core.specs.Calls.{called, after_call}
-use Rattle.node_core.specs.Commands.{remembered, in_order, before, after_command, granted, revoked, denied, delivered, is_node}
+use Rattle.node_core.specs.Commands.{remembered, in_order, after_command, granted, revoked, denied, delivered}
 use Rattle.cluster_core.specs.Histories.{IsRepliedAt}
 use Rattle.cluster_core.specs.Next.{entry}
 use Rattle.cluster_core.proofs.Entries.{not_there, IsNamed, Unanswered, unanswered-push, named-push}
 use Rattle.cluster_core.proofs.Fitting.{Called, called-keeps, called-last}
+use Rattle.cluster_core.proofs.NodeSteps.{IsTo, in_order_either}
 use Rattle.cluster_core.proofs.NodeTables.{IsOwn, same_follows}
 use Rattle.cluster_core.proofs.Tries.{Continues, IsAnswered, IsSilent, tried_ends, called_ends}
 use Rattle.cluster_core.proofs.Nodes.{IsOpen, Holds, Moves, IsNoDenial, open-continues, opened, all_wait, others_wait, found_open, stay_same, stay_closed, stay_opened}
@@ -43,7 +43,7 @@ own_after : (s u : NodeState) → Continues s u → IsOwn u.table u.node u.incar
 own_after s u g = subst (λ (i : ℕ). IsOwn u.table u.node i) (sym g.incarnation) (subst (λ (n : ℕ). IsOwn u.table n s.incarnation) (sym g.node) g.follows.own)
 
 -- a step that names no call and answers none
-pub silent_moves : (past : List Entry) (e : Entry) (s u : NodeState) → Continues s u → u.calls ≡ s.calls → u.pending ≡ s.pending → e.call ≡ None → IsSilent s u e.reply → Holds past s → Moves past s u e
+silent_moves : (past : List Entry) (e : Entry) (s u : NodeState) → Continues s u → u.calls ≡ s.calls → u.pending ≡ s.pending → e.call ≡ None → IsSilent s u e.reply → Holds past s → Moves past s u e
 silent_moves past e s u g calls pending none silent holds = record {
   holds = record {
     own = own_after s u g;
@@ -66,7 +66,7 @@ closed_holds past e s u number reply g calls none is_reply closed holds = record
 }
 
 -- a step that answers an open call
-pub answer_moves : (past : List Entry) (e : Entry) (s u : NodeState) (c : OpenCall) (o : IsOpen past s c) → IsNoDenial e.event → Continues s u → u.calls ≡ s.calls → e.call ≡ None → IsAnswered s c.number c.pid o.op u e.reply → Holds past s → Moves past s u e
+answer_moves : (past : List Entry) (e : Entry) (s u : NodeState) (c : OpenCall) (o : IsOpen past s c) → IsNoDenial e.event → Continues s u → u.calls ≡ s.calls → e.call ≡ None → IsAnswered s c.number c.pid o.op u e.reply → Holds past s → Moves past s u e
 answer_moves past e s u c o undenied g calls none a holds = record {
   holds = closed_holds past e s u c.number a.reply g calls none a.is_reply a.closed holds;
   node = g.node;
@@ -95,13 +95,8 @@ pub record Receives (past : List Entry) (s u : NodeState) (e : Entry) : Type 0 w
   pub moves : Moves past s u e
   pub idle : s.pending ≡ [] → (u.pending ≡ []) × IsSilent s u e.reply
 
-pub found_none : (test : OpenCall → Bool) (calls : List OpenCall) (c : OpenCall) → calls ≡ [] → find test calls ≡ Some c → ⊥
+found_none : (test : OpenCall → Bool) (calls : List OpenCall) (c : OpenCall) → calls ≡ [] → find test calls ≡ Some c → ⊥
 found_none test calls c none h = let e : find test [] ≡ Some c = subst (λ (x : List OpenCall). find test x ≡ Some c) none h in cc
-
--- the message is to the node, in its incarnation
-pub record IsTo (s : NodeState) (m : Message) : Type 0 where
-  pub node : is_node s.node (addressee m) ≡ true
-  pub incarnation : (host_of m).incarnation ≡ s.incarnation
 
 module _ (past : List Entry) (s : NodeState) (holds : Holds past s) where
   -- the entry of an effect that names no call
@@ -124,34 +119,41 @@ module _ (past : List Entry) (s : NodeState) (holds : Holds past s) where
   remembered_receives event None = quiet_receives event (quiet s) refl refl
   remembered_receives event (Some m) = quiet_receives event (remembered s (Some m)) refl refl
 
-  -- a grant: the call that it was for is tried
-  granted_receives : (event : Event) (file number : ℕ) (call : CallId) (mode : Mode) (span : Range) → IsNoDenial event → Receives past s (granted s file number call mode span).state (said event (granted s file number call mode span))
-  granted_receives event file number call mode span undenied =
-      let next = after_command s file (raised (s.files file).token span mode) number (Taken file number call) (s.files file).asked in
-      let first = Taken file number call in
-      let e = λ (x : Option OpenCall). said event (before first (tried_if next x)) in
-      let test : OpenCall → Bool = λ c. c.number == call.number in
-      let found = find test s.pending in
-      elim found as (λ x. found ≡ x → Receives past s (tried_if next x).state (e x)) [
-        | None ↦ λ h.
-            let silent : IsSilent s next None = record { no_reply = refl; table = refl } in
+  -- an open call is tried, where the node learned at most of files before
+  tried_receives : (files : ℕ → FileState) (test : OpenCall → Bool) (e : Entry) → IsNoDenial e.event → e.call ≡ None → e.reply ≡ (tried_if (record s { files = files }) (find test s.pending)).reply → Receives past s (tried_if (record s { files = files }) (find test s.pending)).state e
+  tried_receives files test e undenied none is_reply =
+      let next = record s { files = files } in
+      elim (find test s.pending) as (λ x. find test s.pending ≡ x → e.reply ≡ (tried_if next x).reply → Receives past s (tried_if next x).state e) [
+        | None ↦ λ h is.
+            let silent : IsSilent s next e.reply = record { no_reply = is; table = refl } in
             record {
-              moves = silent_moves past (e None) s next (record { node = refl; incarnation = refl; follows = same_follows s.table s.node s.incarnation holds.own }) refl refl refl silent holds;
-              idle = λ none. (none, silent);
+              moves = silent_moves past e s next (record { node = refl; incarnation = refl; follows = same_follows s.table s.node s.incarnation holds.own }) refl refl none silent holds;
+              idle = λ empty. (empty, silent);
             }
-        | Some c ↦ λ h.
+        | Some c ↦ λ h is.
             let o = All-contains (IsOpen past s) s.pending c holds.waiting (found_open test s.pending c h).0 in
             let u = (tried next c).state in
             let t = tried_ends next c o.op o.is_process.pid_in holds.own o.ready in
             let g : Continues s u = record { node = t.continues.node; incarnation = t.continues.incarnation; follows = t.continues.follows } in
             record {
               moves = elim t.ends [
-                | inl a ↦ answer_moves past (e (Some c)) s u c o undenied g t.calls refl (record { reply = a.reply; is_reply = a.is_reply; step = a.step; served = a.served; closed = a.closed }) holds
-                | inr q ↦ silent_moves past (e (Some c)) s u g t.calls q.1 refl (record { no_reply = q.0.no_reply; table = q.0.table }) holds
+                | inl a ↦ answer_moves past e s u c o undenied g t.calls none (record { reply = a.reply; is_reply = is ∙ a.is_reply; step = a.step; served = a.served; closed = a.closed }) holds
+                | inr q ↦ silent_moves past e s u g t.calls q.1 none (record { no_reply = is ∙ q.0.no_reply; table = q.0.table }) holds
               ];
-              idle = λ none. absurd (found_none test s.pending c none h);
+              idle = λ empty. absurd (found_none test s.pending c empty h);
             }
-      ] refl
+      ] refl is_reply
+
+  -- a retry
+  pub retried_receives : (event : Event) (incarnation pid : ℕ) → IsNoDenial event → Receives past s (tried_if s (open_call_of s pid)).state (entry event incarnation (outcome None (tried_if s (open_call_of s pid))).1)
+  retried_receives event incarnation pid undenied =
+      tried_receives s.files (λ c. c.pid == pid) (entry event incarnation (outcome None (tried_if s (open_call_of s pid))).1) undenied refl refl
+
+  -- a grant: the call that it was for is tried
+  granted_receives : (event : Event) (file number : ℕ) (call : CallId) (mode : Mode) (span : Range) → IsNoDenial event → Receives past s (granted s file number call mode span).state (said event (granted s file number call mode span))
+  granted_receives event file number call mode span undenied =
+      let next = after_command s file (raised (s.files file).token span mode) number (Taken file number call) (s.files file).asked in
+      tried_receives next.files (λ c. c.number == call.number) (said event (granted s file number call mode span)) undenied refl refl
 
   -- a revoke answers no call
   revoked_receives : (event : Event) (file number : ℕ) (call : CallId) (mode : Mode) (wanted : Wants) → Receives past s (revoked s file number call mode wanted).state (said event (revoked s file number call mode wanted))
@@ -202,16 +204,7 @@ module _ (past : List Entry) (s : NodeState) (holds : Holds past s) where
   -- a command: it is done, or the answer to the last one is sent again, or nothing
   in_order_receives : (event : Event) (file number : ℕ) (effect : Effect) → Receives past s effect.state (said event effect) → (let all = in_order s file number effect in Receives past s all.state (said event all))
   in_order_receives event file number effect done =
-      elim (number == (s.files file).last + 1) as (λ b. Receives past s (both b).state (said event (both b))) [
-        | true ↦ done
-        | false ↦ elim ((number == (s.files file).last) && nat_le 1 number) as (λ b. Receives past s (again b).state (said event (again b))) [ true ↦ remembered_receives event (s.files file).answer | false ↦ quiet_receives event (quiet s) refl refl ]
-      ]
-    where
-      again : Bool → Effect
-      again b = if b then remembered s (s.files file).answer else quiet s
-
-      both : Bool → Effect
-      both b = if b then effect else again ((number == (s.files file).last) && nat_le 1 number)
+      in_order_either (λ e. Receives past s e.state (said event e)) s file number effect (λ next. done) (remembered_receives event (s.files file).answer) (quiet_receives event (quiet s) refl refl)
 
   pub delivered_receives : (m : Message) → IsTo s m → Receives past s (delivered s m).state (said (Deliver m) (delivered s m))
   delivered_receives (Grant file number call mode span) to =

@@ -19,6 +19,7 @@ use Rattle.model.specs.Descriptors.{Processes, no_processes, with_process, with_
 use Rattle.model.specs.Table.{Table, Target, empty_table, target, beside, with_processes, lock_within, locked, regions_with, after_unlock}
 use Rattle.model.proofs.OwnerLaws.{owner_exact}
 use Rattle.model.proofs.DescriptorLaws.{lowest_description-number, lowest_fd-free}
+use Rattle.cluster_core.proofs.Choices.{if_either}
 use Rattle.cluster_core.proofs.Targets.{IsTarget, target_is, target-keeps}
 
 -- only the node's own processes and locks stand in the table, with numbers that they can have
@@ -53,6 +54,13 @@ own_empty node incarnation = record {
 -- processes of the node
 pub itself : (n i : ℕ) → ((n == n) && (i == i)) ≡ true
 itself n i = and_from _ _ (eq-eqb n n refl) (eq-eqb i i refl)
+
+-- its owners are of the node, in that incarnation
+pub owner_at-node : (n i k : ℕ) → (owner_at n i k).node ≡ n
+owner_at-node n i k = if_either (λ (o : Owner). o.node ≡ n) (nat_lt k 256) _ _ refl refl
+
+pub owner_at-incarnation : (n i k : ℕ) → (owner_at n i k).incarnation ≡ i
+owner_at-incarnation n i k = if_either (λ (o : Owner). o.incarnation ≡ i) (nat_lt k 256) _ _ refl refl
 
 module _ (t : Table) (node incarnation pid : ℕ) where
   on_own : (ps : Processes) → (with_processes t (record { node = node; incarnation = incarnation; pid = pid }) ps).on node incarnation ≡ ps

@@ -1,8 +1,8 @@
 -- What a node's step does to its tokens, and what it sends.
-use Rattle.std.specs.Prelude.{nat_le, ◌==◌}
+use Rattle.std.specs.Prelude.{◌==◌}
 use Rattle.std.specs.List.{filter_map, cons_option}
-use Rattle.std.proofs.Common.{◌≡◌, ℕ, ◌+◌, Bool, true, false, if◌then◌else◌, ◌&&◌, ◌||◌, ◌⊎◌, inl, inr, refl, sym, ◌∙◌, subst, List, [], ◌∷◌, ◌++◌, Option, Some, None, Result, Ok, Err}
-use Rattle.std.proofs.lemmas.Bool.{eqb-true, or_cases, or_left}
+use Rattle.std.proofs.Common.{◌≡◌, ℕ, ◌+◌, Bool, true, false, if◌then◌else◌, ◌||◌, ◌⊎◌, inl, inr, refl, sym, ◌∙◌, ap, subst, List, [], ◌∷◌, ◌++◌, Option, Some, None, Result, Ok, Err}
+use Rattle.std.proofs.lemmas.Bool.{or_cases, or_left}
 use Rattle.intervals.specs.Bytes.{Range}
 use Rattle.model.specs.declared.call.CallId.{CallId}
 use Rattle.model.specs.declared.host.Host.{Host}
@@ -13,7 +13,7 @@ use Rattle.model.specs.declared.op.Op.TheVariants.{Spawn, Open, Set, Unlock, Que
 use Rattle.model.specs.declared.reply.Reply.{Reply}
 use Rattle.model.specs.Locks.{lowest_blocker}
 use Rattle.model.specs.Table.{Target, target, lock_within}
-use Rattle.token_set.specs.Tokens.{covers, raised}
+use Rattle.token_set.specs.Tokens.{Token, covers, raised}
 use Rattle.token_set.specs.Releases.{gave_up, after_giving_up}
 use Rattle.token_set.specs.declared.gave_up.GaveUp.{GaveUp}
 use Rattle.token_set.specs.declared.gave_up.GaveUp.TheVariants as gives
@@ -25,12 +25,14 @@ use Rattle.messages.proofs.SameMessages.{same_message-is-equality}
 use Rattle.node_core.specs.declared.open_call.Intent.{Intent}
 use Rattle.node_core.specs.declared.open_call.Intent.TheVariants as intent
 use Rattle.node_core.specs.declared.open_call.OpenCall.{OpenCall}
-use Rattle.node_core.specs.State.{FileState, NodeState, Effect, quiet, sent, answered, host, open_call, process, target_of}
+use Rattle.node_core.specs.State.{FileState, NodeState, Effect, quiet, answered, host, open_call, process, target_of}
 use Rattle.node_core.specs.Try.{settled as after_settling, may_free, with_freed, locked_by, answered_here, tried, tried_against, tried_if, requested}
 use Rattle.node_core.specs.Calls.{lock_call, unlock_call, called}
 use Rattle.node_core.specs.Commands.{granted, revoked, answer_to, is_conflict, after_command, in_order, denied, remembered}
-use Rattle.cluster_core.proofs.KnownMessages.{is_among-append}
-use Rattle.cluster_core.proofs.Talks.{at_number, IsHostOf, IsCommandTo, IsAnswerOf, unasked}
+use Rattle.cluster_core.proofs.Choices.{if_either, at_number}
+use Rattle.cluster_core.proofs.KnownMessages.{sent_either}
+use Rattle.cluster_core.proofs.NodeSteps.{in_order_either}
+use Rattle.cluster_core.proofs.Talks.{settled, IsHostOf, IsCommandTo, IsAnswerOf, unasked}
 use Rattle.cluster_core.proofs.TalkMoves.{done_file}
 
 -- each of the messages is so
@@ -50,7 +52,7 @@ pub only_one : (P : Message → Type 0) (x : Message) → P x → Only P (x ∷ 
 only_one P x here = only_more P x [] here (only_none P)
 
 pub only_both : (P : Message → Type 0) (xs ys : List Message) → Only P xs → Only P ys → Only P (xs ++ ys)
-only_both P xs ys first rest m there = elim (or_cases (is_among xs m) (is_among ys m) (sym (is_among-append xs ys m) ∙ there)) [ inl here ↦ first m here | inr later ↦ rest m later ]
+only_both P xs ys first rest m there = elim (sent_either xs ys m there) [ inl here ↦ first m here | inr later ↦ rest m later ]
 
 -- what holds of each that a list of numbers gives
 pub only_mapped : (P : Message → Type 0) (f : ℕ → Option Message) (ns : List ℕ) → ((n : ℕ) (m : Message) → f n ≡ Some m → P m) → Only P (filter_map f ns)
@@ -94,10 +96,6 @@ pub record Asks (node incarnation : ℕ) (files : ℕ → FileState) (e : Effect
 
 abbrev pub AsksFrom : NodeState → Effect → Type 0
 AsksFrom s e = Asks s.node s.incarnation s.files e
-
-if_asks : (s : NodeState) (b : Bool) (x y : Effect) → AsksFrom s x → AsksFrom s y → AsksFrom s (if b then x else y)
-if_asks s true x y p q = p
-if_asks s false x y p q = q
 
 -- nothing is sent
 says_nothing : (s : NodeState) (e : Effect) → e.state.node ≡ s.node → e.state.incarnation ≡ s.incarnation → ((file : ℕ) → unasked (e.state.files file) ≡ unasked (s.files file)) → e.sends ≡ [] → AsksFrom s e
@@ -144,7 +142,7 @@ locked_by_asks s number about mode =
     let answer = lock_within s.table about mode in
     let e = after_settling s number answer in
     let plain : AsksFrom s e = says_nothing s e refl refl (λ file. refl) refl in
-    if_asks s (may_free mode answer.1) (with_freed about.file e) e (with_freed_asks s about.file e plain) plain
+    if_either (AsksFrom s) (may_free mode answer.1) (with_freed about.file e) e (with_freed_asks s about.file e plain) plain
 
 requested_asks : (s : NodeState) (c : OpenCall) → AsksFrom s (requested s c)
 requested_asks s c = record { node_is = refl; incarnation_is = refl; files_are = λ file. refl; sends = only_one (IsAsking s.node s.incarnation) _ (refl, refl) }
@@ -155,7 +153,7 @@ answered_here_asks s c intent.Query = says_nothing s _ refl refl (λ file. refl)
 
 tried_against_asks : (s : NodeState) (c : OpenCall) (o : Option LockInfo) → AsksFrom s (tried_against s c o)
 tried_against_asks s c (Some lock) = says_nothing s (tried_against s c (Some lock)) refl refl (λ file. refl) refl
-tried_against_asks s c None = if_asks s (covers (s.files c.file).token c.span c.mode) (answered_here s c c.intent) (requested s c) (answered_here_asks s c c.intent) (requested_asks s c)
+tried_against_asks s c None = if_either (AsksFrom s) (covers (s.files c.file).token c.span c.mode) (answered_here s c c.intent) (requested s c) (answered_here_asks s c c.intent) (requested_asks s c)
 
 -- a try of an open call
 pub tried_asks : (s : NodeState) (c : OpenCall) → AsksFrom s (tried s c)
@@ -235,43 +233,31 @@ granted_does s file number call mode span node incarnation is_next =
       told = first_among answer effect.sends;
     }
 
--- what a revoke comes to, by what the node gives up
-revoking : NodeState → ℕ → ℕ → CallId → Mode → GaveUp → Effect
-revoking s file number call mode up =
-    let answer = answer_to file number (host s) call up in
-    sent (after_command s file (after_giving_up (s.files file).token mode up) number answer (is_conflict up || (s.files file).asked)) answer
+-- what the node gives up, and how it answers
+answer_is : (s : NodeState) (file number : ℕ) (call : CallId) (up : GaveUp) → IsAnswerOf file s.node s.incarnation number (answer_to file number (host s) call up)
+answer_is s file number call (gives.Released span) = (refl, refl, refl, refl)
+answer_is s file number call (gives.Conflict lock) = (refl, refl, refl, refl)
 
-revoking_does : (s : NodeState) (file number : ℕ) (holder : Host) (call : CallId) (mode : Mode) (wanted : Wants) (up : GaveUp) → number ≡ (s.files file).last + 1 → Does s file number (Revoke file number holder call mode wanted) (revoking s file number call mode up)
-unfolding revoking
-revoking_does s file number holder call mode wanted (gives.Released span) is_next =
-    let answer = answer_to file number (host s) call (gives.Released span) in
-    record {
-      answer = answer;
-      of = (refl, refl, refl, refl);
-      is_next = is_next;
-      node_is = refl;
-      incarnation_is = refl;
-      files_are = λ g. unasked_if (g == file) _ (s.files g);
-      sends = only_one (λ m. (m ≡ answer) ⊎ IsAsking s.node s.incarnation m) answer (inl refl);
-      told = first_among answer [];
-    }
-revoking_does s file number holder call mode wanted (gives.Conflict lock) is_next =
-    let answer = answer_to file number (host s) call (gives.Conflict lock) in
-    record {
-      answer = answer;
-      of = (refl, refl, refl, refl);
-      is_next = is_next;
-      node_is = refl;
-      incarnation_is = refl;
-      files_are = λ g. unasked_if (g == file) _ (s.files g);
-      sends = only_one (λ m. (m ≡ answer) ⊎ IsAsking s.node s.incarnation m) answer (inl refl);
-      told = first_among answer [];
-    }
+given_up : (t : Token) (file number : ℕ) (holder own : Host) (call : CallId) (mode : Mode) (wanted : Wants) (up : GaveUp) → after_giving_up t mode up ≡ settled t (Revoke file number holder call mode wanted) (answer_to file number own call up)
+given_up t file number holder own call mode wanted (gives.Released span) = refl
+given_up t file number holder own call mode wanted (gives.Conflict lock) = refl
 
 revoked_does : (s : NodeState) (file number : ℕ) (holder : Host) (call : CallId) (mode : Mode) (wanted : Wants) → number ≡ (s.files file).last + 1 → Does s file number (Revoke file number holder call mode wanted) (revoked s file number call mode wanted)
-unfolding revoking
 revoked_does s file number holder call mode wanted is_next =
-    revoking_does s file number holder call mode wanted (gave_up (s.table.locks file) s.node s.incarnation mode wanted.required wanted.desired) is_next
+    let up = gave_up (s.table.locks file) s.node s.incarnation mode wanted.required wanted.desired in
+    let answer = answer_to file number (host s) call up in
+    record {
+      answer = answer;
+      of = answer_is s file number call up;
+      is_next = is_next;
+      node_is = refl;
+      incarnation_is = refl;
+      files_are = λ g.
+          unasked_if (g == file) (record { token = after_giving_up (s.files file).token mode up; last = number; answer = Some answer; asked = is_conflict up || (s.files file).asked }) (s.files g)
+          ∙ ap (λ (t : Token). if g == file then record { token = t; last = number; answer = Some answer; asked = false } else unasked (s.files g)) (given_up (s.files file).token file number holder (host s) call mode wanted up);
+      sends = only_one (λ m. (m ≡ answer) ⊎ IsAsking s.node s.incarnation m) answer (inl refl);
+      told = first_among answer [];
+    }
 
 remembered_repeats : (s : NodeState) (file : ℕ) (answer : Option Message) → (s.files file).answer ≡ answer → Repeats s (remembered s answer) ⊎ AsksFrom s (remembered s answer)
 remembered_repeats s file None is = inr (quiet_asks s)
@@ -280,19 +266,7 @@ remembered_repeats s file (Some m) is = inl (record { file = file; answer = m; t
 -- commands are done in the order of their numbers
 in_order_receives : (s : NodeState) (file number : ℕ) (command : Message) (e : Effect) → (number ≡ (s.files file).last + 1 → Does s file number command e) → Receives s file number command (in_order s file number e)
 in_order_receives s file number command e does =
-    elim (number == (s.files file).last + 1) as (λ b. (number == (s.files file).last + 1) ≡ b → Receives s file number command (both b)) [
-      | true ↦ λ h. inl (does (eqb-true number ((s.files file).last + 1) h))
-      | false ↦ λ h. inr (elim ((number == (s.files file).last) && nat_le 1 number) as (λ b. Repeats s (again b) ⊎ AsksFrom s (again b)) [
-        | true ↦ remembered_repeats s file (s.files file).answer refl
-        | false ↦ inr (quiet_asks s)
-      ])
-    ] refl
-  where
-    again : Bool → Effect
-    again b = if b then remembered s (s.files file).answer else quiet s
-
-    both : Bool → Effect
-    both b = if b then e else again ((number == (s.files file).last) && nat_le 1 number)
+    in_order_either (Receives s file number command) s file number e (λ is. inl (does is)) (inr (remembered_repeats s file (s.files file).answer refl)) (inr (inr (quiet_asks s)))
 
 -- a Grant that is delivered to the incarnation that it is for
 pub grant_receives : (s : NodeState) (file number : ℕ) (call : CallId) (mode : Mode) (span : Range) → call.node ≡ s.node → call.incarnation ≡ s.incarnation → Receives s file number (Grant file number call mode span) (in_order s file number (granted s file number call mode span))

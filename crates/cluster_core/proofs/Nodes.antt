@@ -1,13 +1,12 @@
 -- What holds of a node after each run, and what its steps make of that.
-use Rattle.std.proofs.Common.{◌≡◌, ℕ, suc, ◌≤◌, Bool, true, false, not, if◌then◌else◌, ◌==◌, ◌⊎◌, refl, sym, ◌∙◌, ap, subst, arith, List, [], ◌∷◌, ◌++◌, filter, find, All, Contains, inl, inr, Some, None}
-use Rattle.std.proofs.lemmas.Bool.{eq-eqb, both_ways}
+use Rattle.std.proofs.Common.{◌≡◌, ℕ, suc, ◌≤◌, Bool, true, false, not, if◌then◌else◌, ◌==◌, ◌⊎◌, refl, sym, ap, subst, arith, List, [], ◌∷◌, ◌++◌, filter, find, All, Contains, inl, inr, Some, None}
+use Rattle.std.proofs.lemmas.Bool.{eq-eqb, both_ways, not-true}
 use Rattle.std.proofs.lemmas.List.Elements.{All-filter, All-weaker, All-same, All-push, All-contains_itself, filter_passes}
 use Rattle.model.specs.declared.call.CallId.{CallId}
 use Rattle.model.specs.declared.host.Host.{Host}
 use Rattle.model.specs.declared.lock_info.LockInfo.{LockInfo}
 use Rattle.model.specs.declared.mode.Mode.{Mode}
 use Rattle.model.specs.declared.op.Op.{Op}
-use Rattle.model.specs.declared.op.Op.TheVariants.{Spawn, Open, Set, Unlock, Query}
 use Rattle.model.specs.declared.process.Process.{Process}
 use Rattle.model.specs.declared.reply.Reply.{Reply}
 use Rattle.model.specs.Limits.{IsProcess}
@@ -24,7 +23,8 @@ use Rattle.cluster_core.proofs.Entries.{not_there, same_answer, IsNamed, Unanswe
 use Rattle.cluster_core.proofs.Fitting.{Called, called-keeps}
 use Rattle.cluster_core.specs.Evidence.{IsAbout}
 use Rattle.cluster_core.proofs.NodeTables.{IsOwn, GoesOn, target_goes_on}
-use Rattle.cluster_core.proofs.Tries.{IsReady, IsServed, Continues, IsSilent}
+use Rattle.cluster_core.proofs.Tries.{about_maps, IsReady, IsServed, Continues, IsSilent}
+use Rattle.cluster_core.proofs.Lists.{All-both}
 
 -- an open call: it passes its tests, stands in the run, and is not answered there
 pub record IsOpen (past : List Entry) (s : NodeState) (c : OpenCall) : Type 0 where
@@ -58,11 +58,7 @@ open-push past e s c other o = record {
 
 -- what a call is about it stays about while its process goes on
 about_goes_on : (t u : Table) (node incarnation pid : ℕ) (op : Op) (mode : Mode) (c : Target) → GoesOn (t.on node incarnation) (u.on node incarnation) → IsAbout t (record { node = node; incarnation = incarnation; pid = pid }) op mode c → IsAbout u (record { node = node; incarnation = incarnation; pid = pid }) op mode c
-about_goes_on t u node incarnation pid (Set fd kind m start len) mode c g a = (a.0, target_goes_on t u node incarnation pid (Some m) fd kind start len c g a.1)
-about_goes_on t u node incarnation pid (Query fd kind m start len) mode c g a = (a.0, target_goes_on t u node incarnation pid None fd kind start len c g a.1)
-about_goes_on t u node incarnation pid Spawn mode c g a = a
-about_goes_on t u node incarnation pid (Open file access) mode c g a = a
-about_goes_on t u node incarnation pid (Unlock fd kind start len) mode c g a = a
+about_goes_on t u node incarnation pid op mode c g a = about_maps t u (record { node = node; incarnation = incarnation; pid = pid }) op mode c (λ need fd kind start len h. target_goes_on t u node incarnation pid need fd kind start len c g h) a
 
 -- and while its node goes on
 pub ready-continues : (s u : NodeState) (pid : ℕ) (op : Op) (c : OpenCall) → Continues s u → IsReady s.table (process s pid) op c → IsReady u.table (process u pid) op c
@@ -95,23 +91,16 @@ all_wait past e s u calls g none waiting = All-weaker (IsOpen past s) (IsOpen (p
 pub others_wait : (past : List Entry) (e : Entry) (s u : NodeState) (number : ℕ) (reply : Reply) → Continues s u → e.reply ≡ Some (id_of s number, reply) → All (IsOpen past s) s.pending → All (IsOpen (past ++ e ∷ []) u) (without_call s number).pending
 others_wait past e s u number reply g is waiting =
     let test : OpenCall → Bool = λ c. not (c.number == number) in
-    All-both each (filter test s.pending) (All-filter test (IsOpen past s) s.pending waiting) (filter_passes test s.pending)
+    All-both (IsOpen past s) (λ c. test c ≡ true) (IsOpen (past ++ e ∷ []) u) each (filter test s.pending) (All-filter test (IsOpen past s) s.pending waiting) (filter_passes test s.pending)
   where
     apart : (c : OpenCall) → not (c.number == number) ≡ true → c.number ≡ number → ⊥
-    apart c h same = both_ways (c.number == number) (opposite (c.number == number) h) (eq-eqb c.number number same)
-      where
-        opposite : (b : Bool) → not b ≡ true → b ≡ false
-        opposite true x = absurd (cc)
-        opposite false x = refl
+    apart c h same = both_ways (c.number == number) (not-true (c.number == number) h) (eq-eqb c.number number same)
 
     other : (c : OpenCall) → not (c.number == number) ≡ true → (r : Reply) → e.reply ≡ Some (id_of s c.number, r) → ⊥
     other c h r said = apart c h (ap (λ (id : CallId). id.number) (same_answer e.reply (id_of s c.number) (id_of s number) r reply said is).0)
 
     each : (c : OpenCall) → IsOpen past s c → not (c.number == number) ≡ true → IsOpen (past ++ e ∷ []) u c
     each c o h = open-continues (past ++ e ∷ []) s u c g (open-push past e s c (other c h) o)
-
-    All-both : ((c : OpenCall) → IsOpen past s c → not (c.number == number) ≡ true → IsOpen (past ++ e ∷ []) u c) → (cs : List OpenCall) → All (IsOpen past s) cs → All (λ c. not (c.number == number) ≡ true) cs → All (IsOpen (past ++ e ∷ []) u) cs
-    All-both f cs a b k d lt = f _ (a k d lt) (b k d lt)
 
 -- an open call that is found is one of those, and passes
 pub found_open : (test : OpenCall → Bool) (calls : List OpenCall) (c : OpenCall) → find test calls ≡ Some c → Contains calls c × (test c ≡ true)

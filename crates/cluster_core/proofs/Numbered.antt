@@ -1,8 +1,10 @@
 -- The item with a number in a list of those from a number on.
 use Rattle.std.specs.Prelude.{slice_set, slice_index_or, ◌==◌}
-use Rattle.std.proofs.Common.{◌≡◌, ℕ, zero, suc, ◌+◌, ◌<◌, ◌≤◌, Bool, true, false, if◌then◌else◌, refl, sym, ◌∙◌, ap, subst, arith, List, [], ◌∷◌, ◌++◌, length, length-append}
+use Rattle.std.proofs.Common.{◌≡◌, ℕ, zero, suc, ◌+◌, ◌<◌, Bool, true, false, if◌then◌else◌, refl, sym, ◌∙◌, ap, subst, arith, List, [], ◌∷◌, ◌++◌, length, length-append}
+use Rattle.std.proofs.lemmas.Bool.{eqb-true}
 use Rattle.std.proofs.lemmas.Bool.Decides.{nat_tests}
 use Rattle.cluster_core.specs.Parts.{numbered, IsRest}
+use Rattle.cluster_core.proofs.Choices.{if_again}
 
 -- a place after the first is not the first
 later : (from k : ℕ) → ((from + suc k) == from) ≡ false
@@ -24,10 +26,6 @@ numbered-read f rest from (y ∷ ys) (suc k) x lt is =
     ap (λ (b : Bool). if b then f y else numbered f rest (from + 1) ys (from + suc k)) (later from k)
     ∙ (ap (λ (n : ℕ). numbered f rest (from + 1) ys n) (onward from k) ∙ numbered-read f rest (from + 1) ys k x lower is)
 
-same_test : {B : Type 0} (b : Bool) (x y z : B) → (if b then x else z) ≡ (if b then x else (if b then y else z))
-same_test true x y z = refl
-same_test false x y z = refl
-
 swapped : {B : Type 0} (a b : Bool) (x y z : B) → (a ≡ true → b ≡ false) → (if a then y else (if b then x else z)) ≡ (if b then x else (if a then y else z))
 swapped true true x y z apart = cc (apart refl)
 swapped true false x y z apart = refl
@@ -41,7 +39,7 @@ pub numbered-set : {A B : Type 0} (f : A → B) (rest : ℕ → B) (from : ℕ) 
 unfolding numbered
 numbered-set f rest from [] k x lt n = absurd (omega arith)
 numbered-set f rest from (y ∷ ys) zero x lt n =
-    same_test (n == from) (f x) (f y) (numbered f rest (from + 1) ys n)
+    if_again (n == from) (f x) (f y) (numbered f rest (from + 1) ys n)
     ∙ ap (λ (m : ℕ). if n == m then f x else (if n == from then f y else numbered f rest (from + 1) ys n)) (omega arith)
 numbered-set f rest from (y ∷ ys) (suc k) x lt n =
     let lower : k < length ys = omega arith in
@@ -66,9 +64,6 @@ either : {B : Type 0} (b : Bool) (x y z : B) → (b ≡ true → x ≡ z) → y 
 either true x y z same other = same refl
 either false x y z same other = other
 
-number_is : (n m : ℕ) → (n == m) ≡ true → m ≡ n
-number_is n m h = grind (arith, nat_tests, h)
-
 pub begun_empty : {A B : Type 0} (f : A → B) (rest : ℕ → B) → Begun f rest [] 0
 unfolding numbered
 begun_empty f rest = record { there = refl; first = λ n. refl }
@@ -81,7 +76,7 @@ begun_more f rest xs ys i x begun is made =
       first = λ n.
           numbered-push f rest 1 xs x n
           ∙ either (n == 1 + length xs) (f x) (numbered f rest 1 xs n) (rest n)
-          (λ h. is ∙ ap rest (next ∙ number_is n (1 + length xs) h))
+          (λ h. is ∙ ap rest (next ∙ sym (eqb-true n (1 + length xs) h)))
           (begun.first n);
     })
   where

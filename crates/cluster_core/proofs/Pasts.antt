@@ -1,5 +1,5 @@
 -- Each step of the cluster keeps what holds of it and of its past, where tokens are apart and answers are known.
-use Rattle.std.proofs.Common.{◌≡◌, ℕ, ◌+◌, ◌<◌, ◌≤◌, Bool, true, false, not, if◌then◌else◌, ◌&&◌, ◌||◌, ◌==◌, ◌⊎◌, inl, inr, refl, sym, ◌∙◌, ap, subst, arith, nat_le, nat_lt, is_some, List, [], ◌∷◌, ◌++◌, append-nil, append_assoc, All, Contains, Option, Some, None, Result, Ok, Err}
+use Rattle.std.proofs.Common.{◌≡◌, ℕ, ◌+◌, Bool, true, false, if◌then◌else◌, ◌&&◌, ◌||◌, ◌==◌, inl, inr, refl, sym, ◌∙◌, ap, subst, arith, nat_le, List, [], ◌∷◌, ◌++◌, append-nil, append_assoc, All, Option, Some, None, Result, Ok}
 use Rattle.std.specs.List.{list_any}
 use Rattle.std.proofs.lemmas.Bool.{and_parts, both_ways, cases_Bool, eqb-true, eq-eqb, false≢true, or_right}
 use Rattle.std.proofs.lemmas.Bool.Decides.{nat_tests}
@@ -16,11 +16,9 @@ use Rattle.model.specs.Locks.{lowest_in_way}
 use Rattle.token_set.specs.Releases.{given_up_span, answer_of}
 use Rattle.messages.specs.Shapes.{ShapeFields, IsShape}
 use Rattle.messages.specs.Wants.{Wants}
-use Rattle.messages.specs.Messages.{addressee, host_of, file_of, is_among, is_conflict, is_within, same_host, same_message}
-use Rattle.messages.proofs.SameMessages.{same_message-is-equality}
+use Rattle.messages.specs.Messages.{addressee, is_among, is_conflict, is_within, same_host, same_message}
+use Rattle.messages.proofs.SameMessages.{host_exact, same_message-is-equality}
 use Rattle.messages.specs.declared.refusal.StepError.{StepError}
-use Rattle.messages.specs.declared.refusal.StepError.TheVariants as step
-use Rattle.messages.specs.declared.refusal.Refused.TheVariants.{Stranger, JournalFull}
 use Rattle.messages.specs.declared.message.Message.{Message}
 use Rattle.messages.specs.declared.message.Message.TheVariants.{Request, Grant, Revoke, Taken, Released, Conflict, Deny, Freed}
 use Rattle.messages.specs.declared.event.Event.{Event}
@@ -29,33 +27,32 @@ use Rattle.messages.specs.declared.entry.Entry.{Entry}
 use Rattle.messages.specs.declared.outcome.Outcome.{Outcome}
 use Rattle.node_core.specs.declared.event.NodeEvent.TheVariants as node
 use Rattle.node_core.specs.declared.open_call.OpenCall.{OpenCall}
-use Rattle.node_core.specs.State.{NodeState, Effect, quiet, sent, host, outcome, process, open_call_of}
+use Rattle.node_core.specs.State.{NodeState, Effect, quiet, host, outcome, process, open_call_of}
 use Rattle.node_core.specs.Try.{tried_if}
 use Rattle.node_core.specs.Calls.{is_pid, is_in_shape, after_call}
-use Rattle.node_core.specs.Commands.{remembered, in_order, after_command, answer_to, revoked, delivered, is_node, deliver_rule}
+use Rattle.node_core.specs.Commands.{remembered, answer_to, revoked, delivered, deliver_rule}
 use Rattle.node_core.specs.Retries.{retry_rule}
 use Rattle.node_core.specs.Node.{node_rule}
-use Rattle.token_server.specs.declared.event.ServerEvent.{ServerEvent}
 use Rattle.token_server.specs.declared.event.ServerEvent.TheVariants as server
 use Rattle.token_server.specs.State.{ServerState}
 use Rattle.token_server.specs.Server.{server_rule}
-use Rattle.cluster_core.specs.World.{WorldState, first_world, journal_limit, has_node}
-use Rattle.cluster_core.specs.Next.{has_actor, is_known, entry, recorded, named_incarnation, with_node, with_server, after_node, after_server, taken, next}
+use Rattle.cluster_core.specs.World.{WorldState, first_world, has_node}
+use Rattle.cluster_core.specs.Next.{has_actor, is_known, entry, recorded, with_node, after_node, after_server, taken, next}
 use Rattle.cluster_core.specs.Runs.{Leads}
 use Rattle.cluster_core.specs.Safe.{IsSafe}
 use Rattle.cluster_core.proofs.Heard.{IsHeard}
 use Rattle.cluster_core.specs.Histories.{EntryAt, names_conflict, HasHistory, EachAtItsPlace}
 use Rattle.cluster_core.specs.Evidence.{IsTold, HasEvidence}
-use Rattle.cluster_core.specs.Placement.{slots_of, items_in, history_of}
+use Rattle.cluster_core.proofs.Placement.{slots_of, items_in, history_of}
 use Rattle.cluster_core.specs.Plain.{IsPlainHistory}
 use Rattle.cluster_core.proofs.Entries.{none_named, none_called, none_replied}
-use Rattle.cluster_core.proofs.Targets.{ok_is, if_ok}
+use Rattle.cluster_core.proofs.NodeSteps.{IsTo, call_done, deliver_done, retry_done}
+use Rattle.cluster_core.proofs.Steps.{next_taken, node_step, server_step}
 use Rattle.cluster_core.proofs.ServerSteps.{IsSending, server_rule-sending}
 use Rattle.cluster_core.proofs.NodeTables.{IsOwn, own_empty}
 use Rattle.cluster_core.proofs.Tries.{IsSilent}
-use Rattle.cluster_core.proofs.Nodes.{IsOpen, IsExplained, IsDenied, Moves, IsNoDenial, found_open}
-use Rattle.cluster_core.proofs.Moves.{IsTo, delivered_receives, quiet_receives, call_moves}
-use Rattle.cluster_core.proofs.Retries.{retried_receives}
+use Rattle.cluster_core.proofs.Nodes.{IsOpen, IsExplained, IsDenied, Moves, found_open}
+use Rattle.cluster_core.proofs.Moves.{delivered_receives, quiet_receives, retried_receives, call_moves}
 use Rattle.cluster_core.proofs.Lifting.{IsFreeElsewhere}
 use Rattle.cluster_core.proofs.Unbarred.{safe_free}
 use Rattle.cluster_core.proofs.Requested.{Comes, Makes, Tells, delivered-steps, resend-steps}
@@ -63,27 +60,8 @@ use Rattle.cluster_core.proofs.Sends.{IsFreely, AsksFor, Conflicts, called-sends
 use Rattle.cluster_core.proofs.Slots.{slotted_first, all_slotted_first, slots_fit, slots_legal, slots_at_their_places}
 use Rattle.cluster_core.proofs.Plain.{plain_slots, plain_legal, plain_items}
 use Rattle.cluster_core.proofs.Witnesses.{IsAskedBy, Denies, Backed, HeldFor, StaysOpen, backed-keeps}
-use Rattle.cluster_core.proofs.Denials.{Revokes, denies_now}
+use Rattle.cluster_core.proofs.Denials.{denies_now}
 use Rattle.cluster_core.proofs.Worlds.{Good, replied_named, server_good, node_good, stays, asks, leads_on, union_stays, others_stay}
-
--- a step that is not refused
-let_through : {A E : Type 0} (full known : Bool) (x : Result A E) (p : A) (a b : E) → ◌≡◌ {A = Result A E} (if full then Err a else (if not known then Err b else x)) (Ok p) → (known ≡ true) × (x ≡ Ok p)
-let_through true known x p a b h = absurd (cc)
-let_through false true x p a b h = (refl, h)
-let_through false false x p a b h = absurd (cc)
-
-taken_call : {A E : Type 0} (stranger busy few : Bool) (x p : A) (a b c : E) → ◌≡◌ {A = Result A E} (if stranger then Err a else (if busy then Err b else (if few then Ok x else Err c))) (Ok p) → x ≡ p
-taken_call true busy few x p a b c h = absurd (cc)
-taken_call false true few x p a b c h = absurd (cc)
-taken_call false false true x p a b c h = ok_is x p h
-taken_call false false false x p a b c h = absurd (cc)
-
--- a message that is not refused is taken, or does nothing
-taken_message : {A E : Type 0} (ours known here : Bool) (x y p : A) (a : E) → ◌≡◌ {A = Result A E} (if not (ours && known) then Err a else (if here then Ok x else Ok y)) (Ok p) → ((ours ≡ true) × (here ≡ true) × (x ≡ p)) ⊎ (y ≡ p)
-taken_message false known here x y p a h = absurd (cc)
-taken_message true false here x y p a h = absurd (cc)
-taken_message true true true x y p a h = inl (refl, refl, ok_is x p h)
-taken_message true true false x y p a h = inr (ok_is y p h)
 
 -- the message that is delivered
 message_in : Event → Option Message
@@ -119,12 +97,10 @@ conflict_is : (file : ℕ) (holder : Host) (number : ℕ) (m : Message) → is_c
 conflict_is file holder number (Conflict f k h call lock) is =
     let first = and_parts (f == file) ((k == number) && same_host h holder) is in
     let second = and_parts (k == number) (same_host h holder) first.1 in
-    let third = and_parts (h.node == holder.node) (h.incarnation == holder.incarnation) second.1 in
     let files = eqb-true f file first.0 in
     let numbers = eqb-true k number second.0 in
-    let nodes = eqb-true h.node holder.node third.0 in
-    let incarnations = eqb-true h.incarnation holder.incarnation third.1 in
-    (call, lock, λ i. Conflict (files i) (numbers i) (record { node = nodes i; incarnation = incarnations i }) call lock)
+    let holders = host_exact h holder second.1 in
+    (call, lock, λ i. Conflict (files i) (numbers i) (holders i) call lock)
 conflict_is file holder number (Request f call urgency mode wanted) is = absurd (false≢true is)
 conflict_is file holder number (Grant f k call mode span) is = absurd (false≢true is)
 conflict_is file holder number (Revoke f k h call mode wanted) is = absurd (false≢true is)
@@ -225,8 +201,8 @@ module _ (shape : ShapeFields) (past : List Entry) (w : WorldState) (few : IsNum
       let event = Retry n pid in
       let effect = tried_if s (open_call_of s pid) in
       let P : NodeState × Outcome → Type 0 = λ d. After event (recorded (with_node w n d.0) event s.incarnation d.1) in
-      let received = retried_receives past s event s.incarnation tt (g.holds n) pid in
-      let is = (if_ok (is_pid pid) (outcome None effect) done step.Stranger h).1 in
+      let received = retried_receives past s (g.holds n) event s.incarnation pid tt in
+      let is = retry_done s pid done h in
       let o = (outcome None effect).1 in
       let run = past ++ entry event s.incarnation o ∷ [] in
       let v = (recorded (with_node w n effect.state) event s.incarnation o).0 in
@@ -335,10 +311,7 @@ module _ (shape : ShapeFields) (past : List Entry) (w : WorldState) (few : IsNum
   message_good n m done there known h =
       let s = w.nodes n in
       let P : NodeState × Outcome → Type 0 = λ d. After (Deliver m) (recorded (with_node w n d.0) (Deliver m) 0 d.1) in
-      elim (taken_message (is_node s.node (addressee m)) (is_within s.shape.files (file_of m)) ((host_of m).incarnation == s.incarnation) (outcome None (delivered s m)) (outcome None (quiet s)) done step.Stranger h) [
-        | inl is ↦ subst P is.2 (delivered_good n m there known (record { node = is.0; incarnation = eqb-true (host_of m).incarnation s.incarnation is.1 }))
-        | inr is ↦ subst P is (idle_good n m there known)
-      ]
+      elim (deliver_done s m done h) [ inl taken ↦ subst P taken.1 (delivered_good n m there known taken.0) | inr passed ↦ subst P passed (idle_good n m there known) ]
 
   -- a step of a server
   makes : (file : ℕ) → Makes file (HeldFor shape past file) (Backed shape past w)
@@ -348,11 +321,10 @@ module _ (shape : ShapeFields) (past : List Entry) (w : WorldState) (few : IsNum
   Serves file r = (done : ServerState × Outcome) → r ≡ Ok done → Comes file (HeldFor shape past file) (Backed shape past w) done.0 × All (Backed shape past w) done.1.sends
 
   server_next : (event : Event) (file : ℕ) (r : Result (ServerState × Outcome) StepError) (p : WorldState × Entry) → ((done : ServerState × Outcome) → r ≡ Ok done → IsSending done) → Serves file r → after_server w event file r ≡ Ok p → After event p
-  server_next event file (Ok done) p sends serves h =
-      let both = sends done refl in
-      let kept = serves done refl in
-      subst (After event) (ok_is _ p h) (λ made_so safe. (few, server_good shape past w file done.0 event done.1 both.0 both.1 g made_so kept.0 kept.1))
-  server_next event file (Err e) p sends serves h = absurd (cc)
+  server_next event file r p sends serves h = server_step w (After event) event file r p (λ done is.
+      let both = sends done is in
+      let kept = serves done is in
+      λ made_so safe. (few, server_good shape past w file done.0 event done.1 both.0 both.1 g made_so kept.0 kept.1)) h
 
   told_good : (m : Message) (file : ℕ) (p : WorldState × Entry) → Tells file (HeldFor shape past file) (Backed shape past w) m → after_server w (Deliver m) file (server_rule (w.servers file) (server.Deliver m)) ≡ Ok p → After (Deliver m) p
   told_good m file p tells h =
@@ -364,19 +336,15 @@ module _ (shape : ShapeFields) (past : List Entry) (w : WorldState) (few : IsNum
       let t = w.servers file in
       server_next (Resend file) file (server_rule t server.Resend) p (λ done is. server_rule-sending t server.Resend done is) (resend-steps file (HeldFor shape past file) (Backed shape past w) (makes file) t (g.comes file)) h
 
-  node_next : (event : Event) (n : ℕ) (r : Result (NodeState × Outcome) StepError) (p : WorldState × Entry) → ((done : NodeState × Outcome) → r ≡ Ok done → After event (recorded (with_node w n done.0) event (named_incarnation (w.nodes n) event) done.1)) → after_node w event n r ≡ Ok p → After event p
-  node_next event n (Ok done) p good h = subst (After event) (ok_is _ p h) (good done refl)
-  node_next event n (Err e) p good h = absurd (cc)
-
   node_told : (n : ℕ) (m : Message) (p : WorldState × Entry) → has_node w n ≡ true → is_among w.sent m ≡ true → after_node w (Deliver m) n (node_rule (w.nodes n) (node.Deliver m)) ≡ Ok p → After (Deliver m) p
-  node_told n m p there known h = node_next (Deliver m) n (node_rule (w.nodes n) (node.Deliver m)) p (λ done is. message_good n m done there known is) h
+  node_told n m p there known h = node_step w (After (Deliver m)) (Deliver m) n (node_rule (w.nodes n) (node.Deliver m)) p (λ done is. message_good n m done there known is) h
 
   taken_good : (event : Event) (p : WorldState × Entry) → is_known w event ≡ true → taken w event ≡ Ok p → After event p
   taken_good (Call n pid op) p known h =
       let s = w.nodes n in
       let P : NodeState × Outcome → Type 0 = λ d. After (Call n pid op) (recorded (with_node w n d.0) (Call n pid op) 0 d.1) in
-      node_next (Call n pid op) n (node_rule s (node.Call pid op)) p
-      (λ done is. subst P (taken_call (not (is_pid pid && is_in_shape s.shape op)) (is_some (open_call_of s pid)) (nat_lt s.calls 4294967295) (after_call s pid op) done step.Stranger step.Busy step.Spent is) (call_good n pid op known)) h
+      node_step w (After (Call n pid op)) (Call n pid op) n (node_rule s (node.Call pid op)) p
+      (λ done is. subst P (call_done s pid op done is) (call_good n pid op known)) h
   taken_good (Deliver (Grant file number call mode span)) p known h =
       let m = Grant file number call mode span in
       let both = and_parts (has_node w call.node) (is_among w.sent m) known in
@@ -398,12 +366,12 @@ module _ (shape : ShapeFields) (past : List Entry) (w : WorldState) (few : IsNum
   taken_good (Deliver (Taken file number call)) p known h = told_good (Taken file number call) file p tt h
   taken_good (Deliver (Released file number holder call span)) p known h = told_good (Released file number holder call span) file p tt h
   taken_good (Deliver (Freed file holder)) p known h = told_good (Freed file holder) file p tt h
-  taken_good (Retry n pid) p known h = node_next (Retry n pid) n (node_rule (w.nodes n) (node.Retry pid)) p (λ done is. retry_good n pid done (and_parts (has_node w n) (is_pid pid) known).0 is) h
+  taken_good (Retry n pid) p known h = node_step w (After (Retry n pid)) (Retry n pid) n (node_rule (w.nodes n) (node.Retry pid)) p (λ done is. retry_good n pid done (and_parts (has_node w n) (is_pid pid) known).0 is) h
   taken_good (Resend file) p known h = resend_good file p h
 
   pub next_good : (event : Event) (p : WorldState × Entry) → next w event ≡ Ok p → IsSafe p.0 → IsNumber most_nodes p.0.shape.nodes × Good shape (past ++ p.1 ∷ []) p.0
   next_good event p h safe =
-      let x = let_through (nat_le journal_limit w.length) (is_known w event) (taken w event) p JournalFull Stranger h in
+      let x = next_taken w event p h in
       taken_good event p x.0 x.1 h safe
 
 -- before the first entry

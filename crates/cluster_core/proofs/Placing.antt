@@ -1,5 +1,5 @@
 -- What the slots of a run become with one more entry.
-use Rattle.std.proofs.Common.{◌≡◌, ℕ, suc, ◌+◌, ◌<◌, ◌≤◌, inl, inr, refl, sym, ◌∙◌, ap, subst, arith, List, [], ◌∷◌, ◌++◌, length, length-append, slice_get, slice_set, get_or, Option, Some, None}
+use Rattle.std.proofs.Common.{◌≡◌, ℕ, suc, ◌+◌, ◌<◌, inl, inr, refl, sym, ◌∙◌, ap, subst, arith, List, [], ◌∷◌, ◌++◌, length, length-append, slice_get, slice_set, get_or, Option, Some, None}
 use Rattle.std.proofs.lemmas.Option.{slice_get_within, slice_get-get_or, none-some, same_Some}
 use Rattle.model.specs.declared.call.CallId.{CallId}
 use Rattle.model.specs.declared.host.Host.{Host}
@@ -23,7 +23,7 @@ use Rattle.cluster_core.specs.Runs.{Leads}
 use Rattle.cluster_core.specs.Union.{union}
 use Rattle.cluster_core.specs.Histories.{caller, names_conflict, ItemStep, EntryAt, IsRevokedAt, IsPlaceOf, OneCall}
 use Rattle.cluster_core.specs.Evidence.{IsWorldAfter, HasEvidence}
-use Rattle.cluster_core.specs.Placement.{Slots, find_call, item_of, filled, placed_by, slots_after, slots_of}
+use Rattle.cluster_core.proofs.Placement.{Slots, find_call, item_of, filled, placed_by, slots_after, slots_of}
 use Rattle.cluster_core.proofs.Places.{slice_get-keeps, slice_get-last}
 use Rattle.cluster_core.proofs.Entries.{not_there, same_answer, Unanswered, entry_at-keeps, entry_at-last, entry_at-within, called_at-keeps, replied_at-last}
 use Rattle.cluster_core.proofs.Fitting.{Called, called-keeps}

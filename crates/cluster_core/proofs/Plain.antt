@@ -16,7 +16,7 @@ use Rattle.cluster_core.specs.World.{WorldState, first_world}
 use Rattle.cluster_core.specs.Runs.{Leads}
 use Rattle.cluster_core.specs.Union.{union}
 use Rattle.cluster_core.specs.Histories.{caller, Legal, OneReply}
-use Rattle.cluster_core.specs.Placement.{Slots, items_in}
+use Rattle.cluster_core.proofs.Placement.{Slots, items_in}
 use Rattle.cluster_core.specs.Plain.{IsPlainItem, IsPlain}
 use Rattle.cluster_core.proofs.Prefixes.{table_at}
 use Rattle.cluster_core.proofs.Quiet.{again_stays, blocked_stays}

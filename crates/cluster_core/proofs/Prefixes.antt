@@ -1,5 +1,5 @@
 -- The worlds after the entries of a run.
-use Rattle.std.proofs.Common.{◌≡◌, ℕ, ◌+◌, ◌≤◌, refl, sym, ◌∙◌, ap, subst, List, [], ◌∷◌, ◌++◌, length, take, Result, Ok, Err}
+use Rattle.std.proofs.Common.{◌≡◌, ℕ, ◌≤◌, sym, ◌∙◌, ap, subst, List, [], ◌∷◌, ◌++◌, length, take, Result, Ok, Err}
 use Rattle.std.proofs.lemmas.List.{take-append-le, take_all}
 use Rattle.model.specs.Table.{Table}
 use Rattle.messages.specs.Shapes.{ShapeFields}

@@ -1,6 +1,6 @@
 -- What holds of the tokens of the cluster, of its servers' rows and of the messages that were sent, after each step.
-use Rattle.std.proofs.Common.{◌≡◌, ℕ, ◌+◌, ◌≤◌, true, false, if◌then◌else◌, ◌⊎◌, inl, inr, refl, sym, ◌∙◌, ap, subst, List, ◌++◌, Option, Some, None}
-use Rattle.std.proofs.lemmas.Bool.{both_ways, cases_eq, false_from_ne_true, or_cases, or_left, or_right}
+use Rattle.std.proofs.Common.{◌≡◌, ℕ, ◌+◌, ◌≤◌, true, false, if◌then◌else◌, ◌⊎◌, inl, inr, refl, sym, ◌∙◌, ap, subst, List, Option, Some, None}
+use Rattle.std.proofs.lemmas.Bool.{both_ways, cases_eq, false_from_ne_true}
 use Rattle.std.proofs.lemmas.List.Elements.{All-weaker}
 use Rattle.intervals.specs.Bytes.{Range, is_in}
 use Rattle.model.specs.declared.level.Level.TheVariants.{Exclusive}
@@ -16,8 +16,8 @@ use Rattle.token_server.specs.State.{Row, ServerState, with_row}
 use Rattle.token_server.specs.Serve.{row_conflicts_at}
 use Rattle.cluster_core.specs.World.{WorldState}
 use Rattle.cluster_core.specs.Safe.{Excludes}
-use Rattle.cluster_core.proofs.KnownMessages.{is_among-append}
-use Rattle.cluster_core.proofs.Talks.{at_number, Sent, IsCommandTo, same_command, promised, unasked, Talk, MayHold, held}
+use Rattle.cluster_core.proofs.Choices.{at_number}
+use Rattle.cluster_core.proofs.Talks.{Sent, IsCommandTo, same_command, promised, unasked, Talk, MayHold, held}
 use Rattle.cluster_core.proofs.TalkMoves.{NoNews, talk-no_news, may_hold-no_news, commanded_row, IsCommanding, talk-commanded, may_hold-commanded}
 use Rattle.cluster_core.proofs.ServerRows.{IsCurrent, Serves, IsFreeFor, Commands, current_row}
 
@@ -38,15 +38,6 @@ pub record Present (w : WorldState) : Type 0 where
   pub no_future : (m : Message) → Was w m → (host_of m).incarnation ≤ (w.nodes (host_of m).node).incarnation
   pub serves : (file : ℕ) → Serves (Was w) w.nodes w.shape file (w.servers file)
   pub apart : (file : ℕ) → StayApart (Was w) w.nodes w.shape file
-
-pub sent_before : (xs ys : List Message) (m : Message) → is_among xs m ≡ true → is_among (xs ++ ys) m ≡ true
-sent_before xs ys m h = is_among-append xs ys m ∙ or_left (is_among xs m) (is_among ys m) h
-
-pub sent_now : (xs ys : List Message) (m : Message) → is_among ys m ≡ true → is_among (xs ++ ys) m ≡ true
-sent_now xs ys m h = is_among-append xs ys m ∙ or_right (is_among xs m) (is_among ys m) h
-
-pub sent_either : (xs ys : List Message) (m : Message) → is_among (xs ++ ys) m ≡ true → (is_among xs m ≡ true) ⊎ (is_among ys m ≡ true)
-sent_either xs ys m h = or_cases (is_among xs m) (is_among ys m) (sym (is_among-append xs ys m) ∙ h)
 
 -- what is granted without a conflict
 granted_excludes : (t u : Token) (span : Range) (mode : Mode) → Excludes t u → ((b : ℕ) → is_in span b ≡ true → level_conflicts (u b) mode ≡ false) → Excludes (raised t span mode) u

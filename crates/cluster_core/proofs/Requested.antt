@@ -1,8 +1,8 @@
 -- What a token server keeps and sends comes of what it is told.
 use Rattle.std.specs.Prelude.{is_some, nat_le, nat_lt, ◌==◌, filter_map, option_map}
 use Rattle.std.specs.List.{list_any, range_with_len, cons_option}
-use Rattle.std.proofs.Common.{◌≡◌, ℕ, ◌+◌, ◌-◌, ◌<◌, ◌≤◌, Bool, true, false, not, ◌&&◌, ◌||◌, if◌then◌else◌, refl, sym, ◌∙◌, ap, subst, arith, List, [], ◌∷◌, ◌++◌, All, Option, Some, None, Result, Ok, Err}
-use Rattle.std.proofs.lemmas.Bool.{and_parts, both_ways, leb-true, eq-eqb}
+use Rattle.std.proofs.Common.{◌≡◌, ℕ, ◌+◌, ◌-◌, Bool, true, false, not, ◌&&◌, ◌||◌, if◌then◌else◌, ◌⊎◌, inl, inr, refl, sym, ◌∙◌, ap, subst, arith, List, [], ◌∷◌, ◌++◌, All, Option, Some, None, Result, Ok, Err}
+use Rattle.std.proofs.lemmas.Bool.{and_parts, both_ways, leb-true, eq-eqb, not-true}
 use Rattle.std.proofs.lemmas.Option.{none-some, same_Some}
 use Rattle.std.proofs.lemmas.List.Elements.{All-nil, All-cons, All-head, All-tail, All-push, All-append, All-filter, All-weaker}
 use Rattle.intervals.specs.Bytes.{Range}
@@ -14,8 +14,6 @@ use Rattle.model.specs.declared.mode.Mode.{Mode}
 use Rattle.model.specs.Owners.{host_of_call}
 use Rattle.token_set.specs.Tokens.{Token, raised}
 use Rattle.token_set.specs.Releases.{lowered}
-use Rattle.messages.specs.Wants.{Wants}
-use Rattle.messages.specs.declared.message.Urgency.{Urgency}
 use Rattle.messages.specs.declared.message.Urgency.TheVariants.{Now}
 use Rattle.messages.specs.declared.message.Message.{Message}
 use Rattle.messages.specs.declared.message.Message.TheVariants.{Request, Grant, Revoke, Taken, Released, Conflict, Deny, Freed}
@@ -24,23 +22,32 @@ use Rattle.messages.specs.declared.refusal.StepError.{StepError}
 use Rattle.messages.specs.declared.refusal.StepError.TheVariants.{Stranger, Spent}
 use Rattle.messages.specs.Messages.{addressee, host_of, is_within, greatest_number, same_urgency, sending}
 use Rattle.token_server.specs.declared.held.Held.{Held}
-use Rattle.token_server.specs.declared.event.ServerEvent.{ServerEvent}
 use Rattle.token_server.specs.declared.event.ServerEvent.TheVariants.{Deliver, Resend}
 use Rattle.token_server.specs.State.{Row, ServerState, empty_row, with_row, is_of_call, is_up_to, row_above, unless, forgotten}
 use Rattle.token_server.specs.Serve.{admitted, row_conflicts, conflicting_node, granted_span, commanded, granted_to, revoked_from, served, serve}
-use Rattle.token_server.specs.Resends.{outstanding_of, outstanding_to, outstanding, sending_first, resend_rule}
+use Rattle.token_server.specs.Resends.{outstanding_of, outstanding, sending_first}
 use Rattle.token_server.specs.Server.{Change, with_a_row, is_active, enqueued, asked, is_grant, revoked_mode, acknowledged, ended, denial, taken, released, in_conflict, row_of_host, delivered, is_server, change, then_serve, server_rule}
+use Rattle.cluster_core.proofs.Choices.{if_either}
+use Rattle.cluster_core.proofs.Refusals.{ok_is, if_ours}
 
 row_above_kept : (i : ℕ) (o : Option Row) (r : Row) → row_above i o ≡ Some r → o ≡ Some r
 row_above_kept i None r h = h
 row_above_kept i (Some row) r h = elim (nat_le row.incarnation i) as (λ b. (if b then None else Some row) ≡ Some r → Some row ≡ Some r) [ true ↦ λ x. absurd (none-some r x) | false ↦ λ x. x ] h
 
-unless_kept : (test : Held → Bool) (o : Option Held) (r : Held) → unless test o ≡ Some r → o ≡ Some r
-unless_kept test None r h = h
-unless_kept test (Some x) r h = elim (test x) as (λ b. (if b then None else Some x) ≡ Some r → Some x ≡ Some r) [ true ↦ λ none. absurd (none-some r none) | false ↦ λ same. same ] h
+-- what is left where some are dropped
+pub unless_some : (drops : Held → Bool) (o : Option Held) (r : Held) → unless drops o ≡ Some r → (o ≡ Some r) × (drops r ≡ false)
+unless_some drops None r h = absurd (none-some r h)
+unless_some drops (Some x) r h =
+    elim (drops x) as (λ b. drops x ≡ b → (if b then None else Some x) ≡ Some r → (Some x ≡ Some r) × (drops r ≡ false)) [
+      | true ↦ λ is h. absurd (none-some r h)
+      | false ↦ λ is h. (h, ap drops (sym (same_Some x r h)) ∙ is)
+    ] refl h
 
-made_is : {A E : Type 0} (a b : A) → ◌≡◌ {A = Result A E} (Ok a) (Ok b) → a ≡ b
-made_is a b is = cc
+-- a message that is not refused changes the server unless it is of a dead incarnation
+pub change_done : (t : ServerState) (m : Message) (o : Option Change) → change t m ≡ Ok o → (is_within t.shape.nodes (host_of m).node ≡ true) × ((None ≡ o) ⊎ ((nat_le (host_of m).incarnation (t.dead (host_of m).node) ≡ false) × (delivered t m ≡ o)))
+change_done t m o h =
+    let is = if_ours (is_server t.file (addressee m)) (is_within t.shape.nodes (host_of m).node) (nat_le (host_of m).incarnation (t.dead (host_of m).node)) None (delivered t m) o Stranger h in
+    (is.1, elim is.2 [ inl dead ↦ inl dead.1 | inr live ↦ inr live ])
 
 -- the node that is to give up is another than that of the call
 other_node : (s : ServerState) (r : Held) → nat_le (conflicting_node s r) s.shape.nodes ≡ true → conflicting_node s r ≡ r.call.node → ⊥
@@ -49,11 +56,7 @@ other_node s r some same =
     let le = leb-true (conflicting_node s r) s.shape.nodes some in
     let here = (first_is_first test 1 s.shape.nodes).here (omega arith) in
     let other = (and_parts (not (conflicting_node s r == r.call.node)) (row_conflicts (s.rows (conflicting_node s r)) r.wanted.required r.mode) here).0 in
-    not_both (conflicting_node s r == r.call.node) other (eq-eqb (conflicting_node s r) r.call.node same)
-  where
-    not_both : (b : Bool) → not b ≡ true → b ≡ true → ⊥
-    not_both true x y = cc
-    not_both false x y = cc
+    both_ways (conflicting_node s r == r.call.node) (not-true (conflicting_node s r == r.call.node) other) (eq-eqb (conflicting_node s r) r.call.node same)
 
 mapped : (C : Message → Type 0) (f : ℕ → Option Message) (ns : List ℕ) → ((n : ℕ) (m : Message) → f n ≡ Some m → C m) → All C (filter_map f ns)
 mapped C f [] each = All-nil C
@@ -103,7 +106,7 @@ module _ (file : ℕ) (H : Held → Type 0) (C : Message → Type 0) (makes : Ma
   forgotten-comes t node i c = record {
     file_is = c.file_is;
     queued = All-filter (λ r. not (is_up_to node i r)) H t.queue c.queued;
-    active = λ r h. c.active r (unless_kept (is_up_to node i) t.active r h);
+    active = λ r h. c.active r (unless_some (is_up_to node i) t.active r h).0;
     outstanding = λ k r m there h. elim (k == node) as (λ b. (if b then row_above i (t.rows k) else t.rows k) ≡ Some r → C m) [
       | true ↦ λ is. c.outstanding k r m (row_above_kept i (t.rows k) r is) h
       | false ↦ λ is. c.outstanding k r m is h
@@ -129,7 +132,7 @@ module _ (file : ℕ) (H : Held → Type 0) (C : Message → Type 0) (makes : Ma
   acknowledged-comes t node row token c = with_row-comes t node (record row { token = token; outstanding = None }) (λ m h. absurd (none-some m h)) c
 
   ended-comes : (t : ServerState) (call : CallId) → Comes file H C t → Comes file H C (ended call t)
-  ended-comes t call c = record { file_is = c.file_is; queued = c.queued; active = λ r h. c.active r (unless_kept (is_of_call call) t.active r h); outstanding = c.outstanding }
+  ended-comes t call c = record { file_is = c.file_is; queued = c.queued; active = λ r h. c.active r (unless_some (is_of_call call) t.active r h).0; outstanding = c.outstanding }
 
   -- what a message changes, and what is sent for it
   abbrev Changes : Option Change → Type 0
@@ -192,20 +195,16 @@ module _ (file : ℕ) (H : Held → Type 0) (C : Message → Type 0) (makes : Ma
   Serves r = (done : ServerState × List Message) → r ≡ Ok done → Comes file H C done.0 × All C done.1
 
   serves_one : (x : ServerState × List Message) → Comes file H C x.0 × All C x.1 → Serves (Ok x)
-  serves_one x both done h = subst (λ (y : ServerState × List Message). Comes file H C y.0 × All C y.1) (made_is x done h) both
+  serves_one x both done h = subst (λ (y : ServerState × List Message). Comes file H C y.0 × All C y.1) (ok_is x done h) both
 
   serves_none : (e : StepError) → Serves (Err e)
   serves_none e done h = absurd (cc)
 
-  serves_if : (b : Bool) (x y : Result (ServerState × List Message) StepError) → Serves x → Serves y → Serves (if b then x else y)
-  serves_if true x y p q = p
-  serves_if false x y p q = q
-
   commanded-serves : (t : ServerState) (node : ℕ) (row : Row) (token : Token) (command : Message) → C command → Comes file H C t → Serves (commanded t node row token command)
   commanded-serves t node row token command told c =
       let next = record row { token = token; number = row.number + 1; outstanding = Some command } in
-      serves_if (is_some row.outstanding) _ _ (serves_one (t, []) (c, All-nil C))
-      (serves_if (nat_lt row.number greatest_number) _ _ (serves_one (with_row t node (Some next), command ∷ []) (with_row-comes t node next (λ m h. subst C (same_Some command m h) told) c, All-cons C command [] told (All-nil C))) (serves_none Spent))
+      if_either Serves (is_some row.outstanding) _ _ (serves_one (t, []) (c, All-nil C))
+      (if_either Serves (nat_lt row.number greatest_number) _ _ (serves_one (with_row t node (Some next), command ∷ []) (with_row-comes t node next (λ m h. subst C (same_Some command m h) told) c, All-cons C command [] told (All-nil C))) (serves_none Spent))
 
   granted-serves : (t : ServerState) (r : Held) (o : Option Row) → Comes file H C t → Serves (granted_to t r o)
   granted-serves t r None c = serves_one (t, []) (c, All-nil C)
@@ -250,7 +249,7 @@ module _ (file : ℕ) (H : Held → Type 0) (C : Message → Type 0) (makes : Ma
   Steps r = (done : ServerState × Outcome) → r ≡ Ok done → Comes file H C done.0 × All C done.1.sends
 
   steps_one : (x : ServerState × Outcome) → Comes file H C x.0 × All C x.1.sends → Steps (Ok x)
-  steps_one x both done h = subst (λ (y : ServerState × Outcome). Comes file H C y.0 × All C y.1.sends) (made_is x done h) both
+  steps_one x both done h = subst (λ (y : ServerState × Outcome). Comes file H C y.0 × All C y.1.sends) (ok_is x done h) both
 
   steps_none : (e : StepError) → Steps (Err e)
   steps_none e done h = absurd (cc)
@@ -269,16 +268,7 @@ module _ (file : ℕ) (H : Held → Type 0) (C : Message → Type 0) (makes : Ma
       sending_first-steps x.1 (serve x.0) both.1 (serve-serves x.0 both.0)
 
   change-changes : (t : ServerState) (m : Message) → Tells file H C m → Comes file H C t → (o : Option Change) → change t m ≡ Ok o → Changes o
-  change-changes t m told c o h =
-      let R : Type 0 = Result (Option Change) StepError in
-      let dead = nat_le (host_of m).incarnation (t.dead (host_of m).node) in
-      elim (not (is_server t.file (addressee m) && is_within t.shape.nodes (host_of m).node)) as (λ b. ◌≡◌ {A = R} (if b then Err Stranger else (if dead then Ok None else Ok (delivered t m))) (Ok o) → Changes o) [
-        | true ↦ λ is. absurd (cc)
-        | false ↦ elim dead as (λ b. ◌≡◌ {A = R} (if b then Ok None else Ok (delivered t m)) (Ok o) → Changes o) [
-          | true ↦ λ is. subst Changes (made_is None o is) changes_none
-          | false ↦ λ is. subst Changes (made_is (delivered t m) o is) (delivered-changes t m told c)
-        ]
-      ] h
+  change-changes t m told c o h = elim (change_done t m o h).1 [ inl none ↦ subst Changes none changes_none | inr live ↦ subst Changes live.1 (delivered-changes t m told c) ]
 
   pub delivered-steps : (t : ServerState) (m : Message) → Tells file H C m → Comes file H C t → Steps (server_rule t (Deliver m))
   delivered-steps t m told c = then_serve-steps t (change t m) c (change-changes t m told c)

@@ -1,8 +1,7 @@
 -- What a node sends.
-use Rattle.std.specs.Prelude.{nat_le, ◌==◌, ◌||◌}
-use Rattle.std.proofs.Common.{◌≡◌, ℕ, ◌+◌, Bool, true, false, ◌&&◌, if◌then◌else◌, refl, sym, ap, subst, List, [], ◌∷◌, ◌++◌, All, Contains, Option, Some, None, Result, Ok, Err}
-use Rattle.std.proofs.lemmas.Bool.{eqb-true}
-use Rattle.std.proofs.lemmas.List.Elements.{All-nil, All-cons, All-append, Contains-push}
+use Rattle.std.specs.Prelude.{◌==◌}
+use Rattle.std.proofs.Common.{◌≡◌, ℕ, ◌+◌, Bool, false, refl, sym, subst, List, [], ◌∷◌, ◌++◌, All, Contains, Option, Some, None, Result, Ok, Err}
+use Rattle.std.proofs.lemmas.List.Elements.{All-nil, All-cons, Contains-push}
 use Rattle.intervals.specs.Bytes.{Range}
 use Rattle.model.specs.declared.call.CallId.{CallId}
 use Rattle.model.specs.declared.host.Host.{Host}
@@ -12,7 +11,7 @@ use Rattle.model.specs.declared.op.Op.{Op}
 use Rattle.model.specs.declared.op.Op.TheVariants.{Spawn, Open, Set, Unlock, Query}
 use Rattle.model.specs.declared.reply.Reply.{Reply}
 use Rattle.model.specs.Locks.{lowest_blocker, lowest_in_way}
-use Rattle.model.specs.Table.{Table, Target, target, lock_within}
+use Rattle.model.specs.Table.{Target, target, lock_within}
 use Rattle.token_set.specs.Tokens.{covers, desired, raised}
 use Rattle.token_set.specs.Releases.{given_up_span, answer_of}
 use Rattle.messages.specs.Wants.{Wants}
@@ -26,6 +25,8 @@ use Rattle.node_core.specs.State.{NodeState, Effect, quiet, with_file, host, pro
 use Rattle.node_core.specs.Try.{settled, requested, may_free, with_freed, locked_by, answered_here, tried, tried_against, tried_if}
 use Rattle.node_core.specs.Calls.{lock_call, unlock_call, called}
 use Rattle.node_core.specs.Commands.{remembered, in_order, after_command, granted, answer_to, revoked, denied, delivered}
+use Rattle.cluster_core.proofs.Choices.{if_either}
+use Rattle.cluster_core.proofs.NodeSteps.{in_order_either}
 use Rattle.cluster_core.proofs.Nodes.{found_open}
 
 -- the messages that need no reason
@@ -46,21 +47,17 @@ module _ (P : Message → Type 0) (free : IsFreely P) where
   nothing_sent : (e : Effect) → e.sends ≡ [] → SendsOnly e
   nothing_sent e none asks = subst (All P) (sym none) (All-nil P)
 
-  sends_if : (b : Bool) (x y : Effect) → SendsOnly x → SendsOnly y → SendsOnly (if b then x else y)
-  sends_if true x y p q = p
-  sends_if false x y p q = q
-
   with_freed-sends : (file : ℕ) (e : Effect) → e.sends ≡ [] → SendsOnly (with_freed file e)
   with_freed-sends file e none =
       let told : Effect = record { state = with_file e.state file (record (e.state.files file) { asked = false }); reply = e.reply; sends = e.sends ++ Freed file (host e.state) ∷ [] } in
-      sends_if (e.state.files file).asked told e
+      if_either SendsOnly (e.state.files file).asked told e
       (λ asks. subst (λ (ms : List Message). All P (ms ++ Freed file (host e.state) ∷ [])) (sym none) (All-cons P (Freed file (host e.state)) [] (free.freed file (host e.state)) (All-nil P)))
       (nothing_sent e none)
 
   locked_by-sends : (s : NodeState) (number : ℕ) (c : Target) (mode : Option Mode) → SendsOnly (locked_by s number c mode)
   locked_by-sends s number c mode =
       let answer = lock_within s.table c mode in
-      sends_if (may_free mode answer.1) (with_freed c.file (settled s number answer)) (settled s number answer)
+      if_either SendsOnly (may_free mode answer.1) (with_freed c.file (settled s number answer)) (settled s number answer)
       (with_freed-sends c.file (settled s number answer) refl)
       (nothing_sent (settled s number answer) refl)
 
@@ -72,7 +69,7 @@ module _ (P : Message → Type 0) (free : IsFreely P) where
   tried_against-sends s c (Some lock) there = λ asks. All-nil P
   tried_against-sends s c None there =
       let wanted : Wants = record { required = c.span; desired = desired s.shape.policy (s.files c.file).token c.span } in
-      sends_if (covers (s.files c.file).token c.span c.mode) (answered_here s c c.intent) (requested s c)
+      if_either SendsOnly (covers (s.files c.file).token c.span c.mode) (answered_here s c c.intent) (requested s c)
       (answered_here-sends s c c.intent)
       (λ asks. All-cons P (Request c.file (id_of s c.number) Now c.mode wanted) [] (asks c wanted there refl) (All-nil P))
 
@@ -112,12 +109,7 @@ module _ (P : Message → Type 0) (free : IsFreely P) where
       each (Some m) is asks = All-cons P m [] (old file m is) (All-nil P)
 
   in_order-sends : (s : NodeState) (file number : ℕ) (e : Effect) → Remembers s → (number ≡ (s.files file).last + 1 → SendsOnly e) → SendsOnly (in_order s file number e)
-  in_order-sends s file number e old next =
-      let again = if (number == (s.files file).last) && nat_le 1 number then remembered s (s.files file).answer else quiet s in
-      elim (number == (s.files file).last + 1) as (λ b. (number == (s.files file).last + 1) ≡ b → SendsOnly (if b then e else again)) [
-        | true ↦ λ is. next (eqb-true number ((s.files file).last + 1) is)
-        | false ↦ λ is. sends_if ((number == (s.files file).last) && nat_le 1 number) (remembered s (s.files file).answer) (quiet s) (remembered-sends s file old) (nothing_sent (quiet s) refl)
-      ] refl
+  in_order-sends s file number e old next = in_order_either SendsOnly s file number e next (remembered-sends s file old) (nothing_sent (quiet s) refl)
 
   granted-sends : (s : NodeState) (file number : ℕ) (call : CallId) (mode : Mode) (span : Range) → SendsOnly (granted s file number call mode span)
   granted-sends s file number call mode span asks =

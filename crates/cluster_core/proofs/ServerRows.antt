@@ -21,21 +21,24 @@ use Rattle.messages.specs.declared.message.Message.TheVariants.{Request, Grant, 
 use Rattle.messages.specs.declared.refusal.StepError.{StepError}
 use Rattle.messages.specs.declared.message.Urgency.TheVariants.{Now}
 use Rattle.messages.specs.declared.actor.Actor.TheVariants.{Server as AServer}
-use Rattle.messages.specs.declared.refusal.StepError.TheVariants.{Stranger, Spent}
+use Rattle.messages.specs.declared.refusal.StepError.TheVariants.{Spent}
 use Rattle.messages.specs.declared.outcome.Outcome.{Outcome}
 use Rattle.messages.specs.Messages.{addressee, host_of, same_urgency, greatest_number, is_within, sending}
 use Rattle.messages.specs.Shapes.{ShapeFields}
 use Rattle.node_core.specs.State.{NodeState}
 use Rattle.token_server.specs.declared.held.Held.{Held}
 use Rattle.token_server.specs.declared.event.ServerEvent.TheVariants.{Deliver}
-use Rattle.token_server.specs.State.{Row, ServerState, empty_row, with_row, is_of_call, is_up_to, row_above, unless, forgotten}
+use Rattle.token_server.specs.State.{Row, ServerState, empty_row, with_row, is_of_call, is_up_to, row_above, forgotten}
 use Rattle.token_server.specs.Serve.{admitted, row_conflicts, row_conflicts_at, is_taken, granted_span, conflicting_node, commanded, granted_to, revoked_from, served, serve}
 use Rattle.token_server.specs.Resends.{sending_first}
-use Rattle.token_server.specs.Server.{Change, with_a_row, enqueued, is_active, is_grant, revoked_mode, asked, acknowledged, ended, denial, row_of_incarnation, row_of_host, taken, released, in_conflict, delivered, is_server, then_serve, server_rule}
+use Rattle.token_server.specs.Server.{Change, with_a_row, enqueued, is_active, is_grant, revoked_mode, asked, acknowledged, ended, denial, row_of_incarnation, row_of_host, taken, released, in_conflict, delivered, change, then_serve, server_rule}
 use Rattle.token_server.proofs.GrantLaws.{conflicts_at, conflicts_at_byte, row_free}
-use Rattle.cluster_core.proofs.Targets.{ok_is}
+use Rattle.cluster_core.proofs.Choices.{at_number}
+use Rattle.cluster_core.proofs.Refusals.{ok_is}
+use Rattle.cluster_core.proofs.Lists.{All-both}
+use Rattle.cluster_core.proofs.Requested.{unless_some, change_done}
 use Rattle.cluster_core.proofs.Clearing.{around_free}
-use Rattle.cluster_core.proofs.Talks.{at_number, Sent, IsCommandTo, IsAnswerOf, promised, settled, unasked, Talk}
+use Rattle.cluster_core.proofs.Talks.{Sent, IsCommandTo, IsAnswerOf, promised, settled, unasked, Talk}
 use Rattle.cluster_core.proofs.TalkMoves.{talk-forgets, talk-row, talk-answered, answered_row, commanded_row}
 use Rattle.cluster_core.proofs.NodeTokens.{Only, only_none, only_one}
 
@@ -111,17 +114,6 @@ denial_answer nodes file n i k m is of = is
 pub denial_known : (nodes : ℕ → NodeState) (m : Message) → IsDenial nodes m → (host_of m).incarnation ≤ (nodes (host_of m).node).incarnation
 denial_known nodes (Deny f call holder number lock) is = is
 denial_known nodes m is = absurd is
-
-All-both : {A : Type 0} (P Q R : A → Type 0) → ((x : A) → P x → Q x → R x) → (xs : List A) → All P xs → All Q xs → All R xs
-All-both P Q R f xs a b k d lt = f _ (a k d lt) (b k d lt)
-
-unless_some : (drops : Held → Bool) (o : Option Held) (r : Held) → unless drops o ≡ Some r → (o ≡ Some r) × (drops r ≡ false)
-unless_some drops None r h = absurd (none-some r h)
-unless_some drops (Some x) r h =
-    elim (drops x) as (λ b. drops x ≡ b → (if b then None else Some x) ≡ Some r → (Some x ≡ Some r) × (drops r ≡ false)) [
-      | true ↦ λ is h. absurd (none-some r h)
-      | false ↦ λ is h. (h, ap drops (sym (same_Some x r h)) ∙ is)
-    ] refl h
 
 has_some : {A : Type 0} (o : Option A) → is_some o ≡ true → (x : A) × (o ≡ Some x)
 has_some None h = absurd (cc)
@@ -513,17 +505,15 @@ module _ (was : Sent) (nodes : ℕ → NodeState) (shape : ShapeFields) (file : 
   serves_if None after h = outcome_is t [] [] h (only_none (IsDenial nodes)) (inl (serves, refl))
   serves_if (Some x) after h = serves_changed x (after x refl) (serve x.0) refl h
 
+  serves_unless : (r : Result (Option Change) StepError) → ((c : Option Change) → r ≡ Ok c → (x : Change) → c ≡ Some x → IsServing was nodes shape file x) → then_serve t r ≡ Ok (v, o) → Answered was nodes shape file v o.sends
+  serves_unless (Err e) after h = absurd (cc)
+  serves_unless (Ok c) after h = serves_if c (after c refl) h
+
   -- a message changes the server only where its incarnation is not known as dead
   pub receives : (m : Message) → was m → addressee m ≡ AServer file → (host_of m).incarnation ≤ (nodes (host_of m).node).incarnation → server_rule t (Deliver m) ≡ Ok (v, o) → Answered was nodes shape file v o.sends
-  receives m told to known h =
-      let id = host_of m in
-      let ours : Bool = is_server t.file (addressee m) in
-      let within : Bool = is_within t.shape.nodes id.node in
-      let dead : Bool = nat_le id.incarnation (t.dead id.node) in
-      elim (ours && within) as (λ b. (ours && within) ≡ b → then_serve t (if not b then Err Stranger else (if dead then Ok None else Ok (delivered t m))) ≡ Ok (v, o) → Answered was nodes shape file v o.sends) [
-        | true ↦ λ here h. elim dead as (λ b. dead ≡ b → then_serve t (if b then Ok None else Ok (delivered t m)) ≡ Ok (v, o) → Answered was nodes shape file v o.sends) [
-          | true ↦ λ old h. serves_if None (λ x is. absurd (none-some x is)) h
-          | false ↦ λ live h. serves_if (delivered t m) (changes was nodes shape file t serves m told to known (and_parts ours within here).1 (leb-false id.incarnation (t.dead id.node) live)) h
-        ] refl h
-        | false ↦ λ strange h. absurd (cc)
-      ] refl h
+  receives m told to known h = serves_unless (change t m) (λ c is x made.
+      let done = change_done t m c is in
+      elim done.1 [
+        | inl none ↦ absurd (none-some x (none ∙ made))
+        | inr live ↦ changes was nodes shape file t serves m told to known done.0 (leb-false (host_of m).incarnation (t.dead (host_of m).node) live.0) x (live.1 ∙ made)
+      ]) h

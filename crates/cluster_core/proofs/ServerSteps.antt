@@ -9,7 +9,7 @@ use Rattle.token_server.specs.State.{ServerState}
 use Rattle.token_server.specs.Serve.{serve}
 use Rattle.token_server.specs.Resends.{outstanding, sending_first}
 use Rattle.token_server.specs.Server.{Change, change, then_serve, server_rule}
-use Rattle.cluster_core.proofs.Targets.{ok_is}
+use Rattle.cluster_core.proofs.Refusals.{ok_is}
 
 -- nothing but messages
 abbrev pub IsSending : ServerState × Outcome → Type 0

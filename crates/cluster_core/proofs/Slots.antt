@@ -19,12 +19,12 @@ use Rattle.messages.specs.declared.event.Event.TheVariants.{Deliver}
 use Rattle.messages.specs.declared.entry.Entry.{Entry}
 use Rattle.cluster_core.specs.declared.item.Item.{Item}
 use Rattle.cluster_core.specs.declared.item.Item.TheVariants.{Answered, Gone}
-use Rattle.cluster_core.specs.Histories.{position_of, call_id, ItemStep, Legal, Rising, EntryAt, IsRepliedAt, IsOpenAt, IsPlaced, HasCall, Fits, OneReply, IsRevokedAt, IsPlaceOf, StandsAtItsPlace, IsAtItsPlace, EachAtItsPlace, names_conflict}
+use Rattle.cluster_core.specs.Histories.{position_of, call_id, ItemStep, Legal, Rising, EntryAt, IsRepliedAt, IsOpenAt, IsPlaced, Fits, OneReply, IsRevokedAt, IsPlaceOf, StandsAtItsPlace, IsAtItsPlace, EachAtItsPlace, names_conflict}
 use Rattle.cluster_core.specs.World.{WorldState, first_world}
 use Rattle.cluster_core.specs.Runs.{Leads}
 use Rattle.cluster_core.specs.Union.{union}
-use Rattle.cluster_core.specs.Placement.{Slots, slots_after, slots_from, slots_of, items_in}
-use Rattle.cluster_core.proofs.Places.{slice_get-keeps, slice_get-last, slice_get-push}
+use Rattle.cluster_core.proofs.Placement.{Slots, slots_after, slots_from, slots_of, items_in}
+use Rattle.cluster_core.proofs.Places.{slice_get-keeps, slice_get-push}
 use Rattle.cluster_core.proofs.Entries.{entry_at-keeps, entry_at-push, entry_at-within, called_at-keeps, replied_at-keeps, replied_at-push, none_replied}
 use Rattle.cluster_core.proofs.Unions.{union_first}
 use Rattle.cluster_core.proofs.Prefixes.{table_at, table_at-is, table_at-keeps, after_all}

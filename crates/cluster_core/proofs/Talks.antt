@@ -1,7 +1,6 @@
 -- What a token server and a node know of each other, for one file: the invariant of their conversation.
-use Rattle.std.specs.Prelude.{is_some, ◌==◌}
-use Rattle.std.proofs.Common.{◌≡◌, ℕ, ◌+◌, ◌<◌, ◌≤◌, Bool, true, false, ◌⊎◌, inl, inr, refl, sym, ◌∙◌, ap, subst, arith, Option, Some, None}
-use Rattle.std.proofs.lemmas.Bool.{eqb-true, eqb-false}
+use Rattle.std.specs.Prelude.{is_some}
+use Rattle.std.proofs.Common.{◌≡◌, ℕ, ◌+◌, ◌<◌, ◌≤◌, true, false, ◌⊎◌, inl, inr, sym, ◌∙◌, ap, subst, arith, Option, Some, None}
 use Rattle.std.proofs.lemmas.Option.{same_Some}
 use Rattle.model.specs.declared.mode.Mode.{Mode}
 use Rattle.model.specs.declared.host.Host.{Host}
@@ -15,11 +14,6 @@ use Rattle.node_core.specs.State.{FileState}
 use Rattle.token_server.specs.State.{Row}
 use Rattle.token_server.specs.Serve.{row_conflicts_at}
 use Rattle.cluster_core.proofs.Lowering.{IsWithin, within_itself, within_same, within_raised, within_conflicts}
-
--- a test of two numbers, by cases
-pub at_number : (m n : ℕ) (P : Bool → Type 0) → (m ≡ n → P true) → ((m ≡ n → ⊥) → P false) → P (m == n)
-at_number m n P here there =
-    elim (m == n) as (λ b. (m == n) ≡ b → P b) [ true ↦ λ h. here (eqb-true m n h) | false ↦ λ h. there (eqb-false m n h) ] refl
 
 -- messages that were sent
 abbrev pub Sent : Type 1

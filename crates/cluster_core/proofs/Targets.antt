@@ -15,23 +15,12 @@ use Rattle.model.specs.declared.reply.Reply.TheVariants.{NoProcess, BadFd}
 use Rattle.model.specs.Limits.{IsNumber, most_processes, most_descriptions}
 use Rattle.model.specs.Owners.{owner_at, most_owners, process_owner, description_owner}
 use Rattle.model.specs.Table.{Table, Target, is_running, descriptor, target, target_at, owner_of, allows}
+use Rattle.cluster_core.proofs.Refusals.{if_ok, if_then}
 
 -- bytes of a file, at least one
 pub record IsSpan (s : Range) : Type 0 where
   pub ordered : s.lo ≤ s.hi
   pub ends : s.hi ≤ greatest
-
-pub ok_is : {A E : Type 0} (a b : A) → ◌≡◌ {A = Result A E} (Ok a) (Ok b) → a ≡ b
-ok_is a b e = cc
-
--- a test that lets a value through
-pub if_ok : {A E : Type 0} (b : Bool) (x y : A) (e : E) → ◌≡◌ {A = Result A E} (if b then Ok x else Err e) (Ok y) → (b ≡ true) × (x ≡ y)
-if_ok true x y e h = (refl, ok_is x y h)
-if_ok false x y e h = absurd (cc)
-
-pub if_then : {A E : Type 0} (b : Bool) (x : Result A E) (y : A) (e : E) → ◌≡◌ {A = Result A E} (if b then x else Err e) (Ok y) → (b ≡ true) × (x ≡ Ok y)
-if_then true x y e h = (refl, h)
-if_then false x y e h = absurd (cc)
 
 span_from : (lo hi : ℕ) (s : Range) → lo ≤ hi → nat_le hi greatest ≡ true → (let r : Range = record { lo = lo; hi = hi } in r ≡ s) → IsSpan s
 span_from lo hi s ordered ends is =
@@ -107,7 +96,7 @@ pub record Passes (p : Process) (need : Option Mode) (kind : Kind) (opened : Opt
   pub names : segment ≡ Ok span
   pub is : (let t : Target = record { file = what.file; owner = owner_of p kind what; span = span } in t ≡ c)
 
-passes_at : (p : Process) (need : Option Mode) (kind : Kind) (opened : Option Opened) (segment : Result Range SpanError) (c : Target) → target_at p need kind opened segment ≡ Ok c → Passes p need kind opened segment c
+pub passes_at : (p : Process) (need : Option Mode) (kind : Kind) (opened : Option Opened) (segment : Result Range SpanError) (c : Target) → target_at p need kind opened segment ≡ Ok c → Passes p need kind opened segment c
 passes_at p need kind None segment c h = absurd (cc)
 passes_at p need kind (Some o) (Err Invalid) c h = absurd (cc)
 passes_at p need kind (Some o) (Err Overflow) c h = absurd (cc)

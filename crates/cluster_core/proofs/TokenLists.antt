@@ -1,7 +1,7 @@
 -- The tokens of a cluster, file by file and node by node.
 use Rattle.std.specs.Prelude.{◌≡◌, ℕ, ◌+◌, ◌≤◌, true, ◌==◌, nat_le, List, [], ◌++◌, map}
 use Rattle.std.proofs.Common.{refl, sym, ap, ◌∙◌, subst, inl, inr, arith}
-use Rattle.std.proofs.lemmas.Bool.{and_parts, and_from, eqb-true, eq-eqb, cases_lt, le-leb}
+use Rattle.std.proofs.lemmas.Bool.{and_parts, and_from, eqb-true, le-leb}
 use Rattle.std.proofs.lemmas.List.Elements.{All-weaker}
 use Rattle.intervals.specs.Bytes.{Range, IsRun}
 use Rattle.model.specs.declared.level.Level.{Level}
@@ -12,7 +12,8 @@ use Rattle.cluster_core.specs.declared.token_run.TokenRun.{TokenRun}
 use Rattle.cluster_core.specs.World.{WorldState, has_node, has_file}
 use Rattle.cluster_core.specs.Listings.{Lists, Adds, IsTokenRun, IsTokenBefore, IsTokenOf, IsTokenOfFile, IsTokenListing, token_run}
 use Rattle.cluster_core.proofs.WorldSteps.{within_is}
-use Rattle.cluster_core.proofs.Lists.{lists_map, adds_none, adds_join, adds_same, adds_all}
+use Rattle.cluster_core.proofs.Unions.{live_at}
+use Rattle.cluster_core.proofs.Lists.{lists_map, adds_all, IsUpTo, adds_first, adds_next, adds_last}
 
 -- a number from 1 to the most
 pub is_number : (most n : ℕ) → 1 ≤ n → n ≤ most → is_within most n ≡ true
@@ -24,7 +25,7 @@ live_node w t is = within_is w.shape.nodes t.node (and_parts (has_node w t.node)
 -- the runs of a node's token for a file
 module _ (w : WorldState) (node file incarnation : ℕ) (runs : List (Range × Level)) (there : has_node w node ≡ true) (within : has_file w file ≡ true) (now : incarnation ≡ (w.nodes node).incarnation) (l : ListsRuns ((w.nodes node).files file).token runs) where
   run_of : (r : Range × Level) → IsRun ((w.nodes node).files file).token r.0 r.1 → IsTokenOfFile w node file (token_run node incarnation file r)
-  run_of r run = ((record { live = and_from (has_node w node) (incarnation == (w.nodes node).incarnation) there (eq-eqb incarnation (w.nodes node).incarnation now); file_in = within; run = run }, refl), refl)
+  run_of r run = ((record { live = live_at w node node incarnation there refl now; file_in = within; run = run }, refl), refl)
 
   run_in : (t : TokenRun) → IsTokenOfFile w node file t → IsRun ((w.nodes node).files file).token t.span t.level
   run_in t is =
@@ -54,43 +55,28 @@ adds_file w node file incarnation s runs old new there within is now l made =
 
 -- those of the first files of a node
 abbrev pub IsOfFirstFiles : WorldState → ℕ → ℕ → TokenRun → Type 0
-IsOfFirstFiles w node i t = IsTokenOf w node t × (t.file ≤ i)
+IsOfFirstFiles w node = IsUpTo (IsTokenOf w node) (λ (t : TokenRun). t.file)
 
 pub no_files : (w : WorldState) (node : ℕ) (old : List TokenRun) → Adds (IsOfFirstFiles w node 0) IsTokenBefore old old
-no_files w node old = adds_none (IsOfFirstFiles w node 0) IsTokenBefore old (λ t is. let least = (within_is w.shape.files t.file is.0.0.file_in).0 in absurd (omega (arith, is.1)))
+no_files w node old = adds_first (IsTokenOf w node) (λ (t : TokenRun). t.file) IsTokenBefore old (λ t is. (within_is w.shape.files t.file is.0.file_in).0)
 
 pub next_file : (w : WorldState) (node i : ℕ) (old mid new : List TokenRun) → Adds (IsOfFirstFiles w node i) IsTokenBefore old mid → Adds (IsTokenOfFile w node (i + 1)) IsTokenBefore mid new → Adds (IsOfFirstFiles w node (i + 1)) IsTokenBefore old new
-next_file w node i old mid new =
-    adds_join (IsOfFirstFiles w node i) (IsTokenOfFile w node (i + 1)) (IsOfFirstFiles w node (i + 1)) IsTokenBefore old mid new
-    (λ t is. (is.0, omega (arith, is.1)))
-    (λ t is. (is.0, omega (arith, is.1)))
-    (λ t is. elim (cases_lt t.file (i + 1)) [ inl lt ↦ inl (is.0, omega arith) | inr ge ↦ inr (is.0, omega (arith, is.1)) ])
-    (λ t s is next. inr (is.0.1 ∙ sym next.0.1, inl (omega (arith, is.1, next.1))))
+next_file w node i old mid new = adds_next (IsTokenOf w node) (λ (t : TokenRun). t.file) IsTokenBefore i old mid new (λ t s is next lt. inr (is.1 ∙ sym next.1, inl lt))
 
 pub all_files : (w : WorldState) (node i : ℕ) (old new : List TokenRun) → w.shape.files ≤ i → Adds (IsOfFirstFiles w node i) IsTokenBefore old new → Adds (IsTokenOf w node) IsTokenBefore old new
-all_files w node i old new past =
-    adds_same (IsOfFirstFiles w node i) (IsTokenOf w node) IsTokenBefore old new
-    (λ t is. is.0)
-    (λ t is. (is, let most = (within_is w.shape.files t.file is.0.file_in).1 in omega arith))
+all_files w node i old new past = adds_last (IsTokenOf w node) (λ (t : TokenRun). t.file) IsTokenBefore i old new (λ t is. let most = (within_is w.shape.files t.file is.0.file_in).1 in omega arith)
 
 -- those of the first nodes
 abbrev pub IsOfFirstNodes : WorldState → ℕ → TokenRun → Type 0
-IsOfFirstNodes w i t = IsTokenRun w t × (t.node ≤ i)
+IsOfFirstNodes w = IsUpTo (IsTokenRun w) (λ (t : TokenRun). t.node)
 
 pub no_nodes : (w : WorldState) (old : List TokenRun) → Adds (IsOfFirstNodes w 0) IsTokenBefore old old
-no_nodes w old = adds_none (IsOfFirstNodes w 0) IsTokenBefore old (λ t is. let least = (live_node w t is.0).0 in absurd (omega (arith, is.1)))
+no_nodes w old = adds_first (IsTokenRun w) (λ (t : TokenRun). t.node) IsTokenBefore old (λ t is. (live_node w t is).0)
 
 pub next_node : (w : WorldState) (i : ℕ) (old mid new : List TokenRun) → Adds (IsOfFirstNodes w i) IsTokenBefore old mid → Adds (IsTokenOf w (i + 1)) IsTokenBefore mid new → Adds (IsOfFirstNodes w (i + 1)) IsTokenBefore old new
-next_node w i old mid new =
-    adds_join (IsOfFirstNodes w i) (IsTokenOf w (i + 1)) (IsOfFirstNodes w (i + 1)) IsTokenBefore old mid new
-    (λ t is. (is.0, omega (arith, is.1)))
-    (λ t is. (is.0, omega (arith, is.1)))
-    (λ t is. elim (cases_lt t.node (i + 1)) [ inl lt ↦ inl (is.0, omega arith) | inr ge ↦ inr (is.0, omega (arith, is.1)) ])
-    (λ t s is next. inl (omega (arith, is.1, next.1)))
+next_node w i old mid new = adds_next (IsTokenRun w) (λ (t : TokenRun). t.node) IsTokenBefore i old mid new (λ t s is next lt. inl lt)
 
 pub all_nodes : (w : WorldState) (i : ℕ) (tokens : List TokenRun) → w.shape.nodes ≤ i → Adds (IsOfFirstNodes w i) IsTokenBefore [] tokens → IsTokenListing w tokens
 all_nodes w i tokens past adds =
-    adds_all (IsTokenRun w) IsTokenBefore tokens (adds_same (IsOfFirstNodes w i) (IsTokenRun w) IsTokenBefore [] tokens
-    (λ t is. is.0)
-    (λ t is. (is, let most = (live_node w t is).1 in omega arith))
-    adds)
+    adds_all (IsTokenRun w) IsTokenBefore tokens
+    (adds_last (IsTokenRun w) (λ (t : TokenRun). t.node) IsTokenBefore i [] tokens (λ t is. let most = (live_node w t is).1 in omega arith) adds)

@@ -1,10 +1,9 @@
 -- What a node makes of a call: it answers as its own table may, or leaves the call open.
 use Rattle.std.proofs.Common.{◌≡◌, ℕ, Bool, true, false, not, if◌then◌else◌, ◌==◌, ◌⊎◌, inl, inr, refl, sym, ◌∙◌, ap, subst, ℤ, nat_le, List, [], ◌∷◌, ◌++◌, filter, append-nil, Option, Some, None, MatchOption, Result, Ok, Err}
-use Rattle.std.proofs.lemmas.Bool.{eqb-true, eq-eqb}
+use Rattle.std.proofs.lemmas.Bool.{eq-eqb}
 use Rattle.std.proofs.lemmas.List.Elements.{filter-append}
 use Rattle.model.specs.declared.mode.Mode.{Mode}
 use Rattle.model.specs.declared.owner.Kind.{Kind}
-use Rattle.model.specs.declared.access.Access.{Access}
 use Rattle.model.specs.declared.lock_info.LockInfo.{LockInfo}
 use Rattle.model.specs.declared.process.Process.{Process}
 use Rattle.model.specs.declared.call.CallId.{CallId}
@@ -27,7 +26,9 @@ use Rattle.node_core.specs.State.{NodeState, Effect, without_call, with_file, ho
 use Rattle.node_core.specs.Try.{settled, requested, refusal_of, may_free, with_freed, locked_by, answered_here, tried, tried_against}
 use Rattle.node_core.specs.Calls.{called, lock_call, unlock_call}
 use Rattle.cluster_core.specs.Evidence.{IsAbout}
-use Rattle.cluster_core.proofs.Targets.{IsTarget, ok_is}
+use Rattle.cluster_core.proofs.Choices.{at_number}
+use Rattle.cluster_core.proofs.Refusals.{ok_is}
+use Rattle.cluster_core.proofs.Targets.{IsTarget}
 use Rattle.cluster_core.proofs.NodeTables.{IsOwn, Follows, same_follows, spawn_follows, open_follows, lock_follows, unlock_follows, target_own}
 
 -- what an open call asks for
@@ -48,6 +49,30 @@ about_one t p (Query fd kind mode start len) m n c d a b = (sym a.0 ∙ b.0, ok_
 about_one t p Spawn m n c d a b = absurd a
 about_one t p (Open file access) m n c d a b = absurd a
 about_one t p (Unlock fd kind start len) m n c d a b = absurd a
+
+-- what a call is about its process finds in the table
+pub record Finds (t : Table) (p : Process) (c : Target) : Type 0 where
+  pub need : Option Mode
+  pub fd : ℕ
+  pub kind : Kind
+  pub start : ℤ
+  pub len : ℤ
+  pub found : target t p need fd kind start len ≡ Ok c
+
+pub about_finds : (t : Table) (p : Process) (op : Op) (mode : Mode) (c : Target) → IsAbout t p op mode c → Finds t p c
+about_finds t p (Set fd kind m start len) mode c a = record { need = Some m; fd = fd; kind = kind; start = start; len = len; found = a.1 }
+about_finds t p (Query fd kind m start len) mode c a = record { need = None; fd = fd; kind = kind; start = start; len = len; found = a.1 }
+about_finds t p Spawn mode c a = absurd a
+about_finds t p (Open file access) mode c a = absurd a
+about_finds t p (Unlock fd kind start len) mode c a = absurd a
+
+-- and it is about the same where the process finds the same
+pub about_maps : (t u : Table) (p : Process) (op : Op) (mode : Mode) (c : Target) → ((need : Option Mode) (fd : ℕ) (kind : Kind) (start len : ℤ) → target t p need fd kind start len ≡ Ok c → target u p need fd kind start len ≡ Ok c) → IsAbout t p op mode c → IsAbout u p op mode c
+about_maps t u p (Set fd kind m start len) mode c same a = (a.0, same (Some m) fd kind start len a.1)
+about_maps t u p (Query fd kind m start len) mode c same a = (a.0, same None fd kind start len a.1)
+about_maps t u p Spawn mode c same a = absurd a
+about_maps t u p (Open file access) mode c same a = absurd a
+about_maps t u p (Unlock fd kind start len) mode c same a = absurd a
 
 -- what the one table may answer to it
 abbrev pub LockStep : Table → Intent → Mode → Reply → Table → Target → Type 0
@@ -157,12 +182,9 @@ freed_settles s number file answer =
     ]
   where
     token : (f : ℕ) → (if f == file then record (s.files file) { asked = false } else s.files f).token ≡ (s.files f).token
-    token f = elim (f == file) as (λ b. (f == file) ≡ b → (if b then record (s.files file) { asked = false } else s.files f).token ≡ (s.files f).token) [
-      | true ↦ λ h. ap (λ (k : ℕ). (s.files k).token) (sym (eqb-true f file h))
-      | false ↦ λ h. refl
-    ] refl
+    token f = at_number f file (λ b. (if b then record (s.files file) { asked = false } else s.files f).token ≡ (s.files f).token) (λ same. ap (λ (k : ℕ). (s.files k).token) (sym same)) (λ other. refl)
 
-locked_by_settles : (s : NodeState) (number : ℕ) (c : Target) (mode : Option Mode) → Settles s number (lock_within s.table c mode) (locked_by s number c mode)
+pub locked_by_settles : (s : NodeState) (number : ℕ) (c : Target) (mode : Option Mode) → Settles s number (lock_within s.table c mode) (locked_by s number c mode)
 locked_by_settles s number c mode =
     let answer = lock_within s.table c mode in
     elim (may_free mode answer.1) as (λ b. Settles s number answer (if b then with_freed c.file (settled s number answer) else settled s number answer)) [
@@ -216,11 +238,9 @@ of_owner t node incarnation file n i same_node same_incarnation own =
 
 -- what a call of the node is about
 pub about_own : (t : Table) (node incarnation pid : ℕ) (op : Op) (mode : Mode) (c : Target) → IsNumber most_processes pid → IsOwn t node incarnation → IsAbout t (record { node = node; incarnation = incarnation; pid = pid }) op mode c → IsTarget node incarnation c
-about_own t node incarnation pid (Set fd kind m start len) mode c pid_in own a = target_own t node incarnation pid (Some m) fd kind start len c pid_in own a.1
-about_own t node incarnation pid (Query fd kind m start len) mode c pid_in own a = target_own t node incarnation pid None fd kind start len c pid_in own a.1
-about_own t node incarnation pid Spawn mode c pid_in own a = absurd a
-about_own t node incarnation pid (Open file access) mode c pid_in own a = absurd a
-about_own t node incarnation pid (Unlock fd kind start len) mode c pid_in own a = absurd a
+about_own t node incarnation pid op mode c pid_in own a =
+    let f = about_finds t (record { node = node; incarnation = incarnation; pid = pid }) op mode c a in
+    target_own t node incarnation pid f.need f.fd f.kind f.start f.len c pid_in own f.found
 
 -- a call that the token covers is answered by the node's own table
 here_ends : (s : NodeState) (c : OpenCall) (op : Op) (i : Intent) → IsTarget s.node s.incarnation (target_of c) → IsOwn s.table s.node s.incarnation → IsFor i op → IsAbout s.table (process s c.pid) op c.mode (target_of c) → Unblocked s.table (target_of c) c.mode → covers (s.files c.file).token c.span c.mode ≡ true → Tried s c.number c.pid op (answered_here s c i).state (answered_here s c i).reply

@@ -2,10 +2,7 @@
 use Rattle.std.proofs.Common.{◌≡◌, ℕ, ◌≤◌, true, false, refl, sym, ◌∙◌, subst, Some}
 use Rattle.model.specs.declared.mode.Mode.{Mode}
 use Rattle.model.specs.declared.op.Op.{Op}
-use Rattle.model.specs.declared.owner.Owner.{Owner}
 use Rattle.model.specs.declared.reply.Reply.{Reply}
-use Rattle.model.specs.Locks.{bars}
-use Rattle.model.specs.Table.{Target}
 use Rattle.node_core.specs.State.{NodeState, process}
 use Rattle.cluster_core.specs.World.{WorldState, has_node}
 use Rattle.cluster_core.specs.Safe.{Excludes, AreApart, AreCovered, IsSafe}

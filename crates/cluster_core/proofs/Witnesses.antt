@@ -8,7 +8,7 @@ use Rattle.model.specs.declared.host.Host.{Host}
 use Rattle.model.specs.declared.lock_info.LockInfo.{LockInfo}
 use Rattle.model.specs.declared.mode.Mode.{Mode}
 use Rattle.model.specs.declared.op.Op.{Op}
-use Rattle.model.specs.declared.op.Op.TheVariants.{Spawn, Open, Set, Unlock, Query}
+use Rattle.model.specs.declared.op.Op.TheVariants.{Spawn}
 use Rattle.model.specs.declared.process.Process.{Process}
 use Rattle.model.specs.Table.{Table, Target}
 use Rattle.model.specs.Step.{Step}
@@ -23,31 +23,26 @@ use Rattle.node_core.specs.State.{NodeState, id_of}
 use Rattle.node_core.specs.Try.{refusal_of}
 use Rattle.token_server.specs.declared.held.Held.{Held}
 use Rattle.cluster_core.specs.World.{WorldState, first_world}
-use Rattle.cluster_core.specs.Runs.{Leads}
 use Rattle.cluster_core.specs.Union.{union}
 use Rattle.cluster_core.specs.Histories.{caller, EntryAt, IsCalledAt, OneCall}
 use Rattle.cluster_core.specs.Evidence.{IsAbout, IsAsked, IsWorldAfter, IsFirstDone, HasEvidence}
 use Rattle.cluster_core.proofs.Targets.{IsSpan, target_span}
 use Rattle.cluster_core.proofs.Entries.{IsNamed, named_called, entry_at-within, called_at-keeps}
-use Rattle.cluster_core.proofs.Tries.{about_one}
+use Rattle.cluster_core.proofs.Tries.{about_finds, about_one}
 use Rattle.cluster_core.proofs.Joined.{is_of_host, target_of_host}
 use Rattle.cluster_core.proofs.Prefixes.{leads_one, after-keeps}
 use Rattle.cluster_core.proofs.Slots.{entry_at-one, revoked-keeps}
 
 -- what a call is about: bytes of a file, and an owner of the caller's node
 pub about_span : (t : Table) (p : Process) (op : Op) (mode : Mode) (c : Target) → IsAbout t p op mode c → IsSpan c.span
-about_span t p (Set fd kind m start len) mode c a = target_span t p (Some m) fd kind start len c a.1
-about_span t p (Query fd kind m start len) mode c a = target_span t p None fd kind start len c a.1
-about_span t p Spawn mode c a = absurd a
-about_span t p (Open file access) mode c a = absurd a
-about_span t p (Unlock fd kind start len) mode c a = absurd a
+about_span t p op mode c a =
+    let f = about_finds t p op mode c a in
+    target_span t p f.need f.fd f.kind f.start f.len c f.found
 
 pub about_host : (t : Table) (p : Process) (op : Op) (mode : Mode) (c : Target) → IsAbout t p op mode c → is_of_host p.node p.incarnation c.owner ≡ true
-about_host t p (Set fd kind m start len) mode c a = target_of_host t p (Some m) fd kind start len c a.1
-about_host t p (Query fd kind m start len) mode c a = target_of_host t p None fd kind start len c a.1
-about_host t p Spawn mode c a = absurd a
-about_host t p (Open file access) mode c a = absurd a
-about_host t p (Unlock fd kind start len) mode c a = absurd a
+about_host t p op mode c a =
+    let f = about_finds t p op mode c a in
+    target_of_host t p f.need f.fd f.kind f.start f.len c f.found
 
 pub about_node : (t : Table) (p : Process) (op : Op) (mode : Mode) (c : Target) → IsAbout t p op mode c → c.owner.node ≡ p.node
 about_node t p op mode c a = eqb-true c.owner.node p.node (and_parts (c.owner.node == p.node) (c.owner.incarnation == p.incarnation) (about_host t p op mode c a)).0

@@ -1,10 +1,10 @@
 -- A world after the step of one of its actors.
 use Rattle.std.specs.Prelude.{slice_set, slice_index_or, ◌==◌, ◌-◌}
-use Rattle.std.proofs.Common.{◌≡◌, ℕ, zero, suc, ◌+◌, ◌<◌, ◌≤◌, Bool, true, false, ◌&&◌, if◌then◌else◌, refl, sym, ◌∙◌, ap, subst, arith, List, [], ◌∷◌, ◌++◌, length}
+use Rattle.std.proofs.Common.{◌≡◌, ℕ, ◌+◌, ◌<◌, ◌≤◌, true, if◌then◌else◌, refl, sym, ◌∙◌, ap, subst, arith, List, [], ◌++◌, length}
 use Rattle.std.specs.declared.option.Option.{Option}
 use Rattle.std.specs.declared.option.Option.TheVariants.{None, Some}
 use Rattle.std.specs.declared.result.Result.{Result}
-use Rattle.std.specs.declared.result.Result.TheVariants.{Ok, Err}
+use Rattle.std.specs.declared.result.Result.TheVariants.{Ok}
 use Rattle.std.proofs.lemmas.Bool.Decides.{nat_tests}
 use Rattle.std.proofs.lemmas.List.{length-set}
 use Rattle.model.specs.declared.call.CallId.{CallId}
@@ -17,7 +17,6 @@ use Rattle.messages.specs.declared.outcome.Outcome.{Outcome}
 use Rattle.messages.specs.declared.entry.Entry.{Entry}
 use Rattle.messages.specs.declared.refusal.StepError.{StepError}
 use Rattle.node_core.specs.declared.event.NodeEvent.{NodeEvent}
-use Rattle.node_core.specs.declared.event.NodeEvent.TheVariants as own
 use Rattle.node_core.specs.Parts.{NodeParts, node_state}
 use Rattle.node_core.specs.State.{NodeState, first_node}
 use Rattle.node_core.specs.Node.{node_rule}
@@ -25,11 +24,12 @@ use Rattle.token_server.specs.Parts.{ServerParts, server_state}
 use Rattle.token_server.specs.declared.event.ServerEvent.{ServerEvent}
 use Rattle.token_server.specs.State.{ServerState, first_server}
 use Rattle.token_server.specs.Server.{server_rule}
-use Rattle.cluster_core.specs.World.{WorldState, first_world, journal_limit}
+use Rattle.cluster_core.specs.World.{first_world, journal_limit}
 use Rattle.cluster_core.specs.Next.{with_node, with_server, recorded, entry, named_incarnation, after_node, after_server}
 use Rattle.cluster_core.specs.Parts.{WorldParts, IsWorld, IsRest, IsStepOf, IsServerStepOf, numbered, world_state}
+use Rattle.cluster_core.proofs.Choices.{at_number}
 use Rattle.cluster_core.proofs.Numbered.{numbered-set, numbered-read}
-use Rattle.cluster_core.proofs.NodeNumbers.{NamesBy, Steps, node_rule-steps}
+use Rattle.cluster_core.proofs.NodeNumbers.{NamesBy, node_rule-steps}
 use Rattle.cluster_core.proofs.ServerSteps.{server_rule-sending}
 
 pub within_is : (most n : ℕ) → is_within most n ≡ true → (1 ≤ n) × (n ≤ most)
@@ -68,34 +68,24 @@ server_put p file next event o least most =
       length = p.length + 1;
     })
 
-length_set : {A : Type 0} (xs : List A) (k : ℕ) (x : A) → length (slice_set xs k x) ≡ length xs
-length_set xs k x = length-set xs k x
-
-own_after : (m n : ℕ) (b : Bool) (x y : NodeState) → (m == n) ≡ b → x.node ≡ n → y.node ≡ m → (if b then x else y).node ≡ m
-own_after m n true x y h is other = is ∙ sym (eq_is h)
-  where
-    eq_is : (m == n) ≡ true → m ≡ n
-    eq_is h = grind (arith, nat_tests, h)
-own_after m n false x y h is other = other
-
 -- a node's step leaves the world one
 pub node_world : (p : WorldParts) (n : ℕ) (step : NodeEvent) (next : NodeParts) (o : Outcome) → 1 ≤ n → n ≤ p.shape.nodes → p.length < journal_limit → IsWorld p → node_rule ((world_state p).nodes n) step ≡ Ok (node_state next, o) → IsWorld (with_node_parts p n next o.sends)
 node_world p n step next o least most room world done =
     let steps = node_rule-steps ((world_state p).nodes n) step (node_state next, o) done in
     let there : n ≤ length p.nodes = omega (arith, world.nodes_there) in
     record {
-      nodes_there = length_set p.nodes (n - 1) next ∙ world.nodes_there;
+      nodes_there = length-set p.nodes (n - 1) next ∙ world.nodes_there;
       servers_there = world.servers_there;
       own_number = λ m.
           ap (λ (s : NodeState). s.node) (put_at node_state (λ k. first_node p.shape k 1) p.nodes n next least there m)
-          ∙ own_after m n (m == n) (node_state next) ((world_state p).nodes m) refl (steps.node ∙ world.own_number n) (world.own_number m);
+          ∙ at_number m n (λ b. (if b then node_state next else (world_state p).nodes m).node ≡ m) (λ same. steps.node ∙ world.own_number n ∙ sym same) (λ other. world.own_number m);
       within = omega arith;
     }
 
 pub server_world : (p : WorldParts) (file : ℕ) (next : ServerParts) (sends : List Message) → p.length < journal_limit → IsWorld p → IsWorld (with_server_parts p file next sends)
 server_world p file next sends room world = record {
   nodes_there = world.nodes_there;
-  servers_there = length_set p.servers (file - 1) next ∙ world.servers_there;
+  servers_there = length-set p.servers (file - 1) next ∙ world.servers_there;
   own_number = world.own_number;
   within = omega arith;
 }

@@ -1,15 +1,14 @@
 -- What holds of the cluster after each run.
-use Rattle.std.proofs.Common.{◌≡◌, ℕ, ◌+◌, ◌≤◌, Bool, true, false, ◌||◌, if◌then◌else◌, ◌==◌, ◌⊎◌, inl, inr, refl, sym, ◌∙◌, ap, subst, arith, List, [], ◌∷◌, ◌++◌, length, length-append, get_or, All, Contains, Option, Some, None, Ok}
+use Rattle.std.proofs.Common.{◌≡◌, ℕ, ◌≤◌, Bool, true, false, if◌then◌else◌, ◌==◌, ◌⊎◌, inl, inr, refl, sym, ◌∙◌, ap, subst, arith, List, [], ◌∷◌, ◌++◌, length, length-append, get_or, All, Contains, Some, None, Ok}
 use Rattle.std.specs.List.{list_any}
-use Rattle.std.proofs.lemmas.Bool.{eqb-true, eq-eqb, cases_Bool, both_ways}
+use Rattle.std.proofs.lemmas.Bool.{eq-eqb, cases_Bool, or_parts}
 use Rattle.std.proofs.lemmas.List.Folds.{list_any-append}
 use Rattle.std.proofs.lemmas.List.Elements.{All-nil, All-same, All-append, All-weaker, All-contains, All-contains_itself}
 use Rattle.model.specs.declared.call.CallId.{CallId}
-use Rattle.model.specs.declared.mode.Mode.{Mode}
 use Rattle.model.specs.declared.op.Op.{Op}
 use Rattle.model.specs.declared.reply.Reply.{Reply}
 use Rattle.model.specs.Limits.{IsNumber, IsProcess}
-use Rattle.model.specs.Table.{Table, Target}
+use Rattle.model.specs.Table.{Table}
 use Rattle.model.specs.Step.{Step}
 use Rattle.messages.specs.Shapes.{ShapeFields}
 use Rattle.messages.specs.declared.message.Message.{Message}
@@ -20,20 +19,20 @@ use Rattle.node_core.specs.declared.open_call.OpenCall.{OpenCall}
 use Rattle.node_core.specs.State.{NodeState, process, id_of, target_of}
 use Rattle.node_core.specs.Try.{refusal_of}
 use Rattle.token_server.specs.State.{ServerState}
-use Rattle.cluster_core.specs.declared.item.Item.{Item}
-use Rattle.cluster_core.specs.declared.item.Item.TheVariants.{Answered, Gone}
+use Rattle.cluster_core.specs.declared.item.Item.TheVariants.{Answered}
 use Rattle.cluster_core.specs.World.{WorldState, first_world, has_node}
 use Rattle.cluster_core.specs.Next.{next, entry, recorded, with_node, with_server}
 use Rattle.cluster_core.specs.Runs.{Leads}
 use Rattle.cluster_core.specs.Union.{union}
-use Rattle.cluster_core.specs.Histories.{caller, EntryAt, IsRepliedAt, IsCalledAt, OneCall, OneReply}
-use Rattle.cluster_core.specs.Evidence.{IsAbout, IsAsked, HasEvidence}
-use Rattle.cluster_core.specs.Placement.{slots_of}
+use Rattle.cluster_core.specs.Histories.{caller, EntryAt, IsRepliedAt, OneCall, OneReply}
+use Rattle.cluster_core.specs.Evidence.{IsAbout, IsAsked}
+use Rattle.cluster_core.proofs.Placement.{slots_of}
+use Rattle.cluster_core.proofs.Choices.{at_number}
 use Rattle.cluster_core.proofs.JournalRuns.{leads_push}
 use Rattle.cluster_core.proofs.Entries.{not_there, same_answer, IsNamed, Unanswered, entry_at-push, called_at-push, named-push, named_called, one_call-push, one_reply-push}
 use Rattle.cluster_core.proofs.Fitting.{Called}
 use Rattle.cluster_core.proofs.Tries.{IsSilent}
-use Rattle.cluster_core.proofs.Nodes.{IsOpen, Holds, IsExplained, IsDenied, IsNoDenial, Moves, open-push}
+use Rattle.cluster_core.proofs.Nodes.{IsOpen, Holds, IsExplained, IsDenied, IsNoDenial, Moves, same_id, open-push}
 use Rattle.cluster_core.proofs.Unions.{union_same}
 use Rattle.cluster_core.proofs.Lifting.{IsFreeElsewhere, DiffersAt, step_lifts, about_lifts}
 use Rattle.cluster_core.proofs.Prefixes.{after_all}
@@ -79,13 +78,9 @@ unmentioned past e s no_call no_reply holds = record {
   numbers = λ id n node incarnation. elim (named-push past e id n) [ inl old ↦ holds.numbers id old node incarnation | inr new ↦ absurd (no_call id new node) ];
 }
 
-both_false : (a b : Bool) → (a || b) ≡ false → (a ≡ false) × (b ≡ false)
-both_false true b h = absurd (cc)
-both_false false b h = (refl, h)
-
 told-push : (past : List Entry) (sent : List Message) (e : Entry) → Told past sent → Told (past ++ e ∷ []) (sent ++ e.sends)
 told-push past sent e told k d test at none =
-    let parts = both_false (list_any test sent) (list_any test e.sends) (sym (list_any-append test sent e.sends) ∙ none) in
+    let parts = or_parts (list_any test sent) (list_any test e.sends) (sym (list_any-append test sent e.sends) ∙ none) in
     elim (entry_at-push past e d k at) [
       | inl old ↦ told k d test old parts.0
       | inr new ↦ ap (λ (x : Entry). list_any test x.sends) (sym new.1) ∙ parts.1
@@ -132,10 +127,9 @@ module _ (shape : ShapeFields) (past : List Entry) (w : WorldState) (file : ℕ)
       }
     where
       each : (f : ℕ) → Comes f (HeldFor shape past f) (Backed shape past w) (if f == file then t else w.servers f)
-      each f = elim (f == file) as (λ b. (f == file) ≡ b → Comes f (HeldFor shape past f) (Backed shape past w) (if b then t else w.servers f)) [
-        | true ↦ λ h. subst (λ (k : ℕ). Comes k (HeldFor shape past k) (Backed shape past w) t) (sym (eqb-true f file h)) comes
-        | false ↦ λ h. g.comes f
-      ] refl
+      each f = at_number f file (λ b. Comes f (HeldFor shape past f) (Backed shape past w) (if b then t else w.servers f))
+          (λ same. subst (λ (k : ℕ). Comes k (HeldFor shape past k) (Backed shape past w) t) (sym same) comes)
+          (λ other. g.comes f)
 
 -- a step of a node
 module _ (shape : ShapeFields) (past : List Entry) (w : WorldState) (n : ℕ) (u : NodeState) (event : Event) (incarnation : ℕ) (o : Outcome) (g : Good shape past w) (step : next w event ≡ Ok (recorded (with_node w n u) event incarnation o)) (moves : Moves past (w.nodes n) u (entry event incarnation o)) (strange : has_node w n ≡ false → (u.pending ≡ []) × IsSilent (w.nodes n) u o.reply) where
@@ -153,10 +147,7 @@ module _ (shape : ShapeFields) (past : List Entry) (w : WorldState) (n : ℕ) (u
 
   -- each node is this one or another
   at_each : (P : NodeState → ℕ → Type 0) → P u n → ((m : ℕ) → (m ≡ n → ⊥) → P (w.nodes m) m) → (m : ℕ) → P (later.nodes m) m
-  at_each P here there m = elim (m == n) as (λ b. (m == n) ≡ b → P (if b then u else w.nodes m) m) [
-    | true ↦ λ h. subst (P u) (sym (eqb-true m n h)) here
-    | false ↦ λ h. there m (λ same. both_ways (m == n) h (eq-eqb m n same))
-  ] refl
+  at_each P here there m = at_number m n (λ b. P (if b then u else w.nodes m) m) (λ same. subst (P u) (sym same) here) (there m)
 
   other_call : (m : ℕ) → (m ≡ n → ⊥) → (id : CallId) → made.call ≡ Some id → id.node ≡ (w.nodes m).node → ⊥
   other_call m other id h same = other (sym (g.named m) ∙ sym same ∙ (moves.fresh id h).0 ∙ g.named n)
@@ -199,13 +190,16 @@ module _ (shape : ShapeFields) (past : List Entry) (w : WorldState) (n : ℕ) (u
   after = rw (eq-eqb n n refl) refl
 
   pub others_stay : (m : ℕ) → (m ≡ n → ⊥) → later.nodes m ≡ w.nodes m
-  others_stay m other = elim (cases_Bool (m == n)) [ inl same ↦ absurd (other (eqb-true m n same)) | inr apart ↦ rw apart refl ]
+  others_stay m other = at_number m n (λ b. (if b then u else w.nodes m) ≡ w.nodes m) (λ same. absurd (other same)) (λ apart. refl)
 
   differs : DiffersAt w later n
   differs = record { shape = refl; incarnation = ap (λ (x : NodeState). x.incarnation) after ∙ moves.incarnation; others = others_stay }
 
   pub leads_on : Leads (first_world shape) run later
   leads_on = leads_push (first_world shape) w later past made g.leads step
+
+  same_name : (number : ℕ) → id_of before number ≡ id_of u number
+  same_name number = sym (same_id before u number moves.node moves.incarnation)
 
   -- open calls were open before, or are new
   pub stays : (m : ℕ) → StaysOpen past (w.nodes m) (later.nodes m)
@@ -217,11 +211,8 @@ module _ (shape : ShapeFields) (past : List Entry) (w : WorldState) (n : ℕ) (u
       Q : OpenCall → Type 0
       Q c = (Contains before.pending c × (id_of before c.number ≡ id_of u c.number)) ⊎ (IsNamed past (id_of u c.number) → ⊥)
 
-      same_id : (number : ℕ) → id_of before number ≡ id_of u number
-      same_id number = λ i. record { node = sym moves.node i; incarnation = sym moves.incarnation i; number = number }
-
       here : StaysOpen past before u
-      here = All-weaker P Q (λ c stay. elim stay [ inl old ↦ inl (old, same_id c.number) | inr new ↦ inr (moves.fresh (id_of u c.number) new).1 ]) u.pending moves.stay
+      here = All-weaker P Q (λ c stay. elim stay [ inl old ↦ inl (old, same_name c.number) | inr new ↦ inr (moves.fresh (id_of u c.number) new).1 ]) u.pending moves.stay
 
   -- what a new call is about
   new_asked : (c : OpenCall) → has_node w n ≡ true → IsOpen run u c → (IsNamed past (id_of u c.number) → ⊥) → IsAskedBy shape run u c
@@ -250,13 +241,10 @@ module _ (shape : ShapeFields) (past : List Entry) (w : WorldState) (n : ℕ) (u
   all_asked : (m : ℕ) → All (IsAskedBy shape run (later.nodes m)) (later.nodes m).pending
   all_asked = at_each (λ x m. All (IsAskedBy shape run x) x.pending) here (λ m other. All-weaker (IsAskedBy shape past (w.nodes m)) (IsAskedBy shape run (w.nodes m)) (λ c a. asked-keeps shape past made c.file (id_of (w.nodes m) c.number) c.mode c.span a) (w.nodes m).pending (g.asked m))
     where
-      same_id : (number : ℕ) → id_of before number ≡ id_of u number
-      same_id number = λ i. record { node = sym moves.node i; incarnation = sym moves.incarnation i; number = number }
-
       one : (c : OpenCall) → has_node w n ≡ true → IsOpen run u c → Contains before.pending c ⊎ (made.call ≡ Some (id_of u c.number)) → IsAskedBy shape run u c
       one c there its (inl old) =
           let a = All-contains (IsAskedBy shape past before) before.pending c (g.asked n) old in
-          subst (λ (id : CallId). IsAsked shape run c.file id c.mode c.span) (same_id c.number) (asked-keeps shape past made c.file (id_of before c.number) c.mode c.span a)
+          subst (λ (id : CallId). IsAsked shape run c.file id c.mode c.span) (same_name c.number) (asked-keeps shape past made c.file (id_of before c.number) c.mode c.span a)
       one c there its (inr new) = new_asked c there its (moves.fresh (id_of u c.number) new).1
 
       here : All (IsAskedBy shape run u) u.pending

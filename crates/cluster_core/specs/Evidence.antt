@@ -12,7 +12,6 @@ use Rattle.model.specs.Locks.{Blocks}
 use Rattle.model.specs.Table.{Table, Target, target}
 use Rattle.messages.specs.Shapes.{ShapeFields, IsShape}
 use Rattle.messages.specs.Wants.{Wants}
-use Rattle.messages.specs.declared.message.Message.{Message}
 use Rattle.messages.specs.declared.message.Message.TheVariants.{Revoke, Conflict, Deny}
 use Rattle.messages.specs.declared.event.Event.TheVariants.{Deliver}
 use Rattle.messages.specs.declared.entry.Entry.{Entry}

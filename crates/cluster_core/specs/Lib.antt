@@ -6,7 +6,6 @@ pub mod Known
 pub mod Journals
 pub mod Union
 pub mod Histories
-pub mod Placement
 pub mod Plain
 pub mod Evidence
 pub mod Listings

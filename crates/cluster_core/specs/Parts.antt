@@ -7,11 +7,11 @@ use Rattle.messages.specs.declared.event.Event.TheVariants.{Call, Deliver, Retry
 use Rattle.node_core.specs.declared.event.NodeEvent.{NodeEvent}
 use Rattle.node_core.specs.declared.event.NodeEvent.TheVariants as own
 use Rattle.node_core.specs.Parts.{NodeParts, node_state}
-use Rattle.node_core.specs.State.{NodeState, first_node}
+use Rattle.node_core.specs.State.{first_node}
 use Rattle.token_server.specs.declared.event.ServerEvent.{ServerEvent}
 use Rattle.token_server.specs.declared.event.ServerEvent.TheVariants as served
 use Rattle.token_server.specs.Parts.{ServerParts, server_state}
-use Rattle.token_server.specs.State.{ServerState, first_server}
+use Rattle.token_server.specs.State.{first_server}
 use Rattle.cluster_core.specs.World.{WorldState, journal_limit}
 
 pub record WorldParts : Type 0 where

@@ -11,7 +11,7 @@ ghost use Rattle.node_core.specs.Node.{node_rule};
 ghost use Rattle.node_core.specs.Parts.{node_state};
 ghost use Rattle.token_server.specs.Server.{server_rule};
 ghost use Rattle.token_server.specs.Parts.{server_state};
-ghost use Rattle.cluster_core.specs.World.{journal_limit, first_world};
+ghost use Rattle.cluster_core.specs.World.{WorldState, journal_limit, first_world};
 ghost use Rattle.cluster_core.specs.Next.{is_known, has_actor, named_incarnation, after_node, after_server, taken, next};
 ghost use Rattle.cluster_core.specs.Parts.{world_state, IsStepOf, IsServerStepOf, IsRest};
 ghost use Rattle.cluster_core.specs.Runs.{Leads};
@@ -314,6 +314,20 @@ impl World {
         self.sent.as_slice()
     }
 
+    // The event of an entry of a run happens again: only memory can be refused.
+    fn repeat(&mut self, alloc: Global, entry: &Entry) -> Result<(), NoRoom>
+        requires { (v : WorldState) × (next (world_state self.old) entry.now.event ≡ Ok (v, entry.now)) }
+        ensures { OnOk result (next (world_state self.old) entry.now.event ≡ Ok (world_state self.new, entry.now)) }
+    {
+        let Err(refusal) = self.step(alloc, entry.event()) else {
+            return Ok(());
+        };
+        match refusal {
+            Refused::NoMemory => Err(AllocError),
+            _ => unreachable!(),
+        }
+    }
+
     /// The world that the entries of the journal lead to: tokens of two nodes don't conflict, and
     /// locks are covered by tokens.
     ///
@@ -325,10 +339,7 @@ impl World {
     {
         let mut world = World::new(alloc, journal.shape())?;
         for entry in journal.entries() {
-            match world.step(alloc, entry.event()) {
-                Ok(_) => {}
-                Err(_) => return Err(AllocError),
-            }
+            world.repeat(alloc, entry)?;
         }
         Ok(world)
     }

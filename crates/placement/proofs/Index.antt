@@ -11,9 +11,9 @@ use Rattle.messages.specs.declared.event.Event.{Event}
 use Rattle.messages.specs.declared.event.Event.TheVariants.{Call, Deliver, Retry, Resend}
 use Rattle.messages.specs.declared.entry.Entry.{Entry}
 use Rattle.messages.specs.Messages.{same_call}
+use Rattle.messages.proofs.SameMessages.{call_exact}
 use Rattle.token_server.proofs.RequestLaws.{eq-same_call, same_call-symm}
-use Rattle.cluster_core.specs.Placement.{is_named, called_by, find_call}
-use Rattle.cluster_core.proofs.Fitting.{call_is}
+use Rattle.cluster_core.proofs.Placement.{is_named, called_by, find_call}
 use Rattle.placement.specs.Indexes.{Calls, Indexes}
 
 -- a look-up is by the test of the definitions
@@ -62,7 +62,7 @@ module _ (es : List Entry) (e : Entry) where
 
   -- nor does one whose call the index has
   stays : (q id : CallId) (x y : Option (ℕ × Op)) (b : Bool) → same_call q id ≡ b → (q ≡ id → is_some x ≡ true) → x ≡ option_or x (cond b y None)
-  stays q id x y true h known = sym (option_or-some x y (known (call_is q id h)))
+  stays q id x y true h known = sym (option_or-some x y (known (call_exact q id h)))
   stays q id x y false h known = sym (option_or-none x)
 
   pub indexes_known : (calls : Calls) (id : CallId) → e.call ≡ Some id → is_some (get derived.ghosts.eq calls id) ≡ true → Indexes calls es → Indexes calls (es ++ e ∷ [])
@@ -76,7 +76,7 @@ module _ (es : List Entry) (e : Entry) where
 
   -- a call that the index has not is added
   adds : (q id : CallId) (x y : Option (ℕ × Op)) (b c : Bool) → same_call id q ≡ b → same_call q id ≡ c → (id ≡ q → x ≡ None) → cond b y x ≡ option_or x (cond c y None)
-  adds q id x y true true h k fresh = ap (λ (z : Option (ℕ × Op)). option_or z y) (sym (fresh (call_is id q h)))
+  adds q id x y true true h k fresh = ap (λ (z : Option (ℕ × Op)). option_or z y) (sym (fresh (call_exact id q h)))
   adds q id x y true false h k fresh = absurd (both_ways (same_call q id) k (same_call-symm q id ∙ h))
   adds q id x y false true h k fresh = absurd (both_ways (same_call id q) h (same_call-symm id q ∙ k))
   adds q id x y false false h k fresh = sym (option_or-none x)

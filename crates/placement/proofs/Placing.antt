@@ -12,7 +12,7 @@ use Rattle.messages.specs.declared.event.Event.{Event}
 use Rattle.messages.specs.declared.event.Event.TheVariants.{Deliver}
 use Rattle.messages.specs.declared.entry.Entry.{Entry}
 use Rattle.cluster_core.specs.declared.item.Item.{Item}
-use Rattle.cluster_core.specs.Placement.{Slots, find_call, item_of, filled, placed_by, slots_after, slots_from, slots_of, items_in}
+use Rattle.cluster_core.proofs.Placement.{Slots, find_call, item_of, filled, placed_by, slots_after, slots_from, slots_of, items_in}
 use Rattle.cluster_core.proofs.Slots.{slots_of-push}
 use Rattle.placement.specs.Indexes.{Calls, Conflicts, Indexes, Locates, AreBefore, slot_of}
 use Rattle.placement.proofs.Locating.{located_before, located_none}

@@ -4,7 +4,7 @@ ghost use Rattle.messages.specs.declared.entry.Entry.{Entry};
 ghost use Rattle.cluster_core.specs.World.{journal_limit};
 ghost use Rattle.cluster_core.specs.Safe.{LeadsToSafe};
 ghost use Rattle.cluster_core.specs.Histories.{HasHistory, EachAtItsPlace};
-ghost use Rattle.cluster_core.specs.Placement.{find_call, item_of, slots_after, items_in, history_of};
+ghost use Rattle.cluster_core.proofs.Placement.{find_call, item_of, slots_after, items_in, history_of};
 ghost use Rattle.placement.specs.Indexes.{Indexes, Locates, Notes, AreBefore, slot_of};
 
 use crate::history::History;

@@ -1,5 +1,4 @@
-use Rattle.cluster_core.specs.Parts.{world_state}
-use Rattle.cluster_core.proofs.JournalRuns.{ran_empty, ran_more, first_refusal}
+use Rattle.cluster_core.proofs.JournalRuns.{ran_more, first_refusal}
 use Rattle.cluster_core.proofs.Apart.{numbers_after}
 use Rattle.cluster_core.proofs.Runs.{every_run, every_plain, safe_run, every_denial}
 use Rattle.cluster_core.proofs.journal.run.Goals as goal

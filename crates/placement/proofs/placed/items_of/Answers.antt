@@ -1,5 +1,5 @@
 use Rattle.std.proofs.Common.{◌≡◌, arith, subst, IfOk}
-use Rattle.cluster_core.specs.Placement.{Slots, items_in}
+use Rattle.cluster_core.proofs.Placement.{Slots, items_in}
 use Rattle.placement.proofs.Placing.{as_many, all_before, placing_empty, placing_more, placing_whole}
 use Rattle.placement.proofs.placed.items_of.Goals as goal
 

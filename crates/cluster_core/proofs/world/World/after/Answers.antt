@@ -1,32 +1,36 @@
-use Rattle.std.proofs.Common.{◌≡◌, ◌<◌, ◌≤◌, List, length, get_or, subst, arith}
-use Rattle.std.specs.declared.result.Result.TheVariants.{Ok}
-use Rattle.messages.specs.declared.event.Event.{Event}
+use Rattle.std.proofs.Common.{◌≡◌, ◌∙◌, ◌<◌, ◌≤◌, List, length, get_or, ap, subst, arith}
 use Rattle.messages.specs.declared.entry.Entry.{Entry}
-use Rattle.cluster_core.specs.Next.{next}
+use Rattle.cluster_core.specs.World.{first_world}
 use Rattle.cluster_core.specs.Parts.{world_state}
-use Rattle.cluster_core.proofs.Replayed.{replayed_more, replayed_all}
+use Rattle.cluster_core.proofs.Replayed.{replayed_none, replayed_next, replayed_more, replayed_all}
 use Rattle.cluster_core.proofs.world.World.after.Goals as goal
+
+pub loop-entry-init : goal.loop-entry-init
+loop-entry-init c = replayed_none c.args.journal.now.shape c.args.journal.now.entries (world_state c.in_ok-world.world) (c.in_ok-world.ensures.first ∙ ap first_world c.shape.ensures.value) c.entries-entry-items.ensures.run
+
+pub repeat-requires : goal.repeat-requires
+repeat-requires c =
+    let i = c.loop-entry.entry-index in
+    let e = c.entry-item.result in
+    let same = c.entries-entry-items.ensures.value in
+    replayed_next c.args.journal.now.shape c.args.journal.now.entries i (world_state c.loop-entry.world) e (subst (λ (es : List Entry). i < length es) same c.loop-entry-test.true) (subst (λ (es : List Entry). e ≡ get_or es i e) same c.entry-item.is) c.loop-entry.invariant
 
 pub loop-entry-preserved : goal.loop-entry-preserved
 loop-entry-preserved c =
-    let w = world_state c.loop-entry.world in
-    let v = world_state c.step.new.self in
     let i = c.loop-entry.entry-index in
     let e = c.entry-item.result in
-    let made = c.in-Ok.field-0 in
     let same = c.entries-entry-items.ensures.value in
-    let lt = subst (λ (es : List Entry). i < length es) same c.loop-entry-test.true in
-    let is = subst (λ (es : List Entry). e ≡ get_or es i e) same c.entry-item.is in
-    let step = subst (λ (event : Event). next w event ≡ Ok (v, made)) c.event.ensures c.in-Ok.ensures.ok in
-    replayed_more c.args.journal.now.shape c.args.journal.now.entries i w v e made lt is c.loop-entry.invariant step
+    replayed_more c.args.journal.now.shape c.args.journal.now.entries i (world_state c.loop-entry.world) (world_state c.repeat.new.self) e (subst (λ (es : List Entry). i < length es) same c.loop-entry-test.true) (subst (λ (es : List Entry). e ≡ get_or es i e) same c.entry-item.is) c.loop-entry.invariant c.in_ok-repeat.ensures
+
+pub returns-clause-leads : goal.returns-clause-leads
+returns-clause-leads c =
+    let i = c.loop-entry.entry-index in
+    let past = subst (λ (es : List Entry). length es ≤ i) c.entries-entry-items.ensures.value (omega (arith, c.loop-entry-test.false)) in
+    replayed_all c.args.journal.now.shape c.args.journal.now.entries i (world_state c.loop-entry.world) past c.loop-entry.invariant
 
 pub returns-clause-safe : goal.returns-clause-safe
 returns-clause-safe c =
     let w = world_state c.loop-entry.world in
     let i = c.loop-entry.entry-index in
-    let shape = c.args.journal.now.shape in
-    let entries = c.args.journal.now.entries in
-    let end = c.loop-entry-test.false in
-    let read : length c.entries-entry-items.result.now ≤ i = omega arith in
-    let past : length entries ≤ i = subst (λ (es : List Entry). length es ≤ i) c.entries-entry-items.ensures.value read in
-    c.entries-entry-items.ensures.safe w (replayed_all shape entries i w past c.loop-entry.invariant)
+    let past = subst (λ (es : List Entry). length es ≤ i) c.entries-entry-items.ensures.value (omega (arith, c.loop-entry-test.false)) in
+    c.entries-entry-items.ensures.safe w (replayed_all c.args.journal.now.shape c.args.journal.now.entries i w past c.loop-entry.invariant)

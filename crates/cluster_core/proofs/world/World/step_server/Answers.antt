@@ -3,8 +3,7 @@ use Rattle.std.proofs.Common.{◌≡◌, ◌∙◌, true, sym, subst, List}
 use Rattle.messages.specs.Messages.{is_within}
 use Rattle.cluster_core.specs.Parts.{WorldParts, IsWorld, world_state}
 use Rattle.token_server.specs.Server.{server_rule}
-use Rattle.token_server.specs.State.{ServerState}
-use Rattle.token_server.specs.Parts.{ServerParts, server_state}
+use Rattle.token_server.specs.Parts.{server_state}
 use Rattle.std.proofs.Common.{◌+◌, ◌<◌, ◌++◌, ap}
 use Rattle.messages.specs.declared.message.Message.{Message}
 use Rattle.cluster_core.specs.World.{journal_limit}
