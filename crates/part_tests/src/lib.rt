@@ -1,0 +1,5 @@
+//! Tests of the parts, through their public calls.
+#![tactic(auto)]
+
+#[cfg(test)]
+mod of_intervals;
