@@ -3,3 +3,5 @@
 
 #[cfg(test)]
 mod of_intervals;
+#[cfg(test)]
+mod of_token_set;
