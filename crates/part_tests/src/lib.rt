@@ -4,4 +4,6 @@
 #[cfg(test)]
 mod of_intervals;
 #[cfg(test)]
+mod of_messages;
+#[cfg(test)]
 mod of_token_set;
