@@ -6,4 +6,6 @@ mod of_intervals;
 #[cfg(test)]
 mod of_messages;
 #[cfg(test)]
+mod of_model;
+#[cfg(test)]
 mod of_token_set;
