@@ -4,6 +4,8 @@
 #[cfg(test)]
 mod of_intervals;
 #[cfg(test)]
+mod of_lock_table;
+#[cfg(test)]
 mod of_messages;
 #[cfg(test)]
 mod of_model;
