@@ -1,0 +1,5 @@
+//! Tests of runs: of the cluster, their histories, scripts and listings, through the public calls.
+#![tactic(auto)]
+
+#[cfg(test)]
+mod of_cluster_core;
