@@ -3,3 +3,5 @@
 
 #[cfg(test)]
 mod of_cluster_core;
+#[cfg(test)]
+mod of_lockscript;
