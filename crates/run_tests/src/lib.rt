@@ -5,3 +5,5 @@
 mod of_cluster_core;
 #[cfg(test)]
 mod of_lockscript;
+#[cfg(test)]
+mod of_replay;
