@@ -6,4 +6,6 @@ mod of_cluster_core;
 #[cfg(test)]
 mod of_lockscript;
 #[cfg(test)]
+mod of_placement;
+#[cfg(test)]
 mod of_replay;
