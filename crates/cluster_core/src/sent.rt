@@ -79,36 +79,3 @@ fn insert_all(known: &mut HashSet<Message>, messages: &[Message])
         };
     }
 }
-
-#[cfg(test)]
-mod tests {
-    use super::*;
-    use model::call::CallId;
-    use std::test::Fail;
-
-    #[test]
-    fn knows_what_was_sent(rt: HostRuntime) -> Result<(), Fail> {
-        let call = CallId {
-            node: 1,
-            incarnation: 1,
-            number: 3,
-        };
-        let taken = Message::Taken {
-            file: 1,
-            number: 1,
-            call,
-        };
-        let other = Message::Taken {
-            file: 1,
-            number: 2,
-            call,
-        };
-        let mut sent = Sent::new(rt.alloc());
-        assert!(rt; !sent.contains(&taken));
-        sent.extend(&[taken, taken])?;
-        assert!(rt; sent.contains(&taken));
-        assert!(rt; !sent.contains(&other));
-        assert_eq!(rt; sent.as_slice().len(), 2);
-        Ok(())
-    }
-}

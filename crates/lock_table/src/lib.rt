@@ -10,6 +10,3 @@ pub mod row;
 pub use model::lock_info::LockInfo;
 pub use model::mode::Mode;
 pub use model::owner::{Kind, Owner};
-
-#[cfg(test)]
-mod tests;

@@ -203,6 +203,3 @@ fn push_gone(out: &mut String, position: u32, node: u8, incarnation: u16) -> Res
     push_host(out, node, incarnation)?;
     out.push_str("\n")
 }
-
-#[cfg(test)]
-mod tests;

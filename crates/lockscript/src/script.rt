@@ -85,6 +85,3 @@ fn script_line(line: NumberedLine<'_>) -> Result<ScriptLine, ParseError>
     let number = u32::try_from(line.number).map_err(|_| bad)?;
     Ok(ScriptLine::new(number, command))
 }
-
-#[cfg(test)]
-mod tests;

@@ -28,16 +28,3 @@ impl Outcome {
         }
     }
 }
-
-#[cfg(test)]
-mod tests {
-    use super::*;
-
-    #[test]
-    fn sends_messages_alone(rt: HostRuntime) {
-        let outcome = Outcome::sending(Items::new(rt.alloc()));
-        assert_eq!(rt; outcome.call, None);
-        assert_eq!(rt; outcome.reply, None);
-        assert!(rt; outcome.sends.is_empty());
-    }
-}

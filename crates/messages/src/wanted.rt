@@ -35,15 +35,3 @@ impl Wanted {
         Wanted { required, desired }
     }
 }
-
-#[cfg(test)]
-mod tests {
-    use super::*;
-
-    #[test]
-    fn holds_both_spans(rt: HostRuntime) {
-        let wanted = Wanted::new(Span { lo: 4, hi: 5 }, Span { lo: 4, hi: 9 });
-        assert_eq!(rt; wanted.required, Span { lo: 4, hi: 5 });
-        assert_eq!(rt; wanted.desired, Span { lo: 4, hi: 9 });
-    }
-}

@@ -20,5 +20,3 @@ pub mod policy;
 pub mod process;
 pub mod replay;
 pub mod reply;
-#[cfg(test)]
-mod tests;

@@ -8,12 +8,6 @@ pub mod perform;
 pub mod play;
 pub mod played;
 mod player;
-#[cfg(test)]
-mod reader_tests;
 pub mod respond;
-#[cfg(test)]
-mod revocation_tests;
 mod settled;
 pub mod store;
-#[cfg(test)]
-mod tests;

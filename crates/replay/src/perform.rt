@@ -110,8 +110,8 @@ fn script_in<'a>(alloc: Global, bytes: &[u8], path: &'a str) -> Result<Script, F
     }
 }
 
-/// The listing of a run.
-pub(crate) fn listing_of(alloc: Global, played: &Played) -> Result<String, NoMemory>
+// The listing of a run.
+fn listing_of(alloc: Global, played: &Played) -> Result<String, NoMemory>
     ensures { IfOk result (λ text. IsListing (state_of played.now) (string_bytes text)) }
 {
     let history = placed(alloc, played.journal())?;

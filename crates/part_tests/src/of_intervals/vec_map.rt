@@ -1,23 +1,18 @@
 //! What each span map does, at values that were worked out by hand.
-use crate::span::{GREATEST, Span};
-use crate::span_map::{Exact, SpanMap};
-use crate::vec_map::VecMap;
+use intervals::span::{GREATEST, Span};
+use intervals::span_map::SpanMap;
+use intervals::vec_map::VecMap;
+use model::mode::Mode;
 use std::alloc::Global;
 use std::process::Abort;
 use std::test::Fail;
 
-const A: u8 = 1;
+const A: Mode = Mode::Read;
 
-const B: u8 = 2;
-
-impl Exact for u8 {
-    ghost use Rattle.std.proofs.lemmas.Bool.{eqb-true};
-
-    ghost exact = { eqb-true };
-}
+const B: Mode = Mode::Write;
 
 // A value inside a run splits it in three, and the run's value there makes it one again.
-fn splits_and_joins<S: SpanMap<u8>>(rt: &impl Abort, alloc: Global) -> Result<(), Fail> {
+fn splits_and_joins<S: SpanMap<Mode>>(rt: &impl Abort, alloc: Global) -> Result<(), Fail> {
     let mut map = S::new(alloc);
     map.set(Span { lo: 0, hi: 9 }, A)?;
     map.set(Span { lo: 4, hi: 5 }, B)?;
@@ -30,7 +25,7 @@ fn splits_and_joins<S: SpanMap<u8>>(rt: &impl Abort, alloc: Global) -> Result<()
 }
 
 // A run may reach to the greatest offset, and loses its last byte alone.
-fn clears_the_last_byte<S: SpanMap<u8>>(rt: &impl Abort, alloc: Global) -> Result<(), Fail> {
+fn clears_the_last_byte<S: SpanMap<Mode>>(rt: &impl Abort, alloc: Global) -> Result<(), Fail> {
     let whole = Span {
         lo: 0,
         hi: GREATEST,
@@ -56,7 +51,7 @@ fn clears_the_last_byte<S: SpanMap<u8>>(rt: &impl Abort, alloc: Global) -> Resul
 }
 
 // From 0 to 9 A, then nothing, from 20 to 29 B, and from 30 to 34 A.
-fn looks_up<S: SpanMap<u8>>(rt: &impl Abort, alloc: Global) -> Result<(), Fail> {
+fn looks_up<S: SpanMap<Mode>>(rt: &impl Abort, alloc: Global) -> Result<(), Fail> {
     let mut map = S::new(alloc);
     map.set(Span { lo: 0, hi: 9 }, A)?;
     map.set(Span { lo: 20, hi: 29 }, B)?;
@@ -75,7 +70,7 @@ fn looks_up<S: SpanMap<u8>>(rt: &impl Abort, alloc: Global) -> Result<(), Fail> 
 }
 
 // How far a span goes on each side of the required one.
-fn grows<S: SpanMap<u8>>(rt: &impl Abort, alloc: Global) -> Result<(), Fail> {
+fn grows<S: SpanMap<Mode>>(rt: &impl Abort, alloc: Global) -> Result<(), Fail> {
     let whole = Span {
         lo: 0,
         hi: GREATEST,
@@ -99,7 +94,7 @@ fn grows<S: SpanMap<u8>>(rt: &impl Abort, alloc: Global) -> Result<(), Fail> {
 }
 
 // A copy is the same, until one of the two changes.
-fn copies<S: SpanMap<u8>>(rt: &impl Abort, alloc: Global) -> Result<(), Fail> {
+fn copies<S: SpanMap<Mode>>(rt: &impl Abort, alloc: Global) -> Result<(), Fail> {
     let mut map = S::new(alloc);
     map.set(Span { lo: 0, hi: 9 }, A)?;
     let mut copy = map.copy()?;
@@ -111,14 +106,14 @@ fn copies<S: SpanMap<u8>>(rt: &impl Abort, alloc: Global) -> Result<(), Fail> {
     Ok(())
 }
 
-fn copy_again<S: SpanMap<u8>>(map: &S) -> Result<S, Fail> {
+fn copy_again<S: SpanMap<Mode>>(map: &S) -> Result<S, Fail> {
     match map.copy() {
         Ok(copy) => Ok(copy),
         Err(_) => Ok(map.copy()?),
     }
 }
 
-fn set_again<S: SpanMap<u8>>(rt: &impl Abort, map: &mut S, span: Span) -> Result<(), Fail> {
+fn set_again<S: SpanMap<Mode>>(rt: &impl Abort, map: &mut S, span: Span) -> Result<(), Fail> {
     let before = copy_again(map)?;
     if map.set(span, B).is_err() {
         assert!(rt; map.same(&before));
@@ -127,7 +122,7 @@ fn set_again<S: SpanMap<u8>>(rt: &impl Abort, map: &mut S, span: Span) -> Result
     Ok(())
 }
 
-fn clear_again<S: SpanMap<u8>>(rt: &impl Abort, map: &mut S, span: Span) -> Result<(), Fail> {
+fn clear_again<S: SpanMap<Mode>>(rt: &impl Abort, map: &mut S, span: Span) -> Result<(), Fail> {
     let before = copy_again(map)?;
     if map.clear(span).is_err() {
         assert!(rt; map.same(&before));
@@ -138,7 +133,7 @@ fn clear_again<S: SpanMap<u8>>(rt: &impl Abort, map: &mut S, span: Span) -> Resu
 
 // Where one request for memory is refused, the map is as it was, and the same call then goes through.
 // `rt try --test --fail-alloc N` refuses the Nth request of each test, and this one passes at each N.
-fn keeps_what_it_had<S: SpanMap<u8>>(rt: &impl Abort, alloc: Global) -> Result<(), Fail> {
+fn keeps_what_it_had<S: SpanMap<Mode>>(rt: &impl Abort, alloc: Global) -> Result<(), Fail> {
     let mut map = S::new(alloc);
     for lo in 0..4 {
         set_again(
@@ -159,30 +154,30 @@ fn keeps_what_it_had<S: SpanMap<u8>>(rt: &impl Abort, alloc: Global) -> Result<(
 
 #[test]
 fn vec_map_splits_and_joins(rt: HostRuntime) -> Result<(), Fail> {
-    splits_and_joins::<VecMap<u8>>(&rt, rt.alloc())
+    splits_and_joins::<VecMap<Mode>>(&rt, rt.alloc())
 }
 
 #[test]
 fn vec_map_clears_the_last_byte(rt: HostRuntime) -> Result<(), Fail> {
-    clears_the_last_byte::<VecMap<u8>>(&rt, rt.alloc())
+    clears_the_last_byte::<VecMap<Mode>>(&rt, rt.alloc())
 }
 
 #[test]
 fn vec_map_looks_up(rt: HostRuntime) -> Result<(), Fail> {
-    looks_up::<VecMap<u8>>(&rt, rt.alloc())
+    looks_up::<VecMap<Mode>>(&rt, rt.alloc())
 }
 
 #[test]
 fn vec_map_grows(rt: HostRuntime) -> Result<(), Fail> {
-    grows::<VecMap<u8>>(&rt, rt.alloc())
+    grows::<VecMap<Mode>>(&rt, rt.alloc())
 }
 
 #[test]
 fn vec_map_copies(rt: HostRuntime) -> Result<(), Fail> {
-    copies::<VecMap<u8>>(&rt, rt.alloc())
+    copies::<VecMap<Mode>>(&rt, rt.alloc())
 }
 
 #[test]
 fn vec_map_keeps_what_it_had(rt: HostRuntime) -> Result<(), Fail> {
-    keeps_what_it_had::<VecMap<u8>>(&rt, rt.alloc())
+    keeps_what_it_had::<VecMap<Mode>>(&rt, rt.alloc())
 }

@@ -1,7 +1,5 @@
-// A process on each node reads the same bytes, and then one of them writes others.
-use crate::perform::listing_of;
-use crate::play::play;
-use lockscript::script::Script;
+//! A process on each node reads the same bytes, and then one of them writes others.
+use crate::of_replay::shelf::listing_of_script;
 use std::alloc::{AllocError, Global};
 use std::fmt::Write;
 use std::test::Fail;
@@ -136,12 +134,6 @@ fn listing_text(alloc: Global) -> Result<String, AllocError> {
     text.push_str("history\n")?;
     push_answers(alloc, &mut text, &answers, true)?;
     Ok(text)
-}
-
-pub(crate) fn listing_of_script(alloc: Global, text: &str) -> Result<String, Fail> {
-    let script = Script::parse(alloc, text)?;
-    let played = play(alloc, &script)?;
-    Ok(listing_of(alloc, &played)?)
 }
 
 #[test]

@@ -1,6 +1,6 @@
 //! Tests of the cluster, with values from worked runs.
-use crate::journal::run;
-use crate::world::World;
+use cluster_core::journal::run;
+use cluster_core::world::World;
 use messages::event::Event;
 use messages::message::Message;
 use messages::refusal::Refused;

@@ -1,33 +1,14 @@
-use crate::fault::Fault;
-use crate::play::play;
-use crate::respond::respond;
-use crate::store::{Store, StoreError};
+//! What the program prints, and its status.
+use crate::of_replay::shelf::{PATH, RUN, Shelf};
 use lockscript::script::Script;
+use replay::fault::Fault;
+use replay::play::play;
+use replay::respond::respond;
+use replay::store::{Store, StoreError};
 use std::alloc::Global;
 use std::io;
 use std::io::Write;
 use std::test::Fail;
-
-// A file that is there, by its path.
-#[derive(Drop)]
-struct Shelf {
-    bytes: &'static [u8],
-}
-
-const PATH: &str = "a.lock";
-
-impl Store for Shelf {
-    fn read(&mut self, alloc: Global, path: &str) -> Result<Vec<u8>, StoreError> {
-        if path != PATH {
-            return Err(StoreError::Failed);
-        }
-        Vec::from_slice(alloc, self.bytes).map_err(|_| StoreError::NoMemory)
-    }
-
-    fn write(&mut self, _path: &str, _bytes: &[u8]) -> Result<(), StoreError> {
-        Err(StoreError::Failed)
-    }
-}
 
 // Files that don't fit into memory.
 #[derive(Drop)]
@@ -70,8 +51,6 @@ impl Write for Lossy {
         Err(io::Error::from(io::ErrorKind::StorageFull))
     }
 }
-
-const RUN: [&str; 3] = ["lockreplay", "run", PATH];
 
 const EMPTY: &[u8] = b"cluster nodes 1 files 1 policy wide\n";
 

@@ -1,5 +1,8 @@
-use super::*;
-use crate::script_line::Command;
+//! Scripts.
+use lockscript::error::ParseError;
+use lockscript::script::Script;
+use lockscript::script_line::Command;
+use messages::shape::Shape;
 use model::access::Access;
 use model::mode::Mode;
 use model::op::Op;

@@ -1,5 +1,5 @@
-// Scripts in which tokens are revoked, calls denied and locks asked for, with their listings.
-use crate::reader_tests::listing_of_script;
+//! Scripts in which tokens are revoked, calls denied and locks asked for, with their listings.
+use crate::of_replay::shelf::listing_of_script;
 use std::test::Fail;
 
 const COVERED_SET_AND_QUERY: &str = "cluster nodes 1 files 1 policy wide

@@ -1,9 +1,9 @@
 //! What the lock table does, at values that were worked out by hand.
-use crate::error::LockError;
-use crate::lock_table::LockTable;
-use crate::order::{cmp_regions, lowest_of};
-use crate::{Kind, LockInfo, Mode, Owner};
 use intervals::span::Span;
+use lock_table::error::LockError;
+use lock_table::lock_table::LockTable;
+use lock_table::order::{cmp_regions, lowest_of};
+use lock_table::{Kind, LockInfo, Mode, Owner};
 use std::alloc::Global;
 use std::cmp::Ordering;
 use std::process::Abort;

@@ -1,13 +1,22 @@
-use super::*;
-use intervals::span::GREATEST;
+//! The listing of what a run gave.
+use cluster_core::held_lock::HeldLock;
+use cluster_core::item::Item;
+use cluster_core::token_run::TokenRun;
+use intervals::span::{GREATEST, Span};
+use lockscript::listing::listing;
+use messages::entry::Entry;
 use messages::event::Event;
 use messages::items::Items;
 use messages::outcome::Outcome;
 use model::access::Access;
+use model::call::CallId;
 use model::level::Level;
 use model::lock_info::LockInfo;
 use model::mode::Mode;
+use model::op::Op;
 use model::owner::{Kind, Owner};
+use model::reply::Reply;
+use std::alloc::Global;
 use std::test::Fail;
 
 const LISTING: &str = "refused
@@ -238,8 +247,15 @@ fn shows_queries(rt: HostRuntime) -> Result<(), Fail> {
     Ok(())
 }
 
+// The listing of a run of one entry, which answers its call so.
+fn listing_of_reply(alloc: Global, reply: Reply) -> Result<String, Fail> {
+    let entries = vec![in alloc; entry(alloc, CALL, Some((CALL, reply)))]?;
+    Ok(listing(alloc, &[], &entries, &[], &[], &[])?)
+}
+
 #[test]
 fn names_each_reply(rt: HostRuntime) -> Result<(), Fail> {
+    let alloc = rt.alloc();
     let replies = [
         (Reply::Done, "done"),
         (Reply::Fd(63), "fd 63"),
@@ -253,9 +269,11 @@ fn names_each_reply(rt: HostRuntime) -> Result<(), Fail> {
         (Reply::Overflow, "overflow"),
     ];
     for (reply, want) in replies {
-        let mut out = String::new(rt.alloc());
-        push_reply(&mut out, &reply)?;
-        assert_eq!(rt; out.as_str(), want);
+        let made = listing_of_reply(alloc, reply)?;
+        let text = format!(in alloc;
+            "refused\nreplies\n      1 1.1.1            {want}\ntokens\nlocks\nhistory\n"
+        )?;
+        assert_eq!(rt; made.as_str(), text.as_str());
     }
     Ok(())
 }

@@ -1,16 +1,16 @@
 //! What the one table answers, at values from outside and worked out by hand.
-use crate::access::Access;
-use crate::call::CallId;
-use crate::host::Host;
-use crate::lock_info::LockInfo;
-use crate::mode::Mode;
-use crate::one_table::OneTable;
-use crate::op::Op;
-use crate::opened::Opened;
-use crate::owner::{Kind, Owner};
-use crate::process::Process;
-use crate::reply::Reply;
 use intervals::span::Span;
+use model::access::Access;
+use model::call::CallId;
+use model::host::Host;
+use model::lock_info::LockInfo;
+use model::mode::Mode;
+use model::one_table::OneTable;
+use model::op::Op;
+use model::opened::Opened;
+use model::owner::{Kind, Owner};
+use model::process::Process;
+use model::reply::Reply;
 use std::test::Fail;
 
 const FIRST: Process = Process {

@@ -2,10 +2,10 @@
 ghost use Rattle.std.specs.Prelude.{◌≤◌};
 ghost use Rattle.intervals.specs.Bytes.{greatest};
 
-use crate::held_lock::HeldLock;
-use crate::journal::{Journal, run};
-use crate::token_run::TokenRun;
-use crate::world::World;
+use cluster_core::held_lock::HeldLock;
+use cluster_core::journal::{Journal, run};
+use cluster_core::token_run::TokenRun;
+use cluster_core::world::World;
 use intervals::span::{GREATEST, Span};
 use messages::event::Event;
 use messages::message::{Message, Urgency};

@@ -1,0 +1,13 @@
+//! Tests of the parts, through their public calls.
+#![tactic(auto)]
+
+#[cfg(test)]
+mod of_intervals;
+#[cfg(test)]
+mod of_lock_table;
+#[cfg(test)]
+mod of_messages;
+#[cfg(test)]
+mod of_model;
+#[cfg(test)]
+mod of_token_set;

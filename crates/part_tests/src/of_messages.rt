@@ -1,0 +1,9 @@
+//! Messages, and what stands in the journal.
+mod entry;
+mod event;
+mod items;
+mod message;
+mod outcome;
+mod refusal;
+mod shape;
+mod wanted;

@@ -1,0 +1,2 @@
+//! The one table.
+mod one_table;

@@ -1,0 +1,4 @@
+//! Tokens.
+mod desired;
+mod gave_up;
+mod set;

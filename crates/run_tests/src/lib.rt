@@ -1,0 +1,11 @@
+//! Tests of runs: of the cluster, their histories, scripts and listings, through the public calls.
+#![tactic(auto)]
+
+#[cfg(test)]
+mod of_cluster_core;
+#[cfg(test)]
+mod of_lockscript;
+#[cfg(test)]
+mod of_placement;
+#[cfg(test)]
+mod of_replay;

@@ -1,0 +1,4 @@
+//! The cluster, and what it lists.
+mod listings;
+mod sent;
+mod world;

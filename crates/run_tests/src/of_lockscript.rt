@@ -1,0 +1,3 @@
+//! Scripts and listings.
+mod listing;
+mod script;

@@ -1,0 +1,3 @@
+//! Histories.
+mod history;
+mod placed;

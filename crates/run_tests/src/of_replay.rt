@@ -1,0 +1,5 @@
+//! What the program prints.
+mod programs;
+mod readers;
+mod revocations;
+mod shelf;

@@ -1,0 +1,39 @@
+//! Files in memory, and what the program prints for them.
+use replay::respond::respond;
+use replay::store::{Store, StoreError};
+use std::alloc::Global;
+use std::test::Fail;
+
+// A file that is there, by its path.
+#[derive(Drop)]
+pub(crate) struct Shelf<'a> {
+    pub(crate) bytes: &'a [u8],
+}
+
+pub(crate) const PATH: &str = "a.lock";
+
+pub(crate) const RUN: [&str; 3] = ["lockreplay", "run", PATH];
+
+impl Store for Shelf<'_> {
+    fn read(&mut self, alloc: Global, path: &str) -> Result<Vec<u8>, StoreError> {
+        if path != PATH {
+            return Err(StoreError::Failed);
+        }
+        Vec::from_slice(alloc, self.bytes).map_err(|_| StoreError::NoMemory)
+    }
+
+    fn write(&mut self, _path: &str, _bytes: &[u8]) -> Result<(), StoreError> {
+        Err(StoreError::Failed)
+    }
+}
+
+// What the program prints for a script.
+pub(crate) fn listing_of_script(alloc: Global, text: &str) -> Result<String, Fail> {
+    let mut shelf = Shelf {
+        bytes: text.as_bytes(),
+    };
+    let mut out = Vec::new(alloc);
+    let mut err = Vec::new(alloc);
+    respond(alloc, &RUN, &mut shelf, &mut out, &mut err);
+    Ok(String::from_utf8(out)?)
+}
