@@ -1,5 +1,5 @@
 -- Items that leave the table as it was, and the replies of calls that are denied.
-use Rattle.std.proofs.Common.{◌≡◌, refl, sym, subst, List, [], ◌∷◌, ◌++◌, Some, None, Result, Ok, Err}
+use Rattle.std.proofs.Common.{◌≡◌, refl, sym, subst, [], ◌∷◌, Some, None, Result, Ok, Err}
 use Rattle.model.specs.declared.lock_info.LockInfo.{LockInfo}
 use Rattle.model.specs.declared.process.Process.{Process}
 use Rattle.model.specs.declared.op.Op.{Op}
@@ -13,8 +13,7 @@ use Rattle.model.proofs.ReplayLaws.{spawn_never, spawn_never-blocked, open_never
 use Rattle.node_core.specs.declared.open_call.Intent.{Intent}
 use Rattle.node_core.specs.declared.open_call.Intent.TheVariants as intent
 use Rattle.node_core.specs.Try.{refusal_of}
-use Rattle.cluster_core.specs.declared.item.Item.{Item}
-use Rattle.cluster_core.specs.Histories.{ItemStep, Legal, QuietItemsMayStandEarlier}
+use Rattle.cluster_core.specs.Histories.{ItemStep, QuietItemsMayStandEarlier}
 
 pub quiet_earlier : QuietItemsMayStandEarlier
 quiet_earlier t m u [] ys i before after quiet = (m, subst (λ (x : Table). ItemStep x i m) (sym before) quiet, after)
