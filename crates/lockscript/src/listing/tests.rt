@@ -1,5 +1,5 @@
 use super::*;
-use intervals::span::GREATEST;
+use intervals::span::{GREATEST, Span};
 use messages::event::Event;
 use messages::items::Items;
 use messages::outcome::Outcome;
