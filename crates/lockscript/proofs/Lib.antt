@@ -11,3 +11,4 @@ pub mod OperationKinds
 pub mod CommandKinds
 pub mod Clusters
 pub mod SameLines
+pub mod Padding

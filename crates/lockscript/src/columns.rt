@@ -1,13 +1,15 @@
 //! Columns of listings.
-ghost use Rattle.std.specs.Prelude.{◌≡◌, ◌≤◌, ◌-◌, ◌++◌, decimal, length, replicate, string_bytes, string_len, OnOk};
-ghost use Rattle.lockscript.specs.Layout.{left_in, right_in, space};
+ghost use Rattle.std.specs.Prelude.{◌≡◌, ◌≤◌, ◌-◌, ◌++◌, codes, replicate, string_bytes, string_len, OnOk};
+ghost use Rattle.lockscript.specs.Layout.{left_in, space};
+ghost use Rattle.lockscript.specs.Listing.{placed, span_columns};
 ghost use Rattle.lockscript.specs.Texts.{call_text, host_text, owner_text};
 
 use crate::texts::{push_call, push_host, push_owner};
-use itoa::Buffer;
+use intervals::span::Span;
 use model::call::CallId;
 use model::owner::Owner;
 use std::alloc::AllocError;
+use std::fmt::Write;
 
 /// The width of a column of calls, or of owners.
 const NAME_WIDTH: usize = 16;
@@ -22,17 +24,6 @@ fn push_spaces(out: &mut String, count: usize) -> Result<(), AllocError>
         out.push_str(" ")?;
     }
     Ok(())
-}
-
-/// Writes the number at the right end of a column of this width. A longer number takes its room.
-#[tactic(auto, unfolding(crate::specs::Layout::right_in))]
-pub(crate) fn push_right(out: &mut String, width: usize, number: u64) -> Result<(), AllocError>
-    ensures { OnOk result (string_bytes out.new ≡ string_bytes out.old ++ right_in width (decimal number)) }
-{
-    let mut buffer = Buffer::new();
-    let digits = buffer.format(number);
-    push_spaces(out, width.saturating_sub(digits.len()))?;
-    out.push_str(digits)
 }
 
 // Fills up the column of this width that begins at byte `start` of the text.
@@ -78,11 +69,26 @@ pub(crate) fn push_host_column(
     fill_column(out, start, HOST_WIDTH)
 }
 
-/// Writes a word at the left end of a column of names.
-#[tactic(auto, unfolding(crate::specs::Layout::left_in))]
-pub(crate) fn push_word_column(out: &mut String, word: &str) -> Result<(), AllocError>
-    ensures { OnOk result (string_bytes out.new ≡ string_bytes out.old ++ left_in 16 word.now) }
+/// Writes a position and a call at their places in their columns, with a space behind each.
+pub(crate) fn push_placed(out: &mut String, position: u64, call: &CallId) -> Result<(), AllocError>
+    ensures { OnOk result (string_bytes out.new ≡ string_bytes out.old ++ placed position (call_text call.now)) }
 {
-    out.push_str(word)?;
-    push_spaces(out, NAME_WIDTH.saturating_sub(word.len()))
+    write!(out, "{position:>7} ")?;
+    push_call_column(out, call)?;
+    out.push_str(" ")
+}
+
+/// Writes the columns of a file and of the first and the last byte of a span in it, and the word at
+/// the end of their line.
+pub(crate) fn push_span_line(
+    out: &mut String,
+    file: u16,
+    span: Span,
+    word: &str,
+) -> Result<(), AllocError>
+    ensures { OnOk result (string_bytes out.new ≡ string_bytes out.old ++ codes " " ++ span_columns file span ++ word.now ++ codes "\n") }
+{
+    let lo = span.lo;
+    let hi = span.hi;
+    writeln!(out, " {file:>3} {lo:>19} {hi:>19} {word}")
 }
