@@ -5,3 +5,4 @@ pub mod Locating
 pub mod Placing
 pub mod Placements
 pub mod Replays
+pub mod NodesLaws

@@ -1,0 +1,2 @@
+//! A single machine's table.
+mod nodes;
