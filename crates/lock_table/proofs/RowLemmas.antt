@@ -1,15 +1,15 @@
 -- What edits of the rows do to the locks.
-use Rattle.std.proofs.Common.{◌≡◌, ℕ, zero, suc, ◌<◌, ◌≤◌, Bool, true, false, ◌&&◌, eqb, eq-eqb, length, get_or, set, List, [], ◌∷◌, Result, Ok, Err, MatchResult, refl, sym, ◌∙◌, inl, inr, arith, add-one}
-use Rattle.std.specs.List.{insert, remove, AllWithin}
+use Rattle.std.proofs.Common.{◌≡◌, ℕ, zero, suc, ◌<◌, ◌≤◌, Bool, true, false, ◌&&◌, not, eqb, eq-eqb, length, get_or, set, List, [], ◌∷◌, Result, Ok, Err, MatchResult, refl, sym, ◌∙◌, inl, inr, arith, add-one}
+use Rattle.std.specs.List.{insert, remove, filter, AllWithin}
 use Rattle.std.specs.List.Sorted.{IsSortedBy, IsNonDecreasingBy, IsBinarySearchResult, IsSearchInRange}
 use Rattle.std.specs.Ordering.{is_lt, ordering_index}
 use Rattle.std.specs.declared.cmp.Ordering.TheVariants.{Less, Equal, Greater}
-use Rattle.std.proofs.lemmas.Bool.{cases_Bool, and_parts, and_from, eqb-true, both_ways}
+use Rattle.std.proofs.lemmas.Bool.{cases_Bool, and_parts, and_from, and_right, eqb-true, both_ways}
 use Rattle.std.proofs.lemmas.List.Sorted.{searchable_from_sorted}
 use Rattle.intervals.specs.Bytes.{nothing}
 use Rattle.intervals.specs.Runs.{value_at}
 use Rattle.model.specs.declared.owner.Owner.{Owner}
-use Rattle.model.specs.Locks.{replace}
+use Rattle.model.specs.Locks.{replace, without_owner_anywhere}
 use Rattle.model.specs.Owners.{same_owner}
 use Rattle.lock_table.specs.declared.row.Row.{Row}
 use Rattle.lock_table.specs.Rows.{held, row_cmp, HoldsSome, AllAfter, AreRows, IsRowAt, IsGap}
@@ -191,6 +191,35 @@ held-same l i file owner gap f o = elim (cases_Bool ((eqb file f) && same_owner 
   | inr differ ↦ rw differ refl
 ]
 
+-- the row is of another owner
+abbrev pub is_of_other : Owner → Row → Bool
+is_of_other owner r = not (same_owner r.owner owner)
+
+-- no row of an owner
+pub held-filter : (l : List Row) (owner : Owner) (f : ℕ) (o : Owner) → held (filter (is_of_other owner) l) f o ≡ without_owner_anywhere (held l) owner f o
+unfolding held
+held-filter [] owner f o = elim (cases_Bool (same_owner owner o)) [ inl same ↦ rw same refl | inr differ ↦ rw differ refl ]
+held-filter (s ∷ rest) owner f o =
+    let more = held-filter rest owner f o in
+    elim (cases_Bool (same_owner s.owner owner)) [
+      | inl this ↦ elim (cases_Bool (same_owner owner o)) [
+        | inl same ↦ rw (this, same, rw same at more) refl
+        | inr differ ↦
+            let other : same_owner s.owner o ≡ false = rw (owner_exact s.owner owner this) differ in
+            rw (this, differ, and_right (eqb s.file f) (same_owner s.owner o) other, rw differ at more) refl
+      ]
+      | inr kept ↦ elim (cases_Bool (is_of s f o)) [
+        | inl is ↦
+            let at = row_place s f o is in
+            let back : same_owner owner o ≡ false = elim (cases_Bool (same_owner owner o)) [
+              | inl same ↦ absurd (both_ways _ kept (rw (at.1, owner_exact owner o same) (owner_refl o)))
+              | inr differ ↦ differ
+            ] in
+            rw (kept, is, back) refl
+        | inr other ↦ rw (kept, other) more
+      ]
+    ]
+
 -- edits keep that rows are after a place
 all_after-set : (l : List Row) (i : ℕ) (file f : ℕ) (owner o : Owner) (r : Row) → IsRowAt l i file owner → r.file ≡ file → r.owner ≡ owner → AllAfter f o l → AllAfter f o (set l i r)
 all_after-set [] i file f owner o r h files owners after = absurd h
@@ -224,6 +253,18 @@ rows-remove [] zero rows = tt
 rows-remove [] (suc i) rows = tt
 rows-remove (s ∷ rest) zero rows = rows.2
 rows-remove (s ∷ rest) (suc i) rows = (rows.0, all_after-remove rest i s.file s.owner rows.1, rows-remove rest i rows.2)
+
+all_after-filter : (test : Row → Bool) (l : List Row) (f : ℕ) (o : Owner) → AllAfter f o l → AllAfter f o (filter test l)
+all_after-filter test [] f o after = tt
+all_after-filter test (s ∷ rest) f o after =
+    let more = all_after-filter test rest f o after.1 in
+    elim (cases_Bool (test s)) [ inl kept ↦ rw kept (after.0, more) | inr dropped ↦ rw dropped more ]
+
+pub rows-filter : (test : Row → Bool) (l : List Row) → AreRows l → AreRows (filter test l)
+rows-filter test [] rows = tt
+rows-filter test (s ∷ rest) rows =
+    let more = rows-filter test rest rows.2 in
+    elim (cases_Bool (test s)) [ inl kept ↦ rw kept (rows.0, all_after-filter test rest s.file s.owner rows.1, more) | inr dropped ↦ rw dropped more ]
 
 pub rows-insert : (l : List Row) (i : ℕ) (r : Row) → IsGap l i r.file r.owner → HoldsSome (value_at r.spans) → AreRows l → AreRows (insert l i r)
 rows-insert [] zero r gap some rows = (some, tt, tt)

@@ -4,7 +4,7 @@ ghost use Rattle.std.specs.List.{AllZip};
 ghost use Rattle.intervals.specs.Bytes.{put};
 ghost use Rattle.intervals.specs.Runs.{value_at};
 ghost use Rattle.model.specs.Limits.{most_regions};
-ghost use Rattle.model.specs.Locks.{no_locks, replace, with_lock, without_owner, regions, IsFree, IsRegion, IsLowestBlocker};
+ghost use Rattle.model.specs.Locks.{no_locks, replace, with_lock, without_owner, without_owner_anywhere, regions, IsFree, IsRegion, IsLowestBlocker};
 ghost use Rattle.lock_table.specs.declared.error.LockError.TheVariants.{NoLocks};
 ghost use Rattle.lock_table.specs.Rows.{held, AreRows, IsRowAt, IsGap, HoldsSome, IsSameRow};
 ghost use Rattle.lock_table.specs.Listing.{IsListing};
@@ -194,6 +194,13 @@ impl LockTable {
         if let Ok(i) = position(&self.rows, file, owner) {
             self.rows.remove(i);
         }
+    }
+
+    /// Takes each byte of every file from an owner. Takes no memory.
+    pub fn drop_owner_anywhere(&mut self, owner: Owner)
+        ensures { held self.new ≡ without_owner_anywhere (held self.old) owner }
+    {
+        self.rows.retain(|row| row.owner != owner);
     }
 
     /// The region of another owner that blocks the mode in the span (POSIX.1-2017 `fcntl()`,

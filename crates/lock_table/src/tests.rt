@@ -4,6 +4,7 @@ use crate::lock_table::LockTable;
 use crate::order::{cmp_regions, lowest_of};
 use crate::{Kind, LockInfo, Mode, Owner};
 use intervals::span::Span;
+use std::alloc::Global;
 use std::cmp::Ordering;
 use std::process::Abort;
 use std::test::Fail;
@@ -184,6 +185,38 @@ fn drops_one_owner_of_one_file(rt: HostRuntime) -> Result<(), Fail> {
     assert!(rt; table.same(&before));
     let second = region(SECOND, Mode::Read, span);
     assert_eq!(rt; table.locks(FILE)?.as_slice(), [second].as_slice());
+    Ok(())
+}
+
+// A table in which one process has locks in two files, and another process and a description of the
+// same node have some in these.
+fn several(alloc: Global) -> Result<Box<LockTable>, Fail> {
+    let mut table = Box::new(alloc, LockTable::new(alloc))?;
+    let span = Span { lo: 0, hi: 9 };
+    for (owner, file) in [
+        (FIRST, FILE),
+        (SECOND, FILE),
+        (FIRST, FILE + 1),
+        (DESCRIPTION, FILE + 1),
+    ] {
+        table.set(owner, file, span, Mode::Read)?;
+    }
+    Ok(table)
+}
+
+// Whether nobody but this owner has a lock in the file.
+fn has_only(table: &LockTable, file: u16, owner: Owner) -> Result<bool, Fail> {
+    let locks = table.locks(file)?;
+    Ok(locks.len() == 1 && locks.iter().all(|lock| lock.owner == owner))
+}
+
+// Each other owner keeps its locks, also the description with the process's number.
+#[test]
+fn drops_one_owner_of_every_file(rt: HostRuntime) -> Result<(), Fail> {
+    let mut table = several(rt.alloc())?;
+    table.drop_owner_anywhere(FIRST);
+    assert!(rt; has_only(&table, FILE, SECOND)?);
+    assert!(rt; has_only(&table, FILE + 1, DESCRIPTION)?);
     Ok(())
 }
 

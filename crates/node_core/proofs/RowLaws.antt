@@ -1,5 +1,5 @@
 -- Rows of processes.
-use Rattle.std.specs.Prelude.{◌≡◌, ◌≢◌, ℕ, zero, suc, ◌+◌, ◌<◌, ◌≤◌, ◌||◌, ◌&&◌, ◌==◌, Bool, true, false, if◌then◌else◌, List, Option, Some, None, IfSome, length, replicate, slice_index_or, slice_set, refl}
+use Rattle.std.specs.Prelude.{◌≡◌, ◌≢◌, ℕ, zero, suc, ◌+◌, ◌<◌, ◌≤◌, ◌||◌, ◌&&◌, ◌==◌, Bool, true, false, if◌then◌else◌, List, Option, Some, None, Ok, Err, IfSome, length, replicate, slice_index_or, slice_set, refl}
 use Rattle.std.proofs.Common.{arith, ap, subst, sym, ◌∙◌, inl, inr}
 use Rattle.std.proofs.lemmas.Bool.{cases_lt, cases_Bool, cases_eq, eq-eqb, ne_eqb, eqb-true, both_ways, false≢true}
 use Rattle.std.proofs.lemmas.List.{get_or-set_same, get_or-set_other, get_or_past}
@@ -11,7 +11,8 @@ use Rattle.model.proofs.SearchLaws.{failed-start, first-passes, some_passes-foun
 use Rattle.model.proofs.DescriptorLaws.{none_refers}
 use Rattle.intervals.specs.Search.{first}
 use Rattle.node_core.specs.declared.descriptors.row.Row.{Row}
-use Rattle.node_core.specs.Rows.{slot, idle, row, processes, IsSameRow, AreNumbered, AreRows, refers}
+use Rattle.node_core.specs.declared.descriptors.error.FdError.TheVariants.{NoProcess}
+use Rattle.node_core.specs.Rows.{slot, idle, row, processes, IsSameRow, AreNumbered, AreRows, refers, resolved}
 
 -- no number passes of none
 pub some_passes-zero : (passes : ℕ → Bool) (lo : ℕ) → some_passes passes lo 0 ≡ false
@@ -141,12 +142,29 @@ numbered-set rows pid r within h numbered q fd o some = at_if (q == pid) (sym (s
     at_if true e = numbered fd o e
     at_if false e = h q fd o e
 
--- a process begins
-pub processes-spawn : (rows : List Row) (pid : ℕ) (r : Row) → pid < length rows → r.runs ≡ true → ((fd : ℕ) → slot r.opened fd ≡ None) → processes (slice_set rows pid r) ≡ with_process (processes rows) pid true (λ fd. None)
+-- a process begins or ends
+pub processes-reset : (rows : List Row) (pid : ℕ) (runs : Bool) (r : Row) → pid < length rows → r.runs ≡ runs → ((fd : ℕ) → slot r.opened fd ≡ None) → processes (slice_set rows pid r) ≡ with_process (processes rows) pid runs (λ fd. None)
 unfolding processes
-processes-spawn rows pid r within runs none = processes-is (slice_set rows pid r) (with_process (processes rows) pid true (λ fd. None))
-    (λ q. ap (λ (s : Row). s.runs) (row-set rows pid r q within) ∙ runs-if (q == pid) r (row rows q) ∙ (λ i. if q == pid then runs i else (row rows q).runs))
+processes-reset rows pid runs r within is none = processes-is (slice_set rows pid r) (with_process (processes rows) pid runs (λ fd. None))
+    (λ q. ap (λ (s : Row). s.runs) (row-set rows pid r q within) ∙ runs-if (q == pid) r (row rows q) ∙ (λ i. if q == pid then is i else (row rows q).runs))
     (λ q fd. ap (λ (s : Row). slot s.opened fd) (row-set rows pid r q within) ∙ slot-if (q == pid) r (row rows q) fd ∙ (λ i. if q == pid then none fd i else slot (row rows q).opened fd))
+
+-- a process without a row doesn't run
+pub processes-past : (rows : List Row) (pid : ℕ) → length rows ≤ pid → processes rows ≡ with_process (processes rows) pid false (λ fd. None)
+unfolding processes
+processes-past rows pid le = processes-is rows (with_process (processes rows) pid false (λ fd. None)) (λ q. runs q (q == pid) refl) (λ q fd. opened q fd (q == pid) refl)
+  where
+    runs : (q : ℕ) (b : Bool) → (q == pid) ≡ b → (row rows q).runs ≡ (if b then false else (row rows q).runs)
+    runs q true is = ap (λ p. (row rows p).runs) (eqb-true q pid is) ∙ ap (λ (s : Row). s.runs) (get_or_past rows pid idle le)
+    runs q false ne = refl
+
+    opened : (q fd : ℕ) (b : Bool) → (q == pid) ≡ b → slot (row rows q).opened fd ≡ (if b then None else slot (row rows q).opened fd)
+    opened q fd true is = ap (λ p. slot (row rows p).opened fd) (eqb-true q pid is) ∙ ap (λ (s : Row). slot s.opened fd) (get_or_past rows pid idle le)
+    opened q fd false ne = refl
+
+-- a process that has a descriptor runs
+pub resolved-runs : (ps : Processes) (pid fd : ℕ) (o : Opened) → resolved ps pid fd ≡ Ok o → ps.runs pid ≡ true
+resolved-runs ps pid fd o is = elim (cases_Bool (ps.runs pid)) [ inl runs ↦ runs | inr idle ↦ let e : Err NoProcess ≡ Ok o = rw idle at is in absurd cc ]
 
 -- a descriptor refers to something else
 pub slot-set : (fds : List (Option Opened)) (fd : ℕ) (o : Option Opened) (k : ℕ) → fd < length fds → slot (slice_set fds fd o) k ≡ (if k == fd then o else slot fds k)
@@ -159,21 +177,21 @@ slots-if : (b : Bool) (r s : Row) (o : Option Opened) (fd k : ℕ) → (b ≡ tr
 slots-if true r s o fd k h = sym (h refl)
 slots-if false r s o fd k h = refl
 
-pub processes-refer : (rows : List Row) (pid fd : ℕ) (o : Opened) (r : Row) → pid < length rows → r.runs ≡ (row rows pid).runs → ((k : ℕ) → slot r.opened k ≡ (if k == fd then Some o else slot (row rows pid).opened k)) → processes (slice_set rows pid r) ≡ with_descriptor (processes rows) pid fd (Some o)
+pub processes-refer : (rows : List Row) (pid fd : ℕ) (o : Option Opened) (r : Row) → pid < length rows → r.runs ≡ (row rows pid).runs → ((k : ℕ) → slot r.opened k ≡ (if k == fd then o else slot (row rows pid).opened k)) → processes (slice_set rows pid r) ≡ with_descriptor (processes rows) pid fd o
 unfolding processes
-processes-refer rows pid fd o r within runs opened = processes-is (slice_set rows pid r) (with_descriptor (processes rows) pid fd (Some o))
+processes-refer rows pid fd o r within runs opened = processes-is (slice_set rows pid r) (with_descriptor (processes rows) pid fd o)
     (λ q. ap (λ (s : Row). s.runs) (row-set rows pid r q within) ∙ runs-if (q == pid) r (row rows q) ∙ still q (q == pid) refl)
-    (λ q k. ap (λ (s : Row). slot s.opened k) (row-set rows pid r q within) ∙ slot-if (q == pid) r (row rows q) k ∙ slots-if (q == pid) r (row rows q) (Some o) fd k (λ is. ap (λ p. if k == fd then Some o else slot (row rows p).opened k) (eqb-true q pid is) ∙ sym (opened k)))
+    (λ q k. ap (λ (s : Row). slot s.opened k) (row-set rows pid r q within) ∙ slot-if (q == pid) r (row rows q) k ∙ slots-if (q == pid) r (row rows q) o fd k (λ is. ap (λ p. if k == fd then o else slot (row rows p).opened k) (eqb-true q pid is) ∙ sym (opened k)))
   where
     still : (q : ℕ) (b : Bool) → (q == pid) ≡ b → (if b then r.runs else (row rows q).runs) ≡ (row rows q).runs
     still q true is = runs ∙ ap (λ p. (row rows p).runs) (sym (eqb-true q pid is))
     still q false ne = refl
 
-pub numbered-slot : (fds others : List (Option Opened)) (fd : ℕ) (o : Opened) → ((k : ℕ) → slot fds k ≡ (if k == fd then Some o else slot others k)) → AreNumbered others → IsNumber most_descriptions o.description → AreNumbered fds
+pub numbered-slot : (fds others : List (Option Opened)) (fd : ℕ) (o : Option Opened) → ((k : ℕ) → slot fds k ≡ (if k == fd then o else slot others k)) → AreNumbered others → IfSome o (λ x. IsNumber most_descriptions x.description) → AreNumbered fds
 numbered-slot fds others fd o is h number k p some = at_if (k == fd) (sym (is k) ∙ some)
   where
-    at_if : (b : Bool) → (if b then Some o else slot others k) ≡ Some p → IsNumber most_descriptions p.description
-    at_if true e = let same : o ≡ p = cc in let P : Opened → Type 0 = λ (x : Opened). IsNumber most_descriptions x.description in subst P same number
+    at_if : (b : Bool) → (if b then o else slot others k) ≡ Some p → IsNumber most_descriptions p.description
+    at_if true e = subst (λ (x : Option Opened). IfSome x (λ y. IsNumber most_descriptions y.description)) e number
     at_if false e = h k p e
 
 -- rows that are compared by copies

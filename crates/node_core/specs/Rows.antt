@@ -1,11 +1,11 @@
 -- Rows of processes, and the processes that they are.
-use Rattle.std.specs.Prelude.{◌≡◌, ℕ, Bool, false, if◌then◌else◌, List, [], Option, Some, None, Result, Ok, Err, slice_index_or}
+use Rattle.std.specs.Prelude.{◌≡◌, ℕ, Bool, false, not, if◌then◌else◌, List, [], Option, Some, None, Result, Ok, Err, slice_index_or}
 use Rattle.intervals.specs.Search.{some_passes}
 use Rattle.model.specs.declared.opened.Opened.{Opened}
 use Rattle.model.specs.declared.reply.Reply.{Reply}
 use Rattle.model.specs.declared.reply.Reply.TheVariants as reply
 use Rattle.model.specs.Limits.{IsNumber, most_descriptors, most_descriptions}
-use Rattle.model.specs.Descriptors.{Processes, is_of}
+use Rattle.model.specs.Descriptors.{Processes, is_of, is_open, with_descriptor}
 use Rattle.node_core.specs.declared.descriptors.row.Row.{Row}
 use Rattle.node_core.specs.declared.descriptors.error.ProcessError.{ProcessError}
 use Rattle.node_core.specs.declared.descriptors.error.ProcessError.TheVariants as error
@@ -56,6 +56,13 @@ opened_or (Some o) = Ok o
 -- what the descriptor refers to, or the first test that fails: the process, the descriptor
 abbrev pub resolved : Processes → ℕ → ℕ → Result Opened FdError
 resolved ps pid fd = if ps.runs pid then opened_or (ps.opened pid fd) else Err NoProcess
+
+-- the descriptor referred to a description, and refers to nothing now; the description went if no descriptor refers to it any more
+pub record IsClosed (old : Processes) (pid fd : ℕ) (new : Processes) (went : Bool) : Type 0 where
+  pub opened : Opened
+  pub was : resolved old pid fd ≡ Ok opened
+  pub closed : new ≡ with_descriptor old pid fd None
+  pub gone : went ≡ not (is_open new opened.description)
 
 -- the error is the refusal that the rule gives
 abbrev pub Refuses : ProcessError → Result (Processes × Reply) Reply → Type 0

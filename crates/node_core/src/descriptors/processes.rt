@@ -1,14 +1,14 @@
 //! The processes of one node and their descriptors.
-ghost use Rattle.std.specs.Prelude.{◌≡◌, ◌≢◌, ◌≤◌, ◌<◌, ◌↔◌, ℕ, true, None, Some, Ok, Err, IfOk, IfErr, IfSome, OnOk, OnErr, IsTrue, MatchOption, is_none};
+ghost use Rattle.std.specs.Prelude.{◌≡◌, ◌≢◌, ◌≤◌, ◌<◌, ◌↔◌, ℕ, true, false, None, Some, Ok, Err, IfOk, IfErr, IfSome, OnOk, OnErr, IsTrue, MatchOption, is_none};
 ghost use Rattle.model.specs.declared.reply.Reply.TheVariants.{Done, Fd};
 ghost use Rattle.model.specs.Limits.{IsNumber, most_processes, most_descriptors, most_descriptions};
-ghost use Rattle.model.specs.Descriptors.{no_processes, with_descriptor, lowest_fd, after_spawn, after_open};
-ghost use Rattle.node_core.specs.Rows.{processes, resolved, Refuses};
+ghost use Rattle.model.specs.Descriptors.{no_processes, with_process, with_descriptor, lowest_fd, after_spawn, after_open};
+ghost use Rattle.node_core.specs.Rows.{processes, resolved, Refuses, IsClosed};
 
 use crate::descriptors::error::{FdError, ProcessError};
 use crate::descriptors::row::{MOST_DESCRIPTORS, Row};
-use crate::descriptors::rows::{grow, is_running, opened_at, refer, same_rows, start};
-use crate::descriptors::used::lowest_description;
+use crate::descriptors::rows::{grow, is_running, opened_at, refer, reset, same_rows};
+use crate::descriptors::used::{is_open, lowest_description};
 use model::access::Access;
 use model::opened::Opened;
 use std::alloc::{AllocError, Global};
@@ -55,6 +55,7 @@ impl Processes {
     fn opened(&self, pid: u16, fd: u8) -> Option<Opened>
         ensures value { result ≡ (processes self.now).opened pid fd }
         ensures number { IfSome result (λ opened. IsNumber most_descriptions opened.description) }
+        ensures within { IfSome result (λ _. fd < most_descriptors) }
     {
         opened_at(&self.rows, pid as usize, fd)
     }
@@ -67,6 +68,7 @@ impl Processes {
     pub fn resolve(&self, pid: u16, fd: u8) -> Result<Opened, FdError>
         ensures value { result ≡ resolved (processes self.now) pid fd }
         ensures number { IfOk result (λ opened. IsNumber most_descriptions opened.description) }
+        ensures within { OnOk result (fd < most_descriptors) }
     {
         if !self.is_running(pid) {
             return Err(FdError::NoProcess);
@@ -87,7 +89,7 @@ impl Processes {
             return Err(ProcessError::Exists);
         }
         grow(&mut self.rows, pid as usize)?;
-        start(&mut self.rows, pid as usize);
+        reset(&mut self.rows, pid as usize, true);
         Ok(())
     }
 
@@ -109,12 +111,12 @@ impl Processes {
         None
     }
 
-    // The descriptor refers to this from now on.
-    fn refer(&mut self, pid: u16, fd: u8, opened: Opened)
+    // The descriptor refers to this, or to nothing, from now on.
+    fn refer(&mut self, pid: u16, fd: u8, opened: Option<Opened>)
         requires runs { (processes self.old).runs pid ≡ true }
         requires fd { fd < most_descriptors }
-        requires number { IsNumber most_descriptions opened.description }
-        ensures { processes self.new ≡ with_descriptor (processes self.old) pid fd (Some opened) }
+        requires number { IfSome opened (λ o. IsNumber most_descriptions o.description) }
+        ensures { processes self.new ≡ with_descriptor (processes self.old) pid fd opened }
     {
         refer(&mut self.rows, pid as usize, fd, opened);
     }
@@ -142,13 +144,40 @@ impl Processes {
         self.refer(
             pid,
             fd,
-            Opened {
+            Some(Opened {
                 file,
                 description,
                 access,
-            },
+            }),
         );
         Ok(fd)
+    }
+
+    /// Closes the descriptor: it refers to nothing from now on. Answers whether the description went,
+    /// that is whether no descriptor of any process of the node refers to it any more (POSIX.1-2017
+    /// `close()`). Takes no memory.
+    ///
+    /// # Errors
+    /// `NoProcess` where the process doesn't run, which is tested first; `BadFd` where it has no such
+    /// descriptor (EBADF).
+    pub fn close(&mut self, pid: u16, fd: u8) -> Result<bool, FdError>
+        ensures ok { IfOk result (λ went. IsClosed (processes self.old) pid fd (processes self.new) went) }
+        ensures err { IfErr result (λ error. resolved (processes self.old) pid fd ≡ Err error) }
+        ensures unchanged { OnErr result (self.new ≡ self.old) }
+    {
+        let opened = self.resolve(pid, fd)?;
+        self.refer(pid, fd, None);
+        Ok(!is_open(&self.rows, opened.description))
+    }
+
+    /// The process runs no longer, and has no descriptors; nothing changes where it doesn't run
+    /// (POSIX.1-2017 `_Exit()`). Takes no memory.
+    pub fn end(&mut self, pid: u16)
+        ensures { processes self.new ≡ with_process (processes self.old) pid false (λ fd. None) }
+    {
+        if (pid as usize) < self.rows.len() {
+            reset(&mut self.rows, pid as usize, false);
+        }
     }
 
     /// An equal value.

@@ -1,6 +1,7 @@
 //! One process and its descriptors.
-ghost use Rattle.std.specs.Prelude.{◌≡◌, ◌↔◌, ◌<◌, ◌==◌, if◌then◌else◌, IsTrue, ℕ, Some, None};
-ghost use Rattle.node_core.specs.Rows.{slot, IsSameRow};
+ghost use Rattle.std.specs.Prelude.{◌≡◌, ◌↔◌, ◌<◌, ◌==◌, if◌then◌else◌, IsTrue, IfSome, ℕ, None};
+ghost use Rattle.model.specs.Descriptors.{is_of};
+ghost use Rattle.node_core.specs.Rows.{slot, refers, IsSameRow};
 
 use model::opened::Opened;
 
@@ -21,6 +22,13 @@ fn same_opened(one: Option<Opened>, other: Option<Opened>) -> bool
     one == other
 }
 
+// Whether this is the description.
+fn is_of(description: u16, opened: Option<Opened>) -> bool
+    ensures { result ≡ is_of description opened }
+{
+    opened.is_some_and(|opened| opened.description == description)
+}
+
 impl Row {
     /// A process with no descriptors.
     pub fn new(runs: bool) -> Row
@@ -35,7 +43,8 @@ impl Row {
 
     /// What the descriptor refers to, if there is one with this number.
     pub fn opened(&self, fd: u8) -> Option<Opened>
-        ensures { result ≡ slot self.now.opened fd }
+        ensures value { result ≡ slot self.now.opened fd }
+        ensures within { IfSome result (λ _. fd < 64) }
     {
         match self.opened.get(fd as usize) {
             Some(opened) => *opened,
@@ -43,13 +52,25 @@ impl Row {
         }
     }
 
-    /// The descriptor refers to this from now on.
-    pub fn refer(&mut self, fd: u8, opened: Opened)
+    /// The descriptor refers to this, or to nothing, from now on.
+    pub fn refer(&mut self, fd: u8, opened: Option<Opened>)
         requires { fd < 64 }
         ensures runs { self.new.runs ≡ self.old.runs }
-        ensures opened { (k : ℕ) → slot self.new.opened k ≡ (if k == fd then Some opened else slot self.old.opened k) }
+        ensures opened { (k : ℕ) → slot self.new.opened k ≡ (if k == fd then opened else slot self.old.opened k) }
     {
-        self.opened[fd as usize] = Some(opened);
+        self.opened[fd as usize] = opened;
+    }
+
+    /// Whether a descriptor refers to the description.
+    pub fn refers_to(&self, description: u16) -> bool
+        ensures { result ≡ refers self.now description }
+    {
+        for fd in 0..MOST_DESCRIPTORS {
+            if is_of(description, self.opened(fd)) {
+                return true;
+            }
+        }
+        false
     }
 
     /// Whether both run or don't, and have the same descriptors.

@@ -1,5 +1,5 @@
 //! Rows of processes, by their numbers.
-ghost use Rattle.std.specs.Prelude.{◌≡◌, ◌<◌, ◌↔◌, ℕ, true, None, Some, IfSome, IsTrue, OnOk, OnErr, length};
+ghost use Rattle.std.specs.Prelude.{◌≡◌, ◌<◌, ◌↔◌, ℕ, None, IfSome, IsTrue, OnOk, OnErr, length};
 ghost use Rattle.model.specs.Limits.{IsNumber, most_descriptors, most_descriptions};
 ghost use Rattle.model.specs.Descriptors.{with_process, with_descriptor};
 ghost use Rattle.node_core.specs.Rows.{slot, row, processes, IsSameRow, AreRows};
@@ -30,6 +30,7 @@ pub fn opened_at(rows: &[Row], pid: usize, fd: u8) -> Option<Opened>
     requires { AreRows rows.now }
     ensures value { result ≡ (processes rows.now).opened pid fd }
     ensures number { IfSome result (λ opened. IsNumber most_descriptions opened.description) }
+    ensures within { IfSome result (λ _. fd < most_descriptors) }
 {
     row_at(rows, pid).opened(fd)
 }
@@ -48,23 +49,23 @@ pub fn grow(rows: &mut Vec<Row>, pid: usize) -> Result<(), AllocError>
     Ok(())
 }
 
-/// The process begins, with no descriptors.
-pub fn start(rows: &mut [Row], pid: usize)
+/// The process runs from now on, or no longer, and has no descriptors.
+pub fn reset(rows: &mut [Row], pid: usize, runs: bool)
     requires within { pid < length rows.old }
     requires rows { AreRows rows.old }
-    ensures processes { processes rows.new ≡ with_process (processes rows.old) pid true (λ fd. None) }
+    ensures processes { processes rows.new ≡ with_process (processes rows.old) pid runs (λ fd. None) }
     ensures rows { AreRows rows.new }
 {
-    rows[pid] = Row::new(true);
+    rows[pid] = Row::new(runs);
 }
 
-/// The descriptor refers to this from now on.
-pub fn refer(rows: &mut [Row], pid: usize, fd: u8, opened: Opened)
+/// The descriptor refers to this, or to nothing, from now on.
+pub fn refer(rows: &mut [Row], pid: usize, fd: u8, opened: Option<Opened>)
     requires within { pid < length rows.old }
     requires fd { fd < most_descriptors }
-    requires number { IsNumber most_descriptions opened.description }
+    requires number { IfSome opened (λ o. IsNumber most_descriptions o.description) }
     requires rows { AreRows rows.old }
-    ensures processes { processes rows.new ≡ with_descriptor (processes rows.old) pid fd (Some opened) }
+    ensures processes { processes rows.new ≡ with_descriptor (processes rows.old) pid fd opened }
     ensures rows { AreRows rows.new }
 {
     let row = &mut rows[pid];

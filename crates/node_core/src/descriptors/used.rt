@@ -47,6 +47,28 @@ fn mark_process(used: &mut [bool], rows: &[Row], pid: usize)
     }
 }
 
+// Whether a descriptor of the process with that number refers to the description.
+fn refers_to(rows: &[Row], pid: usize, description: u16) -> bool
+    ensures { result ≡ refers (row rows.now pid) description }
+{
+    match rows.get(pid) {
+        Some(row) => row.refers_to(description),
+        None => false,
+    }
+}
+
+/// Whether a descriptor of some process refers to the description.
+pub fn is_open(rows: &[Row], description: u16) -> bool
+    ensures { result ≡ is_open (processes rows.now) description }
+{
+    for before in 0..MOST_PROCESSES as usize {
+        if refers_to(rows, before + 1, description) {
+            return true;
+        }
+    }
+    false
+}
+
 // None of so many is used.
 fn unused(alloc: Global, count: usize) -> Result<Vec<bool>, AllocError>
     ensures room { IfOk result (λ used. length used.items ≡ count) }

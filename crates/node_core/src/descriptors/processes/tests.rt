@@ -82,3 +82,71 @@ fn compares_what_runs_and_what_is_open(rt: HostRuntime) -> Result<(), Fail> {
     assert!(rt; differ_by_a_file(&mut one, &mut other)?);
     Ok(())
 }
+
+fn boxed(alloc: Global, processes: Processes) -> Result<Box<Processes>, AllocError> {
+    Ok(Box::new(alloc, processes)?)
+}
+
+// Two processes that have descriptor 0, the first also descriptor 1: descriptions 1 to 3.
+fn opens_three(alloc: Global) -> Result<Box<Processes>, ProcessError> {
+    let mut processes = boxed(alloc, begun(alloc, 1, 2)?)?;
+    for pid in [1, 1, 2] {
+        processes.open(pid, 7, Access::ReadWrite)?;
+    }
+    Ok(processes)
+}
+
+// Whether each call to close answers so.
+fn closes(processes: &mut Processes) -> bool {
+    for (pid, fd, answer) in [
+        (3, 0, Err(FdError::NoProcess)),
+        (1, 0, Ok(true)),
+        (1, 0, Err(FdError::BadFd)),
+        (1, 64, Err(FdError::BadFd)),
+        (2, 0, Ok(true)),
+    ] {
+        if processes.close(pid, fd) != answer {
+            return false;
+        }
+    }
+    true
+}
+
+// Whether the process gets this descriptor next, of this description.
+fn opens_as(
+    processes: &mut Processes,
+    pid: u16,
+    fd: u8,
+    description: u16,
+) -> Result<bool, ProcessError> {
+    let opened = Opened {
+        file: 7,
+        description,
+        access: Access::ReadWrite,
+    };
+    Ok(processes.open(pid, 7, Access::ReadWrite)? == fd && processes.resolve(pid, fd) == Ok(opened))
+}
+
+// The numbers of what is closed are free again, and descriptor 1 of process 1 is still there.
+#[test]
+fn closes_a_descriptor(rt: HostRuntime) -> Result<(), Fail> {
+    let mut processes = opens_three(rt.alloc())?;
+    assert!(rt; closes(&mut processes));
+    assert!(rt; opens_as(&mut processes, 1, 0, 1)?);
+    assert!(rt; opens_as(&mut processes, 1, 2, 3)?);
+    Ok(())
+}
+
+// A process that has ended can begin again, with no descriptors; the other keeps its own.
+#[test]
+fn ends_a_process(rt: HostRuntime) -> Result<(), Fail> {
+    let mut processes = opens_three(rt.alloc())?;
+    for pid in [1, 3, 65535] {
+        processes.end(pid);
+        assert!(rt; processes.resolve(pid, 0) == Err(FdError::NoProcess));
+    }
+    processes.spawn(1)?;
+    assert!(rt; processes.resolve(1, 0) == Err(FdError::BadFd));
+    assert!(rt; opens_as(&mut processes, 2, 1, 1)?);
+    Ok(())
+}
