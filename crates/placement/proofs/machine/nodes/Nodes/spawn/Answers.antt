@@ -1,22 +1,26 @@
-use Rattle.std.proofs.Common.{sym, ◌∙◌}
 use Rattle.std.proofs.lemmas.Result.{IfOk-weaker}
 use Rattle.model.specs.Descriptors.{after_spawn}
 use Rattle.node_core.specs.Rows.{processes}
-use Rattle.placement.specs.declared.machine.nodes.Nodes.{Nodes}
-use Rattle.placement.proofs.NodesLaws.{answered, processes-found, processes-not_found, keeps-written, keeps-inserted}
+use Rattle.placement.proofs.NodesLaws.{answered, changes-written, changes-inserted, hosts-written, hosts-inserted}
 use Rattle.placement.proofs.machine.nodes.Nodes.spawn.Goals as goal
+
+pub invariant_of-self : goal.invariant_of-self
+invariant_of-self c =
+    hosts-written c.self.inside.by_host _ c.args.host c.in-Some.node.now c.spawn_in.new.node c.self.invariant c.in-Some.ensures.value (c.get_mut.follows.holds c.spawn_in.new.node)
 
 pub returns-in-Some : goal.returns-in-Some
 returns-in-Some c =
-    let old = c.args.self.now in
     let rows = c.in-Some.node.now in
     let written = c.spawn_in.new.node in
-    let keeps = keeps-written old _ c.args.host rows written c.in-Some.ensures.value (c.get_mut.follows.holds written) in
-    IfOk-weaker c.spawn_in.result _ _ (λ reply is. answered old _ c.args.host c.args.pid (processes rows) written (λ ps. after_spawn ps c.args.pid) reply (processes-found old c.args.host rows c.in-Some.ensures.value) is keeps) c.spawn_in.ensures
+    let changes = changes-written c.args.self.now c.self.inside.by_host _ c.args.host rows written c.self.view_is c.in-Some.ensures.value (c.get_mut.follows.holds written) in
+    IfOk-weaker c.spawn_in.result _ _ (λ reply is. answered c.args.self.now _ c.args.host c.args.pid (processes rows) (processes written) (λ ps. after_spawn ps c.args.pid) reply changes is) c.spawn_in.ensures
+
+pub invariant_of-self-2 : goal.invariant_of-self-2
+invariant_of-self-2 c =
+    hosts-inserted c.get_mut.follows.lender-at-none c.self.inside.by_host c.insert.new.self c.args.host c.spawn_in-2.new.node c.self.invariant (rw (← c.host.view_is) c.host.invariant) c.get_mut.follows.holds-at-none c.in_ok-insert.ensures.updates
 
 pub returns : goal.returns
 returns c =
-    let old = c.args.self.now in
-    let new : Nodes = record { alloc = old.alloc; by_host = c.insert.new.self } in
-    let none = processes-not_found old c.args.host c.in_default.ensures.value ∙ sym c.new-node.ensures in
-    answered old new c.args.host c.args.pid (processes c.new-node.result) c.spawn_in-2.new.node (λ ps. after_spawn ps c.args.pid) c.in_ok-reply.reply none c.in_ok-reply.ensures (keeps-inserted old new c.get_mut.follows.lender-at-none c.args.host c.spawn_in-2.new.node c.get_mut.follows.holds-at-none c.in_ok-insert.ensures.updates)
+    let rows = c.spawn_in-2.new.node in
+    let changes = changes-inserted c.args.self.now c.get_mut.follows.lender-at-none c.self.inside.by_host c.insert.new.self c.args.host c.new-node.result rows c.self.view_is c.in_default.ensures.value c.new-node.ensures c.get_mut.follows.holds-at-none c.in_ok-insert.ensures.updates in
+    answered c.args.self.now _ c.args.host c.args.pid (processes c.new-node.result) (processes rows) (λ ps. after_spawn ps c.args.pid) c.in_ok-reply.reply changes c.in_ok-reply.ensures
