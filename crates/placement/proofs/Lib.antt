@@ -6,3 +6,4 @@ pub mod Placing
 pub mod Placements
 pub mod Replays
 pub mod NodesLaws
+pub mod MachineLaws

@@ -18,7 +18,7 @@ use Rattle.model.specs.Step.{Is}
 use Rattle.messages.specs.Messages.{same_host}
 use Rattle.node_core.specs.declared.descriptors.row.Row.{Row}
 use Rattle.node_core.specs.Rows.{processes}
-use Rattle.placement.specs.Machine.{Hosts, AreHosts, Answers, Closes, ClosesOn, process_at, processes_of, table_with, with_node}
+use Rattle.placement.specs.Nodes.{Hosts, AreHosts, Answers, Closes, ClosesOn, process_at, processes_of, table_with, with_node}
 
 abbrev at : ℕ → ℕ → Host
 at node incarnation = record { node = node; incarnation = incarnation }

@@ -6,7 +6,7 @@ ghost use Rattle.model.specs.Locks.{Locks};
 ghost use Rattle.model.specs.Descriptors.{no_processes, with_process, after_spawn, after_open};
 ghost use Rattle.model.specs.Step.{Step};
 ghost use Rattle.node_core.specs.Rows.{processes, resolved};
-ghost use Rattle.placement.specs.Machine.{Answers, Closes, ClosesOn, process_at, processes_of, table_with, with_node};
+ghost use Rattle.placement.specs.Nodes.{Answers, Closes, ClosesOn, process_at, processes_of, table_with, with_node};
 
 use intervals::span_map::NoMemory;
 use model::access::Access;
@@ -30,7 +30,7 @@ pub(crate) struct Nodes {
 }
 
 impl Model for Nodes {
-    ghost use Rattle.placement.specs.Machine.{Hosts, AreHosts};
+    ghost use Rattle.placement.specs.Nodes.{Hosts, AreHosts};
 
     ghost Value = { Hosts };
 
