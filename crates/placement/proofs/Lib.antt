@@ -7,3 +7,4 @@ pub mod Placements
 pub mod Replays
 pub mod NodesLaws
 pub mod MachineLaws
+pub mod Exits

@@ -108,7 +108,7 @@ changes-inserted old between m new host before rows same none empty is updates =
     subst P same (record { was = processes-not_found m.entries host none ∙ sym empty; is = processes-put m.entries new.entries host rows (subst Q is updates.0) })
 
 -- the node runs what it ran
-with_node-same : (on : ℕ → ℕ → Processes) (host : Host) → with_node on host (on host.node host.incarnation) ≡ on
+pub with_node-same : (on : ℕ → ℕ → Processes) (host : Host) → with_node on host (on host.node host.incarnation) ≡ on
 with_node-same on host j n i = same n i j
   where
     same : (n i : ℕ) → with_node on host (on host.node host.incarnation) n i ≡ on n i

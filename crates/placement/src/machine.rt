@@ -18,6 +18,7 @@ use model::process::Process;
 use model::reply::Reply;
 use std::alloc::Global;
 
+mod fail;
 mod nodes;
 mod step;
 
