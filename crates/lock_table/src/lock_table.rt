@@ -4,7 +4,7 @@ ghost use Rattle.std.specs.List.{AllZip};
 ghost use Rattle.intervals.specs.Bytes.{put};
 ghost use Rattle.intervals.specs.Runs.{value_at};
 ghost use Rattle.model.specs.Limits.{most_regions};
-ghost use Rattle.model.specs.Locks.{no_locks, replace, with_lock, without_owner, without_owner_anywhere, regions, IsFree, IsLowestBlocker};
+ghost use Rattle.model.specs.Locks.{no_locks, replace, with_lock, without_owner, without_owner_anywhere, regions, IsFree, IsRegion, IsLowestBlocker};
 ghost use Rattle.lock_table.specs.declared.error.LockError.TheVariants.{NoLocks};
 ghost use Rattle.lock_table.specs.Rows.{held, AreRows, IsRowAt, IsGap, HoldsSome, IsSameRow};
 ghost use Rattle.lock_table.specs.Listing.{IsListing};
@@ -213,6 +213,17 @@ impl LockTable {
             lowest = lowest_of(lowest, row.blocker(owner, span, mode));
         }
         lowest
+    }
+
+    /// Whether the lock is a region of its owner in the file: a longest run of bytes that the owner
+    /// holds in that mode. Takes no memory.
+    pub fn has_region(&self, file: u16, lock: &LockInfo) -> bool
+        ensures { IsTrue result ↔ IsRegion (held self.now file) lock.now }
+    {
+        match position(&self.rows, file, lock.owner) {
+            Ok(i) => self.rows[i].has_run(lock.span, lock.mode),
+            Err(_) => false,
+        }
     }
 
     /// The regions of a file, by first byte and then by owner.

@@ -1,6 +1,6 @@
 //! Rows of a lock table.
-ghost use Rattle.std.specs.Prelude.{◌≡◌, ℕ, ◌++◌, List, None, IsTrue, ◌↔◌, IfOk, OnOk, MatchOption};
-ghost use Rattle.intervals.specs.Bytes.{IsBarred, NoneIn};
+ghost use Rattle.std.specs.Prelude.{◌≡◌, ℕ, ◌++◌, List, None, Some, IsTrue, ◌↔◌, IfOk, OnOk, MatchOption};
+ghost use Rattle.intervals.specs.Bytes.{IsBarred, IsRun, NoneIn};
 ghost use Rattle.intervals.specs.Runs.{value_at};
 ghost use Rattle.lock_table.specs.Rows.{row_cmp, IsSameRow, locks_of, IsBounded, NothingFrom};
 ghost use Rattle.lock_table.specs.Regions.{rest_from, IsFirstRegion};
@@ -24,6 +24,13 @@ pub struct Row {
     pub(crate) file: u16,
     pub(crate) owner: Owner,
     pub(crate) spans: Spans,
+}
+
+// Whether the run that was found is that one.
+fn is_found(found: Option<(Span, Mode)>, span: Span, mode: Mode) -> bool
+    ensures { IsTrue result ↔ (found ≡ Some (span, mode)) }
+{
+    found == Some((span, mode))
 }
 
 impl Row {
@@ -53,6 +60,13 @@ impl Row {
         ensures { IsTrue result ↔ IsSameRow self.now other.now }
     {
         self.file == other.file && self.owner == other.owner && self.spans.same(&other.spans)
+    }
+
+    /// Whether the span is a longest run of bytes that the row holds in the mode.
+    pub(crate) fn has_run(&self, span: Span, mode: Mode) -> bool
+        ensures { IsTrue result ↔ IsRun (value_at self.now.spans) span mode }
+    {
+        is_found(self.spans.run_at(span.lo), span, mode)
     }
 
     // The region with the lowest byte of the span that has the mode `bar`, or any mode where that is

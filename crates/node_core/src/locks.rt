@@ -48,11 +48,54 @@ pub fn lock_reply(error: LockError) -> Result<Reply, AllocError>
 
 /// Whether what the bytes were before the reply may have been in the way of other nodes' calls: they
 /// are freed, or only read locks from then on.
-pub fn may_free(mode: Option<Mode>, reply: &Reply) -> bool
+pub(crate) fn may_free(mode: Option<Mode>, reply: &Reply) -> bool
     ensures { result ≡ may_free mode reply.now }
 {
     match (mode, reply) {
         (None | Some(Mode::Read), Reply::Done) => true,
         _ => false,
+    }
+}
+
+#[cfg(test)]
+mod tests {
+    use super::*;
+    use intervals::span::Span;
+    use model::owner::{Kind, Owner};
+    use std::test::Fail;
+
+    #[test]
+    fn locks_and_frees_bytes(rt: HostRuntime) -> Result<(), Fail> {
+        let owner = Owner {
+            node: 1,
+            incarnation: 1,
+            kind: Kind::OfProcess,
+            number: 1,
+        };
+        let mut locks = LockTable::new(rt.alloc());
+        for (mode, lo, hi, first, regions) in [
+            (Some(Mode::Write), 0, 9, 0, 1),
+            (None, 4, 5, 0, 2),
+            (Some(Mode::Read), 0, 3, 0, 2),
+            (None, 0, 7, 8, 1),
+        ] {
+            let span = Span { lo, hi };
+            let call = LockCall {
+                file: 1,
+                owner,
+                span,
+            };
+            change_locks(&mut locks, call, mode)?;
+            let held = locks.locks(1)?;
+            assert_eq!(rt; held.len(), regions);
+            assert_eq!(rt; held.first().map(|lock| lock.span.lo), Some(first));
+        }
+        Ok(())
+    }
+
+    #[test]
+    fn each_refusal_has_its_reply(rt: HostRuntime) {
+        assert!(rt; lock_reply(LockError::NoLocks) == Ok(Reply::NoLocks));
+        assert!(rt; lock_reply(LockError::NoMemory) == Err(AllocError));
     }
 }

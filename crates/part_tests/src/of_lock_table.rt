@@ -95,6 +95,46 @@ fn names_whole_regions(rt: HostRuntime) -> Result<(), Fail> {
     Ok(())
 }
 
+// A region is a whole run of one owner in one mode.
+#[test]
+fn tells_regions_from_pieces_of_them(rt: HostRuntime) -> Result<(), Fail> {
+    let mut table = LockTable::new(rt.alloc());
+    let low = Span { lo: 0, hi: 9 };
+    let high = Span { lo: 20, hi: 29 };
+    table.set(FIRST, FILE, low, Mode::Write)?;
+    table.set(FIRST, FILE, high, Mode::Read)?;
+    for (file, lock, is_region) in [
+        (FILE, region(FIRST, Mode::Write, low), true),
+        (FILE, region(FIRST, Mode::Read, high), true),
+        (FILE, region(FIRST, Mode::Read, low), false),
+        (
+            FILE,
+            region(FIRST, Mode::Write, Span { lo: 0, hi: 8 }),
+            false,
+        ),
+        (
+            FILE,
+            region(FIRST, Mode::Write, Span { lo: 1, hi: 9 }),
+            false,
+        ),
+        (
+            FILE,
+            region(FIRST, Mode::Write, Span { lo: 0, hi: 10 }),
+            false,
+        ),
+        (
+            FILE,
+            region(FIRST, Mode::Write, Span { lo: 12, hi: 15 }),
+            false,
+        ),
+        (FILE, region(SECOND, Mode::Write, low), false),
+        (FILE + 1, region(FIRST, Mode::Write, low), false),
+    ] {
+        assert_eq!(rt; table.has_region(file, &lock), is_region, "{lock:?}");
+    }
+    Ok(())
+}
+
 // The lowest first byte goes before the lowest owner, processes go before descriptions, and these
 // before the next incarnation.
 #[test]

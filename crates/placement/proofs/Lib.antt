@@ -5,3 +5,6 @@ pub mod Locating
 pub mod Placing
 pub mod Placements
 pub mod Replays
+pub mod NodesLaws
+pub mod MachineLaws
+pub mod Exits

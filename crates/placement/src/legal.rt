@@ -2,14 +2,14 @@
 ghost use Rattle.std.specs.Prelude.{◌≡◌, true, false, ◌↔◌, IsTrue, IfOk, MatchOption};
 ghost use Rattle.model.specs.Limits.{IsProcess};
 ghost use Rattle.model.specs.Table.{Table};
-ghost use Rattle.model.specs.OneTable.{table_of};
 ghost use Rattle.cluster_core.specs.Histories.{caller, ItemStep, IsLegal};
+ghost use Rattle.placement.specs.Machine.{machine_table};
 
 use crate::history::History;
+use crate::machine::Machine;
 use cluster_core::item::Item;
 use intervals::span_map::NoMemory;
 use model::call::CallId;
-use model::one_table::OneTable;
 use model::process::Process;
 use std::alloc::Global;
 
@@ -24,7 +24,7 @@ const MOST_PROCESSES: u16 = 256;
 pub fn legal(alloc: Global, history: &History) -> Result<bool, NoMemory>
     ensures { IfOk result (λ yes. IsTrue yes ↔ IsLegal history.now) }
 {
-    let mut table = OneTable::new(alloc);
+    let mut table = Machine::new(alloc);
     for item in history.items() {
         if !follow(&mut table, item)? {
             return Ok(false);
@@ -34,9 +34,9 @@ pub fn legal(alloc: Global, history: &History) -> Result<bool, NoMemory>
 }
 
 // The item leads the table on, if it may.
-fn follow(table: &mut OneTable, item: &Item) -> Result<bool, NoMemory>
-    ensures leads { IfOk result (λ yes. yes ≡ true → ItemStep (table_of table.old) item.now (table_of table.new)) }
-    ensures stuck { IfOk result (λ yes. yes ≡ false → (new : Table) → ItemStep (table_of table.old) item.now new → ⊥) }
+fn follow(table: &mut Machine, item: &Item) -> Result<bool, NoMemory>
+    ensures leads { IfOk result (λ yes. yes ≡ true → ItemStep (machine_table table.old) item.now (machine_table table.new)) }
+    ensures stuck { IfOk result (λ yes. yes ≡ false → (new : Table) → ItemStep (machine_table table.old) item.now new → ⊥) }
 {
     match item {
         Item::Answered {
@@ -54,7 +54,7 @@ fn follow(table: &mut OneTable, item: &Item) -> Result<bool, NoMemory>
             incarnation,
             ..
         } => {
-            table.fail(*node, *incarnation)?;
+            table.fail(*node, *incarnation);
             Ok(true)
         }
     }

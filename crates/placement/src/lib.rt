@@ -3,5 +3,6 @@
 
 pub mod history;
 pub mod legal;
+mod machine;
 pub mod placed;
 mod revoke_id;

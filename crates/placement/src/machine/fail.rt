@@ -1,0 +1,91 @@
+//! Nodes that fail.
+ghost use Rattle.std.specs.Prelude.{◌≡◌, true};
+ghost use Rattle.model.specs.Limits.{IsNumber, most_of, most_processes};
+ghost use Rattle.model.specs.Table.{is_running, descriptor, closed_if, exited, exited_if, gone};
+ghost use Rattle.placement.specs.Nodes.{process_at};
+ghost use Rattle.placement.specs.Machine.{machine_table};
+
+use super::Machine;
+use model::host::Host;
+use model::owner::{Kind, Owner};
+
+/// Processes of a node.
+const MOST_PROCESSES: u16 = 256;
+
+/// Descriptors of a process.
+const MOST_DESCRIPTORS: u8 = 64;
+
+// The owner of that kind and number on the node.
+fn owner(host: Host, kind: Kind, number: u16) -> Owner
+    requires { IsNumber (most_of kind) number }
+    ensures { result ≡ record { node = host.node; incarnation = host.incarnation; kind = kind; number = number } }
+{
+    Owner {
+        node: host.node,
+        incarnation: host.incarnation,
+        kind,
+        number,
+    }
+}
+
+impl Machine {
+    /// The node fails: every process of that incarnation exits. Where there can be no such node no
+    /// process runs, so nothing changes. Takes no memory.
+    pub(crate) fn fail(&mut self, node: u8, incarnation: u16)
+        ensures { machine_table self.new ≡ gone (machine_table self.old) node incarnation }
+    {
+        if let Some(host) = self.nodes.host(node, incarnation) {
+            self.exit_all(host);
+        }
+    }
+
+    // Every process of the node exits.
+    fn exit_all(&mut self, host: Host)
+        ensures { machine_table self.new ≡ gone (machine_table self.old) host.node host.incarnation }
+    {
+        for pid in 1..MOST_PROCESSES + 1 {
+            self.exit_if(host, pid);
+        }
+    }
+
+    // The process exits, if it runs.
+    #[tactic(auto, unfolding(crate::specs::Machine::machine_table))]
+    fn exit_if(&mut self, host: Host, pid: u16)
+        requires { IsNumber most_processes pid }
+        ensures { machine_table self.new ≡ exited_if (machine_table self.old) (process_at host pid) }
+    {
+        if self.nodes.is_running(host, pid) {
+            self.exit(host, pid);
+        }
+    }
+
+    // The process exits.
+    fn exit(&mut self, host: Host, pid: u16)
+        requires number { IsNumber most_processes pid }
+        requires runs { is_running (machine_table self.old) (process_at host pid) ≡ true }
+        ensures { machine_table self.new ≡ exited (machine_table self.old) (process_at host pid) }
+    {
+        for fd in 0..MOST_DESCRIPTORS {
+            self.close_if(host, pid, fd);
+        }
+        self.nodes.end(host, pid);
+    }
+
+    // The descriptor of the process is closed, if there is one.
+    fn close_if(&mut self, host: Host, pid: u16, fd: u8)
+        requires number { IsNumber most_processes pid }
+        requires runs { is_running (machine_table self.old) (process_at host pid) ≡ true }
+        ensures { machine_table self.new ≡ closed_if (machine_table self.old) (process_at host pid) fd
+            (descriptor (machine_table self.old) (process_at host pid) fd) }
+    {
+        let Some((opened, went)) = self.nodes.close(host, pid, fd) else {
+            return;
+        };
+        self.locks
+            .drop_owner(owner(host, Kind::OfProcess, pid), opened.file);
+        if went {
+            self.locks
+                .drop_owner_anywhere(owner(host, Kind::OfDescription, opened.description));
+        }
+    }
+}
