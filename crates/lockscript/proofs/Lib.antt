@@ -12,3 +12,4 @@ pub mod CommandKinds
 pub mod Clusters
 pub mod SameLines
 pub mod Padding
+pub mod Writes

@@ -1,5 +1,6 @@
 //! Texts of what listings name.
 ghost use Rattle.std.specs.Prelude.{◌≡◌, ◌++◌, string_bytes, OnOk};
+ghost use Rattle.model.specs.declared.op.Op.TheVariants.{Open, Query, Set, Unlock};
 ghost use Rattle.lockscript.specs.Texts.{access_text, asked_lock_text, call_text, host_text, kind_text, level_text, lock_text, mode_text, op_text, owner_letter, owner_text, reply_text};
 
 use model::access::Access;
@@ -129,40 +130,74 @@ pub(crate) fn push_op(out: &mut String, op: &Op) -> Result<(), AllocError>
 {
     match op {
         Op::Spawn => out.push_str("spawn"),
-        Op::Open { file, access } => {
-            let access = access_word(*access);
-            write!(out, "open {file} {access}")
-        }
+        Op::Open { file, access } => push_open(out, *file, *access),
         Op::Set {
             fd,
             kind,
             mode,
             start,
             len,
-        } => {
-            out.push_str("set ")?;
-            push_asked_lock(out, *fd, *kind, *mode, *start, *len)
-        }
+        } => push_set(out, *fd, *kind, *mode, *start, *len),
         Op::Unlock {
             fd,
             kind,
             start,
             len,
-        } => {
-            let kind = kind_word(*kind);
-            write!(out, "unlock {fd} {kind} {start} {len}")
-        }
+        } => push_unlock(out, *fd, *kind, *start, *len),
         Op::Query {
             fd,
             kind,
             mode,
             start,
             len,
-        } => {
-            out.push_str("query ")?;
-            push_asked_lock(out, *fd, *kind, *mode, *start, *len)
-        }
+        } => push_query(out, *fd, *kind, *mode, *start, *len),
     }
+}
+
+// Writes `open F ACCESS`.
+fn push_open(out: &mut String, file: u16, access: Access) -> Result<(), AllocError>
+    ensures { OnOk result (string_bytes out.new ≡ string_bytes out.old ++ op_text (Open file access)) }
+{
+    let access = access_word(access);
+    write!(out, "open {file} {access}")
+}
+
+// Writes `set FD KIND MODE START LEN`.
+fn push_set(
+    out: &mut String,
+    fd: u8,
+    kind: Kind,
+    mode: Mode,
+    start: i64,
+    len: i64,
+) -> Result<(), AllocError>
+    ensures { OnOk result (string_bytes out.new ≡ string_bytes out.old ++ op_text (Set fd kind mode start len)) }
+{
+    out.push_str("set ")?;
+    push_asked_lock(out, fd, kind, mode, start, len)
+}
+
+// Writes `unlock FD KIND START LEN`.
+fn push_unlock(out: &mut String, fd: u8, kind: Kind, start: i64, len: i64) -> Result<(), AllocError>
+    ensures { OnOk result (string_bytes out.new ≡ string_bytes out.old ++ op_text (Unlock fd kind start len)) }
+{
+    let kind = kind_word(kind);
+    write!(out, "unlock {fd} {kind} {start} {len}")
+}
+
+// Writes `query FD KIND MODE START LEN`.
+fn push_query(
+    out: &mut String,
+    fd: u8,
+    kind: Kind,
+    mode: Mode,
+    start: i64,
+    len: i64,
+) -> Result<(), AllocError>
+    ensures { OnOk result (string_bytes out.new ≡ string_bytes out.old ++ op_text (Query fd kind mode start len)) }
+{
+    out.push_str("query ")?;
+    push_asked_lock(out, fd, kind, mode, start, len)
 }
 
 // Writes `FD KIND MODE START LEN`.
