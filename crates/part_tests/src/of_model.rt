@@ -1,2 +1,3 @@
 //! The one table.
 mod one_table;
+mod replay;
