@@ -111,10 +111,10 @@ impl Node {
             node: self.node,
             incarnation: self.incarnation,
             calls: self.calls,
+            files: copy_files(alloc, &self.files)?,
             processes: self.processes.copy()?,
             locks: self.locks.copy()?,
             pending: self.pending.copy()?,
-            files: copy_files(alloc, &self.files)?,
         })
     }
 

@@ -1,3 +1,8 @@
+use Rattle.std.specs.Prelude.{Option}
+use Rattle.std.proofs.Common.{ap, sym, ◌∙◌}
+use Rattle.intervals.specs.Bytes.{largest_around}
+use Rattle.token_server.specs.State.{Row}
+use Rattle.token_server.specs.Serve.{row_conflicts_at}
 use Rattle.token_server.specs.Parts.{rows_of}
 use Rattle.token_server.proofs.GrantLaws.{free_around-some, free_around-none}
 use Rattle.token_server.proofs.clients.Clients.free_around.Goals as goal
@@ -5,6 +10,10 @@ use Rattle.token_server.proofs.clients.Clients.free_around.Goals as goal
 pub free_around-requires-clause-free : goal.free_around-requires-clause-free
 free_around-requires-clause-free c =
     free_around-some (rows_of c.args.self.now c.args.node) _ c.args.required c.args.mode c.requires.free c.in-Some.ensures.row
+
+pub returns-in-Some : goal.returns-in-Some
+returns-in-Some c =
+    c.free_around.ensures.value ∙ ap (λ (row : Option Row). largest_around (λ b. row_conflicts_at row b c.args.mode) c.args.required c.args.within) (sym c.in-Some.ensures.row)
 
 pub returns-in-None : goal.returns-in-None
 returns-in-None c =
