@@ -91,6 +91,14 @@ mod tests {
         access: Access::ReadWrite,
     };
 
+    const QUERY: Op = Op::Query {
+        fd: 0,
+        kind: Kind::OfProcess,
+        mode: Mode::Write,
+        start: 5,
+        len: 10,
+    };
+
     const CALL: CallId = CallId {
         node: 1,
         incarnation: 1,
@@ -114,9 +122,25 @@ mod tests {
         len: 10,
     };
 
+    // A call of another node.
+    const ELSEWHERE: CallId = CallId {
+        node: 2,
+        incarnation: 1,
+        number: 1,
+    };
+
+    // Processes 1 and 2 of node 1 have the file open, and the first holds its write lock.
+    const START: [(u32, u16, Op, Reply); 5] = [
+        (1, 1, Op::Spawn, Reply::Done),
+        (2, 2, Op::Spawn, Reply::Done),
+        (4, 1, OPEN, Reply::Fd(0)),
+        (7, 2, OPEN, Reply::Fd(0)),
+        (8, 1, FIRST, Reply::Done),
+    ];
+
     // The region of the first process of node 1.
-    fn blocked(span: Span) -> Reply {
-        Reply::Again(LockInfo {
+    fn region(span: Span) -> LockInfo {
+        LockInfo {
             owner: Owner {
                 node: 1,
                 incarnation: 1,
@@ -125,7 +149,11 @@ mod tests {
             },
             mode: Mode::Write,
             span,
-        })
+        }
+    }
+
+    fn blocked(span: Span) -> Reply {
+        Reply::Again(region(span))
     }
 
     // Calls of node 1, each with its position and its process.
@@ -150,13 +178,6 @@ mod tests {
 
     #[test]
     fn allows_what_one_machine_may_answer(rt: HostRuntime) -> Result<(), Fail> {
-        let start = [
-            (1, 1, Op::Spawn, Reply::Done),
-            (2, 2, Op::Spawn, Reply::Done),
-            (4, 1, OPEN, Reply::Fd(0)),
-            (7, 2, OPEN, Reply::Fd(0)),
-            (8, 1, FIRST, Reply::Done),
-        ];
         for (call, may) in [
             ((9, 2, SECOND, blocked(Span { lo: 0, hi: 9 })), true),
             ((9, 2, SECOND, blocked(Span { lo: 0, hi: 14 })), false),
@@ -167,11 +188,29 @@ mod tests {
             ((9, 256, Op::Spawn, Reply::Done), true),
             ((9, 257, Op::Spawn, Reply::Done), false),
         ] {
-            let mut made = Vec::from_slice(rt.alloc(), &start)?;
+            let mut made = Vec::from_slice(rt.alloc(), &START)?;
             made.push(call)?;
             assert_eq!(rt; is_legal(&rt, calls(rt.alloc(), &made)?)?, may);
         }
         assert!(rt; is_legal(&rt, Vec::new(rt.alloc()))?);
+        Ok(())
+    }
+
+    // A lock that would be in the way is named whole, and none is in its own owner's way.
+    #[test]
+    fn allows_what_a_query_may_be_told(rt: HostRuntime) -> Result<(), Fail> {
+        for (pid, reply, may) in [
+            (2, Reply::Blocked(region(Span { lo: 0, hi: 9 })), true),
+            (2, Reply::Blocked(region(Span { lo: 5, hi: 9 })), false),
+            (2, blocked(Span { lo: 0, hi: 9 }), false),
+            (2, Reply::Free, false),
+            (1, Reply::Free, true),
+            (1, Reply::Blocked(region(Span { lo: 0, hi: 9 })), false),
+        ] {
+            let mut made = Vec::from_slice(rt.alloc(), &START)?;
+            made.push((9, pid, QUERY, reply))?;
+            assert_eq!(rt; is_legal(&rt, calls(rt.alloc(), &made)?)?, may);
+        }
         Ok(())
     }
 
@@ -193,6 +232,63 @@ mod tests {
                 id: CALL,
                 pid: 1,
                 op: OPEN,
+                reply,
+            })?;
+            assert_eq!(rt; is_legal(&rt, items)?, may);
+        }
+        Ok(())
+    }
+
+    // Process 1 of node 1 holds a write lock of bytes 0 to 9, and process 1 of node 2 has the file open.
+    fn two_nodes(alloc: Global, kind: Kind) -> Result<Vec<Item>, Fail> {
+        let set = Op::Set {
+            fd: 0,
+            kind,
+            mode: Mode::Write,
+            start: 0,
+            len: 10,
+        };
+        let mut items = Vec::new(alloc);
+        for (position, id, op, reply) in [
+            (1, CALL, Op::Spawn, Reply::Done),
+            (2, ELSEWHERE, Op::Spawn, Reply::Done),
+            (3, CALL, OPEN, Reply::Fd(0)),
+            (4, ELSEWHERE, OPEN, Reply::Fd(0)),
+            (5, CALL, set, Reply::Done),
+        ] {
+            items.push(Item::Answered {
+                position,
+                id,
+                pid: 1,
+                op,
+                reply,
+            })?;
+        }
+        Ok(items)
+    }
+
+    // The process of node 2 gets its lock where the node that was in the way is gone.
+    #[test]
+    fn frees_the_locks_of_a_node_that_is_gone(rt: HostRuntime) -> Result<(), Fail> {
+        for (kind, incarnation, reply, may) in [
+            (Kind::OfProcess, 1, Reply::Done, true),
+            (Kind::OfDescription, 1, Reply::Done, true),
+            (Kind::OfProcess, 1, blocked(Span { lo: 0, hi: 9 }), false),
+            (Kind::OfProcess, 2, blocked(Span { lo: 0, hi: 9 }), true),
+            (Kind::OfProcess, 2, Reply::Done, false),
+            (Kind::OfDescription, 2, Reply::Done, false),
+        ] {
+            let mut items = two_nodes(rt.alloc(), kind)?;
+            items.push(Item::Gone {
+                position: 6,
+                node: 1,
+                incarnation,
+            })?;
+            items.push(Item::Answered {
+                position: 7,
+                id: ELSEWHERE,
+                pid: 1,
+                op: SECOND,
                 reply,
             })?;
             assert_eq!(rt; is_legal(&rt, items)?, may);

@@ -97,8 +97,7 @@ impl Machine {
         ensures { IfOk result (λ reply.
             Step (machine_table self.old) process (Open file access) reply (machine_table self.new)) }
     {
-        self.nodes
-            .open(host_of(process), process.pid, file, access)
+        self.nodes.open(host_of(process), process.pid, file, access)
     }
 
     // A region of another owner that blocks.
@@ -164,15 +163,7 @@ impl Machine {
     }
 
     // Whether a lock on a segment would be in the way of another owner's.
-    fn query(
-        &self,
-        process: Process,
-        fd: u8,
-        kind: Kind,
-        mode: Mode,
-        start: i64,
-        len: i64,
-    ) -> Reply
+    fn query(&self, process: Process, fd: u8, kind: Kind, mode: Mode, start: i64, len: i64) -> Reply
         ensures { Step (machine_table self.now) process (Query fd kind mode start len) result (machine_table self.now) }
     {
         let call = match self.target(process, None, fd, kind, start, len) {
