@@ -1,3 +1,4 @@
 //! Histories.
 mod history;
+mod legal;
 mod placed;

@@ -7,13 +7,8 @@ ghost use Rattle.placement.specs.Machine.{machine_table};
 
 use super::Machine;
 use model::host::Host;
+use model::limits::{MOST_DESCRIPTORS, MOST_PROCESSES};
 use model::owner::{Kind, Owner};
-
-/// Processes of a node.
-const MOST_PROCESSES: u16 = 256;
-
-/// Descriptors of a process.
-const MOST_DESCRIPTORS: u8 = 64;
 
 // The owner of that kind and number on the node.
 fn owner(host: Host, kind: Kind, number: u16) -> Owner

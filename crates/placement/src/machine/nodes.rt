@@ -11,6 +11,7 @@ ghost use Rattle.placement.specs.Nodes.{Answers, Closes, ClosesOn, process_at, p
 use intervals::span_map::NoMemory;
 use model::access::Access;
 use model::host::Host;
+use model::limits::MOST_NODES;
 use model::opened::Opened;
 use model::reply::Reply;
 use node_core::descriptors::error::FdError;
@@ -18,9 +19,6 @@ use node_core::descriptors::processes::Processes;
 use std::alloc::Global;
 use std::collections::HashMap;
 use std::marker::Model;
-
-/// Nodes of a cluster.
-const MOST_NODES: u8 = 64;
 
 /// The processes of each node in each of its incarnations.
 #[derive(Drop)]

@@ -1,0 +1,224 @@
+//! Which histories are legal.
+use cluster_core::item::Item;
+use intervals::span::Span;
+use model::access::Access;
+use model::call::CallId;
+use model::lock_info::LockInfo;
+use model::mode::Mode;
+use model::op::Op;
+use model::owner::{Kind, Owner};
+use model::reply::Reply;
+use placement::history::History;
+use placement::legal::legal;
+use std::alloc::Global;
+use std::test::Fail;
+
+const OPEN: Op = Op::Open {
+    file: 1,
+    access: Access::ReadWrite,
+};
+
+const QUERY: Op = Op::Query {
+    fd: 0,
+    kind: Kind::OfProcess,
+    mode: Mode::Write,
+    start: 5,
+    len: 10,
+};
+
+const CALL: CallId = CallId {
+    node: 1,
+    incarnation: 1,
+    number: 1,
+};
+
+// A write lock of bytes 0 to 9, and one of bytes 5 to 14.
+const FIRST: Op = Op::Set {
+    fd: 0,
+    kind: Kind::OfProcess,
+    mode: Mode::Write,
+    start: 0,
+    len: 10,
+};
+
+const SECOND: Op = Op::Set {
+    fd: 0,
+    kind: Kind::OfProcess,
+    mode: Mode::Write,
+    start: 5,
+    len: 10,
+};
+
+// A call of another node.
+const ELSEWHERE: CallId = CallId {
+    node: 2,
+    incarnation: 1,
+    number: 1,
+};
+
+// Processes 1 and 2 of node 1 have the file open, and the first holds its write lock.
+const START: [(u32, u16, Op, Reply); 5] = [
+    (1, 1, Op::Spawn, Reply::Done),
+    (2, 2, Op::Spawn, Reply::Done),
+    (4, 1, OPEN, Reply::Fd(0)),
+    (7, 2, OPEN, Reply::Fd(0)),
+    (8, 1, FIRST, Reply::Done),
+];
+
+// The region of the first process of node 1.
+fn region(span: Span) -> LockInfo {
+    LockInfo {
+        owner: Owner {
+            node: 1,
+            incarnation: 1,
+            kind: Kind::OfProcess,
+            number: 1,
+        },
+        mode: Mode::Write,
+        span,
+    }
+}
+
+fn blocked(span: Span) -> Reply {
+    Reply::Again(region(span))
+}
+
+// Calls of node 1, each with its position and its process.
+fn calls(alloc: Global, made: &[(u32, u16, Op, Reply)]) -> Result<Vec<Item>, Fail> {
+    let mut items = Vec::new(alloc);
+    for &(position, pid, op, reply) in made {
+        items.push(Item::Answered {
+            position,
+            id: CALL,
+            pid,
+            op,
+            reply,
+        })?;
+    }
+    Ok(items)
+}
+
+fn is_legal(rt: &impl AllocGlobal, items: Vec<Item>) -> Result<bool, Fail> {
+    let history = History::new(items)?;
+    Ok(legal(rt.alloc(), &history)?)
+}
+
+#[test]
+fn allows_what_one_machine_may_answer(rt: HostRuntime) -> Result<(), Fail> {
+    for (call, may) in [
+        ((9, 2, SECOND, blocked(Span { lo: 0, hi: 9 })), true),
+        ((9, 2, SECOND, blocked(Span { lo: 0, hi: 14 })), false),
+        ((9, 2, SECOND, Reply::Done), false),
+        ((9, 1, SECOND, Reply::Done), true),
+        ((9, 3, SECOND, Reply::NoProcess), true),
+        ((9, 0, Op::Spawn, Reply::Done), false),
+        ((9, 256, Op::Spawn, Reply::Done), true),
+        ((9, 257, Op::Spawn, Reply::Done), false),
+    ] {
+        let mut made = Vec::from_slice(rt.alloc(), &START)?;
+        made.push(call)?;
+        assert_eq!(rt; is_legal(&rt, calls(rt.alloc(), &made)?)?, may);
+    }
+    assert!(rt; is_legal(&rt, Vec::new(rt.alloc()))?);
+    Ok(())
+}
+
+// A lock that would be in the way is named whole, and none is in its own owner's way.
+#[test]
+fn allows_what_a_query_may_be_told(rt: HostRuntime) -> Result<(), Fail> {
+    for (pid, reply, may) in [
+        (2, Reply::Blocked(region(Span { lo: 0, hi: 9 })), true),
+        (2, Reply::Blocked(region(Span { lo: 5, hi: 9 })), false),
+        (2, blocked(Span { lo: 0, hi: 9 }), false),
+        (2, Reply::Free, false),
+        (1, Reply::Free, true),
+        (1, Reply::Blocked(region(Span { lo: 0, hi: 9 })), false),
+    ] {
+        let mut made = Vec::from_slice(rt.alloc(), &START)?;
+        made.push((9, pid, QUERY, reply))?;
+        assert_eq!(rt; is_legal(&rt, calls(rt.alloc(), &made)?)?, may);
+    }
+    Ok(())
+}
+
+#[test]
+fn ends_the_processes_of_a_node_that_is_gone(rt: HostRuntime) -> Result<(), Fail> {
+    for (incarnation, reply, may) in [
+        (1, Reply::NoProcess, true),
+        (1, Reply::Fd(0), false),
+        (2, Reply::Fd(0), true),
+    ] {
+        let mut items = calls(rt.alloc(), &[(1, 1, Op::Spawn, Reply::Done)])?;
+        items.push(Item::Gone {
+            position: 2,
+            node: 1,
+            incarnation,
+        })?;
+        items.push(Item::Answered {
+            position: 3,
+            id: CALL,
+            pid: 1,
+            op: OPEN,
+            reply,
+        })?;
+        assert_eq!(rt; is_legal(&rt, items)?, may);
+    }
+    Ok(())
+}
+
+// Process 1 of node 1 holds a write lock of bytes 0 to 9, and process 1 of node 2 has the file open.
+fn two_nodes(alloc: Global, kind: Kind) -> Result<Vec<Item>, Fail> {
+    let set = Op::Set {
+        fd: 0,
+        kind,
+        mode: Mode::Write,
+        start: 0,
+        len: 10,
+    };
+    let mut items = Vec::new(alloc);
+    for (position, id, op, reply) in [
+        (1, CALL, Op::Spawn, Reply::Done),
+        (2, ELSEWHERE, Op::Spawn, Reply::Done),
+        (3, CALL, OPEN, Reply::Fd(0)),
+        (4, ELSEWHERE, OPEN, Reply::Fd(0)),
+        (5, CALL, set, Reply::Done),
+    ] {
+        items.push(Item::Answered {
+            position,
+            id,
+            pid: 1,
+            op,
+            reply,
+        })?;
+    }
+    Ok(items)
+}
+
+// The process of node 2 gets its lock where the node that was in the way is gone.
+#[test]
+fn frees_the_locks_of_a_node_that_is_gone(rt: HostRuntime) -> Result<(), Fail> {
+    for (kind, incarnation, reply, may) in [
+        (Kind::OfProcess, 1, Reply::Done, true),
+        (Kind::OfDescription, 1, Reply::Done, true),
+        (Kind::OfProcess, 1, blocked(Span { lo: 0, hi: 9 }), false),
+        (Kind::OfProcess, 2, blocked(Span { lo: 0, hi: 9 }), true),
+        (Kind::OfProcess, 2, Reply::Done, false),
+        (Kind::OfDescription, 2, Reply::Done, false),
+    ] {
+        let mut items = two_nodes(rt.alloc(), kind)?;
+        items.push(Item::Gone {
+            position: 6,
+            node: 1,
+            incarnation,
+        })?;
+        items.push(Item::Answered {
+            position: 7,
+            id: ELSEWHERE,
+            pid: 1,
+            op: SECOND,
+            reply,
+        })?;
+        assert_eq!(rt; is_legal(&rt, items)?, may);
+    }
+    Ok(())
+}
