@@ -1,12 +1,13 @@
 -- Runs, one entry more at a time.
-use Rattle.std.proofs.Common.{◌≡◌, ℕ, ◌+◌, ◌<◌, refl, sym, ◌∙◌, ap, subst, List, [], ◌∷◌, ◌++◌, length, take, drop, get_or, Ok, Err}
-use Rattle.std.proofs.lemmas.List.{map-append, take-append-drop}
+use Rattle.std.proofs.Common.{◌≡◌, ℕ, ◌+◌, ◌<◌, ◌≤◌, refl, sym, ◌∙◌, ap, subst, List, [], ◌∷◌, ◌++◌, length, take, drop, get_or, Ok, Err}
+use Rattle.std.proofs.lemmas.List.{map-append, take_all, take-append-drop}
 use Rattle.messages.specs.Shapes.{ShapeFields}
 use Rattle.messages.specs.declared.refusal.Refused.{Refused}
 use Rattle.messages.specs.declared.event.Event.{Event}
 use Rattle.messages.specs.declared.entry.Entry.{Entry}
 use Rattle.cluster_core.specs.World.{WorldState, first_world}
 use Rattle.cluster_core.specs.Next.{next}
+use Rattle.cluster_core.specs.Parts.{WorldParts, world_state}
 use Rattle.cluster_core.specs.Runs.{Leads}
 use Rattle.cluster_core.specs.Journals.{events_of, IsFirstRefusal}
 use Rattle.cluster_core.proofs.Places.{take_read, drop_read}
@@ -47,6 +48,10 @@ ran_more shape events i es fs w v event e lt is ran step made =
           ∙ sym (take_read events i event lt is)));
     })
 
+-- all happened
+pub ran_all : (shape : ShapeFields) (events : List Event) (i : ℕ) (es : List Entry) (w : WorldState) → length events ≤ i → Ran shape events i es w → events_of es ≡ events
+ran_all shape events i es w past ran = ran.so_far ∙ take_all i events past
+
 -- the events up to one happened, and that one is refused
 pub first_refusal : (shape : ShapeFields) (events : List Event) (i : ℕ) (es : List Entry) (w : WorldState) (event : Event) (refusal : Refused) → i < length events → event ≡ get_or events i event → Ran shape events i es w → next w event ≡ Err refusal → IsFirstRefusal shape events refusal
 first_refusal shape events i es w event refusal lt is ran refused = record {
@@ -61,3 +66,10 @@ first_refusal shape events i es w event refusal lt is ran refused = record {
       ∙ ap (λ (xs : List Event). xs ++ event ∷ drop (i + 1) events) (sym ran.so_far));
   refused = refused;
 }
+
+-- a world that begins has its own shape
+pub begins : (p : WorldParts) (shape : ShapeFields) → world_state p ≡ first_world shape → world_state p ≡ first_world p.shape
+begins p shape is = is ∙ ap (λ (w : WorldState). first_world w.shape) (sym is)
+
+pub leads_from : (p : WorldParts) (shape : ShapeFields) (es : List Entry) (w : WorldState) → world_state p ≡ first_world shape → Leads (first_world p.shape) es w → Leads (first_world shape) es w
+leads_from p shape es w is leads = subst (λ (v : WorldState). Leads (first_world v.shape) es w) is leads

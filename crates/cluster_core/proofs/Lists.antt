@@ -1,11 +1,12 @@
 -- Lists of all things of a kind, put together.
-use Rattle.std.specs.Prelude.{◌≡◌, ℕ, suc, ◌+◌, ◌<◌, ◌≤◌, ◌⊎◌, List, [], ◌∷◌, ◌++◌, All, AllPairs, Contains, length, map}
+use Rattle.std.specs.Prelude.{◌≡◌, ℕ, suc, ◌+◌, ◌<◌, ◌≤◌, ◌⊎◌, List, [], ◌∷◌, ◌++◌, All, AllPairs, Contains, length, map, take, get_or}
 use Rattle.std.proofs.Common.{sym, ap, ◌∙◌, subst, inl, inr, arith, append_assoc}
 use Rattle.std.proofs.lemmas.Bool.{cases_lt}
-use Rattle.std.proofs.lemmas.List.{append-nil, get_or-map, length-map}
+use Rattle.std.proofs.lemmas.List.{append-nil, get_or-map, length-map, map-append, take_all}
 use Rattle.std.proofs.lemmas.List.Elements.{All-nil, All-append, All-head, All-tail, All-map, All-weaker, Contains-append_left, Contains-append_right}
 use Rattle.std.proofs.lemmas.List.Kept.{AllPairs-cons}
 use Rattle.cluster_core.specs.Listings.{Lists, Adds}
+use Rattle.cluster_core.proofs.Places.{take_read}
 
 -- what two facts of each make of it
 pub All-both : {A : Type 0} (P Q R : A → Type 0) → ((x : A) → P x → Q x → R x) → (xs : List A) → All P xs → All Q xs → All R xs
@@ -79,6 +80,16 @@ adds_same P Q Before old new to from p = (p.0, p.1, lists_same P Q Before p.0 to
 -- where nothing stood before, they are the list
 pub adds_all : {A : Type 0} (P : A → Type 0) (Before : A → A → Type 0) (new : List A) → Adds P Before [] new → Lists P Before new
 adds_all P Before new p = subst (Lists P Before) (sym p.1) p.2
+
+-- what f makes of a list, added element by element
+module _ {A B : Type 0} (f : A → B) (xs : List A) (i : ℕ) (old now : List B) (so_far : now ≡ old ++ map f (take i xs)) where
+  pub mapped_more : (x : A) (next : List B) → i < length xs → x ≡ get_or xs i x → next ≡ now ++ f x ∷ [] → next ≡ old ++ map f (take (i + 1) xs)
+  mapped_more x next lt is made =
+      let all : map f (take (i + 1) xs) ≡ map f (take i xs) ++ f x ∷ [] = ap (map f) (take_read xs i x lt is) ∙ map-append f (take i xs) (x ∷ []) in
+      made ∙ ap (λ (l : List B). l ++ f x ∷ []) so_far ∙ append_assoc old (map f (take i xs)) (f x ∷ []) ∙ ap (λ (l : List B). old ++ l) (sym all)
+
+  pub mapped_all : length xs ≤ i → now ≡ old ++ map f xs
+  mapped_all past = so_far ∙ ap (λ (l : List A). old ++ map f l) (take_all i xs past)
 
 -- things by a number that each has
 module _ {A : Type 0} (Is : A → Type 0) (number : A → ℕ) where

@@ -69,7 +69,7 @@ server_put p file next event o least most =
     })
 
 -- a node's step leaves the world one
-pub node_world : (p : WorldParts) (n : ℕ) (step : NodeEvent) (next : NodeParts) (o : Outcome) → 1 ≤ n → n ≤ p.shape.nodes → p.length < journal_limit → IsWorld p → node_rule ((world_state p).nodes n) step ≡ Ok (node_state next, o) → IsWorld (with_node_parts p n next o.sends)
+node_world : (p : WorldParts) (n : ℕ) (step : NodeEvent) (next : NodeParts) (o : Outcome) → 1 ≤ n → n ≤ p.shape.nodes → p.length < journal_limit → IsWorld p → node_rule ((world_state p).nodes n) step ≡ Ok (node_state next, o) → IsWorld (with_node_parts p n next o.sends)
 node_world p n step next o least most room world done =
     let steps = node_rule-steps ((world_state p).nodes n) step (node_state next, o) done in
     let there : n ≤ length p.nodes = omega (arith, world.nodes_there) in
@@ -82,7 +82,7 @@ node_world p n step next o least most room world done =
       within = omega arith;
     }
 
-pub server_world : (p : WorldParts) (file : ℕ) (next : ServerParts) (sends : List Message) → p.length < journal_limit → IsWorld p → IsWorld (with_server_parts p file next sends)
+server_world : (p : WorldParts) (file : ℕ) (next : ServerParts) (sends : List Message) → p.length < journal_limit → IsWorld p → IsWorld (with_server_parts p file next sends)
 server_world p file next sends room world = record {
   nodes_there = world.nodes_there;
   servers_there = length-set p.servers (file - 1) next ∙ world.servers_there;
@@ -98,7 +98,7 @@ names (Retry n pid) node step number call is own by = let P : NodeEvent → Type
 names (Resend file) node step number call is own by = absurd is
 
 -- the entry of a node's step names the call by its node
-pub node_names : (p : WorldParts) (event : Event) (n : ℕ) (step : NodeEvent) (next : NodeState) (o : Outcome) → IsWorld p → IsStepOf event n step → node_rule ((world_state p).nodes n) step ≡ Ok (next, o) → NamesItsCall event o.call
+node_names : (p : WorldParts) (event : Event) (n : ℕ) (step : NodeEvent) (next : NodeState) (o : Outcome) → IsWorld p → IsStepOf event n step → node_rule ((world_state p).nodes n) step ≡ Ok (next, o) → NamesItsCall event o.call
 node_names p event n step next o world is done =
     names event n step ((world_state p).nodes n).node o.call is (world.own_number n) (node_rule-steps ((world_state p).nodes n) step (next, o) done).named
 
@@ -131,7 +131,7 @@ read_server p file x world number is =
     read_number server_state (first_server p.shape) p.servers file x least most is
 
 -- the new world and the entry are what the rules say
-pub node_done : (p : WorldParts) (event : Event) (n : ℕ) (step : NodeEvent) (next : NodeParts) (o : Outcome) (fresh : WorldParts) (e : Entry) → IsWorld p → is_within p.shape.nodes n ≡ true → node_rule ((world_state p).nodes n) step ≡ Ok (node_state next, o) → fresh ≡ with_node_parts p n next o.sends → e ≡ entry event (named_incarnation ((world_state p).nodes n) event) o → after_node (world_state p) event n (node_rule ((world_state p).nodes n) step) ≡ Ok (world_state fresh, e)
+node_done : (p : WorldParts) (event : Event) (n : ℕ) (step : NodeEvent) (next : NodeParts) (o : Outcome) (fresh : WorldParts) (e : Entry) → IsWorld p → is_within p.shape.nodes n ≡ true → node_rule ((world_state p).nodes n) step ≡ Ok (node_state next, o) → fresh ≡ with_node_parts p n next o.sends → e ≡ entry event (named_incarnation ((world_state p).nodes n) event) o → after_node (world_state p) event n (node_rule ((world_state p).nodes n) step) ≡ Ok (world_state fresh, e)
 node_done p event n step next o fresh e world number done fresh_is e_is =
     let bounds = within_is p.shape.nodes n number in
     let least : 1 ≤ n = bounds.0 in
@@ -139,13 +139,65 @@ node_done p event n step next o fresh e world number done fresh_is e_is =
     let after : (recorded (with_node (world_state p) n (node_state next)) event (named_incarnation ((world_state p).nodes n) event) o).0 ≡ world_state fresh = node_put p n next event (named_incarnation ((world_state p).nodes n) event) o least most ∙ ap world_state (sym fresh_is) in
     ap (λ (r : Result (NodeState × Outcome) StepError). after_node (world_state p) event n r) done ∙ (λ i. Ok (after i, sym e_is i))
 
-pub server_done : (p : WorldParts) (event : Event) (file : ℕ) (step : ServerEvent) (next : ServerParts) (o : Outcome) (fresh : WorldParts) (e : Entry) → IsWorld p → is_within p.shape.files file ≡ true → server_rule ((world_state p).servers file) step ≡ Ok (server_state next, o) → fresh ≡ with_server_parts p file next o.sends → e ≡ entry event 0 o → after_server (world_state p) event file (server_rule ((world_state p).servers file) step) ≡ Ok (world_state fresh, e)
+server_done : (p : WorldParts) (event : Event) (file : ℕ) (step : ServerEvent) (next : ServerParts) (o : Outcome) (fresh : WorldParts) (e : Entry) → IsWorld p → is_within p.shape.files file ≡ true → server_rule ((world_state p).servers file) step ≡ Ok (server_state next, o) → fresh ≡ with_server_parts p file next o.sends → e ≡ entry event 0 o → after_server (world_state p) event file (server_rule ((world_state p).servers file) step) ≡ Ok (world_state fresh, e)
 server_done p event file step next o fresh e world number done fresh_is e_is =
     let bounds = within_is p.shape.files file number in
     let least : 1 ≤ file = bounds.0 in
     let most : file ≤ length p.servers = omega (arith, bounds.1, world.servers_there) in
     let after : (recorded (with_server (world_state p) file (server_state next)) event 0 o).0 ≡ world_state fresh = server_put p file next event o least most ∙ ap world_state (sym fresh_is) in
     ap (λ (r : Result (ServerState × Outcome) StepError). after_server (world_state p) event file r) done ∙ (λ i. Ok (after i, sym e_is i))
+
+-- a world whose parts were opened, with another node or server and more messages
+module _ (p now : WorldParts) (view : p ≡ now) (world : IsWorld p) (o : Outcome) (sent ms : List Message) (sent_is : sent ≡ p.sent ++ ms) (ms_are : ms ≡ o.sends) where
+  more : sent ≡ p.sent ++ o.sends
+  more = sent_is ∙ ap (λ (xs : List Message). p.sent ++ xs) ms_are
+
+  module _ (n : ℕ) (step : NodeEvent) (next : NodeParts) (nodes : List NodeParts) (nodes_are : nodes ≡ slice_set p.nodes (n - 1) next) (number : is_within now.shape.nodes n ≡ true) (done : node_rule ((world_state now).nodes n) step ≡ Ok (node_state next, o)) where
+    abbrev with_nodes : WorldParts
+    with_nodes = record { shape = p.shape; nodes = nodes; servers = p.servers; sent = sent; length = p.length + 1 }
+
+    nodes_made : with_nodes ≡ with_node_parts p n next o.sends
+    nodes_made = λ i. record { shape = p.shape; nodes = nodes_are i; servers = p.servers; sent = more i; length = p.length + 1 }
+
+    done_before : node_rule ((world_state p).nodes n) step ≡ Ok (node_state next, o)
+    done_before = subst (λ (q : WorldParts). node_rule ((world_state q).nodes n) step ≡ Ok (node_state next, o)) (sym view) done
+
+    within_before : is_within p.shape.nodes n ≡ true
+    within_before = subst (λ (q : WorldParts). is_within q.shape.nodes n ≡ true) (sym view) number
+
+    pub node_settled : now.length < journal_limit → IsWorld (record { shape = p.shape; nodes = nodes; servers = p.servers; sent = sent; length = p.length + 1 })
+    node_settled room =
+        let bounds = within_is p.shape.nodes n within_before in
+        let space = subst (λ (q : WorldParts). q.length < journal_limit) (sym view) room in
+        subst IsWorld (sym nodes_made) (node_world p n step next o bounds.0 bounds.1 space world done_before)
+
+    pub node_named : (event : Event) → IsStepOf event n step → NamesItsCall event o.call
+    node_named event is = node_names p event n step (node_state next) o world is done_before
+
+    pub node_returns : (event : Event) (incarnation : ℕ) (e : Entry) → incarnation ≡ named_incarnation ((world_state now).nodes n) event → e ≡ entry event incarnation o → after_node (world_state now) event n (node_rule ((world_state now).nodes n) step) ≡ Ok (world_state (record { shape = p.shape; nodes = nodes; servers = p.servers; sent = sent; length = p.length + 1 }), e)
+    node_returns event incarnation e incarnation_is e_is =
+        let named = e_is ∙ ap (λ k. entry event k o) (incarnation_is ∙ ap (λ q. named_incarnation ((world_state q).nodes n) event) (sym view)) in
+        subst (λ (q : WorldParts). after_node (world_state q) event n (node_rule ((world_state q).nodes n) step) ≡ Ok (world_state with_nodes, e)) view
+        (node_done p event n step next o with_nodes e world within_before done_before nodes_made named)
+
+  module _ (file : ℕ) (step : ServerEvent) (next : ServerParts) (servers : List ServerParts) (servers_are : servers ≡ slice_set p.servers (file - 1) next) where
+    abbrev with_servers : WorldParts
+    with_servers = record { shape = p.shape; nodes = p.nodes; servers = servers; sent = sent; length = p.length + 1 }
+
+    servers_made : with_servers ≡ with_server_parts p file next o.sends
+    servers_made = λ i. record { shape = p.shape; nodes = p.nodes; servers = servers_are i; sent = more i; length = p.length + 1 }
+
+    pub server_settled : now.length < journal_limit → IsWorld (record { shape = p.shape; nodes = p.nodes; servers = servers; sent = sent; length = p.length + 1 })
+    server_settled room =
+        let space = subst (λ (q : WorldParts). q.length < journal_limit) (sym view) room in
+        subst IsWorld (sym servers_made) (server_world p file next o.sends space world)
+
+    pub server_returns : (event : Event) (e : Entry) → is_within now.shape.files file ≡ true → server_rule ((world_state now).servers file) step ≡ Ok (server_state next, o) → e ≡ entry event 0 o → after_server (world_state now) event file (server_rule ((world_state now).servers file) step) ≡ Ok (world_state (record { shape = p.shape; nodes = p.nodes; servers = servers; sent = sent; length = p.length + 1 }), e)
+    server_returns event e number done e_is =
+        let within = subst (λ (q : WorldParts). is_within q.shape.files file ≡ true) (sym view) number in
+        let before = subst (λ (q : WorldParts). server_rule ((world_state q).servers file) step ≡ Ok (server_state next, o)) (sym view) done in
+        subst (λ (q : WorldParts). after_server (world_state q) event file (server_rule ((world_state q).servers file) step) ≡ Ok (world_state with_servers, e)) view
+        (server_done p event file step next o with_servers e world within before servers_made e_is)
 
 -- a world whose nodes and servers are as they began
 pub first_is_world : (p : WorldParts) → length p.nodes ≡ p.shape.nodes → length p.servers ≡ p.shape.files → IsRest node_state (λ n. first_node p.shape n 1) p.nodes → p.length ≤ journal_limit → IsWorld p

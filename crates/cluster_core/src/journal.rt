@@ -2,7 +2,9 @@
 ghost use Rattle.std.specs.Prelude.{◌≡◌, ◌≢◌, ◌++◌, ◌∷◌, [], IfOk, IfErr, OnOk};
 ghost use Rattle.messages.specs.declared.refusal.Refused.TheVariants.{NoMemory};
 ghost use Rattle.messages.specs.Shapes.{IsShape};
-ghost use Rattle.cluster_core.specs.Runs.{IsRun};
+ghost use Rattle.cluster_core.specs.World.{first_world};
+ghost use Rattle.cluster_core.specs.Parts.{world_state};
+ghost use Rattle.cluster_core.specs.Runs.{Leads, IsRun};
 ghost use Rattle.cluster_core.specs.Journals.{events_of, IsFirstRefusal};
 ghost use Rattle.cluster_core.specs.Histories.{HasOneHistory};
 ghost use Rattle.cluster_core.specs.Plain.{HasPlainHistory};
@@ -84,19 +86,37 @@ pub fn run(alloc: Global, shape: Shape, events: &[Event]) -> Result<Journal, Ref
     // Else the events before one happened, and that one is refused so.
     ensures refused { IfErr result (λ refusal. refusal ≢ NoMemory → IsFirstRefusal shape events.now refusal) }
 {
+    let entries = made(alloc, shape, events)?;
+    Ok(Journal { shape, entries })
+}
+
+// The entries of the events, which happen in a cluster that begins.
+fn made(alloc: Global, shape: Shape, events: &[Event]) -> Result<Vec<Entry>, Refused>
+    ensures served { OnOk result (IsShape shape) }
+    ensures events { IfOk result (λ entries. events_of entries.items ≡ events.now) }
+    ensures run { IfOk result (λ entries. IsRun shape entries.items) }
+    ensures refused { IfErr result (λ refusal. refusal ≢ NoMemory → IsFirstRefusal shape events.now refusal) }
+{
     let mut world = World::new(alloc, shape)?;
+    happened(alloc, &mut world, events)
+}
+
+// The entries of the events, which happen in a world that begins.
+fn happened(alloc: Global, world: &mut World, events: &[Event]) -> Result<Vec<Entry>, Refused>
+    requires { world_state world.old ≡ first_world world.old.shape }
+    ensures events { IfOk result (λ entries. events_of entries.items ≡ events.now) }
+    ensures leads { IfOk result (λ entries. Leads (first_world world.old.shape) entries.items (world_state world.new)) }
+    ensures refused { IfErr result (λ refusal. refusal ≢ NoMemory → IsFirstRefusal world.old.shape events.now refusal) }
+{
     let mut entries = Vec::new(alloc);
     for event in events {
         let entry = match world.step(alloc, *event) {
             Ok(entry) => entry,
             Err(refusal) => return Err(refusal),
         };
-        match add(&mut entries, entry) {
-            Ok(()) => {}
-            Err(_) => return Err(Refused::NoMemory),
-        }
+        add(&mut entries, entry)?;
     }
-    Ok(Journal { shape, entries })
+    Ok(entries)
 }
 
 // One more entry at the end.

@@ -230,8 +230,14 @@ impl World {
     {
         let incarnation = self.named_incarnation(event, node);
         let (next, outcome) = self.node_step(alloc, node, step)?;
-        self.sent.extend(outcome.sends.as_slice())?;
-        replace(&mut self.nodes, node as usize - 1, next);
+        let sends = outcome.sends.as_slice();
+        settle(
+            &mut self.nodes,
+            node as usize - 1,
+            next,
+            &mut self.sent,
+            sends,
+        )?;
         self.length += 1;
         Ok(Entry::at_node(*event, incarnation, outcome))
     }
@@ -252,8 +258,14 @@ impl World {
         ensures unchanged { OnErr result (self.new ≡ self.old) }
     {
         let (next, outcome) = self.server_step(alloc, file, step)?;
-        self.sent.extend(outcome.sends.as_slice())?;
-        replace(&mut self.servers, file as usize - 1, next);
+        let sends = outcome.sends.as_slice();
+        settle(
+            &mut self.servers,
+            file as usize - 1,
+            next,
+            &mut self.sent,
+            sends,
+        )?;
         self.length += 1;
         Ok(Entry::new(*event, outcome))
     }
@@ -345,10 +357,20 @@ impl World {
     }
 }
 
-// Another item in place of the one at an index.
-fn replace<T: Drop>(items: &mut Vec<T>, index: usize, item: T)
+// Another item in place of the one at an index, once these messages are sent.
+fn settle<T: Drop>(
+    items: &mut Vec<T>,
+    index: usize,
+    item: T,
+    sent: &mut Sent,
+    messages: &[Message],
+) -> Result<(), NoRoom>
     requires { index < length items.old.items }
-    ensures { items.new.items ≡ slice_set items.old.items index item }
+    ensures items { OnOk result (items.new.items ≡ slice_set items.old.items index item) }
+    ensures sent { OnOk result (sent.new ≡ sent.old ++ messages.now) }
+    ensures unchanged { OnErr result ((items.new.items ≡ items.old.items) × (sent.new ≡ sent.old)) }
 {
+    sent.extend(messages)?;
     items[index] = item;
+    Ok(())
 }
