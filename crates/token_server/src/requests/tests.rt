@@ -1,9 +1,10 @@
 //! Requests, by hand-made calls.
-ghost use Rattle.std.specs.Prelude.{◌≡◌, ◌≤◌, ◌≢◌};
+ghost use Rattle.std.specs.Prelude.{◌≡◌, ◌≤◌, [], IfOk};
 
 use super::*;
 use intervals::span::Span;
 use messages::message::Urgency;
+use messages::refusal::StepError;
 use messages::wanted::Wanted;
 use model::mode::Mode;
 use std::test::Fail;
@@ -36,46 +37,47 @@ fn request(incarnation: u16) -> Held
     }
 }
 
-// Requests of incarnation 3 and of these two.
-fn three(alloc: Global, second: u16, third: u16) -> Result<Requests, Fail>
-    requires second { (1 ≤ second) × (second ≢ 3) }
-    requires third { (1 ≤ third) × (third ≢ 3) }
-    requires apart { third ≢ second }
+// No requests, in a box: a test keeps no others, since these are dropped in fewer steps, each of which
+// the check proves.
+fn no_requests(alloc: Global) -> Result<Box<Requests>, StepError>
+    ensures { IfOk result (λ requests. requests.value ≡ []) }
 {
-    let mut requests = Requests::new(alloc);
+    Ok(Box::new(alloc, Requests::new(alloc))?)
+}
+
+// Adds requests of incarnations 3, 1 and 5.
+fn add_three(requests: &mut Requests) -> Result<(), NoMemory>
+    requires { requests.old ≡ [] }
+{
     requests.push(request(3))?;
-    requests.push(request(second))?;
-    requests.push(request(third))?;
-    Ok(requests)
+    requests.push(request(1))?;
+    requests.push(request(5))
 }
 
 #[test]
 fn finds_requests_by_their_calls(rt: HostRuntime) -> Result<(), Fail> {
-    let requests = three(rt.alloc(), 9, 5)?;
+    let mut requests = no_requests(rt.alloc())?;
+    add_three(&mut requests)?;
     assert!(rt; requests.has(first_call(5)));
     assert!(rt; !requests.has(first_call(4)));
     Ok(())
 }
 
-#[test]
-fn keeps_the_order_of_arrival(rt: HostRuntime) -> Result<(), Fail> {
-    let mut requests = three(rt.alloc(), 1, 5)?;
-    let before = requests.copy()?;
-    assert!(rt; requests.same(&before));
+// Whether a copy is the same requests until those of incarnations up to 2 are dropped.
+fn is_copied(requests: &mut Requests) -> Result<bool, NoMemory> {
+    let copy = requests.copy()?;
+    let were_same = requests.same(&copy);
     requests.forget(1, 2);
-    assert!(rt; !requests.same(&before));
-    assert_eq!(rt; requests.take_first(), Some(request(3)));
-    assert_eq!(rt; requests.take_first(), Some(request(5)));
-    assert_eq!(rt; requests.take_first(), None);
-    Ok(())
+    Ok(were_same && !requests.same(&copy))
 }
 
 #[test]
-fn tells_orders_apart(rt: HostRuntime) -> Result<(), Fail> {
-    let requests = three(rt.alloc(), 9, 5)?;
-    let same = three(rt.alloc(), 9, 5)?;
-    let turned = three(rt.alloc(), 5, 9)?;
-    assert!(rt; requests.same(&same));
-    assert!(rt; !requests.same(&turned));
+fn keeps_the_order_of_arrival(rt: HostRuntime) -> Result<(), Fail> {
+    let mut requests = no_requests(rt.alloc())?;
+    add_three(&mut requests)?;
+    assert!(rt; is_copied(&mut requests)?);
+    assert!(rt; requests.take_first() == Some(request(3)));
+    assert!(rt; requests.take_first() == Some(request(5)));
+    assert!(rt; requests.take_first().is_none());
     Ok(())
 }

@@ -118,25 +118,79 @@ fn taken(number: u32, call: CallId) -> ServerEvent {
     })
 }
 
-// Goes on from what the event gives; whether it sends just that message, or none.
-fn sends(
-    server: &mut Box<Server>,
-    alloc: Global,
+// An event, the one message that it must send, if there is one, and whether the server is another after
+// it.
+#[derive(Clone, Copy)]
+struct Move {
     event: ServerEvent,
     message: Option<Message>,
-) -> Result<bool, StepError> {
-    let (next, outcome) = server.step(alloc, &event)?;
-    *server = boxed(alloc, next)?;
-    Ok(match message {
-        Some(message) => outcome.sends.as_slice() == [message].as_slice(),
-        None => outcome.sends.is_empty(),
-    })
+    changes: bool,
 }
 
-// Whether the event sends nothing and changes nothing.
-fn stays(server: &Server, alloc: Global, event: ServerEvent) -> Result<bool, StepError> {
+fn sends(event: ServerEvent, message: Message) -> Move {
+    Move {
+        event,
+        message: Some(message),
+        changes: true,
+    }
+}
+
+// An event that sends nothing.
+fn keeps(event: ServerEvent) -> Move {
+    Move {
+        event,
+        message: None,
+        changes: true,
+    }
+}
+
+// An event that changes nothing and sends that message or none.
+fn stays(event: ServerEvent, message: Option<Message>) -> Move {
+    Move {
+        event,
+        message,
+        changes: false,
+    }
+}
+
+// Whether just that message was sent, or none.
+fn has_sent(outcome: &Outcome, message: Option<Message>) -> bool {
+    match message {
+        Some(message) => outcome.sends.as_slice() == [message].as_slice(),
+        None => outcome.sends.is_empty(),
+    }
+}
+
+// What the event gives.
+fn stepped(
+    alloc: Global,
+    server: &Server,
+    event: ServerEvent,
+) -> Result<(Box<Server>, Outcome), StepError> {
     let (next, outcome) = server.step(alloc, &event)?;
-    Ok(outcome.sends.is_empty() && next.same(server))
+    Ok((boxed(alloc, next)?, outcome))
+}
+
+// Goes on from what the event gives; whether this is what it must be.
+fn takes(alloc: Global, server: &mut Box<Server>, expected: &Move) -> Result<bool, StepError> {
+    let (next, outcome) = stepped(alloc, server, expected.event)?;
+    let changes = !next.same(server);
+    *server = next;
+    Ok(changes == expected.changes && has_sent(&outcome, expected.message))
+}
+
+// The place of the first event that comes to something else than it must, if there is one.
+fn first_wrong(
+    alloc: Global,
+    server: &mut Box<Server>,
+    moves: &[Move],
+) -> Result<Option<usize>, StepError> {
+    for (place, expected) in moves.iter().enumerate() {
+        if !takes(alloc, server, expected)? {
+            return Ok(Some(place));
+        }
+    }
+    Ok(None)
 }
 
 // Why the event is refused, if it is.
@@ -148,16 +202,19 @@ fn refusal(server: &Server, alloc: Global, event: ServerEvent) -> Option<StepErr
 fn grants_one_request_after_the_other(rt: HostRuntime) -> Result<(), Fail> {
     let alloc = rt.alloc();
     let (one, two) = (call(1, 1), call(1, 2));
+    let moves = [
+        sends(request(2, one), grant(1, one)),
+        stays(request(2, one), None),
+        keeps(request(2, two)),
+        stays(request(2, two), None),
+        stays(taken(2, one), None),
+        sends(taken(1, one), grant(2, two)),
+        keeps(taken(2, two)),
+        stays(taken(2, two), None),
+        sends(request(2, one), grant(3, one)),
+    ];
     let mut server = new_server(alloc)?;
-    assert!(rt; sends(&mut server, alloc, request(2, one), Some(grant(1, one)))?);
-    assert!(rt; stays(&server, alloc, request(2, one))?);
-    assert!(rt; sends(&mut server, alloc, request(2, two), None)?);
-    assert!(rt; stays(&server, alloc, request(2, two))?);
-    assert!(rt; stays(&server, alloc, taken(2, one))?);
-    assert!(rt; sends(&mut server, alloc, taken(1, one), Some(grant(2, two)))?);
-    assert!(rt; sends(&mut server, alloc, taken(2, two), None)?);
-    assert!(rt; stays(&server, alloc, taken(2, two))?);
-    assert!(rt; sends(&mut server, alloc, request(2, one), Some(grant(3, one)))?);
+    assert_eq!(rt; first_wrong(alloc, &mut server, &moves)?, None);
     Ok(())
 }
 
@@ -176,14 +233,14 @@ fn asks(call: CallId, mode: Mode, required: Span) -> ServerEvent {
     })
 }
 
-fn given(number: u32, call: CallId, mode: Mode, span: Span) -> Option<Message> {
-    Some(Message::Grant {
+fn given(number: u32, call: CallId, mode: Mode, span: Span) -> Message {
+    Message::Grant {
         file: 2,
         number,
         call,
         mode,
         span,
-    })
+    }
 }
 
 fn revoke(number: u32, call: CallId, mode: Mode, required: Span) -> Message {
@@ -238,30 +295,22 @@ fn freed() -> ServerEvent {
     })
 }
 
-// Whether the event sends just that message and changes nothing.
-fn repeats(
-    server: &Server,
-    alloc: Global,
-    event: ServerEvent,
-    message: Message,
-) -> Result<bool, StepError> {
-    let (next, outcome) = server.step(alloc, &event)?;
-    Ok(outcome.sends.as_slice() == [message].as_slice() && next.same(server))
-}
-
 #[test]
 fn sends_again_what_has_no_answer(rt: HostRuntime) -> Result<(), Fail> {
     let alloc = rt.alloc();
     let (one, two) = (call(1, 1), call(1, 2));
+    let moves = [
+        stays(ServerEvent::Resend, None),
+        sends(request(2, one), grant(1, one)),
+        keeps(request(2, two)),
+        stays(ServerEvent::Resend, Some(grant(1, one))),
+        sends(taken(1, one), grant(2, two)),
+        stays(ServerEvent::Resend, Some(grant(2, two))),
+        keeps(taken(2, two)),
+        stays(ServerEvent::Resend, None),
+    ];
     let mut server = new_server(alloc)?;
-    assert!(rt; stays(&server, alloc, ServerEvent::Resend)?);
-    assert!(rt; sends(&mut server, alloc, request(2, one), Some(grant(1, one)))?);
-    assert!(rt; sends(&mut server, alloc, request(2, two), None)?);
-    assert!(rt; repeats(&server, alloc, ServerEvent::Resend, grant(1, one))?);
-    assert!(rt; sends(&mut server, alloc, taken(1, one), Some(grant(2, two)))?);
-    assert!(rt; repeats(&server, alloc, ServerEvent::Resend, grant(2, two))?);
-    assert!(rt; sends(&mut server, alloc, taken(2, two), None)?);
-    assert!(rt; stays(&server, alloc, ServerEvent::Resend)?);
+    assert_eq!(rt; first_wrong(alloc, &mut server, &moves)?, None);
     Ok(())
 }
 
@@ -269,32 +318,43 @@ fn sends_again_what_has_no_answer(rt: HostRuntime) -> Result<(), Fail> {
 fn forgets_older_incarnations(rt: HostRuntime) -> Result<(), Fail> {
     let alloc = rt.alloc();
     let (old, young) = (call(1, 1), call(3, 1));
+    let moves = [
+        sends(request(2, old), grant(1, old)),
+        sends(request(2, young), grant(1, young)),
+        stays(request(2, call(2, 9)), None),
+        stays(taken(1, old), None),
+    ];
     let mut server = new_server(alloc)?;
-    assert!(rt; sends(&mut server, alloc, request(2, old), Some(grant(1, old)))?);
-    assert!(rt; sends(&mut server, alloc, request(2, young), Some(grant(1, young)))?);
-    assert!(rt; stays(&server, alloc, request(2, call(2, 9)))?);
-    assert!(rt; stays(&server, alloc, taken(1, old))?);
+    assert_eq!(rt; first_wrong(alloc, &mut server, &moves)?, None);
     Ok(())
+}
+
+// Whether the server refuses each of the events as one of a stranger.
+fn refuses(alloc: Global, server: &Server, events: &[ServerEvent]) -> bool {
+    for event in events {
+        if refusal(server, alloc, *event) != Some(StepError::Stranger) {
+            return false;
+        }
+    }
+    true
 }
 
 #[test]
 fn refuses_messages_for_others(rt: HostRuntime) -> Result<(), Fail> {
     let alloc = rt.alloc();
-    let server = new_server(alloc)?;
     let elsewhere = CallId {
         node: 3,
         incarnation: 1,
         number: 1,
     };
-    let stranger = Some(StepError::Stranger);
-    assert_eq!(rt; refusal(&server, alloc, request(3, call(1, 1))), stranger);
-    assert_eq!(rt; refusal(&server, alloc, request(2, elsewhere)), stranger);
-    for command in [grant(1, HELD), revoke(1, ASKS, Mode::Read, LOW)] {
-        assert_eq!(rt;
-            refusal(&server, alloc, ServerEvent::Deliver(command)),
-            stranger
-        );
-    }
+    let events = [
+        request(3, call(1, 1)),
+        request(2, elsewhere),
+        ServerEvent::Deliver(grant(1, HELD)),
+        ServerEvent::Deliver(revoke(1, ASKS, Mode::Read, LOW)),
+    ];
+    let server = new_server(alloc)?;
+    assert!(rt; refuses(alloc, &server, &events));
     Ok(())
 }
 
@@ -302,117 +362,115 @@ fn refuses_messages_for_others(rt: HostRuntime) -> Result<(), Fail> {
 fn gives_no_number_past_the_greatest(rt: HostRuntime) -> Result<(), Fail> {
     let alloc = rt.alloc();
     let (one, two) = (call(1, 1), call(1, 2));
+    let first = [sends(request(2, one), grant(1, one)), keeps(taken(1, one))];
+    let last = [
+        sends(request(2, two), grant(u32::MAX, two)),
+        keeps(taken(u32::MAX, two)),
+    ];
     let mut server = new_server(alloc)?;
-    assert!(rt; sends(&mut server, alloc, request(2, one), Some(grant(1, one)))?);
-    assert!(rt; sends(&mut server, alloc, taken(1, one), None)?);
+    assert_eq!(rt; first_wrong(alloc, &mut server, &first)?, None);
     server.clients.count_to(u32::MAX - 1);
-    assert!(rt;
-        sends(
-            &mut server,
-            alloc,
-            request(2, two),
-            Some(grant(u32::MAX, two))
-        )?
-    );
-    assert!(rt; sends(&mut server, alloc, taken(u32::MAX, two), None)?);
-    let before = boxed(alloc, server.copy()?)?;
-    assert_eq!(rt;
-        refusal(&server, alloc, request(2, one)),
-        Some(StepError::Spent)
-    );
-    assert!(rt; server.same(&before));
+    assert_eq!(rt; first_wrong(alloc, &mut server, &last)?, None);
+    let refused = refusal(&server, alloc, request(2, one));
+    assert_eq!(rt; refused, Some(StepError::Spent));
+    Ok(())
+}
+
+// Whether a copy is the same server.
+fn is_copied(server: &Server) -> Result<bool, StepError> {
+    let copy = server.copy()?;
+    Ok(copy.same(server))
+}
+
+#[test]
+fn a_copy_is_the_same_server(rt: HostRuntime) -> Result<(), Fail> {
+    let server = held(rt.alloc(), Mode::Write)?;
+    assert!(rt; is_copied(&server)?);
     Ok(())
 }
 
 // A server of whose file node 1 has all bytes in the mode, by its first command.
 fn held(alloc: Global, mode: Mode) -> Result<Box<Server>, Fail> {
     let mut server = new_server(alloc)?;
-    let _grant = sends(&mut server, alloc, asks(HELD, mode, LOW), None)?;
-    let _none = sends(&mut server, alloc, taken(1, HELD), None)?;
+    for event in [asks(HELD, mode, LOW), taken(1, HELD)] {
+        let _ = takes(alloc, &mut server, &keeps(event))?;
+    }
     Ok(server)
 }
 
 #[test]
 fn grants_what_a_holder_gave_up(rt: HostRuntime) -> Result<(), Fail> {
     let alloc = rt.alloc();
-    let mut server = held(alloc, Mode::Write)?;
     let wants = asks(ASKS, Mode::Write, HIGH);
     let revokes = revoke(2, ASKS, Mode::Write, HIGH);
     let grants = given(1, ASKS, Mode::Write, ABOVE);
-    assert!(rt; sends(&mut server, alloc, wants, Some(revokes))?);
-    assert!(rt; stays(&server, alloc, wants)?);
-    assert!(rt; stays(&server, alloc, released(1, ASKS, ABOVE))?);
-    assert!(rt; repeats(&server, alloc, ServerEvent::Resend, revokes)?);
-    assert!(rt; sends(&mut server, alloc, released(2, ASKS, ABOVE), grants)?);
-    assert!(rt; stays(&server, alloc, released(2, ASKS, ABOVE))?);
+    let moves = [
+        sends(wants, revokes),
+        stays(wants, None),
+        stays(released(1, ASKS, ABOVE), None),
+        stays(ServerEvent::Resend, Some(revokes)),
+        sends(released(2, ASKS, ABOVE), grants),
+        stays(released(2, ASKS, ABOVE), None),
+    ];
+    let mut server = held(alloc, Mode::Write)?;
+    assert_eq!(rt; first_wrong(alloc, &mut server, &moves)?, None);
     Ok(())
 }
 
 #[test]
 fn a_revoke_for_read_leaves_a_shared_token(rt: HostRuntime) -> Result<(), Fail> {
     let alloc = rt.alloc();
-    let mut server = held(alloc, Mode::Write)?;
-    let revokes = revoke(2, ASKS, Mode::Read, LOW);
-    let grants = given(1, ASKS, Mode::Read, WHOLE);
-    assert!(rt;
+    let moves = [
         sends(
-            &mut server,
-            alloc,
             asks(ASKS, Mode::Read, LOW),
-            Some(revokes)
-        )?
-    );
-    assert!(rt; sends(&mut server, alloc, released(2, ASKS, WHOLE), grants)?);
-    assert!(rt; sends(&mut server, alloc, taken(1, ASKS), None)?);
-    let again = revoke(3, NEXT, Mode::Write, LOW);
-    assert!(rt;
+            revoke(2, ASKS, Mode::Read, LOW),
+        ),
+        sends(released(2, ASKS, WHOLE), given(1, ASKS, Mode::Read, WHOLE)),
+        keeps(taken(1, ASKS)),
         sends(
-            &mut server,
-            alloc,
             asks(NEXT, Mode::Write, LOW),
-            Some(again)
-        )?
-    );
+            revoke(3, NEXT, Mode::Write, LOW),
+        ),
+    ];
+    let mut server = held(alloc, Mode::Write)?;
+    assert_eq!(rt; first_wrong(alloc, &mut server, &moves)?, None);
     Ok(())
 }
 
 #[test]
 fn a_lock_in_the_way_denies_the_call(rt: HostRuntime) -> Result<(), Fail> {
     let alloc = rt.alloc();
-    let mut server = held(alloc, Mode::Read)?;
-    let grants = given(1, ASKS, Mode::Read, WHOLE);
-    let revokes = revoke(2, NEXT, Mode::Write, LOW);
-    assert!(rt; sends(&mut server, alloc, asks(ASKS, Mode::Read, LOW), grants)?);
-    assert!(rt; sends(&mut server, alloc, taken(1, ASKS), None)?);
-    assert!(rt;
+    let moves = [
         sends(
-            &mut server,
-            alloc,
+            asks(ASKS, Mode::Read, LOW),
+            given(1, ASKS, Mode::Read, WHOLE),
+        ),
+        keeps(taken(1, ASKS)),
+        sends(
             asks(NEXT, Mode::Write, LOW),
-            Some(revokes)
-        )?
-    );
-    assert!(rt; stays(&server, alloc, freed())?);
-    assert!(rt; sends(&mut server, alloc, conflict(2, NEXT), Some(deny(NEXT, 2)))?);
-    assert!(rt; stays(&server, alloc, conflict(2, NEXT))?);
+            revoke(2, NEXT, Mode::Write, LOW),
+        ),
+        stays(freed(), None),
+        sends(conflict(2, NEXT), deny(NEXT, 2)),
+        stays(conflict(2, NEXT), None),
+    ];
+    let mut server = held(alloc, Mode::Read)?;
+    assert_eq!(rt; first_wrong(alloc, &mut server, &moves)?, None);
     Ok(())
 }
 
 #[test]
 fn a_conflict_denies_no_other_call(rt: HostRuntime) -> Result<(), Fail> {
     let alloc = rt.alloc();
-    let mut server = held(alloc, Mode::Write)?;
-    let revokes = revoke(2, NEXT, Mode::Write, LOW);
-    let again = revoke(3, NEXT, Mode::Write, LOW);
-    assert!(rt;
+    let moves = [
         sends(
-            &mut server,
-            alloc,
             asks(NEXT, Mode::Write, LOW),
-            Some(revokes)
-        )?
-    );
-    assert!(rt; sends(&mut server, alloc, conflict(2, ASKS), Some(again))?);
-    assert!(rt; sends(&mut server, alloc, conflict(3, NEXT), Some(deny(NEXT, 3)))?);
+            revoke(2, NEXT, Mode::Write, LOW),
+        ),
+        sends(conflict(2, ASKS), revoke(3, NEXT, Mode::Write, LOW)),
+        sends(conflict(3, NEXT), deny(NEXT, 3)),
+    ];
+    let mut server = held(alloc, Mode::Write)?;
+    assert_eq!(rt; first_wrong(alloc, &mut server, &moves)?, None);
     Ok(())
 }
