@@ -13,7 +13,7 @@ pub returns-clause-one_table : goal.returns-clause-one_table
 returns-clause-one_table c = every_run _ _ _ c.in_ok-entries.ensures.served c.in_ok-entries.ensures.run.1
 
 pub returns-clause-plain : goal.returns-clause-plain
-returns-clause-plain c = every_plain _ _ _ c.in_ok-world.ensures.within c.loop-event.invariant.leads
+returns-clause-plain c = every_plain _ _ _ c.in_ok-entries.ensures.served c.in_ok-entries.ensures.run.1
 
 pub returns-clause-safe : goal.returns-clause-safe
 returns-clause-safe c = λ w l. safe_run _ _ w c.in_ok-entries.ensures.served l
