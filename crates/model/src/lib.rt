@@ -18,5 +18,4 @@ pub mod opened;
 pub mod owner;
 pub mod policy;
 pub mod process;
-pub mod replay;
 pub mod reply;

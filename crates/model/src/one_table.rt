@@ -291,7 +291,7 @@ impl OneTable {
 
     // What a lock call is about, or the answer by the first of its tests that fails: the process,
     // the descriptor, the segment, the open mode.
-    pub(crate) fn target(
+    fn target(
         &self,
         process: Process,
         need: Option<Mode>,
@@ -324,7 +324,7 @@ impl OneTable {
     }
 
     // What the owner holds of the file.
-    pub(crate) fn bytes_of(&self, file: u16, owner: Owner) -> Result<VecMap<Mode>, NoMemory>
+    fn bytes_of(&self, file: u16, owner: Owner) -> Result<VecMap<Mode>, NoMemory>
         ensures { IfOk result (λ bytes. value_at bytes ≡ (table_of self.now).locks file owner) }
     {
         let alloc = *self.changes.allocator();
@@ -486,7 +486,7 @@ impl OneTable {
     }
 
     // An equal table.
-    pub(crate) fn copy(&self) -> Result<Self, NoMemory>
+    fn copy(&self) -> Result<Self, NoMemory>
         ensures { IfOk result (λ copy. copy ≡ self.now) }
     {
         Ok(OneTable {

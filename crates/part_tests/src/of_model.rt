@@ -1,3 +1,2 @@
 //! The one table.
 mod one_table;
-mod replay;
