@@ -1,7 +1,8 @@
 -- The tokens of two nodes never conflict, after any run.
-use Rattle.std.proofs.Common.{◌≡◌, ℕ, ◌+◌, ◌≤◌, true, if◌then◌else◌, ◌⊎◌, inl, inr, refl, sym, ◌∙◌, ap, subst, arith, List, [], ◌∷◌, ◌++◌, Option, Some, None, Result, Ok, Err}
+use Rattle.std.proofs.Common.{◌≡◌, ℕ, ◌+◌, ◌<◌, ◌≤◌, true, not, nat_le, nat_lt, ◌&&◌, if◌then◌else◌, ◌⊎◌, inl, inr, refl, sym, ◌∙◌, ap, subst, arith, List, [], ◌∷◌, ◌++◌, Option, Some, None, Result, Ok, Err}
 use Rattle.std.proofs.lemmas.Bool.{and_parts, cases_eq}
 use Rattle.std.specs.List.{range_with_len}
+use Rattle.std.proofs.lemmas.Bool.Decides.{nat_tests}
 use Rattle.std.proofs.lemmas.List.Elements.{All-nil}
 use Rattle.std.proofs.lemmas.Option.{none-some}
 use Rattle.model.specs.declared.call.CallId.{CallId}
@@ -9,16 +10,17 @@ use Rattle.model.specs.declared.host.Host.{Host}
 use Rattle.model.specs.declared.op.Op.{Op}
 use Rattle.token_set.specs.Tokens.{Token, no_token}
 use Rattle.messages.specs.Shapes.{ShapeFields}
-use Rattle.messages.specs.Messages.{addressee, host_of, file_of, is_among, sending}
+use Rattle.messages.specs.Messages.{addressee, host_of, file_of, is_among, is_within, sending}
 use Rattle.messages.specs.declared.actor.Actor.{Actor}
 use Rattle.messages.specs.declared.actor.Actor.TheVariants.{Node as ANode, Server as AServer}
 use Rattle.messages.specs.declared.message.Message.{Message}
 use Rattle.messages.specs.declared.message.Message.TheVariants.{Grant, Revoke, Deny}
 use Rattle.messages.specs.declared.event.Event.{Event}
-use Rattle.messages.specs.declared.event.Event.TheVariants.{Call, Deliver, Retry, Resend}
+use Rattle.messages.specs.declared.event.Event.TheVariants.{Call, Deliver, Retry, Resend, Declare, Restart, Learn}
 use Rattle.messages.specs.declared.entry.Entry.{Entry}
 use Rattle.messages.specs.declared.outcome.Outcome.{Outcome}
 use Rattle.messages.specs.declared.refusal.StepError.{StepError}
+use Rattle.messages.specs.declared.refusal.StepError.TheVariants.{Stranger}
 use Rattle.node_core.specs.declared.event.NodeEvent.TheVariants as node
 use Rattle.node_core.specs.State.{FileState, NodeState, Effect, open_call, open_call_of, outcome, quiet}
 use Rattle.node_core.specs.declared.open_call.OpenCall.{OpenCall}
@@ -27,25 +29,26 @@ use Rattle.node_core.specs.Calls.{after_call, called}
 use Rattle.node_core.specs.Commands.{delivered, deliver_rule}
 use Rattle.node_core.specs.Node.{node_rule}
 use Rattle.token_server.specs.declared.event.ServerEvent.TheVariants as server
-use Rattle.token_server.specs.State.{ServerState}
+use Rattle.token_server.specs.State.{ServerState, forgotten}
 use Rattle.token_server.specs.Serve.{serve}
 use Rattle.token_server.specs.Resends.{outstanding_of, outstanding, sending_first}
 use Rattle.token_server.specs.Server.{server_rule}
-use Rattle.cluster_core.specs.World.{WorldState, first_world}
-use Rattle.cluster_core.specs.Next.{is_known, has_actor, recorded, with_node, with_server, delivered as routed, taken, next}
+use Rattle.cluster_core.specs.World.{WorldState, first_world, has_node, has_file, was_declared}
+use Rattle.cluster_core.specs.Next.{is_known, has_actor, recorded, with_node, with_server, declared, restarted, delivered as routed, taken, next}
 use Rattle.cluster_core.specs.Runs.{Leads}
 use Rattle.cluster_core.specs.Safe.{Excludes, AreApart}
 use Rattle.cluster_core.specs.Numbers.{is_command, number_of, NumbersTellCommands, NoNumberIsUsedTwice}
 use Rattle.cluster_core.proofs.Choices.{at_number}
-use Rattle.cluster_core.proofs.Refusals.{ok_is}
+use Rattle.cluster_core.proofs.Refusals.{ok_is, unless_refused}
 use Rattle.cluster_core.proofs.KnownMessages.{sent_before, sent_now, sent_either}
 use Rattle.cluster_core.proofs.NodeSteps.{call_done, deliver_done, retry_done}
-use Rattle.cluster_core.proofs.Steps.{next_taken, node_step, server_step}
+use Rattle.cluster_core.proofs.Steps.{next_taken, node_step, server_step, declare_step, restart_step}
 use Rattle.cluster_core.proofs.Lowering.{IsWithin, within_itself, within_excludes}
 use Rattle.cluster_core.proofs.Talks.{Sent, IsHostOf, IsCommandTo, IsAnswerOf, same_answer_of, no_answer, command_host, answer_host, unasked, Talk, MayHold}
 use Rattle.cluster_core.proofs.TalkMoves.{NoNews, talk-no_news, may_hold-no_news, IsDoing, done_file, talk-does, may_hold-does, IsCommanding}
 use Rattle.cluster_core.proofs.NodeTokens.{Only, IsAsking, asking_host, asking_command, asking_answer, AsksFrom, Does, Receives, called_asks, quiet_asks, tried_if_asks, denied_asks, grant_receives, revoke_receives, first_among, only_none, only_one, only_mapped}
-use Rattle.cluster_core.proofs.ServerRows.{IsCurrent, Serves, IsDenial, denial_command, denial_answer, denial_known, Commands, Served, receives, outstanding_sent, serve_serves}
+use Rattle.cluster_core.proofs.ServerRows.{IsCurrent, Serves, forgets, IsDenial, denial_command, denial_answer, denial_known, Commands, Served, receives, outstanding_sent, serve_serves}
+use Rattle.cluster_core.proofs.Members.{declared_present, restarted_present, silent_present}
 use Rattle.cluster_core.proofs.Present.{Was, Holding, StayApart, Present, serves-no_news, apart-no_news, nothing_new, files_no_news, commanded_serves, commanded_apart}
 
 -- a host of an incarnation that its node has come to
@@ -384,6 +387,18 @@ module _ (w : WorldState) (p : Present w) where
       let old : Only (λ m. Was w m ⊎ IsDenial w.nodes m) (outstanding t) = only_mapped (λ m. Was w m ⊎ IsDenial w.nodes m) (λ n. outstanding_of (t.rows n)) (range_with_len 1 t.shape.nodes) (λ n m there. inl (sent n m there)) in
       subst P (ok_is _ done is) (again_present w p file made.0 (Resend file) (sending (outstanding t ++ made.1)) (outstanding t) made.1 refl old (serve_serves (Was w) w.nodes w.shape file t (p.serves file) made.0 made.1 served))
 
+  below : (a b : ℕ) → nat_lt a b ≡ true → a < b
+  below a b h = grind (arith, nat_tests, h)
+
+  -- a server learns of an incarnation that was declared: it is not the live one
+  learn_present : (file n i : ℕ) (r : Result (ServerState × List Message) StepError) (done : ServerState × Outcome) → i < (w.nodes n).incarnation → serve (forgotten (w.servers file) n i) ≡ r → sending_first [] r ≡ Ok done → Present (recorded (with_server w file done.0) (Learn file n i) 0 done.1).0
+  learn_present file n i (Err e) done older served is = absurd (cc)
+  learn_present file n i (Ok made) done older served is =
+      let t = w.servers file in
+      let P : ServerState × Outcome → Type 0 = λ d. Present (recorded (with_server w file d.0) (Learn file n i) 0 d.1).0 in
+      let young : Serves (Was w) w.nodes w.shape file (forgotten t n i) = forgets (Was w) w.nodes w.shape file t (p.serves file) n i older in
+      subst P (ok_is _ done is) (again_present w p file made.0 (Learn file n i) (sending made.1) [] made.1 refl (only_none (λ m. Was w m ⊎ IsDenial w.nodes m)) (serve_serves (Was w) w.nodes w.shape file (forgotten t n i) young made.0 made.1 served))
+
   -- a message goes to the actor that takes it
   message_present : (m : Message) (to : Actor) (q : WorldState × Entry) → Was w m → addressee m ≡ to → routed w m to ≡ Ok q → Present q.0
   message_present m (ANode n) q sent to h = node_step w (λ x. Present x.0) (Deliver m) n (node_rule (w.nodes n) (node.Deliver m)) q (λ done is. deliver_present n m done sent to is) h
@@ -409,6 +424,14 @@ module _ (w : WorldState) (p : Present w) where
   taken_present (Resend file) q known h =
       let t = w.servers file in
       server_step w (λ x. Present x.0) (Resend file) file (server_rule t server.Resend) q (λ done is. resend_present file (serve t) done refl is) h
+  taken_present (Declare n) q known h = declare_step w (λ x. Present x.0) n q (λ k is alive. silent_present (declared w k) (declared_present w p k) (Declare n) (w.nodes k).incarnation) h
+  taken_present (Restart n) q known h = restart_step w (λ x. Present x.0) n q (λ k is dead few. silent_present (restarted w k) (restarted_present w p k) (Restart n) (w.nodes k).incarnation) h
+  taken_present (Learn file n i) q known h =
+      let t = w.servers file in
+      let parts = and_parts (has_node w n) (was_declared w n i) (and_parts (has_file w file) (has_node w n && was_declared w n i) known).1 in
+      let older : i < (w.nodes n).incarnation = below i (w.nodes n).incarnation (and_parts (nat_le 1 i) (nat_lt i (w.nodes n).incarnation) parts.1).1 in
+      server_step w (λ x. Present x.0) (Learn file n i) file (server_rule t (server.Learn n i)) q
+      (λ done is. learn_present file n i (serve (forgotten t n i)) done older refl (unless_refused (not (is_within t.shape.nodes n)) _ done Stranger is).1) h
 
   -- each step keeps it
   pub next_present : (event : Event) (q : WorldState × Entry) → next w event ≡ Ok q → Present q.0

@@ -31,7 +31,7 @@ ran_empty shape events w is = record { leads = sym is; so_far = refl }
 
 -- the entry of a step is of its event
 pub entry_event : (w v : WorldState) (event : Event) (e : Entry) → next w event ≡ Ok (v, e) → e.event ≡ event
-entry_event w v event e step = next_step w (λ q. q.1.event ≡ event) event (v, e) (λ n s done is. refl) (λ file s done is. refl) step
+entry_event w v event e step = next_step w (λ q. q.1.event ≡ event) event (v, e) (λ n s done is. refl) (λ file s done is. refl) (λ n is alive. refl) (λ n is dead few. refl) step
 
 -- one more event happened
 pub ran_more : (shape : ShapeFields) (events : List Event) (i : ℕ) (es fs : List Entry) (w v : WorldState) (event : Event) (e : Entry) → i < length events → event ≡ get_or events i event → Ran shape events i es w → next w event ≡ Ok (v, e) → fs ≡ es ++ e ∷ [] → Ran shape events (i + 1) fs v

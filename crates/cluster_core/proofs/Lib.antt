@@ -47,4 +47,12 @@ pub mod TalkMoves
 pub mod NodeTokens
 pub mod ServerRows
 pub mod Present
+pub mod Members
+pub mod Hanging
+pub mod Anchors
+pub mod Failures
+pub mod Resting
+pub mod FailuresRow
+pub mod Fences
+pub mod MemberSteps
 pub mod Apart

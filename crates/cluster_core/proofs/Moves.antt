@@ -53,6 +53,7 @@ silent_moves past e s u g calls pending none silent holds = record {
   node = g.node;
   incarnation = g.incarnation;
   fresh = λ id h. absurd (not_there e.call id none h);
+  of_incarnation = λ id h. absurd (not_there e.call id none h);
   stay = stay_same s u e pending;
   ends = inr (inr silent);
 }
@@ -72,6 +73,7 @@ answer_moves past e s u c o undenied g calls none a holds = record {
   node = g.node;
   incarnation = g.incarnation;
   fresh = λ id h. absurd (not_there e.call id none h);
+  of_incarnation = λ id h. absurd (not_there e.call id none h);
   stay = stay_closed s u e c.number a.closed;
   ends = inl (
     record {
@@ -183,6 +185,7 @@ module _ (past : List Entry) (s : NodeState) (holds : Holds past s) where
           node = refl;
           incarnation = refl;
           fresh = λ id is. absurd (not_there e.call id refl is);
+          of_incarnation = λ id is. absurd (not_there e.call id refl is);
           stay = stay_closed s u e c.number refl;
           ends = inr (inl (record {
             file = file;
@@ -260,6 +263,7 @@ module _ (past : List Entry) (s : NodeState) (node pid : ℕ) (op : Op) (holds :
         fresh = λ other h.
             let is = same_Some id other h in
             (ap (λ (x : CallId). x.node) (sym is), λ n. not_named (subst (λ (x : CallId). IsNamed past x) (sym is) n));
+        of_incarnation = λ other h. ap (λ (x : CallId). x.incarnation) (sym (same_Some id other h));
         stay = elim t.ends [
           | inl a ↦ stay_closed s u e number a.closed
           | inr o ↦ stay_opened s u e o.call o.pending (named_by u o.call g.node g.incarnation o.number_is)

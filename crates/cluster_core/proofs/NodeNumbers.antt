@@ -26,6 +26,19 @@ delivered-node s (Revoke file number holder call mode wanted) = in_order-node s 
 delivered-node s (Deny file call holder number lock) = (denied_asks s lock (open_call s call.number)).node_is
 delivered-node s m = refl
 
+in_order-incarnation : (s : NodeState) (file number : ℕ) (e : Effect) → e.state.incarnation ≡ s.incarnation → (in_order s file number e).state.incarnation ≡ s.incarnation
+in_order-incarnation s file number e kept =
+    in_order_either (λ x. x.state.incarnation ≡ s.incarnation) s file number e (λ next. kept) (ap (λ (x : NodeState). x.incarnation) (remembered_state s (s.files file).answer)) refl
+
+-- and its incarnation
+delivered-incarnation : (s : NodeState) (m : Message) → (delivered s m).state.incarnation ≡ s.incarnation
+delivered-incarnation s (Grant file number call mode span) =
+    let next = after_command s file (raised (s.files file).token span mode) number (Taken file number call) (s.files file).asked in
+    in_order-incarnation s file number (granted s file number call mode span) (tried_if_asks next (open_call next call.number)).incarnation_is
+delivered-incarnation s (Revoke file number holder call mode wanted) = in_order-incarnation s file number (revoked s file number call mode wanted) refl
+delivered-incarnation s (Deny file call holder number lock) = (denied_asks s lock (open_call s call.number)).incarnation_is
+delivered-incarnation s m = refl
+
 -- a call is named by its node, and nothing else is named
 abbrev pub NamesBy : ℕ → NodeEvent → Option CallId → Type 0
 NamesBy node (Call pid op) None = ⊥
@@ -35,15 +48,16 @@ NamesBy node (Retry pid) call = call ≡ None
 
 pub record Steps (s : NodeState) (event : NodeEvent) (done : NodeState × Outcome) : Type 0 where
   pub node : done.0.node ≡ s.node
+  pub incarnation : done.0.incarnation ≡ s.incarnation
   pub named : NamesBy s.node event done.1.call
 
 pub node_rule-steps : (s : NodeState) (event : NodeEvent) (done : NodeState × Outcome) → node_rule s event ≡ Ok done → Steps s event done
 node_rule-steps s (Call pid op) done h =
     let counted = record s { calls = s.calls + 1 } in
-    subst (Steps s (Call pid op)) (call_done s pid op done h) (record { node = (called_asks counted (s.calls + 1) pid op).node_is; named = refl })
+    subst (Steps s (Call pid op)) (call_done s pid op done h) (record { node = (called_asks counted (s.calls + 1) pid op).node_is; incarnation = (called_asks counted (s.calls + 1) pid op).incarnation_is; named = refl })
 node_rule-steps s (Deliver m) done h = elim (deliver_done s m done h) [
-  | inl taken ↦ subst (Steps s (Deliver m)) taken.1 (record { node = delivered-node s m; named = refl })
-  | inr passed ↦ subst (Steps s (Deliver m)) passed (record { node = refl; named = refl })
+  | inl taken ↦ subst (Steps s (Deliver m)) taken.1 (record { node = delivered-node s m; incarnation = delivered-incarnation s m; named = refl })
+  | inr passed ↦ subst (Steps s (Deliver m)) passed (record { node = refl; incarnation = refl; named = refl })
 ]
 node_rule-steps s (Retry pid) done h =
-    subst (Steps s (Retry pid)) (retry_done s pid done h) (record { node = (tried_if_asks s (open_call_of s pid)).node_is; named = refl })
+    subst (Steps s (Retry pid)) (retry_done s pid done h) (record { node = (tried_if_asks s (open_call_of s pid)).node_is; incarnation = (tried_if_asks s (open_call_of s pid)).incarnation_is; named = refl })

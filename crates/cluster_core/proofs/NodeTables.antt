@@ -20,6 +20,7 @@ use Rattle.model.specs.Table.{Table, Target, empty_table, target, beside, with_p
 use Rattle.model.proofs.OwnerLaws.{owner_exact}
 use Rattle.model.proofs.DescriptorLaws.{lowest_description-number, lowest_fd-free}
 use Rattle.cluster_core.proofs.Choices.{if_either}
+use Rattle.cluster_core.proofs.Hanging.{Hangs, AreAnchored, IsAnchored, anchored_none, hangs_on, target_hangs}
 use Rattle.cluster_core.proofs.Targets.{IsTarget, target_is, target-keeps}
 
 -- only the node's own processes and locks stand in the table, with numbers that they can have
@@ -27,6 +28,7 @@ pub record IsOwn (t : Table) (node incarnation : ℕ) : Type 0 where
   pub others : (n i : ℕ) → ((n == node) && (i == incarnation)) ≡ false → t.on n i ≡ no_processes
   pub descriptions : (pid fd : ℕ) (o : Opened) → (t.on node incarnation).opened pid fd ≡ Some o → IsNumber most_descriptions o.description
   pub locks : (file : ℕ) → IsOfNode (t.locks file) node incarnation
+  pub anchored : IsAnchored t node incarnation
 
 -- the processes that ran go on, with their descriptors
 pub record GoesOn (before after : Processes) : Type 0 where
@@ -49,6 +51,7 @@ own_empty node incarnation = record {
   others = λ n i h. refl;
   descriptions = λ pid fd o h. absurd (none-some o h);
   locks = λ file. record { is_own = λ o b mode h. absurd (none-some mode h); ends = λ o b h. refl };
+  anchored = anchored_none empty_table.locks node incarnation (λ file owner b mode h. none-some mode h);
 }
 
 -- processes of the node
@@ -66,12 +69,18 @@ module _ (t : Table) (node incarnation pid : ℕ) where
   on_own : (ps : Processes) → (with_processes t (record { node = node; incarnation = incarnation; pid = pid }) ps).on node incarnation ≡ ps
   on_own ps = rw (itself node incarnation) refl
 
-  follows_with : (ps : Processes) → IsOwn t node incarnation → ((q fd : ℕ) (o : Opened) → ps.opened q fd ≡ Some o → IsNumber most_descriptions o.description) → GoesOn (t.on node incarnation) ps → Follows t (with_processes t (record { node = node; incarnation = incarnation; pid = pid }) ps) node incarnation
-  follows_with ps own numbers goes_on = record {
+  follows_with : (ps : Processes) → IsOwn t node incarnation → ((q fd : ℕ) (o : Opened) → ps.opened q fd ≡ Some o → IsNumber most_descriptions o.description) → ((q : ℕ) → ps.runs q ≡ true → IsNumber most_processes q) → ((q fd : ℕ) (o : Opened) → ps.opened q fd ≡ Some o → (ps.runs q ≡ true) × (fd < most_descriptors)) → GoesOn (t.on node incarnation) ps → Follows t (with_processes t (record { node = node; incarnation = incarnation; pid = pid }) ps) node incarnation
+  follows_with ps own numbers processes descriptors goes_on = record {
     own = record {
       others = λ n i h. rw h (own.others n i h);
       descriptions = λ q fd o h. numbers q fd o (ap (λ (x : Processes). x.opened q fd) (sym (on_own ps)) ∙ h);
       locks = own.locks;
+      anchored = subst (λ (x : Processes). AreAnchored x t.locks node incarnation) (sym (on_own ps)) (record {
+        numbers = processes;
+        descriptors = descriptors;
+        locks = λ file owner b mode node_is incarnation_is held.
+            hangs_on file owner.kind owner.number (t.on node incarnation) ps (λ q fd x h. goes_on.opened q fd x (own.anchored.descriptors q fd x h).0 h) (own.anchored.locks file owner b mode node_is incarnation_is held);
+      });
     };
     goes_on = subst (GoesOn (t.on node incarnation)) (sym (on_own ps)) goes_on;
   }
@@ -91,14 +100,25 @@ spawned_goes_on ps pid new = record {
   ];
 }
 
-pub spawn_follows : (t : Table) (node incarnation pid : ℕ) → IsOwn t node incarnation → Follows t (beside t (record { node = node; incarnation = incarnation; pid = pid }) (after_spawn (t.on node incarnation) pid)).0 node incarnation
-spawn_follows t node incarnation pid own =
+pub spawn_follows : (t : Table) (node incarnation pid : ℕ) → IsNumber most_processes pid → IsOwn t node incarnation → Follows t (beside t (record { node = node; incarnation = incarnation; pid = pid }) (after_spawn (t.on node incarnation) pid)).0 node incarnation
+spawn_follows t node incarnation pid pid_in own =
     let p : Process = record { node = node; incarnation = incarnation; pid = pid } in
     let ps = t.on node incarnation in
     let new = with_process ps pid true (λ fd. None) in
     elim (ps.runs pid) as (λ b. ps.runs pid ≡ b → Follows t (beside t p (if b then Err Exists else Ok (new, Done))).0 node incarnation) [
       | true ↦ λ h. same_follows t node incarnation own
-      | false ↦ λ h. follows_with t node incarnation pid new own (λ q fd o e. elim (chosen (q == pid) None (ps.opened q fd) (Some o) e) [ inl none ↦ absurd (none-some o none) | inr old ↦ own.descriptions q fd o old ]) (spawned_goes_on ps pid h)
+      | false ↦ λ h. follows_with t node incarnation pid new own (λ q fd o e. elim (chosen (q == pid) None (ps.opened q fd) (Some o) e) [ inl none ↦ absurd (none-some o none) | inr old ↦ own.descriptions q fd o old ])
+          (λ q r. elim (cases_Bool (q == pid)) [
+            | inl same ↦ subst (IsNumber most_processes) (sym (eqb-true q pid same)) pid_in
+            | inr other ↦ own.anchored.numbers q (ap (λ (b : Bool). if b then true else ps.runs q) (sym other) ∙ r)
+          ])
+          (λ q fd o e. elim (cases_Bool (q == pid)) [
+            | inl same ↦ absurd (none-some o (ap (λ (b : Bool). if b then None else ps.opened q fd) (sym same) ∙ e))
+            | inr other ↦
+                let was = own.anchored.descriptors q fd o (ap (λ (b : Bool). if b then None else ps.opened q fd) (sym other) ∙ e) in
+                (ap (λ (b : Bool). if b then true else ps.runs q) other ∙ was.0, was.1)
+          ])
+          (spawned_goes_on ps pid h)
     ] refl
 
 -- a descriptor opens
@@ -121,8 +141,8 @@ open_follows t node incarnation pid file access pid_in own =
     let o : Opened = record { file = file; description = lowest_description ps; access = access } in
     let fd = lowest_fd ps pid in
     let new = with_descriptor ps pid fd (Some o) in
-    elim (ps.runs pid) as (λ b. Follows t (beside t p (if b then on_lowest_fd ps pid o fd else Err NoProcess)).0 node incarnation) [
-      | true ↦ elim (nat_lt fd most_descriptors) as (λ b. nat_lt fd most_descriptors ≡ b → Follows t (beside t p (if b then Ok (new, Fd fd) else Err TooManyFiles)).0 node incarnation) [
+    elim (ps.runs pid) as (λ b. ps.runs pid ≡ b → Follows t (beside t p (if b then on_lowest_fd ps pid o fd else Err NoProcess)).0 node incarnation) [
+      | true ↦ λ runs. elim (nat_lt fd most_descriptors) as (λ b. nat_lt fd most_descriptors ≡ b → Follows t (beside t p (if b then Ok (new, Fd fd) else Err TooManyFiles)).0 node incarnation) [
         | true ↦ λ h.
             let lt : fd < most_descriptors = below fd h in
             let free = lowest_fd-free ps pid lt in
@@ -130,11 +150,19 @@ open_follows t node incarnation pid file access pid_in own =
             follows_with t node incarnation pid new own (λ q k w e. elim (chosen ((q == pid) && (k == fd)) (Some o) (ps.opened q k) (Some w) e) [
               | inl this ↦ subst (λ (x : Opened). IsNumber most_descriptions x.description) (same_Some o w this) number
               | inr old ↦ own.descriptions q k w old
-            ]) (opened_goes_on ps pid fd o free)
+            ])
+            own.anchored.numbers
+            (λ q k w e. elim (cases_Bool ((q == pid) && (k == fd))) [
+              | inl this ↦
+                  let both = and_parts (q == pid) (k == fd) this in
+                  (ap ps.runs (eqb-true q pid both.0) ∙ runs, subst (λ (j : ℕ). j < most_descriptors) (sym (eqb-true k fd both.1)) lt)
+              | inr other ↦ own.anchored.descriptors q k w (ap (λ (b : Bool). if b then Some o else ps.opened q k) (sym other) ∙ e)
+            ])
+            (opened_goes_on ps pid fd o free)
         | false ↦ λ h. same_follows t node incarnation own
       ] refl
-      | false ↦ same_follows t node incarnation own
-    ]
+      | false ↦ λ runs. same_follows t node incarnation own
+    ] refl
   where
     below : (k : ℕ) → nat_lt k 64 ≡ true → k < 64
     below k h = grind (arith, nat_tests, h)
@@ -160,8 +188,8 @@ locked_of_node h file f c s mode node incarnation place place_in owner within ow
   ];
 }
 
-pub lock_follows : (t : Table) (node incarnation : ℕ) (c : Target) (mode : Option Mode) → IsTarget node incarnation c → IsOwn t node incarnation → Follows t (lock_within t c mode).0 node incarnation
-lock_follows t node incarnation c mode is own =
+pub lock_follows : (t : Table) (node incarnation : ℕ) (c : Target) (mode : Option Mode) → IsTarget node incarnation c → Hangs (t.on node incarnation) c.file c.owner.kind c.owner.number → IsOwn t node incarnation → Follows t (lock_within t c mode).0 node incarnation
+lock_follows t node incarnation c mode is hangs own =
     let out : Bool → Table × Reply = λ b. if b then (locked t c mode, Done) else (t, NoLocks) in
     elim (nat_le (regions_with t c mode) most_regions) as (λ b. Follows t (out b).0 node incarnation) [
       | true ↦ record {
@@ -169,6 +197,18 @@ lock_follows t node incarnation c mode is own =
           others = own.others;
           descriptions = own.descriptions;
           locks = λ f. locked_of_node t.locks c.file f c.owner c.span mode node incarnation is.owner.place is.owner.place_in is.owner.is is.span.ends own.locks;
+          anchored = record {
+            numbers = own.anchored.numbers;
+            descriptors = own.anchored.descriptors;
+            locks = λ file owner b m node_is incarnation_is held. elim (cases_Bool ((c.file == file) && same_owner c.owner owner)) [
+              | inl this ↦
+                  let both = and_parts (c.file == file) (same_owner c.owner owner) this in
+                  let files = eqb-true c.file file both.0 in
+                  let owners = owner_exact c.owner owner both.1 in
+                  subst (λ (f : ℕ). Hangs (t.on node incarnation) f owner.kind owner.number) files (subst (λ (x : Owner). Hangs (t.on node incarnation) c.file x.kind x.number) owners hangs)
+              | inr other ↦ own.anchored.locks file owner b m node_is incarnation_is (rw other at held)
+            ];
+          };
         };
         goes_on = same_goes_on (t.on node incarnation);
       }
@@ -183,7 +223,7 @@ unlock_follows t node incarnation pid fd kind start len pid_in own =
     let p : Process = record { node = node; incarnation = incarnation; pid = pid } in
     let found = target t p None fd kind start len in
     elim found as (λ x. found ≡ x → Follows t (after_unlock t x).0 node incarnation) [
-      | Ok c ↦ λ h. lock_follows t node incarnation c None (target_own t node incarnation pid None fd kind start len c pid_in own h) own
+      | Ok c ↦ λ h. lock_follows t node incarnation c None (target_own t node incarnation pid None fd kind start len c pid_in own h) (target_hangs t p None fd kind start len c h) own
       | Err refusal ↦ λ h. same_follows t node incarnation own
     ] refl
 

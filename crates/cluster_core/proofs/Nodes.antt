@@ -14,7 +14,7 @@ use Rattle.model.specs.Table.{Table, Target}
 use Rattle.model.specs.Step.{Step}
 use Rattle.messages.specs.declared.message.Message.TheVariants.{Deny}
 use Rattle.messages.specs.declared.event.Event.{Event}
-use Rattle.messages.specs.declared.event.Event.TheVariants.{Deliver}
+use Rattle.messages.specs.declared.event.Event.TheVariants.{Deliver, Declare}
 use Rattle.messages.specs.declared.entry.Entry.{Entry}
 use Rattle.node_core.specs.declared.open_call.OpenCall.{OpenCall}
 use Rattle.node_core.specs.State.{NodeState, without_call, process, id_of, target_of}
@@ -167,6 +167,11 @@ abbrev pub IsNoDenial : Event → Type 0
 IsNoDenial (Deliver (Deny file call holder number lock)) = ⊥
 IsNoDenial _ = Unit {0}
 
+-- no node is declared failed
+abbrev pub IsNoDeclaration : Event → Type 0
+IsNoDeclaration (Declare node) = ⊥
+IsNoDeclaration _ = Unit {0}
+
 -- what an entry says of calls of this node
 abbrev pub Ends : List Entry → NodeState → NodeState → Entry → Type 0
 Ends past s u e = (IsExplained past s u e × IsNoDenial e.event) ⊎ (IsDenied s u e ⊎ IsSilent s u e.reply)
@@ -177,6 +182,7 @@ pub record Moves (past : List Entry) (s u : NodeState) (e : Entry) : Type 0 wher
   pub node : u.node ≡ s.node
   pub incarnation : u.incarnation ≡ s.incarnation
   pub fresh : (id : CallId) → e.call ≡ Some id → (id.node ≡ s.node) × (IsNamed past id → ⊥)
+  pub of_incarnation : (id : CallId) → e.call ≡ Some id → id.incarnation ≡ s.incarnation
   pub stay : StayOpen s u e
   pub ends : Ends past s u e
 

@@ -1,5 +1,5 @@
 -- Each step of the cluster keeps what holds of it and of its past, where tokens are apart and answers are known.
-use Rattle.std.proofs.Common.{◌≡◌, ℕ, ◌+◌, Bool, true, false, if◌then◌else◌, ◌&&◌, ◌||◌, ◌==◌, inl, inr, refl, sym, ◌∙◌, ap, subst, arith, nat_le, List, [], ◌∷◌, ◌++◌, append-nil, append_assoc, All, Option, Some, None, Result, Ok}
+use Rattle.std.proofs.Common.{◌≡◌, ℕ, ◌+◌, ◌≤◌, Bool, true, false, not, if◌then◌else◌, ◌&&◌, ◌||◌, ◌==◌, inl, inr, refl, sym, ◌∙◌, ap, subst, arith, nat_le, List, [], ◌∷◌, ◌++◌, append-nil, append_assoc, All, Option, Some, None, Result, Ok}
 use Rattle.std.specs.List.{list_any}
 use Rattle.std.proofs.lemmas.Bool.{and_parts, both_ways, cases_Bool, eqb-true, eq-eqb, false≢true, or_right}
 use Rattle.std.proofs.lemmas.Bool.Decides.{nat_tests}
@@ -22,7 +22,7 @@ use Rattle.messages.specs.declared.refusal.StepError.{StepError}
 use Rattle.messages.specs.declared.message.Message.{Message}
 use Rattle.messages.specs.declared.message.Message.TheVariants.{Request, Grant, Revoke, Taken, Released, Conflict, Deny, Freed}
 use Rattle.messages.specs.declared.event.Event.{Event}
-use Rattle.messages.specs.declared.event.Event.TheVariants.{Call, Deliver, Retry, Resend}
+use Rattle.messages.specs.declared.event.Event.TheVariants.{Call, Deliver, Retry, Resend, Declare, Restart, Learn}
 use Rattle.messages.specs.declared.entry.Entry.{Entry}
 use Rattle.messages.specs.declared.outcome.Outcome.{Outcome}
 use Rattle.node_core.specs.declared.event.NodeEvent.TheVariants as node
@@ -36,8 +36,8 @@ use Rattle.node_core.specs.Node.{node_rule}
 use Rattle.token_server.specs.declared.event.ServerEvent.TheVariants as server
 use Rattle.token_server.specs.State.{ServerState}
 use Rattle.token_server.specs.Server.{server_rule}
-use Rattle.cluster_core.specs.World.{WorldState, first_world, has_node}
-use Rattle.cluster_core.specs.Next.{has_actor, is_known, entry, recorded, with_node, after_node, after_server, taken, next}
+use Rattle.cluster_core.specs.World.{WorldState, first_world, most_incarnations, has_node}
+use Rattle.cluster_core.specs.Next.{has_actor, is_known, entry, recorded, with_node, after_node, after_server, declared, restarted, silent, taken, next}
 use Rattle.cluster_core.specs.Runs.{Leads}
 use Rattle.cluster_core.specs.Safe.{IsSafe}
 use Rattle.cluster_core.proofs.Heard.{IsHeard}
@@ -47,21 +47,22 @@ use Rattle.cluster_core.proofs.Placement.{slots_of, items_in, history_of}
 use Rattle.cluster_core.specs.Plain.{IsPlainHistory}
 use Rattle.cluster_core.proofs.Entries.{none_named, none_called, none_replied}
 use Rattle.cluster_core.proofs.NodeSteps.{IsTo, call_done, deliver_done, retry_done}
-use Rattle.cluster_core.proofs.Steps.{next_taken, node_step, server_step}
+use Rattle.cluster_core.proofs.Steps.{next_taken, next_unfenced, node_step, server_step, declare_step, restart_step}
 use Rattle.cluster_core.proofs.ServerSteps.{IsSending, server_rule-sending}
 use Rattle.cluster_core.proofs.NodeTables.{IsOwn, own_empty}
 use Rattle.cluster_core.proofs.Tries.{IsSilent}
-use Rattle.cluster_core.proofs.Nodes.{IsOpen, IsExplained, IsDenied, Moves, found_open}
+use Rattle.cluster_core.proofs.Nodes.{IsOpen, IsExplained, IsDenied, IsNoDeclaration, Moves, found_open}
 use Rattle.cluster_core.proofs.Moves.{delivered_receives, quiet_receives, retried_receives, call_moves}
 use Rattle.cluster_core.proofs.Lifting.{IsFreeElsewhere}
 use Rattle.cluster_core.proofs.Unbarred.{safe_free}
-use Rattle.cluster_core.proofs.Requested.{Comes, Makes, Tells, delivered-steps, resend-steps}
+use Rattle.cluster_core.proofs.Requested.{Comes, Makes, Tells, delivered-steps, resend-steps, learn-steps}
 use Rattle.cluster_core.proofs.Sends.{IsFreely, AsksFor, Conflicts, called-sends, tried_if-sends, delivered-sends}
 use Rattle.cluster_core.proofs.Slots.{slotted_first, all_slotted_first, slots_fit, slots_legal, slots_at_their_places}
 use Rattle.cluster_core.proofs.Plain.{plain_slots, plain_legal, plain_items}
+use Rattle.cluster_core.proofs.Placing.{declared_node}
 use Rattle.cluster_core.proofs.Witnesses.{IsAskedBy, Denies, Backed, HeldFor, StaysOpen, backed-keeps}
 use Rattle.cluster_core.proofs.Denials.{denies_now}
-use Rattle.cluster_core.proofs.Worlds.{Good, replied_named, server_good, node_good, stays, asks, leads_on, union_stays, others_stay}
+use Rattle.cluster_core.proofs.Worlds.{Good, replied_named, server_good, node_good, declared_good, restarted_good, stays, asks, leads_on, union_stays, others_stay}
 
 -- the message that is delivered
 message_in : Event → Option Message
@@ -71,6 +72,15 @@ message_in _ = None
 same_message_of : (m k : Message) → Deliver m ≡ Deliver k → m ≡ k
 unfolding message_in
 same_message_of m k h = same_Some m k (ap message_in h)
+
+-- the node that is restarted
+node_in : Event → ℕ
+node_in (Restart n) = n
+node_in _ = 0
+
+restarted_node : {m n : ℕ} → Restart m ≡ Restart n → m ≡ n
+unfolding node_in
+restarted_node h = ap node_in h
 
 -- a message that was sent is backed
 among_backed : (P : Message → Type 0) (ms : List Message) (m : Message) → All P ms → is_among ms m ≡ true → P m
@@ -138,13 +148,17 @@ module _ (shape : ShapeFields) (past : List Entry) (w : WorldState) (few : IsNum
   freely : (run : List Entry) (v : WorldState) → IsFreely (Backed shape run v)
   freely run v = record { taken = λ file number call. tt; released = λ file number holder call span. tt; freed = λ file holder. tt }
 
+  not-true-false : (b : Bool) → not b ≡ false → b ≡ true
+  not-true-false true h = refl
+  not-true-false false h = absurd (cc)
+
   -- a process that may call
-  process_in : (n pid : ℕ) (op : Op) → is_known w (Call n pid op) ≡ true → IsProcess (process (w.nodes n) pid)
-  process_in n pid op known =
+  process_in : (n pid : ℕ) (op : Op) → is_known w (Call n pid op) ≡ true → w.alive n ≡ true → IsProcess (process (w.nodes n) pid)
+  process_in n pid op known alive =
       let parts = and_parts (has_node w n) (is_pid pid && is_in_shape w.shape op) known in
       let node : IsNumber most_nodes n = within (w.shape.nodes) n few parts.0 in
       record {
-        host = record { node_in = subst (IsNumber most_nodes) (sym (g.named n)) node; incarnation_in = g.incarnations n };
+        host = record { node_in = subst (IsNumber most_nodes) (sym (g.named n)) node; incarnation_in = let given = g.incarnations n in (given.0, given.1 alive) };
         pid_in = number most_processes pid (and_parts (is_pid pid) (is_in_shape w.shape op) parts.1).0;
       }
     where
@@ -161,7 +175,7 @@ module _ (shape : ShapeFields) (past : List Entry) (w : WorldState) (few : IsNum
           (is.0, omega arith)
 
   -- a step of a node, whatever the event
-  module _ (n : ℕ) (u : NodeState) (event : Event) (incarnation : ℕ) (o : Outcome) (there : has_node w n ≡ true) (moves : Moves past (w.nodes n) u (entry event incarnation o)) (known : (m : Message) → event ≡ Deliver m → is_among w.sent m ≡ true) where
+  module _ (n : ℕ) (u : NodeState) (event : Event) (incarnation : ℕ) (o : Outcome) (there : has_node w n ≡ true) (moves : Moves past (w.nodes n) u (entry event incarnation o)) (known : (m : Message) → event ≡ Deliver m → is_among w.sent m ≡ true) (undeclared : IsNoDeclaration event) where
     abbrev made : Entry
     made = entry event incarnation o
 
@@ -182,18 +196,18 @@ module _ (shape : ShapeFields) (past : List Entry) (w : WorldState) (few : IsNum
       denied d = known_backed (Deny d.file d.call d.holder d.number d.lock) (known (Deny d.file d.call d.holder d.number d.lock) d.is_deny)
 
       pub keeps : ((asks : AsksFor (Backed shape (past ++ made ∷ []) later) u) → All (Backed shape (past ++ made ∷ []) later) o.sends) → IsSafe later → IsNumber most_nodes w.shape.nodes × Good shape (past ++ made ∷ []) later
-      keeps sends safe = (few, node_good shape past w n u event incarnation o g made_so moves not_strange (free safe) denied (sends (asks shape past w n u event incarnation o g made_so moves not_strange)))
+      keeps sends safe = (few, node_good shape past w n u event incarnation o g made_so moves not_strange (free safe) denied (sends (asks shape past w n u event incarnation o g made_so moves not_strange)) undeclared)
 
   call_good : (n pid : ℕ) (op : Op) → is_known w (Call n pid op) ≡ true → After (Call n pid op) (recorded (with_node w n (after_call (w.nodes n) pid op).0) (Call n pid op) 0 (after_call (w.nodes n) pid op).1)
   call_good n pid op known made_so safe =
       let s = w.nodes n in
       let r = after_call s pid op in
       let event = Call n pid op in
-      let moves = call_moves past s n pid op (g.holds n) (g.named n) (process_in n pid op known) (replied_named shape past w g) in
+      let moves = call_moves past s n pid op (g.holds n) (g.named n) (process_in n pid op known (not-true-false (w.alive n) (next_unfenced w event _ made_so))) (replied_named shape past w g) in
       let there = (and_parts (has_node w n) (is_pid pid && is_in_shape w.shape op) known).0 in
       let run = past ++ entry event 0 r.1 ∷ [] in
       let v = (recorded (with_node w n r.0) event 0 r.1).0 in
-      keeps n r.0 event 0 r.1 there moves (λ m h. absurd (cc)) made_so (called-sends (Backed shape run v) (freely run v) (record s { calls = s.calls + 1 }) (s.calls + 1) pid op) safe
+      keeps n r.0 event 0 r.1 there moves (λ m h. absurd (cc)) tt made_so (called-sends (Backed shape run v) (freely run v) (record s { calls = s.calls + 1 }) (s.calls + 1) pid op) safe
 
   retry_good : (n pid : ℕ) (done : NodeState × Outcome) → has_node w n ≡ true → retry_rule (w.nodes n) pid ≡ Ok done → After (Retry n pid) (recorded (with_node w n done.0) (Retry n pid) (w.nodes n).incarnation done.1)
   retry_good n pid done there h =
@@ -207,7 +221,7 @@ module _ (shape : ShapeFields) (past : List Entry) (w : WorldState) (few : IsNum
       let run = past ++ entry event s.incarnation o ∷ [] in
       let v = (recorded (with_node w n effect.state) event s.incarnation o).0 in
       let test : OpenCall → Bool = λ c. c.pid == pid in
-      subst P is (λ made_so safe. keeps n effect.state event s.incarnation o there received.moves (λ m h. absurd (cc)) made_so (tried_if-sends (Backed shape run v) (freely run v) s (open_call_of s pid) (λ c f. (found_open test s.pending c f).0)) safe)
+      subst P is (λ made_so safe. keeps n effect.state event s.incarnation o there received.moves (λ m h. absurd (cc)) tt made_so (tried_if-sends (Backed shape run v) (freely run v) s (open_call_of s pid) (λ c f. (found_open test s.pending c f).0)) safe)
 
   -- a message for another incarnation does nothing
   idle_good : (n : ℕ) (m : Message) → has_node w n ≡ true → is_among w.sent m ≡ true → After (Deliver m) (recorded (with_node w n (w.nodes n)) (Deliver m) 0 (outcome None (quiet (w.nodes n))).1)
@@ -218,7 +232,7 @@ module _ (shape : ShapeFields) (past : List Entry) (w : WorldState) (few : IsNum
       let run = past ++ entry event 0 o ∷ [] in
       let v = (recorded (with_node w n s) event 0 o).0 in
       let received = quiet_receives past s (g.holds n) event (quiet s) refl refl in
-      keeps n s event 0 o there received.moves (λ k h. subst (λ (x : Message). is_among w.sent x ≡ true) (same_message_of m k h) known) made_so (λ all. All-nil (Backed shape run v)) safe
+      keeps n s event 0 o there received.moves (λ k h. subst (λ (x : Message). is_among w.sent x ≡ true) (same_message_of m k h) known) tt made_so (λ all. All-nil (Backed shape run v)) safe
 
   -- a message for the node in its incarnation
   module _ (n : ℕ) (m : Message) (there : has_node w n ≡ true) (known : is_among w.sent m ≡ true) (to : IsTo (w.nodes n) m) where
@@ -304,7 +318,7 @@ module _ (shape : ShapeFields) (past : List Entry) (w : WorldState) (few : IsNum
 
     pub delivered_good : After (Deliver m) (recorded (with_node w n effect.state) (Deliver m) 0 told)
     delivered_good made_so safe =
-        keeps n effect.state (Deliver m) 0 told there its_moves (λ k h. subst (λ (x : Message). is_among w.sent x ≡ true) (same_message_of m k h) known) made_so
+        keeps n effect.state (Deliver m) 0 told there its_moves (λ k h. subst (λ (x : Message). is_among w.sent x ≡ true) (same_message_of m k h) known) tt made_so
         (delivered-sends (Backed shape run v) (freely run v) s m (remembers made_so) (conflicts made_so m refl)) safe
 
   message_good : (n : ℕ) (m : Message) (done : NodeState × Outcome) → has_node w n ≡ true → is_among w.sent m ≡ true → deliver_rule (w.nodes n) m ≡ Ok done → After (Deliver m) (recorded (with_node w n done.0) (Deliver m) 0 done.1)
@@ -320,24 +334,35 @@ module _ (shape : ShapeFields) (past : List Entry) (w : WorldState) (few : IsNum
   abbrev Serves : ℕ → Result (ServerState × Outcome) StepError → Type 0
   Serves file r = (done : ServerState × Outcome) → r ≡ Ok done → Comes file (HeldFor shape past file) (Backed shape past w) done.0 × All (Backed shape past w) done.1.sends
 
-  server_next : (event : Event) (file : ℕ) (r : Result (ServerState × Outcome) StepError) (p : WorldState × Entry) → ((done : ServerState × Outcome) → r ≡ Ok done → IsSending done) → Serves file r → after_server w event file r ≡ Ok p → After event p
-  server_next event file r p sends serves h = server_step w (After event) event file r p (λ done is.
+  server_next : (event : Event) (file : ℕ) (r : Result (ServerState × Outcome) StepError) (p : WorldState × Entry) → ((done : ServerState × Outcome) → r ≡ Ok done → IsSending done) → IsNoDeclaration event → Serves file r → after_server w event file r ≡ Ok p → After event p
+  server_next event file r p sends undeclared serves h = server_step w (After event) event file r p (λ done is.
       let both = sends done is in
       let kept = serves done is in
-      λ made_so safe. (few, server_good shape past w file done.0 event done.1 both.0 both.1 g made_so kept.0 kept.1)) h
+      λ made_so safe. (few, server_good shape past w file done.0 event done.1 both.0 both.1 undeclared g made_so kept.0 kept.1)) h
 
   told_good : (m : Message) (file : ℕ) (p : WorldState × Entry) → Tells file (HeldFor shape past file) (Backed shape past w) m → after_server w (Deliver m) file (server_rule (w.servers file) (server.Deliver m)) ≡ Ok p → After (Deliver m) p
   told_good m file p tells h =
       let t = w.servers file in
-      server_next (Deliver m) file (server_rule t (server.Deliver m)) p (λ done is. server_rule-sending t (server.Deliver m) done is) (delivered-steps file (HeldFor shape past file) (Backed shape past w) (makes file) t m tells (g.comes file)) h
+      server_next (Deliver m) file (server_rule t (server.Deliver m)) p (λ done is. server_rule-sending t (server.Deliver m) done is) tt (delivered-steps file (HeldFor shape past file) (Backed shape past w) (makes file) t m tells (g.comes file)) h
 
   resend_good : (file : ℕ) (p : WorldState × Entry) → after_server w (Resend file) file (server_rule (w.servers file) server.Resend) ≡ Ok p → After (Resend file) p
   resend_good file p h =
       let t = w.servers file in
-      server_next (Resend file) file (server_rule t server.Resend) p (λ done is. server_rule-sending t server.Resend done is) (resend-steps file (HeldFor shape past file) (Backed shape past w) (makes file) t (g.comes file)) h
+      server_next (Resend file) file (server_rule t server.Resend) p (λ done is. server_rule-sending t server.Resend done is) tt (resend-steps file (HeldFor shape past file) (Backed shape past w) (makes file) t (g.comes file)) h
+
+  learn_good : (file n i : ℕ) (p : WorldState × Entry) → after_server w (Learn file n i) file (server_rule (w.servers file) (server.Learn n i)) ≡ Ok p → After (Learn file n i) p
+  learn_good file n i p h =
+      let t = w.servers file in
+      server_next (Learn file n i) file (server_rule t (server.Learn n i)) p (λ done is. server_rule-sending t (server.Learn n i) done is) tt (learn-steps file (HeldFor shape past file) (Backed shape past w) (makes file) t n i (g.comes file)) h
 
   node_told : (n : ℕ) (m : Message) (p : WorldState × Entry) → has_node w n ≡ true → is_among w.sent m ≡ true → after_node w (Deliver m) n (node_rule (w.nodes n) (node.Deliver m)) ≡ Ok p → After (Deliver m) p
   node_told n m p there known h = node_step w (After (Deliver m)) (Deliver m) n (node_rule (w.nodes n) (node.Deliver m)) p (λ done is. message_good n m done there known is) h
+
+  declare_good : (n k : ℕ) → is_known w (Declare n) ≡ true → Declare n ≡ Declare k → After (Declare n) (silent (declared w k) (Declare n) (w.nodes k).incarnation)
+  declare_good n k known is = subst (λ (j : ℕ). After (Declare n) (silent (declared w j) (Declare n) (w.nodes j).incarnation)) (declared_node is) (λ made_so safe. (few, declared_good shape past w n known g made_so))
+
+  restart_good : (n k : ℕ) → Restart n ≡ Restart k → (w.nodes k).incarnation ≤ most_incarnations → After (Restart n) (silent (restarted w k) (Restart n) (w.nodes k).incarnation)
+  restart_good n k is = subst (λ (j : ℕ). (w.nodes j).incarnation ≤ most_incarnations → After (Restart n) (silent (restarted w j) (Restart n) (w.nodes j).incarnation)) (restarted_node is) (λ small made_so safe. (few, restarted_good shape past w n small g made_so))
 
   taken_good : (event : Event) (p : WorldState × Entry) → is_known w event ≡ true → taken w event ≡ Ok p → After event p
   taken_good (Call n pid op) p known h =
@@ -368,6 +393,9 @@ module _ (shape : ShapeFields) (past : List Entry) (w : WorldState) (few : IsNum
   taken_good (Deliver (Freed file holder)) p known h = told_good (Freed file holder) file p tt h
   taken_good (Retry n pid) p known h = node_step w (After (Retry n pid)) (Retry n pid) n (node_rule (w.nodes n) (node.Retry pid)) p (λ done is. retry_good n pid done (and_parts (has_node w n) (is_pid pid) known).0 is) h
   taken_good (Resend file) p known h = resend_good file p h
+  taken_good (Learn file n i) p known h = learn_good file n i p h
+  taken_good (Declare n) p known h = declare_step w (After (Declare n)) n p (λ k is alive. declare_good n k known is) h
+  taken_good (Restart n) p known h = restart_step w (After (Restart n)) n p (λ k is dead small. restart_good n k is small) h
 
   pub next_good : (event : Event) (p : WorldState × Entry) → next w event ≡ Ok p → IsSafe p.0 → IsNumber most_nodes p.0.shape.nodes × Good shape (past ++ p.1 ∷ []) p.0
   next_good event p h safe =
@@ -379,7 +407,8 @@ good_first : (shape : ShapeFields) → Good shape [] (first_world shape)
 good_first shape = record {
   leads = refl;
   named = λ n. refl;
-  incarnations = λ n. (omega arith, omega arith);
+  incarnations = λ n. (omega arith, λ h. omega arith);
+  young = λ id named. absurd (none_named id named);
   holds = λ n. record {
     own = own_empty n 1;
     waiting = All-nil (IsOpen [] ((first_world shape).nodes n));

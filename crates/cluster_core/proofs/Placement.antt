@@ -5,11 +5,11 @@ use Rattle.model.specs.declared.op.Op.{Op}
 use Rattle.model.specs.declared.reply.Reply.{Reply}
 use Rattle.messages.specs.declared.event.Event.{Event}
 use Rattle.messages.specs.declared.message.Message.TheVariants.{Deny}
-use Rattle.messages.specs.declared.event.Event.TheVariants.{Call, Deliver}
+use Rattle.messages.specs.declared.event.Event.TheVariants.{Call, Deliver, Declare}
 use Rattle.messages.specs.declared.entry.Entry.{Entry}
 use Rattle.messages.specs.Messages.{same_call}
 use Rattle.cluster_core.specs.declared.item.Item.{Item}
-use Rattle.cluster_core.specs.declared.item.Item.TheVariants.{Answered}
+use Rattle.cluster_core.specs.declared.item.Item.TheVariants.{Answered, Gone}
 use Rattle.cluster_core.specs.Histories.{names_conflict}
 
 -- the name is this one
@@ -45,9 +45,14 @@ abbrev pub placed_by : List Entry → Slots → Event → (ℕ → Option Item) 
 placed_by past slots (Deliver (Deny file call holder number lock)) item = filled (slots ++ None ∷ []) (position (names_conflict file holder number) past) item
 placed_by past slots _ item = slots ++ item (length past + 1) ∷ []
 
+-- the failure of a node that the event declares
+abbrev pub gone_at : ℕ → ℕ → Event → Option Item
+gone_at at incarnation (Declare node) = Some (Gone at node incarnation)
+gone_at at incarnation _ = None
+
 -- one more slot, for an entry with this reply
 abbrev pub slots_after : List Entry → Slots → Entry → Option (CallId × Reply) → Slots
-slots_after past slots e None = slots ++ None ∷ []
+slots_after past slots e None = slots ++ gone_at (length past + 1) e.incarnation e.event ∷ []
 slots_after past slots e (Some r) = placed_by past slots e.event (λ at. item_of at r.0 r.1 (find_call (past ++ e ∷ []) r.0))
 
 -- those of the entries after those that are past

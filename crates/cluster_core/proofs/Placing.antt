@@ -14,20 +14,20 @@ use Rattle.messages.specs.Shapes.{ShapeFields}
 use Rattle.messages.specs.declared.message.Message.{Message}
 use Rattle.messages.specs.declared.message.Message.TheVariants.{Conflict, Deny}
 use Rattle.messages.specs.declared.event.Event.{Event}
-use Rattle.messages.specs.declared.event.Event.TheVariants.{Deliver}
+use Rattle.messages.specs.declared.event.Event.TheVariants.{Deliver, Declare}
 use Rattle.messages.specs.declared.entry.Entry.{Entry}
 use Rattle.cluster_core.specs.declared.item.Item.{Item}
 use Rattle.cluster_core.specs.declared.item.Item.TheVariants.{Answered, Gone}
 use Rattle.cluster_core.specs.World.{WorldState, first_world}
 use Rattle.cluster_core.specs.Runs.{Leads}
 use Rattle.cluster_core.specs.Union.{union}
-use Rattle.cluster_core.specs.Histories.{caller, names_conflict, ItemStep, EntryAt, IsRevokedAt, IsPlaceOf, OneCall}
+use Rattle.cluster_core.specs.Histories.{caller, names_conflict, ItemStep, EntryAt, IsRevokedAt, IsPlaceOf, IsDeclaredAt, OneCall}
 use Rattle.cluster_core.specs.Evidence.{IsWorldAfter, HasEvidence}
-use Rattle.cluster_core.proofs.Placement.{Slots, find_call, item_of, filled, placed_by, slots_after, slots_of}
+use Rattle.cluster_core.proofs.Placement.{Slots, find_call, item_of, filled, gone_at, placed_by, slots_after, slots_of}
 use Rattle.cluster_core.proofs.Places.{slice_get-keeps, slice_get-last}
 use Rattle.cluster_core.proofs.Entries.{not_there, same_answer, Unanswered, entry_at-keeps, entry_at-last, entry_at-within, called_at-keeps, replied_at-last}
 use Rattle.cluster_core.proofs.Fitting.{Called, called-keeps}
-use Rattle.cluster_core.proofs.Nodes.{IsNoDenial}
+use Rattle.cluster_core.proofs.Nodes.{IsNoDenial, IsNoDeclaration}
 use Rattle.cluster_core.proofs.Prefixes.{table_at, table_at-is, after_all, after-keeps}
 use Rattle.cluster_core.proofs.Slots.{SlotStep, Slotted, AllSlotted, HasSlot, Stands, IsStanding, position-first, slots_of-push, slice_get-set, step_between, slotted-push, slotted-fill, has_slot-set, has_slot-keeps, all_slotted-push, entry_at-one, revoked-keeps}
 use Rattle.cluster_core.proofs.Witnesses.{called_one}
@@ -41,6 +41,14 @@ place_own : (es : List Entry) (event : Event) (at : ℕ) → IsNoDenial event �
 place_own es (Deliver (Deny file call holder number lock)) at undenied = absurd undenied
 place_own es event at undenied = refl
 
+-- an event that declares nothing
+gone_none : (at incarnation : ℕ) (event : Event) → IsNoDeclaration event → gone_at at incarnation event ≡ None
+gone_none at incarnation (Declare node) undeclared = absurd undeclared
+gone_none at incarnation event undeclared = refl
+
+declares_none : {A : Type 0} (event : Event) (node : ℕ) → IsNoDeclaration event → event ≡ Declare node → A
+declares_none event node undeclared is = absurd (subst IsNoDeclaration is undeclared)
+
 -- the call that a conflict names
 named_by : List Message → Option CallId
 named_by (Conflict file number holder call lock ∷ ms) = Some call
@@ -49,6 +57,18 @@ named_by _ = None
 one_call_named : (ms : List Message) (f k g l : ℕ) (h i : Host) (c d : CallId) (a b : LockInfo) → ms ≡ Conflict f k h c a ∷ [] → ms ≡ Conflict g l i d b ∷ [] → c ≡ d
 unfolding named_by
 one_call_named ms f k g l h i c d a b x y = same_Some c d (ap named_by (sym x ∙ y))
+
+no_delivery : {m : Message} {n : ℕ} → Deliver m ≡ Declare n → ⊥
+no_delivery h = cc
+
+-- the node that is declared
+node_in : Event → ℕ
+node_in (Declare node) = node
+node_in _ = 0
+
+pub declared_node : {m n : ℕ} → Declare m ≡ Declare n → m ≡ n
+unfolding node_in
+declared_node h = ap node_in h
 
 module _ (shape : ShapeFields) (past : List Entry) (w later : WorldState) (made : Entry) (stand : Slotted shape past (slots_of past)) (all_stand : AllSlotted past (slots_of past)) (leads : Leads (first_world shape) past w) (leads_on : Leads (first_world shape) (past ++ made ∷ []) later) where
   abbrev run : List Entry
@@ -74,14 +94,29 @@ module _ (shape : ShapeFields) (past : List Entry) (w later : WorldState) (made 
   slot_step : (o : Option Item) → SlotStep (union w) o (union later) → SlotStep (table_at shape past (length past)) o (table_at shape run (suc (length past)))
   slot_step o step = step_between (union w) (union later) (table_at shape past (length past)) (table_at shape run (suc (length past))) o table_before table_after step
 
-  with_empty : union w ≡ union later → Slotted shape run (old ++ None ∷ [])
-  with_empty same = slotted-push shape past old made None (λ i h. absurd (none-some i h)) (slot_step None same) stand
+  with_empty : IsNoDeclaration made.event → union w ≡ union later → Slotted shape run (old ++ None ∷ [])
+  with_empty undeclared same = slotted-push shape past old made None (λ i h. absurd (none-some i h)) (slot_step None same) (λ node is. declares_none made.event node undeclared is) stand
 
   -- nothing is answered
-  pub nothing_placed : made.reply ≡ None → union w ≡ union later → Placed
-  nothing_placed none same =
-      placed_as (old ++ None ∷ []) (slots_of-push past made ∙ ap (slots_after past old made) none) (with_empty same)
+  pub nothing_placed : IsNoDeclaration made.event → made.reply ≡ None → union w ≡ union later → Placed
+  nothing_placed undeclared none same =
+      placed_as (old ++ None ∷ []) (slots_of-push past made ∙ (ap (slots_after past old made) none ∙ ap (λ (o : Option Item). old ++ o ∷ []) (gone_none (length past + 1) made.incarnation made.event undeclared))) (with_empty undeclared same)
       (all_slotted-push past old (old ++ None ∷ []) made all_stand (λ id reply s. has_slot-keeps old (None ∷ []) id reply s) (λ id reply h. absurd (not_there made.reply (id, reply) none h)))
+
+  -- a node is declared failed: its processes exit
+  pub gone_placed : (node incarnation : ℕ) → made.event ≡ Declare node → made.incarnation ≡ incarnation → made.reply ≡ None → ItemStep (union w) (Gone (length past + 1) node incarnation) (union later) → Placed
+  gone_placed node incarnation is_declare of none step =
+      let at = length past + 1 in
+      let item = Gone at node incarnation in
+      let slots = old ++ Some item ∷ [] in
+      let is : slots_of run ≡ slots =
+      slots_of-push past made ∙ (ap (slots_after past old made) none
+      ∙ ((λ j. old ++ gone_at at (of j) (is_declare j) ∷ []))) in
+      let declared : IsDeclaredAt run node incarnation at = record { declaring = made; there = entry_at-last past made; is_declare = is_declare; of = of } in
+      placed_as slots is
+      (slotted-push shape past old made (Some item) (λ i h. subst (Stands run (length past)) (same_Some item i h) (refl, declared)) (slot_step (Some item) step)
+      (λ other h. λ j. Some (Gone at (declared_node (sym is_declare ∙ h) j) (sym of j))) stand)
+      (all_slotted-push past old slots made all_stand (λ id reply s. has_slot-keeps old (Some item ∷ []) id reply s) (λ id reply h. absurd (not_there made.reply (id, reply) none h)))
 
   module _ (id : CallId) (pid : ℕ) (op : Op) (reply : Reply) (is_reply : made.reply ≡ Some (id, reply)) where
     abbrev item_at : ℕ → Item
@@ -98,8 +133,8 @@ module _ (shape : ShapeFields) (past : List Entry) (w later : WorldState) (made 
         subst P both.0 (subst Q both.1 (q, at, pid, op, there))
 
     -- a call is answered that no server denied
-    pub answer_placed : IsNoDenial made.event → Called run id pid op → ItemStep (union w) (item_at (length past + 1)) (union later) → Placed
-    answer_placed undenied c step =
+    pub answer_placed : IsNoDenial made.event → IsNoDeclaration made.event → Called run id pid op → ItemStep (union w) (item_at (length past + 1)) (union later) → Placed
+    answer_placed undenied undeclared c step =
         let at = length past + 1 in
         let item = item_at at in
         let slots = old ++ Some item ∷ [] in
@@ -119,7 +154,7 @@ module _ (shape : ShapeFields) (past : List Entry) (w later : WorldState) (made 
         } in
         let there : slice_get slots (length old) ≡ Some (Some item) = slice_get-last old (Some item) in
         placed_as slots is
-        (slotted-push shape past old made (Some item) (λ i h. subst (Stands run (length past)) (same_Some item i h) (refl, standing)) (slot_step (Some item) step) stand)
+        (slotted-push shape past old made (Some item) (λ i h. subst (Stands run (length past)) (same_Some item i h) (refl, standing)) (slot_step (Some item) step) (λ node is. declares_none made.event node undeclared is) stand)
         (all_slotted-push past old slots made all_stand (λ other r s. has_slot-keeps old (Some item ∷ []) other r s) (new_slot slots (length old) at there))
 
     -- a call is answered that a server denied: it goes to the entry where its holder did the revoke
@@ -147,7 +182,10 @@ module _ (shape : ShapeFields) (past : List Entry) (w later : WorldState) (made 
                 let names : other ≡ id = one_call_named revoking.sends told.0 told.2 file number told.1 holder other id told.3 lock (ap (λ (e : Entry). e.sends) (sym same) ∙ told.4) ev.answer in
                 subst (Unanswered past) (sym names) unanswered r s.1.interval.reply_at s.1.interval.replied
           ]
-      not_full (Gone at node incarnation) s = s
+      not_full (Gone at node incarnation) s =
+          let here : EntryAt past (k + 1) s.1.declaring = subst (λ (j : ℕ). EntryAt past j s.1.declaring) s.0 s.1.there in
+          let same : s.1.declaring ≡ revoking = entry_at-one past (k + 1) s.1.declaring revoking here there_at in
+          no_delivery (sym (ap (λ (e : Entry). e.event) same ∙ ev.does) ∙ s.1.is_declare)
 
       slot_there : slice_get old k ≡ Some None
       slot_there =
@@ -195,7 +233,7 @@ module _ (shape : ShapeFields) (past : List Entry) (w later : WorldState) (made 
           let its_step : Step (table_at shape run (suc k)) (caller id pid) op reply (table_at shape run (suc k)) = subst R (sym table_there) (subst Q (sym calls.op_is) (subst P (sym calls.pid_is) step)) in
           let inside = slice_get_within wide k None empty in
           placed_as slots is
-          (slotted-fill shape run wide k item empty (refl, standing) (process, its_step) (with_empty same))
+          (slotted-fill shape run wide k item empty (refl, standing) (process, its_step) (with_empty (subst IsNoDeclaration (sym is_deny) tt) same))
           (all_slotted-push past old slots made all_stand
           (λ other r s. has_slot-set shape run wide k item empty other r (has_slot-keeps old (None ∷ []) other r s))
           (new_slot slots k (k + 1) (slice_get-set wide k (Some item) inside)))

@@ -89,7 +89,7 @@ stands_plain es q (Answered at id pid op reply) s none = record {
   replied = s.1.plain none;
   names_none = none;
 }
-stands_plain es q (Gone at node incarnation) s none = s
+stands_plain es q (Gone at node incarnation) s none = s.1
 
 module _ (shape : ShapeFields) (es : List Entry) (slots : Slots) (s : Slotted shape es slots) where
   -- an item of a plain slot
@@ -114,6 +114,10 @@ module _ (shape : ShapeFields) (es : List Entry) (slots : Slots) (s : Slotted sh
       let from = slot_of slots k o h in
       subst (λ (x : Option Item). SlotStep (table_at shape es k) x (table_at shape es (suc k))) from.2 (plain_step (table_at shape es k) (table_at shape es (suc k)) from.0 (s.steps k from.0 from.1))) w l
 
+  gone_there : (q at node incarnation : ℕ) → slice_get slots q ≡ Some (Some (Gone at node incarnation)) → slice_get (plain_slots slots) q ≡ Some (Some (Gone at node incarnation))
+  unfolding plain_slots plain_slot
+  gone_there q at node incarnation h = slice_get-map plain_slot slots q ∙ ap (option_map plain_slot) h
+
   pub plain_items : OneReply es → AllSlotted es slots → IsPlain es (items_in (plain_slots slots))
   plain_items one all = record {
     rising = λ j k a b lt x y. rising_slots 0 (plain_slots slots) (λ q i h. stands_position es q i (there q i h).stands) j k a b lt x y;
@@ -128,4 +132,7 @@ module _ (shape : ShapeFields) (es : List Entry) (slots : Slots) (s : Slotted sh
         let same = one id reply reply slot.1 at (stands.1.plain none) r in
         let place = slot_in (plain_slots slots) slot.0 item (kept_there slot.0 slot.1 id slot.2 slot.3 reply none slot.4) in
         (place.0, slot.2, slot.3, subst (λ (n : ℕ). slice_get (items_in (plain_slots slots)) place.0 ≡ Some (Answered n id slot.2 slot.3 reply)) same place.1);
+    gone = λ node incarnation at d.
+        let there = s.failures node incarnation at d in
+        slot_in (plain_slots slots) there.0 (Gone at node incarnation) (gone_there there.0 at node incarnation there.1);
   }

@@ -22,7 +22,7 @@ use Rattle.messages.specs.declared.refusal.StepError.{StepError}
 use Rattle.messages.specs.declared.refusal.StepError.TheVariants.{Stranger, Spent}
 use Rattle.messages.specs.Messages.{addressee, host_of, is_within, greatest_number, same_urgency, sending}
 use Rattle.token_server.specs.declared.held.Held.{Held}
-use Rattle.token_server.specs.declared.event.ServerEvent.TheVariants.{Deliver, Resend}
+use Rattle.token_server.specs.declared.event.ServerEvent.TheVariants.{Deliver, Resend, Learn}
 use Rattle.token_server.specs.State.{Row, ServerState, empty_row, with_row, is_of_call, is_up_to, row_above, unless, forgotten}
 use Rattle.token_server.specs.Serve.{admitted, row_conflicts, conflicting_node, granted_span, commanded, granted_to, revoked_from, served, serve}
 use Rattle.token_server.specs.Resends.{outstanding_of, outstanding, sending_first}
@@ -282,3 +282,8 @@ module _ (file : ℕ) (H : Held → Type 0) (C : Message → Type 0) (makes : Ma
 
       each : (n : ℕ) (m : Message) → outstanding_of (t.rows n) ≡ Some m → C m
       each n m h = kept n m (t.rows n) refl h
+
+  pub learn-steps : (t : ServerState) (n i : ℕ) → Comes file H C t → Steps (server_rule t (Learn n i))
+  learn-steps t n i c =
+      let young = forgotten t n i in
+      if_either Steps (not (is_within t.shape.nodes n)) _ _ (steps_none Stranger) (sending_first-steps [] (serve young) (All-nil C) (serve-serves young (forgotten-comes t n i c)))

@@ -15,16 +15,16 @@ use Rattle.model.specs.Table.{Table, empty_table}
 use Rattle.messages.specs.Shapes.{ShapeFields}
 use Rattle.messages.specs.declared.message.Message.TheVariants.{Conflict, Deny}
 use Rattle.messages.specs.declared.event.Event.{Event}
-use Rattle.messages.specs.declared.event.Event.TheVariants.{Deliver}
+use Rattle.messages.specs.declared.event.Event.TheVariants.{Deliver, Declare}
 use Rattle.messages.specs.declared.entry.Entry.{Entry}
 use Rattle.cluster_core.specs.declared.item.Item.{Item}
 use Rattle.cluster_core.specs.declared.item.Item.TheVariants.{Answered, Gone}
-use Rattle.cluster_core.specs.Histories.{position_of, call_id, ItemStep, Legal, Rising, EntryAt, IsRepliedAt, IsOpenAt, IsPlaced, Fits, OneReply, IsRevokedAt, IsPlaceOf, StandsAtItsPlace, IsAtItsPlace, EachAtItsPlace, names_conflict}
+use Rattle.cluster_core.specs.Histories.{position_of, call_id, ItemStep, Legal, Rising, EntryAt, IsRepliedAt, IsOpenAt, IsPlaced, Fits, OneReply, IsRevokedAt, IsPlaceOf, StandsAtItsPlace, IsAtItsPlace, EachAtItsPlace, names_conflict, IsDeclaredAt}
 use Rattle.cluster_core.specs.World.{WorldState, first_world}
 use Rattle.cluster_core.specs.Runs.{Leads}
 use Rattle.cluster_core.specs.Union.{union}
 use Rattle.cluster_core.proofs.Placement.{Slots, slots_after, slots_from, slots_of, items_in}
-use Rattle.cluster_core.proofs.Places.{slice_get-keeps, slice_get-push}
+use Rattle.cluster_core.proofs.Places.{slice_get-keeps, slice_get-last, slice_get-push}
 use Rattle.cluster_core.proofs.Entries.{entry_at-keeps, entry_at-push, entry_at-within, called_at-keeps, replied_at-keeps, replied_at-push, none_replied}
 use Rattle.cluster_core.proofs.Unions.{union_first}
 use Rattle.cluster_core.proofs.Prefixes.{table_at, table_at-is, table_at-keeps, after_all}
@@ -137,17 +137,22 @@ pub record IsStanding (es : List Entry) (id : CallId) (pid : ℕ) (op : Op) (rep
 
 abbrev pub Stands : List Entry → ℕ → Item → Type 0
 Stands es q (Answered at id pid op reply) = (at ≡ q + 1) × IsStanding es id pid op reply at
-Stands es q (Gone at node incarnation) = ⊥
+Stands es q (Gone at node incarnation) = (at ≡ q + 1) × IsDeclaredAt es node incarnation at
 
 -- a slot has the call
 abbrev pub HasSlot : Slots → CallId → Reply → Type 0
 HasSlot slots id reply = (q : ℕ) × (at : ℕ) × (pid : ℕ) × (op : Op) × (slice_get slots q ≡ Some (Some (Answered at id pid op reply)))
 
--- each answered call has a slot, what stands in the slots stands where it may, and each slot leads from one union to the next
+-- each declared failure has its slot
+abbrev pub AllGone : List Entry → Slots → Type 0
+AllGone es slots = (node incarnation at : ℕ) → IsDeclaredAt es node incarnation at → (q : ℕ) × (slice_get slots q ≡ Some (Some (Gone at node incarnation)))
+
+-- each declared failure has a slot, what stands in the slots stands where it may, and each slot leads from one union to the next
 pub record Slotted (shape : ShapeFields) (es : List Entry) (slots : Slots) : Type 0 where
   pub long : length slots ≡ length es
   pub stands : (q : ℕ) (i : Item) → slice_get slots q ≡ Some (Some i) → Stands es q i
   pub steps : (k : ℕ) (o : Option Item) → slice_get slots k ≡ Some o → SlotStep (table_at shape es k) o (table_at shape es (suc k))
+  pub failures : AllGone es slots
 
 abbrev pub AllSlotted : List Entry → Slots → Type 0
 AllSlotted es slots = (id : CallId) (reply : Reply) (at : ℕ) → IsRepliedAt es id reply at → HasSlot slots id reply
@@ -177,6 +182,16 @@ stands_at-keeps es e id reply at s = record {
   place = place-keeps es e s.replying.event s.reply_at at s.place;
 }
 
+declared_at-keeps : (es : List Entry) (e : Entry) (node incarnation at : ℕ) → IsDeclaredAt es node incarnation at → IsDeclaredAt (es ++ e ∷ []) node incarnation at
+declared_at-keeps es e node incarnation at d = record { declaring = d.declaring; there = entry_at-keeps es (e ∷ []) at d.declaring d.there; is_declare = d.is_declare; of = d.of }
+
+-- a failure that is declared was declared before, or is declared now
+pub declared_at-push : (es : List Entry) (e : Entry) (node incarnation at : ℕ) → IsDeclaredAt (es ++ e ∷ []) node incarnation at → IsDeclaredAt es node incarnation at ⊎ ((at ≡ length es + 1) × (e.event ≡ Declare node) × (e.incarnation ≡ incarnation))
+declared_at-push es e node incarnation at d = elim (entry_at-push es e d.declaring at d.there) [
+  | inl old ↦ inl (record { declaring = d.declaring; there = old; is_declare = d.is_declare; of = d.of })
+  | inr last ↦ inr (last.0, ap (λ (x : Entry). x.event) last.1 ∙ d.is_declare, ap (λ (x : Entry). x.incarnation) last.1 ∙ d.of)
+]
+
 standing-keeps : (es : List Entry) (e : Entry) (q : ℕ) (i : Item) → Stands es q i → Stands (es ++ e ∷ []) q i
 standing-keeps es e q (Answered at id pid op reply) s =
     let o = s.1.interval in (
@@ -197,15 +212,19 @@ standing-keeps es e q (Answered at id pid op reply) s =
         mark = s.1.mark;
       },
     )
-standing-keeps es e q (Gone at node incarnation) s = absurd s
+standing-keeps es e q (Gone at node incarnation) s = (s.0, declared_at-keeps es e node incarnation at s.1)
 
 pub step_between : (t u v w : Table) (o : Option Item) → v ≡ t → w ≡ u → SlotStep t o u → SlotStep v o w
 step_between t u v w o first last step = subst (λ (x : Table). SlotStep x o w) (sym first) (subst (λ (x : Table). SlotStep t o x) (sym last) step)
 
 -- one more entry, with its slot
 module _ (shape : ShapeFields) (es : List Entry) (slots : Slots) (e : Entry) (o : Option Item) where
-  pub slotted-push : ((i : Item) → o ≡ Some i → Stands (es ++ e ∷ []) (length es) i) → SlotStep (table_at shape es (length es)) o (table_at shape (es ++ e ∷ []) (suc (length es))) → Slotted shape es slots → Slotted shape (es ++ e ∷ []) (slots ++ o ∷ [])
-  slotted-push stand step s = record {
+  pub slotted-push : ((i : Item) → o ≡ Some i → Stands (es ++ e ∷ []) (length es) i) → SlotStep (table_at shape es (length es)) o (table_at shape (es ++ e ∷ []) (suc (length es))) → ((node : ℕ) → e.event ≡ Declare node → o ≡ Some (Gone (length es + 1) node e.incarnation)) → Slotted shape es slots → Slotted shape (es ++ e ∷ []) (slots ++ o ∷ [])
+  slotted-push stand step declares s = record {
+    failures = λ node incarnation at d. elim (declared_at-push es e node incarnation at d) [
+      | inl old ↦ let there = s.failures node incarnation at old in (there.0, slice_get-keeps slots (o ∷ []) there.0 (Some (Gone at node incarnation)) there.1)
+      | inr new ↦ (length slots, slice_get-last slots o ∙ ap Some (declares node new.1 ∙ (λ j. Some (Gone (sym new.0 j) node (new.2 j)))))
+    ];
     long = let a = length-append slots (o ∷ []) in let b = length-append es (e ∷ []) in let l = s.long in omega arith;
     stands = λ q i h. elim (slice_get-push slots o q (Some i) h) [
       | inl old ↦ standing-keeps es e q i (s.stands q i old)
@@ -233,6 +252,12 @@ module _ (shape : ShapeFields) (es : List Entry) (slots : Slots) (p : ℕ) (i : 
 
   pub slotted-fill : Stands es p i → ItemStep (table_at shape es (suc p)) i (table_at shape es (suc p)) → Slotted shape es slots → Slotted shape es (slice_set slots p (Some i))
   slotted-fill stand step s = record {
+    failures = λ node incarnation at d.
+        let there = s.failures node incarnation at d in
+        elim (cases_eq there.0 p) [
+          | inl same ↦ absurd (none-some (Gone at node incarnation) (same_Some None (Some (Gone at node incarnation)) (sym empty ∙ (ap (slice_get slots) (sym same) ∙ there.1))))
+          | inr other ↦ (there.0, slice_get-other slots p there.0 (Some i) other ∙ there.1)
+        ];
     long = length-set slots p (Some i) ∙ s.long;
     stands = λ q j h. elim (cases_eq q p) [
       | inl same ↦ subst (λ (n : ℕ). Stands es n j) (sym same) (subst (Stands es p) (item_there q j same h) stand)
@@ -276,6 +301,7 @@ slotted_first shape = record {
   long = refl;
   stands = λ q i h. absurd (none-some (Some i) h);
   steps = λ k o h. absurd (none-some o h);
+  failures = λ node incarnation at d. absurd (none-some d.declaring d.there.2);
 }
 
 pub all_slotted_first : AllSlotted [] []
@@ -316,20 +342,20 @@ one_position : (es : List Entry) (j k : ℕ) (a b : Item) (id : CallId) → OneR
 one_position es j k (Answered at c pid op r) (Answered to d qid oq q) id one x y e f =
     let same : d ≡ c = same_Some d c (f ∙ sym e) in
     place_of_call es c r q at to one x.1.place (subst (λ (n : CallId). StandsAtItsPlace es n q to) same y.1.place)
-one_position es j k (Answered at c pid op r) (Gone to node incarnation) id one x y e f = absurd y
-one_position es j k (Gone at node incarnation) b id one x y e f = absurd x
+one_position es j k (Answered at c pid op r) (Gone to node incarnation) id one x y e f = absurd (none-some id f)
+one_position es j k (Gone at node incarnation) b id one x y e f = absurd (none-some id e)
 
 pub stands_position : (es : List Entry) (q : ℕ) (i : Item) → Stands es q i → position_of i ≡ 0 + q + 1
 stands_position es q (Answered at id pid op reply) s = let is = s.0 in omega arith
-stands_position es q (Gone at node incarnation) s = absurd s
+stands_position es q (Gone at node incarnation) s = let is = s.0 in omega arith
 
 stands_placed : (es : List Entry) (q : ℕ) (i : Item) → Stands es q i → IsPlaced es i
 stands_placed es q (Answered at id pid op reply) s = s.1.interval
-stands_placed es q (Gone at node incarnation) s = s
+stands_placed es q (Gone at node incarnation) s = s.1
 
 stands_at_place : (es : List Entry) (q : ℕ) (i : Item) → Stands es q i → IsAtItsPlace es i
 stands_at_place es q (Answered at id pid op reply) s = s.1.place
-stands_at_place es q (Gone at node incarnation) s = s
+stands_at_place es q (Gone at node incarnation) s = s.1
 
 -- the items of the slots are a history that fits, is legal, and has each call at its place
 module _ (shape : ShapeFields) (es : List Entry) (slots : Slots) (s : Slotted shape es slots) where
@@ -350,6 +376,9 @@ module _ (shape : ShapeFields) (es : List Entry) (slots : Slots) (s : Slotted sh
         let there = all id reply at r in
         let place = slot_in slots there.0 (Answered there.1 id there.2 there.3 reply) there.4 in
         (place.0, there.1, there.2, there.3, place.1);
+    gone = λ node incarnation at d.
+        let there = s.failures node incarnation at d in
+        slot_in slots there.0 (Gone at node incarnation) there.1;
     once = λ j k a b id x y e f.
         let first = stands_in j a x in
         let second = stands_in k b y in

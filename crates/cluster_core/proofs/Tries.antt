@@ -29,6 +29,7 @@ use Rattle.cluster_core.specs.Evidence.{IsAbout}
 use Rattle.cluster_core.proofs.Choices.{at_number}
 use Rattle.cluster_core.proofs.Refusals.{ok_is}
 use Rattle.cluster_core.proofs.Targets.{IsTarget}
+use Rattle.cluster_core.proofs.Hanging.{Hangs, target_hangs}
 use Rattle.cluster_core.proofs.NodeTables.{IsOwn, Follows, same_follows, spawn_follows, open_follows, lock_follows, unlock_follows, target_own}
 
 -- what an open call asks for
@@ -242,6 +243,11 @@ about_own t node incarnation pid op mode c pid_in own a =
     let f = about_finds t (record { node = node; incarnation = incarnation; pid = pid }) op mode c a in
     target_own t node incarnation pid f.need f.fd f.kind f.start f.len c pid_in own f.found
 
+pub about_hangs : (t : Table) (p : Process) (op : Op) (mode : Mode) (c : Target) → IsAbout t p op mode c → Hangs (t.on p.node p.incarnation) c.file c.owner.kind c.owner.number
+about_hangs t p op mode c a =
+    let f = about_finds t p op mode c a in
+    target_hangs t p f.need f.fd f.kind f.start f.len c f.found
+
 -- a call that the token covers is answered by the node's own table
 here_ends : (s : NodeState) (c : OpenCall) (op : Op) (i : Intent) → IsTarget s.node s.incarnation (target_of c) → IsOwn s.table s.node s.incarnation → IsFor i op → IsAbout s.table (process s c.pid) op c.mode (target_of c) → Unblocked s.table (target_of c) c.mode → covers (s.files c.file).token c.span c.mode ≡ true → Tried s c.number c.pid op (answered_here s c i).state (answered_here s c i).reply
 here_ends s c op intent.Set is own is_for about free given =
@@ -251,7 +257,7 @@ here_ends s c op intent.Set is own is_for about free given =
     let h = locked_by_settles s c.number (target_of c) (Some c.mode) in
     let step = about_step s.table p op intent.Set c.mode (target_of c) answer.1 answer.0 is_for about (lock_step s.table (target_of c) c.mode free) in
     record {
-      continues = settles_continues s c.number answer e h (lock_follows s.table s.node s.incarnation (target_of c) (Some c.mode) is own);
+      continues = settles_continues s c.number answer e h (lock_follows s.table s.node s.incarnation (target_of c) (Some c.mode) is (about_hangs s.table p op c.mode (target_of c) about) own);
       calls = h.calls;
       ends = inl (settles_answers s c.number answer e h c.pid op step (served_by s.table p op c.mode (target_of c) answer.1 s about given));
     }
@@ -340,7 +346,7 @@ found_err {A = A} {E = E} x e a fails passes = let both : ◌≡◌ {A = Result 
 pub called_ends : (s : NodeState) (number pid : ℕ) (op : Op) → IsNumber most_processes pid → IsOwn s.table s.node s.incarnation → Taken s number pid op (called s number pid op).state (called s number pid op).reply
 called_ends s number pid Spawn pid_in own =
     let answer = beside s.table (process s pid) (after_spawn (around s.table (process s pid)) pid) in
-    settles_taken s number answer (settled s number answer) (settled_settles s number answer) pid Spawn (refl, refl) (λ mode c free about. absurd about) (spawn_follows s.table s.node s.incarnation pid own)
+    settles_taken s number answer (settled s number answer) (settled_settles s number answer) pid Spawn (refl, refl) (λ mode c free about. absurd about) (spawn_follows s.table s.node s.incarnation pid pid_in own)
 called_ends s number pid (Open file access) pid_in own =
     let answer = beside s.table (process s pid) (after_open (around s.table (process s pid)) pid file access) in
     settles_taken s number answer (settled s number answer) (settled_settles s number answer) pid (Open file access) (refl, refl) (λ mode c free about. absurd about) (open_follows s.table s.node s.incarnation pid file access pid_in own)

@@ -1,5 +1,5 @@
 -- What holds of the cluster after each run.
-use Rattle.std.proofs.Common.{◌≡◌, ℕ, ◌≤◌, Bool, true, false, if◌then◌else◌, ◌==◌, ◌⊎◌, inl, inr, refl, sym, ◌∙◌, ap, subst, arith, List, [], ◌∷◌, ◌++◌, length, length-append, get_or, All, Contains, Some, None, Ok}
+use Rattle.std.proofs.Common.{◌≡◌, ℕ, ◌+◌, ◌≤◌, Bool, true, false, if◌then◌else◌, ◌==◌, ◌⊎◌, inl, inr, refl, sym, ◌∙◌, ap, subst, arith, List, [], ◌∷◌, ◌++◌, length, length-append, get_or, All, Contains, Some, None, Ok}
 use Rattle.std.specs.List.{list_any}
 use Rattle.std.proofs.lemmas.Bool.{eq-eqb, cases_Bool, or_parts}
 use Rattle.std.proofs.lemmas.List.Folds.{list_any-append}
@@ -7,21 +7,22 @@ use Rattle.std.proofs.lemmas.List.Elements.{All-nil, All-same, All-append, All-w
 use Rattle.model.specs.declared.call.CallId.{CallId}
 use Rattle.model.specs.declared.op.Op.{Op}
 use Rattle.model.specs.declared.reply.Reply.{Reply}
-use Rattle.model.specs.Limits.{IsNumber, IsProcess}
+use Rattle.model.specs.Limits.{IsProcess}
 use Rattle.model.specs.Table.{Table}
 use Rattle.model.specs.Step.{Step}
 use Rattle.messages.specs.Shapes.{ShapeFields}
 use Rattle.messages.specs.declared.message.Message.{Message}
 use Rattle.messages.specs.declared.event.Event.{Event}
+use Rattle.messages.specs.declared.event.Event.TheVariants.{Declare, Restart}
 use Rattle.messages.specs.declared.entry.Entry.{Entry}
 use Rattle.messages.specs.declared.outcome.Outcome.{Outcome}
 use Rattle.node_core.specs.declared.open_call.OpenCall.{OpenCall}
-use Rattle.node_core.specs.State.{NodeState, process, id_of, target_of}
+use Rattle.node_core.specs.State.{NodeState, first_node, process, id_of, target_of}
 use Rattle.node_core.specs.Try.{refusal_of}
 use Rattle.token_server.specs.State.{ServerState}
 use Rattle.cluster_core.specs.declared.item.Item.TheVariants.{Answered}
-use Rattle.cluster_core.specs.World.{WorldState, first_world, has_node}
-use Rattle.cluster_core.specs.Next.{next, entry, recorded, with_node, with_server}
+use Rattle.cluster_core.specs.World.{WorldState, first_world, most_incarnations, has_node}
+use Rattle.cluster_core.specs.Next.{next, entry, recorded, with_node, with_server, declared, restarted, silent}
 use Rattle.cluster_core.specs.Runs.{Leads}
 use Rattle.cluster_core.specs.Union.{union}
 use Rattle.cluster_core.specs.Histories.{caller, EntryAt, IsRepliedAt, OneCall, OneReply}
@@ -32,12 +33,15 @@ use Rattle.cluster_core.proofs.JournalRuns.{leads_push}
 use Rattle.cluster_core.proofs.Entries.{not_there, same_answer, IsNamed, Unanswered, entry_at-push, called_at-push, named-push, named_called, one_call-push, one_reply-push}
 use Rattle.cluster_core.proofs.Fitting.{Called}
 use Rattle.cluster_core.proofs.Tries.{IsSilent}
-use Rattle.cluster_core.proofs.Nodes.{IsOpen, Holds, IsExplained, IsDenied, IsNoDenial, Moves, same_id, open-push}
+use Rattle.cluster_core.proofs.Nodes.{IsOpen, Holds, IsExplained, IsDenied, IsNoDenial, IsNoDeclaration, Moves, same_id, open-push}
+use Rattle.cluster_core.proofs.Hanging.{IsAnchored}
+use Rattle.cluster_core.proofs.NodeTables.{own_empty}
+use Rattle.cluster_core.proofs.Failures.{union_gone}
 use Rattle.cluster_core.proofs.Unions.{union_same}
 use Rattle.cluster_core.proofs.Lifting.{IsFreeElsewhere, DiffersAt, step_lifts, about_lifts}
 use Rattle.cluster_core.proofs.Prefixes.{after_all}
 use Rattle.cluster_core.proofs.Slots.{Slotted, AllSlotted, Stands}
-use Rattle.cluster_core.proofs.Placing.{Placed, nothing_placed, answer_placed, denial_placed}
+use Rattle.cluster_core.proofs.Placing.{Placed, nothing_placed, gone_placed, answer_placed, denial_placed}
 use Rattle.cluster_core.proofs.Quiet.{refusal_names}
 use Rattle.cluster_core.proofs.Requested.{Comes, comes-weaker}
 use Rattle.cluster_core.proofs.Sends.{AsksFor}
@@ -47,12 +51,17 @@ use Rattle.cluster_core.proofs.Witnesses.{IsAskedBy, Denies, Backed, HeldFor, St
 abbrev pub Told : List Entry → List Message → Type 0
 Told past sent = (k : ℕ) (e : Entry) (test : Message → Bool) → EntryAt past k e → list_any test sent ≡ false → list_any test e.sends ≡ false
 
+-- an incarnation that a node may be in: where it is alive, one of those that a node may have
+abbrev pub IsGiven : Bool → ℕ → Type 0
+IsGiven alive incarnation = (1 ≤ incarnation) × (alive ≡ true → incarnation ≤ most_incarnations)
+
 -- the actors after a run, and the run itself
 pub record Good (shape : ShapeFields) (past : List Entry) (w : WorldState) : Type 0 where
   pub leads : Leads (first_world shape) past w
   pub named : (n : ℕ) → (w.nodes n).node ≡ n
-  pub incarnations : (n : ℕ) → IsNumber 65535 (w.nodes n).incarnation
+  pub incarnations : (n : ℕ) → IsGiven (w.alive n) (w.nodes n).incarnation
   pub holds : (n : ℕ) → Holds past (w.nodes n)
+  pub young : (id : CallId) → IsNamed past id → id.incarnation ≤ (w.nodes id.node).incarnation
   pub strangers : (n : ℕ) → has_node w n ≡ false → (w.nodes n).pending ≡ []
   pub one_call : OneCall past
   pub one_reply : OneReply past
@@ -98,7 +107,7 @@ comes-push shape past e w v file t stays c = comes-weaker file (HeldFor shape pa
     (λ m b. backed-keeps shape past e w v stays m b) c
 
 -- a step of a server
-module _ (shape : ShapeFields) (past : List Entry) (w : WorldState) (file : ℕ) (t : ServerState) (event : Event) (o : Outcome) (no_call : o.call ≡ None) (no_reply : o.reply ≡ None) (g : Good shape past w) (step : next w event ≡ Ok (recorded (with_server w file t) event 0 o)) (comes : Comes file (HeldFor shape past file) (Backed shape past w) t) (sends : All (Backed shape past w) o.sends) where
+module _ (shape : ShapeFields) (past : List Entry) (w : WorldState) (file : ℕ) (t : ServerState) (event : Event) (o : Outcome) (no_call : o.call ≡ None) (no_reply : o.reply ≡ None) (undeclared : IsNoDeclaration event) (g : Good shape past w) (step : next w event ≡ Ok (recorded (with_server w file t) event 0 o)) (comes : Comes file (HeldFor shape past file) (Backed shape past w) t) (sends : All (Backed shape past w) o.sends) where
   pub server_good : Good shape (past ++ entry event 0 o ∷ []) (recorded (with_server w file t) event 0 o).0
   server_good =
       let e = entry event 0 o in
@@ -109,12 +118,13 @@ module _ (shape : ShapeFields) (past : List Entry) (w : WorldState) (file : ℕ)
       let P : Message → Type 0 = Backed shape past w in
       let Q : Message → Type 0 = Backed shape run v in
       let keep : (m : Message) → P m → Q m = λ m b. backed-keeps shape past e w v stays m b in
-      let placed = nothing_placed shape past w v e g.slotted g.all g.leads leads no_reply refl in
+      let placed = nothing_placed shape past w v e g.slotted g.all g.leads leads undeclared no_reply refl in
       record {
         leads = leads;
         named = g.named;
         incarnations = g.incarnations;
         holds = λ n. unmentioned past e (w.nodes n) (λ id h same. not_there o.call id no_call h) (λ id reply h same. not_there o.reply (id, reply) no_reply h) (g.holds n);
+        young = λ id named. elim (named-push past e id named) [ inl old ↦ g.young id old | inr new ↦ absurd (not_there o.call id no_call new) ];
         strangers = g.strangers;
         one_call = one_call-push past e g.one_call (λ id h n. not_there o.call id no_call h);
         one_reply = one_reply-push past e g.one_reply (λ id reply h. absurd (not_there o.reply (id, reply) no_reply h));
@@ -267,13 +277,13 @@ module _ (shape : ShapeFields) (past : List Entry) (w : WorldState) (n : ℕ) (u
       step_lifts w later n pid op reply there (g.named n) (g.holds n).own differs free (subst P (ap (λ (x : NodeState). x.table) (sym after)) local)
 
   -- the slots: a reply has the item of its call
-  module _ (free_elsewhere : (x : IsExplained past (w.nodes n) u (entry event incarnation o)) → has_node w n ≡ true → IsFreeElsewhere w n x.pid x.op x.reply) (denied : (d : IsDenied (w.nodes n) u (entry event incarnation o)) → Denies shape past w d.file d.call d.holder d.number d.lock) (sends : All (Backed shape run later) o.sends) where
+  module _ (free_elsewhere : (x : IsExplained past (w.nodes n) u (entry event incarnation o)) → has_node w n ≡ true → IsFreeElsewhere w n x.pid x.op x.reply) (denied : (d : IsDenied (w.nodes n) u (entry event incarnation o)) → Denies shape past w d.file d.call d.holder d.number d.lock) (sends : All (Backed shape run later) o.sends) (undeclared : IsNoDeclaration event) where
     abbrev Slots_placed : Type 0
     Slots_placed = Placed shape past w later made g.slotted g.all g.leads leads_on
 
     explained_placed : (x : IsExplained past before u made) → IsNoDenial made.event → Slots_placed
     explained_placed x undenied = elim (cases_Bool (has_node w n)) [
-      | inl there ↦ answer_placed shape past w later made g.slotted g.all g.leads leads_on (id_of before x.number) x.pid x.op x.reply x.is_reply undenied x.called (x.is_process, union_steps x.pid x.op x.reply there (free_elsewhere x there) x.step)
+      | inl there ↦ answer_placed shape past w later made g.slotted g.all g.leads leads_on (id_of before x.number) x.pid x.op x.reply x.is_reply undenied undeclared x.called (x.is_process, union_steps x.pid x.op x.reply there (free_elsewhere x there) x.step)
       | inr stranger ↦ absurd (not_there made.reply (id_of before x.number, x.reply) (strange stranger).1.no_reply x.is_reply)
     ]
 
@@ -301,7 +311,7 @@ module _ (shape : ShapeFields) (past : List Entry) (w : WorldState) (n : ℕ) (u
       | inl x ↦ explained_placed x.0 x.1
       | inr rest ↦ elim rest [
         | inl d ↦ denied_placed d
-        | inr silent ↦ nothing_placed shape past w later made g.slotted g.all g.leads leads_on silent.no_reply (sym (union_stays silent.table))
+        | inr silent ↦ nothing_placed shape past w later made g.slotted g.all g.leads leads_on undeclared silent.no_reply (sym (union_stays silent.table))
       ]
     ]
 
@@ -313,7 +323,16 @@ module _ (shape : ShapeFields) (past : List Entry) (w : WorldState) (n : ℕ) (u
         record {
           leads = leads_on;
           named = all_named;
-          incarnations = at_each (λ x m. IsNumber 65535 x.incarnation) (subst (IsNumber 65535) (sym moves.incarnation) (g.incarnations n)) (λ m other. g.incarnations m);
+          incarnations = at_each (λ x m. IsGiven (w.alive m) x.incarnation) (subst (IsGiven (w.alive n)) (sym moves.incarnation) (g.incarnations n)) (λ m other. g.incarnations m);
+          young = λ id named. subst (λ (k : ℕ). id.incarnation ≤ k) (sym (at_each (λ x m. x.incarnation ≡ (w.nodes m).incarnation) moves.incarnation (λ m other. refl) id.node))
+              (elim (named-push past made id named) [
+                | inl old ↦ g.young id old
+                | inr new ↦
+                    let is = moves.of_incarnation id new in
+                    let node = (moves.fresh id new).0 ∙ g.named n in
+                    let same : (w.nodes id.node).incarnation ≡ (w.nodes n).incarnation = ap (λ (k : ℕ). (w.nodes k).incarnation) node in
+                    omega arith
+              ]);
           holds = all_hold;
           strangers = at_each (λ x m. has_node w m ≡ false → x.pending ≡ []) (λ h. (strange h).0) (λ m other. g.strangers m);
           one_call = one_call-push past made g.one_call (λ id h. (moves.fresh id h).1);
@@ -325,3 +344,145 @@ module _ (shape : ShapeFields) (past : List Entry) (w : WorldState) (n : ℕ) (u
           slotted = placed.slotted;
           all = placed.all;
         }
+
+-- an entry that names no call, answers none and sends nothing, after which each node that is not as it was begins
+module _ (shape : ShapeFields) (past : List Entry) (w v : WorldState) (event : Event) (incarnation : ℕ) (g : Good shape past w) where
+  abbrev quiet_entry : Entry
+  quiet_entry = (silent v event incarnation).1
+
+  abbrev quiet_world : WorldState
+  quiet_world = (silent v event incarnation).0
+
+  abbrev quiet_run : List Entry
+  quiet_run = past ++ quiet_entry ∷ []
+
+  no_call_now : (id : CallId) → quiet_entry.call ≡ Some id → ⊥
+  no_call_now id h = not_there quiet_entry.call id refl h
+
+  no_reply_now : (id : CallId) (reply : Reply) → quiet_entry.reply ≡ Some (id, reply) → ⊥
+  no_reply_now id reply h = not_there quiet_entry.reply (id, reply) refl h
+
+  -- a node that begins in an incarnation of which no call was named
+  begins_holds : (n i : ℕ) → ((id : CallId) → IsNamed past id → id.node ≡ n → id.incarnation ≡ i → ⊥) → Holds quiet_run (first_node w.shape n i)
+  begins_holds n i unnamed = record {
+    own = own_empty n i;
+    waiting = All-nil (IsOpen quiet_run (first_node w.shape n i));
+    numbers = λ id named node is. elim (named-push past quiet_entry id named) [ inl old ↦ absurd (unnamed id old node is) | inr new ↦ absurd (no_call_now id new) ];
+  }
+
+  stays_held : (s : NodeState) → Holds past s → Holds quiet_run s
+  stays_held s h = unmentioned past quiet_entry s (λ id c same. no_call_now id c) (λ id reply c same. no_reply_now id reply c) h
+
+  stays_asked : (s : NodeState) → All (IsAskedBy shape past s) s.pending → All (IsAskedBy shape quiet_run s) s.pending
+  stays_asked s a = All-weaker (IsAskedBy shape past s) (IsAskedBy shape quiet_run s) (λ c x. asked-keeps shape past quiet_entry c.file (id_of s c.number) c.mode c.span x) s.pending a
+
+  none_asked : (n i : ℕ) → All (IsAskedBy shape quiet_run (first_node w.shape n i)) []
+  none_asked n i = All-nil (IsAskedBy shape quiet_run (first_node w.shape n i))
+
+  none_stays : (s : NodeState) (n i : ℕ) → StaysOpen past s (first_node w.shape n i)
+  none_stays s n i = All-nil (λ (c : OpenCall). (Contains s.pending c × (id_of s c.number ≡ id_of (first_node w.shape n i) c.number)) ⊎ (IsNamed past (id_of (first_node w.shape n i) c.number) → ⊥))
+
+-- a node is declared failed
+module _ (shape : ShapeFields) (past : List Entry) (w : WorldState) (n : ℕ) (there : has_node w n ≡ true) (g : Good shape past w) (step : next w (Declare n) ≡ Ok (silent (declared w n) (Declare n) (w.nodes n).incarnation)) where
+  abbrev now : ℕ
+  now = (w.nodes n).incarnation
+
+  abbrev new : NodeState
+  new = first_node w.shape n (now + 1)
+
+  abbrev after_it : WorldState
+  after_it = quiet_world shape past w (declared w n) (Declare n) now g
+
+  abbrev told_run : List Entry
+  told_run = quiet_run shape past w (declared w n) (Declare n) now g
+
+  abbrev declaration : Entry
+  declaration = quiet_entry shape past w (declared w n) (Declare n) now g
+
+  each_node : (P : NodeState → ℕ → Type 0) → P new n → ((m : ℕ) → P (w.nodes m) m) → (m : ℕ) → P (after_it.nodes m) m
+  each_node P here others m = at_number m n (λ b. P (if b then new else w.nodes m) m) (λ same. subst (P new) (sym same) here) (λ other. others m)
+
+  unnamed : (id : CallId) → IsNamed past id → id.node ≡ n → id.incarnation ≡ now + 1 → ⊥
+  unnamed id named node is =
+      let young : id.incarnation ≤ now = subst (λ (k : ℕ). id.incarnation ≤ (w.nodes k).incarnation) node (g.young id named) in
+      absurd (omega arith)
+
+  its_leads : Leads (first_world shape) told_run after_it
+  its_leads = leads_push (first_world shape) w after_it past declaration g.leads step
+
+  open_before : (m : ℕ) → StaysOpen past (w.nodes m) (after_it.nodes m)
+  open_before m = at_number m n (λ b. StaysOpen past (w.nodes m) (if b then new else w.nodes m)) (λ same. none_stays shape past w (declared w n) (Declare n) now g (w.nodes m) n (now + 1)) (λ other. stays_same past (w.nodes m))
+
+  anchored : IsAnchored (w.nodes n).table n now
+  anchored = subst (λ (k : ℕ). IsAnchored (w.nodes n).table k now) (g.named n) (g.holds n).own.anchored
+
+  pub declared_good : Good shape told_run after_it
+  declared_good =
+      let P : Message → Type 0 = Backed shape past w in
+      let Q : Message → Type 0 = Backed shape told_run after_it in
+      let keep : (m : Message) → P m → Q m = λ m b. backed-keeps shape past declaration w after_it open_before m b in
+      let placed = gone_placed shape past w after_it declaration g.slotted g.all g.leads its_leads n now refl refl refl (union_gone w n there anchored) in
+      record {
+        leads = its_leads;
+        named = each_node (λ x m. x.node ≡ m) refl g.named;
+        incarnations = λ m. at_number m n (λ b. IsGiven (if b then false else w.alive m) (if b then new else w.nodes m).incarnation) (λ same. (omega arith, λ h. absurd (cc))) (λ other. g.incarnations m);
+        holds = each_node (λ x m. Holds told_run x) (begins_holds shape past w (declared w n) (Declare n) now g n (now + 1) unnamed) (λ m. stays_held shape past w (declared w n) (Declare n) now g (w.nodes m) (g.holds m));
+        young = λ id named. elim (named-push past declaration id named) [
+          | inl old ↦
+              let before = g.young id old in
+              at_number id.node n (λ b. id.incarnation ≤ (if b then new else w.nodes id.node).incarnation)
+              (λ same. let is = ap (λ (k : ℕ). (w.nodes k).incarnation) same in omega arith) (λ other. before)
+          | inr new_one ↦ absurd (no_call_now shape past w (declared w n) (Declare n) now g id new_one)
+        ];
+        strangers = each_node (λ x m. has_node w m ≡ false → x.pending ≡ []) (λ h. refl) g.strangers;
+        one_call = one_call-push past declaration g.one_call (λ id h named. no_call_now shape past w (declared w n) (Declare n) now g id h);
+        one_reply = one_reply-push past declaration g.one_reply (λ id reply h. absurd (no_reply_now shape past w (declared w n) (Declare n) now g id reply h));
+        told = told-push past w.sent declaration g.told;
+        asked = each_node (λ x m. All (IsAskedBy shape told_run x) x.pending) (none_asked shape past w (declared w n) (Declare n) now g n (now + 1)) (λ m. stays_asked shape past w (declared w n) (Declare n) now g (w.nodes m) (g.asked m));
+        backed = All-append Q w.sent [] (All-weaker P Q keep w.sent g.backed) (All-nil Q);
+        comes = λ f. comes-push shape past declaration w after_it f (w.servers f) open_before (g.comes f);
+        slotted = placed.slotted;
+        all = placed.all;
+      }
+
+-- a node restarts
+module _ (shape : ShapeFields) (past : List Entry) (w : WorldState) (n : ℕ) (few : (w.nodes n).incarnation ≤ most_incarnations) (g : Good shape past w) (step : next w (Restart n) ≡ Ok (silent (restarted w n) (Restart n) (w.nodes n).incarnation)) where
+  abbrev begun_world : WorldState
+  begun_world = quiet_world shape past w (restarted w n) (Restart n) (w.nodes n).incarnation g
+
+  abbrev begun_run : List Entry
+  begun_run = quiet_run shape past w (restarted w n) (Restart n) (w.nodes n).incarnation g
+
+  abbrev restart : Entry
+  restart = quiet_entry shape past w (restarted w n) (Restart n) (w.nodes n).incarnation g
+
+  pub restarted_good : Good shape begun_run begun_world
+  restarted_good =
+      let i = (w.nodes n).incarnation in
+      let P : Message → Type 0 = Backed shape past w in
+      let Q : Message → Type 0 = Backed shape begun_run begun_world in
+      let open_before : (m : ℕ) → StaysOpen past (w.nodes m) (w.nodes m) = λ m. stays_same past (w.nodes m) in
+      let keep : (m : Message) → P m → Q m = λ m b. backed-keeps shape past restart w begun_world open_before m b in
+      let leads = leads_push (first_world shape) w begun_world past restart g.leads step in
+      let placed = nothing_placed shape past w begun_world restart g.slotted g.all g.leads leads tt refl refl in
+      record {
+        leads = leads;
+        named = g.named;
+        incarnations = λ m. at_number m n (λ b. IsGiven (if b then true else w.alive m) (w.nodes m).incarnation)
+            (λ same. ((g.incarnations m).0, λ h. subst (λ (k : ℕ). (w.nodes k).incarnation ≤ most_incarnations) (sym same) few))
+            (λ other. g.incarnations m);
+        holds = λ m. stays_held shape past w (restarted w n) (Restart n) i g (w.nodes m) (g.holds m);
+        young = λ id named. elim (named-push past restart id named) [
+          | inl old ↦ g.young id old
+          | inr new ↦ absurd (no_call_now shape past w (restarted w n) (Restart n) i g id new)
+        ];
+        strangers = g.strangers;
+        one_call = one_call-push past restart g.one_call (λ id h named. no_call_now shape past w (restarted w n) (Restart n) i g id h);
+        one_reply = one_reply-push past restart g.one_reply (λ id reply h. absurd (no_reply_now shape past w (restarted w n) (Restart n) i g id reply h));
+        told = told-push past w.sent restart g.told;
+        asked = λ m. stays_asked shape past w (restarted w n) (Restart n) i g (w.nodes m) (g.asked m);
+        backed = All-append Q w.sent [] (All-weaker P Q keep w.sent g.backed) (All-nil Q);
+        comes = λ f. comes-push shape past restart w begun_world f (w.servers f) open_before (g.comes f);
+        slotted = placed.slotted;
+        all = placed.all;
+      }

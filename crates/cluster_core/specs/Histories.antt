@@ -13,7 +13,7 @@ use Rattle.messages.specs.Shapes.{ShapeFields, IsShape}
 use Rattle.messages.specs.Messages.{is_conflict}
 use Rattle.messages.specs.declared.message.Message.TheVariants.{Deny}
 use Rattle.messages.specs.declared.event.Event.{Event}
-use Rattle.messages.specs.declared.event.Event.TheVariants.{Call, Deliver}
+use Rattle.messages.specs.declared.event.Event.TheVariants.{Call, Deliver, Declare}
 use Rattle.messages.specs.declared.entry.Entry.{Entry}
 use Rattle.cluster_core.specs.declared.item.Item.{Item}
 use Rattle.cluster_core.specs.declared.item.Item.TheVariants.{Answered, Gone}
@@ -86,20 +86,32 @@ pub record IsOpenAt (es : List Entry) (id : CallId) (pid : ℕ) (op : Op) (reply
   pub after : call_at ≤ at
   pub before : at ≤ reply_at
 
--- an item stands where it may: a call inside its open interval; nothing declares a node failed yet
+-- the entry at that position declares that incarnation of the node failed
+pub record IsDeclaredAt (es : List Entry) (node incarnation at : ℕ) : Type 0 where
+  pub declaring : Entry
+  pub there : EntryAt es at declaring
+  pub is_declare : declaring.event ≡ Declare node
+  pub of : declaring.incarnation ≡ incarnation
+
+-- an item stands where it may: a call inside its open interval, the failure of a node at its declaration
 abbrev pub IsPlaced : List Entry → Item → Type 0
 IsPlaced es (Answered at id pid op reply) = IsOpenAt es id pid op reply at
-IsPlaced es (Gone at node incarnation) = ⊥
+IsPlaced es (Gone at node incarnation) = IsDeclaredAt es node incarnation at
 
 -- the history has an item for this call, with this reply
 abbrev pub HasCall : List Item → CallId → Reply → Type 0
 HasCall h id reply = (k : ℕ) × (at : ℕ) × (pid : ℕ) × (op : Op) × (slice_get h k ≡ Some (Answered at id pid op reply))
 
--- each answered call of the run stands in the history exactly once, inside its open interval, and nothing else stands there
+-- the history has the failure of that incarnation of the node at that position
+abbrev pub HasGone : List Item → ℕ → ℕ → ℕ → Type 0
+HasGone h node incarnation at = (k : ℕ) × (slice_get h k ≡ Some (Gone at node incarnation))
+
+-- each answered call of the run stands in the history exactly once, inside its open interval, each declaration at its own position, and nothing else stands there
 pub record Fits (es : List Entry) (h : List Item) : Type 0 where
   pub rising : Rising h
   pub placed : (k : ℕ) (i : Item) → slice_get h k ≡ Some i → IsPlaced es i
   pub answered : (id : CallId) (reply : Reply) (at : ℕ) → IsRepliedAt es id reply at → HasCall h id reply
+  pub gone : (node incarnation at : ℕ) → IsDeclaredAt es node incarnation at → HasGone h node incarnation at
   pub once : (j k : ℕ) (a b : Item) (id : CallId) → slice_get h j ≡ Some a → slice_get h k ≡ Some b → call_id a ≡ Some id → call_id b ≡ Some id → j ≡ k
 
 -- a call has at most one reply
@@ -144,7 +156,7 @@ pub record StandsAtItsPlace (es : List Entry) (id : CallId) (reply : Reply) (at 
 
 abbrev pub IsAtItsPlace : List Entry → Item → Type 0
 IsAtItsPlace es (Answered at id pid op reply) = StandsAtItsPlace es id reply at
-IsAtItsPlace es (Gone at node incarnation) = ⊥
+IsAtItsPlace es (Gone at node incarnation) = IsDeclaredAt es node incarnation at
 
 -- the history has each call at its place
 abbrev pub EachAtItsPlace : List Entry → List Item → Type 0

@@ -1,37 +1,52 @@
 -- What an event does to the cluster.
-use Rattle.std.specs.Prelude.{ℕ, ◌+◌, Bool, not, ◌&&◌, ◌==◌, nat_le, if◌then◌else◌, ◌++◌, Result, Ok, Err}
+use Rattle.std.specs.Prelude.{ℕ, ◌+◌, Bool, true, false, not, ◌&&◌, ◌==◌, nat_le, if◌then◌else◌, [], ◌++◌, Result, Ok, Err}
 use Rattle.messages.specs.declared.refusal.StepError.{StepError}
 use Rattle.messages.specs.declared.refusal.Refused.{Refused}
-use Rattle.messages.specs.declared.refusal.Refused.TheVariants.{Stranger, JournalFull}
+use Rattle.messages.specs.declared.refusal.Refused.TheVariants.{Stranger, JournalFull, NotAlive, NotDead, TooManyRestarts, Fenced}
 use Rattle.messages.specs.Refusals.{refused_by}
 use Rattle.messages.specs.declared.message.Message.{Message}
 use Rattle.messages.specs.declared.event.Event.{Event}
-use Rattle.messages.specs.declared.event.Event.TheVariants.{Call, Deliver, Retry, Resend}
+use Rattle.messages.specs.declared.event.Event.TheVariants.{Call, Deliver, Retry, Resend, Declare, Restart, Learn}
 use Rattle.messages.specs.declared.outcome.Outcome.{Outcome}
 use Rattle.messages.specs.declared.entry.Entry.{Entry}
 use Rattle.messages.specs.declared.actor.Actor.{Actor}
 use Rattle.messages.specs.declared.actor.Actor.TheVariants.{Node as ANode, Server as AServer}
-use Rattle.messages.specs.Messages.{addressee, is_among}
+use Rattle.messages.specs.Messages.{addressee, is_among, sending}
 use Rattle.node_core.specs.declared.event.NodeEvent.TheVariants as node
-use Rattle.node_core.specs.State.{NodeState}
+use Rattle.node_core.specs.State.{NodeState, first_node}
 use Rattle.node_core.specs.Calls.{is_pid, is_in_shape}
 use Rattle.node_core.specs.Node.{node_rule}
 use Rattle.token_server.specs.declared.event.ServerEvent.TheVariants as server
 use Rattle.token_server.specs.State.{ServerState}
 use Rattle.token_server.specs.Server.{server_rule}
-use Rattle.cluster_core.specs.World.{WorldState, journal_limit, has_node, has_file}
+use Rattle.cluster_core.specs.World.{WorldState, journal_limit, most_incarnations, has_node, has_file, was_declared}
 
 -- the actor is one of the shape
 abbrev pub has_actor : WorldState → Actor → Bool
 has_actor w (ANode n) = has_node w n
 has_actor w (AServer file) = has_file w file
 
--- the event names nodes, processes and files of the shape, or a message that was sent to one of its actors
+-- the event names nodes, processes and files of the shape, a message that was sent to one of its actors, or an incarnation that was declared
 abbrev pub is_known : WorldState → Event → Bool
 is_known w (Call n pid op) = has_node w n && (is_pid pid && is_in_shape w.shape op)
 is_known w (Deliver m) = has_actor w (addressee m) && is_among w.sent m
 is_known w (Retry n pid) = has_node w n && is_pid pid
 is_known w (Resend file) = has_file w file
+is_known w (Declare n) = has_node w n
+is_known w (Restart n) = has_node w n
+is_known w (Learn file n incarnation) = has_file w file && (has_node w n && was_declared w n incarnation)
+
+-- the actor is a node that was declared failed and is not restarted
+abbrev pub is_stopped : WorldState → Actor → Bool
+is_stopped w (ANode n) = not (w.alive n)
+is_stopped w (AServer file) = false
+
+-- the event would be a step of such a node
+abbrev pub is_fenced : WorldState → Event → Bool
+is_fenced w (Call n pid op) = is_stopped w (ANode n)
+is_fenced w (Deliver m) = is_stopped w (addressee m)
+is_fenced w (Retry n pid) = is_stopped w (ANode n)
+is_fenced w _ = false
 
 -- the incarnation that the entry of a node's event names, 0 for none: a retry is of the live one
 abbrev pub named_incarnation : NodeState → Event → ℕ
@@ -63,16 +78,42 @@ abbrev pub delivered : WorldState → Message → Actor → Result (WorldState �
 delivered w m (ANode n) = after_node w (Deliver m) n (node_rule (w.nodes n) (node.Deliver m))
 delivered w m (AServer file) = after_server w (Deliver m) file (server_rule (w.servers file) (server.Deliver m))
 
--- the one actor that takes the event does its step; all others stay
+-- the node is in its next incarnation, empty, and is not alive until it restarts
+abbrev pub declared : WorldState → ℕ → WorldState
+declared w n = record (with_node w n (first_node w.shape n ((w.nodes n).incarnation + 1))) { alive = λ m. if m == n then false else w.alive m }
+
+-- the node is alive
+abbrev pub restarted : WorldState → ℕ → WorldState
+restarted w n = record w { alive = λ m. if m == n then true else w.alive m }
+
+-- one more entry, which sends nothing
+abbrev pub silent : WorldState → Event → ℕ → WorldState × Entry
+silent w event incarnation = recorded w event incarnation (sending [])
+
+-- a node is declared failed that is alive
+abbrev pub declare_rule : WorldState → ℕ → Result (WorldState × Entry) Refused
+declare_rule w n = if w.alive n then Ok (silent (declared w n) (Declare n) (w.nodes n).incarnation) else Err NotAlive
+
+-- a node restarts that was declared, unless no incarnation is left
+abbrev pub restart_rule : WorldState → ℕ → Result (WorldState × Entry) Refused
+restart_rule w n =
+    if w.alive n then Err NotDead
+    else (if nat_le (w.nodes n).incarnation most_incarnations then Ok (silent (restarted w n) (Restart n) (w.nodes n).incarnation) else Err TooManyRestarts)
+
+-- the one actor that takes the event does its step, or a node is declared or restarted; all others stay
 abbrev pub taken : WorldState → Event → Result (WorldState × Entry) Refused
 taken w (Call n pid op) = after_node w (Call n pid op) n (node_rule (w.nodes n) (node.Call pid op))
 taken w (Deliver m) = delivered w m (addressee m)
 taken w (Retry n pid) = after_node w (Retry n pid) n (node_rule (w.nodes n) (node.Retry pid))
 taken w (Resend file) = after_server w (Resend file) file (server_rule (w.servers file) server.Resend)
+taken w (Declare n) = declare_rule w n
+taken w (Restart n) = restart_rule w n
+taken w (Learn file n incarnation) = after_server w (Learn file n incarnation) file (server_rule (w.servers file) (server.Learn n incarnation))
 
--- the world after the event and the entry that it makes, or the first of its refusals: a full journal, a stranger, and then those of the step
+-- the world after the event and the entry that it makes, or the first of its refusals: a full journal, a stranger, a step of a node that was declared failed, and then those of the step
 abbrev pub next : WorldState → Event → Result (WorldState × Entry) Refused
 next w event =
     if nat_le journal_limit w.length then Err JournalFull
     else (if not (is_known w event) then Err Stranger
-    else taken w event)
+    else (if is_fenced w event then Err Fenced
+    else taken w event))

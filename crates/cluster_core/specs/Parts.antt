@@ -1,13 +1,13 @@
 -- A world as plain data, and what it stands for.
-use Rattle.std.specs.Prelude.{◌≡◌, ℕ, ◌+◌, ◌≤◌, ◌==◌, if◌then◌else◌, List, [], ◌∷◌, length}
+use Rattle.std.specs.Prelude.{◌≡◌, ℕ, Bool, true, false, ◌+◌, ◌≤◌, ◌==◌, if◌then◌else◌, List, [], ◌∷◌, length}
 use Rattle.messages.specs.Shapes.{ShapeFields}
 use Rattle.messages.specs.declared.message.Message.{Message}
 use Rattle.messages.specs.declared.event.Event.{Event}
-use Rattle.messages.specs.declared.event.Event.TheVariants.{Call, Deliver, Retry, Resend}
+use Rattle.messages.specs.declared.event.Event.TheVariants.{Call, Deliver, Retry, Resend, Learn}
 use Rattle.node_core.specs.declared.event.NodeEvent.{NodeEvent}
 use Rattle.node_core.specs.declared.event.NodeEvent.TheVariants as own
 use Rattle.node_core.specs.Parts.{NodeParts, node_state}
-use Rattle.node_core.specs.State.{first_node}
+use Rattle.node_core.specs.State.{NodeState, first_node}
 use Rattle.token_server.specs.declared.event.ServerEvent.{ServerEvent}
 use Rattle.token_server.specs.declared.event.ServerEvent.TheVariants as served
 use Rattle.token_server.specs.Parts.{ServerParts, server_state}
@@ -17,6 +17,7 @@ use Rattle.cluster_core.specs.World.{WorldState, journal_limit}
 pub record WorldParts : Type 0 where
   pub shape : ShapeFields
   pub nodes : List NodeParts
+  pub alive : List Bool
   pub servers : List ServerParts
   pub sent : List Message
   pub length : ℕ
@@ -30,10 +31,23 @@ numbered f rest from (x ∷ xs) n = if n == from then f x else numbered f rest (
 abbrev pub IsRest : {A B : Type 0} → (A → B) → (ℕ → B) → List A → Type 0
 IsRest f rest xs = (n : ℕ) → numbered f rest 1 xs n ≡ rest n
 
+-- a node that is not alive is as it will begin again
+abbrev pub seated : ShapeFields → ℕ → Bool → NodeState → NodeState
+seated shape n true s = s
+seated shape n false s = first_node shape n (s.incarnation + 1)
+
+-- the nodes as they are listed, and which are alive
+abbrev pub listed : WorldParts → ℕ → NodeState
+listed p = numbered node_state (λ n. first_node p.shape n 1) 1 p.nodes
+
+abbrev pub alive_at : WorldParts → ℕ → Bool
+alive_at p = numbered (λ b. b) (λ n. true) 1 p.alive
+
 abbrev pub world_state : WorldParts → WorldState
 world_state p = record {
   shape = p.shape;
-  nodes = numbered node_state (λ n. first_node p.shape n 1) 1 p.nodes;
+  nodes = λ n. seated p.shape n (alive_at p n) (listed p n);
+  alive = alive_at p;
   servers = numbered server_state (first_server p.shape) 1 p.servers;
   sent = p.sent;
   length = p.length;
@@ -42,19 +56,28 @@ world_state p = record {
 -- a node and a server for each number of the shape, each node by its number, and no more entries than a journal may have
 pub record IsWorld (p : WorldParts) : Type 0 where
   pub nodes_there : length p.nodes ≡ p.shape.nodes
+  pub alive_there : length p.alive ≡ p.shape.nodes
   pub servers_there : length p.servers ≡ p.shape.files
   pub own_number : (n : ℕ) → ((world_state p).nodes n).node ≡ n
   pub within : p.length ≤ journal_limit
+
+-- an event that a node takes
+abbrev pub IsTakenByNode : Event → Type 0
+IsTakenByNode (Call n pid op) = Unit {0}
+IsTakenByNode (Deliver m) = Unit {0}
+IsTakenByNode (Retry n pid) = Unit {0}
+IsTakenByNode _ = ⊥
 
 -- what a node does at an event is its own step
 abbrev pub IsStepOf : Event → ℕ → NodeEvent → Type 0
 IsStepOf (Call n pid op) node step = (n ≡ node) × (step ≡ own.Call pid op)
 IsStepOf (Deliver m) node step = step ≡ own.Deliver m
 IsStepOf (Retry n pid) node step = (n ≡ node) × (step ≡ own.Retry pid)
-IsStepOf (Resend file) node step = ⊥
+IsStepOf _ node step = ⊥
 
 -- and what a server does at an event
 abbrev pub IsServerStepOf : Event → ServerEvent → Type 0
 IsServerStepOf (Deliver m) step = step ≡ served.Deliver m
 IsServerStepOf (Resend file) step = step ≡ served.Resend
+IsServerStepOf (Learn file n incarnation) step = step ≡ served.Learn n incarnation
 IsServerStepOf _ step = ⊥

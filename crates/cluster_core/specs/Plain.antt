@@ -1,4 +1,4 @@
--- The plain history of a run: the calls that are not told of a lock, each at its reply.
+-- The plain history of a run: the calls that are not told of a lock, each at its reply, and the declared failures.
 use Rattle.std.specs.Prelude.{◌≡◌, ℕ, ◌≤◌, List, slice_get, Some}
 use Rattle.model.specs.declared.call.CallId.{CallId}
 use Rattle.model.specs.declared.op.Op.{Op}
@@ -12,7 +12,7 @@ use Rattle.cluster_core.specs.declared.item.Item.TheVariants.{Answered, Gone}
 use Rattle.cluster_core.specs.World.{WorldState, first_world}
 use Rattle.cluster_core.specs.Runs.{Leads}
 use Rattle.cluster_core.specs.Union.{union}
-use Rattle.cluster_core.specs.Histories.{Legal, Rising, IsCalledAt, IsRepliedAt}
+use Rattle.cluster_core.specs.Histories.{Legal, Rising, IsCalledAt, IsRepliedAt, IsDeclaredAt, HasGone}
 
 -- the call was made, and the entry at that position answers it with a reply that names no lock
 pub record IsPlainAnswer (es : List Entry) (id : CallId) (pid : ℕ) (op : Op) (reply : Reply) (at : ℕ) : Type 0 where
@@ -24,17 +24,18 @@ pub record IsPlainAnswer (es : List Entry) (id : CallId) (pid : ℕ) (op : Op) (
 
 abbrev pub IsPlainItem : List Entry → Item → Type 0
 IsPlainItem es (Answered at id pid op reply) = IsPlainAnswer es id pid op reply at
-IsPlainItem es (Gone at node incarnation) = ⊥
+IsPlainItem es (Gone at node incarnation) = IsDeclaredAt es node incarnation at
 
 -- the items have this call at that position, with this reply
 abbrev pub HasAnswerAt : List Item → CallId → Reply → ℕ → Type 0
 HasAnswerAt h id reply at = (k : ℕ) × (pid : ℕ) × (op : Op) × (slice_get h k ≡ Some (Answered at id pid op reply))
 
--- each call whose reply names no lock stands at that reply, and nothing else stands there
+-- each call whose reply names no lock stands at that reply, each declaration at its own position, and nothing else stands there
 pub record IsPlain (es : List Entry) (h : List Item) : Type 0 where
   pub rising : Rising h
   pub placed : (k : ℕ) (i : Item) → slice_get h k ≡ Some i → IsPlainItem es i
   pub answered : (id : CallId) (reply : Reply) (at : ℕ) → IsRepliedAt es id reply at → NamesNoLock reply → HasAnswerAt h id reply at
+  pub gone : (node incarnation at : ℕ) → IsDeclaredAt es node incarnation at → HasGone h node incarnation at
 
 -- it is legal, and its last table is the union of the live nodes
 pub record IsPlainHistory (shape : ShapeFields) (es : List Entry) (h : List Item) : Type 0 where

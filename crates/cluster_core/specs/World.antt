@@ -1,15 +1,16 @@
 -- The state of the cluster.
-use Rattle.std.specs.Prelude.{ℕ, Bool, ◌&&◌, ◌==◌, List, []}
+use Rattle.std.specs.Prelude.{ℕ, Bool, true, ◌&&◌, ◌==◌, nat_le, nat_lt, List, []}
 use Rattle.messages.specs.Shapes.{ShapeFields}
 use Rattle.messages.specs.declared.message.Message.{Message}
 use Rattle.messages.specs.Messages.{is_within}
 use Rattle.node_core.specs.State.{NodeState, first_node}
 use Rattle.token_server.specs.State.{ServerState, first_server}
 
--- every actor's state, every message sent so far, and the number of entries so far
+-- every actor's state, which nodes are alive, every message sent so far, and the number of entries so far; of a node that was declared failed and is not restarted the state is the one in which it will begin again: empty, in the next incarnation
 pub record WorldState : Type 0 where
   pub shape : ShapeFields
   pub nodes : ℕ → NodeState
+  pub alive : ℕ → Bool
   pub servers : ℕ → ServerState
   pub sent : List Message
   pub length : ℕ
@@ -18,6 +19,7 @@ abbrev pub first_world : ShapeFields → WorldState
 first_world shape = record {
   shape = shape;
   nodes = λ node. first_node shape node 1;
+  alive = λ node. true;
   servers = λ file. first_server shape file;
   sent = [];
   length = 0;
@@ -33,6 +35,18 @@ has_node w node = is_within w.shape.nodes node
 abbrev pub has_file : WorldState → ℕ → Bool
 has_file w file = is_within w.shape.files file
 
--- this incarnation of the node is live
+-- this incarnation of the node is live, or begins next
 abbrev pub is_live : WorldState → ℕ → ℕ → Bool
 is_live w node incarnation = has_node w node && (incarnation == (w.nodes node).incarnation)
+
+-- the node is alive
+abbrev pub is_alive : WorldState → ℕ → Bool
+is_alive w node = has_node w node && w.alive node
+
+-- how many incarnations a node may have
+abbrev pub most_incarnations : ℕ
+most_incarnations = 65535
+
+-- this incarnation of the node was declared failed
+abbrev pub was_declared : WorldState → ℕ → ℕ → Bool
+was_declared w node incarnation = nat_le 1 incarnation && nat_lt incarnation (w.nodes node).incarnation

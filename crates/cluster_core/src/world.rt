@@ -1,5 +1,5 @@
 //! The cluster.
-ghost use Rattle.std.specs.Prelude.{◌≡◌, ◌≢◌, ◌≤◌, ◌<◌, true, Ok, Err, ◌++◌, ◌∷◌, [], IfOk, IfErr, OnOk, OnErr, length, slice_set};
+ghost use Rattle.std.specs.Prelude.{◌≡◌, ◌≢◌, ◌≤◌, ◌<◌, true, false, Ok, Err, ◌++◌, ◌∷◌, [], IfOk, IfErr, OnOk, OnErr, length, ◌-◌, slice_set, slice_index_or};
 ghost use Rattle.messages.specs.declared.refusal.Refused.TheVariants.{NoMemory};
 ghost use Rattle.messages.specs.declared.refusal.StepError.TheVariants.{NoMemory as OutOfMemory};
 ghost use Rattle.messages.specs.Messages.{is_within};
@@ -8,12 +8,14 @@ ghost use Rattle.messages.specs.Shapes.{IsShape, most_files};
 ghost use Rattle.model.specs.Limits.{IsNumber, most_nodes};
 ghost use Rattle.node_core.specs.Calls.{is_pid, is_in_shape};
 ghost use Rattle.node_core.specs.Node.{node_rule};
-ghost use Rattle.node_core.specs.Parts.{node_state};
+ghost use Rattle.node_core.specs.Parts.{NodeParts, node_state};
+ghost use Rattle.node_core.specs.Plans.{Fits, planned as reached};
 ghost use Rattle.token_server.specs.Server.{server_rule};
-ghost use Rattle.token_server.specs.Parts.{server_state};
-ghost use Rattle.cluster_core.specs.World.{WorldState, journal_limit, first_world};
-ghost use Rattle.cluster_core.specs.Next.{is_known, has_actor, named_incarnation, after_node, after_server, taken, next};
-ghost use Rattle.cluster_core.specs.Parts.{world_state, IsStepOf, IsServerStepOf, IsRest};
+ghost use Rattle.token_server.specs.Parts.{ServerParts, server_state};
+ghost use Rattle.token_server.specs.Edits.{edited, planned};
+ghost use Rattle.cluster_core.specs.World.{WorldState, journal_limit, was_declared, first_world};
+ghost use Rattle.cluster_core.specs.Next.{is_known, is_fenced, has_actor, declare_rule, restart_rule, named_incarnation, after_node, after_server, taken, next};
+ghost use Rattle.cluster_core.specs.Parts.{world_state, IsStepOf, IsServerStepOf, IsTakenByNode, IsRest};
 ghost use Rattle.cluster_core.specs.Runs.{Leads};
 ghost use Rattle.cluster_core.specs.Safe.{IsSafe};
 ghost use Rattle.node_core.specs.State.{first_node};
@@ -25,15 +27,18 @@ use intervals::span_map::NoMemory as NoRoom;
 use messages::actor::Actor;
 use messages::entry::Entry;
 use messages::event::Event;
+use messages::items::Items;
 use messages::message::Message;
 use messages::outcome::Outcome;
 use messages::refusal::{Refused, StepError};
 use messages::shape::Shape;
 use model::op::Op;
+use node_core::change::Change as NodeChange;
 use node_core::event::NodeEvent;
 use node_core::node::Node;
 use std::alloc::{AllocError, Global};
 use std::marker::Model;
+use token_server::change::Change as ServerChange;
 use token_server::event::ServerEvent;
 use token_server::server::Server;
 
@@ -47,6 +52,7 @@ pub const JOURNAL_LIMIT: u32 = 1_048_576;
 pub struct World {
     shape: Shape,
     nodes: Vec<Node>,
+    alive: Vec<bool>,
     servers: Vec<Server>,
     sent: Sent,
     length: u32,
@@ -57,9 +63,9 @@ impl Model for World {
 
     ghost Value = { WorldParts };
 
-    ghost view = { λ w. record { shape = w.shape; nodes = w.nodes.items; servers = w.servers.items; sent = w.sent; length = w.length } };
+    ghost view = { λ w. record { shape = w.shape; nodes = w.nodes.items; alive = w.alive.items; servers = w.servers.items; sent = w.sent; length = w.length } };
 
-    ghost invariant = { λ w. IsWorld (record { shape = w.shape; nodes = w.nodes.items; servers = w.servers.items; sent = w.sent; length = w.length }) };
+    ghost invariant = { λ w. IsWorld (record { shape = w.shape; nodes = w.nodes.items; alive = w.alive.items; servers = w.servers.items; sent = w.sent; length = w.length }) };
 }
 
 // Whether the number is one of those from 1 to the most.
@@ -91,6 +97,18 @@ fn first_nodes(alloc: Global, shape: Shape) -> Result<Vec<Node>, NoRoom>
         add(&mut nodes, node)?;
     }
     Ok(nodes)
+}
+
+// Every node of a cluster that begins is alive.
+fn first_alive(alloc: Global, shape: Shape) -> Result<Vec<bool>, NoRoom>
+    ensures there { IfOk result (λ alive. length alive.items ≡ shape.nodes) }
+    ensures first { IfOk result (λ alive. IsRest (λ b. b) (λ n. true) alive.items) }
+{
+    let mut alive = Vec::new(alloc);
+    for index in 0..shape.nodes() {
+        add(&mut alive, true)?;
+    }
+    Ok(alive)
 }
 
 // The servers of a cluster that begins.
@@ -125,10 +143,12 @@ impl World {
         ensures within { OnOk result (IsShape shape) }
     {
         let nodes = first_nodes(alloc, shape)?;
+        let alive = first_alive(alloc, shape)?;
         let servers = first_servers(alloc, shape)?;
         Ok(World {
             shape,
             nodes,
+            alive,
             servers,
             sent: Sent::new(alloc),
             length: 0,
@@ -162,12 +182,64 @@ impl World {
                 is_number(self.shape.nodes() as u16, *node as u16) && is_number(256, *pid)
             }
             Event::Resend { file } => is_number(self.shape.files(), *file),
+            Event::Declare { node } => is_number(self.shape.nodes() as u16, *node as u16),
+            Event::Restart { node } => is_number(self.shape.nodes() as u16, *node as u16),
+            Event::Learn {
+                file,
+                node,
+                incarnation,
+            } => {
+                is_number(self.shape.files(), *file)
+                    && is_number(self.shape.nodes() as u16, *node as u16)
+                    && self.was_declared(*node, *incarnation)
+            }
+        }
+    }
+
+    // Whether the node with the number is alive.
+    fn is_alive(&self, node: u8) -> bool
+        requires { is_within self.now.shape.nodes node ≡ true }
+        ensures { result ≡ (world_state self.now).alive node }
+    {
+        self.alive[node as usize - 1]
+    }
+
+    // Whether the incarnation of the node was declared failed.
+    fn was_declared(&self, node: u8, incarnation: u16) -> bool
+        requires { is_within self.now.shape.nodes node ≡ true }
+        ensures { result ≡ was_declared (world_state self.now) node incarnation }
+    {
+        let last = self.nodes[node as usize - 1].incarnation();
+        if self.is_alive(node) {
+            1 <= incarnation && incarnation < last
+        } else {
+            1 <= incarnation && incarnation <= last
+        }
+    }
+
+    // Whether the event would be a step of a node that was declared failed.
+    fn is_fenced(&self, event: &Event) -> bool
+        requires { is_known (world_state self.now) event.now ≡ true }
+        ensures { result ≡ is_fenced (world_state self.now) event.now }
+    {
+        match event {
+            Event::Call { node, .. } => !self.is_alive(*node),
+            Event::Retry { node, .. } => !self.is_alive(*node),
+            Event::Deliver(message) => match message.addressee() {
+                Actor::Node(node) => !self.is_alive(node),
+                Actor::Server(_) => false,
+            },
+            Event::Resend { .. } => false,
+            Event::Declare { .. } => false,
+            Event::Restart { .. } => false,
+            Event::Learn { .. } => false,
         }
     }
 
     // The node with the number.
     fn node(&self, node: u8) -> &Node
-        requires { is_within self.now.shape.nodes node ≡ true }
+        requires node { is_within self.now.shape.nodes node ≡ true }
+        requires alive { (world_state self.now).alive node ≡ true }
         ensures { node_state result.now ≡ (world_state self.now).nodes node }
     {
         &self.nodes[node as usize - 1]
@@ -175,42 +247,45 @@ impl World {
 
     // The incarnation that the entry of a node's event names, or 0.
     fn named_incarnation(&self, event: &Event, node: u8) -> u16
-        requires { is_within self.now.shape.nodes node ≡ true }
+        requires node { is_within self.now.shape.nodes node ≡ true }
+        requires alive { (world_state self.now).alive node ≡ true }
+        requires taken { IsTakenByNode event.now }
         ensures value { result ≡ named_incarnation ((world_state self.now).nodes node) event.now }
         ensures incarnated { NamesItsIncarnation event.now result }
     {
         match event {
             Event::Retry { .. } => self.node(node).incarnation(),
-            _ => 0,
+            Event::Call { .. } => 0,
+            Event::Deliver(_) => 0,
+            Event::Resend { .. } => 0,
+            Event::Declare { .. } => 0,
+            Event::Restart { .. } => 0,
+            Event::Learn { .. } => 0,
         }
     }
 
-    // The step of a node.
-    fn node_step(
-        &self,
-        alloc: Global,
-        node: u8,
-        step: &NodeEvent,
-    ) -> Result<(Node, Outcome), StepError>
-        requires { is_within self.now.shape.nodes node ≡ true }
-        ensures ok { IfOk result (λ done. node_rule ((world_state self.now).nodes node) step.now ≡ Ok (node_state done.0, done.1)) }
+    // What the node with the number will do at an event.
+    fn node_plan(&self, alloc: Global, node: u8, step: &NodeEvent) -> Result<NodeChange, StepError>
+        requires node { is_within self.now.shape.nodes node ≡ true }
+        requires alive { (world_state self.now).alive node ≡ true }
+        ensures ok { IfOk result (λ change. (p : NodeParts) × (p ≡ slice_index_or self.now.nodes (node - 1) p) × Fits p change.step × (node_rule ((world_state self.now).nodes node) step.now ≡ Ok (reached p change.step, change.outcome))) }
         ensures err { IfErr result (λ e. e ≢ OutOfMemory → node_rule ((world_state self.now).nodes node) step.now ≡ Err e) }
     {
-        self.nodes[node as usize - 1].step(alloc, step)
+        self.nodes[node as usize - 1].plan(alloc, step)
     }
 
-    // The step of a server.
-    fn server_step(
+    // What the server with the number will do at an event.
+    fn server_plan(
         &self,
         alloc: Global,
         file: u16,
         step: &ServerEvent,
-    ) -> Result<(Server, Outcome), StepError>
+    ) -> Result<ServerChange, StepError>
         requires { is_within self.now.shape.files file ≡ true }
-        ensures ok { IfOk result (λ done. server_rule ((world_state self.now).servers file) step.now ≡ Ok (server_state done.0, done.1)) }
+        ensures ok { IfOk result (λ change. (p : ServerParts) × (p ≡ slice_index_or self.now.servers (file - 1) p) × (server_rule ((world_state self.now).servers file) step.now ≡ Ok (planned p change.edit, change.outcome))) }
         ensures err { IfErr result (λ e. e ≢ OutOfMemory → server_rule ((world_state self.now).servers file) step.now ≡ Err e) }
     {
-        self.servers[file as usize - 1].step(alloc, step)
+        self.servers[file as usize - 1].plan(alloc, step)
     }
 
     // The node takes a step at its event.
@@ -223,21 +298,15 @@ impl World {
     ) -> Result<Entry, Refused>
         requires room { self.old.length < journal_limit }
         requires node { is_within self.old.shape.nodes node ≡ true }
+        requires alive { (world_state self.old).alive node ≡ true }
         requires same_event { IsStepOf event.now node step.now }
         ensures ok { IfOk result (λ entry. after_node (world_state self.old) event.now node (node_rule ((world_state self.old).nodes node) step.now) ≡ Ok (world_state self.new, entry)) }
         ensures err { IfErr result (λ e. e ≢ NoMemory → after_node (world_state self.old) event.now node (node_rule ((world_state self.old).nodes node) step.now) ≡ Err e) }
         ensures unchanged { OnErr result (self.new ≡ self.old) }
     {
         let incarnation = self.named_incarnation(event, node);
-        let (next, outcome) = self.node_step(alloc, node, step)?;
-        let sends = outcome.sends.as_slice();
-        settle(
-            &mut self.nodes,
-            node as usize - 1,
-            next,
-            &mut self.sent,
-            sends,
-        )?;
+        let change = self.node_plan(alloc, node, step)?;
+        let outcome = settle_node(&mut self.nodes, node as usize - 1, change, &mut self.sent)?;
         self.length += 1;
         Ok(Entry::at_node(*event, incarnation, outcome))
     }
@@ -257,23 +326,58 @@ impl World {
         ensures err { IfErr result (λ e. e ≢ NoMemory → after_server (world_state self.old) event.now file (server_rule ((world_state self.old).servers file) step.now) ≡ Err e) }
         ensures unchanged { OnErr result (self.new ≡ self.old) }
     {
-        let (next, outcome) = self.server_step(alloc, file, step)?;
-        let sends = outcome.sends.as_slice();
-        settle(
-            &mut self.servers,
-            file as usize - 1,
-            next,
-            &mut self.sent,
-            sends,
-        )?;
+        let change = self.server_plan(alloc, file, step)?;
+        let outcome = settle_server(&mut self.servers, file as usize - 1, change, &mut self.sent)?;
         self.length += 1;
         Ok(Entry::new(*event, outcome))
+    }
+
+    // The node is declared failed.
+    fn declare(&mut self, alloc: Global, node: u8) -> Result<Entry, Refused>
+        requires room { self.old.length < journal_limit }
+        requires node { is_within self.old.shape.nodes node ≡ true }
+        ensures ok { IfOk result (λ entry. declare_rule (world_state self.old) node ≡ Ok (world_state self.new, entry)) }
+        ensures err { IfErr result (λ e. declare_rule (world_state self.old) node ≡ Err e) }
+        ensures unchanged { OnErr result (self.new ≡ self.old) }
+    {
+        if !self.is_alive(node) {
+            return Err(Refused::NotAlive);
+        }
+        let incarnation = self.node(node).incarnation();
+        self.alive[node as usize - 1] = false;
+        self.length += 1;
+        let outcome = Outcome::sending(Items::new(alloc));
+        Ok(Entry::at_node(Event::Declare { node }, incarnation, outcome))
+    }
+
+    // The node restarts.
+    fn restart(&mut self, alloc: Global, node: u8) -> Result<Entry, Refused>
+        requires room { self.old.length < journal_limit }
+        requires node { is_within self.old.shape.nodes node ≡ true }
+        ensures ok { IfOk result (λ entry. restart_rule (world_state self.old) node ≡ Ok (world_state self.new, entry)) }
+        ensures err { IfErr result (λ e. e ≢ NoMemory → restart_rule (world_state self.old) node ≡ Err e) }
+        ensures unchanged { OnErr result (self.new ≡ self.old) }
+    {
+        if self.is_alive(node) {
+            return Err(Refused::NotDead);
+        }
+        let last = self.nodes[node as usize - 1].incarnation();
+        if last == 65535 {
+            return Err(Refused::TooManyRestarts);
+        }
+        let begun = Node::new(alloc, self.shape, node, last + 1)?;
+        self.nodes[node as usize - 1] = begun;
+        self.alive[node as usize - 1] = true;
+        self.length += 1;
+        let outcome = Outcome::sending(Items::new(alloc));
+        Ok(Entry::at_node(Event::Restart { node }, last + 1, outcome))
     }
 
     // The actor that takes the event does its step.
     fn take(&mut self, alloc: Global, event: &Event) -> Result<Entry, Refused>
         requires room { self.old.length < journal_limit }
         requires known { is_known (world_state self.old) event.now ≡ true }
+        requires free { is_fenced (world_state self.old) event.now ≡ false }
         ensures ok { IfOk result (λ entry. taken (world_state self.old) event.now ≡ Ok (world_state self.new, entry)) }
         ensures err { IfErr result (λ e. e ≢ NoMemory → taken (world_state self.old) event.now ≡ Err e) }
         ensures unchanged { OnErr result (self.new ≡ self.old) }
@@ -295,6 +399,19 @@ impl World {
                 self.step_node(alloc, event, *node, &NodeEvent::Retry { pid: *pid })
             }
             Event::Resend { file } => self.step_server(alloc, event, *file, &ServerEvent::Resend),
+            Event::Declare { node } => self.declare(alloc, *node),
+            Event::Restart { node } => self.restart(alloc, *node),
+            Event::Learn {
+                file,
+                node,
+                incarnation,
+            } => {
+                let step = ServerEvent::Learn {
+                    node: *node,
+                    incarnation: *incarnation,
+                };
+                self.step_server(alloc, event, *file, &step)
+            }
         }
     }
 
@@ -315,6 +432,9 @@ impl World {
         }
         if !self.is_known(&event) {
             return Err(Refused::Stranger);
+        }
+        if self.is_fenced(&event) {
+            return Err(Refused::Fenced);
         }
         self.take(alloc, &event)
     }
@@ -357,20 +477,39 @@ impl World {
     }
 }
 
-// Another item in place of the one at an index, once these messages are sent.
-fn settle<T: Drop>(
-    items: &mut Vec<T>,
+// Makes the change of the node at an index, once its messages are sent.
+fn settle_node(
+    nodes: &mut Vec<Node>,
     index: usize,
-    item: T,
+    change: NodeChange,
     sent: &mut Sent,
-    messages: &[Message],
-) -> Result<(), NoRoom>
-    requires { index < length items.old.items }
-    ensures items { OnOk result (items.new.items ≡ slice_set items.old.items index item) }
-    ensures sent { OnOk result (sent.new ≡ sent.old ++ messages.now) }
-    ensures unchanged { OnErr result ((items.new.items ≡ items.old.items) × (sent.new ≡ sent.old)) }
+) -> Result<Outcome, NoRoom>
+    requires within { index < length nodes.old.items }
+    requires fits { (p : NodeParts) → p ≡ slice_index_or nodes.old.items index p → Fits p change.step }
+    ensures nodes { OnOk result ((p : NodeParts) → p ≡ slice_index_or nodes.old.items index p → (next : NodeParts) × (nodes.new.items ≡ slice_set nodes.old.items index next) × (node_state next ≡ reached p change.step)) }
+    ensures outcome { IfOk result (λ outcome. outcome ≡ change.outcome) }
+    ensures sent { IfOk result (λ outcome. sent.new ≡ sent.old ++ outcome.sends) }
+    ensures unchanged { OnErr result ((nodes.new.items ≡ nodes.old.items) × (sent.new ≡ sent.old)) }
 {
-    sent.extend(messages)?;
-    items[index] = item;
-    Ok(())
+    sent.extend(change.outcome.sends.as_slice())?;
+    let node = &mut nodes[index];
+    Ok(node.apply(change))
+}
+
+// Makes the change of the server at an index, once its messages are sent.
+fn settle_server(
+    servers: &mut Vec<Server>,
+    index: usize,
+    change: ServerChange,
+    sent: &mut Sent,
+) -> Result<Outcome, NoRoom>
+    requires { index < length servers.old.items }
+    ensures servers { OnOk result ((p : ServerParts) → p ≡ slice_index_or servers.old.items index p → servers.new.items ≡ slice_set servers.old.items index (edited change.edit p)) }
+    ensures outcome { IfOk result (λ outcome. outcome ≡ change.outcome) }
+    ensures sent { IfOk result (λ outcome. sent.new ≡ sent.old ++ outcome.sends) }
+    ensures unchanged { OnErr result ((servers.new.items ≡ servers.old.items) × (sent.new ≡ sent.old)) }
+{
+    sent.extend(change.outcome.sends.as_slice())?;
+    let server = &mut servers[index];
+    Ok(server.apply(change))
 }

@@ -279,3 +279,11 @@ pub row_holds : (l : List Row) (i : ℕ) (r : Row) → AreRows l → i < length 
 row_holds [] i r rows lt is = absurd (omega arith)
 row_holds (s ∷ rest) zero r rows lt is = rw is rows.0
 row_holds (s ∷ rest) (suc i) r rows lt is = row_holds rest i r rows.2 (omega arith) is
+
+-- an owner that has a row in the file has no gap there
+pub row_or_gap : (l : List Row) (i j : ℕ) (file : ℕ) (owner : Owner) → IsRowAt l i file owner → IsGap l j file owner → ⊥
+row_or_gap [] i j file owner at gap = at
+row_or_gap (r ∷ rest) zero zero file owner at gap = cc (at, gap.0)
+row_or_gap (r ∷ rest) zero (suc j) file owner at gap = cc (at, gap.0)
+row_or_gap (r ∷ rest) (suc i) zero file owner at gap = cc (at.0, gap.0)
+row_or_gap (r ∷ rest) (suc i) (suc j) file owner at gap = row_or_gap rest i j file owner at.1 gap.1

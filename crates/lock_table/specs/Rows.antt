@@ -1,5 +1,5 @@
 -- The rows of a lock table, and the locks that they hold.
-use Rattle.std.specs.Prelude.{◌≡◌, ◌≢◌, ℕ, zero, suc, ◌<◌, ◌≤◌, Option, None, List, [], ◌∷◌}
+use Rattle.std.specs.Prelude.{◌≡◌, ◌≢◌, ℕ, zero, suc, ◌<◌, ◌≤◌, Option, None, length, List, [], ◌∷◌}
 use Rattle.std.specs.Ordering.{nat_cmp, ordering_then}
 use Rattle.std.specs.declared.cmp.Ordering.{Ordering}
 use Rattle.std.specs.declared.cmp.Ordering.TheVariants.{Less, Equal, Greater}
@@ -54,6 +54,10 @@ abbrev pub IsGap : List Row → ℕ → ℕ → Owner → Type 0
 IsGap rows zero file owner = AllAfter file owner rows
 IsGap [] (suc i) file owner = ⊥
 IsGap (r ∷ rest) (suc i) file owner = (row_cmp r file owner ≡ Less) × IsGap rest i file owner
+
+-- where the owner has no row in the file, there is room for all rows and one more
+abbrev pub HasRoom : List Row → ℕ → Owner → ℕ → Type 0
+HasRoom rows file owner capacity = (i : ℕ) → IsGap rows i file owner → length rows < capacity
 
 -- the locks of one row, in its file
 abbrev pub locks_of : Row → FileLocks

@@ -1,12 +1,13 @@
 //! The record locks of one node.
-ghost use Rattle.std.specs.Prelude.{◌≡◌, ◌≤◌, ◌<◌, All, IfOk, IsTrue, ◌↔◌, OnOk, OnErr, Err, Some, None, MatchOption, MatchResult};
+ghost use Rattle.std.specs.Prelude.{◌≡◌, ◌≤◌, ◌<◌, All, IfOk, length, insert, [], IsTrue, ◌↔◌, OnOk, OnErr, Err, Some, None, MatchOption, MatchResult};
 ghost use Rattle.std.specs.List.{AllZip};
 ghost use Rattle.intervals.specs.Bytes.{put};
 ghost use Rattle.intervals.specs.Runs.{value_at};
 ghost use Rattle.model.specs.Limits.{most_regions};
 ghost use Rattle.model.specs.Locks.{no_locks, replace, with_lock, without_owner, without_owner_anywhere, regions, IsFree, IsRegion, IsLowestBlocker};
 ghost use Rattle.lock_table.specs.declared.error.LockError.TheVariants.{NoLocks};
-ghost use Rattle.lock_table.specs.Rows.{held, AreRows, IsRowAt, IsGap, HoldsSome, IsSameRow};
+ghost use Rattle.std.specs.Vec.{vec_capacity};
+ghost use Rattle.lock_table.specs.Rows.{held, HasRoom, AreRows, IsRowAt, IsGap, HoldsSome, IsSameRow};
 ghost use Rattle.lock_table.specs.Listing.{IsListing};
 
 use crate::error::LockError;
@@ -74,6 +75,40 @@ fn same_rows(rows: &[Row], others: &[Row]) -> bool
         }
     }
     true
+}
+
+/// What an owner will hold in a file, in a planned change. Where it has no row yet, `room` is an empty
+/// list with room for all rows and that one.
+#[derive(Drop)]
+pub struct LockEdit {
+    pub file: u16,
+    pub owner: Owner,
+    pub spans: Spans,
+    pub room: Vec<Row>,
+}
+
+// Moves the rows to the list that has room for them.
+fn move_rows(rows: &mut Vec<Row>, room: Vec<Row>)
+    requires empty { room.items ≡ [] }
+    requires room { length rows.old.items ≤ vec_capacity room }
+    ensures items { rows.new.items ≡ rows.old.items }
+    ensures room { vec_capacity room ≤ vec_capacity rows.new }
+{
+    let mut moved = std::mem::replace(rows, room);
+    let Ok(()) = rows.append(&mut moved) else {
+        unreachable!()
+    };
+}
+
+// One more row, for which there is room.
+fn insert_row(rows: &mut Vec<Row>, place: usize, row: Row)
+    requires place { place ≤ length rows.old.items }
+    requires room { length rows.old.items < vec_capacity rows.old }
+    ensures { rows.new.items ≡ insert rows.old.items place row }
+{
+    let Ok(()) = rows.insert(place, row) else {
+        unreachable!()
+    };
 }
 
 impl LockTable {
@@ -183,6 +218,92 @@ impl LockTable {
         let mut spans = self.spans_of(file, owner)?;
         spans.clear(span)?;
         self.keep(file, owner, spans)
+    }
+
+    // An empty list with room for all rows and one more, where the owner has no row in the file.
+    fn room_for(&self, file: u16, owner: Owner) -> Result<Vec<Row>, NoMemory>
+        ensures empty { IfOk result (λ room. room.items ≡ []) }
+        ensures room { IfOk result (λ room. HasRoom self.now file owner (vec_capacity room)) }
+    {
+        let alloc = *self.rows.allocator();
+        match position(&self.rows, file, owner) {
+            Ok(_) => Ok(Vec::new(alloc)),
+            Err(_) => Vec::with_capacity(alloc, self.rows.len() + 1),
+        }
+    }
+
+    /// What `set` (with a mode) or `unlock` (with none) would change: a copy of what the owner holds in
+    /// the file, and of no other row.
+    ///
+    /// # Errors
+    /// Those of `set` and `unlock`.
+    pub fn plan(
+        &self,
+        owner: Owner,
+        file: u16,
+        span: Span,
+        mode: Option<Mode>,
+    ) -> Result<LockEdit, LockError>
+        ensures ok { IfOk result (λ e. replace (held self.now) e.file e.owner (value_at e.spans) ≡ with_lock (held self.now) file owner span mode) }
+        ensures few { OnOk result (regions (put (held self.now file owner) span mode) ≤ most_regions) }
+        ensures many { result ≡ Err NoLocks → most_regions < regions (put (held self.now file owner) span mode) }
+        ensures room { IfOk result (λ e. HasRoom self.now e.file e.owner (vec_capacity e.room)) }
+        ensures empty { IfOk result (λ e. e.room.items ≡ []) }
+        ensures of_owner { IfOk result (λ e. e.owner ≡ owner) }
+    {
+        let mut spans = self.spans_of(file, owner)?;
+        match mode {
+            Some(mode) => spans.set(span, mode)?,
+            None => spans.clear(span)?,
+        }
+        if spans.starts() > MOST_REGIONS {
+            return Err(LockError::NoLocks);
+        }
+        let room = self.room_for(file, owner)?;
+        Ok(LockEdit {
+            file,
+            owner,
+            spans,
+            room,
+        })
+    }
+
+    // Puts spans that hold some byte in place of what an owner holds in a file. Takes no memory.
+    fn put_spans(&mut self, file: u16, owner: Owner, spans: Spans, room: Vec<Row>)
+        requires some { HoldsSome (value_at spans) }
+        requires empty { room.items ≡ [] }
+        requires room { HasRoom self.old file owner (vec_capacity room) }
+        ensures { held self.new ≡ replace (held self.old) file owner (value_at spans) }
+    {
+        match position(&self.rows, file, owner) {
+            Ok(i) => {
+                let row = &mut self.rows[i];
+                row.spans = spans;
+            }
+            Err(i) => {
+                move_rows(&mut self.rows, room);
+                insert_row(&mut self.rows, i, Row { file, owner, spans });
+            }
+        }
+    }
+
+    /// Makes a planned change. Takes no memory.
+    pub fn apply(&mut self, edit: LockEdit)
+        requires empty { edit.room.items ≡ [] }
+        requires room { HasRoom self.old edit.file edit.owner (vec_capacity edit.room) }
+        ensures { held self.new ≡ replace (held self.old) edit.file edit.owner (value_at edit.spans) }
+    {
+        let LockEdit {
+            file,
+            owner,
+            spans,
+            room,
+        } = edit;
+        if spans.is_empty() {
+            self.drop_owner(owner, file);
+        } else {
+            self.put_spans(file, owner, spans, room);
+        }
     }
 
     /// Takes each byte of a file from an owner. Takes no memory.

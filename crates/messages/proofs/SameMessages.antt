@@ -19,7 +19,7 @@ use Rattle.messages.specs.contracts.message.MessagePartialEq.TheImpl as derived
 use Rattle.messages.specs.contracts.event.EventPartialEq.TheImpl as derived_of_events
 use Rattle.messages.specs.Wants.{Wants}
 use Rattle.messages.specs.declared.event.Event.{Event}
-use Rattle.messages.specs.declared.event.Event.TheVariants.{Call, Deliver, Retry, Resend}
+use Rattle.messages.specs.declared.event.Event.TheVariants.{Call, Deliver, Retry, Resend, Declare, Restart, Learn}
 use Rattle.messages.specs.declared.message.Urgency.{Urgency}
 use Rattle.messages.specs.declared.message.Urgency.TheVariants.{Now, Waits}
 use Rattle.messages.specs.declared.message.Message.{Message}
@@ -237,4 +237,7 @@ event_eq-Decides (Call node pid op) (Call n p o) = Decides-at _ _ (call_events n
 event_eq-Decides (Deliver m) (Deliver n) = (λ h. ap Deliver ((message_eq-Decides m n).0 h), λ e. (message_eq-Decides m n).1 (cc))
 event_eq-Decides (Retry node pid) (Retry n p) = grind (arith, common_steps)
 event_eq-Decides (Resend file) (Resend f) = grind (arith, common_steps)
+event_eq-Decides (Declare node) (Declare n) = grind (arith, common_steps)
+event_eq-Decides (Restart node) (Restart n) = grind (arith, common_steps)
+event_eq-Decides (Learn file node incarnation) (Learn f n i) = grind (arith, common_steps)
 event_eq-Decides _ _ = (λ h. absurd (false≢true h), λ e. cc)

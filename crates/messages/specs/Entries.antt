@@ -5,7 +5,7 @@ use Rattle.model.specs.declared.reply.Reply.{Reply}
 use Rattle.messages.specs.declared.message.Message.{Message}
 use Rattle.messages.specs.declared.outcome.Outcome.{Outcome}
 use Rattle.messages.specs.declared.event.Event.{Event}
-use Rattle.messages.specs.declared.event.Event.TheVariants.{Call, Retry}
+use Rattle.messages.specs.declared.event.Event.TheVariants.{Call, Retry, Declare, Restart}
 
 pub record EntryFields : Type 0 where
   pub event : Event
@@ -20,9 +20,11 @@ NamesItsCall (Call node pid op) None = ⊥
 NamesItsCall (Call node pid op) (Some id) = id.node ≡ node
 NamesItsCall _ call = call ≡ None
 
--- a retry has the incarnation of its node, of which the first is 1; so far nothing else has one
+-- a retry has the incarnation of its node, of which the first is 1, a declaration the one that is declared, a restart the one that begins; nothing else has one
 abbrev pub NamesItsIncarnation : Event → ℕ → Type 0
 NamesItsIncarnation (Retry node pid) incarnation = 1 ≤ incarnation
+NamesItsIncarnation (Declare node) incarnation = 1 ≤ incarnation
+NamesItsIncarnation (Restart node) incarnation = 1 ≤ incarnation
 NamesItsIncarnation _ incarnation = incarnation ≡ 0
 
 pub record IsEntry (e : EntryFields) : Type 0 where

@@ -3,7 +3,7 @@ use Rattle.std.specs.Prelude.{ℕ}
 use Rattle.messages.specs.declared.refusal.StepError.{StepError}
 use Rattle.messages.specs.declared.refusal.StepError.TheVariants as step
 use Rattle.messages.specs.declared.refusal.Refused.{Refused}
-use Rattle.messages.specs.declared.refusal.Refused.TheVariants.{NoMemory, Busy, Stranger, JournalFull, Spent}
+use Rattle.messages.specs.declared.refusal.Refused.TheVariants.{NoMemory, Busy, Stranger, JournalFull, Spent, NotAlive, NotDead, TooManyRestarts, Fenced}
 
 -- the number by which listings know it
 abbrev pub number_of : Refused → ℕ
@@ -12,6 +12,10 @@ number_of Busy = 13
 number_of Stranger = 14
 number_of JournalFull = 16
 number_of Spent = 19
+number_of NotAlive = 10
+number_of NotDead = 11
+number_of TooManyRestarts = 12
+number_of Fenced = 15
 
 -- a refusal of one actor's step, among all
 abbrev pub refused_by : StepError → Refused

@@ -8,13 +8,36 @@ use model::op::Op;
 #[derive(Clone, Copy, Debug, PartialEq, Eq)]
 pub enum Event {
     /// A process of a node makes a call.
-    Call { node: u8, pid: u16, op: Op },
+    Call {
+        node: u8,
+        pid: u16,
+        op: Op,
+    },
     /// A message that was sent comes to its addressee.
     Deliver(Message),
     /// The open call of a process is tried again.
-    Retry { node: u8, pid: u16 },
+    Retry {
+        node: u8,
+        pid: u16,
+    },
     /// The token server of a file sends again what has no answer.
-    Resend { file: u16 },
+    Resend {
+        file: u16,
+    },
+    /// The node is declared failed: its incarnation takes no step from here on.
+    Declare {
+        node: u8,
+    },
+    /// A node that was declared begins again, empty, in the next incarnation.
+    Restart {
+        node: u8,
+    },
+    /// The token server of a file learns that an incarnation of a node was declared.
+    Learn {
+        file: u16,
+        node: u8,
+        incarnation: u16,
+    },
 }
 
 impl Event {

@@ -58,6 +58,18 @@ pub enum Refused {
     /// A counter is at its greatest number.
     #[error("no number is left")]
     Spent,
+    /// The node is not live.
+    #[error("the node is not alive")]
+    NotAlive,
+    /// The node is live.
+    #[error("the node is alive")]
+    NotDead,
+    /// The node has had its last incarnation.
+    #[error("the node was restarted too often")]
+    TooManyRestarts,
+    /// The node was declared failed, and takes no step.
+    #[error("the node was declared failed")]
+    Fenced,
 }
 
 impl From<AllocError> for Refused {
@@ -90,7 +102,7 @@ impl From<StepError> for Refused {
 }
 
 impl Refused {
-    /// The number by which listings know the refusal: 3, 13, 14, 16 or 19.
+    /// The number by which listings know the refusal: 3, 10 to 16 or 19.
     pub fn number(self) -> u16
         ensures { result ≡ number_of self }
     {
@@ -100,6 +112,10 @@ impl Refused {
             Refused::Stranger => 14,
             Refused::JournalFull => 16,
             Refused::Spent => 19,
+            Refused::NotAlive => 10,
+            Refused::NotDead => 11,
+            Refused::TooManyRestarts => 12,
+            Refused::Fenced => 15,
         }
     }
 }

@@ -1,6 +1,7 @@
 //! A node: its processes, their locks and open calls, and its tokens.
 #![tactic(auto)]
 
+pub mod change;
 pub mod command;
 pub mod descriptors;
 pub mod effect;

@@ -1,13 +1,15 @@
 //! The locks of a node.
-ghost use Rattle.std.specs.Prelude.{◌≡◌, ◌≤◌, ◌<◌, Err, MatchResult, OnOk, OnErr};
+ghost use Rattle.std.specs.Prelude.{◌≡◌, ◌≤◌, ◌<◌, Err, [], IfSome, MatchResult, OnOk, OnErr};
 ghost use Rattle.intervals.specs.Bytes.{put};
 ghost use Rattle.model.specs.Limits.{most_regions};
 ghost use Rattle.model.specs.Locks.{with_lock, regions};
-ghost use Rattle.lock_table.specs.Rows.{held};
+ghost use Rattle.lock_table.specs.Rows.{held, HasRoom};
+ghost use Rattle.std.specs.Vec.{vec_capacity};
+ghost use Rattle.node_core.specs.Plans.{locks_after};
 ghost use Rattle.node_core.specs.Try.{may_free};
 
 use lock_table::error::LockError;
-use lock_table::lock_table::LockTable;
+use lock_table::lock_table::{LockEdit, LockTable};
 use model::lock_call::LockCall;
 use model::mode::Mode;
 use model::reply::Reply;
@@ -30,6 +32,18 @@ pub fn change_locks(
     match mode {
         Some(mode) => locks.set(target.owner, target.file, target.span, mode),
         None => locks.unlock(target.owner, target.file, target.span),
+    }
+}
+
+/// Makes a planned change of locks, if there is one. Takes no memory.
+pub fn apply_locks(locks: &mut LockTable, edit: Option<LockEdit>)
+    requires empty { IfSome edit (λ e. e.room.items ≡ []) }
+    requires room { IfSome edit (λ e. HasRoom locks.old e.file e.owner (vec_capacity e.room)) }
+    ensures { held locks.new ≡ locks_after (held locks.old) edit }
+{
+    match edit {
+        Some(edit) => locks.apply(edit),
+        None => {}
     }
 }
 

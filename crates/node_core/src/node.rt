@@ -223,7 +223,8 @@ impl Node {
         ensures err { IfErr result (λ error. error ≢ StepError.NoMemory → node_rule (node_state self.now) event.now ≡ Err error) }
     {
         let mut next = self.copy(alloc)?;
-        let outcome = next.take_event(alloc, event)?;
+        let change = next.plan(alloc, event)?;
+        let outcome = next.apply(change);
         Ok((next, outcome))
     }
 
@@ -258,6 +259,7 @@ impl Node {
 
 mod calls;
 mod commands;
+mod plans;
 mod readers;
 #[cfg(test)]
 mod tests;

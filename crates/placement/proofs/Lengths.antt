@@ -9,10 +9,10 @@ use Rattle.messages.specs.declared.message.Message.{Message}
 use Rattle.messages.specs.declared.outcome.Outcome.{Outcome}
 use Rattle.messages.specs.declared.refusal.StepError.{StepError}
 use Rattle.messages.specs.declared.refusal.Refused.{Refused}
-use Rattle.messages.specs.declared.refusal.Refused.TheVariants.{Stranger, JournalFull}
+use Rattle.messages.specs.declared.refusal.Refused.TheVariants.{Stranger, JournalFull, NotAlive, NotDead, TooManyRestarts, Fenced}
 use Rattle.messages.specs.Refusals.{refused_by}
 use Rattle.messages.specs.declared.event.Event.{Event}
-use Rattle.messages.specs.declared.event.Event.TheVariants.{Call, Deliver, Retry, Resend}
+use Rattle.messages.specs.declared.event.Event.TheVariants.{Call, Deliver, Retry, Resend, Declare, Restart, Learn}
 use Rattle.messages.specs.declared.entry.Entry.{Entry}
 use Rattle.node_core.specs.declared.event.NodeEvent.TheVariants as node
 use Rattle.node_core.specs.State.{NodeState}
@@ -20,9 +20,10 @@ use Rattle.node_core.specs.Node.{node_rule}
 use Rattle.token_server.specs.declared.event.ServerEvent.TheVariants as server
 use Rattle.token_server.specs.State.{ServerState}
 use Rattle.token_server.specs.Server.{server_rule}
-use Rattle.cluster_core.specs.World.{WorldState, first_world, journal_limit}
-use Rattle.cluster_core.specs.Next.{next, is_known, taken, delivered, after_node, after_server, recorded, named_incarnation, with_node, with_server}
+use Rattle.cluster_core.specs.World.{WorldState, first_world, journal_limit, most_incarnations}
+use Rattle.cluster_core.specs.Next.{next, is_known, taken, delivered, after_node, after_server, recorded, named_incarnation, with_node, with_server, is_fenced, declared, restarted, silent}
 use Rattle.cluster_core.specs.Runs.{Leads, IsRun}
+use Rattle.cluster_core.proofs.Choices.{if_either}
 
 -- a step that is not refused makes one entry more
 abbrev GrowsBy : ℕ → Result (WorldState × Entry) Refused → Type 0
@@ -54,16 +55,23 @@ taken-grows w (Call n pid op) = after_node-grows w (Call n pid op) n (node_rule 
 taken-grows w (Deliver m) = delivered-grows w m (addressee m)
 taken-grows w (Retry n pid) = after_node-grows w (Retry n pid) n (node_rule (w.nodes n) (node.Retry pid))
 taken-grows w (Resend file) = after_server-grows w (Resend file) file (server_rule (w.servers file) server.Resend)
+taken-grows w (Learn file n i) = after_server-grows w (Learn file n i) file (server_rule (w.servers file) (server.Learn n i))
+taken-grows w (Declare n) =
+    if_either (GrowsBy w.length) (w.alive n) _ _ (made-grows w.length (silent (declared w n) (Declare n) (w.nodes n).incarnation) refl) (refused-grows w.length NotAlive)
+taken-grows w (Restart n) =
+    if_either (GrowsBy w.length) (w.alive n) _ _ (refused-grows w.length NotDead)
+    (if_either (GrowsBy w.length) (nat_le (w.nodes n).incarnation most_incarnations) _ _ (made-grows w.length (silent (restarted w n) (Restart n) (w.nodes n).incarnation) refl) (refused-grows w.length TooManyRestarts))
 
 -- and comes only where there is room
-let_through : {A E : Type 0} (full known : Bool) (x : Result A E) (p : A) (a b : E) → ◌≡◌ {A = Result A E} (if full then Err a else (if not known then Err b else x)) (Ok p) → (full ≡ false) × (x ≡ Ok p)
-let_through true known x p a b h = absurd (cc)
-let_through false true x p a b h = (refl, h)
-let_through false false x p a b h = absurd (cc)
+let_through : {A E : Type 0} (full known fenced : Bool) (x : Result A E) (p : A) (a b c : E) → ◌≡◌ {A = Result A E} (if full then Err a else (if not known then Err b else (if fenced then Err c else x))) (Ok p) → (full ≡ false) × (x ≡ Ok p)
+let_through true known fenced x p a b c h = absurd (cc)
+let_through false true false x p a b c h = (refl, h)
+let_through false true true x p a b c h = absurd (cc)
+let_through false false fenced x p a b c h = absurd (cc)
 
 grows : (w v : WorldState) (event : Event) (e : Entry) → next w event ≡ Ok (v, e) → (w.length < journal_limit) × (v.length ≡ w.length + 1)
 grows w v event e step =
-    let through = let_through (nat_le journal_limit w.length) (is_known w event) (taken w event) (v, e) JournalFull Stranger step in
+    let through = let_through (nat_le journal_limit w.length) (is_known w event) (is_fenced w event) (taken w event) (v, e) JournalFull Stranger Fenced step in
     (room w.length through.0, taken-grows w event (v, e) through.1)
   where
     room : (n : ℕ) → nat_le journal_limit n ≡ false → n < journal_limit

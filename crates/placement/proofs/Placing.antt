@@ -12,7 +12,7 @@ use Rattle.messages.specs.declared.event.Event.{Event}
 use Rattle.messages.specs.declared.event.Event.TheVariants.{Deliver}
 use Rattle.messages.specs.declared.entry.Entry.{Entry}
 use Rattle.cluster_core.specs.declared.item.Item.{Item}
-use Rattle.cluster_core.proofs.Placement.{Slots, find_call, item_of, filled, placed_by, slots_after, slots_from, slots_of, items_in}
+use Rattle.cluster_core.proofs.Placement.{Slots, find_call, item_of, filled, placed_by, slots_after, slots_from, slots_of, items_in, gone_at}
 use Rattle.cluster_core.proofs.Slots.{slots_of-push}
 use Rattle.placement.specs.Indexes.{Calls, Conflicts, Indexes, Locates, AreBefore, slot_of}
 use Rattle.placement.proofs.Locating.{located_before, located_none}
@@ -60,7 +60,7 @@ length-placed_by past slots (Deliver (Deny file call holder number lock)) item =
 length-placed_by past slots event item = length-push slots (item (length past + 1))
 
 length-slots_after : (past : List Entry) (slots : Slots) (e : Entry) (answer : Option (CallId × Reply)) → length (slots_after past slots e answer) ≡ length slots + 1
-length-slots_after past slots e None = length-push slots None
+length-slots_after past slots e None = length-push slots (gone_at (length past + 1) e.incarnation e.event)
 length-slots_after past slots e (Some r) = length-placed_by past slots e.event (λ at. item_of at r.0 r.1 (find_call (past ++ e ∷ []) r.0))
 
 length-slots_from : (past : List Entry) (slots : Slots) (es : List Entry) → length (slots_from past slots es) ≡ length slots + length es

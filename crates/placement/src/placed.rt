@@ -4,7 +4,7 @@ ghost use Rattle.messages.specs.declared.entry.Entry.{Entry};
 ghost use Rattle.cluster_core.specs.World.{journal_limit};
 ghost use Rattle.cluster_core.specs.Safe.{LeadsToSafe};
 ghost use Rattle.cluster_core.specs.Histories.{HasHistory, EachAtItsPlace};
-ghost use Rattle.cluster_core.proofs.Placement.{find_call, item_of, slots_after, items_in, history_of};
+ghost use Rattle.cluster_core.proofs.Placement.{find_call, item_of, gone_at, slots_after, items_in, history_of};
 ghost use Rattle.placement.specs.Indexes.{Indexes, Locates, Notes, AreBefore, slot_of};
 
 use crate::history::History;
@@ -27,7 +27,8 @@ type Calls = HashMap<CallId, (u16, Op)>;
 // By the name of a revoke: the index of the first entry that tells of a lock in its way.
 type Conflicts = HashMap<RevokeId, usize>;
 
-/// The one history of the journal's run: each answered call, and nothing else, at its place. A call
+/// The one history of the journal's run: each answered call at its place, each declared failure at its
+/// declaration, and nothing else. A call
 /// that a server denied stands at the entry at which the holder of the lock first did the revoke that
 /// the denial names, every other call at the entry that answers it. A single machine's table allows
 /// it from the first item to the last, and ends as what the live nodes hold.
@@ -126,14 +127,29 @@ fn answer(
     ensures { OnOk result ((es : List Entry) → length es ≡ length slots.old.items → Indexes calls.now (es ++ entry.now ∷ []) → Locates conflicts.now es → slots.new.items ≡ slots_after es slots.old.items entry.now entry.now.reply) }
 {
     let own = slots.len();
-    slots.push(None)?;
     let Some((id, reply)) = entry.reply() else {
+        slots.push(gone_at(own as u32 + 1, entry))?;
         return Ok(());
     };
+    slots.push(None)?;
     if let Some(index) = slot_of(conflicts, own, &entry.event()) {
         slots[index] = item_of(calls, index as u32 + 1, id, reply);
     }
     Ok(())
+}
+
+// The failure of a node that the entry at that position declares.
+fn gone_at(position: u32, entry: &Entry) -> Option<Item>
+    ensures { result ≡ gone_at position entry.now.incarnation entry.now.event }
+{
+    let Event::Declare { node } = entry.event() else {
+        return None;
+    };
+    Some(Item::Gone {
+        position,
+        node,
+        incarnation: entry.incarnation(),
+    })
 }
 
 // The slot for the call that an entry with this event answers: that of the first entry that tells of

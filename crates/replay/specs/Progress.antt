@@ -1,7 +1,7 @@
 -- How a script is run, line by line.
 use Rattle.std.specs.Prelude.{◌≡◌, ℕ, ◌-◌, ◌<◌, ◌==◌, ◌||◌, nat_le, nat_lt, Bool, true, false, if◌then◌else◌, ⊤, List, [], ◌∷◌, ◌++◌, length, slice_get, Option, Result, Ok, Err, Some, None}
 use Rattle.messages.specs.declared.refusal.Refused.{Refused}
-use Rattle.messages.specs.declared.refusal.Refused.TheVariants.{NoMemory, Busy, Stranger, JournalFull, Spent}
+use Rattle.messages.specs.declared.refusal.Refused.TheVariants.{NoMemory, Busy, Stranger, JournalFull, Spent, NotAlive, NotDead, TooManyRestarts, Fenced}
 use Rattle.messages.specs.declared.event.Event.{Event}
 use Rattle.messages.specs.declared.event.Event.TheVariants as event
 use Rattle.messages.specs.declared.message.Message.{Message}
@@ -31,6 +31,10 @@ IsListed Busy = ⊤
 IsListed Stranger = ⊤
 IsListed JournalFull = ⊥
 IsListed Spent = ⊤
+IsListed NotAlive = ⊤
+IsListed NotDead = ⊤
+IsListed TooManyRestarts = ⊤
+IsListed Fenced = ⊤
 
 -- the event made this entry and led to this world
 abbrev pub after_entry : Progress → WorldState × Entry → Progress

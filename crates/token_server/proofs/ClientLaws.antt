@@ -18,7 +18,7 @@ slice_get-set_same (y ∷ ys) zero x within = refl
 slice_get-set_same (y ∷ ys) (suc i) x within = slice_get-set_same ys i x (omega arith)
 
 -- and nowhere else
-slice_get-set_other : {X : Type 0} (xs : List X) (i k : ℕ) (x : X) → k ≢ i → slice_get (slice_set xs i x) k ≡ slice_get xs k
+pub slice_get-set_other : {X : Type 0} (xs : List X) (i k : ℕ) (x : X) → k ≢ i → slice_get (slice_set xs i x) k ≡ slice_get xs k
 slice_get-set_other [] i k x apart = refl
 slice_get-set_other (y ∷ ys) zero zero x apart = absurd (apart refl)
 slice_get-set_other (y ∷ ys) zero (suc k) x apart = refl
@@ -39,7 +39,7 @@ client_at-read clients node place client within e read =
     client_at-place clients node place next ∙ slice_get_read clients (length clients) place client refl (omega arith) read
 
 -- a write changes that node's client
-client_at-set_same : (clients : List Client) (node place : ℕ) (new : Client) → IsNumber (length clients) node → place ≡ node - 1 → client_at (slice_set clients place new) node ≡ Some new
+pub client_at-set_same : (clients : List Client) (node place : ℕ) (new : Client) → IsNumber (length clients) node → place ≡ node - 1 → client_at (slice_set clients place new) node ≡ Some new
 client_at-set_same clients node place new within e =
     let next : place + 1 ≡ node = omega arith in
     client_at-place (slice_set clients place new) node place next ∙ slice_get-set_same clients place new (omega arith)
@@ -51,17 +51,21 @@ client_at-set_other clients node place (suc k) new within e apart =
     slice_get-set_other clients place k new (λ same. apart (omega arith))
 
 -- what f sees of the clients after a write: g of what it saw before at that node
-changed : {A : Type 0} (f : Option Client → A) (g : A → A) (clients : List Client) (node place : ℕ) (client new : Client) → IsNumber (length clients) node → place ≡ node - 1 → client ≡ slice_index_or clients place client → f (Some new) ≡ g (f (Some client)) → (n : ℕ) → f (client_at (slice_set clients place new) n) ≡ (if n == node then g (f (client_at clients n)) else f (client_at clients n))
-changed {A} f g clients node place client new within e read made n = elim (eqb_tells n node) [
+pub changed_at : {A : Type 0} (f : Option Client → A) (g : A → A) (clients : List Client) (node place : ℕ) (client new : Client) → IsNumber (length clients) node → place ≡ node - 1 → client_at clients node ≡ Some client → f (Some new) ≡ g (f (Some client)) → (n : ℕ) → f (client_at (slice_set clients place new) n) ≡ (if n == node then g (f (client_at clients n)) else f (client_at clients n))
+changed_at {A} f g clients node place client new within e there_is made n = elim (eqb_tells n node) [
   | inl same ↦
       let there : f (client_at (slice_set clients place new) n) ≡ f (Some new) = ap (λ k. f (client_at (slice_set clients place new) k)) same.1 ∙ ap f (client_at-set_same clients node place new within e) in
-      let before : f (client_at clients n) ≡ f (Some client) = ap (λ k. f (client_at clients k)) same.1 ∙ ap f (client_at-read clients node place client within e read) in
+      let before : f (client_at clients n) ≡ f (Some client) = ap (λ k. f (client_at clients k)) same.1 ∙ ap f there_is in
       let test : (if n == node then g (f (client_at clients n)) else f (client_at clients n)) ≡ g (f (client_at clients n)) = ap (λ b. cond b (g (f (client_at clients n))) (f (client_at clients n))) same.0 in
       there ∙ made ∙ ap g (sym before) ∙ sym test
   | inr apart ↦
       let test : (if n == node then g (f (client_at clients n)) else f (client_at clients n)) ≡ f (client_at clients n) = ap (λ b. cond b (g (f (client_at clients n))) (f (client_at clients n))) apart.0 in
       ap f (client_at-set_other clients node place n new within e apart.1) ∙ sym test
 ]
+
+changed : {A : Type 0} (f : Option Client → A) (g : A → A) (clients : List Client) (node place : ℕ) (client new : Client) → IsNumber (length clients) node → place ≡ node - 1 → client ≡ slice_index_or clients place client → f (Some new) ≡ g (f (Some client)) → (n : ℕ) → f (client_at (slice_set clients place new) n) ≡ (if n == node then g (f (client_at clients n)) else f (client_at clients n))
+changed f g clients node place client new within e read made n =
+    changed_at f g clients node place client new within e (client_at-read clients node place client within e read) made n
 
 -- the rows after a change of one client
 pub rows_of-set : (clients : List Client) (node place : ℕ) (client new : Client) (g : Option Row → Option Row) → IsNumber (length clients) node → place ≡ node - 1 → client ≡ slice_index_or clients place client → row_seen new.row ≡ g (row_seen client.row) → rows_of (slice_set clients place new) ≡ with_change node g (rows_of clients)
@@ -75,7 +79,7 @@ unfolding deaths_of
 deaths_of-set clients node place client new g within e read made =
     λ i n. changed dead_of g clients node place client new within e read made n i
 
-same_either : {A : Type 0} (b : Bool) (x : A) → cond b x x ≡ x
+pub same_either : {A : Type 0} (b : Bool) (x : A) → cond b x x ≡ x
 same_either true x = refl
 same_either false x = refl
 

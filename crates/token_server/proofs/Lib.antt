@@ -4,3 +4,4 @@ pub mod RequestLaws
 pub mod GrantLaws
 pub mod ResendLaws
 pub mod ServeLaws
+pub mod EditLaws

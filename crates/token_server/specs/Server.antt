@@ -20,7 +20,7 @@ use Rattle.messages.specs.declared.actor.Actor.TheVariants.{Node as ANode, Serve
 use Rattle.messages.specs.Messages.{addressee, host_of, is_within, same_urgency, sending}
 use Rattle.token_server.specs.declared.held.Held.{Held}
 use Rattle.token_server.specs.declared.event.ServerEvent.{ServerEvent}
-use Rattle.token_server.specs.declared.event.ServerEvent.TheVariants.{Deliver, Resend}
+use Rattle.token_server.specs.declared.event.ServerEvent.TheVariants.{Deliver, Resend, Learn}
 use Rattle.token_server.specs.State.{Row, ServerState, empty_row, with_row, is_of_call, unless, forgotten}
 use Rattle.token_server.specs.Serve.{serve}
 use Rattle.token_server.specs.Resends.{sending_first, resend_rule}
@@ -121,7 +121,12 @@ then_serve s (Err e) = Err e
 then_serve s (Ok None) = Ok (s, sending [])
 then_serve s (Ok (Some changed)) = sending_first changed.1 (serve changed.0)
 
+-- the incarnation of the node is known as dead from now on, and then the server serves
+abbrev pub learn_rule : ServerState → ℕ → ℕ → Result (ServerState × Outcome) StepError
+learn_rule s node incarnation = if not (is_within s.shape.nodes node) then Err Stranger else sending_first [] (serve (forgotten s node incarnation))
+
 -- what a server does at an event, or why it refuses it
 abbrev pub server_rule : ServerState → ServerEvent → Result (ServerState × Outcome) StepError
 server_rule s (Deliver m) = then_serve s (change s m)
 server_rule s Resend = resend_rule s
+server_rule s (Learn node incarnation) = learn_rule s node incarnation

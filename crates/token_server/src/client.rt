@@ -1,5 +1,5 @@
 //! Nodes, as a token server knows them.
-ghost use Rattle.std.specs.Prelude.{◌≡◌, if◌then◌else◌, ◌≤◌, ◌<◌, ◌↔◌, max, IsTrue, IfOk, IfSome, OnOk, OnErr, Some, None};
+ghost use Rattle.std.specs.Prelude.{◌≡◌, if◌then◌else◌, ◌≤◌, ◌<◌, ◌↔◌, false, max, IsTrue, IfOk, IfSome, OnOk, OnErr, Some, None};
 ghost use Rattle.std.specs.Option.{option_map};
 ghost use Rattle.messages.specs.Messages.{greatest_number};
 ghost use Rattle.token_server.specs.State.{empty_row, row_above};
@@ -38,6 +38,17 @@ impl Client {
             self.row = None;
         }
         self.dead = self.dead.max(incarnation);
+    }
+
+    /// Whether `forget` changes anything.
+    pub fn forgets(&self, incarnation: u16) -> bool
+        ensures row { result ≡ false → row_above incarnation (row_seen self.now.row) ≡ row_seen self.now.row }
+        ensures dead { result ≡ false → max self.now.dead incarnation ≡ self.now.dead }
+    {
+        if self.has_row_up_to(incarnation) {
+            return true;
+        }
+        self.dead < incarnation
     }
 
     // Whether there is a row, of that incarnation or an older one.

@@ -6,12 +6,14 @@ ghost use Rattle.model.specs.Limits.{IsNumber};
 ghost use Rattle.messages.specs.Messages.{greatest_number};
 ghost use Rattle.token_server.specs.State.{empty_row, row_above};
 ghost use Rattle.token_server.specs.Serve.{row_conflicts, row_conflicts_at};
-ghost use Rattle.token_server.specs.Parts.{row_state, rows_of, deaths_of, answered, relieved, told, given, with_change, SameClients};
+ghost use Rattle.token_server.specs.Parts.{row_state, client_at, rows_of, deaths_of, answered, relieved, told, given, with_change, SameClients};
 ghost use Rattle.token_server.specs.Resends.{outstanding_to};
 ghost use Rattle.token_server.specs.Server.{row_of_incarnation};
+ghost use Rattle.token_server.specs.Edits.{overlaid};
 
 use crate::client::Client;
 use crate::row::Row;
+use crate::row_edits::{RowEdit, RowEdits};
 use intervals::span::Span;
 use intervals::span_map::NoMemory;
 use messages::items::Items;
@@ -59,6 +61,18 @@ fn copies(alloc: Global, clients: &[Client]) -> Result<Vec<Client>, NoMemory>
     Ok(copies)
 }
 
+// Makes the edits in order, and uses them up.
+fn overlay(clients: &mut [Client], edits: &mut Vec<RowEdit>)
+    ensures { clients.new ≡ overlaid clients.old edits.old.items }
+{
+    while !edits.is_empty() {
+        let edit = edits.remove(0);
+        if edit.place < clients.len() {
+            clients[edit.place] = edit.client;
+        }
+    }
+}
+
 // Whether the same is known of each two.
 fn same_each(one: &[Client], other: &[Client]) -> bool
     requires { length one.now ≡ length other.now }
@@ -93,6 +107,29 @@ impl Clients {
         ensures { result ≡ deaths_of self.now node }
     {
         self.clients[usize::from(node) - 1].dead
+    }
+
+    /// How many nodes there are.
+    pub fn len(&self) -> usize
+        ensures { result ≡ length self.now }
+    {
+        self.clients.len()
+    }
+
+    /// A node.
+    pub fn at(&self, node: u8) -> &Client
+        requires { IsNumber (length self.now) node }
+        ensures { client_at self.now node ≡ Some result.now }
+    {
+        &self.clients[usize::from(node) - 1]
+    }
+
+    /// The edits are made. Takes no memory.
+    pub fn apply(&mut self, edits: RowEdits)
+        ensures { self.new ≡ overlaid self.old edits }
+    {
+        let mut edits = edits.into_edits();
+        overlay(&mut self.clients, &mut edits);
     }
 
     /// The row of a node.

@@ -8,4 +8,6 @@ pub enum ServerEvent {
     Deliver(Message),
     /// What has no answer yet is sent again.
     Resend,
+    /// An incarnation of a node was declared failed.
+    Learn { node: u8, incarnation: u16 },
 }

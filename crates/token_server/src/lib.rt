@@ -1,11 +1,14 @@
 //! The token server of a file.
 #![tactic(auto)]
 
+pub mod change;
 mod client;
 mod clients;
 pub mod event;
 pub mod held;
 pub mod laws;
+pub mod queue_edit;
 mod requests;
 mod row;
+mod row_edits;
 pub mod server;

@@ -1,9 +1,11 @@
 //! The requests that a server has queued, in order of arrival.
-ghost use Rattle.std.specs.Prelude.{◌≡◌, ◌↔◌, ◌++◌, ◌∷◌, [], not, filter, drop, slice_get, false, IfOk, OnOk, OnErr, IsTrue};
+ghost use Rattle.std.specs.Prelude.{◌≡◌, ◌↔◌, ◌++◌, ◌∷◌, [], not, filter, drop, slice_get, false, if◌then◌else◌, IfOk, OnOk, OnErr, IsTrue};
 ghost use Rattle.std.specs.List.{list_any};
 ghost use Rattle.token_server.specs.State.{is_of_call, is_up_to};
+ghost use Rattle.token_server.specs.Edits.{queue_after};
 
 use crate::held::Held;
+use crate::queue_edit::QueueEdit;
 use indexmap::IndexMap;
 use intervals::span_map::NoMemory;
 use model::call::CallId;
@@ -71,6 +73,19 @@ impl Requests {
         Ok(())
     }
 
+    /// The request comes last from now on, unless its call has one.
+    ///
+    /// # Errors
+    /// `NoMemory` where a request for memory was refused.
+    pub fn push_new(&mut self, request: Held) -> Result<(), NoMemory>
+        ensures { OnOk result (self.new ≡ (if list_any (is_of_call request.call) self.old then self.old else self.old ++ request ∷ [])) }
+    {
+        if self.has(request.call) {
+            return Ok(());
+        }
+        self.push(request)
+    }
+
     /// Takes the first request out, if there is one. The others keep their order.
     pub fn take_first(&mut self) -> Option<Held>
         ensures first { result ≡ slice_get self.old 0 }
@@ -89,6 +104,35 @@ impl Requests {
                 ensures { (result ≡ not (is_up_to node incarnation request.old)) × (request.new ≡ request.old) }
             { !request.is_up_to(node, incarnation) },
         );
+    }
+
+    /// Makes the edit. Takes no memory.
+    pub fn apply(&mut self, edit: QueueEdit)
+        ensures { self.new ≡ queue_after edit self.old }
+    {
+        match edit {
+            QueueEdit::Same => {}
+            QueueEdit::Taken => {
+                let _ = self.take_first();
+            }
+            QueueEdit::Whole(queue) => *self = queue,
+        }
+    }
+
+    /// The first request, if there is one.
+    pub fn first(&self) -> Option<Held>
+        ensures { result ≡ slice_get self.now 0 }
+    {
+        self.requests.values().as_slice().first().copied()
+    }
+
+    /// Whether there is a request of the node in that incarnation or an older one.
+    pub fn has_up_to(&self, node: u8, incarnation: u16) -> bool
+        ensures { result ≡ list_any (is_up_to node incarnation) self.now }
+    {
+        self.requests
+            .values()
+            .any(|request| request.is_up_to(node, incarnation))
     }
 
     /// Whether both are the same requests in the same order.

@@ -60,6 +60,7 @@ impl World {
         file: u16,
     ) -> Result<(), NoMemory>
         requires node { is_within self.now.shape.nodes node ≡ true }
+        requires alive { (world_state self.now).alive node ≡ true }
         requires file { is_within self.now.shape.files file ≡ true }
         ensures { OnOk result (Adds (IsTokenOfFile (world_state self.now) node file) IsTokenBefore tokens.old.items tokens.new.items) }
     {
@@ -78,6 +79,9 @@ impl World {
         requires { is_within self.now.shape.nodes node ≡ true }
         ensures { OnOk result (Adds (IsTokenOf (world_state self.now) node) IsTokenBefore tokens.old.items tokens.new.items) }
     {
+        if !self.is_alive(node) {
+            return Ok(());
+        }
         for index in 0..self.shape.files() {
             self.push_file_tokens(alloc, tokens, node, index + 1)?;
         }
@@ -105,6 +109,9 @@ impl World {
     {
         let mut locks = Vec::new(alloc);
         for index in 0..self.shape.nodes() {
+            if !self.is_alive(index + 1) {
+                continue;
+            }
             let own = self.node(index + 1).regions(file)?;
             locks.extend_from_slice(&own)?;
         }

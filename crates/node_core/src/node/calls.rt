@@ -27,7 +27,7 @@ use std::alloc::{AllocError, Global};
 impl Node {
     // Whether the file that the operation names is of the shape.
     #[tactic(auto, unfolding(crate::specs::Parts::node_state))]
-    fn is_in_shape(&self, op: &Op) -> bool
+    pub(super) fn is_in_shape(&self, op: &Op) -> bool
         ensures { result ≡ is_in_shape (node_state self.now).shape op.now }
     {
         match op {
@@ -38,7 +38,7 @@ impl Node {
 
     // Whether the process has an open call.
     #[tactic(auto, unfolding(crate::specs::Parts::node_state))]
-    fn has_open_call(&self, pid: u16) -> bool
+    pub(super) fn has_open_call(&self, pid: u16) -> bool
         ensures { result ≡ is_some (open_call_of (node_state self.now) pid) }
     {
         self.pending.has_call_of(pid)
@@ -46,7 +46,7 @@ impl Node {
 
     // Whether no call number is left.
     #[tactic(auto, unfolding(crate::specs::Parts::node_state))]
-    fn is_spent(&self) -> bool
+    pub(super) fn is_spent(&self) -> bool
         ensures { IsTrue result ↔ (greatest_number ≤ (node_state self.now).calls) }
     {
         self.calls == u32::MAX
@@ -100,7 +100,7 @@ impl Node {
     }
 
     // What a lock call of the process is about, or the reply of the first test that fails.
-    fn target(
+    pub(super) fn target(
         &self,
         pid: u16,
         need: Option<Mode>,

@@ -23,7 +23,7 @@ use token_set::desired::desired;
 
 impl Node {
     // The lowest of the node's own locks that blocks the call.
-    fn blocker(&self, call: &OpenCall) -> Option<LockInfo>
+    pub(super) fn blocker(&self, call: &OpenCall) -> Option<LockInfo>
         requires { IsCallOf (node_state self.now) call.now }
         ensures { result ≡ lowest_blocker ((node_state self.now).table.locks call.now.file) call.now.owner call.now.span call.now.mode }
     {
@@ -32,7 +32,7 @@ impl Node {
     }
 
     // Whether the node's token covers the call.
-    fn is_covered(&self, call: &OpenCall) -> bool
+    pub(super) fn is_covered(&self, call: &OpenCall) -> bool
         requires { IsCallOf (node_state self.now) call.now }
         ensures { result ≡ covers ((node_state self.now).files call.now.file).token call.now.span call.now.mode }
     {

@@ -1,7 +1,10 @@
-use Rattle.std.proofs.Common.{◌≡◌, ◌∙◌, ap, arith}
+use Rattle.std.proofs.Common.{◌≡◌, ◌∙◌, ap, arith, false, rules, sym}
 use Rattle.std.proofs.lemmas.Result.{IfOk-from_err}
 use Rattle.cluster_core.specs.Parts.{WorldParts, world_state}
 use Rattle.cluster_core.proofs.TokenLists.{no_files, next_file, all_files}
+use Rattle.cluster_core.specs.Listings.{IsTokenOf, IsTokenBefore}
+use Rattle.cluster_core.proofs.Lists.{adds_none}
+use Rattle.cluster_core.proofs.MemberSteps.{dead_token}
 use Rattle.cluster_core.proofs.world.World.push_node_tokens.Goals as goal
 
 pub loop-index-init : goal.loop-index-init
@@ -17,3 +20,8 @@ returns c =
 
 pub loop-index-preserved : goal.loop-index-preserved
 loop-index-preserved c = next_file (world_state c.args.self.now) c.args.node c.loop-index.index c.args.tokens.now.items c.loop-index.tokens.items c.push_file_tokens.new.tokens.items c.loop-index.invariant c.in_ok-push_file_tokens.ensures
+
+pub returns-then-not-is_alive : goal.returns-then-not-is_alive
+returns-then-not-is_alive c =
+    let dead : c.is_alive.result ≡ false = search rules in
+    adds_none (IsTokenOf (world_state c.args.self.now) c.args.node) IsTokenBefore c.args.tokens.now.items (λ t is. dead_token c.args.self.now c.args.node (sym c.is_alive.ensures ∙ dead) t is)

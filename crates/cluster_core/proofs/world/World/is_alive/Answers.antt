@@ -1,0 +1,11 @@
+use Rattle.std.proofs.Common.{◌≡◌, true, sym, subst}
+use Rattle.messages.specs.Messages.{is_within}
+use Rattle.cluster_core.specs.Parts.{WorldParts, alive_at}
+use Rattle.cluster_core.proofs.WorldSteps.{read_alive}
+use Rattle.cluster_core.proofs.world.World.is_alive.Goals as goal
+
+pub returns : goal.returns
+returns c =
+    let P : WorldParts → Type 0 = λ p. c.index.result.now ≡ alive_at p c.args.node in
+    let R : WorldParts → Type 0 = λ p. is_within p.shape.nodes c.args.node ≡ true in
+    subst P c.self.view_is (sym (read_alive (record { shape = c.self.inside.shape; nodes = c.self.inside.nodes.items; alive = c.self.inside.alive.items; servers = c.self.inside.servers.items; sent = c.self.inside.sent; length = c.self.inside.length }) c.args.node c.index.result.now c.self.invariant (subst R (sym c.self.view_is) c.requires) c.index.ensures))
