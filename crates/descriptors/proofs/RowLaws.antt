@@ -5,14 +5,14 @@ use Rattle.std.proofs.lemmas.Bool.{cases_lt, cases_Bool, cases_eq, eq-eqb, ne_eq
 use Rattle.std.proofs.lemmas.List.{get_or-set_same, get_or-set_other, get_or_past}
 use Rattle.intervals.specs.Search.{some_passes}
 use Rattle.model.specs.declared.opened.Opened.{Opened}
-use Rattle.model.specs.Limits.{IsNumber, most_descriptions}
+use Rattle.model.specs.Limits.{IsNumber, most_processes, most_descriptions}
 use Rattle.model.specs.Descriptors.{Processes, with_process, with_descriptor, is_open}
 use Rattle.model.proofs.SearchLaws.{failed-start, first-passes, some_passes-found, some_passes-none}
 use Rattle.model.proofs.DescriptorLaws.{none_refers}
 use Rattle.intervals.specs.Search.{first}
 use Rattle.descriptors.specs.declared.row.Row.{Row}
 use Rattle.descriptors.specs.declared.error.FdError.TheVariants.{NoProcess}
-use Rattle.descriptors.specs.Rows.{slot, idle, row, processes, IsSameRow, AreNumbered, AreRows, refers, resolved}
+use Rattle.descriptors.specs.Rows.{slot, idle, row, processes, IsSameRow, AreNumbered, IsRow, AreRows, refers, resolved}
 
 -- no number passes of none
 pub some_passes-zero : (passes : ℕ → Bool) (lo : ℕ) → some_passes passes lo 0 ≡ false
@@ -110,8 +110,15 @@ same-processes rows others e q = record { runs = ap (λ (ps : Processes). ps.run
 pub numbered-same : (fds others : List (Option Opened)) → slot fds ≡ slot others → AreNumbered others → AreNumbered fds
 numbered-same fds others e h fd o some = h fd o (sym (ap (λ f. f fd) e) ∙ some)
 
+pub row-same : (pid : ℕ) (r s : Row) → IsSameRow r s → IsRow pid s → IsRow pid r
+row-same pid r s same h = record {
+  numbered = numbered-same r.opened s.opened same.opened h.numbered;
+  number_in = λ runs. h.number_in (sym same.runs ∙ runs);
+  idle = λ idle fd. ap (λ f. f fd) same.opened ∙ h.idle (sym same.runs ∙ idle) fd;
+}
+
 pub rows-same : (rows others : List Row) → ((q : ℕ) → IsSameRow (row rows q) (row others q)) → AreRows others → AreRows rows
-rows-same rows others same h pid = numbered-same (row rows pid).opened (row others pid).opened (same pid).opened (h pid)
+rows-same rows others same h pid = row-same pid (row rows pid) (row others pid) (same pid) (h pid)
 
 -- a process that runs has a row
 pub runs_within : (rows : List Row) (pid : ℕ) → (row rows pid).runs ≡ true → pid < length rows
@@ -119,6 +126,10 @@ runs_within rows pid runs = elim (cases_lt pid (length rows)) [
   | inl lt ↦ lt
   | inr le ↦ absurd (false≢true (ap (λ (r : Row). r.runs) (sym (get_or_past rows pid idle le)) ∙ runs))
 ]
+
+-- and a number that can be
+pub runs-numbered : (rows : List Row) (pid : ℕ) → AreRows rows → (processes rows).runs pid ≡ true → IsNumber most_processes pid
+runs-numbered rows pid h runs = (h pid).number_in (sym (processes-runs rows pid) ∙ runs)
 
 -- the rows with one of them changed
 pub row-set : (rows : List Row) (pid : ℕ) (r : Row) (q : ℕ) → pid < length rows → row (slice_set rows pid r) q ≡ (if q == pid then r else row rows q)
@@ -135,12 +146,20 @@ slot-if : (b : Bool) (r s : Row) (fd : ℕ) → slot (if b then r else s).opened
 slot-if true r s fd = refl
 slot-if false r s fd = refl
 
-pub numbered-set : (rows : List Row) (pid : ℕ) (r : Row) → pid < length rows → AreRows rows → AreNumbered r.opened → AreRows (slice_set rows pid r)
-numbered-set rows pid r within h numbered q fd o some = at_if (q == pid) (sym (slot-if (q == pid) r (row rows q) fd) ∙ ap (λ (s : Row). slot s.opened fd) (sym (row-set rows pid r q within)) ∙ some)
+pub rows-set : (rows : List Row) (pid : ℕ) (r : Row) → pid < length rows → AreRows rows → IsRow pid r → AreRows (slice_set rows pid r)
+rows-set rows pid r within h is q = subst (IsRow q) (sym (row-set rows pid r q within)) (at_if (q == pid) refl)
   where
-    at_if : (b : Bool) → (if b then slot r.opened fd else slot (row rows q).opened fd) ≡ Some o → IsNumber most_descriptions o.description
-    at_if true e = numbered fd o e
-    at_if false e = h q fd o e
+    at_if : (b : Bool) → (q == pid) ≡ b → IsRow q (if b then r else row rows q)
+    at_if true e = subst (λ n. IsRow n r) (sym (eqb-true q pid e)) is
+    at_if false e = h q
+
+-- the row of a process that begins or ends
+pub fresh-row : (pid : ℕ) (r : Row) (runs : Bool) → r.runs ≡ runs → ((fd : ℕ) → slot r.opened fd ≡ None) → (runs ≡ true → IsNumber most_processes pid) → IsRow pid r
+fresh-row pid r runs is none number = record {
+  numbered = λ fd o some. let e = sym (none fd) ∙ some in absurd (cc);
+  number_in = λ begun. number (sym is ∙ begun);
+  idle = λ ended fd. none fd;
+}
 
 -- a process begins or ends
 pub processes-reset : (rows : List Row) (pid : ℕ) (runs : Bool) (r : Row) → pid < length rows → r.runs ≡ runs → ((fd : ℕ) → slot r.opened fd ≡ None) → processes (slice_set rows pid r) ≡ with_process (processes rows) pid runs (λ fd. None)
@@ -193,6 +212,14 @@ numbered-slot fds others fd o is h number k p some = at_if (k == fd) (sym (is k)
     at_if : (b : Bool) → (if b then o else slot others k) ≡ Some p → IsNumber most_descriptions p.description
     at_if true e = subst (λ (x : Option Opened). IfSome x (λ y. IsNumber most_descriptions y.description)) e number
     at_if false e = h k p e
+
+-- the row of a process that runs, with one descriptor changed
+pub referred-row : (pid : ℕ) (r before : Row) (fd : ℕ) (o : Option Opened) → r.runs ≡ before.runs → before.runs ≡ true → ((k : ℕ) → slot r.opened k ≡ (if k == fd then o else slot before.opened k)) → IsRow pid before → IfSome o (λ x. IsNumber most_descriptions x.description) → IsRow pid r
+referred-row pid r before fd o same runs is h number = record {
+  numbered = numbered-slot r.opened before.opened fd o is h.numbered number;
+  number_in = λ still. h.number_in runs;
+  idle = λ not_running k. absurd (both_ways r.runs not_running (same ∙ runs));
+}
 
 -- rows that are compared by copies
 pub same-joined : (a b r s : Row) → IsSameRow a r → IsSameRow r s → IsSameRow b s → IsSameRow a b

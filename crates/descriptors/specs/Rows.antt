@@ -1,10 +1,10 @@
 -- Rows of processes, and the processes that they are.
-use Rattle.std.specs.Prelude.{◌≡◌, ℕ, Bool, false, not, if◌then◌else◌, List, [], Option, Some, None, Result, Ok, Err, slice_index_or}
+use Rattle.std.specs.Prelude.{◌≡◌, ℕ, Bool, true, false, not, if◌then◌else◌, List, [], Option, Some, None, Result, Ok, Err, IsOk, slice_index_or}
 use Rattle.intervals.specs.Search.{some_passes}
 use Rattle.model.specs.declared.opened.Opened.{Opened}
 use Rattle.model.specs.declared.reply.Reply.{Reply}
 use Rattle.model.specs.declared.reply.Reply.TheVariants as reply
-use Rattle.model.specs.Limits.{IsNumber, most_descriptors, most_descriptions}
+use Rattle.model.specs.Limits.{IsNumber, most_processes, most_descriptors, most_descriptions}
 use Rattle.model.specs.Descriptors.{Processes, is_of, is_open, with_descriptor}
 use Rattle.descriptors.specs.declared.row.Row.{Row}
 use Rattle.descriptors.specs.declared.error.ProcessError.{ProcessError}
@@ -37,9 +37,15 @@ processes rows = record { runs = λ pid. (row rows pid).runs; opened = λ pid fd
 abbrev pub AreNumbered : List (Option Opened) → Type 0
 AreNumbered fds = (fd : ℕ) (o : Opened) → slot fds fd ≡ Some o → IsNumber most_descriptions o.description
 
--- so it is in each row
+-- a row: a process that runs has a number that can be, and one that doesn't has no descriptors
+pub record IsRow (pid : ℕ) (r : Row) : Type 0 where
+  pub numbered : AreNumbered r.opened
+  pub number_in : r.runs ≡ true → IsNumber most_processes pid
+  pub idle : r.runs ≡ false → (fd : ℕ) → slot r.opened fd ≡ None
+
+-- each is the row of the process of its number
 abbrev pub AreRows : List Row → Type 0
-AreRows rows = (pid : ℕ) → AreNumbered (row rows pid).opened
+AreRows rows = (pid : ℕ) → IsRow pid (row rows pid)
 
 -- the description with that number is among those used
 abbrev pub is_used : List Bool → ℕ → Bool
@@ -64,9 +70,9 @@ pub record IsClosed (old : Processes) (pid fd : ℕ) (new : Processes) (went : B
   pub closed : new ≡ with_descriptor old pid fd None
   pub gone : went ≡ not (is_open new opened.description)
 
--- the error is the refusal that the rule gives
+-- the error is the refusal that the rule gives; memory is asked for only where the rule refuses nothing
 abbrev pub Refuses : ProcessError → Result (Processes × Reply) Reply → Type 0
-Refuses error.NoMemory answer = Unit {0}
+Refuses error.NoMemory answer = IsOk answer
 Refuses error.NoProcess answer = answer ≡ Err reply.NoProcess
 Refuses error.Exists answer = answer ≡ Err reply.Exists
 Refuses error.TooManyFiles answer = answer ≡ Err reply.TooManyFiles

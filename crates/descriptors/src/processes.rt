@@ -4,10 +4,12 @@ ghost use Rattle.model.specs.declared.reply.Reply.TheVariants.{Done, Fd};
 ghost use Rattle.model.specs.Limits.{IsNumber, most_processes, most_descriptors, most_descriptions};
 ghost use Rattle.model.specs.Descriptors.{no_processes, with_process, with_descriptor, lowest_fd, after_spawn, after_open};
 ghost use Rattle.descriptors.specs.Rows.{processes, resolved, Refuses, IsClosed};
+ghost use Rattle.descriptors.specs.Edits.{edited, Fits, HasPlace};
 
+use crate::edit::ProcessEdit;
 use crate::error::{FdError, ProcessError};
 use crate::row::Row;
-use crate::rows::{grow, is_running, opened_at, refer, reset, same_rows};
+use crate::rows::{is_running, opened_at, refer, reset, same_rows, with_place};
 use crate::used::{is_open, lowest_description};
 use model::access::Access;
 use model::limits::MOST_DESCRIPTORS;
@@ -77,20 +79,35 @@ impl Processes {
         self.opened(pid, fd).ok_or(FdError::BadFd)
     }
 
-    /// The process begins, with no descriptors.
+    /// What `spawn` would change.
     ///
     /// # Errors
-    /// `Exists` where it runs already; `NoMemory`.
-    pub fn spawn(&mut self, pid: u16) -> Result<(), ProcessError>
-        ensures ok { OnOk result (after_spawn (processes self.old) pid ≡ Ok (processes self.new, Done)) }
-        ensures err { IfErr result (λ error. Refuses error (after_spawn (processes self.old) pid)) }
-        ensures unchanged { OnErr result (self.new ≡ self.old) }
+    /// Those of `spawn`.
+    pub fn plan_spawn(&self, pid: u16) -> Result<ProcessEdit, ProcessError>
+        requires { IsNumber most_processes pid }
+        ensures ok { IfOk result (λ edit. after_spawn (processes self.now) pid ≡ Ok (edited (processes self.now) edit, Done)) }
+        ensures err { IfErr result (λ error. Refuses error (after_spawn (processes self.now) pid)) }
+        ensures fits { IfOk result (λ edit. Fits self.now edit) }
     {
         if self.is_running(pid) {
             return Err(ProcessError::Exists);
         }
-        grow(&mut self.rows, pid as usize)?;
-        reset(&mut self.rows, pid as usize, true);
+        let rows = with_place(&self.rows, pid as usize)?;
+        Ok(ProcessEdit::Begins { pid, rows })
+    }
+
+    /// The process begins, with no descriptors. Its number is from 1 to 256; no other process ever runs.
+    ///
+    /// # Errors
+    /// `Exists` where it runs already, which is tested before memory is asked for; `NoMemory`.
+    pub fn spawn(&mut self, pid: u16) -> Result<(), ProcessError>
+        requires { IsNumber most_processes pid }
+        ensures ok { OnOk result (after_spawn (processes self.old) pid ≡ Ok (processes self.new, Done)) }
+        ensures err { IfErr result (λ error. Refuses error (after_spawn (processes self.old) pid)) }
+        ensures unchanged { OnErr result (self.new ≡ self.old) }
+    {
+        let edit = self.plan_spawn(pid)?;
+        self.apply(edit);
         Ok(())
     }
 
@@ -122,18 +139,19 @@ impl Processes {
         refer(&mut self.rows, pid as usize, fd, opened);
     }
 
-    /// Opens the file for the process: the lowest descriptor that is free, which it answers, refers to
-    /// a new description of the file from now on, which takes the lowest number that is free on the
-    /// node (POSIX.1-2017 `open()`). The process's number is from 1 to 256.
+    /// What `open` would change, and the descriptor that it would answer.
     ///
     /// # Errors
-    /// `NoProcess` where the process doesn't run, which is tested first; `TooManyFiles` where it has
-    /// 64 descriptors; `NoMemory`.
-    pub fn open(&mut self, pid: u16, file: u16, access: Access) -> Result<u8, ProcessError>
-        requires { IsNumber most_processes pid }
-        ensures ok { IfOk result (λ fd. after_open (processes self.old) pid file access ≡ Ok (processes self.new, Fd fd)) }
-        ensures err { IfErr result (λ error. Refuses error (after_open (processes self.old) pid file access)) }
-        ensures unchanged { OnErr result (self.new ≡ self.old) }
+    /// Those of `open`.
+    pub fn plan_open(
+        &self,
+        pid: u16,
+        file: u16,
+        access: Access,
+    ) -> Result<(ProcessEdit, u8), ProcessError>
+        ensures ok { IfOk result (λ planned. after_open (processes self.now) pid file access ≡ Ok (edited (processes self.now) planned.0, Fd planned.1)) }
+        ensures err { IfErr result (λ error. Refuses error (after_open (processes self.now) pid file access)) }
+        ensures fits { IfOk result (λ planned. Fits self.now planned.0) }
     {
         if !self.is_running(pid) {
             return Err(ProcessError::NoProcess);
@@ -142,16 +160,52 @@ impl Processes {
             return Err(ProcessError::TooManyFiles);
         };
         let description = lowest_description(*self.rows.allocator(), &self.rows)?;
-        self.refer(
-            pid,
-            fd,
-            Some(Opened {
-                file,
-                description,
-                access,
-            }),
-        );
+        let opened = Opened {
+            file,
+            description,
+            access,
+        };
+        Ok((ProcessEdit::Opens { pid, fd, opened }, fd))
+    }
+
+    /// Opens the file for the process: the lowest descriptor that is free, which it answers, refers to
+    /// a new description of the file from now on, which takes the lowest number that is free on the
+    /// node (POSIX.1-2017 `open()`).
+    ///
+    /// # Errors
+    /// `NoProcess` where the process doesn't run, which is tested first; `TooManyFiles` where it has
+    /// 64 descriptors; both before memory is asked for; `NoMemory`.
+    pub fn open(&mut self, pid: u16, file: u16, access: Access) -> Result<u8, ProcessError>
+        ensures ok { IfOk result (λ fd. after_open (processes self.old) pid file access ≡ Ok (processes self.new, Fd fd)) }
+        ensures err { IfErr result (λ error. Refuses error (after_open (processes self.old) pid file access)) }
+        ensures unchanged { OnErr result (self.new ≡ self.old) }
+    {
+        let (edit, fd) = self.plan_open(pid, file, access)?;
+        self.apply(edit);
         Ok(fd)
+    }
+
+    // The process begins, in these rows if there are any.
+    fn begin(&mut self, pid: u16, rows: Option<Vec<Row>>)
+        requires number { IsNumber most_processes pid }
+        requires place { HasPlace self.old pid rows }
+        ensures { processes self.new ≡ with_process (processes self.old) pid true (λ fd. None) }
+    {
+        if let Some(rows) = rows {
+            self.rows = rows;
+        }
+        reset(&mut self.rows, pid as usize, true);
+    }
+
+    /// Makes a planned change. Takes no memory.
+    pub fn apply(&mut self, edit: ProcessEdit)
+        requires { Fits self.old edit }
+        ensures { processes self.new ≡ edited (processes self.old) edit }
+    {
+        match edit {
+            ProcessEdit::Begins { pid, rows } => self.begin(pid, rows),
+            ProcessEdit::Opens { pid, fd, opened } => self.refer(pid, fd, Some(opened)),
+        }
     }
 
     /// Closes the descriptor: it refers to nothing from now on. Answers whether the description went,

@@ -1,8 +1,9 @@
 //! Rows of processes, by their numbers.
-ghost use Rattle.std.specs.Prelude.{◌≡◌, ◌<◌, ◌↔◌, ℕ, None, IfSome, IsTrue, OnOk, OnErr, length};
-ghost use Rattle.model.specs.Limits.{IsNumber, most_descriptors, most_descriptions};
+ghost use Rattle.std.specs.Prelude.{◌≡◌, ◌<◌, ◌↔◌, ℕ, None, true, IfOk, IfSome, IsTrue, OnOk, length};
+ghost use Rattle.model.specs.Limits.{IsNumber, most_processes, most_descriptors, most_descriptions};
 ghost use Rattle.model.specs.Descriptors.{with_process, with_descriptor};
 ghost use Rattle.descriptors.specs.Rows.{slot, row, processes, IsSameRow, AreRows};
+ghost use Rattle.descriptors.specs.Edits.{HasPlace};
 
 use crate::row::Row;
 use model::opened::Opened;
@@ -35,13 +36,12 @@ pub fn opened_at(rows: &[Row], pid: usize, fd: u8) -> Option<Opened>
     row_at(rows, pid).opened(fd)
 }
 
-/// Makes a place for the process with that number.
-pub fn grow(rows: &mut Vec<Row>, pid: usize) -> Result<(), AllocError>
+// Makes a place for the process with that number.
+fn grow(rows: &mut Vec<Row>, pid: usize) -> Result<(), AllocError>
     requires number { pid < 65536 }
     ensures room { OnOk result (pid < length rows.new.items) }
     ensures same { processes rows.new.items ≡ processes rows.old.items }
     ensures rows { AreRows rows.old.items → AreRows rows.new.items }
-    ensures unchanged { OnErr result (rows.new.items ≡ rows.old.items) }
 {
     if rows.len() <= pid {
         rows.resize(pid + 1, Row::new(false))?;
@@ -49,9 +49,24 @@ pub fn grow(rows: &mut Vec<Row>, pid: usize) -> Result<(), AllocError>
     Ok(())
 }
 
+/// The rows and more, up to that of the process with that number, where there is none for it yet.
+pub fn with_place(rows: &Vec<Row>, pid: usize) -> Result<Option<Vec<Row>>, AllocError>
+    requires number { pid < 65536 }
+    requires rows { AreRows rows.now.items }
+    ensures { IfOk result (HasPlace rows.now.items pid) }
+{
+    if pid < rows.len() {
+        return Ok(None);
+    }
+    let mut more = Vec::from_slice(*rows.allocator(), rows)?;
+    grow(&mut more, pid)?;
+    Ok(Some(more))
+}
+
 /// The process runs from now on, or no longer, and has no descriptors.
 pub fn reset(rows: &mut [Row], pid: usize, runs: bool)
     requires within { pid < length rows.old }
+    requires number { runs ≡ true → IsNumber most_processes pid }
     requires rows { AreRows rows.old }
     ensures processes { processes rows.new ≡ with_process (processes rows.old) pid runs (λ fd. None) }
     ensures rows { AreRows rows.new }
@@ -62,6 +77,7 @@ pub fn reset(rows: &mut [Row], pid: usize, runs: bool)
 /// The descriptor refers to this, or to nothing, from now on.
 pub fn refer(rows: &mut [Row], pid: usize, fd: u8, opened: Option<Opened>)
     requires within { pid < length rows.old }
+    requires runs { (processes rows.old).runs pid ≡ true }
     requires fd { fd < most_descriptors }
     requires number { IfSome opened (λ o. IsNumber most_descriptions o.description) }
     requires rows { AreRows rows.old }

@@ -120,9 +120,7 @@ fn opens_as(
     pid: u16,
     fd: u8,
     description: u16,
-) -> Result<bool, ProcessError>
-    requires { IsNumber most_processes pid }
-{
+) -> Result<bool, ProcessError> {
     let opened = Opened {
         file: 7,
         description,

@@ -7,4 +7,4 @@ pub returns-clause-value : goal.returns-clause-value
 returns-clause-value c = c.opened.ensures.value ∙ ap (λ f. f c.args.fd) c.row_at.ensures.opened ∙ sym (processes-opened c.args.rows.now c.args.pid c.args.fd)
 
 pub returns-clause-number : goal.returns-clause-number
-returns-clause-number c = some_numbered (row c.args.rows.now c.args.pid).opened c.args.fd _ (c.requires c.args.pid) (c.opened.ensures.value ∙ ap (λ f. f c.args.fd) c.row_at.ensures.opened)
+returns-clause-number c = some_numbered (row c.args.rows.now c.args.pid).opened c.args.fd _ (c.requires c.args.pid).numbered (c.opened.ensures.value ∙ ap (λ f. f c.args.fd) c.row_at.ensures.opened)
