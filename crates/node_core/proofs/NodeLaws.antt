@@ -39,15 +39,15 @@ use Rattle.token_set.specs.declared.gave_up.GaveUp.{GaveUp}
 use Rattle.token_set.proofs.ReleaseLaws.{list_gives_up}
 use Rattle.std.specs.declared.alloc.AllocError.{AllocError}
 use Rattle.messages.specs.Shapes.{ShapeFields}
-use Rattle.node_core.specs.declared.descriptors.row.Row.{Row as ProcessRow}
-use Rattle.node_core.specs.declared.descriptors.error.ProcessError.{ProcessError}
-use Rattle.node_core.specs.declared.descriptors.error.ProcessError.TheVariants as error
-use Rattle.node_core.specs.declared.descriptors.error.FdError.{FdError}
-use Rattle.node_core.specs.declared.descriptors.error.FdError.TheVariants.{NoProcess, BadFd}
+use Rattle.descriptors.specs.declared.row.Row.{Row as ProcessRow}
+use Rattle.descriptors.specs.declared.error.ProcessError.{ProcessError}
+use Rattle.descriptors.specs.declared.error.ProcessError.TheVariants as error
+use Rattle.descriptors.specs.declared.error.FdError.{FdError}
+use Rattle.descriptors.specs.declared.error.FdError.TheVariants.{NoProcess, BadFd}
 use Rattle.node_core.specs.declared.file_row.FileRow.{FileRow}
 use Rattle.node_core.specs.declared.open_call.OpenCall.{OpenCall}
 use Rattle.node_core.specs.State.{NodeState, first_file, first_node, process}
-use Rattle.node_core.specs.Rows.{processes, resolved, opened_or, fd_reply, Refuses}
+use Rattle.descriptors.specs.Rows.{processes, resolved, opened_or, fd_reply, Refuses}
 use Rattle.node_core.specs.Files.{file_state}
 use Rattle.node_core.specs.Parts.{NodeParts, node_state, IsOwn, IsSpan, IsOwnCall, IsNode, IsNewNumber, tabled}
 use Rattle.node_core.proofs.CallLaws.{none-above}
