@@ -8,3 +8,4 @@ pub mod Split
 pub mod SearchLaws
 pub mod SpanLaws
 pub mod SpanSearch
+pub mod Differences
