@@ -9,3 +9,4 @@ pub mod Written
 pub mod SearchLaws
 pub mod SpanLaws
 pub mod SpanSearch
+pub mod Differences

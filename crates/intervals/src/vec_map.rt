@@ -1,9 +1,10 @@
 //! A span map as a sorted vector of runs.
 ghost use Rattle.std.specs.Prelude.{◌≡◌, ◌≤◌, ◌<◌, ◌+◌, ℕ, IfOk, OnOk, OnErr, IsTrue, ◌↔◌, MatchOption, Some, None};
-ghost use Rattle.intervals.specs.Bytes.{greatest, put, IsBarred, NoneIn, IsFirstIn, IsLargest, IsRun};
+ghost use Rattle.intervals.specs.Bytes.{greatest, put, IsBarred, NoneIn, IsFirstIn, IsLargest, IsRun, IsSameOutOf};
 ghost use Rattle.intervals.specs.Runs.{bytes_of, value_at};
 ghost use Rattle.intervals.specs.Edits.{written};
 
+use crate::difference::difference;
 use crate::run::{Run, highest_free, is_barred, lowest_free, split_before, write};
 use crate::span::Span;
 use crate::span_edit::SpanEdit;
@@ -76,6 +77,13 @@ impl<V: Exact> VecMap<V> {
             Some(run) if run.lo <= byte => Some(*run),
             _ => None,
         }
+    }
+
+    /// A span out of which both maps have the same at each byte; `None` where they have it everywhere.
+    pub fn difference(&self, other: &Self) -> Option<Span>
+        ensures { MatchOption result (value_at self.now ≡ value_at other.now) (λ span. IsSameOutOf span (value_at self.now) (value_at other.now)) }
+    {
+        difference(&self.runs, &other.runs)
     }
 }
 
