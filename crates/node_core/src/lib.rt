@@ -13,4 +13,3 @@ pub mod node;
 mod numbers;
 pub mod open_call;
 mod open_calls;
-pub mod target;

@@ -5,6 +5,3 @@ pub mod Locating
 pub mod Placing
 pub mod Placements
 pub mod Replays
-pub mod NodesLaws
-pub mod MachineLaws
-pub mod Exits

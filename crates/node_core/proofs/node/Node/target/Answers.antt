@@ -6,7 +6,8 @@ use Rattle.intervals.specs.Segment.{seg}
 use Rattle.model.specs.Table.{target_at}
 use Rattle.descriptors.specs.Rows.{processes, resolved}
 use Rattle.node_core.specs.Parts.{NodeParts}
-use Rattle.node_core.proofs.NodeLaws.{target-refused, target-found, target-file, segment-is}
+use Rattle.node_core.proofs.NodeLaws.{target-refused, target-found, target-file}
+use Rattle.fcntl_table.proofs.TargetLaws.{segment-is}
 use Rattle.node_core.proofs.node.Node.target.Goals as goal
 
 pub returns-in-Err-clause-value : goal.returns-in-Err-clause-value
