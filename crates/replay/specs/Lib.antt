@@ -1,3 +1,4 @@
+pub mod Outputs
 pub mod Statuses
 pub mod Faults
 pub mod Progress

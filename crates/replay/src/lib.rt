@@ -4,6 +4,7 @@
 pub mod disk;
 pub mod fault;
 pub mod laws;
+pub mod output;
 pub mod perform;
 pub mod play;
 pub mod played;
