@@ -30,6 +30,9 @@ Every other line is one of these:
                       passed over is delivered, again and again until none is left
   retry N PID         node N sends the request of the open call of PID again
   resend F            the server of file F sends again what has no answer
+  declare N           node N is declared failed: its processes and locks are gone
+  restart N           node N begins again, in its next incarnation
+  learn F N I         the server of file F learns that incarnation I of N failed
 K counts the messages in the order of sending, from 1. OP is one of these:
   spawn                              the process begins
   open F rw                          file F gets the lowest free descriptor (0 to 63)
@@ -42,9 +45,9 @@ before START.
 
 The listing has five sections: the refused lines, the replies, the tokens at the end,
 the locks at the end, and one history, in which every call has its place in one table
-of locks. What a line makes happen is an entry: a call, a delivery, a retry or a
-resend. Replies and the calls of the history stand at the positions of their entries,
-counted from 1.
+of locks. What happens is an entry: a call, a delivery, a retry, a resend, a
+declaration, a restart or a learn. Replies and the calls of the history stand at
+positions of entries, counted from 1.
 
 A line that is refused is listed with its number and a code, and the run goes on:
   10  the node is not alive             13  the process has an open call

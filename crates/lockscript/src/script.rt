@@ -31,7 +31,8 @@ impl Script {
     /// The script that the text writes. Each line ends with a line feed, the last one too; empty lines
     /// and lines that begin with `#` are skipped. The first other line is
     /// `cluster nodes N files F policy P`, and none of the others is; they are `call N PID OP`,
-    /// `deliver K`, `lose K`, `settle`, `retry N PID` and `resend F`, in lines up to number 4294967295.
+    /// `deliver K`, `lose K`, `settle`, `retry N PID`, `resend F`, `declare N`, `restart N` and
+    /// `learn F N I`, in lines up to number 4294967295.
     /// OP is `spawn`, `open F rw`, `set FD proc MODE START LEN`, `unlock FD proc START LEN` or
     /// `query FD proc MODE START LEN`, with MODE `read` or `write`.
     /// Fields are separated by one space, and numbers are decimal, without leading zeros or a leading

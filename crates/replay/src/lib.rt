@@ -12,3 +12,4 @@ mod player;
 pub mod respond;
 mod settled;
 pub mod store;
+pub mod words;

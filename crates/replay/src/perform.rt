@@ -1,5 +1,5 @@
 //! Doing what a command line asks for.
-ghost use Rattle.std.specs.Prelude.{◌≡◌, ◌≢◌, ◌×◌, List, ℕ, string_bytes, IfErr, IfOk, OnErr, OnOk};
+ghost use Rattle.std.specs.Prelude.{◌≡◌, ◌≢◌, string_bytes, IfErr, IfOk, OnErr, OnOk};
 ghost use Rattle.std.specs.Io.KnownBytes.{Appends};
 ghost use Rattle.command_line.specs.Words.{path_of};
 ghost use Rattle.replay.specs.Commands.{HasListing, HasScript, HasScriptIn, IsFault, IsFaultIn, IsListing, Leaves, ShowsListing, TellsFault};

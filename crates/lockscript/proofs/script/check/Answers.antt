@@ -29,10 +29,12 @@ loop-line-preserved c =
     let after = c.next_command.new.self in
     let line = rw c.in-Some.is at c.in_ok-line.ensures.line in
     let made = c.in_ok-script_line.ensures.made in
-    let s = c.loop-line.invariant.0 in
-    (script_of s.shape (s.lines ++ c.in_ok-script_line.field-0 ∷ []), rw (← line.0)
-    (begun-line c.args.text.now s.shape s.lines here.rest.now here.taken c.in-Some.line.number c.in-Some.line.text.now after.rest.now
-    c.in_ok-script_line.field-0 c.loop-line.invariant.1 line.1 made.0 made.1))
+    let s = c.loop-line.invariant.0 in (
+      script_of s.shape (s.lines ++ c.in_ok-script_line.field-0 ∷ []),
+      rw (← line.0)
+          (begun-line c.args.text.now s.shape s.lines here.rest.now here.taken c.in-Some.line.number c.in-Some.line.text.now after.rest.now
+          c.in_ok-script_line.field-0 c.loop-line.invariant.1 line.1 made.0 made.1),
+    )
 
 pub returns-clause-script : goal.returns-clause-script
 returns-clause-script c =
