@@ -1,4 +1,5 @@
 pub mod Marks
-pub mod Progresses
-pub mod OneRun
 pub mod OneOutcome
+pub mod OneRun
+pub mod Outputs
+pub mod Progresses
