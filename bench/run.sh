@@ -61,7 +61,7 @@ for kind in "$@"; do
         echo "$first $row" | awk '{
             ratio = $9 / $8 / ($4 / $3)
             printf "%-8s %-8d %-8d %-8.2f %-10.0f %-8d", $6, $7, $8, $9, $8 / $9, $10 / 1024
-            print $8 > 500000 ? sprintf(" %.2f", ratio) : ""
+            print ($8 > 500000 ? sprintf(" %.2f", ratio) : "")
         }'
     done
 done

@@ -15,7 +15,6 @@ use model::policy::Policy;
 use node_core::event::NodeEvent;
 use node_core::node::Node;
 use std::alloc::Global;
-use std::io;
 use token_server::event::ServerEvent;
 use token_server::server::Server;
 
@@ -40,44 +39,43 @@ fn main(rt: HostRuntime) -> anyhow::Result<()> {
     let mut node = Node::new(alloc, shape, 1, 1)?;
     let mut server = Server::new(alloc, shape, 1)?;
     for op in CALLS {
-        let called = at_node(alloc, &mut node, &NodeEvent::Call { pid: 1, op })?;
-        tell(&rt, &called)?;
-        // A call whose bytes the node has no token for sends a request; the server grants it.
-        for grant in at_server(alloc, &mut server, &called.sends)?.as_slice() {
-            let granted = at_node(alloc, &mut node, &NodeEvent::Deliver(*grant))?;
-            tell(&rt, &granted)?;
-            at_server(alloc, &mut server, &granted.sends)?;
+        call(&rt, &mut node, &mut server, op)?;
+    }
+    Ok(())
+}
+
+// Process 1 calls. Where its node has no token for the bytes it sends a request, and the server grants it.
+fn call(rt: &HostRuntime, node: &mut Node, server: &mut Server, op: Op) -> anyhow::Result<()> {
+    let alloc = rt.alloc();
+    let requests = at_node(rt, node, &NodeEvent::Call { pid: 1, op })?;
+    for request in requests.as_slice() {
+        let grants = at_server(alloc, server, &ServerEvent::Deliver(*request))?;
+        for grant in grants.as_slice() {
+            let taken = at_node(rt, node, &NodeEvent::Deliver(*grant))?;
+            for message in taken.as_slice() {
+                at_server(alloc, server, &ServerEvent::Deliver(*message))?;
+            }
         }
     }
     Ok(())
 }
 
-// Lets the event happen at the node.
-fn at_node(alloc: Global, node: &mut Node, event: &NodeEvent) -> Result<Outcome, StepError> {
-    let (next, outcome) = node.step(alloc, event)?;
-    *node = next;
-    Ok(outcome)
-}
-
-// Hands the messages to the server, and answers what it sends.
-fn at_server(
-    alloc: Global,
-    server: &mut Server,
-    messages: &Items<Message>,
-) -> Result<Items<Message>, StepError> {
-    let mut sends = Items::new(alloc);
-    for message in messages.as_slice() {
-        let (next, outcome) = server.step(alloc, &ServerEvent::Deliver(*message))?;
-        *server = next;
-        sends.append(outcome.sends)?;
+// Lets the event happen at the node, prints the reply if a call is answered, and answers what is sent.
+fn at_node(rt: &HostRuntime, node: &mut Node, event: &NodeEvent) -> anyhow::Result<Items<Message>> {
+    let change = node.plan(rt.alloc(), event)?;
+    let Outcome { reply, sends, .. } = node.apply(change);
+    if let Some((call, reply)) = reply {
+        println!(rt; "call {}: {reply:?}", call.number)?;
     }
     Ok(sends)
 }
 
-// Prints the reply, if a call is answered.
-fn tell(rt: &HostRuntime, outcome: &Outcome) -> io::Result<()> {
-    if let Some((call, reply)) = outcome.reply {
-        println!(rt; "call {}: {reply:?}", call.number)?;
-    }
-    Ok(())
+// Lets the event happen at the server, and answers what is sent.
+fn at_server(
+    alloc: Global,
+    server: &mut Server,
+    event: &ServerEvent,
+) -> Result<Items<Message>, StepError> {
+    let change = server.plan(alloc, event)?;
+    Ok(server.apply(change).sends)
 }
