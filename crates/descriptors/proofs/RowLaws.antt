@@ -6,7 +6,7 @@ use Rattle.std.proofs.lemmas.List.{get_or-set_same, get_or-set_other, get_or_pas
 use Rattle.intervals.specs.Search.{some_passes}
 use Rattle.model.specs.declared.opened.Opened.{Opened}
 use Rattle.model.specs.Limits.{IsNumber, most_processes, most_descriptions}
-use Rattle.model.specs.Descriptors.{Processes, with_process, with_descriptor, is_open}
+use Rattle.model.specs.Descriptors.{Processes, no_processes, with_process, with_descriptor, is_open}
 use Rattle.model.proofs.SearchLaws.{failed-start, first-passes, some_passes-found, some_passes-none}
 use Rattle.model.proofs.DescriptorLaws.{none_refers}
 use Rattle.intervals.specs.Search.{first}
@@ -247,3 +247,13 @@ grown-same rows old n r len more first rest runs opened q = elim (cases_lt q (le
   where
     equal : row rows q ≡ row old q → IsSameRow (row rows q) (row old q)
     equal e = record { runs = ap (λ (s : Row). s.runs) e; opened = ap (λ (s : Row). slot s.opened) e }
+
+-- none runs
+pub none_run : (rows : List Row) (n : ℕ) → AreRows rows → ((k : ℕ) → k < n → (processes rows).runs k ≡ false) → length rows ≤ n → processes rows ≡ no_processes
+none_run rows n are none within = processes-is rows no_processes runs (λ q fd. (are q).idle (runs q) fd)
+  where
+    runs : (q : ℕ) → (row rows q).runs ≡ false
+    runs q = elim (cases_lt q n) [
+      | inl lt ↦ sym (processes-runs rows q) ∙ none q lt
+      | inr le ↦ ap (λ (r : Row). r.runs) (get_or_past rows q idle (omega arith))
+    ]

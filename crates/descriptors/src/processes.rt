@@ -9,7 +9,7 @@ ghost use Rattle.descriptors.specs.Edits.{edited, Fits, HasPlace};
 use crate::edit::ProcessEdit;
 use crate::error::{FdError, ProcessError};
 use crate::row::Row;
-use crate::rows::{is_running, opened_at, refer, reset, same_rows, with_place};
+use crate::rows::{is_idle, is_running, opened_at, refer, reset, same_rows, with_place};
 use crate::used::{is_open, lowest_description};
 use model::access::Access;
 use model::limits::MOST_DESCRIPTORS;
@@ -233,6 +233,13 @@ impl Processes {
         if (pid as usize) < self.rows.len() {
             reset(&mut self.rows, pid as usize, false);
         }
+    }
+
+    /// Whether no process runs.
+    pub fn is_idle(&self) -> bool
+        ensures { IsTrue result ↔ (processes self.now ≡ no_processes) }
+    {
+        is_idle(&self.rows)
     }
 
     /// An equal value.

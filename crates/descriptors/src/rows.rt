@@ -1,7 +1,7 @@
 //! Rows of processes, by their numbers.
 ghost use Rattle.std.specs.Prelude.{◌≡◌, ◌<◌, ◌↔◌, ℕ, None, true, IfOk, IfSome, IsTrue, OnOk, length};
 ghost use Rattle.model.specs.Limits.{IsNumber, most_processes, most_descriptors, most_descriptions};
-ghost use Rattle.model.specs.Descriptors.{with_process, with_descriptor};
+ghost use Rattle.model.specs.Descriptors.{no_processes, with_process, with_descriptor};
 ghost use Rattle.descriptors.specs.Rows.{slot, row, processes, IsSameRow, AreRows};
 ghost use Rattle.descriptors.specs.Edits.{HasPlace};
 
@@ -86,6 +86,19 @@ pub fn refer(rows: &mut [Row], pid: usize, fd: u8, opened: Option<Opened>)
 {
     let row = &mut rows[pid];
     row.refer(fd, opened);
+}
+
+/// Whether no process runs.
+pub fn is_idle(rows: &[Row]) -> bool
+    requires { AreRows rows.now }
+    ensures { IsTrue result ↔ (processes rows.now ≡ no_processes) }
+{
+    for pid in 0..rows.len() {
+        if is_running(rows, pid) {
+            return false;
+        }
+    }
+    true
 }
 
 /// Whether the rows say the same of each process.

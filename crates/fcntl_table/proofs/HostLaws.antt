@@ -3,7 +3,7 @@ use Rattle.std.proofs.Common.{rules, ◌≡◌, ℕ, Bool, true, false, ◌&&◌
 use Rattle.std.specs.Cmp.{nat_eq_equiv}
 use Rattle.std.specs.declared.hash.FoldHasher.{FoldHasher}
 use Rattle.std.specs.declared.hash.BuildHasherDefault.{BuildHasherDefault}
-use Rattle.std.specs.HashMap.{HashMap, Updates, WritesThrough}
+use Rattle.std.specs.HashMap.{HashMap, Updates, UpdatesBy, WritesThrough}
 use Rattle.std.specs.Map.{lookup}
 use Rattle.std.proofs.lemmas.Bool.{cases_Bool, and_parts, eqb-true}
 use Rattle.model.specs.declared.host.Host.{Host}
@@ -224,3 +224,35 @@ ended-nowhere pid i = record {
     either : {A : Type 0} (b : Bool) (x : A) → x ≡ (if b then x else x)
     either true x = refl
     either false x = refl
+
+-- a host of which none runs is kept no longer
+abbrev pub Removes : HostRows → Host → HostRows → Type 0
+Removes old host new = (q : Host) → kept new q ≡ cond (derived.ghosts.eq host q) None (kept old q)
+
+by_none : (b : Bool) (before : Option (List Row)) → by_kept (cond b None before) ≡ cond b no_processes (by_kept before)
+by_none true before = none_run
+by_none false before = refl
+
+processes-removed : (old new : HostRows) (host : Host) → Removes old host new → processes_of new ≡ with_host (processes_of old) host no_processes
+processes-removed old new host removes j n i = put (at n i) j
+  where
+    put : (q : Host) → processes_of new q.node q.incarnation ≡ with_host (processes_of old) host no_processes q.node q.incarnation
+    put q =
+        processes-kept new q
+        ∙ (ap by_kept (removes q)
+        ∙ (by_none (derived.ghosts.eq host q) (kept old q)
+        ∙ (ap (λ (b : Bool). cond b no_processes (by_kept (kept old q))) (host_eq host q ∙ host_symm host q)
+        ∙ ap (λ (ps : Processes). cond (same_host q host) no_processes ps) (sym (processes-kept old q)))))
+
+pub forgotten : (old : HostRows) (m new : Map) (host : Host) → m.entries ≡ old → processes_of old host.node host.incarnation ≡ no_processes → UpdatesBy derived.ghosts.eq (derived.ghosts.eq host) m new None → processes_of new.entries ≡ processes_of old
+forgotten old m new host same idle updates =
+    let P : HostRows → Type 0 = λ es. Removes es host new.entries in
+    processes-removed old new.entries host (subst P same updates.0)
+    ∙ (ap (with_host (processes_of old) host) (sym idle) ∙ with_host-same (processes_of old) host)
+
+pub hosts-removed : (m new : Map) (host : Host) → AreHosts m.entries → UpdatesBy derived.ghosts.eq (derived.ghosts.eq host) m new None → AreHosts new.entries
+hosts-removed m new host are updates q found some = by (derived.ghosts.eq host q) (sym (updates.0 q) ∙ (kept-by_test new.entries q ∙ some))
+  where
+    by : (b : Bool) → cond b None (kept m.entries q) ≡ Some found → IsHost q.node q.incarnation
+    by true e = absurd (cc)
+    by false e = are q found (sym (kept-by_test m.entries q) ∙ e)

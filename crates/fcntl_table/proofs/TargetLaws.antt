@@ -29,7 +29,7 @@ resolved_err true (Some o) p need kind segment e h = absurd (cc)
 pub target-err : (ps : Processes) (p : Process) (need : Option Mode) (fd : ℕ) (kind : Kind) (segment : Result Range SpanError) (e : FdError) → resolved ps p.pid fd ≡ Err e → target_in ps p need fd kind segment ≡ Err (fd_reply e)
 target-err ps p need fd kind segment e h = resolved_err (ps.runs p.pid) (ps.opened p.pid fd) p need kind segment e h
 
-resolved_ok : (b : Bool) (o : Option Opened) (p : Process) (need : Option Mode) (kind : Kind) (segment : Result Range SpanError) (opened : Opened) → (if b then opened_or o else Err NoProcess) ≡ Ok opened → (o ≡ Some opened) × ((if b then target_at p need kind o segment else Err reply.NoProcess) ≡ target_at p need kind (Some opened) segment)
+pub resolved_ok : (b : Bool) (o : Option Opened) (p : Process) (need : Option Mode) (kind : Kind) (segment : Result Range SpanError) (opened : Opened) → (if b then opened_or o else Err NoProcess) ≡ Ok opened → (o ≡ Some opened) × ((if b then target_at p need kind o segment else Err reply.NoProcess) ≡ target_at p need kind (Some opened) segment)
 resolved_ok false o p need kind segment opened h = absurd (cc)
 resolved_ok true None p need kind segment opened h = absurd (cc)
 resolved_ok true (Some o) p need kind segment opened h = let same : o ≡ opened = cc in (ap Some same, ap (λ x. target_at p need kind (Some x) segment) same)

@@ -1,5 +1,5 @@
 //! The processes of each host: a node in one of its incarnations.
-ghost use Rattle.std.specs.Prelude.{◌≡◌, ℕ, false, None, Ok, IfOk, IfErr, IfSome, IsTrue, ◌↔◌, OnOk, MatchOption};
+ghost use Rattle.std.specs.Prelude.{◌≡◌, ℕ, true, false, None, Ok, IfOk, IfErr, IfSome, IsTrue, ◌↔◌, OnOk, MatchOption};
 ghost use Rattle.model.specs.declared.reply.Reply.TheVariants.{Done, Fd};
 ghost use Rattle.model.specs.Limits.{IsHost, IsNumber, most_processes, most_descriptions};
 ghost use Rattle.model.specs.Descriptors.{no_processes, with_process, after_spawn, after_open};
@@ -179,5 +179,24 @@ impl Hosts {
             return;
         };
         node.end(pid);
+    }
+
+    // Whether no process runs on the host.
+    fn is_idle(&self, host: Host) -> bool
+        ensures { result ≡ true → processes_of self.now host.node host.incarnation ≡ no_processes }
+    {
+        match self.by_host.get(&host) {
+            Some(node) => node.is_idle(),
+            None => true,
+        }
+    }
+
+    /// Nothing is kept of the host from now on, if no process runs on it.
+    pub(crate) fn forget_idle(&mut self, host: Host)
+        ensures { processes_of self.new ≡ processes_of self.old }
+    {
+        if self.is_idle(host) {
+            self.by_host.swap_remove(&host);
+        }
     }
 }

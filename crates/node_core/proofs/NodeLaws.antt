@@ -47,7 +47,7 @@ use Rattle.node_core.specs.declared.file_row.FileRow.{FileRow}
 use Rattle.node_core.specs.declared.open_call.OpenCall.{OpenCall}
 use Rattle.node_core.specs.State.{NodeState, first_file, first_node, process}
 use Rattle.descriptors.specs.Rows.{processes, resolved, fd_reply, Refuses}
-use Rattle.fcntl_table.proofs.TargetLaws.{target_in, target-err, target-ok}
+use Rattle.fcntl_table.proofs.TargetLaws.{target_in, target-err, target-ok, resolved_ok}
 use Rattle.node_core.specs.Files.{file_state}
 use Rattle.node_core.specs.Parts.{NodeParts, node_state, IsOwn, IsSpan, IsOwnCall, IsNode, IsNewNumber, tabled}
 use Rattle.node_core.proofs.CallLaws.{none-above}

@@ -8,6 +8,7 @@ ghost use Rattle.std.specs.Vec.{vec_capacity};
 ghost use Rattle.node_core.specs.Plans.{locks_after};
 ghost use Rattle.node_core.specs.Try.{may_free};
 
+pub use fcntl_table::locks::lock_reply;
 use lock_table::error::LockError;
 use lock_table::lock_table::{LockEdit, LockTable};
 use model::lock_call::LockCall;

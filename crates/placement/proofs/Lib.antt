@@ -1,5 +1,4 @@
 pub mod Rises
-pub mod Lengths
 pub mod Index
 pub mod Locating
 pub mod Placing

@@ -1,16 +1,16 @@
-use Rattle.std.proofs.Common.{sym, ◌∙◌, arith, refl}
-use Rattle.model.proofs.FailLaws.{closed_below-none, closed_below-more, exited-by}
-use Rattle.fcntl_table.proofs.ExitLaws.{closed_below-runs, ended-table}
+use Rattle.std.proofs.Common.{◌≡◌, true, ap, sym, subst}
+use Rattle.model.specs.declared.process.Process.{Process}
+use Rattle.model.specs.Table.{exited, is_running}
+use Rattle.fcntl_table.specs.Tables.{table_of}
+use Rattle.fcntl_table.proofs.ExitLaws.{process_is}
 use Rattle.fcntl_table.proofs.table.FcntlTable.exit.Goals as goal
 
-pub loop-fd-init : goal.loop-fd-init
-loop-fd-init c = sym (closed_below-none _ _)
-
-pub close_if-requires-clause-runs : goal.close_if-requires-clause-runs
-close_if-requires-clause-runs c = closed_below-runs _ _ _ _ c.loop-fd.invariant c.requires.runs
-
-pub loop-fd-preserved : goal.loop-fd-preserved
-loop-fd-preserved c = c.close_if.ensures ∙ closed_below-more _ _ _ _ c.loop-fd.invariant
+pub exit_on-requires-clause-runs : goal.exit_on-requires-clause-runs
+exit_on-requires-clause-runs c =
+    let P : Process → Type 0 = λ p. is_running (table_of c.args.self.now) p ≡ true in
+    subst P (sym (process_is c.args.process c.host_of.result c.process.inside.pid c.host_of.ensures (ap (λ (p : Process). p.pid) c.process.view_is))) c.requires
 
 pub returns : goal.returns
-returns c = exited-by _ _ _ _ _ c.loop-fd.invariant (omega arith) (ended-table c.loop-fd.self _ c.args.host c.args.pid c.end.ensures refl)
+returns c =
+    let P : Process → Type 0 = λ p. table_of c.exit_on.new.self ≡ exited (table_of c.args.self.now) p in
+    subst P (process_is c.args.process c.host_of.result c.process.inside.pid c.host_of.ensures (ap (λ (p : Process). p.pid) c.process.view_is)) c.exit_on.ensures
