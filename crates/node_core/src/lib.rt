@@ -4,6 +4,7 @@
 pub mod change;
 pub mod command;
 pub mod descriptors;
+pub mod edit;
 pub mod effect;
 pub mod event;
 pub mod file_row;
@@ -13,5 +14,5 @@ pub mod locks;
 pub mod node;
 mod numbers;
 pub mod open_call;
-mod open_calls;
+pub mod open_calls;
 pub mod target;
