@@ -39,17 +39,19 @@ use Rattle.token_set.specs.declared.gave_up.GaveUp.{GaveUp}
 use Rattle.token_set.proofs.ReleaseLaws.{list_gives_up}
 use Rattle.std.specs.declared.alloc.AllocError.{AllocError}
 use Rattle.messages.specs.Shapes.{ShapeFields}
-use Rattle.node_core.specs.declared.descriptors.row.Row.{Row as ProcessRow}
-use Rattle.node_core.specs.declared.descriptors.error.ProcessError.{ProcessError}
-use Rattle.node_core.specs.declared.descriptors.error.ProcessError.TheVariants as error
-use Rattle.node_core.specs.declared.descriptors.error.FdError.{FdError}
-use Rattle.node_core.specs.declared.descriptors.error.FdError.TheVariants.{NoProcess, BadFd}
+use Rattle.descriptors.specs.declared.row.Row.{Row as ProcessRow}
+use Rattle.descriptors.specs.declared.error.ProcessError.{ProcessError}
+use Rattle.descriptors.specs.declared.error.ProcessError.TheVariants as error
+use Rattle.descriptors.specs.declared.error.FdError.{FdError}
+use Rattle.descriptors.specs.declared.error.FdError.TheVariants.{NoProcess, BadFd}
 use Rattle.node_core.specs.declared.file_row.FileRow.{FileRow}
 use Rattle.node_core.specs.declared.open_call.OpenCall.{OpenCall}
 use Rattle.node_core.specs.State.{NodeState, first_file, first_node, process}
-use Rattle.node_core.specs.Rows.{processes, resolved, opened_or, fd_reply, Refuses}
+use Rattle.descriptors.specs.Rows.{processes, resolved, opened_or, fd_reply, Refuses}
 use Rattle.node_core.specs.Files.{file_state}
 use Rattle.node_core.specs.Parts.{NodeParts, node_state, IsOwn, IsSpan, IsOwnCall, IsNode}
+use Rattle.descriptors.specs.declared.edit.ProcessEdit.{ProcessEdit}
+use Rattle.descriptors.specs.Edits.{edited, Fits as ProcessFits}
 use Rattle.node_core.specs.Plans.{table_after, ProcessesFit}
 
 -- the node itself is its own
@@ -65,10 +67,11 @@ unfolding node_state
 around-own p pid = ap (λ b. if b then processes p.processes else no_processes) (own_host p.node p.incarnation)
 
 -- a call that concerns processes and descriptors alone
-pub beside-ok : (p : NodeParts) (pid : ℕ) (rows : List ProcessRow) (answer : Reply) (f : Processes → Result (Processes × Reply) Reply) → f (processes p.processes) ≡ Ok (processes rows, answer) → beside (node_state p).table (process (node_state p) pid) (f (around (node_state p).table (process (node_state p) pid))) ≡ (table_after (node_state p) (Some rows), answer)
-beside-ok p pid rows answer f e =
+pub beside-ok : (p : NodeParts) (pid : ℕ) (e : ProcessEdit) (answer : Reply) (f : Processes → Result (Processes × Reply) Reply) → f (processes p.processes) ≡ Ok (edited (processes p.processes) e, answer) → beside (node_state p).table (process (node_state p) pid) (f (around (node_state p).table (process (node_state p) pid))) ≡ (table_after (node_state p) (Some e), answer)
+beside-ok p pid e answer f is =
     ap (λ x. beside (node_state p).table (process (node_state p) pid) (f x)) (around-own p pid)
-    ∙ ap (beside (node_state p).table (process (node_state p) pid)) e
+    ∙ ap (beside (node_state p).table (process (node_state p) pid)) is
+    ∙ sym (ap (λ ps. (with_processes (node_state p).table (process (node_state p) 0) (edited ps e), answer)) (around-own p 0))
 
 pub beside-err : (p : NodeParts) (pid : ℕ) (refusal : Reply) (f : Processes → Result (Processes × Reply) Reply) → f (processes p.processes) ≡ Err refusal → beside (node_state p).table (process (node_state p) pid) (f (around (node_state p).table (process (node_state p) pid))) ≡ ((node_state p).table, refusal)
 beside-err p pid refusal f e =
@@ -214,14 +217,15 @@ spawned-within false ps new pid P e there q k o some =
     by true h = absurd (cc)
     by false h = there q k o h
 
-pub open-within : (p : NodeParts) (rows : List ProcessRow) (pid file fd : ℕ) (access : Access) → after_open (processes p.processes) pid file access ≡ Ok (processes rows, Fd fd) → IsNumber (node_state p).shape.files file → IsNode p → ProcessesFit p (Some rows)
+pub open-within : (p : NodeParts) (e : ProcessEdit) (pid file fd : ℕ) (access : Access) → after_open (processes p.processes) pid file access ≡ Ok (edited (processes p.processes) e, Fd fd) → IsNumber (node_state p).shape.files file → ProcessFits p.processes e → IsNode p → ProcessesFit p (Some e)
 unfolding node_state
-open-within p rows pid file fd access e within h =
-    opened-within (processes p.processes) (processes rows) pid file fd access (IsNumber p.shape.files) e within h.opened_in
+open-within p e pid file fd access is within fits h =
+    (fits, opened-within (processes p.processes) (edited (processes p.processes) e) pid file fd access (IsNumber p.shape.files) is within h.opened_in)
 
-pub spawn-within : (p : NodeParts) (rows : List ProcessRow) (pid : ℕ) → after_spawn (processes p.processes) pid ≡ Ok (processes rows, Done) → IsNode p → ProcessesFit p (Some rows)
+pub spawn-within : (p : NodeParts) (e : ProcessEdit) (pid : ℕ) → after_spawn (processes p.processes) pid ≡ Ok (edited (processes p.processes) e, Done) → ProcessFits p.processes e → IsNode p → ProcessesFit p (Some e)
 unfolding node_state
-spawn-within p rows pid e h q fd o some = spawned-within ((processes p.processes).runs pid) (processes p.processes) (processes rows) pid (λ o. IsNumber p.shape.files o.file) e h.opened_in q fd o some
+spawn-within p e pid is fits h =
+    (fits, λ q fd o some. spawned-within ((processes p.processes).runs pid) (processes p.processes) (edited (processes p.processes) e) pid (λ o. IsNumber p.shape.files o.file) is h.opened_in q fd o some)
 
 -- what a node asks for contains what the call needs
 pub desired-ends : (policy : Policy) (t : Token) (s : Range) → s.hi ≤ greatest → s.hi ≤ (desired policy t s).hi

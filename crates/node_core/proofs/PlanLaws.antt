@@ -23,7 +23,9 @@ use Rattle.lock_table.specs.Rows.{held, HasRoom as HasRowRoom}
 use Rattle.token_set.specs.Tokens.{covers}
 use Rattle.messages.specs.declared.message.Message.TheVariants.{Freed}
 use Rattle.node_core.specs.declared.change.Change.{Change}
-use Rattle.node_core.specs.declared.descriptors.row.Row.{Row as ProcessRow}
+use Rattle.descriptors.specs.declared.row.Row.{Row as ProcessRow}
+use Rattle.descriptors.specs.declared.edit.ProcessEdit.{ProcessEdit}
+use Rattle.descriptors.specs.Edits.{edited, Fits as ProcessFits}
 use Rattle.node_core.specs.declared.edit.Edit.{Edit}
 use Rattle.node_core.specs.declared.effect.Effect.{Effect as EffectFields}
 use Rattle.node_core.specs.declared.file_row.FileRow.{FileRow}
@@ -32,13 +34,13 @@ use Rattle.node_core.specs.declared.open_call.Intent.TheVariants as intent
 use Rattle.node_core.specs.declared.open_call.OpenCall.{OpenCall}
 use Rattle.node_core.specs.declared.open_calls.CallsEdit.{CallsEdit}
 use Rattle.node_core.specs.declared.open_calls.CallsEdit.TheVariants.{Same, Put, Gone}
-use Rattle.node_core.specs.Rows.{processes}
+use Rattle.descriptors.specs.Rows.{processes}
 use Rattle.node_core.specs.Files.{file_state}
 use Rattle.node_core.specs.State.{NodeState, Effect, answered, target_of, host, outcome}
 use Rattle.node_core.specs.Try.{settled, with_freed, may_free, refusal_of, locked_by, answered_here, requested, tried_against, tried}
 use Rattle.node_core.specs.Parts.{NodeParts, node_state, IsOwn, IsSpan, IsOwnCall, IsNode}
-use Rattle.node_core.specs.Plans.{calls_after, locks_after, table_after, pending_after, files_after, files_told, drafted, opened_if, planned, effect_of, LocksFit, ProcessesFit, CallsFit, Fits}
-use Rattle.node_core.proofs.NodeLaws.{own-lock}
+use Rattle.node_core.specs.Plans.{calls_after, locks_after, processes_after, table_after, pending_after, files_after, files_told, drafted, opened_if, planned, effect_of, LocksFit, ProcessesFit, CallsFit, Fits}
+use Rattle.node_core.proofs.NodeLaws.{own-lock, around-own}
 
 -- a call that was put last and goes again leaves no trace
 filter-last : (number : ℕ) (cs : List OpenCall) (c : OpenCall) → c.number ≡ number → filter (λ d. not (d.number == number)) (cs ++ c ∷ []) ≡ filter (λ d. not (d.number == number)) cs
@@ -130,23 +132,19 @@ if-if : {A : Type 0} (b : Bool) (x y z : A) → (if b then x else (if b then y e
 if-if true x y z = refl
 if-if false x y z = refl
 
--- the processes once the edit is made
-abbrev pub processes_after : NodeParts → Option (List ProcessRow) → Processes
-processes_after p None = processes p.processes
-processes_after p (Some rows) = processes rows
-
 -- the parts once the edit is made
 abbrev changed : NodeParts → ℕ → List ProcessRow → List LockRow → List OpenCall → List FileRow → NodeParts
 changed p calls rows locks pending files = record p { calls = calls; processes = rows; locks = locks; pending = pending; files = files }
 
-table-changed : (p : NodeParts) (e : Option (List ProcessRow)) (edit : Option LockEdit) (rows : List ProcessRow) (locks : List LockRow) → processes rows ≡ processes_after p e → held locks ≡ locks_after (held p.locks) edit → (node_state (record p { processes = rows; locks = locks })).table ≡ record (table_after (node_state p) e) { locks = locks_after (node_state p).table.locks edit }
+table-changed : (p : NodeParts) (e : Option ProcessEdit) (edit : Option LockEdit) (rows : List ProcessRow) (locks : List LockRow) → processes rows ≡ processes_after (processes p.processes) e → held locks ≡ locks_after (held p.locks) edit → (node_state (record p { processes = rows; locks = locks })).table ≡ record (table_after (node_state p) e) { locks = locks_after (node_state p).table.locks edit }
 unfolding node_state
 table-changed p None edit rows locks same made = λ i. record { on = λ n k. if (n == p.node) && (k == p.incarnation) then same i else no_processes; locks = made i }
-table-changed p (Some new) edit rows locks same made =
+table-changed p (Some e) edit rows locks same made =
     (λ i. record { on = λ n k. if (n == p.node) && (k == p.incarnation) then same i else no_processes; locks = made i })
-    ∙ (λ i. record { on = λ n k. sym (if-if ((n == p.node) && (k == p.incarnation)) (processes new) (processes p.processes) no_processes) i; locks = locks_after (held p.locks) edit })
+    ∙ (λ i. record { on = λ n k. sym (if-if ((n == p.node) && (k == p.incarnation)) (edited (processes p.processes) e) (processes p.processes) no_processes) i; locks = locks_after (held p.locks) edit })
+    ∙ sym (λ i. record { on = λ n k. if (n == p.node) && (k == p.incarnation) then edited (around-own p 0 i) e else (if (n == p.node) && (k == p.incarnation) then processes p.processes else no_processes); locks = locks_after (held p.locks) edit })
 
-pub node-planned : (p : NodeParts) (e : Edit) (calls : ℕ) (rows : List ProcessRow) (locks : List LockRow) (pending : List OpenCall) (files : List FileRow) → calls ≡ calls_after p.calls e.draft.numbered → processes rows ≡ processes_after p e.processes → held locks ≡ locks_after (held p.locks) e.locks → pending ≡ pending_after p.pending e.calls → file_state files ≡ files_told (files_after (file_state p.files) e.draft.command) e.freed → node_state (changed p calls rows locks pending files) ≡ planned p e
+pub node-planned : (p : NodeParts) (e : Edit) (calls : ℕ) (rows : List ProcessRow) (locks : List LockRow) (pending : List OpenCall) (files : List FileRow) → calls ≡ calls_after p.calls e.draft.numbered → processes rows ≡ processes_after (processes p.processes) e.processes → held locks ≡ locks_after (held p.locks) e.locks → pending ≡ pending_after p.pending e.calls → file_state files ≡ files_told (files_after (file_state p.files) e.draft.command) e.freed → node_state (changed p calls rows locks pending files) ≡ planned p e
 unfolding node_state
 node-planned p e calls rows locks pending files counted ran held_now left known = λ i. record {
   shape = p.shape;
@@ -162,10 +160,10 @@ own-edited : (p : NodeParts) (edit : Option LockEdit) → LocksFit p edit → Is
 own-edited p None fit h = h.own
 own-edited p (Some e) fit h = fit.2
 
-opened-edited : (p : NodeParts) (e : Option (List ProcessRow)) → ProcessesFit p e → IsNode p → (pid fd : ℕ) (o : Opened) → (processes_after p e).opened pid fd ≡ Some o → IsNumber p.shape.files o.file
+opened-edited : (p : NodeParts) (e : Option ProcessEdit) → ProcessesFit p e → IsNode p → (pid fd : ℕ) (o : Opened) → (processes_after (processes p.processes) e).opened pid fd ≡ Some o → IsNumber p.shape.files o.file
 unfolding node_state
 opened-edited p None fit h = h.opened_in
-opened-edited p (Some rows) fit h = fit
+opened-edited p (Some e) fit h = fit.1
 
 calls-edited : (p : NodeParts) (edit : CallsEdit) → CallsFit p edit → IsNode p → All (IsOwnCall p.shape.files p.node p.incarnation) (pending_after p.pending edit)
 unfolding node_state
@@ -174,7 +172,7 @@ calls-edited p (Put call room) fit h = All-push (IsOwnCall p.shape.files p.node 
 calls-edited p (Gone number) fit h = All-filter (λ c. not (c.number == number)) (IsOwnCall p.shape.files p.node p.incarnation) p.pending h.calls_in
 
 -- the node stays one
-pub node-edited : (p : NodeParts) (e : Edit) (calls : ℕ) (rows : List ProcessRow) (locks : List LockRow) (pending : List OpenCall) (files : List FileRow) → processes rows ≡ processes_after p e.processes → held locks ≡ locks_after (held p.locks) e.locks → pending ≡ pending_after p.pending e.calls → length files ≡ length p.files → Fits p e → IsNode p → IsNode (changed p calls rows locks pending files)
+pub node-edited : (p : NodeParts) (e : Edit) (calls : ℕ) (rows : List ProcessRow) (locks : List LockRow) (pending : List OpenCall) (files : List FileRow) → processes rows ≡ processes_after (processes p.processes) e.processes → held locks ≡ locks_after (held p.locks) e.locks → pending ≡ pending_after p.pending e.calls → length files ≡ length p.files → Fits p e → IsNode p → IsNode (changed p calls rows locks pending files)
 node-edited p e calls rows locks pending files ran held_now left count fit h = record {
   host = h.host;
   own = subst (λ (l : Locks). (f : ℕ) → IsOfNode (l f) p.node p.incarnation) (sym held_now) (own-edited p e.locks fit.1 h);
@@ -183,7 +181,7 @@ node-edited p e calls rows locks pending files ran held_now left count fit h = r
   calls_in = subst (All (IsOwnCall p.shape.files p.node p.incarnation)) (sym left) (calls-edited p e.calls fit.3 h);
 }
 
--- the processes that are put in
-pub processes-put : (p : NodeParts) (e : Option (List ProcessRow)) (rows : List ProcessRow) → rows ≡ unwrap_or e p.processes → processes rows ≡ processes_after p e
-processes-put p None rows is = ap processes is
-processes-put p (Some new) rows is = ap processes is
+-- the edit of processes fits
+pub processes-fit : (p : NodeParts) (e : Option ProcessEdit) → ProcessesFit p e → IfSome e (ProcessFits p.processes)
+processes-fit p None fit = tt
+processes-fit p (Some e) fit = fit.0

@@ -20,10 +20,10 @@ use Rattle.token_set.specs.Releases.{after_giving_up}
 use Rattle.token_set.specs.declared.gave_up.GaveUp.{GaveUp}
 use Rattle.node_core.specs.declared.command.Command.{Command}
 use Rattle.messages.specs.Messages.{addressee, file_of, is_within, greatest_number}
-use Rattle.node_core.specs.declared.descriptors.row.Row.{Row as ProcessRow}
+use Rattle.descriptors.specs.declared.row.Row.{Row as ProcessRow}
 use Rattle.node_core.specs.declared.file_row.FileRow.{FileRow}
 use Rattle.node_core.specs.declared.open_call.OpenCall.{OpenCall}
-use Rattle.node_core.specs.Rows.{processes}
+use Rattle.descriptors.specs.Rows.{processes}
 use Rattle.node_core.specs.Files.{file_state}
 use Rattle.node_core.specs.State.{FileState, NodeState, Effect, with_file, quiet, host, process, open_call}
 use Rattle.node_core.specs.Commands.{remembered, answer_to, is_conflict, is_node}

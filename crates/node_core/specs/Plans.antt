@@ -5,15 +5,17 @@ use Rattle.intervals.specs.Runs.{value_at}
 use Rattle.intervals.specs.declared.vec_map.VecMap.{VecMap}
 use Rattle.model.specs.declared.level.Level.{Level}
 use Rattle.model.specs.declared.opened.Opened.{Opened}
+use Rattle.model.specs.Descriptors.{Processes}
 use Rattle.model.specs.Limits.{IsNumber}
 use Rattle.model.specs.Locks.{Locks, replace, IsOfNode}
-use Rattle.model.specs.Table.{Table, with_processes}
+use Rattle.model.specs.Table.{Table, around, with_processes}
 use Rattle.lock_table.specs.declared.lock_table.LockEdit.{LockEdit}
 use Rattle.lock_table.specs.Rows.{held, HasRoom as HasRowRoom}
 use Rattle.token_set.specs.Tokens.{Token}
 use Rattle.token_set.specs.Sets.{token_of}
 use Rattle.messages.specs.Messages.{greatest_number}
-use Rattle.node_core.specs.declared.descriptors.row.Row.{Row as ProcessRow}
+use Rattle.descriptors.specs.declared.edit.ProcessEdit.{ProcessEdit}
+use Rattle.descriptors.specs.Edits.{edited, Fits as ProcessFits}
 use Rattle.node_core.specs.declared.effect.Effect.{Effect as EffectFields}
 use Rattle.node_core.specs.declared.edit.Draft.{Draft}
 use Rattle.node_core.specs.declared.edit.Edit.{Edit}
@@ -21,7 +23,7 @@ use Rattle.node_core.specs.declared.file_row.FileEdit.{FileEdit}
 use Rattle.node_core.specs.declared.open_call.OpenCall.{OpenCall}
 use Rattle.node_core.specs.declared.open_calls.CallsEdit.{CallsEdit}
 use Rattle.node_core.specs.declared.open_calls.CallsEdit.TheVariants.{Same, Put, Gone}
-use Rattle.node_core.specs.Rows.{processes}
+use Rattle.descriptors.specs.Rows.{processes}
 use Rattle.node_core.specs.State.{FileState, NodeState, Effect, process}
 use Rattle.node_core.specs.Parts.{NodeParts, node_state, IsCallOf}
 
@@ -61,10 +63,15 @@ locks_after h (Some e) = replace h e.file e.owner (value_at e.spans)
 abbrev pub with_locks : NodeState → Locks → NodeState
 with_locks s h = record s { table = record s.table { locks = h } }
 
--- the table with those processes of the node
-abbrev pub table_after : NodeState → Option (List ProcessRow) → Table
+-- the processes once the edit is made
+abbrev pub processes_after : Processes → Option ProcessEdit → Processes
+processes_after ps None = ps
+processes_after ps (Some e) = edited ps e
+
+-- the table once the edit of the node's processes is made
+abbrev pub table_after : NodeState → Option ProcessEdit → Table
 table_after s None = s.table
-table_after s (Some rows) = with_processes s.table (process s 0) (processes rows)
+table_after s (Some e) = with_processes s.table (process s 0) (edited (around s.table (process s 0)) e)
 
 -- the open calls once the edit is made
 abbrev pub pending_after : List OpenCall → CallsEdit → List OpenCall
@@ -123,10 +130,12 @@ LocksFit p (Some e) =
     × HasRowRoom p.locks e.file e.owner (vec_capacity e.room)
     × ((file : ℕ) → IsOfNode (replace (held p.locks) e.file e.owner (value_at e.spans) file) p.node p.incarnation)
 
--- what is open is of a file of the shape
-abbrev pub ProcessesFit : NodeParts → Option (List ProcessRow) → Type 0
+-- what the edit of processes needs: its own, and all that is open stays of files of the shape
+abbrev pub ProcessesFit : NodeParts → Option ProcessEdit → Type 0
 ProcessesFit p None = Unit {0}
-ProcessesFit p (Some rows) = (pid fd : ℕ) (o : Opened) → (processes rows).opened pid fd ≡ Some o → IsNumber (node_state p).shape.files o.file
+ProcessesFit p (Some e) =
+    ProcessFits p.processes e
+    × ((pid fd : ℕ) (o : Opened) → (edited (processes p.processes) e).opened pid fd ≡ Some o → IsNumber (node_state p).shape.files o.file)
 
 -- room for one more call than so many, where one is put last
 abbrev pub HasRoom : ℕ → CallsEdit → Type 0

@@ -1,10 +1,14 @@
 //! What a step of a node changes, as plain data.
-ghost use Rattle.std.specs.Prelude.{◌≡◌, true, false, None, unwrap_or};
+ghost use Rattle.std.specs.Prelude.{◌≡◌, true, false, None, IfSome};
+ghost use Rattle.descriptors.specs.Rows.{processes as processes_of};
+ghost use Rattle.descriptors.specs.Edits.{Fits as ProcessFits};
+ghost use Rattle.node_core.specs.Plans.{processes_after};
 ghost use Rattle.node_core.specs.declared.open_calls.CallsEdit.TheVariants.{Same};
 
-use crate::descriptors::processes::Processes;
 use crate::file_row::FileEdit;
 use crate::open_calls::CallsEdit;
+use descriptors::edit::ProcessEdit;
+use descriptors::processes::Processes;
 use lock_table::lock_table::LockEdit;
 
 /// What a step changes before a call is tried: whether the call takes the next number, and what a
@@ -42,7 +46,7 @@ impl Draft {
 #[derive(Drop)]
 pub struct Edit {
     pub draft: Draft,
-    pub processes: Option<Processes>,
+    pub processes: Option<ProcessEdit>,
     pub locks: Option<LockEdit>,
     pub calls: CallsEdit,
     pub freed: Option<u16>,
@@ -70,11 +74,13 @@ impl Edit {
     }
 }
 
-/// Puts the new processes in, if there are any. Takes no memory.
-pub fn apply_processes(processes: &mut Processes, edit: Option<Processes>)
-    ensures { processes.new ≡ unwrap_or edit processes.old }
+/// Makes a planned change of processes, if there is one. Takes no memory.
+pub fn apply_processes(processes: &mut Processes, edit: Option<ProcessEdit>)
+    requires { IfSome edit (ProcessFits processes.old) }
+    ensures { processes_of processes.new ≡ processes_after (processes_of processes.old) edit }
 {
-    if let Some(new) = edit {
-        *processes = new;
+    match edit {
+        Some(edit) => processes.apply(edit),
+        None => {}
     }
 }

@@ -3,7 +3,6 @@
 
 pub mod change;
 pub mod command;
-pub mod descriptors;
 pub mod edit;
 pub mod effect;
 pub mod event;

@@ -8,7 +8,6 @@ ghost use Rattle.node_core.specs.Parts.{node_state, IsCallOf};
 ghost use Rattle.node_core.specs.Plans.{planned, Fits};
 
 use crate::change::Change;
-use crate::descriptors::processes::Processes;
 use crate::edit::{Draft, Edit, apply_processes};
 use crate::event::NodeEvent;
 use crate::file_row::FileRow;
@@ -17,6 +16,7 @@ use crate::locks::apply_locks;
 use crate::numbers::calls_after;
 use crate::open_call::OpenCall;
 use crate::open_calls::OpenCalls;
+use descriptors::processes::Processes;
 use lock_table::lock_table::LockTable;
 use messages::outcome::Outcome;
 use messages::refusal::StepError;

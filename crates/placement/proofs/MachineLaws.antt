@@ -13,8 +13,8 @@ use Rattle.model.specs.Descriptors.{no_processes}
 use Rattle.model.specs.Locks.{no_locks}
 use Rattle.model.specs.Table.{Target, empty_table, around, target_at, target}
 use Rattle.lock_table.specs.Rows.{held}
-use Rattle.node_core.specs.declared.descriptors.error.FdError.{FdError}
-use Rattle.node_core.specs.Rows.{resolved, fd_reply}
+use Rattle.descriptors.specs.declared.error.FdError.{FdError}
+use Rattle.descriptors.specs.Rows.{resolved, fd_reply}
 use Rattle.node_core.proofs.NodeLaws.{target-ok, target-err}
 use Rattle.placement.specs.declared.machine.Machine.{Machine}
 use Rattle.placement.specs.Nodes.{processes_of}

@@ -16,8 +16,8 @@ use Rattle.model.specs.Descriptors.{Processes, no_processes, with_process}
 use Rattle.model.specs.Table.{beside}
 use Rattle.model.specs.Step.{Is}
 use Rattle.messages.specs.Messages.{same_host}
-use Rattle.node_core.specs.declared.descriptors.row.Row.{Row}
-use Rattle.node_core.specs.Rows.{processes}
+use Rattle.descriptors.specs.declared.row.Row.{Row}
+use Rattle.descriptors.specs.Rows.{processes}
 use Rattle.placement.specs.Nodes.{Hosts, AreHosts, Answers, Closes, ClosesOn, process_at, processes_of, table_with, with_node}
 
 abbrev at : ℕ → ℕ → Host

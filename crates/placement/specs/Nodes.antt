@@ -10,8 +10,8 @@ use Rattle.model.specs.Locks.{Locks}
 use Rattle.model.specs.Descriptors.{Processes, is_open, with_descriptor}
 use Rattle.model.specs.Table.{Table}
 use Rattle.messages.specs.Messages.{same_host}
-use Rattle.node_core.specs.declared.descriptors.row.Row.{Row}
-use Rattle.node_core.specs.Rows.{processes}
+use Rattle.descriptors.specs.declared.row.Row.{Row}
+use Rattle.descriptors.specs.Rows.{processes}
 
 -- by the node in its incarnation: rows of its processes
 abbrev pub Hosts : Type 0

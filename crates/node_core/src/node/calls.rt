@@ -12,13 +12,13 @@ ghost use Rattle.node_core.specs.Plans.{numbered, table_after, planned, effect_o
 
 use super::Node;
 use crate::change::Change;
-use crate::descriptors::processes::Processes;
 use crate::edit::{Draft, Edit};
 use crate::effect::Effect;
 use crate::numbers::is_pid;
 use crate::open_call::{Intent, OpenCall};
 use crate::open_calls::CallsEdit;
 use crate::target::target_at;
+use descriptors::edit::ProcessEdit;
 use intervals::span::Span;
 use messages::refusal::StepError;
 use model::access::Access;
@@ -67,14 +67,13 @@ impl Node {
     }
 
     // The process begins.
-    fn spawn(&self, pid: u16) -> Result<(Option<Processes>, Reply), AllocError>
+    fn spawn(&self, pid: u16) -> Result<(Option<ProcessEdit>, Reply), AllocError>
         requires { IsNumber most_processes pid }
         ensures value { IfOk result (λ r. spawned (node_state self.now) pid ≡ (table_after (node_state self.now) r.0, r.1)) }
         ensures fits { IfOk result (λ r. ProcessesFit self.now r.0) }
     {
-        let mut processes = self.processes.copy()?;
-        match processes.spawn(pid) {
-            Ok(()) => Ok((Some(processes), Reply::Done)),
+        match self.processes.plan_spawn(pid) {
+            Ok(edit) => Ok((Some(edit), Reply::Done)),
             Err(error) => Ok((None, error.reply()?)),
         }
     }
@@ -85,15 +84,13 @@ impl Node {
         pid: u16,
         file: u16,
         access: Access,
-    ) -> Result<(Option<Processes>, Reply), AllocError>
-        requires pid { IsNumber most_processes pid }
-        requires file { IsNumber (node_state self.now).shape.files file }
+    ) -> Result<(Option<ProcessEdit>, Reply), AllocError>
+        requires { IsNumber (node_state self.now).shape.files file }
         ensures value { IfOk result (λ r. opened (node_state self.now) pid file access ≡ (table_after (node_state self.now) r.0, r.1)) }
         ensures fits { IfOk result (λ r. ProcessesFit self.now r.0) }
     {
-        let mut processes = self.processes.copy()?;
-        match processes.open(pid, file, access) {
-            Ok(fd) => Ok((Some(processes), Reply::Fd(fd))),
+        match self.processes.plan_open(pid, file, access) {
+            Ok((edit, fd)) => Ok((Some(edit), Reply::Fd(fd))),
             Err(error) => Ok((None, error.reply()?)),
         }
     }
@@ -123,7 +120,7 @@ impl Node {
     }
 
     // The call of a process is answered, with these processes from then on.
-    fn answer_with(&self, alloc: Global, processes: Option<Processes>, reply: Reply) -> Effect
+    fn answer_with(&self, alloc: Global, processes: Option<ProcessEdit>, reply: Reply) -> Effect
         requires left { (node_state self.now).calls < greatest_number }
         requires fits { ProcessesFit self.now processes }
         ensures value { settled (numbered (node_state self.now)) ((node_state self.now).calls + 1) (table_after (node_state self.now) processes, reply) ≡ effect_of self.now result }

@@ -5,7 +5,7 @@ ghost use Rattle.model.specs.Limits.{IsHost, IsNumber, most_processes, most_desc
 ghost use Rattle.model.specs.Locks.{Locks};
 ghost use Rattle.model.specs.Descriptors.{no_processes, with_process, after_spawn, after_open};
 ghost use Rattle.model.specs.Step.{Step};
-ghost use Rattle.node_core.specs.Rows.{processes, resolved};
+ghost use Rattle.descriptors.specs.Rows.{processes, resolved};
 ghost use Rattle.placement.specs.Nodes.{Answers, Closes, ClosesOn, process_at, processes_of, table_with, with_node};
 
 use intervals::span_map::NoMemory;
@@ -14,8 +14,8 @@ use model::host::Host;
 use model::limits::MOST_NODES;
 use model::opened::Opened;
 use model::reply::Reply;
-use node_core::descriptors::error::FdError;
-use node_core::descriptors::processes::Processes;
+use descriptors::error::FdError;
+use descriptors::processes::Processes;
 use std::alloc::Global;
 use std::collections::HashMap;
 use std::marker::Model;

@@ -1,6 +1,6 @@
 use Rattle.std.proofs.Common.{refl}
 use Rattle.model.specs.Descriptors.{no_processes}
-use Rattle.node_core.specs.Rows.{processes}
+use Rattle.descriptors.specs.Rows.{processes}
 use Rattle.placement.proofs.NodesLaws.{closes_on, changes-written, changes-nothing, hosts-written}
 use Rattle.placement.proofs.machine.nodes.Nodes.close.Goals as goal
 

@@ -1,5 +1,5 @@
 use Rattle.model.specs.Descriptors.{no_processes}
-use Rattle.node_core.specs.Rows.{processes}
+use Rattle.descriptors.specs.Rows.{processes}
 use Rattle.placement.proofs.NodesLaws.{ended, ended-nowhere, changes-written, changes-nothing, hosts-written}
 use Rattle.placement.proofs.machine.nodes.Nodes.end.Goals as goal
 

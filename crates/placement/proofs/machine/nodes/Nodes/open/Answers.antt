@@ -2,7 +2,7 @@ use Rattle.std.proofs.Common.{refl}
 use Rattle.std.proofs.lemmas.Result.{IfOk-weaker}
 use Rattle.model.specs.declared.reply.Reply.TheVariants.{NoProcess}
 use Rattle.model.specs.Descriptors.{no_processes, after_open}
-use Rattle.node_core.specs.Rows.{processes}
+use Rattle.descriptors.specs.Rows.{processes}
 use Rattle.placement.proofs.NodesLaws.{answered, changes-written, changes-nothing, hosts-written}
 use Rattle.placement.proofs.machine.nodes.Nodes.open.Goals as goal
 

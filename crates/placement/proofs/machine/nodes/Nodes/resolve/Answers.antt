@@ -1,6 +1,6 @@
 use Rattle.std.proofs.Common.{sym, ◌∙◌, ap}
 use Rattle.model.specs.Descriptors.{Processes}
-use Rattle.node_core.specs.Rows.{resolved}
+use Rattle.descriptors.specs.Rows.{resolved}
 use Rattle.placement.proofs.NodesLaws.{processes-found, processes-not_found}
 use Rattle.placement.proofs.machine.nodes.Nodes.resolve.Goals as goal
 

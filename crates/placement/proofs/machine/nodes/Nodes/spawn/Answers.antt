@@ -1,6 +1,6 @@
 use Rattle.std.proofs.lemmas.Result.{IfOk-weaker}
 use Rattle.model.specs.Descriptors.{after_spawn}
-use Rattle.node_core.specs.Rows.{processes}
+use Rattle.descriptors.specs.Rows.{processes}
 use Rattle.placement.proofs.NodesLaws.{answered, changes-written, changes-inserted, hosts-written, hosts-inserted}
 use Rattle.placement.proofs.machine.nodes.Nodes.spawn.Goals as goal
 

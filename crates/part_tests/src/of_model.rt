@@ -1,2 +1,0 @@
-//! The one table.
-mod one_table;
