@@ -6,13 +6,13 @@ ghost use Rattle.node_core.specs.Node.{node_rule};
 ghost use Rattle.node_core.specs.Files.{state_of};
 ghost use Rattle.node_core.specs.Parts.{node_state, effect_of, IsCallOf};
 
-use descriptors::processes::Processes;
 use crate::effect::Effect;
 use crate::event::NodeEvent;
 use crate::file_row::FileRow;
 use crate::files::{copy_files, file_of, new_files, same_files};
 use crate::open_call::OpenCall;
 use crate::open_calls::OpenCalls;
+use descriptors::processes::Processes;
 use lock_table::lock_table::LockTable;
 use messages::items::Items;
 use messages::outcome::Outcome;
