@@ -8,6 +8,7 @@ ghost use Rattle.replay.specs.Commands.{HasListing, IsFault, Leaves, ShowsListin
 ghost use Rattle.replay.specs.Faults.{fault_line};
 ghost use Rattle.replay.specs.Outputs.{AppendsPart, WritesOrFails};
 ghost use Rattle.replay.specs.Refusals.{IsHelp, refusal_status, refusal_text};
+ghost use Rattle.replay.specs.Stores.{SameFiles};
 ghost use Rattle.replay.specs.Statuses.{status_of, IsStatus};
 
 use crate::fault::Fault;
@@ -47,7 +48,7 @@ pub fn respond<W: AsStr, S: Store, O: Output, E: Output>(
     ensures told { IsStatus result → result ≢ 0 → (fault : Fault) × (result ≡ status_of fault)
         × WritesOrFails (E.taken err.old) (E.taken err.new) (E.has_failed err.new) (fault_line fault) }
 
-    ensures files { S.holds store.new ≡ S.holds store.old }
+    ensures files { SameFiles (S.holds store.old) (S.holds store.new) }
 {
     match Line::read(alloc, words) {
         Ok(line) => perform(alloc, &line, store, out, err),
