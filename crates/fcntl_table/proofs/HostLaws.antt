@@ -16,7 +16,7 @@ use Rattle.descriptors.specs.declared.row.Row.{Row}
 use Rattle.descriptors.specs.declared.edit.ProcessEdit.{ProcessEdit}
 use Rattle.descriptors.specs.Rows.{processes}
 use Rattle.descriptors.specs.Edits.{edited, Fits}
-use Rattle.fcntl_table.specs.Hosts.{HostRows, AreHosts, Closes, ClosesOn, FitsOn, IsKept, processes_of, with_host}
+use Rattle.fcntl_table.specs.Hosts.{HostRows, AreHosts, Closes, ClosesOn, FitsOn, processes_of, with_host}
 
 abbrev at : ℕ → ℕ → Host
 at node incarnation = record { node = node; incarnation = incarnation }
