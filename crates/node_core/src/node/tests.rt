@@ -11,6 +11,7 @@ use model::mode::Mode;
 use model::op::Op;
 use model::owner::{Kind, Owner};
 use model::policy::Policy;
+use model::reply::Reply;
 use std::test::Fail;
 
 const OPEN: Op = Op::Open {
