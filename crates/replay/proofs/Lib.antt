@@ -1,4 +1,3 @@
 pub mod Marks
 pub mod Progresses
-pub mod OneRun
 pub mod OneOutcome

@@ -102,12 +102,3 @@ fills shape ls i l p lt is runs full = record {
   ran = runs;
   full = full;
 }
-
--- the events of one more entry
-pub events_more : (es : List Entry) (i : ℕ) (e : Entry) (xs ys : List Event) → i < length es → e ≡ get_or es i e → xs ≡ events_of (take i es) → ys ≡ xs ++ e.event ∷ [] → ys ≡ events_of (take (i + 1) es)
-events_more es i e xs ys lt is so_far made =
-    made
-    ∙ (ap (λ (zs : List Event). zs ++ e.event ∷ []) so_far
-    ∙ (ap (λ (d : Entry). events_of (take i es) ++ d.event ∷ []) is
-    ∙ (sym (map-append (λ (d : Entry). d.event) (take i es) (get_or es i e ∷ []))
-    ∙ sym (ap (λ (ds : List Entry). events_of ds) (take_more es i e lt)))))
