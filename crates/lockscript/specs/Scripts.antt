@@ -2,10 +2,11 @@
 use Rattle.std.specs.Prelude.{◌≡◌, ◌≢◌, ℕ, ◌+◌, ◌⊎◌, false, List, [], ◌∷◌, ◌++◌, All, map, codes, decimal, ⊤}
 use Rattle.model.specs.Limits.{IsNumber, most_nodes, most_processes}
 use Rattle.lockscript.specs.declared.script_line.Command.{Command}
-use Rattle.lockscript.specs.declared.script_line.Command.TheVariants.{Call, Deliver, Lose, Settle, Retry, Resend}
+use Rattle.lockscript.specs.declared.script_line.Command.TheVariants.{Call, Deliver, Lose, Settle, Retry, Resend, Declare, Restart, Learn}
 use Rattle.lockscript.specs.declared.error.ParseError.{ParseError}
 use Rattle.lockscript.specs.declared.error.ParseError.TheVariants.{NoMemory, BadLine}
 use Rattle.messages.specs.Shapes.{ShapeFields, IsShape, most_files}
+use Rattle.cluster_core.specs.World.{most_incarnations}
 use Rattle.model.specs.declared.policy.Policy.{Policy}
 use Rattle.lockscript.specs.Reads.{after_text, pair_text}
 use Rattle.lockscript.specs.Texts.{op_text, policy_text}
@@ -23,6 +24,9 @@ command_text (Lose message) = codes "lose " ++ decimal message
 command_text Settle = codes "settle"
 command_text (Retry node pid) = codes "retry " ++ pair_text decimal decimal (node, pid)
 command_text (Resend file) = codes "resend " ++ decimal file
+command_text (Declare node) = codes "declare " ++ decimal node
+command_text (Restart node) = codes "restart " ++ decimal node
+command_text (Learn file node incarnation) = codes "learn " ++ pair_text decimal (pair_text decimal decimal) (file, (node, incarnation))
 
 -- `cluster nodes N files F policy P`, the first line of a script that is not skipped
 abbrev pub counts_text : ℕ × (ℕ × Policy) → List ℕ
@@ -43,6 +47,9 @@ IsCommand (Lose message) = IsNumber greatest_message message
 IsCommand Settle = ⊤
 IsCommand (Retry node pid) = IsNumber most_nodes node × IsNumber most_processes pid
 IsCommand (Resend file) = IsNumber most_files file
+IsCommand (Declare node) = IsNumber most_nodes node
+IsCommand (Restart node) = IsNumber most_nodes node
+IsCommand (Learn file node incarnation) = IsNumber most_files file × IsNumber most_nodes node × IsNumber most_incarnations incarnation
 
 -- the greatest number of a line that listings can name, which has 32 bits
 abbrev pub greatest_line : ℕ

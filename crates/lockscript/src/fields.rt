@@ -2,6 +2,7 @@
 ghost use Rattle.std.specs.Prelude.{◌≡◌, ◌≢◌, ◌≤◌, ℕ, List, ◌∷◌, ◌++◌, decimal, MatchOption};
 ghost use Rattle.model.specs.Limits.{IsNumber, most_nodes, most_processes};
 ghost use Rattle.messages.specs.Shapes.{most_files};
+ghost use Rattle.cluster_core.specs.World.{most_incarnations};
 ghost use Rattle.lockscript.specs.Layout.{space};
 ghost use Rattle.lockscript.specs.Reads.{Lacks, Reads};
 ghost use Rattle.lockscript.specs.Scripts.{greatest_message};
@@ -13,6 +14,9 @@ use model::limits::{MOST_NODES, MOST_PROCESSES};
 
 /// The greatest number of a message.
 const GREATEST_MESSAGE: u64 = 4_294_967_295;
+
+/// The greatest incarnation of a node.
+const GREATEST_INCARNATION: u64 = 65_535;
 
 /// The greatest descriptor that a script may name.
 const GREATEST_DESCRIPTOR: u64 = 255;
@@ -58,6 +62,16 @@ pub(crate) fn pid_of(word: &str) -> Option<u16>
     ensures { Reads decimal (IsNumber most_processes) word.now result }
 {
     match number_of(word, 1, MOST_PROCESSES as u64) {
+        Some(number) => Some(number as u16),
+        None => None,
+    }
+}
+
+/// The number of an incarnation.
+pub(crate) fn incarnation_of(word: &str) -> Option<u16>
+    ensures { Reads decimal (IsNumber most_incarnations) word.now result }
+{
+    match number_of(word, 1, GREATEST_INCARNATION) {
         Some(number) => Some(number as u16),
         None => None,
     }

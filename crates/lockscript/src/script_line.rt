@@ -6,22 +6,49 @@ use std::marker::Model;
 #[derive(Clone, Copy, Debug, PartialEq, Eq)]
 pub enum Command {
     /// A process of a node makes a call.
-    Call { node: u8, pid: u16, op: Op },
+    Call {
+        node: u8,
+        pid: u16,
+        op: Op,
+    },
     /// A message is delivered, by its number in the order of sending, from 1.
-    Deliver { message: u32 },
+    Deliver {
+        message: u32,
+    },
     /// A message is lost, by its number in the order of sending, from 1: lines that settle pass over it.
-    Lose { message: u32 },
+    Lose {
+        message: u32,
+    },
     /// Messages are delivered until none is left that no line has delivered, lost or passed over.
     Settle,
     /// A node tries the open call of a process again.
-    Retry { node: u8, pid: u16 },
+    Retry {
+        node: u8,
+        pid: u16,
+    },
     /// The server of a file sends again what has no answer.
-    Resend { file: u16 },
+    Resend {
+        file: u16,
+    },
+    /// A node is declared failed.
+    Declare {
+        node: u8,
+    },
+    /// A node that was declared failed begins its next incarnation.
+    Restart {
+        node: u8,
+    },
+    /// The server of a file learns that an incarnation of a node was declared failed.
+    Learn {
+        file: u16,
+        node: u8,
+        incarnation: u16,
+    },
 }
 
 /// A line of a script that asks for something, by its number in the text, from 1. The numbers in it
 /// are within the limits of lock calls: nodes 1 to 64, processes 1 to 256, files 1 to 256, messages 1
-/// to 4294967295.
+/// to 4294967295, incarnations 1 to 65535.
 #[derive(Clone, Copy, Debug, PartialEq, Eq)]
 pub struct ScriptLine {
     number: u32,

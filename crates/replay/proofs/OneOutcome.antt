@@ -6,16 +6,16 @@ use Rattle.std.specs.Prelude.{slice_get, Option, Some}
 use Rattle.std.specs.declared.result.Result.{Result}
 use Rattle.std.specs.declared.result.Result.TheVariants.{Ok, Err}
 use Rattle.messages.specs.declared.refusal.Refused.{Refused}
-use Rattle.messages.specs.declared.refusal.Refused.TheVariants.{JournalFull}
+use Rattle.messages.specs.declared.refusal.Refused.TheVariants.{JournalFull, Fenced}
 use Rattle.messages.specs.declared.event.Event.TheVariants as event
 use Rattle.messages.specs.declared.message.Message.{Message}
 use Rattle.messages.specs.declared.entry.Entry.{Entry}
 use Rattle.cluster_core.specs.World.{WorldState}
 use Rattle.cluster_core.specs.Next.{next}
 use Rattle.lockscript.specs.declared.script_line.Command.{Command}
-use Rattle.lockscript.specs.declared.script_line.Command.TheVariants.{Call, Deliver, Lose, Settle, Retry, Resend}
+use Rattle.lockscript.specs.declared.script_line.Command.TheVariants.{Call, Deliver, Lose, Settle, Retry, Resend, Declare, Restart, Learn}
 use Rattle.lockscript.specs.Scripts.{LineFields}
-use Rattle.replay.specs.Progress.{Progress, first_progress, after_delivery, delivery, index_of, settling, Ends, Happens, IsLeastUnsettled, IsNextMessage, Delivers, DeliversAll, IsSettled, Does, RunsTo, FindsItFull, IsFullIn}
+use Rattle.replay.specs.Progress.{Progress, first_progress, after_delivery, delivery, index_of, settling, Ends, Passes, IsLeastUnsettled, IsNextMessage, Delivers, DeliversAll, IsSettled, Does, RunsTo, FindsItFull, IsFullIn}
 use Rattle.replay.specs.Played.{played_of}
 use Rattle.replay.specs.Laws.{ComesToOne, FullComesToNothing}
 
@@ -28,6 +28,17 @@ ends_not_full : (line : ℕ) (p q : Progress) (r : Result (WorldState × Entry) 
 ends_not_full line p q r is ends =
     let P : Result (WorldState × Entry) Refused → Type 0 = λ x. Ends line p x q in
     let at_full : Ends line p (Err JournalFull) q = subst P is ends in
+    at_full.0
+
+passes_one : (line : ℕ) (p q s : Progress) (r : Result (WorldState × Entry) Refused) → Passes line p r q → Passes line p r s → q ≡ s
+passes_one line p q s (Ok made) a b = a ∙ sym b
+passes_one line p q s (Err Fenced) a b = a ∙ sym b
+passes_one line p q s (Err refusal) a b = a.1 ∙ sym b.1
+
+passes_not_full : (line : ℕ) (p q : Progress) (r : Result (WorldState × Entry) Refused) → r ≡ Err JournalFull → Passes line p r q → ⊥
+passes_not_full line p q r is passes =
+    let P : Result (WorldState × Entry) Refused → Type 0 = λ x. Passes line p x q in
+    let at_full : Passes line p (Err JournalFull) q = subst P is passes in
     at_full.0
 
 some_one : (o : Option Message) (m n : Message) → o ≡ Some m → o ≡ Some n → m ≡ n
@@ -56,9 +67,9 @@ settled_next p i m settled is = false≢true (sym is.least.unsettled ∙ settled
 delivers_one : (line : ℕ) (p q s : Progress) (m n : Message) → Delivers line p m q → Delivers line p n s → q ≡ s
 delivers_one line p q s m n a b =
     let same = next_one p a.0 b.0 m n a.1 b.1 in
-    let P : Message → Type 0 = λ x. Happens line (event.Deliver x) (settling b.0 p) s in
-    let Q : ℕ → Type 0 = λ k. Happens line (event.Deliver m) (settling k p) s in
-    ends_one line (settling a.0 p) q s (next p.world (event.Deliver m)) a.2 (subst Q (sym same.0) (subst P (sym same.1) b.2))
+    let P : Message → Type 0 = λ x. Passes line (settling b.0 p) (next p.world (event.Deliver x)) s in
+    let Q : ℕ → Type 0 = λ k. Passes line (settling k p) (next p.world (event.Deliver m)) s in
+    passes_one line (settling a.0 p) q s (next p.world (event.Deliver m)) a.2 (subst Q (sym same.0) (subst P (sym same.1) b.2))
 
 all_one : (line : ℕ) (p q s : Progress) (ms ns : List Message) → DeliversAll line p ms q → IsSettled q → DeliversAll line p ns s → IsSettled s → q ≡ s
 all_one line p q s [] [] a q_settled b s_settled = sym a ∙ b
@@ -82,7 +93,7 @@ settles_not_full line p q s [] (n ∷ ns) i m a is_next full b settled =
     let Q : Progress → Type 0 = λ x. FindsItFull x (event.Deliver m) in
     let R : Message → Type 0 = λ x. FindsItFull p (event.Deliver x) in
     let same = next_one p i b.1.0 m n (subst P (sym a) is_next) b.1.1 in
-    ends_not_full line (settling b.1.0 p) b.0 (next p.world (event.Deliver n)) (subst R same.1 (subst Q (sym a) full)) b.1.2
+    passes_not_full line (settling b.1.0 p) b.0 (next p.world (event.Deliver n)) (subst R same.1 (subst Q (sym a) full)) b.1.2
 settles_not_full line p q s (k ∷ ms) [] i m a is_next full b settled =
     let P : Progress → Type 0 = λ x. IsSettled x in
     settled_next p a.1.0 k (subst P (sym b) settled) a.1.1
@@ -98,6 +109,9 @@ does_one line (Deliver number) p q s a b =
 does_one line (Lose number) p q s a b = a ∙ sym b
 does_one line (Retry node pid) p q s a b = ends_one line p q s (next p.world (event.Retry node pid)) a b
 does_one line (Resend file) p q s a b = ends_one line p q s (next p.world (event.Resend file)) a b
+does_one line (Declare node) p q s a b = ends_one line p q s (next p.world (event.Declare node)) a b
+does_one line (Restart node) p q s a b = ends_one line p q s (next p.world (event.Restart node)) a b
+does_one line (Learn file node incarnation) p q s a b = ends_one line p q s (next p.world (event.Learn file node incarnation)) a b
 does_one line Settle p q s a b = all_one line p q s a.0 b.0 a.1 a.2 b.1 b.2
 
 does_not_full : (line : ℕ) (c : Command) (p q : Progress) → IsFullIn line c p → Does line c p q → ⊥
@@ -108,6 +122,9 @@ does_not_full line (Deliver number) p q full does =
 does_not_full line (Lose number) p q full does = full
 does_not_full line (Retry node pid) p q full does = ends_not_full line p q (next p.world (event.Retry node pid)) full does
 does_not_full line (Resend file) p q full does = ends_not_full line p q (next p.world (event.Resend file)) full does
+does_not_full line (Declare node) p q full does = ends_not_full line p q (next p.world (event.Declare node)) full does
+does_not_full line (Restart node) p q full does = ends_not_full line p q (next p.world (event.Restart node)) full does
+does_not_full line (Learn file node incarnation) p q full does = ends_not_full line p q (next p.world (event.Learn file node incarnation)) full does
 does_not_full line Settle p q full does =
     settles_not_full line p full.mid q full.messages does.0 full.index full.message full.settled full.next_one full.full does.1 does.2
 

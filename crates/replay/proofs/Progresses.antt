@@ -5,7 +5,7 @@ use Rattle.std.specs.declared.result.Result.{Result}
 use Rattle.std.specs.declared.result.Result.TheVariants.{Ok, Err}
 use Rattle.std.proofs.lemmas.List.{map-append, take_more, drop_more, take-append-drop}
 use Rattle.messages.specs.declared.refusal.Refused.{Refused}
-use Rattle.messages.specs.declared.refusal.Refused.TheVariants.{Stranger}
+use Rattle.messages.specs.declared.refusal.Refused.TheVariants.{Stranger, Fenced}
 use Rattle.messages.specs.declared.event.Event.{Event}
 use Rattle.messages.specs.declared.event.Event.TheVariants as event
 use Rattle.messages.specs.declared.message.Message.{Message}
@@ -17,9 +17,9 @@ use Rattle.cluster_core.specs.Runs.{Leads}
 use Rattle.cluster_core.specs.Journals.{events_of}
 use Rattle.cluster_core.proofs.JournalRuns.{leads_push, entry_event}
 use Rattle.lockscript.specs.declared.script_line.Command.{Command}
-use Rattle.lockscript.specs.declared.script_line.Command.TheVariants.{Call, Deliver, Lose, Settle, Retry, Resend}
+use Rattle.lockscript.specs.declared.script_line.Command.TheVariants.{Call, Deliver, Lose, Settle, Retry, Resend, Declare, Restart, Learn}
 use Rattle.lockscript.specs.Scripts.{LineFields}
-use Rattle.replay.specs.Progress.{Progress, first_progress, after_refusal, delivery, index_of, settling, Comes, Ends, Happens, Delivers, DeliversAll, Does, RunsTo, IsFullIn}
+use Rattle.replay.specs.Progress.{Progress, first_progress, after_refusal, delivery, index_of, settling, Comes, Ends, Happens, Passes, Delivers, DeliversAll, Does, RunsTo, IsFullIn}
 use Rattle.replay.specs.Played.{FillsJournal}
 
 -- the entries so far lead from a world to the world so far
@@ -37,8 +37,12 @@ ends_leads w line ev p q (Err refusal) is leads ends = let Q : Progress → Type
 happens_leads : (w : WorldState) (line : ℕ) (ev : Event) (p q : Progress) → LeadsFrom w p → Happens line ev p q → LeadsFrom w q
 happens_leads w line ev p q leads happens = ends_leads w line ev p q (next p.world ev) refl leads happens
 
+passes_leads : (w : WorldState) (line : ℕ) (ev : Event) (p q : Progress) (r : Result (WorldState × Entry) Refused) → next p.world ev ≡ r → LeadsFrom w p → Passes line p r q → LeadsFrom w q
+passes_leads w line ev p q (Err Fenced) is leads passes = let Q : Progress → Type 0 = λ x. LeadsFrom w x in subst Q (sym passes) leads
+passes_leads w line ev p q r is leads passes = ends_leads w line ev p q r is leads passes
+
 delivers_leads : (w : WorldState) (line : ℕ) (m : Message) (p q : Progress) → LeadsFrom w p → Delivers line p m q → LeadsFrom w q
-delivers_leads w line m p q leads delivers = happens_leads w line (event.Deliver m) (settling delivers.0 p) q leads delivers.2
+delivers_leads w line m p q leads delivers = passes_leads w line (event.Deliver m) (settling delivers.0 p) q (next p.world (event.Deliver m)) refl leads delivers.2
 
 all_leads : (w : WorldState) (line : ℕ) (p q : Progress) (ms : List Message) → LeadsFrom w p → DeliversAll line p ms q → LeadsFrom w q
 all_leads w line p q [] leads is = let Q : Progress → Type 0 = λ x. LeadsFrom w x in subst Q is leads
@@ -62,6 +66,9 @@ does_leads w line (Deliver number) p q leads does = comes_leads w line (index_of
 does_leads w line (Lose number) p q leads does = lost_leads w line (index_of number) p q (nat_lt (index_of number) (length p.world.sent)) leads does
 does_leads w line (Retry node pid) p q leads does = happens_leads w line (event.Retry node pid) p q leads does
 does_leads w line (Resend file) p q leads does = happens_leads w line (event.Resend file) p q leads does
+does_leads w line (Declare node) p q leads does = happens_leads w line (event.Declare node) p q leads does
+does_leads w line (Restart node) p q leads does = happens_leads w line (event.Restart node) p q leads does
+does_leads w line (Learn file node incarnation) p q leads does = happens_leads w line (event.Learn file node incarnation) p q leads does
 does_leads w line Settle p q leads does = all_leads w line p q does.0 leads does.1
 
 runs_leads : (w : WorldState) (p q : Progress) (ls : List LineFields) → LeadsFrom w p → RunsTo p ls q → LeadsFrom w q

@@ -11,7 +11,7 @@ use Rattle.messages.specs.Shapes.{ShapeFields}
 use Rattle.cluster_core.specs.World.{WorldState, first_world, journal_limit}
 use Rattle.cluster_core.specs.Next.{next}
 use Rattle.lockscript.specs.declared.script_line.Command.{Command}
-use Rattle.lockscript.specs.declared.script_line.Command.TheVariants.{Call, Deliver, Lose, Settle, Retry, Resend}
+use Rattle.lockscript.specs.declared.script_line.Command.TheVariants.{Call, Deliver, Lose, Settle, Retry, Resend, Declare, Restart, Learn}
 use Rattle.lockscript.specs.Scripts.{LineFields}
 
 -- how far a script came: the entries, the world that they led to, which messages are settled, each by its index in the order of sending, and the refused lines, each by its number with the number of its refusal
@@ -70,9 +70,14 @@ pub record IsNextMessage (p : Progress) (index : ℕ) (m : Message) : Type 0 whe
   pub least : IsLeastUnsettled p.settled index
   pub sent : slice_get p.world.sent index ≡ Some m
 
+-- a message that is settled ends so: where its node was declared failed it is passed over and nothing is listed, else as an event of the line
+abbrev pub Passes : ℕ → Progress → Result (WorldState × Entry) Refused → Progress → Type 0
+Passes line p (Err Fenced) q = q ≡ p
+Passes line p made q = Ends line p made q
+
 -- that message is settled: it is delivered, or passed over where its delivery is refused
 abbrev pub Delivers : ℕ → Progress → Message → Progress → Type 0
-Delivers line p m q = (index : ℕ) × IsNextMessage p index m × Happens line (event.Deliver m) (settling index p) q
+Delivers line p m q = (index : ℕ) × IsNextMessage p index m × Passes line (settling index p) (next p.world (event.Deliver m)) q
 
 -- these messages are settled, one after the other
 abbrev pub DeliversAll : ℕ → Progress → List Message → Progress → Type 0
@@ -116,6 +121,9 @@ Does line (Lose number) p q = q ≡ lost line (index_of number) p
 Does line Settle p q = Settles line p q
 Does line (Retry node pid) p q = Happens line (event.Retry node pid) p q
 Does line (Resend file) p q = Happens line (event.Resend file) p q
+Does line (Declare node) p q = Happens line (event.Declare node) p q
+Does line (Restart node) p q = Happens line (event.Restart node) p q
+Does line (Learn file node incarnation) p q = Happens line (event.Learn file node incarnation) p q
 
 -- the lines are run in order
 abbrev pub RunsTo : Progress → List LineFields → Progress → Type 0
@@ -144,3 +152,6 @@ IsFullIn line (Lose number) p = ⊥
 IsFullIn line Settle p = SettlesToFull line p
 IsFullIn line (Retry node pid) p = FindsItFull p (event.Retry node pid)
 IsFullIn line (Resend file) p = FindsItFull p (event.Resend file)
+IsFullIn line (Declare node) p = FindsItFull p (event.Declare node)
+IsFullIn line (Restart node) p = FindsItFull p (event.Restart node)
+IsFullIn line (Learn file node incarnation) p = FindsItFull p (event.Learn file node incarnation)

@@ -69,6 +69,24 @@ impl Player {
                 self.step(alloc, line.number(), Event::Retry { node, pid })
             }
             Command::Resend { file } => self.step(alloc, line.number(), Event::Resend { file }),
+            Command::Declare { node } => {
+                self.step(alloc, line.number(), Event::Declare { node })
+            }
+            Command::Restart { node } => {
+                self.step(alloc, line.number(), Event::Restart { node })
+            }
+            Command::Learn {
+                file,
+                node,
+                incarnation,
+            } => {
+                let event = Event::Learn {
+                    file,
+                    node,
+                    incarnation,
+                };
+                self.step(alloc, line.number(), event)
+            }
         }
     }
 
@@ -167,7 +185,8 @@ impl Player {
         self.run.world().sent().get(self.settled.cursor()).copied()
     }
 
-    // Delivers the message at the cursor, or passes over it where its delivery is refused.
+    // Delivers the message at the cursor, or passes over it where its delivery is refused: silently
+    // where its node was declared failed.
     fn deliver_next(&mut self, alloc: Global, line: u32, message: Message) -> Result<(), PlayError>
         requires next_one { IsNextMessage (progress self.old) self.old.settled.cursor message }
         requires room { self.old.settled.cursor < usize.MAX }
@@ -176,7 +195,12 @@ impl Player {
         ensures rises { OnOk result (self.new.settled.cursor ≡ self.old.settled.cursor + 1) }
     {
         self.settled.pass();
-        self.step(alloc, line, Event::Deliver(message))
+        match self.world.step(alloc, Event::Deliver(message)) {
+            Ok(entry) => self.entries.push(entry)?,
+            Err(Refused::Fenced) => {}
+            Err(refusal) => self.refuse(line, refusal)?,
+        }
+        Ok(())
     }
 
     // Delivers messages in the order in which they were sent, also those that are sent meanwhile,
