@@ -56,3 +56,4 @@ pub mod FailuresRow
 pub mod Fences
 pub mod MemberSteps
 pub mod Apart
+pub mod CertainRefusals

@@ -1,10 +1,11 @@
 //! A run that goes on, event by event.
 ghost use Rattle.std.specs.Prelude.{◌≡◌, ◌≢◌, Ok, Err, ◌++◌, ◌∷◌, [], IfOk, IfErr, OnOk, OnErr};
 ghost use Rattle.messages.specs.declared.entry.Entry.{Entry};
+ghost use Rattle.messages.specs.declared.refusal.Refused.{Refused};
 ghost use Rattle.messages.specs.declared.refusal.Refused.TheVariants.{NoMemory};
 ghost use Rattle.messages.specs.Shapes.{IsShape};
 ghost use Rattle.cluster_core.specs.World.{first_world};
-ghost use Rattle.cluster_core.specs.Next.{next};
+ghost use Rattle.cluster_core.specs.Next.{next, IsCertain};
 ghost use Rattle.cluster_core.specs.Parts.{world_state};
 ghost use Rattle.cluster_core.specs.Runs.{Leads};
 ghost use Rattle.cluster_core.specs.Journals.{journal_of, GoesOn};
@@ -63,6 +64,9 @@ impl Run {
     pub fn take(&mut self, alloc: Global, event: Event) -> Result<(), Refused>
         ensures ok { OnOk result (GoesOn self.old event self.new) }
         ensures err { IfErr result (λ e. e ≢ NoMemory → next (world_state self.old.world) event ≡ Err e) }
+
+        // A refusal that is decided before memory is taken always comes.
+        ensures refused { (e : Refused) → IsCertain (world_state self.old.world) event e → next (world_state self.old.world) event ≡ Err e → result ≡ Err e }
         ensures unchanged { OnErr result (self.new ≡ self.old) }
     {
         let change = self.world.plan(alloc, &event)?;

@@ -14,7 +14,7 @@ ghost use Rattle.token_server.specs.Server.{server_rule};
 ghost use Rattle.token_server.specs.Parts.{ServerParts, server_state};
 ghost use Rattle.token_server.specs.Edits.{edited, planned};
 ghost use Rattle.cluster_core.specs.World.{WorldState, journal_limit, was_declared, first_world};
-ghost use Rattle.cluster_core.specs.Next.{is_known, is_fenced, has_actor, declare_rule, restart_rule, named_incarnation, after_node, after_server, taken, next};
+ghost use Rattle.cluster_core.specs.Next.{is_known, is_fenced, IsCertain, has_actor, declare_rule, restart_rule, named_incarnation, after_node, after_server, taken, next};
 ghost use Rattle.cluster_core.specs.Parts.{world_state, IsStepOf, IsServerStepOf, IsTakenByNode, IsRest};
 ghost use Rattle.cluster_core.specs.Changes.{IsNodeChange, IsServerChange, IsRestart, Makes, Plans};
 ghost use Rattle.messages.specs.declared.event.Event.TheVariants as event;
@@ -313,6 +313,7 @@ impl World {
         requires same_event { IsStepOf event.now node step.now }
         ensures ok { IfOk result (λ change. Makes self.now event.now change (after_node (world_state self.now) event.now node (node_rule ((world_state self.now).nodes node) step.now))) }
         ensures err { IfErr result (λ e. e ≢ NoMemory → after_node (world_state self.now) event.now node (node_rule ((world_state self.now).nodes node) step.now) ≡ Err e) }
+        ensures refused { (e : Refused) → is_known (world_state self.now) event.now ≡ true → IsCertain (world_state self.now) event.now e → after_node (world_state self.now) event.now node (node_rule ((world_state self.now).nodes node) step.now) ≡ Err e → result ≡ Err e }
     {
         let incarnation = self.named_incarnation(event, node);
         let change = self.node_plan(alloc, node, step)?;
@@ -335,6 +336,7 @@ impl World {
         requires same_event { IsServerStepOf event.now step.now }
         ensures ok { IfOk result (λ change. Makes self.now event.now change (after_server (world_state self.now) event.now file (server_rule ((world_state self.now).servers file) step.now))) }
         ensures err { IfErr result (λ e. e ≢ NoMemory → after_server (world_state self.now) event.now file (server_rule ((world_state self.now).servers file) step.now) ≡ Err e) }
+        ensures refused { (e : Refused) → is_known (world_state self.now) event.now ≡ true → IsCertain (world_state self.now) event.now e → after_server (world_state self.now) event.now file (server_rule ((world_state self.now).servers file) step.now) ≡ Err e → result ≡ Err e }
     {
         let change = self.server_plan(alloc, file, step)?;
         Ok(Change::OfServer { file, change })
@@ -345,6 +347,7 @@ impl World {
         requires { is_within self.now.shape.nodes node ≡ true }
         ensures ok { IfOk result (λ change. Makes self.now (event.Declare node) change (declare_rule (world_state self.now) node)) }
         ensures err { IfErr result (λ e. declare_rule (world_state self.now) node ≡ Err e) }
+        ensures refused { (e : Refused) → declare_rule (world_state self.now) node ≡ Err e → result ≡ Err e }
     {
         if !self.is_alive(node) {
             return Err(Refused::NotAlive);
@@ -376,6 +379,7 @@ impl World {
         requires free { is_fenced (world_state self.now) event.now ≡ false }
         ensures ok { IfOk result (λ change. Makes self.now event.now change (taken (world_state self.now) event.now)) }
         ensures err { IfErr result (λ e. e ≢ NoMemory → taken (world_state self.now) event.now ≡ Err e) }
+        ensures refused { (e : Refused) → IsCertain (world_state self.now) event.now e → taken (world_state self.now) event.now ≡ Err e → result ≡ Err e }
     {
         match event {
             Event::Call { node, pid, op } => {
@@ -417,6 +421,7 @@ impl World {
     pub(crate) fn plan(&self, alloc: Global, event: &Event) -> Result<Change, Refused>
         ensures ok { IfOk result (λ change. Plans self.now event.now change) }
         ensures err { IfErr result (λ e. e ≢ NoMemory → next (world_state self.now) event.now ≡ Err e) }
+        ensures refused { (e : Refused) → IsCertain (world_state self.now) event.now e → next (world_state self.now) event.now ≡ Err e → result ≡ Err e }
     {
         if self.length >= JOURNAL_LIMIT {
             return Err(Refused::JournalFull);
@@ -441,6 +446,7 @@ impl World {
         requires room { self.old.length < journal_limit }
         requires made { IsNodeChange self.old event.now node incarnation change (next (world_state self.old) event.now) }
         ensures ok { IfOk result (λ entry. next (world_state self.old) event.now ≡ Ok (world_state self.new, entry)) }
+        ensures err { OnErr result ((e : Refused) → next (world_state self.old) event.now ≢ Err e) }
         ensures unchanged { OnErr result (self.new ≡ self.old) }
     {
         let outcome = settle_node(&mut self.nodes, node as usize - 1, change, &mut self.sent)?;
@@ -458,6 +464,7 @@ impl World {
         requires room { self.old.length < journal_limit }
         requires made { IsServerChange self.old event.now file change (next (world_state self.old) event.now) }
         ensures ok { IfOk result (λ entry. next (world_state self.old) event.now ≡ Ok (world_state self.new, entry)) }
+        ensures err { OnErr result ((e : Refused) → next (world_state self.old) event.now ≢ Err e) }
         ensures unchanged { OnErr result (self.new ≡ self.old) }
     {
         let outcome = settle_server(&mut self.servers, file as usize - 1, change, &mut self.sent)?;
@@ -506,6 +513,7 @@ impl World {
     ) -> Result<Entry, NoRoom>
         requires { Plans self.old event.now change }
         ensures ok { IfOk result (λ entry. next (world_state self.old) event.now ≡ Ok (world_state self.new, entry)) }
+        ensures err { OnErr result ((e : Refused) → next (world_state self.old) event.now ≢ Err e) }
         ensures unchanged { OnErr result (self.new ≡ self.old) }
     {
         match change {
@@ -531,6 +539,9 @@ impl World {
     pub fn step(&mut self, alloc: Global, event: Event) -> Result<Entry, Refused>
         ensures ok { IfOk result (λ entry. next (world_state self.old) event ≡ Ok (world_state self.new, entry)) }
         ensures err { IfErr result (λ e. e ≢ NoMemory → next (world_state self.old) event ≡ Err e) }
+
+        // A refusal that is decided before memory is taken always comes.
+        ensures refused { (e : Refused) → IsCertain (world_state self.old) event e → next (world_state self.old) event ≡ Err e → result ≡ Err e }
         ensures unchanged { OnErr result (self.new ≡ self.old) }
     {
         let change = self.plan(alloc, &event)?;

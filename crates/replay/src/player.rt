@@ -195,8 +195,8 @@ impl Player {
         ensures rises { OnOk result (self.new.settled.cursor ≡ self.old.settled.cursor + 1) }
     {
         self.settled.pass();
-        match self.world.step(alloc, Event::Deliver(message)) {
-            Ok(entry) => self.entries.push(entry)?,
+        match self.run.take(alloc, Event::Deliver(message)) {
+            Ok(()) => {}
             Err(Refused::Fenced) => {}
             Err(refusal) => self.refuse(line, refusal)?,
         }

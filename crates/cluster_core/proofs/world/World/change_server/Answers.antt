@@ -1,10 +1,12 @@
 use Rattle.std.specs.Prelude.{◌-◌, slice_index_or, Ok}
 use Rattle.std.proofs.Common.{◌≡◌, ◌∙◌, refl, sym, subst}
+use Rattle.std.proofs.lemmas.Result.{err_from_is_err_and}
 use Rattle.messages.specs.declared.outcome.Outcome.{Outcome}
 use Rattle.token_server.specs.Parts.{ServerParts, server_state}
 use Rattle.token_server.specs.Edits.{edited, planned}
 use Rattle.token_server.specs.Server.{server_rule}
 use Rattle.cluster_core.specs.Parts.{WorldParts, world_state}
+use Rattle.cluster_core.proofs.CertainRefusals.{server_goes}
 use Rattle.cluster_core.proofs.WorldSteps.{server_names, server_returns}
 use Rattle.cluster_core.proofs.world.World.change_server.Goals as goal
 
@@ -22,3 +24,9 @@ returns-clause-ok c =
     let read = subst (λ (q : WorldParts). p ≡ slice_index_or q.servers (c.args.file - 1) p) (sym c.self.view_is) plan.there in
     let done = subst (λ (o : Outcome). server_rule ((world_state c.args.self.now).servers c.args.file) plan.step ≡ Ok (planned p c.args.change.edit, o)) (sym c.in_ok-outcome.ensures.outcome) plan.done in
     plan.gives ∙ server_returns _ _ c.self.view_is c.self.invariant c.in_ok-outcome.outcome _ _ c.in_ok-outcome.ensures.sent refl c.args.file plan.step (edited c.args.change.edit p) _ (c.in_ok-outcome.ensures.servers p read) c.args.event.now c.new.result plan.number done c.new.ensures
+
+pub returns-in_err-outcome-clause-err : goal.returns-in_err-outcome-clause-err
+returns-in_err-outcome-clause-err c =
+    let plan = c.requires.made in
+    let p = err_from_is_err_and c.from_residual.result c.from_residual.ensures.1 in
+    rw p.1 (λ e refused. server_goes (world_state c.args.self.now) c.args.event.now c.args.file _ _ _ e plan.done plan.gives refused)
