@@ -1,5 +1,5 @@
 -- What an actor's own step refuses is none of the refusals that are decided before.
-use Rattle.std.proofs.Common.{◌≡◌, ℕ, true, false, sym, ◌∙◌, ap, subst, Result, Ok, Err}
+use Rattle.std.proofs.Common.{◌≡◌, ℕ, true, sym, ◌∙◌, ap, subst, Result, Ok, Err}
 use Rattle.messages.specs.Refusals.{refused_by}
 use Rattle.messages.specs.declared.event.Event.{Event}
 use Rattle.messages.specs.declared.entry.Entry.{Entry}

@@ -1,4 +1,4 @@
-use Rattle.std.proofs.Common.{◌≡◌, ◌<◌, true, false, rules, arith, refl, ap, sym, ◌∙◌}
+use Rattle.std.proofs.Common.{◌≡◌, ◌<◌, false, rules, refl, sym, ◌∙◌}
 use Rattle.cluster_core.proofs.MemberSteps.{none_left, may_restart, not_refused}
 use Rattle.cluster_core.proofs.world.World.plan_restart.Goals as goal
 
