@@ -1,36 +1,67 @@
 #!/bin/sh
-# Times lockreplay on scripts of 10,000, 100,000 and 1,000,000 lines of each kind; where a line makes more than one entry
-# of the journal, which holds 1,048,576, the last is of 400,000 lines.
+# Times lockreplay on scripts of each kind that make some 10,000, 100,000 and 1,000,000 entries of the journal (it holds
+# 1,048,576). Prints for each the processor seconds of its fastest run (of nine, three and one), entries per second and
+# peak memory, and beside the last size the ratio of the time an entry takes there to what it takes in the first.
+# usage: bench/run.sh [DIR [KIND]..]   (the scripts and listings stay in DIR; without one they go)
 here=$(dirname -- "$(readlink -f -- "$0")") || exit 1
 folder=$1
+[ $# -gt 0 ] && shift
 if [ -z "$folder" ]; then
     folder=$(mktemp -d) || exit 1
     trap 'rm -rf "$folder"' EXIT
 fi
+[ $# -gt 0 ] || set -- covered readers lossy fight storm crowd walk
 "$here/../lockreplay" --help >/dev/null || exit 1
 
-echo "kind     lines      entries    seconds  entries/s  peak MB"
-for kind in covered readers lossy fight storm; do
-    most=1000000
-    case $kind in fight | storm) most=400000 ;; esac
-    for lines in 10000 100000 $most; do
+# Runs the program so many times. Prints the processor seconds of the fastest run, and the peak memory in kilobytes.
+measure() {
+    python3 - "$here/../crates/lockreplay/out/lockreplay" "$@" <<'PYTHON'
+import resource, subprocess, sys
+program, script, listing, runs = sys.argv[1:]
+def spent():
+    used = resource.getrusage(resource.RUSAGE_CHILDREN)
+    return used.ru_utime + used.ru_stime
+fastest = None
+for _ in range(int(runs)):
+    before = spent()
+    with open(listing, "wb") as out:
+        status = subprocess.run([program, "run", script], stdout=out).returncode
+    if status != 0:
+        sys.exit(f"{script}: status {status}")
+    seconds = spent() - before
+    fastest = seconds if fastest is None else min(fastest, seconds)
+print(f"{fastest:.4f} {resource.getrusage(resource.RUSAGE_CHILDREN).ru_maxrss}")
+PYTHON
+}
+
+# The position of the last reply of a listing.
+entries_of() {
+    awk '/^replies$/ { inside = 1; next } /^tokens$/ { exit } inside { last = $1 } END { print last + 0 }' "$1"
+}
+
+echo "kind     lines    entries  cpu s    entries/s  peak MB  ratio"
+for kind in "$@"; do
+    # How many lines make a hundred entries.
+    case $kind in
+        lossy) share=116 ;;
+        fight) share=38 ;;
+        storm) share=75 ;;
+        walk) share=25 ;;
+        *) share=100 ;;
+    esac
+    first=
+    for size in 10000:9 100000:3 1000000:1; do
+        lines=$((${size%:*} / 100 * share))
         script=$folder/$kind-$lines.lock
         listing=$folder/$kind-$lines.listing
         sh "$here/script.sh" "$kind" "$lines" >"$script" || exit 1
-        measured=$(python3 - "$here/../crates/lockreplay/out/lockreplay" "$script" "$listing" <<'PYTHON'
-import resource, subprocess, sys, time
-program, script, listing = sys.argv[1:]
-with open(listing, "wb") as out:
-    began = time.monotonic()
-    status = subprocess.run([program, "run", script], stdout=out).returncode
-    seconds = time.monotonic() - began
-if status != 0:
-    sys.exit(f"status {status}")
-kilobytes = resource.getrusage(resource.RUSAGE_CHILDREN).ru_maxrss
-print(f"{seconds:.2f} {kilobytes // 1024}")
-PYTHON
-        ) || exit 1
-        entries=$(awk '/^history$/ { exit } /^replies$/ { inside = 1; next } /^tokens$/ { inside = 0 } inside { last = $1 } END { print last + 0 }' "$listing")
-        echo "$kind $lines $entries $measured" | awk '{ printf "%-8s %-10d %-10d %-8.2f %-10.0f %d\n", $1, $2, $3, $4, $3 / ($4 > 0 ? $4 : 0.01), $5 }'
+        measured=$(measure "$script" "$listing" "${size#*:}") || exit 1
+        row="$kind $lines $(entries_of "$listing") $measured"
+        [ -n "$first" ] || first=$row
+        echo "$first $row" | awk '{
+            ratio = $9 / $8 / ($4 / $3)
+            printf "%-8s %-8d %-8d %-8.2f %-10.0f %-8d", $6, $7, $8, $9, $8 / $9, $10 / 1024
+            print ($8 > 500000 ? sprintf(" %.2f", ratio) : "")
+        }'
     done
 done

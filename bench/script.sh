@@ -10,6 +10,10 @@
 #          tells of its lock, the other is denied; then it frees the byte, and the other gets it
 # storm    a process on each of 8 nodes sets and unlocks small ranges anywhere in the first thousand bytes of
 #          16 files, each by a number that looks random and is the same each time
+# crowd    256 processes of one node set locks of 1,000 to 4,000 bytes anywhere in 64 MB of one file, and unlock up to a
+#          million bytes, so that each comes to hold hundreds of regions; the node's token covers all of it
+# walk     a process on each of 64 nodes reads ten bytes of one file, all at one place, then all at the next: so their tokens
+#          come to have thousands of runs, since each asks for just those bytes
 kind=${1:?usage: script.sh KIND LINES}
 lines=${2:?usage: script.sh KIND LINES}
 exec awk -v kind="$kind" -v lines="$lines" '
@@ -85,23 +89,58 @@ function fight() {
     }
 }
 
+# A number from 0 to below the limit, which looks random and is the same each time (Park and Miller).
+function draw(limit) {
+    seed = seed * 16807 % 2147483647
+    return seed % limit
+}
+
 function storm() {
+    seed = 1
     put("cluster nodes 8 files 16 policy wide")
     for (node = 1; node <= 8; node++) {
         put("call " node " 1 spawn")
         for (file = 1; file <= 16; file++)
             put("call " node " 1 open " file " rw")
     }
-    srand(1)
     while (written < lines) {
-        node = 1 + int(rand() * 8)
-        about = int(rand() * 16) " proc "
-        range = int(rand() * 1000) " " 1 + int(rand() * 10)
-        act = rand()
-        if (act < 0.5)
+        node = 1 + draw(8)
+        about = draw(16) " proc "
+        range = draw(1000) " " 1 + draw(10)
+        act = draw(10)
+        if (act < 5)
             put("call " node " 1 unlock " about range)
         else
-            put("call " node " 1 set " about (act < 0.8 ? "read " : "write ") range)
+            put("call " node " 1 set " about (act < 8 ? "read " : "write ") range)
+        put("settle")
+    }
+}
+
+function crowd() {
+    seed = 1
+    put("cluster nodes 1 files 1 policy wide")
+    for (pid = 1; pid <= 256; pid++)
+        begin(1, pid)
+    put("call 1 1 set 0 proc write 0 1")
+    put("settle")
+    while (written < lines) {
+        caller = "call 1 " 1 + draw(256)
+        act = draw(5)
+        start = draw(67108864)
+        if (act == 0)
+            put(caller " unlock 0 proc " start " " 1 + draw(1000000))
+        else
+            put(caller " set 0 proc " (act < 3 ? "read " : "write ") start " " 1000 + draw(3001))
+    }
+}
+
+function walk() {
+    put("cluster nodes 64 files 1 policy exact")
+    for (node = 1; node <= 64; node++)
+        begin(node, 1)
+    for (round = 1; written < lines; round++) {
+        for (node = 1; node <= 64; node++)
+            put("call " node " 1 set 0 proc read " 20 * round " 10")
         put("settle")
     }
 }
@@ -117,6 +156,10 @@ BEGIN {
         fight()
     else if (kind == "storm")
         storm()
+    else if (kind == "crowd")
+        crowd()
+    else if (kind == "walk")
+        walk()
     else
         exit 2
 }'

@@ -57,3 +57,4 @@ pub mod Fences
 pub mod MemberSteps
 pub mod Apart
 pub mod CertainRefusals
+pub mod Lengths

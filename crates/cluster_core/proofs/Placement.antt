@@ -10,22 +10,8 @@ use Rattle.messages.specs.declared.entry.Entry.{Entry}
 use Rattle.messages.specs.Messages.{same_call}
 use Rattle.cluster_core.specs.declared.item.Item.{Item}
 use Rattle.cluster_core.specs.declared.item.Item.TheVariants.{Answered, Gone}
+pub use Rattle.cluster_core.specs.Calls.{is_named, called_by, find_call}
 use Rattle.cluster_core.specs.Histories.{names_conflict}
-
--- the name is this one
-abbrev pub is_named : CallId → Option CallId → Bool
-is_named id None = false
-is_named id (Some other) = same_call id other
-
--- the process and what it asks for, where the event is a call
-abbrev pub called_by : Event → Option (ℕ × Op) → Option (ℕ × Op)
-called_by (Call node pid op) otherwise = Some (pid, op)
-called_by _ otherwise = otherwise
-
--- the process that makes the call of that name, and what it asks for
-abbrev pub find_call : List Entry → CallId → Option (ℕ × Op)
-find_call [] id = None
-find_call (e ∷ es) id = if is_named id e.call then called_by e.event (find_call es id) else find_call es id
 
 abbrev pub item_of : ℕ → CallId → Reply → Option (ℕ × Op) → Option Item
 item_of at id reply None = None

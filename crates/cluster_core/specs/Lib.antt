@@ -7,6 +7,7 @@ pub mod Known
 pub mod Journals
 pub mod Union
 pub mod Histories
+pub mod Calls
 pub mod Plain
 pub mod Evidence
 pub mod Listings

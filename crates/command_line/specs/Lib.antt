@@ -1,2 +1,3 @@
-pub mod Words
 pub mod Program
+pub mod Words
+pub mod Kinds

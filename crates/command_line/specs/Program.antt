@@ -12,7 +12,7 @@ run_app = with_rule (new_app (codes "run")) script_rule
 
 -- no command is no command line
 abbrev pub bare_app : App
-bare_app = on_top (λ s. record s { subcommand_required = true; arg_required_else_help = true }) (new_app (codes "lockreplay"))
+bare_app = on_top (λ s. record s { has_version = true; subcommand_required = true; arg_required_else_help = true }) (new_app (codes "lockreplay"))
 
 abbrev pub program_app : App
 program_app = with_subcommand bare_app run_app.top

@@ -1,7 +1,9 @@
 //! The command line: what its words ask for, and what is shown where they are refused.
 #![tactic(auto)]
 
+pub mod laws;
 pub mod line;
+mod notes;
 pub mod refusal;
 #[cfg(test)]
 mod tests;

@@ -1,7 +1,6 @@
 //! Why words are no command line.
-ghost use Rattle.std.specs.Prelude.{◌≡◌};
 ghost use Rattle.clap.specs.Words.{kind_of};
-ghost use Rattle.command_line.specs.declared.refusal.Refusal.TheVariants.{NoMemory};
+ghost use Rattle.command_line.specs.Kinds.{IsOfKind};
 
 use clap::error::ErrorKind;
 use std::alloc::Global;
@@ -10,12 +9,15 @@ use thiserror::Error;
 /// Why words are no command line. Its text is what is shown in place of a run.
 #[derive(Debug, PartialEq, Eq, Drop, Error)]
 pub enum Refusal {
-    /// They ask for help, which is this text.
+    /// They ask for help or for the version, which is this text.
     #[error("{0}")]
     Help(String),
     /// They are wrong in the way that the text says.
     #[error("{0}")]
     Wrong(String),
+    /// One of them is not UTF-8.
+    #[error("a word of the command line is not UTF-8")]
+    NotText,
     /// A request for memory was refused.
     #[error("no memory")]
     NoMemory,
@@ -24,7 +26,7 @@ pub enum Refusal {
 impl Refusal {
     // What the parser's error says.
     pub(crate) fn of(alloc: Global, error: &clap::Error) -> Refusal
-        ensures { kind_of error.now ≡ ErrorKind.OutOfMemory → result ≡ NoMemory }
+        ensures { IsOfKind (kind_of error.now) result }
     {
         if error.kind() == ErrorKind::OutOfMemory {
             return Refusal::NoMemory;

@@ -5,6 +5,8 @@ pub mod Same
 pub mod Starts
 pub mod Around
 pub mod Split
+pub mod Written
 pub mod SearchLaws
 pub mod SpanLaws
 pub mod SpanSearch
+pub mod Differences

@@ -3,3 +3,4 @@ pub mod Bytes
 pub mod Segment
 pub mod Runs
 pub mod Laws
+pub mod Edits

@@ -1,11 +1,11 @@
 //! Runs of bytes that have one value, and what is searched and made in vectors of them.
-ghost use Rattle.std.specs.Prelude.{◌≡◌, ◌≤◌, ◌<◌, ◌+◌, ◌++◌, ℕ, IfOk, OnOk, IsTrue, ◌↔◌};
+ghost use Rattle.std.specs.Prelude.{◌≡◌, ◌≤◌, ◌<◌, ◌+◌, ◌++◌, [], take, length, ℕ, Some, IsTrue, ◌↔◌};
+ghost use Rattle.std.specs.Vec.{vec_len, vec_capacity};
 ghost use Rattle.intervals.specs.Bytes.{greatest, put, IsBarred};
 ghost use Rattle.intervals.specs.Runs.{bytes_of, value_at, IsBarredValue, AreRuns, EndsBelow, EndsFrom, IsLowestFree, IsHighestFree};
 
 use crate::span::{GREATEST, Span};
-use crate::span_map::{Exact, NoMemory};
-use std::alloc::Global;
+use crate::span_map::Exact;
 
 /// Consecutive bytes of a file, from `lo` to `hi`, both included, that have one value.
 #[derive(Clone, Copy, Debug, PartialEq, Eq)]
@@ -77,41 +77,43 @@ pub(crate) fn highest_free<V: Exact>(runs: &[Run<V>], to: u64, high: u64, bar: O
     high
 }
 
-// Adds a run above the others, to the last one where they join.
-pub(crate) fn append<V: Exact>(runs: &mut Vec<Run<V>>, run: Run<V>) -> Result<(), NoMemory>
+// Adds a run above the others, to the last one where they join. There is room for it.
+pub(crate) fn append<V: Exact>(runs: &mut Vec<Run<V>>, run: Run<V>)
     requires made { AreRuns runs.old.items }
     requires below { EndsBelow runs.old.items run.lo }
     requires rises { run.lo ≤ run.hi }
-    ensures made { OnOk result (AreRuns runs.new.items) }
-    ensures below { OnOk result (EndsBelow runs.new.items (run.hi + 1)) }
-    ensures bytes { OnOk result ((b : ℕ) → value_at runs.new.items b ≡ put (value_at runs.old.items) (bytes_of run) (Some run.value) b) }
+    requires room { vec_len runs.old < vec_capacity runs.old }
+    ensures made { AreRuns runs.new.items }
+    ensures below { EndsBelow runs.new.items (run.hi + 1) }
+    ensures bytes { (b : ℕ) → value_at runs.new.items b ≡ put (value_at runs.old.items) (bytes_of run) (Some run.value) b }
+    ensures len { vec_len runs.new ≤ vec_len runs.old + 1 }
+    ensures capacity { vec_capacity runs.old ≤ vec_capacity runs.new }
 {
     if let Some(last) = runs.last_mut() {
         if last.hi + 1 == run.lo && last.value == run.value {
             last.hi = run.hi;
-            return Ok(());
+            return;
         }
     }
-    runs.push(run)?;
-    Ok(())
+    let Ok(()) = runs.push(run) else {
+        unreachable!()
+    };
 }
 
 // Adds what the runs have from `from` on and below `to`. It reads up to the first that begins at `to`
-// or above.
-pub(crate) fn append_within<V: Exact>(
-    new: &mut Vec<Run<V>>,
-    runs: &[Run<V>],
-    from: u64,
-    to: u64,
-) -> Result<(), NoMemory>
+// or above. There is room for all of them.
+pub(crate) fn append_within<V: Exact>(new: &mut Vec<Run<V>>, runs: &[Run<V>], from: u64, to: u64)
     requires made { AreRuns new.old.items }
     requires below { EndsBelow new.old.items from }
     requires runs { AreRuns runs.now }
     requires order { from ≤ to }
-    ensures made { OnOk result (AreRuns new.new.items) }
-    ensures below { OnOk result (EndsBelow new.new.items to) }
-    ensures inside { OnOk result ((b : ℕ) → from ≤ b → b < to → value_at new.new.items b ≡ value_at runs.now b) }
-    ensures under { OnOk result ((b : ℕ) → b < from → value_at new.new.items b ≡ value_at new.old.items b) }
+    requires room { vec_len new.old + length runs.now ≤ vec_capacity new.old }
+    ensures made { AreRuns new.new.items }
+    ensures below { EndsBelow new.new.items to }
+    ensures inside { (b : ℕ) → from ≤ b → b < to → value_at new.new.items b ≡ value_at runs.now b }
+    ensures under { (b : ℕ) → b < from → value_at new.new.items b ≡ value_at new.old.items b }
+    ensures len { vec_len new.new ≤ vec_len new.old + length runs.now }
+    ensures capacity { vec_capacity new.old ≤ vec_capacity new.new }
 {
     for run in runs {
         let lo = run.lo.max(from);
@@ -126,39 +128,75 @@ pub(crate) fn append_within<V: Exact>(
                     hi: run.hi.min(to - 1),
                     value: run.value,
                 },
-            )?;
+            );
         }
     }
-    Ok(())
 }
 
-// The runs with the value at each byte of the span, or with none there: each run below the span and
-// each above it is copied once, into memory that is asked for once.
-pub(crate) fn spliced<V: Exact>(
-    alloc: Global,
-    runs: &[Run<V>],
-    span: Span,
-    value: Option<V>,
-) -> Result<Vec<Run<V>>, NoMemory>
+// Adds the runs with the value at each byte of the span, or with none there. There is room for twice
+// as many, and one more.
+fn splice<V: Exact>(new: &mut Vec<Run<V>>, runs: &[Run<V>], span: Span, value: Option<V>)
+    requires empty { new.old.items ≡ [] }
+    requires room { length runs.now + length runs.now < vec_capacity new.old }
     requires runs { AreRuns runs.now }
     requires bounded { EndsBelow runs.now (greatest + 1) }
-    ensures runs { IfOk result (λ new. AreRuns new.items) }
-    ensures bounded { IfOk result (λ new. EndsBelow new.items (greatest + 1)) }
-    ensures bytes { IfOk result (λ new. (b : ℕ) → value_at new.items b ≡ put (value_at runs.now) span value b) }
+    ensures runs { AreRuns new.new.items }
+    ensures bounded { EndsBelow new.new.items (greatest + 1) }
+    ensures bytes { (b : ℕ) → value_at new.new.items b ≡ put (value_at runs.now) span value b }
+    ensures capacity { vec_capacity new.old ≤ vec_capacity new.new }
 {
-    let mut new = Vec::with_capacity(alloc, runs.len().saturating_add(2))?;
-    append_within(&mut new, runs, 0, span.lo)?;
+    append_within(new, runs, 0, span.lo);
     if let Some(value) = value {
         append(
-            &mut new,
+            new,
             Run {
                 lo: span.lo,
                 hi: span.hi,
                 value,
             },
-        )?;
+        );
     }
     let (_, above) = split_before(runs, span.hi + 1);
-    append_within(&mut new, above, span.hi + 1, GREATEST + 1)?;
-    Ok(new)
+    append_within(new, above, span.hi + 1, GREATEST + 1);
+}
+
+// Puts the new runs in place of those after the first `kept`. There is room for them.
+fn replace_rest<V: Exact>(runs: &mut Vec<Run<V>>, kept: usize, mut new: Vec<Run<V>>)
+    requires kept { kept ≤ vec_len runs.old }
+    requires room { kept + vec_len new ≤ vec_capacity runs.old }
+    ensures { runs.new.items ≡ take kept runs.old.items ++ new.items }
+{
+    runs.truncate(kept);
+    let Ok(()) = runs.append(&mut new) else {
+        unreachable!()
+    };
+}
+
+// Gives each byte of the span the value, or none: only the runs from the first on that reaches the
+// span are written. Where there is no place for them, all move over to `room`, which is empty and has
+// room for twice as many runs as there are, and one more. Takes no memory.
+pub(crate) fn write<V: Exact>(
+    runs: &mut Vec<Run<V>>,
+    mut room: Vec<Run<V>>,
+    span: Span,
+    value: Option<V>,
+)
+    requires empty { room.items ≡ [] }
+    requires room { length runs.old.items + length runs.old.items < vec_capacity room }
+    requires runs { AreRuns runs.old.items }
+    requires bounded { EndsBelow runs.old.items (greatest + 1) }
+    ensures runs { AreRuns runs.new.items }
+    ensures bounded { EndsBelow runs.new.items (greatest + 1) }
+    ensures bytes { (b : ℕ) → value_at runs.new.items b ≡ put (value_at runs.old.items) span value b }
+{
+    let (kept, rest) = split_before(runs, span.lo.saturating_sub(1));
+    let kept = kept.len();
+    splice(&mut room, rest, span, value);
+    if room.len() <= runs.capacity() - kept {
+        replace_rest(runs, kept, room);
+    } else {
+        room.clear();
+        splice(&mut room, runs, span, value);
+        *runs = room;
+    }
 }

@@ -1,17 +1,20 @@
 //! A span map as a sorted vector of runs.
 ghost use Rattle.std.specs.Prelude.{◌≡◌, ◌≤◌, ◌<◌, ◌+◌, ℕ, IfOk, OnOk, OnErr, IsTrue, ◌↔◌, MatchOption, Some, None};
-ghost use Rattle.intervals.specs.Bytes.{greatest, put, IsBarred, NoneIn, IsFirstIn, IsLargest, IsRun};
+ghost use Rattle.intervals.specs.Bytes.{greatest, put, IsBarred, NoneIn, IsFirstIn, IsLargest, IsRun, IsSameOutOf};
 ghost use Rattle.intervals.specs.Runs.{bytes_of, value_at};
+ghost use Rattle.intervals.specs.Edits.{written};
 
-use crate::run::{Run, highest_free, is_barred, lowest_free, spliced, split_before};
+use crate::difference::difference;
+use crate::run::{Run, highest_free, is_barred, lowest_free, split_before, write};
 use crate::span::Span;
+use crate::span_edit::SpanEdit;
 use crate::span_map::{Exact, NoMemory, SpanMap};
 use std::alloc::Global;
 use std::marker::Model;
 
 /// A map from bytes to values, as a sorted vector of longest runs. A look-up halves the runs until it
-/// is at the byte, and then reads only those up to the answer; `set`, `clear` and `copy` copy each run
-/// once, into memory that is asked for once.
+/// is at the byte, and then reads only those up to the answer. A write reads and moves the runs from its
+/// span on, in place; where there is no place for more of them, all move to memory for twice as many.
 #[derive(Drop)]
 pub struct VecMap<V> {
     runs: Vec<Run<V>>,
@@ -31,6 +34,40 @@ impl<V> Model for VecMap<V> {
 }
 
 impl<V: Exact> VecMap<V> {
+    /// A write that is planned: the value at each byte of the span, or none there. It is sure to be
+    /// made as long as the map has no more runs than now.
+    ///
+    /// # Errors
+    /// `NoMemory` where a request for memory was refused.
+    pub fn plan(&self, span: Span, value: Option<V>) -> Result<SpanEdit<V>, NoMemory>
+        ensures { IfOk result (λ edit. written edit self.now ≡ put (value_at self.now) span value) }
+    {
+        let runs = self.runs.len();
+        let most = runs.saturating_mul(2).saturating_add(2);
+        Ok(SpanEdit {
+            span,
+            value,
+            runs,
+            room: Vec::with_capacity(*self.runs.allocator(), most)?,
+        })
+    }
+
+    /// Makes a planned write, and takes no memory. A map of more runs than the edit has room for stays
+    /// as it is.
+    pub fn apply(&mut self, edit: SpanEdit<V>)
+        ensures { value_at self.new ≡ written edit self.old }
+    {
+        let SpanEdit {
+            span,
+            value,
+            runs,
+            room,
+        } = edit;
+        if self.runs.len() <= runs {
+            write(&mut self.runs, room, span, value);
+        }
+    }
+
     // The run that has the byte.
     fn run_of(&self, byte: u64) -> Option<Run<V>>
         ensures { MatchOption result (value_at self.now byte ≡ None) (λ run. IsRun (value_at self.now) (bytes_of run) run.value × (run.lo ≤ byte) × (byte ≤ run.hi) × (run.hi ≤ greatest)) }
@@ -40,6 +77,13 @@ impl<V: Exact> VecMap<V> {
             Some(run) if run.lo <= byte => Some(*run),
             _ => None,
         }
+    }
+
+    /// A span out of which both maps have the same at each byte; `None` where they have it everywhere.
+    pub fn difference(&self, other: &Self) -> Option<Span>
+        ensures { MatchOption result (value_at self.now ≡ value_at other.now) (λ span. IsSameOutOf span (value_at self.now) (value_at other.now)) }
+    {
+        difference(&self.runs, &other.runs)
     }
 }
 
@@ -53,12 +97,14 @@ impl<V: Exact> SpanMap<V> for VecMap<V> {
     }
 
     fn set(&mut self, span: Span, value: V) -> Result<(), NoMemory> {
-        self.runs = spliced(*self.runs.allocator(), &self.runs, span, Some(value))?;
+        let edit = self.plan(span, Some(value))?;
+        self.apply(edit);
         Ok(())
     }
 
     fn clear(&mut self, span: Span) -> Result<(), NoMemory> {
-        self.runs = spliced(*self.runs.allocator(), &self.runs, span, None)?;
+        let edit = self.plan(span, None)?;
+        self.apply(edit);
         Ok(())
     }
 

@@ -152,40 +152,6 @@ impl LockTable {
         }
     }
 
-    // Puts spans that hold some byte in place of what an owner holds in a file.
-    fn replace_spans(&mut self, file: u16, owner: Owner, spans: Spans) -> Result<(), NoMemory>
-        requires { HoldsSome (value_at spans) }
-        ensures ok { OnOk result (held self.new ≡ replace (held self.old) file owner (value_at spans)) }
-        ensures err { OnErr result (self.new ≡ self.old) }
-    {
-        match position(&self.rows, file, owner) {
-            Ok(i) => {
-                let row = &mut self.rows[i];
-                row.spans = spans;
-            }
-            Err(i) => self.rows.insert(i, Row { file, owner, spans })?,
-        }
-        Ok(())
-    }
-
-    // Puts spans in place of what an owner holds in a file, unless they are too many.
-    fn keep(&mut self, file: u16, owner: Owner, spans: Spans) -> Result<(), LockError>
-        ensures ok { OnOk result (held self.new ≡ replace (held self.old) file owner (value_at spans)) }
-        ensures few { OnOk result (regions (value_at spans) ≤ most_regions) }
-        ensures many { result ≡ Err NoLocks → most_regions < regions (value_at spans) }
-        ensures err { OnErr result (self.new ≡ self.old) }
-    {
-        if spans.starts() > MOST_REGIONS {
-            return Err(LockError::NoLocks);
-        }
-        if spans.is_empty() {
-            self.drop_owner(owner, file);
-        } else {
-            self.replace_spans(file, owner, spans)?;
-        }
-        Ok(())
-    }
-
     /// Gives each byte of the span the mode for this owner (POSIX.1-2017 `fcntl()`, F_SETLK with
     /// F_RDLCK or F_WRLCK), whatever other owners hold: a caller that wants no two locks to conflict
     /// asks `blocker` first.
@@ -199,9 +165,9 @@ impl LockTable {
         ensures many { result ≡ Err NoLocks → most_regions < regions (put (held self.old file owner) span (Some mode)) }
         ensures err { OnErr result (self.new ≡ self.old) }
     {
-        let mut spans = self.spans_of(file, owner)?;
-        spans.set(span, mode)?;
-        self.keep(file, owner, spans)
+        let edit = self.plan(owner, file, span, Some(mode))?;
+        self.apply(edit);
+        Ok(())
     }
 
     /// Takes each byte of the span from this owner (POSIX.1-2017 `fcntl()`, F_SETLK with F_UNLCK).
@@ -215,9 +181,9 @@ impl LockTable {
         ensures many { result ≡ Err NoLocks → most_regions < regions (put (held self.old file owner) span None) }
         ensures err { OnErr result (self.new ≡ self.old) }
     {
-        let mut spans = self.spans_of(file, owner)?;
-        spans.clear(span)?;
-        self.keep(file, owner, spans)
+        let edit = self.plan(owner, file, span, None)?;
+        self.apply(edit);
+        Ok(())
     }
 
     // An empty list with room for all rows and one more, where the owner has no row in the file.

@@ -2,16 +2,19 @@
 #![tactic(auto)]
 
 use replay::disk::Disk;
-use replay::respond::respond;
+use replay::respond::{refuse, respond};
+use replay::words::read_words;
 use std::process::ExitCode;
-use std::{env, io};
 
-fn main(rt: HostRuntime) -> io::Result<ExitCode> {
-    let alloc = rt.alloc();
-    let words: Vec<String> = env::args(&rt)?.collect(alloc)?;
-    let mut disk = Disk::new(&rt);
+fn main(rt: HostRuntime) -> ExitCode {
     let mut out = rt.stdout();
     let mut err = rt.stderr();
-    let status = respond(alloc, words.as_slice(), &mut disk, &mut out, &mut err);
-    Ok(ExitCode::from(status))
+    let status = match read_words(&rt) {
+        Ok(words) => {
+            let mut disk = Disk::new(&rt);
+            respond(rt.alloc(), words.as_slice(), &mut disk, &mut out, &mut err)
+        }
+        Err(refusal) => refuse(&refusal, &mut out, &mut err),
+    };
+    ExitCode::from(status)
 }

@@ -4,18 +4,11 @@ use Rattle.std.proofs.lemmas.List.{append-nil, map-append}
 use Rattle.std.proofs.lemmas.List.Elements.{All-nil, All-push}
 use Rattle.messages.specs.Shapes.{ShapeFields, IsShape}
 use Rattle.lockscript.specs.LineFeeds.{line_feeds, FindsLine, PassesLines}
-use Rattle.lockscript.specs.Scripts.{IsFirstBad, IsLine, IsMisplaced, IsNoLine, IsNoShape, IsScript, LineFields, ScriptFields, Writes, line_text, shape_text}
+use Rattle.lockscript.specs.Scripts.{Begun, IsBadLine, IsFirstBad, IsLine, IsMisplaced, IsNoLine, IsNoShape, IsRefused, IsScript, LineFields, ScriptFields, Writes, line_text, script_of, shape_text}
+use Rattle.lockscript.specs.declared.error.ParseError.{ParseError}
+use Rattle.lockscript.specs.declared.error.ParseError.TheVariants.{NoMemory, BadLine}
 use Rattle.lockscript.specs.Scripts.IsBad.{stands_wrong, has_no_end}
 use Rattle.lockscript.proofs.Passes.{passes-join, passes-found}
-
--- the text begins with lines that write this script
-pub record Begun (text : List ℕ) (s : ScriptFields) (rest : List ℕ) (passed : ℕ) : Type 0 where
-  pub kept : List (ℕ × List ℕ)
-  pub passes : PassesLines text 0 kept rest passed
-  pub writes : Writes kept s
-
-abbrev pub script_of : ShapeFields → List LineFields → ScriptFields
-script_of shape lines = record { shape = shape; lines = lines }
 
 -- skipped lines add nothing
 passes-more : (text : List ℕ) (taken : ℕ) (kept : List (ℕ × List ℕ)) (middle : List ℕ) (between : ℕ) (rest : List ℕ) (passed : ℕ)
@@ -103,3 +96,8 @@ bad-first text number line rest found no_shape = record {
   good = inl refl;
   bad = stands_wrong line rest found.begins found.says no_shape;
 }
+
+-- a bad line refuses the text
+pub bad-refused : (text : List ℕ) (error : ParseError) → IsBadLine text error → IsRefused text error
+bad-refused text NoMemory bad = absurd bad
+bad-refused text (BadLine number) bad = bad

@@ -8,9 +8,8 @@ use Rattle.std.proofs.lemmas.List.Sums.{sum_by-cons}
 use Rattle.lockscript.specs.LineFeeds.{line_feed, line_feeds, is_skipped, kept_lines, BeginsWithLine, PassesLines}
 use Rattle.lockscript.specs.Readings.{HasOneReading}
 use Rattle.lockscript.specs.Reads.{Lacks}
-use Rattle.lockscript.specs.Scripts.{BeginsScript, IsBad, IsFirstBad, IsLine, IsMisplaced, IsScript, LineFields, ScriptFields, Writes, line_text, shape_text}
+use Rattle.lockscript.specs.Scripts.{BeginsScript, IsBad, IsFirstBad, IsLine, IsMisplaced, IsScript, LineFields, ScriptFields, Writes, line_text, shape_text, script_of}
 use Rattle.lockscript.specs.Scripts.IsBad.{stands_wrong, has_no_cluster, has_no_end}
-use Rattle.lockscript.proofs.Begun.{script_of}
 use Rattle.messages.specs.Shapes.{ShapeFields}
 use Rattle.lockscript.proofs.Feeds.{line_feeds-line}
 use Rattle.lockscript.proofs.Clusters.{apart-shape}

@@ -75,6 +75,16 @@ pub record Writes (kept : List (ℕ × List ℕ)) (s : ScriptFields) : Type 0 wh
   pub shape_in : IsShape s.shape
   pub lines_in : All IsLine s.lines
 
+-- the text begins with whole lines that write this script
+pub record Begun (text : List ℕ) (s : ScriptFields) (rest : List ℕ) (passed : ℕ) : Type 0 where
+  pub kept : List (ℕ × List ℕ)
+  pub passes : PassesLines text 0 kept rest passed
+  pub writes : Writes kept s
+
+-- its shape, and lines to be run on it
+abbrev pub script_of : ShapeFields → List LineFields → ScriptFields
+script_of shape lines = record { shape = shape; lines = lines }
+
 -- the text is whole lines, and writes this script
 pub record IsScript (text : List ℕ) (s : ScriptFields) : Type 0 where
   pub kept : List (ℕ × List ℕ)
@@ -116,7 +126,16 @@ pub record IsFirstBad (text : List ℕ) (number : ℕ) : Type 0 where
   pub good : BeginsScript kept
   pub bad : IsBad kept number rest
 
--- why the text is no script
+-- the first bad line is told
+abbrev pub IsBadLine : List ℕ → ParseError → Type 0
+IsBadLine text NoMemory = ⊥
+IsBadLine text (BadLine number) = IsFirstBad text number
+
+-- the text writes some script
+abbrev pub HasScript : List ℕ → Type 0
+HasScript text = (s : ScriptFields) × IsScript text s
+
+-- why the text is no script, or for what script there was no memory
 abbrev pub IsRefused : List ℕ → ParseError → Type 0
-IsRefused text NoMemory = ⊤
+IsRefused text NoMemory = HasScript text
 IsRefused text (BadLine number) = IsFirstBad text number

@@ -1,7 +1,7 @@
 //! Scripts.
-ghost use Rattle.std.specs.Prelude.{◌≡◌, ◌≤◌, IfErr, IfOk};
+ghost use Rattle.std.specs.Prelude.{◌≡◌, ◌≤◌, [], IfErr, IfOk, OnOk};
 ghost use Rattle.lockscript.specs.declared.error.ParseError.TheVariants.{BadLine};
-ghost use Rattle.lockscript.specs.Scripts.{IsLine, IsNoLine, IsRefused, IsScript, line_text};
+ghost use Rattle.lockscript.specs.Scripts.{Begun, HasScript, IsBadLine, IsLine, IsNoLine, IsRefused, IsScript, line_text, script_of};
 
 use crate::cluster_line::shape_of;
 use crate::commands::command_of;
@@ -31,7 +31,8 @@ impl Script {
     /// The script that the text writes. Each line ends with a line feed, the last one too; empty lines
     /// and lines that begin with `#` are skipped. The first other line is
     /// `cluster nodes N files F policy P`, and none of the others is; they are `call N PID OP`,
-    /// `deliver K`, `lose K`, `settle`, `retry N PID` and `resend F`, in lines up to number 4294967295.
+    /// `deliver K`, `lose K`, `settle`, `retry N PID`, `resend F`, `declare N`, `restart N` and
+    /// `learn F N I`, in lines up to number 4294967295.
     /// OP is `spawn`, `open F rw`, `set FD proc MODE START LEN`, `unlock FD proc START LEN` or
     /// `query FD proc MODE START LEN`, with MODE `read` or `write`.
     /// Fields are separated by one space, and numbers are decimal, without leading zeros or a leading
@@ -39,22 +40,21 @@ impl Script {
     ///
     /// # Errors
     /// `BadLine` with the number of the first line that may not stand there, counted from 1, or with
-    /// the number after the last where there is no `cluster` line; `NoMemory` where a request for
-    /// memory was refused.
+    /// the number after the last where there is no `cluster` line; `NoMemory` where no line is bad
+    /// and a request for memory was refused.
     pub fn parse(alloc: Global, text: &str) -> Result<Script, ParseError>
         ensures script { IfOk result (IsScript text.now) }
         ensures refused { IfErr result (IsRefused text.now) }
     {
         let mut source = Lines::new(text);
-        let Some(first) = source.next_command()? else {
-            return Err(ParseError::BadLine(source.next_number()));
-        };
-        let Some(shape) = shape_of(first.text) else {
-            return Err(ParseError::BadLine(first.number));
-        };
+        let shape = shape_in(&mut source)?;
         let mut lines = Vec::new(alloc);
         while let Some(line) = source.next_command()? {
-            lines.push(script_line(line)?)?;
+            let made = script_line(line)?;
+            match lines.push(made) {
+                Ok(()) => {}
+                Err(_) => return Err(refusal_without_memory(text)),
+            }
         }
         Ok(Script { shape, lines })
     }
@@ -72,6 +72,44 @@ impl Script {
     {
         self.lines.as_slice()
     }
+}
+
+// Takes the first line of a text, which gives the shape.
+fn shape_in(source: &mut Lines<'_>) -> Result<Shape, ParseError>
+    requires { source.old.taken ≡ 0 }
+    ensures begun { IfOk result (λ shape. Begun source.old.rest.now (script_of shape []) source.new.rest.now source.new.taken) }
+    ensures bad { IfErr result (IsBadLine source.old.rest.now) }
+{
+    let Some(first) = source.next_command()? else {
+        return Err(ParseError::BadLine(source.next_number()));
+    };
+    match shape_of(first.text) {
+        Some(shape) => Ok(shape),
+        None => Err(ParseError::BadLine(first.number)),
+    }
+}
+
+// Why a text is refused for which there is no memory: by its first bad line, if it has one.
+fn refusal_without_memory(text: &str) -> ParseError
+    ensures { IsRefused text.now result }
+{
+    match check(text) {
+        Ok(()) => ParseError::NoMemory,
+        Err(bad) => bad,
+    }
+}
+
+// Whether the text writes a script.
+fn check(text: &str) -> Result<(), ParseError>
+    ensures script { OnOk result (HasScript text.now) }
+    ensures bad { IfErr result (IsBadLine text.now) }
+{
+    let mut source = Lines::new(text);
+    shape_in(&mut source)?;
+    while let Some(line) = source.next_command()? {
+        script_line(line)?;
+    }
+    Ok(())
 }
 
 // The line as one of a script. Line numbers that are listed have 32 bits, so a line past them is bad.

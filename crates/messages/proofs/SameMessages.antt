@@ -15,6 +15,7 @@ use Rattle.model.specs.declared.op.Op.TheVariants.{Spawn, Open, Set, Unlock, Que
 use Rattle.model.specs.contracts.op.OpPartialEq.TheImpl as derived_of_ops
 use Rattle.model.specs.Owners.{same_mode}
 use Rattle.model.proofs.OwnerLaws.{owner_exact, owner_refl}
+pub use Rattle.model.proofs.OwnerLaws.{host_refl}
 use Rattle.messages.specs.contracts.message.MessagePartialEq.TheImpl as derived
 use Rattle.messages.specs.contracts.event.EventPartialEq.TheImpl as derived_of_events
 use Rattle.messages.specs.Wants.{Wants}
@@ -63,9 +64,6 @@ host_exact a b h =
     let nodes = eqb-true _ _ parts.0 in
     let incarnations = eqb-true _ _ parts.1 in
     λ i. record { node = nodes i; incarnation = incarnations i }
-
-pub host_refl : (a : Host) → same_host a a ≡ true
-host_refl a = and_from _ _ (eq-eqb a.node a.node refl) (eq-eqb a.incarnation a.incarnation refl)
 
 range_exact : (a b : Range) → same_range a b ≡ true → a ≡ b
 range_exact a b h =

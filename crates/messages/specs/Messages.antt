@@ -3,6 +3,7 @@ use Rattle.std.specs.Prelude.{◌≡◌, ℕ, Bool, true, false, ◌&&◌, ◌==
 use Rattle.std.specs.List.{list_any}
 use Rattle.intervals.specs.Bytes.{Range}
 use Rattle.model.specs.Owners.{same_mode, same_owner, host_of_call}
+pub use Rattle.model.specs.Owners.{same_host}
 use Rattle.model.specs.declared.call.CallId.{CallId}
 use Rattle.model.specs.declared.host.Host.{Host}
 use Rattle.model.specs.declared.lock_info.LockInfo.{LockInfo}
@@ -72,9 +73,6 @@ abbrev pub same_urgency : Urgency → Urgency → Bool
 same_urgency Now Now = true
 same_urgency Waits Waits = true
 same_urgency _ _ = false
-
-abbrev pub same_host : Host → Host → Bool
-same_host a b = (a.node == b.node) && (a.incarnation == b.incarnation)
 
 abbrev pub same_lock : LockInfo → LockInfo → Bool
 same_lock a b = same_owner a.owner b.owner && (same_mode a.mode b.mode && same_range a.span b.span)

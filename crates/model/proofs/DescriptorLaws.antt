@@ -1,5 +1,5 @@
 -- A process with a free descriptor can open a file.
-use Rattle.std.specs.Prelude.{◌≡◌, ℕ, ◌+◌, ◌-◌, ◌*◌, ◌<◌, ◌≤◌, Bool, true, false, not, Option, Some, None, is_none, is_some, refl}
+use Rattle.std.specs.Prelude.{◌≡◌, ℕ, ◌+◌, ◌-◌, ◌*◌, ◌<◌, ◌≤◌, Bool, true, false, not, Option, Some, None, is_none, refl}
 use Rattle.std.proofs.Common.{arith, ap, sym, ◌∙◌, inl, inr}
 use Rattle.std.proofs.lemmas.Bool.{cases_lt, eqb-true}
 use Rattle.intervals.specs.Search.{first, some_passes, IsFirst}
@@ -102,13 +102,6 @@ lowest_description-number ps pid fd pid_in fd_in free = met (lowest_description 
 -- a process with no descriptors refers to none
 pub none_refers : (opened : ℕ → Option Opened) (d n : ℕ) → ((fd : ℕ) → opened fd ≡ None) → some_passes (λ fd. is_of d (opened fd)) 0 n ≡ false
 none_refers opened d n none = some_passes-none (λ fd. is_of d (opened fd)) 0 n n (record { all = λ j above below. ap (is_of d) (none j) }) (omega arith)
-
--- a test for nothing
-pub is_none-by : (b : Bool) (o : Option Opened) → not b ≡ is_some o → b ≡ is_none o
-is_none-by true None h = refl
-is_none-by true (Some o) h = absurd (cc)
-is_none-by false None h = absurd (cc)
-is_none-by false (Some o) h = refl
 
 -- the lowest free descriptor is free
 pub lowest_fd-free : (ps : Processes) (pid : ℕ) → lowest_fd ps pid < most_descriptors → ps.opened pid (lowest_fd ps pid) ≡ None

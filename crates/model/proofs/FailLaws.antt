@@ -1,11 +1,10 @@
 -- Processes that exit one after the other.
-use Rattle.std.specs.Prelude.{◌≡◌, ℕ, zero, suc, ◌+◌, ◌-◌, ◌≤◌, false, refl}
+use Rattle.std.specs.Prelude.{◌≡◌, ℕ, zero, suc, ◌+◌, ◌-◌, ◌≤◌, false, None, refl}
 use Rattle.std.proofs.Common.{arith, ap, sym, ◌∙◌}
 use Rattle.model.specs.declared.process.Process.{Process}
-use Rattle.model.specs.declared.change.Change.TheVariants.{Runs}
 use Rattle.model.specs.Limits.{most_descriptors}
-use Rattle.model.specs.Table.{Table, descriptor, closed_if, closed_below, exited, exited_if, exited_to, gone}
-use Rattle.model.specs.OneTable.{changed}
+use Rattle.model.specs.Descriptors.{with_process}
+use Rattle.model.specs.Table.{Table, around, with_processes, descriptor, closed_if, closed_below, exited, exited_if, exited_to, gone}
 
 pub closed_below-none : (t : Table) (p : Process) → closed_below t p 0 ≡ t
 unfolding closed_below
@@ -22,8 +21,11 @@ closed_below-more t new p n so_far =
     ap (λ (x : Table). closed_if x p n (descriptor x p n)) so_far ∙ sym (closed_below-suc t p n) ∙ ap (closed_below t p) next
 
 -- the process goes when its descriptors are closed
-pub exited-by : (t mid new : Table) (p : Process) (n : ℕ) → mid ≡ closed_below t p n → n ≡ most_descriptors → new ≡ changed mid (Runs p false) → new ≡ exited t p
-exited-by t mid new p n shut is last = last ∙ ap (λ (x : Table). changed x (Runs p false)) (shut ∙ ap (closed_below t p) is)
+abbrev ended : Table → Process → Table
+ended t p = with_processes t p (with_process (around t p) p.pid false (λ fd. None))
+
+pub exited-by : (t mid new : Table) (p : Process) (n : ℕ) → mid ≡ closed_below t p n → n ≡ most_descriptors → new ≡ ended mid p → new ≡ exited t p
+exited-by t mid new p n shut is last = last ∙ ap (λ (x : Table). ended x p) (shut ∙ ap (closed_below t p) is)
 
 exited_to-zero : (t : Table) (node incarnation : ℕ) → exited_to t node incarnation 0 ≡ t
 unfolding exited_to

@@ -1,10 +1,7 @@
 pub mod SearchLaws
 pub mod OwnerLaws
-pub mod TableLaws
 pub mod Pigeons
 pub mod DescriptorLaws
-pub mod StepLaws
-pub mod BlockLaws
 pub mod FailLaws
 pub mod AnswerLaws
 pub mod RunLaws

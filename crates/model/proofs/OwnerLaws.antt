@@ -1,13 +1,12 @@
--- Owners and processes that test alike are one.
+-- Owners and nodes that test alike are one.
 use Rattle.std.specs.Prelude.{◌≡◌, true, refl}
 use Rattle.std.proofs.Common.{eq-eqb}
 use Rattle.std.proofs.lemmas.Bool.{and_parts, and_from, eqb-true, false≢true}
+use Rattle.model.specs.declared.host.Host.{Host}
 use Rattle.model.specs.declared.owner.Kind.{Kind}
 use Rattle.model.specs.declared.owner.Kind.TheVariants.{OfProcess, OfDescription}
 use Rattle.model.specs.declared.owner.Owner.{Owner}
-use Rattle.model.specs.declared.process.Process.{Process}
-use Rattle.model.specs.Owners.{same_kind, same_owner}
-use Rattle.model.specs.OneTable.{same_process}
+use Rattle.model.specs.Owners.{same_kind, same_owner, same_host}
 
 kind_exact : (a b : Kind) → same_kind a b ≡ true → a ≡ b
 kind_exact OfProcess OfProcess h = refl
@@ -33,11 +32,5 @@ owner_exact a b h =
 pub owner_refl : (a : Owner) → same_owner a a ≡ true
 owner_refl a = and_from _ _ (eq-eqb a.node a.node refl) (and_from _ _ (eq-eqb a.incarnation a.incarnation refl) (and_from _ _ (kind_refl a.kind) (eq-eqb a.number a.number refl)))
 
-pub process_exact : (a b : Process) → same_process a b ≡ true → a ≡ b
-process_exact a b h =
-    let first = and_parts _ _ h in
-    let second = and_parts _ _ first.1 in
-    let nodes = eqb-true _ _ first.0 in
-    let incarnations = eqb-true _ _ second.0 in
-    let pids = eqb-true _ _ second.1 in
-    λ i. record { node = nodes i; incarnation = incarnations i; pid = pids i }
+pub host_refl : (a : Host) → same_host a a ≡ true
+host_refl a = and_from _ _ (eq-eqb a.node a.node refl) (eq-eqb a.incarnation a.incarnation refl)

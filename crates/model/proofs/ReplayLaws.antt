@@ -21,8 +21,7 @@ use Rattle.model.specs.declared.reply.Reply.TheVariants.{Done, Fd, Again, Free, 
 use Rattle.model.specs.Locks.{excludes, bars}
 use Rattle.model.specs.Descriptors.{Processes, after_spawn, after_open}
 use Rattle.model.specs.Table.{Table, Target, around, beside, is_running, descriptor, allows, target_at, target, lock_within, after_unlock}
-use Rattle.model.specs.OneTable.{BlocksCall}
-use Rattle.model.specs.Step.{Unblocked, AfterTests, SetStep, QueryStep, Step}
+use Rattle.model.specs.Step.{BlocksCall, Unblocked, AfterTests, SetStep, QueryStep, Step}
 use Rattle.model.specs.Replay.{NeverAnswers, NamesNoLock}
 
 -- a span has a byte

@@ -5,5 +5,4 @@ pub mod Locks
 pub mod Descriptors
 pub mod Table
 pub mod Step
-pub mod OneTable
 pub mod Replay

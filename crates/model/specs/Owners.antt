@@ -26,6 +26,9 @@ same_kind _ _ = false
 abbrev pub same_owner : Owner → Owner → Bool
 same_owner a b = (a.node == b.node) && ((a.incarnation == b.incarnation) && (same_kind a.kind b.kind && (a.number == b.number)))
 
+abbrev pub same_host : Host → Host → Bool
+same_host a b = (a.node == b.node) && (a.incarnation == b.incarnation)
+
 -- the node, in its incarnation, of a call
 abbrev pub host_of_call : CallId → Host
 host_of_call c = record { node = c.node; incarnation = c.incarnation }

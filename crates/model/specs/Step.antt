@@ -1,5 +1,6 @@
 -- What a single machine's fcntl() may answer, and what it then leaves.
 use Rattle.std.specs.Prelude.{◌≡◌, Result, Ok, Err, Some, None}
+use Rattle.model.specs.declared.lock_info.LockInfo.{LockInfo}
 use Rattle.model.specs.declared.mode.Mode.{Mode}
 use Rattle.model.specs.declared.process.Process.{Process}
 use Rattle.model.specs.declared.op.Op.{Op}
@@ -17,6 +18,10 @@ Is answer reply new = (reply ≡ answer.1) × (new ≡ answer.0)
 -- no other owner blocks the call
 abbrev pub Unblocked : Table → Target → Mode → Type 0
 Unblocked t c mode = IsFree (t.locks c.file) c.owner c.span mode
+
+-- the lock is a region of another owner that blocks the call
+abbrev pub BlocksCall : Table → Target → Mode → LockInfo → Type 0
+BlocksCall t call mode lock = Blocks (t.locks call.file) call.owner call.span mode lock
 
 -- the first test that fails decides; if none does, the call may be answered so
 abbrev pub AfterTests : Table → Result Target Reply → Reply → Table → (Target → Type 0) → Type 0

@@ -3,7 +3,6 @@
 
 pub mod access;
 pub mod call;
-pub mod change;
 pub mod equality;
 pub mod host;
 pub mod laws;
@@ -12,7 +11,6 @@ pub mod limits;
 pub mod lock_call;
 pub mod lock_info;
 pub mod mode;
-pub mod one_table;
 pub mod op;
 pub mod opened;
 pub mod owner;

@@ -1,4 +1,3 @@
-pub mod RowLaws
 pub mod FileLaws
 pub mod CallLaws
 pub mod NodeLaws

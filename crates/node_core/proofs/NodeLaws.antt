@@ -39,15 +39,15 @@ use Rattle.token_set.specs.declared.gave_up.GaveUp.{GaveUp}
 use Rattle.token_set.proofs.ReleaseLaws.{list_gives_up}
 use Rattle.std.specs.declared.alloc.AllocError.{AllocError}
 use Rattle.messages.specs.Shapes.{ShapeFields}
-use Rattle.node_core.specs.declared.descriptors.row.Row.{Row as ProcessRow}
-use Rattle.node_core.specs.declared.descriptors.error.ProcessError.{ProcessError}
-use Rattle.node_core.specs.declared.descriptors.error.ProcessError.TheVariants as error
-use Rattle.node_core.specs.declared.descriptors.error.FdError.{FdError}
-use Rattle.node_core.specs.declared.descriptors.error.FdError.TheVariants.{NoProcess, BadFd}
+use Rattle.descriptors.specs.declared.row.Row.{Row as ProcessRow}
+use Rattle.descriptors.specs.declared.error.ProcessError.{ProcessError}
+use Rattle.descriptors.specs.declared.error.ProcessError.TheVariants as error
+use Rattle.descriptors.specs.declared.error.FdError.{FdError}
 use Rattle.node_core.specs.declared.file_row.FileRow.{FileRow}
 use Rattle.node_core.specs.declared.open_call.OpenCall.{OpenCall}
 use Rattle.node_core.specs.State.{NodeState, first_file, first_node, process}
-use Rattle.node_core.specs.Rows.{processes, resolved, opened_or, fd_reply, Refuses}
+use Rattle.descriptors.specs.Rows.{processes, resolved, fd_reply, Refuses}
+use Rattle.fcntl_table.proofs.TargetLaws.{target_in, target-err, target-ok, resolved_ok}
 use Rattle.node_core.specs.Files.{file_state}
 use Rattle.node_core.specs.Parts.{NodeParts, node_state, IsOwn, IsSpan, IsOwnCall, IsNode, IsNewNumber, tabled}
 use Rattle.node_core.proofs.CallLaws.{none-above}
@@ -195,32 +195,6 @@ pub lock-refused : (p : NodeParts) (c : Target) (mode : Option Mode) → 1024 < 
 unfolding node_state
 lock-refused p c mode many =
     ap (λ b. tabled (node_state p) (if b then (record (node_state p).table { locks = with_lock (held p.locks) c.file c.owner c.span mode }, Done) else ((node_state p).table, NoLocks))) (lt-leb _ _ many)
-
--- the tests of a lock call, one after the other
-abbrev pub target_in : Processes → Process → Option Mode → ℕ → Kind → Result Range SpanError → Result Target Reply
-target_in ps p need fd kind segment = if ps.runs p.pid then target_at p need kind (ps.opened p.pid fd) segment else Err reply.NoProcess
-
-resolved_err : (b : Bool) (o : Option Opened) (p : Process) (need : Option Mode) (kind : Kind) (segment : Result Range SpanError) (e : FdError) → (if b then opened_or o else Err NoProcess) ≡ Err e → (if b then target_at p need kind o segment else Err reply.NoProcess) ≡ Err (fd_reply e)
-resolved_err false o p need kind segment NoProcess h = refl
-resolved_err false o p need kind segment BadFd h = absurd (cc)
-resolved_err true None p need kind segment NoProcess h = absurd (cc)
-resolved_err true None p need kind segment BadFd h = refl
-resolved_err true (Some o) p need kind segment e h = absurd (cc)
-
-pub target-err : (ps : Processes) (p : Process) (need : Option Mode) (fd : ℕ) (kind : Kind) (segment : Result Range SpanError) (e : FdError) → resolved ps p.pid fd ≡ Err e → target_in ps p need fd kind segment ≡ Err (fd_reply e)
-target-err ps p need fd kind segment e h = resolved_err (ps.runs p.pid) (ps.opened p.pid fd) p need kind segment e h
-
-resolved_ok : (b : Bool) (o : Option Opened) (p : Process) (need : Option Mode) (kind : Kind) (segment : Result Range SpanError) (opened : Opened) → (if b then opened_or o else Err NoProcess) ≡ Ok opened → (o ≡ Some opened) × ((if b then target_at p need kind o segment else Err reply.NoProcess) ≡ target_at p need kind (Some opened) segment)
-resolved_ok false o p need kind segment opened h = absurd (cc)
-resolved_ok true None p need kind segment opened h = absurd (cc)
-resolved_ok true (Some o) p need kind segment opened h = let same : o ≡ opened = cc in (ap Some same, ap (λ x. target_at p need kind (Some x) segment) same)
-
-pub target-ok : (ps : Processes) (p : Process) (need : Option Mode) (fd : ℕ) (kind : Kind) (segment : Result Range SpanError) (opened : Opened) → resolved ps p.pid fd ≡ Ok opened → (ps.opened p.pid fd ≡ Some opened) × (target_in ps p need fd kind segment ≡ target_at p need kind (Some opened) segment)
-target-ok ps p need fd kind segment opened h = resolved_ok (ps.runs p.pid) (ps.opened p.pid fd) p need kind segment opened h
-
-pub segment-is : (r x : Result Range SpanError) → IfOk r (λ s. x ≡ Ok s) → IfErr r (λ e. x ≡ Err e) → r ≡ x
-segment-is (Ok s) x ok err = sym ok
-segment-is (Err e) x ok err = sym err
 
 -- what a process opens is of the file that it named
 opened_if : (b : Bool) (o : Option Opened) (p : Opened) (new : Opened) (P : ℕ → Type 0) → P new.file → (o ≡ Some p → P p.file) → (if b then Some new else o) ≡ Some p → P p.file

@@ -1,11 +1,10 @@
 -- What a node is made of, and the state that it is.
 use Rattle.std.specs.Prelude.{◌≡◌, ℕ, ◌≤◌, Bool, ◌&&◌, ◌||◌, ◌==◌, nat_le, if◌then◌else◌, List, All, length, Some, None}
-use Rattle.intervals.specs.Bytes.{Range, greatest}
+use Rattle.intervals.specs.Bytes.{Range}
 use Rattle.model.specs.declared.access.Access.{Access}
 use Rattle.model.specs.declared.opened.Opened.{Opened}
-use Rattle.model.specs.declared.owner.Owner.{Owner}
 use Rattle.model.specs.declared.reply.Reply.{Reply}
-use Rattle.model.specs.Limits.{IsHost, IsNumber, most_of}
+use Rattle.model.specs.Limits.{IsHost, IsNumber}
 use Rattle.model.specs.Locks.{IsOfNode}
 use Rattle.model.specs.Descriptors.{no_processes, after_spawn, after_open}
 use Rattle.model.specs.Table.{Table, around, beside}
@@ -20,11 +19,12 @@ use Rattle.token_set.specs.Releases.{after_giving_up}
 use Rattle.token_set.specs.declared.gave_up.GaveUp.{GaveUp}
 use Rattle.node_core.specs.declared.command.Command.{Command}
 use Rattle.messages.specs.Messages.{addressee, file_of, is_within, greatest_number}
-use Rattle.node_core.specs.declared.descriptors.row.Row.{Row as ProcessRow}
+use Rattle.descriptors.specs.declared.row.Row.{Row as ProcessRow}
 use Rattle.node_core.specs.declared.file_row.FileRow.{FileRow}
 use Rattle.node_core.specs.declared.open_call.OpenCall.{OpenCall}
 use Rattle.node_core.specs.declared.effect.Effect.{Effect as EffectFields}
-use Rattle.node_core.specs.Rows.{processes}
+use Rattle.descriptors.specs.Rows.{processes}
+pub use Rattle.fcntl_table.specs.Targets.{IsOwn, IsSpan}
 use Rattle.node_core.specs.Files.{file_state}
 use Rattle.node_core.specs.State.{FileState, NodeState, Effect, with_file, quiet, host, process, open_call}
 use Rattle.node_core.specs.Commands.{remembered, answer_to, is_conflict, is_node}
@@ -56,17 +56,6 @@ node_state p = record {
   pending = p.pending;
   files = file_state p.files;
 }
-
--- the owner is one that the node has in this incarnation
-pub record IsOwn (node incarnation : ℕ) (o : Owner) : Type 0 where
-  pub of_node : o.node ≡ node
-  pub of_incarnation : o.incarnation ≡ incarnation
-  pub number_in : IsNumber (most_of o.kind) o.number
-
--- bytes of a file
-pub record IsSpan (s : Range) : Type 0 where
-  pub ordered : s.lo ≤ s.hi
-  pub ends : s.hi ≤ greatest
 
 -- what each open call keeps
 pub record IsOwnCall (files node incarnation : ℕ) (c : OpenCall) : Type 0 where

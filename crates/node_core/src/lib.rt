@@ -3,7 +3,6 @@
 
 pub mod change;
 pub mod command;
-pub mod descriptors;
 pub mod effect;
 pub mod event;
 pub mod file_row;
@@ -14,4 +13,3 @@ pub mod node;
 mod numbers;
 pub mod open_call;
 mod open_calls;
-pub mod target;

@@ -1,5 +1,5 @@
 //! The locks of a node.
-ghost use Rattle.std.specs.Prelude.{◌≡◌, ◌≤◌, ◌<◌, Err, [], IfSome, MatchResult, OnOk, OnErr};
+ghost use Rattle.std.specs.Prelude.{◌≡◌, ◌≤◌, ◌<◌, Err, [], IfSome, OnOk, OnErr};
 ghost use Rattle.intervals.specs.Bytes.{put};
 ghost use Rattle.model.specs.Limits.{most_regions};
 ghost use Rattle.model.specs.Locks.{with_lock, regions};
@@ -8,12 +8,12 @@ ghost use Rattle.std.specs.Vec.{vec_capacity};
 ghost use Rattle.node_core.specs.Plans.{locks_after};
 ghost use Rattle.node_core.specs.Try.{may_free};
 
+pub use fcntl_table::locks::lock_reply;
 use lock_table::error::LockError;
 use lock_table::lock_table::{LockEdit, LockTable};
 use model::lock_call::LockCall;
 use model::mode::Mode;
 use model::reply::Reply;
-use std::alloc::AllocError;
 
 /// Locks the bytes of the call in the mode, or frees them.
 ///
@@ -44,19 +44,6 @@ pub fn apply_locks(locks: &mut LockTable, edit: Option<LockEdit>)
     match edit {
         Some(edit) => locks.apply(edit),
         None => {}
-    }
-}
-
-/// The reply that tells of the refusal.
-///
-/// # Errors
-/// `AllocError` for `NoMemory`, which no reply tells.
-pub fn lock_reply(error: LockError) -> Result<Reply, AllocError>
-    ensures { MatchResult result (λ reply. (error ≡ LockError.NoLocks) × (reply ≡ Reply.NoLocks)) (λ _. error ≡ LockError.NoMemory) }
-{
-    match error {
-        LockError::NoLocks => Ok(Reply::NoLocks),
-        LockError::NoMemory => Err(AllocError),
     }
 }
 
@@ -105,11 +92,5 @@ mod tests {
             assert_eq!(rt; held.first().map(|lock| lock.span.lo), Some(first));
         }
         Ok(())
-    }
-
-    #[test]
-    fn each_refusal_has_its_reply(rt: HostRuntime) {
-        assert!(rt; lock_reply(LockError::NoLocks) == Ok(Reply::NoLocks));
-        assert!(rt; lock_reply(LockError::NoMemory) == Err(AllocError));
     }
 }

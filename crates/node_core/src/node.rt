@@ -6,7 +6,7 @@ ghost use Rattle.node_core.specs.Node.{node_rule};
 ghost use Rattle.node_core.specs.Files.{state_of};
 ghost use Rattle.node_core.specs.Parts.{node_state, effect_of, IsCallOf};
 
-use crate::descriptors::processes::Processes;
+use descriptors::processes::Processes;
 use crate::effect::Effect;
 use crate::event::NodeEvent;
 use crate::file_row::FileRow;

@@ -2,6 +2,8 @@
 #![tactic(auto)]
 
 #[cfg(test)]
+mod of_fcntl_table;
+#[cfg(test)]
 mod of_intervals;
 #[cfg(test)]
 mod of_lock_table;

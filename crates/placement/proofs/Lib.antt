@@ -1,10 +1,6 @@
 pub mod Rises
-pub mod Lengths
 pub mod Index
 pub mod Locating
 pub mod Placing
 pub mod Placements
 pub mod Replays
-pub mod NodesLaws
-pub mod MachineLaws
-pub mod Exits

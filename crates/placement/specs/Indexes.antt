@@ -13,7 +13,7 @@ use Rattle.messages.specs.declared.event.Event.TheVariants.{Deliver}
 use Rattle.messages.specs.declared.entry.Entry.{Entry}
 use Rattle.messages.specs.Messages.{same_call, same_host, is_conflict}
 use Rattle.cluster_core.specs.Histories.{names_conflict}
-use Rattle.cluster_core.proofs.Placement.{find_call}
+use Rattle.cluster_core.specs.Calls.{find_call}
 use Rattle.placement.specs.declared.revoke_id.RevokeId.{RevokeId}
 
 -- by the name of a call: the process that makes it, and what it asks for

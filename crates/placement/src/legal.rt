@@ -3,11 +3,12 @@ ghost use Rattle.std.specs.Prelude.{◌≡◌, true, false, ◌↔◌, IsTrue, I
 ghost use Rattle.model.specs.Limits.{IsProcess};
 ghost use Rattle.model.specs.Table.{Table};
 ghost use Rattle.cluster_core.specs.Histories.{caller, ItemStep, IsLegal};
-ghost use Rattle.placement.specs.Machine.{machine_table};
+ghost use Rattle.fcntl_table.specs.Tables.{table_of};
 
+use crate::answers::take;
 use crate::history::History;
-use crate::machine::Machine;
 use cluster_core::item::Item;
+use fcntl_table::table::FcntlTable;
 use intervals::span_map::NoMemory;
 use model::call::CallId;
 use model::limits::MOST_PROCESSES;
@@ -22,7 +23,7 @@ use std::alloc::Global;
 pub fn legal(alloc: Global, history: &History) -> Result<bool, NoMemory>
     ensures { IfOk result (λ yes. IsTrue yes ↔ IsLegal history.now) }
 {
-    let mut table = Machine::new(alloc);
+    let mut table = FcntlTable::new(alloc);
     for item in history.items() {
         if !follow(&mut table, item)? {
             return Ok(false);
@@ -32,9 +33,9 @@ pub fn legal(alloc: Global, history: &History) -> Result<bool, NoMemory>
 }
 
 // The item leads the table on, if it may.
-fn follow(table: &mut Machine, item: &Item) -> Result<bool, NoMemory>
-    ensures leads { IfOk result (λ yes. yes ≡ true → ItemStep (machine_table table.old) item.now (machine_table table.new)) }
-    ensures stuck { IfOk result (λ yes. yes ≡ false → (new : Table) → ItemStep (machine_table table.old) item.now new → ⊥) }
+fn follow(table: &mut FcntlTable, item: &Item) -> Result<bool, NoMemory>
+    ensures leads { IfOk result (λ yes. yes ≡ true → ItemStep (table_of table.old) item.now (table_of table.new)) }
+    ensures stuck { IfOk result (λ yes. yes ≡ false → (new : Table) → ItemStep (table_of table.old) item.now new → ⊥) }
 {
     match item {
         Item::Answered {
@@ -44,7 +45,7 @@ fn follow(table: &mut Machine, item: &Item) -> Result<bool, NoMemory>
             reply,
             ..
         } => match caller(*id, *pid) {
-            Some(process) => table.take(process, *op, *reply),
+            Some(process) => take(table, process, *op, *reply),
             None => Ok(false),
         },
         Item::Gone {
@@ -52,7 +53,7 @@ fn follow(table: &mut Machine, item: &Item) -> Result<bool, NoMemory>
             incarnation,
             ..
         } => {
-            table.fail(*node, *incarnation);
+            table.gone(*node, *incarnation);
             Ok(true)
         }
     }

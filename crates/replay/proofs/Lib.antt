@@ -1,3 +1,4 @@
 pub mod Marks
-pub mod Progresses
 pub mod OneOutcome
+pub mod Outputs
+pub mod Progresses

@@ -1,4 +1,6 @@
+pub mod Outputs
 pub mod Statuses
+pub mod Refusals
 pub mod Faults
 pub mod Progress
 pub mod Settled

@@ -1,4 +1,9 @@
 //! The files of the system.
+ghost use Rattle.std.specs.Prelude.{◌≡◌, ◌↔◌};
+ghost use Rattle.std.specs.IoError.{error_kind};
+ghost use Rattle.std.specs.declared.io.kind.ErrorKind.TheVariants.{OutOfMemory};
+ghost use Rattle.replay.specs.declared.store.StoreError.TheVariants.{NoMemory};
+
 use crate::store::{Store, StoreError};
 use std::alloc::Global;
 use std::rt::Files;
@@ -21,13 +26,11 @@ impl<R: Files + AllocGlobal> Store for Disk<'_, R> {
     fn read(&mut self, _alloc: Global, path: &str) -> Result<Vec<u8>, StoreError> {
         fs::read(self.rt, path).map_err(|error| reason_of(&error))
     }
-
-    fn write(&mut self, path: &str, bytes: &[u8]) -> Result<(), StoreError> {
-        fs::write(self.rt, path, bytes).map_err(|error| reason_of(&error))
-    }
 }
 
-fn reason_of(error: &io::Error) -> StoreError {
+fn reason_of(error: &io::Error) -> StoreError
+    ensures { error_kind error.now ≡ OutOfMemory ↔ result ≡ NoMemory }
+{
     match error.kind() {
         io::ErrorKind::OutOfMemory => StoreError::NoMemory,
         _ => StoreError::Failed,

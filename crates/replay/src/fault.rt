@@ -1,31 +1,28 @@
 //! Why a command was not done.
 ghost use Rattle.std.specs.Prelude.{◌≡◌};
 ghost use Rattle.replay.specs.declared.fault.Fault.TheVariants.{NoMemory};
-ghost use Rattle.replay.specs.Faults.{fault_of_parse, fault_of_play};
+ghost use Rattle.replay.specs.Faults.{fault_line, fault_of_parse, fault_of_play};
+ghost use Rattle.replay.specs.Outputs.{Writes};
 ghost use Rattle.replay.specs.Statuses.{status_of};
 
+use crate::output::{Output, WriteFailed, put_line};
 use crate::play::PlayError;
+use itoa::Buffer;
 use lockscript::error::ParseError;
 use std::alloc::{AllocError, AllocFailed};
-use thiserror::Error;
 
-/// Why a command was not done. Its text is one line.
-#[derive(Clone, Copy, Debug, PartialEq, Eq, Error)]
+/// Why a command was not done.
+#[derive(Clone, Copy, Debug, PartialEq, Eq)]
 pub enum Fault<'a> {
     /// The first line of the script that may not stand there, by its number, from 1.
-    #[error("bad line {0}")]
     BadLine(u64),
     /// A file, by its path, that can't be read, or that isn't UTF-8.
-    #[error("cannot read {0}")]
     CannotRead(&'a str),
     /// Standard output didn't take all of the text.
-    #[error("cannot write standard output")]
     CannotWriteOutput,
     /// A request for memory was refused.
-    #[error("no memory")]
     NoMemory,
     /// The run needs more entries than a journal may have.
-    #[error("journal full")]
     JournalFull,
 }
 
@@ -38,6 +35,23 @@ impl Fault<'_> {
         match self {
             Fault::BadLine(_) | Fault::CannotRead(_) | Fault::CannotWriteOutput => 3,
             Fault::NoMemory | Fault::JournalFull => 4,
+        }
+    }
+
+    /// Writes the line that tells of it.
+    ///
+    /// # Errors
+    /// Where the writer fails, which took a beginning of the line.
+    pub fn write_line<E: Output>(&self, err: &mut E) -> Result<(), WriteFailed>
+        ensures { Writes (E.taken err.old) (E.taken err.new) (E.has_failed err.new) (fault_line self.now) result }
+    {
+        let mut digits = Buffer::new();
+        match self {
+            Fault::BadLine(line) => put_line(err, "bad line ", digits.format(*line)),
+            Fault::CannotRead(path) => put_line(err, "cannot read ", path),
+            Fault::CannotWriteOutput => put_line(err, "cannot write standard output", ""),
+            Fault::NoMemory => put_line(err, "no memory", ""),
+            Fault::JournalFull => put_line(err, "journal full", ""),
         }
     }
 }

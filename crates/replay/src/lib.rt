@@ -4,6 +4,7 @@
 pub mod disk;
 pub mod fault;
 pub mod laws;
+pub mod output;
 pub mod perform;
 pub mod play;
 pub mod played;
@@ -11,3 +12,4 @@ mod player;
 pub mod respond;
 mod settled;
 pub mod store;
+pub mod words;

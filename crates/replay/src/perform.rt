@@ -1,13 +1,15 @@
 //! Doing what a command line asks for.
-ghost use Rattle.std.specs.Prelude.{◌≡◌, ◌≢◌, ◌⊎◌, string_bytes, IfErr, IfOk, OnErr, OnOk};
+ghost use Rattle.std.specs.Prelude.{◌≡◌, ◌≢◌, string_bytes, IfErr, IfOk, OnErr, OnOk};
 ghost use Rattle.std.specs.Io.KnownBytes.{Appends};
 ghost use Rattle.command_line.specs.Words.{path_of};
-ghost use Rattle.replay.specs.declared.fault.Fault.TheVariants.{CannotWriteOutput};
-ghost use Rattle.replay.specs.Commands.{HasListing, HasScript, HasScriptIn, IsFault, IsFaultIn, IsListing, ShowsListing, TellsFault, WritesNothing};
+ghost use Rattle.replay.specs.Commands.{HasListing, HasScript, HasScriptIn, IsFault, IsFaultIn, IsListing, Leaves, ShowsListing, TellsFault};
+ghost use Rattle.replay.specs.Faults.{fault_line};
+ghost use Rattle.replay.specs.Outputs.{AppendsPart, WritesOrFails};
 ghost use Rattle.replay.specs.Parts.{state_of};
 ghost use Rattle.replay.specs.Statuses.{status_of, IsStatus};
 
 use crate::fault::Fault;
+use crate::output::{Output, WriteFailed};
 use crate::play::play;
 use crate::played::Played;
 use crate::store::{Store, StoreError};
@@ -17,14 +19,13 @@ use lockscript::listing::listing;
 use lockscript::script::Script;
 use placement::placed::placed;
 use std::alloc::Global;
-use std::io::Write;
 
 /// Does what the line asks for, and answers the exit status: 0 where it was done, 3 where the input
 /// or the output is at fault, 4 where memory or the journal was too small. Then one line on the
-/// second writer says why, and the first has got nothing, but for what a write to it that failed
-/// let through. Faults are looked for in this order: the file is read, its bytes are UTF-8, its
-/// lines are good, the run has room, the text is written.
-pub fn perform<S: Store, O: Write, E: Write>(
+/// second writer says why, and the first has got nothing, but for a beginning of the listing where
+/// it failed. Faults are looked for in this order: the file is read, its bytes are UTF-8, its lines
+/// are good, the run has room, the text is written. No file is changed.
+pub fn perform<S: Store, O: Output, E: Output>(
     alloc: Global,
     line: &Line<'_>,
     store: &mut S,
@@ -33,14 +34,18 @@ pub fn perform<S: Store, O: Write, E: Write>(
 ) -> u8
     ensures status { IsStatus result }
 
-    // Done: the listing of what the script of the file comes to is written.
-    ensures done { result ≡ 0 → ShowsListing (S.read_gives store.old (path_of line.now)) (O.contents out.old) (O.contents out.new) }
+    // Done: the listing of what the script of the file comes to is written and has gone on, and the
+    // second writer got nothing.
+    ensures done { result ≡ 0 → ShowsListing (S.holds store.old (path_of line.now)) (O.taken out.old) (O.taken out.new) }
+    ensures flushed { result ≡ 0 → O.is_flushed out.new }
+    ensures quiet { result ≡ 0 → err.new ≡ err.old }
 
-    // Else the status tells of the first fault.
-    ensures fault { result ≢ 0 → TellsFault (S.read_gives store.old (path_of line.now)) (path_of line.now) result }
+    // Else the status and a line on the second writer tell of the first fault.
+    ensures fault { result ≢ 0 → TellsFault (IsFault (S.holds store.old (path_of line.now)) (S.ran_short store.new) (path_of line.now))
+        (Leaves (HasListing (S.holds store.old (path_of line.now))) O.taken O.has_failed out.old out.new)
+        (λ fault. WritesOrFails (E.taken err.old) (E.taken err.new) (E.has_failed err.new) (fault_line fault)) result }
 
-    // Then nothing is written, but for what a writer took that failed at the listing.
-    ensures silent { result ≢ 0 → WritesNothing (S.read_gives store.old (path_of line.now)) out.old out.new result }
+    ensures files { S.holds store.new ≡ S.holds store.old }
 {
     match done(alloc, line, store, out) {
         Ok(()) => 0,
@@ -49,28 +54,30 @@ pub fn perform<S: Store, O: Write, E: Write>(
 }
 
 /// Writes why a command was not done, and answers its exit status. What can't be written is lost.
-pub(crate) fn report<E: Write>(fault: &Fault<'_>, err: &mut E) -> u8
-    ensures { result ≡ status_of fault.now }
+pub(crate) fn report<E: Output>(fault: &Fault<'_>, err: &mut E) -> u8
+    ensures status { result ≡ status_of fault.now }
+    ensures told { WritesOrFails (E.taken err.old) (E.taken err.new) (E.has_failed err.new) (fault_line fault.now) }
 {
-    let _ = writeln!(err, "{fault}");
-    let _ = err.flush();
+    let _ = fault.write_line(err);
     fault.status()
 }
 
-fn done<'a, S: Store, O: Write>(
+fn done<'a, S: Store, O: Output>(
     alloc: Global,
     line: &Line<'a>,
     store: &mut S,
     out: &mut O,
 ) -> Result<(), Fault<'a>>
-    ensures done { OnOk result (ShowsListing (S.read_gives store.old (path_of line.now)) (O.contents out.old) (O.contents out.new)) }
-    ensures fault { IfErr result (IsFault (S.read_gives store.old (path_of line.now)) (path_of line.now)) }
-    ensures silent { IfErr result (λ fault. (out.new ≡ out.old) ⊎ (fault ≡ CannotWriteOutput)) }
+    ensures done { OnOk result (ShowsListing (S.holds store.old (path_of line.now)) (O.taken out.old) (O.taken out.new)) }
+    ensures flushed { OnOk result (O.is_flushed out.new) }
+    ensures fault { IfErr result (λ fault. IsFault (S.holds store.old (path_of line.now)) (S.ran_short store.new) (path_of line.now) fault
+        × Leaves (HasListing (S.holds store.old (path_of line.now))) O.taken O.has_failed out.old out.new fault) }
+    ensures files { S.holds store.new ≡ S.holds store.old }
 {
     let text = match line {
         Line::Run { script } => listing_of_script(alloc, store, script)?,
     };
-    show(out, text.as_str())
+    show(out, text.as_str()).map_err(|_| Fault::CannotWriteOutput)
 }
 
 // The listing of what the script of a file comes to.
@@ -79,8 +86,9 @@ fn listing_of_script<'a, S: Store>(
     store: &mut S,
     path: &'a str,
 ) -> Result<String, Fault<'a>>
-    ensures listing { IfOk result (λ text. HasListing (S.read_gives store.old path.now) (string_bytes text)) }
-    ensures fault { IfErr result (IsFault (S.read_gives store.old path.now) path.now) }
+    ensures listing { IfOk result (λ text. HasListing (S.holds store.old path.now) (string_bytes text)) }
+    ensures fault { IfErr result (λ fault. (fault ≢ CannotWriteOutput) × IsFault (S.holds store.old path.now) (S.ran_short store.new) path.now fault) }
+    ensures files { S.holds store.new ≡ S.holds store.old }
 {
     let script = script_of(alloc, store, path)?;
     let played = play(alloc, &script)?;
@@ -89,8 +97,9 @@ fn listing_of_script<'a, S: Store>(
 
 // The script that a file writes.
 fn script_of<'a, S: Store>(alloc: Global, store: &mut S, path: &'a str) -> Result<Script, Fault<'a>>
-    ensures script { IfOk result (HasScript (S.read_gives store.old path.now)) }
-    ensures fault { IfErr result (IsFault (S.read_gives store.old path.now) path.now) }
+    ensures script { IfOk result (HasScript (S.holds store.old path.now)) }
+    ensures fault { IfErr result (λ fault. (fault ≢ CannotWriteOutput) × IsFault (S.holds store.old path.now) (S.ran_short store.new) path.now fault) }
+    ensures files { S.holds store.new ≡ S.holds store.old }
 {
     match store.read(alloc, path) {
         Ok(bytes) => script_in(alloc, bytes.as_slice(), path),
@@ -127,16 +136,15 @@ fn listing_of(alloc: Global, played: &Played) -> Result<String, NoMemory>
     )
 }
 
-/// Writes all of the text.
+/// Writes all of the text, and sends it on.
 ///
 /// # Errors
-/// `CannotWriteOutput` where the writer fails, which may have taken a part of it.
-pub(crate) fn show<'a, O: Write>(out: &mut O, text: &str) -> Result<(), Fault<'a>>
-    ensures shown { OnOk result (Appends (O.contents out.old) (O.contents out.new) text.now) }
-    ensures err { IfErr result (λ fault. fault ≡ CannotWriteOutput) }
+/// Where the writer fails, which took a beginning of the text.
+pub(crate) fn show<O: Output>(out: &mut O, text: &str) -> Result<(), WriteFailed>
+    ensures shown { OnOk result (Appends (O.taken out.old) (O.taken out.new) text.now) }
+    ensures flushed { OnOk result (O.is_flushed out.new) }
+    ensures part { OnErr result (AppendsPart (O.taken out.old) (O.taken out.new) text.now × O.has_failed out.new) }
 {
-    if out.write_all(text.as_bytes()).is_err() || out.flush().is_err() {
-        return Err(Fault::CannotWriteOutput);
-    }
-    Ok(())
+    out.put(text.as_bytes())?;
+    out.finish()
 }

@@ -1,23 +1,28 @@
 //! The program as a function of its words.
-ghost use Rattle.std.specs.Prelude.{◌≡◌, ◌≢◌, ◌⊎◌, ℕ, List, map};
-ghost use Rattle.command_line.specs.declared.refusal.Refusal.TheVariants.{NoMemory};
-ghost use Rattle.command_line.specs.Words.{AsksToRun};
-ghost use Rattle.replay.specs.Commands.{ShowsListing, TellsFault, WritesNothing};
-ghost use Rattle.replay.specs.Statuses.{IsStatus};
+ghost use Rattle.std.specs.Prelude.{◌≡◌, ◌≢◌, ◌⊎◌, ℕ, ⊤, List, map};
+ghost use Rattle.std.specs.Io.KnownBytes.{Appends};
+ghost use Rattle.command_line.specs.Words.{AreWrong, AsksForHelp, AsksToRun};
+ghost use Rattle.replay.specs.declared.fault.Fault.{Fault};
+ghost use Rattle.replay.specs.declared.fault.Fault.TheVariants.{CannotWriteOutput};
+ghost use Rattle.replay.specs.Commands.{HasListing, IsFault, Leaves, ShowsListing, TellsFault};
+ghost use Rattle.replay.specs.Faults.{fault_line};
+ghost use Rattle.replay.specs.Outputs.{AppendsPart, WritesOrFails};
+ghost use Rattle.replay.specs.Refusals.{IsHelp, refusal_status, refusal_text};
+ghost use Rattle.replay.specs.Statuses.{status_of, IsStatus};
 
 use crate::fault::Fault;
+use crate::output::{Output, put_line};
 use crate::perform::{perform, report, show};
 use crate::store::Store;
 use command_line::line::Line;
 use command_line::refusal::Refusal;
 use std::alloc::Global;
 use std::convert::AsStr;
-use std::io::Write;
 
 /// Does what the words ask for, the first of them being the program's name, and answers the exit
-/// status: that of `perform`, or 2 where the words are refused, which the second writer is told.
-/// Help that they ask for goes to the first.
-pub fn respond<W: AsStr, S: Store, O: Write, E: Write>(
+/// status: that of `perform`; 0 where they ask for help or for the version, which the first writer
+/// gets; 2 where they are wrong, which the second writer is told; 4 where memory was short for them.
+pub fn respond<W: AsStr, S: Store, O: Output, E: Output>(
     alloc: Global,
     words: &[W],
     store: &mut S,
@@ -26,38 +31,53 @@ pub fn respond<W: AsStr, S: Store, O: Write, E: Write>(
 ) -> u8
     ensures status { (result ≡ 2) ⊎ IsStatus result }
 
-    // Words that are refused write nothing to the first writer.
-    ensures refused { result ≡ 2 → out.new ≡ out.old }
-
-    // `PROGRAM run SCRIPT` is done as `perform` does it.
+    // Words that ask for a run, by the program's table, are done as `perform` does it, unless memory
+    // is short before.
     ensures done { (path : List ℕ) → AsksToRun (map W.text words.now) path
-        → result ≡ 0 → ShowsListing (S.read_gives store.old path) (O.contents out.old) (O.contents out.new) }
+        → result ≡ 0 → ShowsListing (S.holds store.old path) (O.taken out.old) (O.taken out.new) }
     ensures fault { (path : List ℕ) → AsksToRun (map W.text words.now) path
-        → result ≢ 0 → TellsFault (S.read_gives store.old path) path result }
-    ensures silent { (path : List ℕ) → AsksToRun (map W.text words.now) path
-        → result ≢ 0 → WritesNothing (S.read_gives store.old path) out.old out.new result }
+        → result ≢ 0 → TellsFault (IsFault (S.holds store.old path) ⊤ path)
+            (Leaves (HasListing (S.holds store.old path)) O.taken O.has_failed out.old out.new)
+            (λ fault. WritesOrFails (E.taken err.old) (E.taken err.new) (E.has_failed err.new) (fault_line fault)) result }
+
+    // The status tells what the words are, and a fault is told by its line.
+    ensures zero { result ≡ 0 → AsksForHelp (map W.text words.now) ⊎ ((path : List ℕ) × AsksToRun (map W.text words.now) path) }
+    ensures shown { result ≡ 0 → O.is_flushed out.new × (err.new ≡ err.old) }
+    ensures wrong { result ≡ 2 → AreWrong (map W.text words.now) × (out.new ≡ out.old) }
+    ensures told { IsStatus result → result ≢ 0 → (fault : Fault) × (result ≡ status_of fault)
+        × WritesOrFails (E.taken err.old) (E.taken err.new) (E.has_failed err.new) (fault_line fault) }
+
+    ensures files { S.holds store.new ≡ S.holds store.old }
 {
     match Line::read(alloc, words) {
         Ok(line) => perform(alloc, &line, store, out, err),
-        Err(refusal) => explain(&refusal, out, err),
+        Err(refusal) => refuse(&refusal, out, err),
     }
 }
 
-// What the words get in place of a run: help, or what is wrong with them.
-fn explain<O: Write, E: Write>(refusal: &Refusal, out: &mut O, err: &mut E) -> u8
-    ensures status { (result ≡ 2) ⊎ IsStatus result }
-    ensures refused { result ≡ 2 → out.new ≡ out.old }
-    ensures memory { refusal.now ≡ NoMemory → result ≡ 4 }
-    ensures silent { refusal.now ≡ NoMemory → out.new ≡ out.old }
+/// Tells why the words are no command line, and answers the exit status: 0 where they ask for help
+/// or for the version, which the first writer gets, 2 where they are wrong, 4 where memory was short.
+pub fn refuse<O: Output, E: Output>(refusal: &Refusal, out: &mut O, err: &mut E) -> u8
+    // Help is shown, unless the first writer fails.
+    ensures help { IsHelp refusal.now → ((result ≡ 0) × Appends (O.taken out.old) (O.taken out.new) (refusal_text refusal.now) × O.is_flushed out.new × (err.new ≡ err.old))
+        ⊎ ((result ≡ 3) × AppendsPart (O.taken out.old) (O.taken out.new) (refusal_text refusal.now) × O.has_failed out.new
+            × WritesOrFails (E.taken err.old) (E.taken err.new) (E.has_failed err.new) (fault_line CannotWriteOutput)) }
+
+    // Else the second writer gets the text, and the first nothing.
+    ensures refused { ¬ (IsHelp refusal.now) → (result ≡ refusal_status refusal.now) × (out.new ≡ out.old)
+        × WritesOrFails (E.taken err.old) (E.taken err.new) (E.has_failed err.new) (refusal_text refusal.now) }
 {
     match refusal {
         Refusal::Help(help) => match show(out, help.as_str()) {
             Ok(()) => 0,
-            Err(fault) => report(&fault, err),
+            Err(_) => report(&Fault::CannotWriteOutput, err),
         },
         Refusal::Wrong(text) => {
-            let _ = write!(err, "{text}");
-            let _ = err.flush();
+            let _ = err.put(text.as_bytes());
+            2
+        }
+        Refusal::NotText => {
+            let _ = put_line(err, "a word of the command line is not UTF-8", "");
             2
         }
         Refusal::NoMemory => report(&Fault::NoMemory, err),

@@ -1,10 +1,10 @@
 //! Files.
-ghost use Rattle.std.specs.Prelude.{ℕ, List, ⊤, IfErr, IfOk, Result};
-ghost use Rattle.replay.specs.declared.store.StoreError.{StoreError};
+ghost use Rattle.std.specs.Prelude.{◌≡◌, ℕ, List, ⊤, IfOk, Option, Result, Err, None, Some};
+ghost use Rattle.replay.specs.declared.store.StoreError.TheVariants.{Failed, NoMemory};
 
 use std::alloc::Global;
 
-/// Why a file was not read or written.
+/// Why a file was not read.
 #[derive(Clone, Copy, Debug, PartialEq, Eq)]
 pub enum StoreError {
     /// A request for memory was refused.
@@ -13,22 +13,23 @@ pub enum StoreError {
     Failed,
 }
 
-/// Files by their paths.
+/// Files by their paths. They are only read.
 pub trait Store {
-    // What reading the file of a path may give, where it is known: its bytes, or why it has none.
-    ghost read_gives: { Self → List ℕ → Result (List ℕ) StoreError → Type 0 } = { λ _ _ _. ⊤ };
+    // The file of a path has these bytes, or can't be read, where that is known.
+    ghost holds: { Self → List ℕ → Option (List ℕ) → Type 0 } = { λ _ _ _. ⊤ };
+
+    // A request for memory was refused.
+    ghost ran_short: { Self → Type 0 } = { λ _. ⊤ };
 
     /// The bytes of a file.
     ///
     /// # Errors
     /// `Failed` where the file can't be read; `NoMemory` where a request for memory was refused.
     fn read(&mut self, alloc: Global, path: &str) -> Result<Vec<u8>, StoreError>
-        ensures bytes { IfOk result (λ bytes. read_gives self.old path.now (Ok bytes.items)) }
-        ensures err { IfErr result (λ error. read_gives self.old path.now (Err error)) };
+        ensures bytes { IfOk result (λ bytes. holds self.old path.now (Some bytes.items)) }
+        ensures failed { result ≡ Err Failed → holds self.old path.now None }
+        ensures short { result ≡ Err NoMemory → ran_short self.new }
 
-    /// Puts these bytes in place of what the file held.
-    ///
-    /// # Errors
-    /// `Failed` where the file can't be written; `NoMemory` where a request for memory was refused.
-    fn write(&mut self, path: &str, bytes: &[u8]) -> Result<(), StoreError>;
+        // No file changes.
+        ensures files { holds self.new ≡ holds self.old };
 }

@@ -1,5 +1,3 @@
 //! What the program prints.
 mod programs;
-mod readers;
-mod revocations;
 mod shelf;

@@ -3,13 +3,14 @@ use Rattle.std.specs.Prelude.{◌≡◌, ◌≢◌, ℕ, ◌+◌, ◌<◌, ◌�
 use Rattle.std.proofs.Common.{arith, ap, sym, ◌∙◌, inl, inr}
 use Rattle.std.proofs.lemmas.Bool.{cases_lt, and_from, and_right, le-leb}
 use Rattle.std.proofs.lemmas.Bool.Decides.{nat_tests}
-use Rattle.intervals.specs.Bytes.{Range, is_in, NoneIn, put}
+use Rattle.intervals.specs.Bytes.{Range, is_in, NoneIn, AllAre, put}
 use Rattle.model.specs.declared.mode.Mode.TheVariants.{Read}
 use Rattle.model.specs.declared.level.Level.{Level}
 use Rattle.model.specs.declared.level.Level.TheVariants.{Shared, Exclusive}
-use Rattle.token_set.specs.Tokens.{Token, level_conflicts, raised_level, raised}
+use Rattle.token_set.specs.Tokens.{Token, conflicts, level_conflicts, raised_level, raised}
 use Rattle.token_set.specs.Sets.{IsFirstExclusive, at_exclusive}
 use Rattle.token_set.specs.Releases.{lowered_level, lowered}
+use Rattle.token_set.proofs.TokenLaws.{none-conflicts}
 
 -- the bytes below `from` are done, and those from there on are as in f
 pub record IsDoneTo (t : Token) (s : Range) (level : Level) (f g : Token) (from : ℕ) : Type 0 where
@@ -113,3 +114,40 @@ lowered-is t s = λ i b. at b (is_in s b) i
     at : (b : ℕ) (i : Bool) → (if i && level_conflicts (t b) Read then Some Shared else t b) ≡ (if i then lowered_level (t b) Read else t b)
     at b true = lowered_level-is (t b)
     at b false = refl
+
+-- where both say the same inside, they say the same
+inside_alone : (i : Bool) (x y z : Option Level) → (i ≡ true → x ≡ y) → (if i then x else z) ≡ (if i then y else z)
+inside_alone true x y z h = h refl
+inside_alone false x y z h = refl
+
+raised_shared : (x : Option Level) → (level_conflicts x Read ≡ true → ⊥) → Some Shared ≡ raised_level x Read
+raised_shared None free = refl
+raised_shared (Some Shared) free = refl
+raised_shared (Some Exclusive) free = absurd (free refl)
+
+lowered_free : (x : Option Level) → (level_conflicts x Read ≡ true → ⊥) → x ≡ lowered_level x Read
+lowered_free None free = refl
+lowered_free (Some Shared) free = refl
+lowered_free (Some Exclusive) free = absurd (free refl)
+
+kept_inside : (i : Bool) (x z : Option Level) → (i ≡ true → z ≡ x) → z ≡ (if i then x else z)
+kept_inside true x z h = h refl
+kept_inside false x z h = refl
+
+above_start : (s : Range) (b : ℕ) → is_in s b ≡ true → s.lo ≤ b
+above_start s b is = grind (arith, nat_tests)
+
+below_end : (s : Range) (b : ℕ) → is_in s b ≡ true → b ≤ s.hi
+below_end s b is = grind (arith, nat_tests)
+
+-- a grant for read where no byte is exclusive: shared throughout
+pub raised-free : (t : Token) (s : Range) → conflicts t s Read ≡ false → put t s (Some Shared) ≡ raised t s Read
+raised-free t s free = λ i b. inside_alone (is_in s b) _ _ (t b) (λ is. raised_shared (t b) (none-conflicts t s Read free b (above_start s b is) (below_end s b is))) i
+
+-- a revoke for read where each byte is exclusive: shared throughout
+pub lowered-all : (t : Token) (s : Range) → AllAre t s (Some Exclusive) → put t s (Some Shared) ≡ lowered t s Read
+lowered-all t s all = λ i b. inside_alone (is_in s b) _ _ (t b) (λ is. sym (ap (λ x. lowered_level x Read) (all b (above_start s b is) (below_end s b is)))) i
+
+-- and where none is, it changes nothing
+pub lowered-free : (t : Token) (s : Range) → conflicts t s Read ≡ false → t ≡ lowered t s Read
+lowered-free t s free = λ i b. kept_inside (is_in s b) _ (t b) (λ is. lowered_free (t b) (none-conflicts t s Read free b (above_start s b is) (below_end s b is))) i

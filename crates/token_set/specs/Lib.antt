@@ -2,3 +2,4 @@ pub mod Tokens
 pub mod Sets
 pub mod Runs
 pub mod Releases
+pub mod Edits

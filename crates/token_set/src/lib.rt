@@ -2,6 +2,7 @@
 #![tactic(auto)]
 
 pub mod desired;
+pub mod edit;
 pub mod gave_up;
 pub mod laws;
 pub mod set;

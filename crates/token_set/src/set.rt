@@ -4,8 +4,10 @@ ghost use Rattle.intervals.specs.Bytes.{IsLargest, NoneIn, largest_around};
 ghost use Rattle.token_set.specs.Tokens.{no_token, covers, raised, conflicts, level_conflicts, holds_nothing};
 ghost use Rattle.token_set.specs.Sets.{token_of, bar_of, HasLevels, IsFirstExclusive, at_exclusive};
 ghost use Rattle.token_set.specs.Releases.{lowered, IsGivenUp, after_giving_up};
+ghost use Rattle.token_set.specs.Edits.{edited};
 ghost use Rattle.token_set.specs.Runs.{NothingFrom, IsNextRun, ListsRuns};
 
+use crate::edit::TokenEdit;
 use crate::gave_up::GaveUp;
 use intervals::span::{GREATEST, Span};
 use intervals::span_map::{NoMemory, SpanMap};
@@ -137,6 +139,94 @@ impl TokenSet {
         }
     }
 
+    // The levels with each byte of the span that has none raised to shared. Where no byte of it is
+    // exclusive the span is written, else the levels are made anew.
+    fn plan_shared(&self, span: Span) -> Result<TokenEdit, NoMemory>
+        ensures { IfOk result (λ edit. edited edit self.now ≡ raised (token_of self.now) span Mode.Read) }
+    {
+        if self.conflicts(span, Mode::Read) {
+            let levels = shared(&self.levels, span)?;
+            return Ok(TokenEdit::Whole(TokenSet { levels }));
+        }
+        Ok(TokenEdit::Write(self.levels.plan(span, Some(Level::Shared))?))
+    }
+
+    // The levels with each exclusive byte of the span lowered to shared. Where they are exclusive
+    // throughout the span is written, else the levels are made anew, if some byte is exclusive.
+    fn plan_unexclusive(&self, span: Span) -> Result<TokenEdit, NoMemory>
+        ensures { IfOk result (λ edit. edited edit self.now ≡ lowered (token_of self.now) span Mode.Read) }
+    {
+        if self.levels.covers(span, Level::Exclusive) {
+            return Ok(TokenEdit::Write(self.levels.plan(span, Some(Level::Shared))?));
+        }
+        if !self.conflicts(span, Mode::Read) {
+            return Ok(TokenEdit::Same);
+        }
+        let levels = unexclusive(&self.levels, span)?;
+        Ok(TokenEdit::Whole(TokenSet { levels }))
+    }
+
+    /// The edit that `grant` makes.
+    ///
+    /// # Errors
+    /// `NoMemory` where a request for memory was refused.
+    pub fn plan_grant(&self, span: Span, mode: Mode) -> Result<TokenEdit, NoMemory>
+        ensures { IfOk result (λ edit. edited edit self.now ≡ raised (token_of self.now) span mode) }
+    {
+        match mode {
+            Mode::Read => self.plan_shared(span),
+            Mode::Write => Ok(TokenEdit::Write(self.levels.plan(span, Some(Level::Exclusive))?)),
+        }
+    }
+
+    /// The edit that `lower` makes.
+    ///
+    /// # Errors
+    /// `NoMemory` where a request for memory was refused.
+    pub fn plan_lower(&self, span: Span, mode: Mode) -> Result<TokenEdit, NoMemory>
+        ensures { IfOk result (λ edit. edited edit self.now ≡ lowered (token_of self.now) span mode) }
+    {
+        match mode {
+            Mode::Read => self.plan_unexclusive(span),
+            Mode::Write => Ok(TokenEdit::Write(self.levels.plan(span, None)?)),
+        }
+    }
+
+    /// The answer of `give_up`, and the edit that it makes.
+    ///
+    /// # Errors
+    /// `NoMemory` where a request for memory was refused.
+    pub fn plan_give_up(
+        &self,
+        mode: Mode,
+        required: Span,
+        desired: Span,
+        locks: &[LockInfo],
+    ) -> Result<(GaveUp, TokenEdit), NoMemory>
+        requires starts_within { desired.lo ≤ required.lo }
+        requires ends_within { required.hi ≤ desired.hi }
+        ensures answer { IfOk result (λ r. IsGivenUp (Contains locks.now) mode required desired r.0) }
+        ensures token { IfOk result (λ r. edited r.1 self.now ≡ after_giving_up (token_of self.now) mode r.0) }
+    {
+        let answer = GaveUp::by_locks(mode, required, desired, locks);
+        let edit = match answer {
+            GaveUp::Released(span) => self.plan_lower(span, mode)?,
+            GaveUp::Conflict(_) => TokenEdit::Same,
+        };
+        Ok((answer, edit))
+    }
+
+    /// Makes a planned change. Takes no memory.
+    pub fn apply(&mut self, edit: TokenEdit)
+        ensures { token_of self.new ≡ edited edit self.old }
+    {
+        match edit {
+            TokenEdit::Same => {}
+            TokenEdit::Write(edit) => self.levels.apply(edit),
+            TokenEdit::Whole(token) => *self = token,
+        }
+    }
+
     /// Raises each byte of the span: for write to exclusive, for read to shared where it has no
     /// level, so that an exclusive byte stays exclusive.
     ///
@@ -146,10 +236,8 @@ impl TokenSet {
         ensures ok { OnOk result (token_of self.new ≡ raised (token_of self.old) span mode) }
         ensures err { OnErr result (self.new ≡ self.old) }
     {
-        match mode {
-            Mode::Read => self.levels = shared(&self.levels, span)?,
-            Mode::Write => self.levels.set(span, Level::Exclusive)?,
-        }
+        let edit = self.plan_grant(span, mode)?;
+        self.apply(edit);
         Ok(())
     }
 
@@ -162,10 +250,8 @@ impl TokenSet {
         ensures ok { OnOk result (token_of self.new ≡ lowered (token_of self.old) span mode) }
         ensures err { OnErr result (self.new ≡ self.old) }
     {
-        match mode {
-            Mode::Read => self.levels = unexclusive(&self.levels, span)?,
-            Mode::Write => self.levels.clear(span)?,
-        }
+        let edit = self.plan_lower(span, mode)?;
+        self.apply(edit);
         Ok(())
     }
 
@@ -193,10 +279,8 @@ impl TokenSet {
         ensures token { IfOk result (λ answer. token_of self.new ≡ after_giving_up (token_of self.old) mode answer) }
         ensures err { OnErr result (self.new ≡ self.old) }
     {
-        let answer = GaveUp::by_locks(mode, required, desired, locks);
-        if let GaveUp::Released(span) = answer {
-            self.lower(span, mode)?;
-        }
+        let (answer, edit) = self.plan_give_up(mode, required, desired, locks)?;
+        self.apply(edit);
         Ok(answer)
     }
 

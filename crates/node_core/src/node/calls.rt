@@ -12,7 +12,7 @@ use super::Node;
 use crate::effect::Effect;
 use crate::numbers::is_pid;
 use crate::open_call::{Intent, OpenCall};
-use crate::target::target_at;
+use fcntl_table::target::target_at;
 use intervals::span::Span;
 use messages::outcome::Outcome;
 use messages::refusal::StepError;

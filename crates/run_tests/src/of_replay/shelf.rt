@@ -1,8 +1,6 @@
-//! Files in memory, and what the program prints for them.
-use replay::respond::respond;
+//! A file in memory.
 use replay::store::{Store, StoreError};
 use std::alloc::Global;
-use std::test::Fail;
 
 // A file that is there, by its path.
 #[derive(Drop)]
@@ -25,15 +23,4 @@ impl Store for Shelf<'_> {
     fn write(&mut self, _path: &str, _bytes: &[u8]) -> Result<(), StoreError> {
         Err(StoreError::Failed)
     }
-}
-
-// What the program prints for a script.
-pub(crate) fn listing_of_script(alloc: Global, text: &str) -> Result<String, Fail> {
-    let mut shelf = Shelf {
-        bytes: text.as_bytes(),
-    };
-    let mut out = Vec::new(alloc);
-    let mut err = Vec::new(alloc);
-    respond(alloc, &RUN, &mut shelf, &mut out, &mut err);
-    Ok(String::from_utf8(out)?)
 }

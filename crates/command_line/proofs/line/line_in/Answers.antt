@@ -1,21 +1,32 @@
-use Rattle.std.proofs.Common.{ap, ap₂, ◌∙◌}
+use Rattle.std.proofs.Common.{ap, sym, subst, inr, ◌∙◌, map}
 use Rattle.std.proofs.lemmas.Result.{err_from_is_err_and}
-use Rattle.clap.specs.Words.{is_simple, subcommand_of, takes}
+use Rattle.clap.specs.Words.{App, HasKind, fault_of, is_simple, is_simple_and_free, subcommand_of}
 use Rattle.command_line.specs.Program.{value_in}
-use Rattle.command_line.proofs.CommandLine.{is_simple_program, taken_is, value_is, same_text, no_text}
+use Rattle.command_line.proofs.CommandLine.{fails_so, is_free_program, is_simple_program, not_shown}
 use Rattle.command_line.proofs.line.line_in.Goals as goal
 
-pub returns-in_err-matches : goal.returns-in_err-matches
-returns-in_err-matches g c = λ path asks.
+pub returns-in_err-matches-clause-kind : goal.returns-in_err-matches-clause-kind
+returns-in_err-matches-clause-kind g c =
     let p = err_from_is_err_and c.from_residual-in_err-matches.result c.from_residual-in_err-matches.ensures.1 in
-    rw (p.1, p.2) (c.in_err-matches.ensures.passes (ap₂ takes c.in_ok-command.ensures asks.words_are ∙ taken_is asks.program path asks.no_option))
+    let app = c.in_ok-command.ensures in
+    let words = map g.S.AsStr.text c.args.words.now in
+    let P : App → Type 0 = λ a. HasKind (fault_of a words) c.in_err-matches.field-0.0 in
+    rw (p.1, p.2) (fails_so words c.in_err-matches.field-0.0 (subst P app (c.in_err-matches.ensures.kinds (ap is_simple_and_free app ∙ is_free_program))))
 
-pub returns-in-Some : goal.returns-in-Some
-returns-in-Some g c = λ path asks.
-    let rows_are = (c.in_ok-matches.ensures.ok.2 (ap is_simple c.in_ok-command.ensures ∙ is_simple_program)).1 in
-    same_text c.in-Some.script.now path (c.in-Some.ensures path (ap value_in (rows_are ∙ ap₂ subcommand_of c.in_ok-command.ensures asks.words_are) ∙ value_is asks.program path asks.no_option))
+pub returns-in-Some-clause-asked : goal.returns-in-Some-clause-asked
+returns-in-Some-clause-asked g c =
+    let app = c.in_ok-command.ensures in
+    let words = map g.S.AsStr.text c.args.words.now in
+    let rows_are = (c.in_ok-matches.ensures.ok.2 (ap is_simple app ∙ is_simple_program)).1 in
+    record {
+      taken = ap (λ (a : App). fault_of a words) (sym app) ∙ c.in_ok-matches.ensures.kinds (ap is_simple_and_free app ∙ is_free_program);
+      value = sym (ap value_in (rows_are ∙ ap (λ (a : App). subcommand_of a words) app)) ∙ c.in-Some.ensures;
+    }
 
-pub returns : goal.returns
-returns g c = λ path asks.
-    let rows_are = (c.in_ok-matches.ensures.ok.2 (ap is_simple c.in_ok-command.ensures ∙ is_simple_program)).1 in
-    absurd (no_text path (c.in-None.ensures path (ap value_in (rows_are ∙ ap₂ subcommand_of c.in_ok-command.ensures asks.words_are) ∙ value_is asks.program path asks.no_option)))
+pub returns-clause-kind : goal.returns-clause-kind
+returns-clause-kind g c =
+    let app = c.in_ok-command.ensures in
+    let words = map g.S.AsStr.text c.args.words.now in
+    let rows_are = (c.in_ok-matches.ensures.ok.2 (ap is_simple app ∙ is_simple_program)).1 in
+    let taken = ap (λ (a : App). fault_of a words) (sym app) ∙ c.in_ok-matches.ensures.kinds (ap is_simple_and_free app ∙ is_free_program) in
+    inr (inr (not_shown _ c.in_ok-error-in-None.ensures.kind, (taken, λ path asks. c.in-None.ensures path (ap value_in (rows_are ∙ ap (λ (a : App). subcommand_of a words) app) ∙ asks.value))))

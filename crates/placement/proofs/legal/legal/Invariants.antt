@@ -1,7 +1,7 @@
 use Rattle.std.proofs.Common.{drop}
-use Rattle.placement.specs.Machine.{machine_table}
+use Rattle.fcntl_table.specs.Tables.{table_of}
 use Rattle.placement.proofs.Replays.{Follows}
 use Rattle.placement.proofs.legal.legal.Given as goal
 
 abbrev pub invariant-loop-item : goal.invariant-loop-item
-invariant-loop-item l = Follows l.history (drop l.item-index l.item-items) (machine_table l.table)
+invariant-loop-item l = Follows l.history (drop l.item-index l.item-items) (table_of l.table)

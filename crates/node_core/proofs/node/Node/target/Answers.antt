@@ -4,9 +4,10 @@ use Rattle.std.proofs.lemmas.Int.{to_z-of_z}
 use mir.Val.{to_z, of_z}
 use Rattle.intervals.specs.Segment.{seg}
 use Rattle.model.specs.Table.{target_at}
-use Rattle.node_core.specs.Rows.{processes, resolved}
+use Rattle.descriptors.specs.Rows.{processes, resolved}
 use Rattle.node_core.specs.Parts.{NodeParts}
-use Rattle.node_core.proofs.NodeLaws.{target-refused, target-found, target-file, segment-is}
+use Rattle.node_core.proofs.NodeLaws.{target-refused, target-found, target-file}
+use Rattle.fcntl_table.proofs.TargetLaws.{segment-is}
 use Rattle.node_core.proofs.node.Node.target.Goals as goal
 
 pub returns-in-Err-clause-value : goal.returns-in-Err-clause-value

@@ -1,0 +1,58 @@
+//! The texts of the long help.
+
+/// The program's version.
+pub(crate) const VERSION: &str = "0.1.0";
+
+/// What stands under the options of the program.
+pub(crate) const PROGRAM_NOTES: &str = "\
+Exit status:
+  0  done
+  2  the words of the command line are refused
+  3  SCRIPT has a bad line or can't be read, or the listing can't be written
+  4  no memory, or more entries than a journal may have (1048576)
+A line on standard error says which.
+
+'lockreplay help run' tells how a script is written and what the listing shows.";
+
+/// What stands under the options of `run`.
+pub(crate) const RUN_NOTES: &str = "\
+A script is text in lines. Each line ends with a line feed, the last one too; empty
+lines and lines that begin with # are skipped. Words have one space between them,
+and numbers are decimal, without leading zeros. SCRIPT may be /dev/stdin.
+
+The first line gives the cluster:
+  cluster nodes N files F policy P      N to 64, F to 256, P is wide or exact
+Every other line is one of these:
+  call N PID OP       process PID (1 to 256) of node N makes a lock call
+  deliver K           message K arrives, which may be for the second time
+  lose K              message K is lost: settle passes over it
+  settle              the earliest message that was not yet delivered, lost or
+                      passed over is delivered, again and again until none is left
+  retry N PID         node N sends the request of the open call of PID again
+  resend F            the server of file F sends again what has no answer
+  declare N           node N is declared failed: its processes and locks are gone
+  restart N           node N begins again, in its next incarnation
+  learn F N I         the server of file F learns that incarnation I of N failed
+K counts the messages in the order of sending, from 1. OP is one of these:
+  spawn                              the process begins
+  open F rw                          file F gets the lowest free descriptor (0 to 63)
+  set FD proc MODE START LEN         lock a segment, unless it is blocked
+  unlock FD proc START LEN           unlock a segment
+  query FD proc MODE START LEN       ask which lock blocks a segment
+MODE is read or write. A segment has LEN bytes from byte START on. With LEN 0 it goes
+on to the greatest offset, 9223372036854775807; with LEN below 0 it is the -LEN bytes
+before START.
+
+The listing has five sections: the refused lines, the replies, the tokens at the end,
+the locks at the end, and one history, in which every call has its place in one table
+of locks. What happens is an entry: a call, a delivery, a retry, a resend, a
+declaration, a restart or a learn. Replies and the calls of the history stand at
+positions of entries, counted from 1.
+
+A line that is refused is listed with its number and a code, and the run goes on:
+  10  the node is not alive             13  the process has an open call
+  11  the node is not declared failed   14  no such node, process, file or message
+  12  the node restarted too often      15  the node is declared failed
+                                        19  the actor ran out of numbers
+These refusals end the run (see the exit status):
+   3  no memory       9  bad line       16  journal full";

@@ -1,0 +1,6 @@
+use Rattle.std.proofs.Common.{◌<◌, ℕ}
+use Rattle.descriptors.specs.Rows.{row, IsSameRow}
+use Rattle.descriptors.proofs.rows.same_rows.Given as goal
+
+abbrev pub invariant-loop-pid : goal.invariant-loop-pid
+invariant-loop-pid l = (k : ℕ) → k < l.pid → IsSameRow (row l.rows k) (row l.others k)

@@ -1,0 +1,83 @@
+-- Rows of processes, and the processes that they are.
+use Rattle.std.specs.Prelude.{◌≡◌, ℕ, Bool, true, false, not, if◌then◌else◌, List, [], Option, Some, None, Result, Ok, Err, IsOk, slice_index_or}
+use Rattle.intervals.specs.Search.{some_passes}
+use Rattle.model.specs.declared.opened.Opened.{Opened}
+use Rattle.model.specs.declared.reply.Reply.{Reply}
+use Rattle.model.specs.declared.reply.Reply.TheVariants as reply
+use Rattle.model.specs.Limits.{IsNumber, most_processes, most_descriptors, most_descriptions}
+use Rattle.model.specs.Descriptors.{Processes, is_of, is_open, with_descriptor}
+use Rattle.descriptors.specs.declared.row.Row.{Row}
+use Rattle.descriptors.specs.declared.error.ProcessError.{ProcessError}
+use Rattle.descriptors.specs.declared.error.ProcessError.TheVariants as error
+use Rattle.descriptors.specs.declared.error.FdError.{FdError}
+use Rattle.descriptors.specs.declared.error.FdError.TheVariants.{NoProcess, BadFd}
+
+-- what a descriptor refers to
+abbrev pub slot : List (Option Opened) → ℕ → Option Opened
+slot fds fd = slice_index_or fds fd None
+
+-- both run or don't, and have the same descriptors
+pub record IsSameRow (a b : Row) : Type 0 where
+  pub runs : a.runs ≡ b.runs
+  pub opened : slot a.opened ≡ slot b.opened
+
+-- the row of a process that doesn't run
+abbrev pub idle : Row
+idle = record { runs = false; opened = [] }
+
+-- the row of the process with that number
+abbrev pub row : List Row → ℕ → Row
+row rows pid = slice_index_or rows pid idle
+
+-- who runs, and what each descriptor refers to
+unfoldable pub processes : List Row → Processes
+processes rows = record { runs = λ pid. (row rows pid).runs; opened = λ pid fd. slot (row rows pid).opened fd }
+
+-- each descriptor refers to a description that can be
+abbrev pub AreNumbered : List (Option Opened) → Type 0
+AreNumbered fds = (fd : ℕ) (o : Opened) → slot fds fd ≡ Some o → IsNumber most_descriptions o.description
+
+-- a row: a process that runs has a number that can be, and one that doesn't has no descriptors
+pub record IsRow (pid : ℕ) (r : Row) : Type 0 where
+  pub numbered : AreNumbered r.opened
+  pub number_in : r.runs ≡ true → IsNumber most_processes pid
+  pub idle : r.runs ≡ false → (fd : ℕ) → slot r.opened fd ≡ None
+
+-- each is the row of the process of its number
+abbrev pub AreRows : List Row → Type 0
+AreRows rows = (pid : ℕ) → IsRow pid (row rows pid)
+
+-- the description with that number is among those used
+abbrev pub is_used : List Bool → ℕ → Bool
+is_used used d = slice_index_or used d false
+
+-- some descriptor of the process refers to the description
+abbrev pub refers : Row → ℕ → Bool
+refers r d = some_passes (λ fd. is_of d (slot r.opened fd)) 0 most_descriptors
+
+abbrev pub opened_or : Option Opened → Result Opened FdError
+opened_or None = Err BadFd
+opened_or (Some o) = Ok o
+
+-- what the descriptor refers to, or the first test that fails: the process, the descriptor
+abbrev pub resolved : Processes → ℕ → ℕ → Result Opened FdError
+resolved ps pid fd = if ps.runs pid then opened_or (ps.opened pid fd) else Err NoProcess
+
+-- the descriptor referred to a description, and refers to nothing now; the description went if no descriptor refers to it any more
+pub record IsClosed (old : Processes) (pid fd : ℕ) (new : Processes) (went : Bool) : Type 0 where
+  pub opened : Opened
+  pub was : resolved old pid fd ≡ Ok opened
+  pub closed : new ≡ with_descriptor old pid fd None
+  pub gone : went ≡ not (is_open new opened.description)
+
+-- the error is the refusal that the rule gives; memory is asked for only where the rule refuses nothing
+abbrev pub Refuses : ProcessError → Result (Processes × Reply) Reply → Type 0
+Refuses error.NoMemory answer = IsOk answer
+Refuses error.NoProcess answer = answer ≡ Err reply.NoProcess
+Refuses error.Exists answer = answer ≡ Err reply.Exists
+Refuses error.TooManyFiles answer = answer ≡ Err reply.TooManyFiles
+
+-- the reply that tells of it
+abbrev pub fd_reply : FdError → Reply
+fd_reply NoProcess = reply.NoProcess
+fd_reply BadFd = reply.BadFd

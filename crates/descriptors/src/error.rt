@@ -1,0 +1,95 @@
+//! Why processes and descriptors stay as they are.
+ghost use Rattle.std.specs.Prelude.{◌≡◌, Result, Err, MatchResult};
+ghost use Rattle.model.specs.declared.reply.Reply.{Reply};
+ghost use Rattle.model.specs.Descriptors.{Processes};
+ghost use Rattle.descriptors.specs.Rows.{Refuses, fd_reply};
+
+use model::reply::Reply;
+use std::alloc::AllocError;
+use thiserror::Error;
+
+/// Why a call on processes and descriptors is refused.
+#[derive(Clone, Copy, Debug, PartialEq, Eq, Error)]
+pub enum ProcessError {
+    /// A request for memory was refused.
+    #[error("no memory")]
+    NoMemory,
+    /// The process doesn't run.
+    #[error("no such process")]
+    NoProcess,
+    /// The process runs already.
+    #[error("the process runs already")]
+    Exists,
+    /// The process has 64 descriptors (POSIX.1-2017 `open()`, EMFILE).
+    #[error("too many open files")]
+    TooManyFiles,
+}
+
+impl From<AllocError> for ProcessError {
+    ghost use Rattle.descriptors.specs.declared.error.ProcessError.TheVariants.{NoMemory};
+
+    ghost from_gives = { λ error made. made ≡ NoMemory };
+
+    fn from(_error: AllocError) -> Self {
+        ProcessError::NoMemory
+    }
+}
+
+impl ProcessError {
+    /// The reply that tells of the refusal.
+    ///
+    /// # Errors
+    /// `AllocError` for `NoMemory`, which no reply tells.
+    pub fn reply(self) -> Result<Reply, AllocError>
+        ensures { MatchResult result (λ reply. (answer : Result (Processes × Reply) Reply) → Refuses self answer → answer ≡ Err reply) (λ _. self ≡ ProcessError.NoMemory) }
+    {
+        match self {
+            ProcessError::NoMemory => Err(AllocError),
+            ProcessError::NoProcess => Ok(Reply::NoProcess),
+            ProcessError::Exists => Ok(Reply::Exists),
+            ProcessError::TooManyFiles => Ok(Reply::TooManyFiles),
+        }
+    }
+}
+
+/// Why a descriptor refers to nothing.
+#[derive(Clone, Copy, Debug, PartialEq, Eq, Error)]
+pub enum FdError {
+    /// The process doesn't run.
+    #[error("no such process")]
+    NoProcess,
+    /// The process has no such descriptor (POSIX.1-2017 `fcntl()`, EBADF).
+    #[error("no such descriptor")]
+    BadFd,
+}
+
+impl FdError {
+    /// The reply that tells of the refusal.
+    pub fn reply(self) -> Reply
+        ensures { result ≡ fd_reply self }
+    {
+        match self {
+            FdError::NoProcess => Reply::NoProcess,
+            FdError::BadFd => Reply::BadFd,
+        }
+    }
+}
+
+#[cfg(test)]
+mod tests {
+    use super::*;
+
+    #[test]
+    fn each_refusal_has_its_reply(rt: HostRuntime) {
+        for (error, reply) in [
+            (ProcessError::NoProcess, Ok(Reply::NoProcess)),
+            (ProcessError::Exists, Ok(Reply::Exists)),
+            (ProcessError::TooManyFiles, Ok(Reply::TooManyFiles)),
+            (ProcessError::NoMemory, Err(AllocError)),
+        ] {
+            assert!(rt; error.reply() == reply);
+        }
+        assert!(rt; FdError::NoProcess.reply() == Reply::NoProcess);
+        assert!(rt; FdError::BadFd.reply() == Reply::BadFd);
+    }
+}

@@ -1,0 +1,9 @@
+//! The processes of one node and their descriptors.
+#![tactic(auto)]
+
+pub mod edit;
+pub mod error;
+pub mod processes;
+pub mod row;
+mod rows;
+mod used;

@@ -1,0 +1,266 @@
+//! The processes of one node and their descriptors.
+ghost use Rattle.std.specs.Prelude.{◌≡◌, ◌≢◌, ◌≤◌, ◌<◌, ◌↔◌, ℕ, true, false, None, Some, Ok, Err, IfOk, IfErr, IfSome, OnOk, OnErr, IsTrue, MatchOption, is_none};
+ghost use Rattle.model.specs.declared.reply.Reply.TheVariants.{Done, Fd};
+ghost use Rattle.model.specs.Limits.{IsNumber, most_processes, most_descriptors, most_descriptions};
+ghost use Rattle.model.specs.Descriptors.{no_processes, with_process, with_descriptor, lowest_fd, after_spawn, after_open};
+ghost use Rattle.descriptors.specs.Rows.{processes, resolved, Refuses, IsClosed};
+ghost use Rattle.descriptors.specs.Edits.{edited, Fits, HasPlace};
+
+use crate::edit::ProcessEdit;
+use crate::error::{FdError, ProcessError};
+use crate::row::Row;
+use crate::rows::{is_idle, is_running, opened_at, refer, reset, same_rows, with_place};
+use crate::used::{is_open, lowest_description};
+use model::access::Access;
+use model::limits::MOST_DESCRIPTORS;
+use model::opened::Opened;
+use std::alloc::{AllocError, Global};
+use std::marker::Model;
+
+/// The processes of one node in one incarnation, and what each of their descriptors refers to.
+/// Processes have the numbers 1 to 256, descriptors 0 to 63, open file descriptions 1 to 16,384. A
+/// call that answers an error leaves them as they were.
+#[derive(Drop)]
+pub struct Processes {
+    // by the process's number; there is no process 0
+    rows: Vec<Row>,
+}
+
+impl Model for Processes {
+    ghost use Rattle.std.specs.Prelude.{List};
+    ghost use Rattle.descriptors.specs.declared.row.Row.{Row};
+    ghost use Rattle.descriptors.specs.Rows.{AreRows};
+
+    ghost Value = { List Row };
+
+    ghost view = { λ p. p.rows.items };
+
+    ghost invariant = { λ p. AreRows p.rows.items };
+}
+
+impl Processes {
+    /// No process runs.
+    #[tactic(auto, unfolding(crate::specs::Rows::processes))]
+    pub fn new(alloc: Global) -> Self
+        ensures { processes result ≡ no_processes }
+    {
+        Processes {
+            rows: Vec::new(alloc),
+        }
+    }
+
+    fn is_running(&self, pid: u16) -> bool
+        ensures { result ≡ (processes self.now).runs pid }
+    {
+        is_running(&self.rows, pid as usize)
+    }
+
+    fn opened(&self, pid: u16, fd: u8) -> Option<Opened>
+        ensures value { result ≡ (processes self.now).opened pid fd }
+        ensures number { IfSome result (λ opened. IsNumber most_descriptions opened.description) }
+        ensures within { IfSome result (λ _. fd < most_descriptors) }
+    {
+        opened_at(&self.rows, pid as usize, fd)
+    }
+
+    /// What the descriptor of the process refers to.
+    ///
+    /// # Errors
+    /// `NoProcess` where the process doesn't run, which is tested first; `BadFd` where it has no such
+    /// descriptor.
+    pub fn resolve(&self, pid: u16, fd: u8) -> Result<Opened, FdError>
+        ensures value { result ≡ resolved (processes self.now) pid fd }
+        ensures number { IfOk result (λ opened. IsNumber most_descriptions opened.description) }
+        ensures within { OnOk result (fd < most_descriptors) }
+    {
+        if !self.is_running(pid) {
+            return Err(FdError::NoProcess);
+        }
+        self.opened(pid, fd).ok_or(FdError::BadFd)
+    }
+
+    /// What `spawn` would change.
+    ///
+    /// # Errors
+    /// Those of `spawn`.
+    pub fn plan_spawn(&self, pid: u16) -> Result<ProcessEdit, ProcessError>
+        requires { IsNumber most_processes pid }
+        ensures ok { IfOk result (λ edit. after_spawn (processes self.now) pid ≡ Ok (edited (processes self.now) edit, Done)) }
+        ensures err { IfErr result (λ error. Refuses error (after_spawn (processes self.now) pid)) }
+        ensures fits { IfOk result (λ edit. Fits self.now edit) }
+    {
+        if self.is_running(pid) {
+            return Err(ProcessError::Exists);
+        }
+        let rows = with_place(&self.rows, pid as usize)?;
+        Ok(ProcessEdit::Begins { pid, rows })
+    }
+
+    /// The process begins, with no descriptors. Its number is from 1 to 256; no other process ever runs.
+    ///
+    /// # Errors
+    /// `Exists` where it runs already, which is tested before memory is asked for; `NoMemory`.
+    pub fn spawn(&mut self, pid: u16) -> Result<(), ProcessError>
+        requires { IsNumber most_processes pid }
+        ensures ok { OnOk result (after_spawn (processes self.old) pid ≡ Ok (processes self.new, Done)) }
+        ensures err { IfErr result (λ error. Refuses error (after_spawn (processes self.old) pid)) }
+        ensures unchanged { OnErr result (self.new ≡ self.old) }
+    {
+        let edit = self.plan_spawn(pid)?;
+        self.apply(edit);
+        Ok(())
+    }
+
+    fn is_free(&self, pid: u16, fd: u8) -> bool
+        ensures { result ≡ is_none ((processes self.now).opened pid fd) }
+    {
+        self.opened(pid, fd).is_none()
+    }
+
+    // The lowest descriptor that is free.
+    fn lowest_fd(&self, pid: u16) -> Option<u8>
+        ensures { MatchOption result (lowest_fd (processes self.now) pid ≡ most_descriptors) (λ fd. (fd < most_descriptors) × (fd ≡ lowest_fd (processes self.now) pid)) }
+    {
+        for fd in 0..MOST_DESCRIPTORS {
+            if self.is_free(pid, fd) {
+                return Some(fd);
+            }
+        }
+        None
+    }
+
+    // The descriptor refers to this, or to nothing, from now on.
+    fn refer(&mut self, pid: u16, fd: u8, opened: Option<Opened>)
+        requires runs { (processes self.old).runs pid ≡ true }
+        requires fd { fd < most_descriptors }
+        requires number { IfSome opened (λ o. IsNumber most_descriptions o.description) }
+        ensures { processes self.new ≡ with_descriptor (processes self.old) pid fd opened }
+    {
+        refer(&mut self.rows, pid as usize, fd, opened);
+    }
+
+    /// What `open` would change, and the descriptor that it would answer.
+    ///
+    /// # Errors
+    /// Those of `open`.
+    pub fn plan_open(
+        &self,
+        pid: u16,
+        file: u16,
+        access: Access,
+    ) -> Result<(ProcessEdit, u8), ProcessError>
+        ensures ok { IfOk result (λ planned. after_open (processes self.now) pid file access ≡ Ok (edited (processes self.now) planned.0, Fd planned.1)) }
+        ensures err { IfErr result (λ error. Refuses error (after_open (processes self.now) pid file access)) }
+        ensures fits { IfOk result (λ planned. Fits self.now planned.0) }
+    {
+        if !self.is_running(pid) {
+            return Err(ProcessError::NoProcess);
+        }
+        let Some(fd) = self.lowest_fd(pid) else {
+            return Err(ProcessError::TooManyFiles);
+        };
+        let description = lowest_description(*self.rows.allocator(), &self.rows)?;
+        let opened = Opened {
+            file,
+            description,
+            access,
+        };
+        Ok((ProcessEdit::Opens { pid, fd, opened }, fd))
+    }
+
+    /// Opens the file for the process: the lowest descriptor that is free, which it answers, refers to
+    /// a new description of the file from now on, which takes the lowest number that is free on the
+    /// node (POSIX.1-2017 `open()`).
+    ///
+    /// # Errors
+    /// `NoProcess` where the process doesn't run, which is tested first; `TooManyFiles` where it has
+    /// 64 descriptors; both before memory is asked for; `NoMemory`.
+    pub fn open(&mut self, pid: u16, file: u16, access: Access) -> Result<u8, ProcessError>
+        ensures ok { IfOk result (λ fd. after_open (processes self.old) pid file access ≡ Ok (processes self.new, Fd fd)) }
+        ensures err { IfErr result (λ error. Refuses error (after_open (processes self.old) pid file access)) }
+        ensures unchanged { OnErr result (self.new ≡ self.old) }
+    {
+        let (edit, fd) = self.plan_open(pid, file, access)?;
+        self.apply(edit);
+        Ok(fd)
+    }
+
+    // The process begins, in these rows if there are any.
+    fn begin(&mut self, pid: u16, rows: Option<Vec<Row>>)
+        requires number { IsNumber most_processes pid }
+        requires place { HasPlace self.old pid rows }
+        ensures { processes self.new ≡ with_process (processes self.old) pid true (λ fd. None) }
+    {
+        if let Some(rows) = rows {
+            self.rows = rows;
+        }
+        reset(&mut self.rows, pid as usize, true);
+    }
+
+    /// Makes a planned change. Takes no memory.
+    pub fn apply(&mut self, edit: ProcessEdit)
+        requires { Fits self.old edit }
+        ensures { processes self.new ≡ edited (processes self.old) edit }
+    {
+        match edit {
+            ProcessEdit::Begins { pid, rows } => self.begin(pid, rows),
+            ProcessEdit::Opens { pid, fd, opened } => self.refer(pid, fd, Some(opened)),
+        }
+    }
+
+    /// Closes the descriptor: it refers to nothing from now on. Answers whether the description went,
+    /// that is whether no descriptor of any process of the node refers to it any more (POSIX.1-2017
+    /// `close()`). Takes no memory.
+    ///
+    /// # Errors
+    /// `NoProcess` where the process doesn't run, which is tested first; `BadFd` where it has no such
+    /// descriptor (EBADF).
+    pub fn close(&mut self, pid: u16, fd: u8) -> Result<bool, FdError>
+        ensures ok { IfOk result (λ went. IsClosed (processes self.old) pid fd (processes self.new) went) }
+        ensures err { IfErr result (λ error. resolved (processes self.old) pid fd ≡ Err error) }
+        ensures unchanged { OnErr result (self.new ≡ self.old) }
+    {
+        let opened = self.resolve(pid, fd)?;
+        self.refer(pid, fd, None);
+        Ok(!is_open(&self.rows, opened.description))
+    }
+
+    /// The process runs no longer, and has no descriptors, whether it ran before or not (POSIX.1-2017
+    /// `_Exit()`). Takes no memory.
+    pub fn end(&mut self, pid: u16)
+        ensures { processes self.new ≡ with_process (processes self.old) pid false (λ fd. None) }
+    {
+        if (pid as usize) < self.rows.len() {
+            reset(&mut self.rows, pid as usize, false);
+        }
+    }
+
+    /// Whether no process runs.
+    pub fn is_idle(&self) -> bool
+        ensures { IsTrue result ↔ (processes self.now ≡ no_processes) }
+    {
+        is_idle(&self.rows)
+    }
+
+    /// An equal value.
+    ///
+    /// # Errors
+    /// `NoMemory` where a request for memory was refused.
+    pub fn copy(&self) -> Result<Self, AllocError>
+        ensures { IfOk result (λ copy. copy ≡ self.now) }
+    {
+        Ok(Processes {
+            rows: Vec::from_slice(*self.rows.allocator(), &self.rows)?,
+        })
+    }
+
+    /// Whether the same processes run in both, and their descriptors refer to the same.
+    pub fn same(&self, other: &Self) -> bool
+        ensures { IsTrue result ↔ (processes self.now ≡ processes other.now) }
+    {
+        same_rows(&self.rows, &other.rows)
+    }
+}
+
+#[cfg(test)]
+mod tests;

@@ -1,0 +1,88 @@
+//! One process and its descriptors.
+ghost use Rattle.std.specs.Prelude.{◌≡◌, ◌↔◌, ◌<◌, ◌==◌, if◌then◌else◌, IsTrue, IfSome, ℕ, None};
+ghost use Rattle.model.specs.Descriptors.{is_of};
+ghost use Rattle.descriptors.specs.Rows.{slot, refers, IsSameRow};
+
+use model::limits::MOST_DESCRIPTORS;
+use model::opened::Opened;
+
+/// Whether a process runs, and what each of its descriptors refers to.
+#[derive(Clone, Copy, Debug, PartialEq, Eq)]
+pub struct Row {
+    pub runs: bool,
+    pub opened: [Option<Opened>; 64],
+}
+
+// Whether both refer to the same, or neither to anything.
+fn same_opened(one: Option<Opened>, other: Option<Opened>) -> bool
+    ensures { IsTrue result ↔ (one ≡ other) }
+{
+    one == other
+}
+
+// Whether this is the description.
+fn is_of(description: u16, opened: Option<Opened>) -> bool
+    ensures { result ≡ is_of description opened }
+{
+    opened.is_some_and(|opened| opened.description == description)
+}
+
+impl Row {
+    /// A process with no descriptors.
+    pub fn new(runs: bool) -> Row
+        ensures runs { result.runs ≡ runs }
+        ensures opened { (fd : ℕ) → slot result.opened fd ≡ None }
+    {
+        Row {
+            runs,
+            opened: [None; 64],
+        }
+    }
+
+    /// What the descriptor refers to, if there is one with this number.
+    pub fn opened(&self, fd: u8) -> Option<Opened>
+        ensures value { result ≡ slot self.now.opened fd }
+        ensures within { IfSome result (λ _. fd < 64) }
+    {
+        match self.opened.get(fd as usize) {
+            Some(opened) => *opened,
+            None => None,
+        }
+    }
+
+    /// The descriptor refers to this, or to nothing, from now on.
+    pub fn refer(&mut self, fd: u8, opened: Option<Opened>)
+        requires { fd < 64 }
+        ensures runs { self.new.runs ≡ self.old.runs }
+        ensures opened { (k : ℕ) → slot self.new.opened k ≡ (if k == fd then opened else slot self.old.opened k) }
+    {
+        self.opened[fd as usize] = opened;
+    }
+
+    /// Whether a descriptor refers to the description.
+    pub fn refers_to(&self, description: u16) -> bool
+        ensures { result ≡ refers self.now description }
+    {
+        for fd in 0..MOST_DESCRIPTORS {
+            if is_of(description, self.opened(fd)) {
+                return true;
+            }
+        }
+        false
+    }
+
+    /// Whether both run or don't, and have the same descriptors.
+    pub fn same(&self, other: &Row) -> bool
+        ensures { IsTrue result ↔ IsSameRow self.now other.now }
+    {
+        if self.runs != other.runs {
+            return false;
+        }
+        for fd in 0..MOST_DESCRIPTORS {
+            if !same_opened(self.opened(fd), other.opened(fd)) {
+                return false;
+            }
+        }
+        true
+    }
+}

@@ -1,0 +1,114 @@
+//! Rows of processes, by their numbers.
+ghost use Rattle.std.specs.Prelude.{◌≡◌, ◌<◌, ◌↔◌, ℕ, None, true, IfOk, IfSome, IsTrue, OnOk, length};
+ghost use Rattle.model.specs.Limits.{IsNumber, most_processes, most_descriptors, most_descriptions};
+ghost use Rattle.model.specs.Descriptors.{no_processes, with_process, with_descriptor};
+ghost use Rattle.descriptors.specs.Rows.{slot, row, processes, IsSameRow, AreRows};
+ghost use Rattle.descriptors.specs.Edits.{HasPlace};
+
+use crate::row::Row;
+use model::opened::Opened;
+use std::alloc::AllocError;
+
+// The row of the process with that number.
+fn row_at(rows: &[Row], pid: usize) -> Row
+    ensures { IsSameRow result (row rows.now pid) }
+{
+    match rows.get(pid) {
+        Some(row) => *row,
+        None => Row::new(false),
+    }
+}
+
+/// Whether the process runs.
+pub fn is_running(rows: &[Row], pid: usize) -> bool
+    ensures { result ≡ (processes rows.now).runs pid }
+{
+    row_at(rows, pid).runs
+}
+
+/// What the descriptor of the process refers to.
+pub fn opened_at(rows: &[Row], pid: usize, fd: u8) -> Option<Opened>
+    requires { AreRows rows.now }
+    ensures value { result ≡ (processes rows.now).opened pid fd }
+    ensures number { IfSome result (λ opened. IsNumber most_descriptions opened.description) }
+    ensures within { IfSome result (λ _. fd < most_descriptors) }
+{
+    row_at(rows, pid).opened(fd)
+}
+
+// Makes a place for the process with that number.
+fn grow(rows: &mut Vec<Row>, pid: usize) -> Result<(), AllocError>
+    requires number { pid < 65536 }
+    ensures room { OnOk result (pid < length rows.new.items) }
+    ensures same { processes rows.new.items ≡ processes rows.old.items }
+    ensures rows { AreRows rows.old.items → AreRows rows.new.items }
+{
+    if rows.len() <= pid {
+        rows.resize(pid + 1, Row::new(false))?;
+    }
+    Ok(())
+}
+
+/// The rows and more, up to that of the process with that number, where there is none for it yet.
+pub fn with_place(rows: &Vec<Row>, pid: usize) -> Result<Option<Vec<Row>>, AllocError>
+    requires number { pid < 65536 }
+    requires rows { AreRows rows.now.items }
+    ensures { IfOk result (HasPlace rows.now.items pid) }
+{
+    if pid < rows.len() {
+        return Ok(None);
+    }
+    let mut more = Vec::from_slice(*rows.allocator(), rows)?;
+    grow(&mut more, pid)?;
+    Ok(Some(more))
+}
+
+/// The process runs from now on, or no longer, and has no descriptors.
+pub fn reset(rows: &mut [Row], pid: usize, runs: bool)
+    requires within { pid < length rows.old }
+    requires number { runs ≡ true → IsNumber most_processes pid }
+    requires rows { AreRows rows.old }
+    ensures processes { processes rows.new ≡ with_process (processes rows.old) pid runs (λ fd. None) }
+    ensures rows { AreRows rows.new }
+{
+    rows[pid] = Row::new(runs);
+}
+
+/// The descriptor refers to this, or to nothing, from now on.
+pub fn refer(rows: &mut [Row], pid: usize, fd: u8, opened: Option<Opened>)
+    requires within { pid < length rows.old }
+    requires runs { (processes rows.old).runs pid ≡ true }
+    requires fd { fd < most_descriptors }
+    requires number { IfSome opened (λ o. IsNumber most_descriptions o.description) }
+    requires rows { AreRows rows.old }
+    ensures processes { processes rows.new ≡ with_descriptor (processes rows.old) pid fd opened }
+    ensures rows { AreRows rows.new }
+{
+    let row = &mut rows[pid];
+    row.refer(fd, opened);
+}
+
+/// Whether no process runs.
+pub fn is_idle(rows: &[Row]) -> bool
+    requires { AreRows rows.now }
+    ensures { IsTrue result ↔ (processes rows.now ≡ no_processes) }
+{
+    for pid in 0..rows.len() {
+        if is_running(rows, pid) {
+            return false;
+        }
+    }
+    true
+}
+
+/// Whether the rows say the same of each process.
+pub fn same_rows(rows: &[Row], others: &[Row]) -> bool
+    ensures { IsTrue result ↔ (processes rows.now ≡ processes others.now) }
+{
+    for pid in 0..rows.len().max(others.len()) {
+        if !row_at(rows, pid).same(&row_at(others, pid)) {
+            return false;
+        }
+    }
+    true
+}

@@ -1,0 +1,81 @@
+//! One node and one token server in a program of its own, which carries the messages between them: a process
+//! begins, opens a file and sets a lock, and each reply is printed.
+#![tactic(auto)]
+
+use messages::items::Items;
+use messages::message::Message;
+use messages::outcome::Outcome;
+use messages::refusal::StepError;
+use messages::shape::Shape;
+use model::access::Access;
+use model::mode::Mode;
+use model::op::Op;
+use model::owner::Kind;
+use model::policy::Policy;
+use node_core::event::NodeEvent;
+use node_core::node::Node;
+use std::alloc::Global;
+use token_server::event::ServerEvent;
+use token_server::server::Server;
+
+const CALLS: [Op; 3] = [
+    Op::Spawn,
+    Op::Open {
+        file: 1,
+        access: Access::ReadWrite,
+    },
+    Op::Set {
+        fd: 0,
+        kind: Kind::OfProcess,
+        mode: Mode::Write,
+        start: 0,
+        len: 100,
+    },
+];
+
+fn main(rt: HostRuntime) -> anyhow::Result<()> {
+    let alloc = rt.alloc();
+    let shape = Shape::new(1, 1, Policy::Wide)?;
+    let mut node = Node::new(alloc, shape, 1, 1)?;
+    let mut server = Server::new(alloc, shape, 1)?;
+    for op in CALLS {
+        call(&rt, &mut node, &mut server, op)?;
+    }
+    Ok(())
+}
+
+// Process 1 calls. Where its node has no token for the bytes it sends a request, and the server grants it.
+fn call(rt: &HostRuntime, node: &mut Node, server: &mut Server, op: Op) -> anyhow::Result<()> {
+    let alloc = rt.alloc();
+    let requests = at_node(rt, node, &NodeEvent::Call { pid: 1, op })?;
+    for request in requests.as_slice() {
+        let grants = at_server(alloc, server, &ServerEvent::Deliver(*request))?;
+        for grant in grants.as_slice() {
+            let taken = at_node(rt, node, &NodeEvent::Deliver(*grant))?;
+            for message in taken.as_slice() {
+                at_server(alloc, server, &ServerEvent::Deliver(*message))?;
+            }
+        }
+    }
+    Ok(())
+}
+
+// Lets the event happen at the node, prints the reply if a call is answered, and answers what is sent.
+fn at_node(rt: &HostRuntime, node: &mut Node, event: &NodeEvent) -> anyhow::Result<Items<Message>> {
+    let change = node.plan(rt.alloc(), event)?;
+    let Outcome { reply, sends, .. } = node.apply(change);
+    if let Some((call, reply)) = reply {
+        println!(rt; "call {}: {reply:?}", call.number)?;
+    }
+    Ok(sends)
+}
+
+// Lets the event happen at the server, and answers what is sent.
+fn at_server(
+    alloc: Global,
+    server: &mut Server,
+    event: &ServerEvent,
+) -> Result<Items<Message>, StepError> {
+    let change = server.plan(alloc, event)?;
+    Ok(server.apply(change).sends)
+}

@@ -1,0 +1,258 @@
+-- The processes of each node, looked up and changed by the node.
+use Rattle.std.proofs.Common.{rules, ◌≡◌, ℕ, Bool, true, false, ◌&&◌, ◌==◌, cond, if◌then◌else◌, refl, sym, ◌∙◌, ap, subst, inl, inr, List, [], Option, Some, None, IsSome, is_some, unwrap_or}
+use Rattle.std.specs.Cmp.{nat_eq_equiv}
+use Rattle.std.specs.declared.hash.FoldHasher.{FoldHasher}
+use Rattle.std.specs.declared.hash.BuildHasherDefault.{BuildHasherDefault}
+use Rattle.std.specs.HashMap.{HashMap, Updates, UpdatesBy, WritesThrough}
+use Rattle.std.specs.Map.{lookup}
+use Rattle.std.proofs.lemmas.Bool.{cases_Bool, and_parts, eqb-true}
+use Rattle.model.specs.declared.host.Host.{Host}
+use Rattle.model.specs.declared.opened.Opened.{Opened}
+use Rattle.model.specs.contracts.host.HostPartialEq.TheImpl as derived
+use Rattle.model.specs.Limits.{IsHost}
+use Rattle.model.specs.Descriptors.{Processes, no_processes, with_process}
+use Rattle.model.specs.Owners.{same_host}
+use Rattle.descriptors.specs.declared.row.Row.{Row}
+use Rattle.descriptors.specs.declared.edit.ProcessEdit.{ProcessEdit}
+use Rattle.descriptors.specs.Rows.{processes}
+use Rattle.descriptors.specs.Edits.{edited, Fits}
+use Rattle.fcntl_table.specs.Hosts.{HostRows, AreHosts, Closes, ClosesOn, FitsOn, IsKept, processes_of, with_host}
+
+abbrev at : ℕ → ℕ → Host
+at node incarnation = record { node = node; incarnation = incarnation }
+
+-- what is kept of a node
+abbrev kept : HostRows → Host → Option (List Row)
+kept hosts host = lookup (derived.ghosts.eq host) hosts
+
+-- the map
+abbrev Map : Type 0
+Map = HashMap Host (List Row) (BuildHasherDefault FoldHasher)
+
+-- the derived `==` of nodes is the test of the definitions
+host_eq : (a b : Host) → derived.ghosts.eq a b ≡ same_host a b
+host_eq a b = search rules
+
+host_symm : (a b : Host) → same_host a b ≡ same_host b a
+host_symm a b i = nat_eq_equiv.symm a.node b.node i && nat_eq_equiv.symm a.incarnation b.incarnation i
+
+-- so a look-up is by that test
+kept-by_test : (hosts : HostRows) (host : Host) → kept hosts host ≡ lookup (same_host host) hosts
+kept-by_test hosts host = ap (λ (eq : Host → Host → Bool). lookup (eq host) hosts) (λ i a b. host_eq a b i)
+
+-- the processes of a node by what is kept of it
+abbrev by_kept : Option (List Row) → Processes
+by_kept rows = processes (unwrap_or rows [])
+
+none_run : processes [] ≡ no_processes
+unfolding processes
+none_run = refl
+
+processes-kept : (hosts : HostRows) (host : Host) → processes_of hosts host.node host.incarnation ≡ by_kept (kept hosts host)
+unfolding processes_of
+processes-kept hosts host = ap by_kept (sym (kept-by_test hosts host))
+
+pub processes-found : (hosts : HostRows) (host : Host) (rows : List Row) → Some rows ≡ kept hosts host → processes_of hosts host.node host.incarnation ≡ processes rows
+processes-found hosts host rows is = processes-kept hosts host ∙ ap by_kept (sym is)
+
+pub processes-not_found : (hosts : HostRows) (host : Host) → None ≡ kept hosts host → processes_of hosts host.node host.incarnation ≡ no_processes
+processes-not_found hosts host is = processes-kept hosts host ∙ (ap by_kept (sym is) ∙ none_run)
+
+pub processes-empty : (hosts : HostRows) (node incarnation : ℕ) → hosts ≡ [] → processes_of hosts node incarnation ≡ no_processes
+unfolding processes_of
+processes-empty hosts node incarnation none = ap (λ es. by_kept (lookup (same_host (at node incarnation)) es)) none ∙ none_run
+
+-- these rows are kept of the host, and of the others what was
+abbrev pub Keeps : HostRows → Host → List Row → HostRows → Type 0
+Keeps old host rows new = (q : Host) → kept new q ≡ cond (derived.ghosts.eq host q) (Some rows) (kept old q)
+
+by_either : (b : Bool) (rows : List Row) (before : Option (List Row)) → by_kept (cond b (Some rows) before) ≡ cond b (processes rows) (by_kept before)
+by_either true rows before = refl
+by_either false rows before = refl
+
+processes-put : (old new : HostRows) (host : Host) (rows : List Row) → Keeps old host rows new → processes_of new ≡ with_host (processes_of old) host (processes rows)
+processes-put old new host rows keeps j n i = put (at n i) j
+  where
+    put : (q : Host) → processes_of new q.node q.incarnation ≡ with_host (processes_of old) host (processes rows) q.node q.incarnation
+    put q =
+        processes-kept new q
+        ∙ (ap by_kept (keeps q)
+        ∙ (by_either (derived.ghosts.eq host q) rows (kept old q)
+        ∙ (ap (λ (b : Bool). cond b (processes rows) (by_kept (kept old q))) (host_eq host q ∙ host_symm host q)
+        ∙ ap (λ (ps : Processes). cond (same_host q host) (processes rows) ps) (sym (processes-kept old q)))))
+
+-- the processes of a node were these, and are those now; on the others nothing changes
+pub record Changes (old : HostRows) (host : Host) (before after : Processes) (new : HostRows) : Type 0 where
+  pub was : processes_of old host.node host.incarnation ≡ before
+  pub is : processes_of new ≡ with_host (processes_of old) host after
+
+-- what is written through a loan of what is kept of a node
+keeps-written : (m new : Map) (host : Host) (rows written : List Row) → Some rows ≡ kept m.entries host → WritesThrough derived.ghosts.eq (derived.ghosts.eq host) m written new → Keeps m.entries host written new.entries
+keeps-written m new host rows written is through = (through.3 (some is)).0
+  where
+    some : {x : Option (List Row)} → Some rows ≡ x → IsSome x
+    some e = rw (← e) refl
+
+pub changes-written : (old : HostRows) (m new : Map) (host : Host) (rows written : List Row) → m.entries ≡ old → Some rows ≡ kept m.entries host → WritesThrough derived.ghosts.eq (derived.ghosts.eq host) m written new → Changes old host (processes rows) (processes written) new.entries
+changes-written old m new host rows written same is through =
+    let P : HostRows → Type 0 = λ es. Changes es host (processes rows) (processes written) new.entries in
+    subst P same (record { was = processes-found m.entries host rows is; is = processes-put m.entries new.entries host written (keeps-written m new host rows written is through) })
+
+-- what is put in, where nothing was kept
+pub changes-inserted : (old : HostRows) (between m new : Map) (host : Host) (before rows : List Row) → m.entries ≡ old → None ≡ kept m.entries host → processes before ≡ no_processes → between ≡ m → Updates derived.ghosts.eq between new host (Some rows) → Changes old host (processes before) (processes rows) new.entries
+changes-inserted old between m new host before rows same none empty is updates =
+    let P : HostRows → Type 0 = λ es. Changes es host (processes before) (processes rows) new.entries in
+    let Q : Map → Type 0 = λ x. Keeps x.entries host rows new.entries in
+    subst P same (record { was = processes-not_found m.entries host none ∙ sym empty; is = processes-put m.entries new.entries host rows (subst Q is updates.0) })
+
+-- the node runs what it ran
+pub with_host-same : (on : ℕ → ℕ → Processes) (host : Host) → with_host on host (on host.node host.incarnation) ≡ on
+with_host-same on host j n i = same n i j
+  where
+    same : (n i : ℕ) → with_host on host (on host.node host.incarnation) n i ≡ on n i
+    same n i = elim (cases_Bool ((n == host.node) && (i == host.incarnation))) [
+      | inl is ↦
+          let parts = and_parts _ _ is in
+          let node : n ≡ host.node = eqb-true _ _ parts.0 in
+          let incarnation : i ≡ host.incarnation = eqb-true _ _ parts.1 in
+          rw is (λ k. on (sym node k) (sym incarnation k))
+      | inr differs ↦ rw differs refl
+    ]
+
+-- where nothing is kept, nothing changes
+pub changes-nothing : (old : HostRows) (m new : Map) (host : Host) → m.entries ≡ old → None ≡ kept m.entries host → new ≡ m → Changes old host no_processes no_processes new.entries
+changes-nothing old m new host same none stays =
+    let not_found = processes-not_found old host (none ∙ ap (λ es. kept es host) same) in
+    record {
+      was = not_found;
+      is = ap processes_of (ap (λ (x : Map). x.entries) stays ∙ same) ∙ (sym (with_host-same (processes_of old) host) ∙ ap (with_host (processes_of old) host) not_found);
+    }
+
+-- each is still a node that can be
+hosts-kept : (old new : HostRows) (host : Host) (rows : List Row) → AreHosts old → IsHost host.node host.incarnation → Keeps old host rows new → AreHosts new
+hosts-kept old new host rows are is keeps q found some =
+    by (derived.ghosts.eq host q) (host_eq host q) (sym (keeps q) ∙ (kept-by_test new q ∙ some))
+  where
+    by : (b : Bool) → b ≡ same_host host q → cond b (Some rows) (kept old q) ≡ Some found → IsHost q.node q.incarnation
+    by true same e =
+        let parts = and_parts _ _ (sym same) in
+        let node : host.node ≡ q.node = eqb-true _ _ parts.0 in
+        let incarnation : host.incarnation ≡ q.incarnation = eqb-true _ _ parts.1 in
+        let P : ℕ → Type 0 = λ n. IsHost n host.incarnation in
+        let Q : ℕ → Type 0 = λ n. IsHost q.node n in
+        subst Q incarnation (subst P node is)
+    by false same e = are q found (sym (kept-by_test old q) ∙ e)
+
+pub hosts-written : (m new : Map) (host : Host) (rows written : List Row) → AreHosts m.entries → Some rows ≡ kept m.entries host → WritesThrough derived.ghosts.eq (derived.ghosts.eq host) m written new → AreHosts new.entries
+hosts-written m new host rows written are is through =
+    hosts-kept m.entries new.entries host written are (are host rows (sym (kept-by_test m.entries host) ∙ sym is)) (keeps-written m new host rows written is through)
+
+pub hosts-inserted : (between m new : Map) (host : Host) (rows : List Row) → AreHosts m.entries → IsHost host.node host.incarnation → between ≡ m → Updates derived.ghosts.eq between new host (Some rows) → AreHosts new.entries
+hosts-inserted between m new host rows are is same updates =
+    let Q : Map → Type 0 = λ x. Keeps x.entries host rows new.entries in
+    hosts-kept m.entries new.entries host rows are is (subst Q same updates.0)
+
+pub hosts-same : (m new : Map) → AreHosts m.entries → new ≡ m → AreHosts new.entries
+hosts-same m new are same =
+    let P : Map → Type 0 = λ x. AreHosts x.entries in
+    subst P (sym same) are
+
+-- on what can be no node none runs
+pub not_host-idle : (hosts : HostRows) (node incarnation pid : ℕ) → AreHosts hosts → (IsHost node incarnation → ⊥) → (processes_of hosts node incarnation).runs pid ≡ false
+unfolding processes_of
+not_host-idle hosts node incarnation pid are none = by (lookup (same_host (at node incarnation)) hosts) refl
+  where
+    by : (rows : Option (List Row)) → lookup (same_host (at node incarnation)) hosts ≡ rows → (by_kept rows).runs pid ≡ false
+    by None e = ap (λ (ps : Processes). ps.runs pid) none_run
+    by (Some rows) e = absurd (none (are (at node incarnation) rows e))
+
+-- what is true of the processes of a node by what is kept of it
+pub by_found : (P : Processes → Type 0) (hosts : HostRows) (host : Host) (rows : List Row) → Some rows ≡ kept hosts host → P (processes rows) → P (processes_of hosts host.node host.incarnation)
+by_found P hosts host rows is p = subst P (sym (processes-found hosts host rows is)) p
+
+pub by_not_found : (P : Processes → Type 0) (hosts : HostRows) (host : Host) → None ≡ kept hosts host → P no_processes → P (processes_of hosts host.node host.incarnation)
+by_not_found P hosts host is p = subst P (sym (processes-not_found hosts host is)) p
+
+-- an edit of what is kept of the node
+pub fits_on : (hosts : HostRows) (host : Host) (rows : List Row) (edit : ProcessEdit) → Some rows ≡ kept hosts host → Fits rows edit → FitsOn hosts host edit
+fits_on hosts host rows edit is fits = record { rows = rows; kept = sym (is ∙ kept-by_test hosts host); fits = fits }
+
+-- is an edit of the rows that are found
+pub fits_found : (hosts : HostRows) (host : Host) (rows : List Row) (edit : ProcessEdit) → Some rows ≡ kept hosts host → FitsOn hosts host edit → Fits rows edit
+fits_found hosts host rows edit is on =
+    let same : Some rows ≡ Some on.rows = is ∙ (kept-by_test hosts host ∙ on.kept) in
+    let e : on.rows ≡ rows = cc in
+    subst (λ (r : List Row). Fits r edit) e on.fits
+
+-- nothing is kept
+pub not_kept : (hosts : HostRows) (host : Host) (b : Bool) → b ≡ is_some (kept hosts host) → b ≡ false → None ≡ kept hosts host
+not_kept hosts host b is none = by (kept hosts host) (sym is ∙ none)
+  where
+    by : (r : Option (List Row)) → is_some r ≡ false → None ≡ r
+    by None e = refl
+    by (Some rows) e = absurd (cc)
+
+-- processes of which none runs are put in where nothing was kept
+pub admitted : (old new : HostRows) (host : Host) (rows : List Row) → Changes old host (processes rows) (processes rows) new → processes_of new ≡ processes_of old
+admitted old new host rows changes = changes.is ∙ (ap (with_host (processes_of old) host) (sym changes.was) ∙ with_host-same (processes_of old) host)
+
+-- an edit that is made in the processes of a node
+pub made_on : (old new : HostRows) (host : Host) (before after : Processes) (edit : ProcessEdit) → Changes old host before after new → after ≡ edited before edit → processes_of new ≡ with_host (processes_of old) host (edited (processes_of old host.node host.incarnation) edit)
+made_on old new host before after edit changes is =
+    changes.is ∙ ap (with_host (processes_of old) host) (is ∙ ap (λ (ps : Processes). edited ps edit) (sym changes.was))
+
+-- a descriptor that is closed by the processes of its node
+pub closes_on : (old new : HostRows) (host : Host) (pid fd : ℕ) (before after : Processes) (closed : Option (Opened × Bool)) → Changes old host before after new → Closes before pid fd closed after → ClosesOn old host pid fd closed new
+closes_on old new host pid fd before after closed changes closes =
+    let P : Processes → Type 0 = λ x. Closes x pid fd closed after in
+    (after, subst P (sym changes.was) closes, changes.is)
+
+-- a process that ends on its node
+pub ended : (old new : HostRows) (host : Host) (pid : ℕ) (before after : Processes) → Changes old host before after new → after ≡ with_process before pid false (λ fd. None) → processes_of new ≡ with_host (processes_of old) host (with_process (processes_of old host.node host.incarnation) pid false (λ fd. None))
+ended old new host pid before after changes is =
+    changes.is ∙ ap (with_host (processes_of old) host) (is ∙ ap (λ (ps : Processes). with_process ps pid false (λ fd. None)) (sym changes.was))
+
+pub ended-nowhere : (pid : ℕ) → no_processes ≡ with_process no_processes pid false (λ fd. None)
+ended-nowhere pid i = record {
+  runs = λ q. either (q == pid) false i;
+  opened = λ q fd. either (q == pid) (none fd) i;
+}
+  where
+    none : ℕ → Option Opened
+    none fd = None
+
+    either : {A : Type 0} (b : Bool) (x : A) → x ≡ (if b then x else x)
+    either true x = refl
+    either false x = refl
+
+-- a host of which none runs is kept no longer
+abbrev pub Removes : HostRows → Host → HostRows → Type 0
+Removes old host new = (q : Host) → kept new q ≡ cond (derived.ghosts.eq host q) None (kept old q)
+
+by_none : (b : Bool) (before : Option (List Row)) → by_kept (cond b None before) ≡ cond b no_processes (by_kept before)
+by_none true before = none_run
+by_none false before = refl
+
+processes-removed : (old new : HostRows) (host : Host) → Removes old host new → processes_of new ≡ with_host (processes_of old) host no_processes
+processes-removed old new host removes j n i = put (at n i) j
+  where
+    put : (q : Host) → processes_of new q.node q.incarnation ≡ with_host (processes_of old) host no_processes q.node q.incarnation
+    put q =
+        processes-kept new q
+        ∙ (ap by_kept (removes q)
+        ∙ (by_none (derived.ghosts.eq host q) (kept old q)
+        ∙ (ap (λ (b : Bool). cond b no_processes (by_kept (kept old q))) (host_eq host q ∙ host_symm host q)
+        ∙ ap (λ (ps : Processes). cond (same_host q host) no_processes ps) (sym (processes-kept old q)))))
+
+pub forgotten : (old : HostRows) (m new : Map) (host : Host) → m.entries ≡ old → processes_of old host.node host.incarnation ≡ no_processes → UpdatesBy derived.ghosts.eq (derived.ghosts.eq host) m new None → processes_of new.entries ≡ processes_of old
+forgotten old m new host same idle updates =
+    let P : HostRows → Type 0 = λ es. Removes es host new.entries in
+    processes-removed old new.entries host (subst P same updates.0)
+    ∙ (ap (with_host (processes_of old) host) (sym idle) ∙ with_host-same (processes_of old) host)
+
+pub hosts-removed : (m new : Map) (host : Host) → AreHosts m.entries → UpdatesBy derived.ghosts.eq (derived.ghosts.eq host) m new None → AreHosts new.entries
+hosts-removed m new host are updates q found some = by (derived.ghosts.eq host q) (sym (updates.0 q) ∙ (kept-by_test new.entries q ∙ some))
+  where
+    by : (b : Bool) → cond b None (kept m.entries q) ≡ Some found → IsHost q.node q.incarnation
+    by true e = absurd (cc)
+    by false e = are q found (sym (kept-by_test m.entries q) ∙ e)

@@ -1,0 +1,4 @@
+pub mod TargetLaws
+pub mod HostLaws
+pub mod TableLaws
+pub mod ExitLaws

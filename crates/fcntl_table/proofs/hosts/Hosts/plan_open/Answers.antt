@@ -1,0 +1,28 @@
+use Rattle.std.proofs.Common.{◌≡◌, refl}
+use Rattle.std.specs.Prelude.{Ok, Err, IfOk, IfErr}
+use Rattle.std.proofs.lemmas.Result.{IfOk-weaker}
+use Rattle.model.specs.declared.reply.Reply.TheVariants.{Fd, NoProcess}
+use Rattle.model.specs.Descriptors.{Processes, after_open}
+use Rattle.descriptors.specs.Rows.{Refuses}
+use Rattle.descriptors.specs.Edits.{edited}
+use Rattle.fcntl_table.proofs.HostLaws.{by_found, by_not_found, fits_on}
+use Rattle.fcntl_table.proofs.hosts.Hosts.plan_open.Goals as goal
+
+pub returns-in-Some-clause-ok : goal.returns-in-Some-clause-ok
+returns-in-Some-clause-ok c =
+    let P : Processes → Type 0 = λ ps. IfOk c.plan_open.result (λ planned. after_open ps c.args.pid c.args.file c.args.access ≡ Ok (edited ps planned.0, Fd planned.1)) in
+    rw (← c.self.view_is) (by_found P _ c.args.host c.in-Some.node.now c.in-Some.ensures.value c.plan_open.ensures.ok)
+
+pub returns-in-Some-clause-err : goal.returns-in-Some-clause-err
+returns-in-Some-clause-err c =
+    let P : Processes → Type 0 = λ ps. IfErr c.plan_open.result (λ error. Refuses error (after_open ps c.args.pid c.args.file c.args.access)) in
+    rw (← c.self.view_is) (by_found P _ c.args.host c.in-Some.node.now c.in-Some.ensures.value c.plan_open.ensures.err)
+
+pub returns-in-Some-clause-fits : goal.returns-in-Some-clause-fits
+returns-in-Some-clause-fits c =
+    rw (← c.self.view_is) (IfOk-weaker c.plan_open.result _ _ (λ planned fits. fits_on c.self.inside.by_host.entries c.args.host c.in-Some.node.now planned.0 c.in-Some.ensures.value fits) c.plan_open.ensures.fits)
+
+pub returns-in-None-clause-err : goal.returns-in-None-clause-err
+returns-in-None-clause-err c =
+    let P : Processes → Type 0 = λ ps. after_open ps c.args.pid c.args.file c.args.access ≡ Err NoProcess in
+    rw (← c.self.view_is) (by_not_found P _ c.args.host c.in-None.ensures.value refl)

@@ -1,0 +1,5 @@
+use Rattle.fcntl_table.proofs.TableLaws.{table-empty}
+use Rattle.fcntl_table.proofs.table.FcntlTable.new.Goals as goal
+
+pub returns : goal.returns
+returns c = table-empty _ c.new.ensures c.new-2.ensures

@@ -1,0 +1,59 @@
+-- The processes of each node.
+use Rattle.std.specs.Prelude.{◌≡◌, ℕ, ◌==◌, ◌&&◌, not, Bool, true, if◌then◌else◌, List, [], Option, Some, None, IsSome, unwrap_or}
+use Rattle.std.specs.Map.{lookup}
+use Rattle.model.specs.declared.host.Host.{Host}
+use Rattle.model.specs.declared.opened.Opened.{Opened}
+use Rattle.model.specs.declared.process.Process.{Process}
+use Rattle.model.specs.Limits.{IsHost}
+use Rattle.model.specs.Locks.{Locks}
+use Rattle.model.specs.Descriptors.{Processes, is_open, with_descriptor}
+use Rattle.model.specs.Table.{Table}
+use Rattle.model.specs.Owners.{same_host}
+use Rattle.descriptors.specs.declared.row.Row.{Row}
+use Rattle.descriptors.specs.declared.edit.ProcessEdit.{ProcessEdit}
+use Rattle.descriptors.specs.Rows.{processes}
+use Rattle.descriptors.specs.Edits.{Fits}
+
+-- by the node in its incarnation: rows of its processes
+abbrev pub HostRows : Type 0
+HostRows = List (Host × List Row)
+
+-- each is a node that can be
+abbrev pub AreHosts : HostRows → Type 0
+AreHosts hosts = (q : Host) (rows : List Row) → lookup (same_host q) hosts ≡ Some rows → IsHost q.node q.incarnation
+
+-- the processes of each node in each incarnation; none where none is kept
+unfoldable pub processes_of : HostRows → ℕ → ℕ → Processes
+processes_of hosts node incarnation = processes (unwrap_or (lookup (same_host (record { node = node; incarnation = incarnation })) hosts) [])
+
+-- the processes of each node, but these on one
+abbrev pub with_host : (ℕ → ℕ → Processes) → Host → Processes → ℕ → ℕ → Processes
+with_host on host ps n i = if (n == host.node) && (i == host.incarnation) then ps else on n i
+
+-- the process of that number on the node
+abbrev pub process_at : Host → ℕ → Process
+process_at host pid = record { node = host.node; incarnation = host.incarnation; pid = pid }
+
+-- the table with these processes and locks
+abbrev pub table_with : HostRows → Locks → Table
+table_with hosts locks = record { on = processes_of hosts; locks = locks }
+
+-- something is kept of the node
+abbrev pub IsKept : HostRows → Host → Type 0
+IsKept hosts host = IsSome (lookup (same_host host) hosts)
+
+-- rows are kept of the node, and the edit can be made in them
+pub record FitsOn (hosts : HostRows) (host : Host) (edit : ProcessEdit) : Type 0 where
+  pub rows : List Row
+  pub kept : lookup (same_host host) hosts ≡ Some rows
+  pub fits : Fits rows edit
+
+-- a descriptor is closed: it referred to this, and the description went or not. Where there is none, nothing changes
+abbrev pub Closes : Processes → ℕ → ℕ → Option (Opened × Bool) → Processes → Type 0
+Closes old pid fd None new = (old.runs pid ≡ true → old.opened pid fd ≡ None) × (new ≡ old)
+Closes old pid fd (Some closed) new = (old.opened pid fd ≡ Some closed.0) × (new ≡ with_descriptor old pid fd None) × (closed.1 ≡ not (is_open new closed.0.description))
+
+-- so it is on the node
+abbrev pub ClosesOn : HostRows → Host → ℕ → ℕ → Option (Opened × Bool) → HostRows → Type 0
+ClosesOn old host pid fd closed new =
+    (ps : Processes) × Closes (processes_of old host.node host.incarnation) pid fd closed ps × (processes_of new ≡ with_host (processes_of old) host ps)

@@ -1,0 +1,4 @@
+pub mod Targets
+pub mod Hosts
+pub mod Tables
+pub mod Edits

@@ -1,0 +1,202 @@
+//! The processes of each host: a node in one of its incarnations.
+ghost use Rattle.std.specs.Prelude.{◌≡◌, ℕ, true, false, None, Ok, IfOk, IfErr, IfSome, IsTrue, ◌↔◌, OnOk, MatchOption};
+ghost use Rattle.model.specs.declared.reply.Reply.TheVariants.{Done, Fd};
+ghost use Rattle.model.specs.Limits.{IsHost, IsNumber, most_processes, most_descriptions};
+ghost use Rattle.model.specs.Descriptors.{no_processes, with_process, after_spawn, after_open};
+ghost use Rattle.descriptors.specs.Rows.{processes, resolved, Refuses};
+ghost use Rattle.descriptors.specs.Edits.{edited};
+ghost use Rattle.fcntl_table.specs.Hosts.{Closes, ClosesOn, FitsOn, IsKept, processes_of, with_host};
+
+use descriptors::edit::ProcessEdit;
+use descriptors::error::{FdError, ProcessError};
+use descriptors::processes::Processes;
+use indexmap::IndexMap;
+use intervals::span_map::NoMemory;
+use model::access::Access;
+use model::host::Host;
+use model::limits::MOST_NODES;
+use model::opened::Opened;
+use std::alloc::Global;
+use std::marker::Model;
+
+/// The processes of each host.
+#[derive(Drop)]
+pub(crate) struct Hosts {
+    alloc: Global,
+    by_host: IndexMap<Host, Processes>,
+}
+
+impl Model for Hosts {
+    ghost use Rattle.fcntl_table.specs.Hosts.{HostRows, AreHosts};
+
+    ghost Value = { HostRows };
+
+    ghost view = { λ h. h.by_host.entries };
+
+    ghost invariant = { λ h. AreHosts h.by_host.entries };
+}
+
+// Whether a node can have that number and incarnation.
+fn is_host(node: u8, incarnation: u16) -> bool
+    ensures { IsTrue result ↔ IsHost node incarnation }
+{
+    1 <= node && node <= MOST_NODES && 1 <= incarnation
+}
+
+// The descriptor is closed. What it referred to, and whether the description went.
+fn close_in(node: &mut Processes, pid: u16, fd: u8) -> Option<(Opened, bool)>
+    ensures closes { Closes (processes node.old) pid fd result (processes node.new) }
+    ensures number { IfSome result (λ closed. IsNumber most_descriptions closed.0.description) }
+{
+    let opened = node.resolve(pid, fd).ok()?;
+    let went = node.close(pid, fd).ok()?;
+    Some((opened, went))
+}
+
+impl Hosts {
+    /// No process runs.
+    pub(crate) fn new(alloc: Global) -> Self
+        ensures { (node incarnation : ℕ) → processes_of result node incarnation ≡ no_processes }
+    {
+        Hosts {
+            alloc,
+            by_host: IndexMap::new(alloc),
+        }
+    }
+
+    /// What the descriptor of the node's process refers to.
+    ///
+    /// # Errors
+    /// Those of `Processes::resolve`.
+    pub(crate) fn resolve(&self, host: Host, pid: u16, fd: u8) -> Result<Opened, FdError>
+        ensures value { result ≡ resolved (processes_of self.now host.node host.incarnation) pid fd }
+        ensures number { IfOk result (λ opened. IsNumber most_descriptions opened.description) }
+    {
+        match self.by_host.get(&host) {
+            Some(node) => node.resolve(pid, fd),
+            None => Err(FdError::NoProcess),
+        }
+    }
+
+    /// Something is kept of the host from now on, be there no process that runs.
+    ///
+    /// # Errors
+    /// `NoMemory`.
+    pub(crate) fn admit(&mut self, host: Host) -> Result<(), NoMemory>
+        ensures same { processes_of self.new ≡ processes_of self.old }
+        ensures kept { OnOk result (IsKept self.new host) }
+    {
+        if self.by_host.contains_key(&host) {
+            return Ok(());
+        }
+        let _ = &host.node; // tells the proof which nodes there can be
+        self.by_host.insert(host, Processes::new(self.alloc))?;
+        Ok(())
+    }
+
+    /// What a process that begins on the host would change.
+    ///
+    /// # Errors
+    /// Those of `Processes::spawn`.
+    pub(crate) fn plan_spawn(&self, host: Host, pid: u16) -> Result<ProcessEdit, ProcessError>
+        requires kept { IsKept self.now host }
+        requires number { IsNumber most_processes pid }
+        ensures ok { IfOk result (λ edit. after_spawn (processes_of self.now host.node host.incarnation) pid ≡ Ok (edited (processes_of self.now host.node host.incarnation) edit, Done)) }
+        ensures err { IfErr result (λ error. Refuses error (after_spawn (processes_of self.now host.node host.incarnation) pid)) }
+        ensures fits { IfOk result (FitsOn self.now host) }
+    {
+        let Some(node) = self.by_host.get(&host) else {
+            unreachable!()
+        };
+        node.plan_spawn(pid)
+    }
+
+    /// What a process of the host that opens the file would change, and the descriptor.
+    ///
+    /// # Errors
+    /// Those of `Processes::open`.
+    pub(crate) fn plan_open(
+        &self,
+        host: Host,
+        pid: u16,
+        file: u16,
+        access: Access,
+    ) -> Result<(ProcessEdit, u8), ProcessError>
+        ensures ok { IfOk result (λ planned. after_open (processes_of self.now host.node host.incarnation) pid file access ≡ Ok (edited (processes_of self.now host.node host.incarnation) planned.0, Fd planned.1)) }
+        ensures err { IfErr result (λ error. Refuses error (after_open (processes_of self.now host.node host.incarnation) pid file access)) }
+        ensures fits { IfOk result (λ planned. FitsOn self.now host planned.0) }
+    {
+        match self.by_host.get(&host) {
+            Some(node) => node.plan_open(pid, file, access),
+            None => Err(ProcessError::NoProcess),
+        }
+    }
+
+    /// Makes a planned change. Takes no memory.
+    pub(crate) fn apply(&mut self, host: Host, edit: ProcessEdit)
+        requires { FitsOn self.old host edit }
+        ensures { processes_of self.new ≡ with_host (processes_of self.old) host (edited (processes_of self.old host.node host.incarnation) edit) }
+    {
+        let Some(node) = self.by_host.get_mut(&host) else {
+            unreachable!()
+        };
+        node.apply(edit);
+    }
+
+    /// The node in its incarnation, if there can be one; else none of its processes runs.
+    pub(crate) fn host(&self, node: u8, incarnation: u16) -> Option<Host>
+        ensures { MatchOption result ((pid : ℕ) → (processes_of self.now node incarnation).runs pid ≡ false) (λ host. (host.node ≡ node) × (host.incarnation ≡ incarnation)) }
+    {
+        let _ = &self.by_host; // tells the proof whose processes are kept
+        if !is_host(node, incarnation) {
+            return None;
+        }
+        Some(Host { node, incarnation })
+    }
+
+    /// Whether the process runs on the node.
+    pub(crate) fn is_running(&self, host: Host, pid: u16) -> bool
+        ensures { result ≡ (processes_of self.now host.node host.incarnation).runs pid }
+    {
+        self.resolve(host, pid, 0) != Err(FdError::NoProcess)
+    }
+
+    /// The descriptor of the node's process is closed. Answers what it referred to, and whether the
+    /// description went; `None` where the process has no such descriptor.
+    pub(crate) fn close(&mut self, host: Host, pid: u16, fd: u8) -> Option<(Opened, bool)>
+        ensures closes { ClosesOn self.old host pid fd result self.new }
+        ensures number { IfSome result (λ closed. IsNumber most_descriptions closed.0.description) }
+    {
+        let node = self.by_host.get_mut(&host)?;
+        close_in(node, pid, fd)
+    }
+
+    /// The process runs on the node no longer, and has no descriptors.
+    pub(crate) fn end(&mut self, host: Host, pid: u16)
+        ensures { processes_of self.new ≡ with_host (processes_of self.old) host (with_process (processes_of self.old host.node host.incarnation) pid false (λ fd. None)) }
+    {
+        let Some(node) = self.by_host.get_mut(&host) else {
+            return;
+        };
+        node.end(pid);
+    }
+
+    // Whether no process runs on the host.
+    fn is_idle(&self, host: Host) -> bool
+        ensures { result ≡ true → processes_of self.now host.node host.incarnation ≡ no_processes }
+    {
+        match self.by_host.get(&host) {
+            Some(node) => node.is_idle(),
+            None => true,
+        }
+    }
+
+    /// Nothing is kept of the host from now on, if no process runs on it.
+    pub(crate) fn forget_idle(&mut self, host: Host)
+        ensures { processes_of self.new ≡ processes_of self.old }
+    {
+        if self.is_idle(host) {
+            self.by_host.swap_remove(&host);
+        }
+    }
+}

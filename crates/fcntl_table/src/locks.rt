@@ -1,0 +1,30 @@
+//! Replies that tell of refused locks.
+ghost use Rattle.std.specs.Prelude.{◌≡◌, MatchResult};
+
+use lock_table::error::LockError;
+use model::reply::Reply;
+use std::alloc::AllocError;
+
+/// The reply that tells of the refusal.
+///
+/// # Errors
+/// `AllocError` for `NoMemory`, which no reply tells.
+pub fn lock_reply(error: LockError) -> Result<Reply, AllocError>
+    ensures { MatchResult result (λ reply. (error ≡ LockError.NoLocks) × (reply ≡ Reply.NoLocks)) (λ _. error ≡ LockError.NoMemory) }
+{
+    match error {
+        LockError::NoLocks => Ok(Reply::NoLocks),
+        LockError::NoMemory => Err(AllocError),
+    }
+}
+
+#[cfg(test)]
+mod tests {
+    use super::*;
+
+    #[test]
+    fn each_refusal_has_its_reply(rt: HostRuntime) {
+        assert!(rt; lock_reply(LockError::NoLocks) == Ok(Reply::NoLocks));
+        assert!(rt; lock_reply(LockError::NoMemory) == Err(AllocError));
+    }
+}

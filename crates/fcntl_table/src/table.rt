@@ -1,0 +1,250 @@
+//! The table of a single machine.
+ghost use Rattle.std.specs.Prelude.{◌≡◌, None, IfOk, IsTrue, ◌↔◌, OnOk, MatchOption, MatchResult, Result, Err};
+ghost use Rattle.model.specs.Locks.{IsRegion, IsLowestBlocker};
+ghost use Rattle.model.specs.Descriptors.{Processes, after_spawn, after_open};
+ghost use Rattle.model.specs.declared.reply.Reply.{Reply};
+ghost use Rattle.model.specs.Limits.{IsNumber, most_processes};
+ghost use Rattle.model.specs.Table.{empty_table, around, beside, target, lock_within};
+ghost use Rattle.model.specs.Step.{Is, Unblocked};
+ghost use Rattle.descriptors.specs.Rows.{Refuses};
+ghost use Rattle.fcntl_table.specs.declared.edit.TableEdit.TheVariants.{Nothing};
+ghost use Rattle.fcntl_table.specs.Targets.{IsOwn, IsSpan};
+ghost use Rattle.fcntl_table.specs.Tables.{table_of, Keeps};
+ghost use Rattle.fcntl_table.specs.Edits.{edited, Fits};
+
+use crate::edit::{Planned, TableEdit};
+use crate::hosts::Hosts;
+use crate::locks::lock_reply;
+use crate::target::target_at;
+use descriptors::error::ProcessError;
+use intervals::span::Span;
+use intervals::span_map::NoMemory;
+use lock_table::lock_table::LockTable;
+use model::access::Access;
+use model::host::Host;
+use model::lock_call::LockCall;
+use model::lock_info::LockInfo;
+use model::mode::Mode;
+use model::owner::Kind;
+use model::process::Process;
+use model::reply::Reply;
+use std::alloc::Global;
+
+mod exits;
+
+/// The table that a single machine's `fcntl` keeps: the processes of hosts (each a node in one of its
+/// incarnations), what each of their descriptors refers to, and the locks of each file. A call is
+/// planned on the table as it is, and made by `apply`, which takes no memory. A call that answers an
+/// error leaves the table as it was.
+#[derive(Drop)]
+pub struct FcntlTable {
+    hosts: Hosts,
+    locks: LockTable,
+}
+
+// The host of a process.
+fn host_of(process: Process) -> Host
+    ensures { result ≡ record { node = process.node; incarnation = process.incarnation } }
+{
+    Host {
+        node: process.node,
+        incarnation: process.incarnation,
+    }
+}
+
+// What a call that is refused so comes to.
+fn refused(error: ProcessError) -> Result<Planned, NoMemory>
+    ensures { MatchResult result (λ planned. (planned.edit ≡ Nothing) × ((answer : Result (Processes × Reply) Reply) → Refuses error answer → answer ≡ Err planned.reply)) (λ _. error ≡ ProcessError.NoMemory) }
+{
+    Ok(Planned {
+        edit: TableEdit::Nothing,
+        reply: error.reply()?,
+    })
+}
+
+impl FcntlTable {
+    /// The table in which no process runs, nothing is open and no byte is locked.
+    pub fn new(alloc: Global) -> Self
+        ensures { table_of result ≡ empty_table }
+    {
+        FcntlTable {
+            hosts: Hosts::new(alloc),
+            locks: LockTable::new(alloc),
+        }
+    }
+
+    /// The table keeps processes of the host from now on, be there none that runs.
+    ///
+    /// # Errors
+    /// `NoMemory`.
+    #[tactic(auto, unfolding(crate::specs::Tables::table_of))]
+    pub fn admit(&mut self, host: Host) -> Result<(), NoMemory>
+        ensures same { table_of self.new ≡ table_of self.old }
+        ensures kept { OnOk result (Keeps self.new host) }
+    {
+        self.hosts.admit(host)
+    }
+
+    /// What a lock call of the process is about.
+    ///
+    /// # Errors
+    /// The reply of the first of its tests that fails: the process, the descriptor, the segment, the open
+    /// mode of the descriptor (POSIX.1-2017 `fcntl()`).
+    pub fn target(
+        &self,
+        process: Process,
+        need: Option<Mode>,
+        fd: u8,
+        kind: Kind,
+        start: i64,
+        len: i64,
+    ) -> Result<LockCall, Reply>
+        ensures value { result ≡ target (table_of self.now) process need fd kind start len }
+        ensures own { IfOk result (λ call. IsOwn process.node process.incarnation call.owner) }
+        ensures span { IfOk result (λ call. IsSpan call.span) }
+    {
+        match self.hosts.resolve(host_of(process), process.pid, fd) {
+            Ok(opened) => target_at(process, need, kind, opened, Span::from_flock(start, len)),
+            Err(error) => Err(error.reply()),
+        }
+    }
+
+    /// The lowest region of another owner that blocks the call (POSIX.1-2017 `fcntl()`, F_GETLK): by first
+    /// byte, then by owner. Takes no memory.
+    #[tactic(auto, unfolding(crate::specs::Tables::table_of))]
+    pub fn blocker(&self, call: LockCall, mode: Mode) -> Option<LockInfo>
+        ensures { MatchOption result (Unblocked (table_of self.now) call mode) (IsLowestBlocker ((table_of self.now).locks call.file) call.owner call.span mode) }
+    {
+        self.locks.blocker(call.owner, call.file, call.span, mode)
+    }
+
+    /// Whether the lock is a region of its owner in the file. Takes no memory.
+    #[tactic(auto, unfolding(crate::specs::Tables::table_of))]
+    pub fn has_region(&self, file: u16, lock: &LockInfo) -> bool
+        ensures { IsTrue result ↔ IsRegion ((table_of self.now).locks file) lock.now }
+    {
+        self.locks.has_region(file, lock)
+    }
+
+    /// What `spawn` would change, and its reply: `Done`, or `Exists` where the process runs already.
+    ///
+    /// # Errors
+    /// `NoMemory`.
+    pub fn plan_spawn(&self, process: Process) -> Result<Planned, NoMemory>
+        requires { Keeps self.now (record { node = process.node; incarnation = process.incarnation }) }
+        ensures ok { IfOk result (λ planned. Is (beside (table_of self.now) process (after_spawn (around (table_of self.now) process) process.pid)) planned.reply (edited (table_of self.now) planned.edit)) }
+        ensures fits { IfOk result (λ planned. Fits self.now planned.edit) }
+    {
+        let host = host_of(process);
+        match self.hosts.plan_spawn(host, process.pid) {
+            Ok(edit) => Ok(Planned {
+                edit: TableEdit::OfProcess { host, edit },
+                reply: Reply::Done,
+            }),
+            Err(error) => refused(error),
+        }
+    }
+
+    /// What `open` would change, and its reply: the descriptor, `NoProcess` or `TooManyFiles`.
+    ///
+    /// # Errors
+    /// `NoMemory`.
+    pub fn plan_open(
+        &self,
+        process: Process,
+        file: u16,
+        access: Access,
+    ) -> Result<Planned, NoMemory>
+        ensures ok { IfOk result (λ planned. Is (beside (table_of self.now) process (after_open (around (table_of self.now) process) process.pid file access)) planned.reply (edited (table_of self.now) planned.edit)) }
+        ensures fits { IfOk result (λ planned. Fits self.now planned.edit) }
+    {
+        let host = host_of(process);
+        match self.hosts.plan_open(host, process.pid, file, access) {
+            Ok((edit, fd)) => Ok(Planned {
+                edit: TableEdit::OfProcess { host, edit },
+                reply: Reply::Fd(fd),
+            }),
+            Err(error) => refused(error),
+        }
+    }
+
+    /// What `lock_within` would change, and its reply: `Done`, or `NoLocks` where the owner would have more
+    /// than 1,024 regions in the file.
+    ///
+    /// # Errors
+    /// `NoMemory`.
+    #[tactic(auto, unfolding(crate::specs::Tables::table_of))]
+    pub fn plan_lock(&self, call: LockCall, mode: Option<Mode>) -> Result<Planned, NoMemory>
+        ensures ok { IfOk result (λ planned. Is (lock_within (table_of self.now) call mode) planned.reply (edited (table_of self.now) planned.edit)) }
+        ensures fits { IfOk result (λ planned. Fits self.now planned.edit) }
+    {
+        match self.locks.plan(call.owner, call.file, call.span, mode) {
+            Ok(edit) => Ok(Planned {
+                edit: TableEdit::OfLocks(edit),
+                reply: Reply::Done,
+            }),
+            Err(error) => Ok(Planned {
+                edit: TableEdit::Nothing,
+                reply: lock_reply(error)?,
+            }),
+        }
+    }
+
+    /// Makes a planned change. Takes no memory.
+    #[tactic(auto, unfolding(crate::specs::Tables::table_of))]
+    pub fn apply(&mut self, edit: TableEdit)
+        requires { Fits self.old edit }
+        ensures { table_of self.new ≡ edited (table_of self.old) edit }
+    {
+        match edit {
+            TableEdit::Nothing => {}
+            TableEdit::OfProcess { host, edit } => self.hosts.apply(host, edit),
+            TableEdit::OfLocks(edit) => self.locks.apply(edit),
+        }
+    }
+
+    /// The process begins, with no descriptors. Answers `Done`, or `Exists` where it runs already.
+    ///
+    /// # Errors
+    /// `NoMemory`.
+    pub fn spawn(&mut self, process: Process) -> Result<Reply, NoMemory>
+        ensures { IfOk result (λ reply. Is (beside (table_of self.old) process (after_spawn (around (table_of self.old) process) process.pid)) reply (table_of self.new)) }
+    {
+        self.admit(host_of(process))?;
+        let Planned { edit, reply } = self.plan_spawn(process)?;
+        self.apply(edit);
+        Ok(reply)
+    }
+
+    /// The process opens the file (POSIX.1-2017 `open()`). Answers the descriptor, `NoProcess` or
+    /// `TooManyFiles`.
+    ///
+    /// # Errors
+    /// `NoMemory`.
+    pub fn open(
+        &mut self,
+        process: Process,
+        file: u16,
+        access: Access,
+    ) -> Result<Reply, NoMemory>
+        ensures { IfOk result (λ reply. Is (beside (table_of self.old) process (after_open (around (table_of self.old) process) process.pid file access)) reply (table_of self.new)) }
+    {
+        let Planned { edit, reply } = self.plan_open(process, file, access)?;
+        self.apply(edit);
+        Ok(reply)
+    }
+
+    /// The bytes of the call are locked in the mode, or freed, whatever other owners hold: a caller that
+    /// wants no two locks to conflict asks `blocker` first. Answers `Done`, or `NoLocks` where the owner
+    /// would have more than 1,024 regions in the file (ENOLCK).
+    ///
+    /// # Errors
+    /// `NoMemory`.
+    pub fn lock_within(&mut self, call: LockCall, mode: Option<Mode>) -> Result<Reply, NoMemory>
+        ensures { IfOk result (λ reply. Is (lock_within (table_of self.old) call mode) reply (table_of self.new)) }
+    {
+        let Planned { edit, reply } = self.plan_lock(call, mode)?;
+        self.apply(edit);
+        Ok(reply)
+    }
+}

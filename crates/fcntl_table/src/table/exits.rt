@@ -1,0 +1,115 @@
+//! Descriptors that are closed, processes that exit, hosts that are gone.
+ghost use Rattle.std.specs.Prelude.{◌≡◌, true};
+ghost use Rattle.model.specs.Limits.{IsNumber, most_of, most_processes};
+ghost use Rattle.model.specs.Table.{is_running, descriptor, closed_if, exited, exited_if, gone};
+ghost use Rattle.fcntl_table.specs.Hosts.{process_at};
+ghost use Rattle.fcntl_table.specs.Tables.{table_of};
+
+use super::{FcntlTable, host_of};
+use model::host::Host;
+use model::limits::{MOST_DESCRIPTORS, MOST_PROCESSES};
+use model::owner::{Kind, Owner};
+use model::process::Process;
+
+// The owner of that kind and number on the node.
+fn owner(host: Host, kind: Kind, number: u16) -> Owner
+    requires { IsNumber (most_of kind) number }
+    ensures { result ≡ record { node = host.node; incarnation = host.incarnation; kind = kind; number = number } }
+{
+    Owner {
+        node: host.node,
+        incarnation: host.incarnation,
+        kind,
+        number,
+    }
+}
+
+impl FcntlTable {
+    /// The node fails: every process of that incarnation exits. Where there can be no such node no
+    /// process runs, so nothing changes. Takes no memory.
+    pub fn gone(&mut self, node: u8, incarnation: u16)
+        ensures { table_of self.new ≡ gone (table_of self.old) node incarnation }
+    {
+        if let Some(host) = self.hosts.host(node, incarnation) {
+            self.exit_all(host);
+            self.forget_idle(host);
+        }
+    }
+
+    // Nothing is kept of the host from now on, if no process runs on it.
+    #[tactic(auto, unfolding(crate::specs::Tables::table_of))]
+    fn forget_idle(&mut self, host: Host)
+        ensures { table_of self.new ≡ table_of self.old }
+    {
+        self.hosts.forget_idle(host);
+    }
+
+    /// The descriptor of the process, if there is one, refers to nothing from now on; the locks of the
+    /// process in that file go, and those of the description if no descriptor refers to it any more
+    /// (POSIX.1-2017 `close()`). Takes no memory.
+    pub fn close(&mut self, process: Process, fd: u8)
+        requires { is_running (table_of self.old) process ≡ true }
+        ensures { table_of self.new ≡ closed_if (table_of self.old) process fd (descriptor (table_of self.old) process fd) }
+    {
+        self.close_if(host_of(process), process.pid, fd);
+    }
+
+    /// The process exits: each of its descriptors is closed, and it runs no longer (POSIX.1-2017
+    /// `_Exit()`). Takes no memory.
+    pub fn exit(&mut self, process: Process)
+        requires { is_running (table_of self.old) process ≡ true }
+        ensures { table_of self.new ≡ exited (table_of self.old) process }
+    {
+        self.exit_on(host_of(process), process.pid);
+    }
+
+    // Every process of the node exits.
+    fn exit_all(&mut self, host: Host)
+        ensures { table_of self.new ≡ gone (table_of self.old) host.node host.incarnation }
+    {
+        for pid in 1..MOST_PROCESSES + 1 {
+            self.exit_if(host, pid);
+        }
+    }
+
+    // The process exits, if it runs.
+    #[tactic(auto, unfolding(crate::specs::Tables::table_of))]
+    fn exit_if(&mut self, host: Host, pid: u16)
+        requires { IsNumber most_processes pid }
+        ensures { table_of self.new ≡ exited_if (table_of self.old) (process_at host pid) }
+    {
+        if self.hosts.is_running(host, pid) {
+            self.exit_on(host, pid);
+        }
+    }
+
+    // The process exits.
+    fn exit_on(&mut self, host: Host, pid: u16)
+        requires number { IsNumber most_processes pid }
+        requires runs { is_running (table_of self.old) (process_at host pid) ≡ true }
+        ensures { table_of self.new ≡ exited (table_of self.old) (process_at host pid) }
+    {
+        for fd in 0..MOST_DESCRIPTORS {
+            self.close_if(host, pid, fd);
+        }
+        self.hosts.end(host, pid);
+    }
+
+    // The descriptor of the process is closed, if there is one.
+    fn close_if(&mut self, host: Host, pid: u16, fd: u8)
+        requires number { IsNumber most_processes pid }
+        requires runs { is_running (table_of self.old) (process_at host pid) ≡ true }
+        ensures { table_of self.new ≡ closed_if (table_of self.old) (process_at host pid) fd
+            (descriptor (table_of self.old) (process_at host pid) fd) }
+    {
+        let Some((opened, went)) = self.hosts.close(host, pid, fd) else {
+            return;
+        };
+        self.locks
+            .drop_owner(owner(host, Kind::OfProcess, pid), opened.file);
+        if went {
+            self.locks
+                .drop_owner_anywhere(owner(host, Kind::OfDescription, opened.description));
+        }
+    }
+}

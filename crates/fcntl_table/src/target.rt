@@ -1,0 +1,137 @@
+//! What a lock call is about.
+ghost use Rattle.std.specs.Prelude.{◌≡◌, Some, Ok, IfOk};
+ghost use Rattle.model.specs.Limits.{IsNumber, most_descriptions};
+ghost use Rattle.model.specs.Table.{permits, allows, owner_of, target_at};
+ghost use Rattle.fcntl_table.specs.Targets.{IsOwn, IsSpan};
+
+use intervals::span::{Span, SpanError};
+use model::access::Access;
+use model::lock_call::LockCall;
+use model::mode::Mode;
+use model::opened::Opened;
+use model::owner::{Kind, Owner};
+use model::process::Process;
+use model::reply::Reply;
+
+// Whether a descriptor that is open so may be used for a lock in this mode.
+fn permits(access: Access, mode: Mode) -> bool
+    ensures { result ≡ permits access mode }
+{
+    match mode {
+        Mode::Read => access != Access::WriteOnly,
+        Mode::Write => access != Access::ReadOnly,
+    }
+}
+
+// Whether it may be used for what the call needs, if it needs anything.
+fn allows(access: Access, need: Option<Mode>) -> bool
+    ensures { result ≡ allows access need }
+{
+    match need {
+        Some(mode) => permits(access, mode),
+        None => true,
+    }
+}
+
+// Whose lock it is: the process's, or the description's.
+fn owner_of(process: Process, kind: Kind, opened: Opened) -> Owner
+    requires { IsNumber most_descriptions opened.description }
+    ensures value { result ≡ owner_of process kind opened }
+    ensures own { IsOwn process.node process.incarnation result }
+{
+    let number = match kind {
+        Kind::OfProcess => process.pid,
+        Kind::OfDescription => opened.description,
+    };
+    Owner {
+        node: process.node,
+        incarnation: process.incarnation,
+        kind,
+        number,
+    }
+}
+
+/// What a lock call of the process is about, by what its descriptor refers to and the bytes that the
+/// call names.
+///
+/// # Errors
+/// The reply of the first test that fails: `Invalid` or `Overflow` for the bytes, `BadFd` for a
+/// descriptor that isn't open for the mode that the call needs.
+pub fn target_at(
+    process: Process,
+    need: Option<Mode>,
+    kind: Kind,
+    opened: Opened,
+    segment: Result<Span, SpanError>,
+) -> Result<LockCall, Reply>
+    requires { IsNumber most_descriptions opened.description }
+    ensures value { result ≡ target_at process need kind (Some opened) segment }
+    ensures own { IfOk result (λ target. IsOwn process.node process.incarnation target.owner) }
+    ensures file { IfOk result (λ target. target.file ≡ opened.file) }
+    ensures span { IfOk result (λ target. IsSpan target.span) }
+{
+    let span = match segment {
+        Ok(span) => span,
+        Err(SpanError::Invalid) => return Err(Reply::Invalid),
+        Err(SpanError::Overflow) => return Err(Reply::Overflow),
+    };
+    let _ = &span.lo; // tells the proof what each span keeps
+    if !allows(opened.access, need) {
+        return Err(Reply::BadFd);
+    }
+    Ok(LockCall {
+        file: opened.file,
+        owner: owner_of(process, kind, opened),
+        span,
+    })
+}
+
+#[cfg(test)]
+mod tests {
+    use super::*;
+
+    const PROCESS: Process = Process {
+        node: 2,
+        incarnation: 1,
+        pid: 3,
+    };
+
+    // What a descriptor that is open for reading refers to.
+    const READER: Opened = Opened {
+        file: 4,
+        description: 5,
+        access: Access::ReadOnly,
+    };
+
+    const SPAN: Span = Span { lo: 0, hi: 9 };
+
+    // What a call on those bytes is about.
+    const TARGET: LockCall = LockCall {
+        file: 4,
+        owner: Owner {
+            node: 2,
+            incarnation: 1,
+            kind: Kind::OfDescription,
+            number: 5,
+        },
+        span: SPAN,
+    };
+
+    #[test]
+    fn tests_the_segment_and_then_the_open_mode(rt: HostRuntime) {
+        for (need, segment, expected) in [
+            (Some(Mode::Read), Ok(SPAN), Ok(TARGET)),
+            (None, Ok(SPAN), Ok(TARGET)),
+            (Some(Mode::Write), Ok(SPAN), Err(Reply::BadFd)),
+            (
+                Some(Mode::Write),
+                Err(SpanError::Overflow),
+                Err(Reply::Overflow),
+            ),
+            (None, Err(SpanError::Invalid), Err(Reply::Invalid)),
+        ] {
+            let target = target_at(PROCESS, need, Kind::OfDescription, READER, segment);
+            assert!(rt; target == expected);
+        }
+    }
+}

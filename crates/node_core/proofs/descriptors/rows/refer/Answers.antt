@@ -1,5 +1,0 @@
-use Rattle.node_core.proofs.RowLaws.{processes-refer}
-use Rattle.node_core.proofs.descriptors.rows.refer.Goals as goal
-
-pub returns-clause-processes : goal.returns-clause-processes
-returns-clause-processes c = processes-refer c.args.rows.now c.args.pid c.args.fd c.args.opened c.refer.new.self c.requires.within c.refer.ensures.runs c.refer.ensures.opened

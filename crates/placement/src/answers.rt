@@ -1,0 +1,191 @@
+//! What a single machine's table may answer.
+ghost use Rattle.std.specs.Prelude.{◌≡◌, true, false, IsTrue, ◌↔◌, IfOk};
+ghost use Rattle.model.specs.declared.op.Op.TheVariants.{Set, Unlock, Query};
+ghost use Rattle.model.specs.declared.reply.Reply.TheVariants.{Again, Blocked};
+ghost use Rattle.model.specs.Step.{BlocksCall, Step};
+ghost use Rattle.model.specs.Replay.{NeverAnswers, NamesNoLock};
+ghost use Rattle.fcntl_table.specs.Tables.{table_of};
+
+use fcntl_table::table::FcntlTable;
+use intervals::span_map::NoMemory;
+use model::lock_call::LockCall;
+use model::lock_info::LockInfo;
+use model::mode::Mode;
+use model::op::Op;
+use model::owner::Kind;
+use model::process::Process;
+use model::reply::Reply;
+
+// Whether both are one reply.
+fn is_same(one: &Reply, other: &Reply) -> bool
+    ensures { IsTrue result ↔ (one.now ≡ other.now) }
+{
+    one == other
+}
+
+/// Whether the table may answer the call of the process so; where it may, it takes that step. Of
+/// several locks that block a call, the reply may name each.
+///
+/// # Errors
+/// `NoMemory` where a request for memory was refused.
+pub(crate) fn take(table: &mut FcntlTable, process: Process, op: Op, reply: Reply) -> Result<bool, NoMemory>
+    ensures taken { IfOk result (λ yes. yes ≡ true → Step (table_of table.old) process op reply (table_of table.new)) }
+    ensures never { IfOk result (λ yes. yes ≡ false → NeverAnswers (table_of table.old) process op reply) }
+{
+    match reply {
+        Reply::Again(lock) => Ok(may_deny(table, process, op, lock)),
+        Reply::Blocked(lock) => Ok(may_block(table, process, op, lock)),
+        _ => take_answer(table, process, op, reply),
+    }
+}
+
+// The step that is answered so, where the answer names no lock.
+fn take_answer(table: &mut FcntlTable, process: Process, op: Op, reply: Reply) -> Result<bool, NoMemory>
+    requires { NamesNoLock reply }
+    ensures taken { IfOk result (λ yes. yes ≡ true → Step (table_of table.old) process op reply (table_of table.new)) }
+    ensures never { IfOk result (λ yes. yes ≡ false → NeverAnswers (table_of table.old) process op reply) }
+{
+    let answer = step(table, process, op)?;
+    Ok(is_same(&answer, &reply))
+}
+
+// Whether the call may be answered by this lock, as one that blocks it.
+fn may_deny(table: &FcntlTable, process: Process, op: Op, lock: LockInfo) -> bool
+    ensures may { result ≡ true → Step (table_of table.now) process op (Again lock) (table_of table.now) }
+    ensures never { result ≡ false → NeverAnswers (table_of table.now) process op (Again lock) }
+{
+    let Op::Set {
+        fd,
+        kind,
+        mode,
+        start,
+        len,
+    } = op
+    else {
+        return false;
+    };
+    let Ok(call) = table.target(process, Some(mode), fd, kind, start, len) else {
+        return false;
+    };
+    is_blocked_by(table, call, mode, &lock)
+}
+
+// Whether the query may be answered by this lock, as one that would be in the way.
+fn may_block(table: &FcntlTable, process: Process, op: Op, lock: LockInfo) -> bool
+    ensures may { result ≡ true → Step (table_of table.now) process op (Blocked lock) (table_of table.now) }
+    ensures never { result ≡ false → NeverAnswers (table_of table.now) process op (Blocked lock) }
+{
+    let Op::Query {
+        fd,
+        kind,
+        mode,
+        start,
+        len,
+    } = op
+    else {
+        return false;
+    };
+    let Ok(call) = table.target(process, None, fd, kind, start, len) else {
+        return false;
+    };
+    is_blocked_by(table, call, mode, &lock)
+}
+
+// Whether the lock is a region of another owner that blocks the call.
+fn is_blocked_by(table: &FcntlTable, call: LockCall, mode: Mode, lock: &LockInfo) -> bool
+    ensures { IsTrue result ↔ BlocksCall (table_of table.now) call mode lock.now }
+{
+    if lock.owner == call.owner || !lock.mode.excludes(mode) {
+        return false;
+    }
+    if lock.span.lo > call.span.hi || call.span.lo > lock.span.hi {
+        return false;
+    }
+    table.has_region(call.file, lock)
+}
+
+// Answers a call of the process. A segment is tested before the open mode of its descriptor; where
+// locks of several owners block, one of them is named.
+fn step(table: &mut FcntlTable, process: Process, op: Op) -> Result<Reply, NoMemory>
+    ensures { IfOk result (λ reply. Step (table_of table.old) process op reply (table_of table.new)) }
+{
+    match op {
+        Op::Spawn => table.spawn(process),
+        Op::Open { file, access } => table.open(process, file, access),
+        Op::Set {
+            fd,
+            kind,
+            mode,
+            start,
+            len,
+        } => set(table, process, fd, kind, mode, start, len),
+        Op::Unlock {
+            fd,
+            kind,
+            start,
+            len,
+        } => unlock(table, process, fd, kind, start, len),
+        Op::Query {
+            fd,
+            kind,
+            mode,
+            start,
+            len,
+        } => Ok(query(table, process, fd, kind, mode, start, len)),
+    }
+}
+
+// A lock on a segment.
+fn set(
+    table: &mut FcntlTable,
+    process: Process,
+    fd: u8,
+    kind: Kind,
+    mode: Mode,
+    start: i64,
+    len: i64,
+) -> Result<Reply, NoMemory>
+    ensures { IfOk result (λ reply.
+        Step (table_of table.old) process (Set fd kind mode start len) reply (table_of table.new)) }
+{
+    let call = match table.target(process, Some(mode), fd, kind, start, len) {
+        Ok(call) => call,
+        Err(refusal) => return Ok(refusal),
+    };
+    match table.blocker(call, mode) {
+        Some(lock) => Ok(Reply::Again(lock)),
+        None => table.lock_within(call, Some(mode)),
+    }
+}
+
+// No lock on a segment.
+fn unlock(
+    table: &mut FcntlTable,
+    process: Process,
+    fd: u8,
+    kind: Kind,
+    start: i64,
+    len: i64,
+) -> Result<Reply, NoMemory>
+    ensures { IfOk result (λ reply.
+        Step (table_of table.old) process (Unlock fd kind start len) reply (table_of table.new)) }
+{
+    match table.target(process, None, fd, kind, start, len) {
+        Ok(call) => table.lock_within(call, None),
+        Err(refusal) => Ok(refusal),
+    }
+}
+
+// Whether a lock on a segment would be in the way of another owner's.
+fn query(table: &FcntlTable, process: Process, fd: u8, kind: Kind, mode: Mode, start: i64, len: i64) -> Reply
+    ensures { Step (table_of table.now) process (Query fd kind mode start len) result (table_of table.now) }
+{
+    let call = match table.target(process, None, fd, kind, start, len) {
+        Ok(call) => call,
+        Err(refusal) => return refusal,
+    };
+    match table.blocker(call, mode) {
+        Some(lock) => Reply::Blocked(lock),
+        None => Reply::Free,
+    }
+}

@@ -1,0 +1,29 @@
+//! The words that the program was given.
+ghost use Rattle.std.specs.Prelude.{◌≡◌, ◌≢◌};
+ghost use Rattle.std.specs.IoError.{error_kind};
+ghost use Rattle.std.specs.declared.io.kind.ErrorKind.TheVariants.{OutOfMemory};
+ghost use Rattle.command_line.specs.declared.refusal.Refusal.TheVariants.{NoMemory, NotText};
+
+use command_line::refusal::Refusal;
+use std::rt::Env;
+use std::{env, io};
+
+/// The words of the command line, the first of them being the program's name.
+///
+/// # Errors
+/// `NotText` where one of them is not UTF-8; `NoMemory` where a request for memory was refused.
+pub fn read_words<R: Env + AllocGlobal>(rt: &R) -> Result<Vec<String>, Refusal> {
+    let words = env::args(rt).map_err(|error| refusal_of(&error))?;
+    words.collect(rt.alloc()).map_err(|_| Refusal::NoMemory)
+}
+
+// Words are read but for memory, or for one that is not UTF-8.
+fn refusal_of(error: &io::Error) -> Refusal
+    ensures memory { error_kind error.now ≡ OutOfMemory → result ≡ NoMemory }
+    ensures text { error_kind error.now ≢ OutOfMemory → result ≡ NotText }
+{
+    match error.kind() {
+        io::ErrorKind::OutOfMemory => Refusal::NoMemory,
+        _ => Refusal::NotText,
+    }
+}
