@@ -156,8 +156,8 @@ read_server p file x world number is =
     read_number server_state (first_server p.shape) p.servers file x least most is
 
 -- what is planned is known of the node that stands there
-pub plan_found : (r : Result NodeChange StepError) (x : NodeParts) (There : NodeParts → Type 0) (s : NodeState) (step : NodeEvent) → There x → s ≡ node_state x → IfOk r (λ change. Fits x change.step) → IfOk r (λ change. node_rule (node_state x) step ≡ Ok (planned x change.step, change.outcome)) → IfOk r (λ change. (y : NodeParts) × There y × Fits y change.step × (node_rule s step ≡ Ok (planned y change.step, change.outcome)))
-plan_found (Ok change) x There s step is here fits done = (x, is, fits, subst (λ (t : NodeState). node_rule t step ≡ Ok (planned x change.step, change.outcome)) (sym here) done)
+pub plan_found : (r : Result NodeChange StepError) (x : NodeParts) (There : NodeParts → Type 0) (s : NodeState) (step : NodeEvent) → There x → s ≡ node_state x → IfOk r (λ change. Fits x change.edit) → IfOk r (λ change. node_rule (node_state x) step ≡ Ok (planned x change.edit, change.outcome)) → IfOk r (λ change. (y : NodeParts) × There y × Fits y change.edit × (node_rule s step ≡ Ok (planned y change.edit, change.outcome)))
+plan_found (Ok change) x There s step is here fits done = (x, is, fits, subst (λ (t : NodeState). node_rule t step ≡ Ok (planned x change.edit, change.outcome)) (sym here) done)
 plan_found (Err e) x There s step is here fits done = tt
 
 -- whether a node is alive

@@ -280,7 +280,7 @@ impl World {
     fn node_plan(&self, alloc: Global, node: u8, step: &NodeEvent) -> Result<NodeChange, StepError>
         requires node { is_within self.now.shape.nodes node ≡ true }
         requires alive { (world_state self.now).alive node ≡ true }
-        ensures ok { IfOk result (λ change. (p : NodeParts) × (p ≡ slice_index_or self.now.nodes (node - 1) p) × Fits p change.step × (node_rule ((world_state self.now).nodes node) step.now ≡ Ok (reached p change.step, change.outcome))) }
+        ensures ok { IfOk result (λ change. (p : NodeParts) × (p ≡ slice_index_or self.now.nodes (node - 1) p) × Fits p change.edit × (node_rule ((world_state self.now).nodes node) step.now ≡ Ok (reached p change.edit, change.outcome))) }
         ensures err { IfErr result (λ e. e ≢ OutOfMemory → node_rule ((world_state self.now).nodes node) step.now ≡ Err e) }
     {
         self.nodes[node as usize - 1].plan(alloc, step)
@@ -594,8 +594,8 @@ fn settle_node(
     sent: &mut Sent,
 ) -> Result<Outcome, NoRoom>
     requires within { index < length nodes.old.items }
-    requires fits { (p : NodeParts) → p ≡ slice_index_or nodes.old.items index p → Fits p change.step }
-    ensures nodes { OnOk result ((p : NodeParts) → p ≡ slice_index_or nodes.old.items index p → (next : NodeParts) × (nodes.new.items ≡ slice_set nodes.old.items index next) × (node_state next ≡ reached p change.step)) }
+    requires fits { (p : NodeParts) → p ≡ slice_index_or nodes.old.items index p → Fits p change.edit }
+    ensures nodes { OnOk result ((p : NodeParts) → p ≡ slice_index_or nodes.old.items index p → (next : NodeParts) × (nodes.new.items ≡ slice_set nodes.old.items index next) × (node_state next ≡ reached p change.edit)) }
     ensures outcome { IfOk result (λ outcome. outcome ≡ change.outcome) }
     ensures sent { IfOk result (λ outcome. sent.new ≡ sent.old ++ outcome.sends) }
     ensures unchanged { OnErr result ((nodes.new.items ≡ nodes.old.items) × (sent.new ≡ sent.old)) }

@@ -221,12 +221,7 @@ impl FcntlTable {
     ///
     /// # Errors
     /// `NoMemory`.
-    pub fn open(
-        &mut self,
-        process: Process,
-        file: u16,
-        access: Access,
-    ) -> Result<Reply, NoMemory>
+    pub fn open(&mut self, process: Process, file: u16, access: Access) -> Result<Reply, NoMemory>
         ensures { IfOk result (λ reply. Is (beside (table_of self.old) process (after_open (around (table_of self.old) process) process.pid file access)) reply (table_of self.new)) }
     {
         let Planned { edit, reply } = self.plan_open(process, file, access)?;

@@ -8,7 +8,6 @@ use Rattle.model.specs.Limits.{IsNumber}
 use Rattle.node_core.specs.declared.file_row.FileRow.{FileRow}
 use Rattle.node_core.specs.State.{FileState, first_file}
 use Rattle.node_core.specs.Files.{state_of, state_or, file_state}
-use Rattle.node_core.specs.Parts.{with_state}
 
 -- of no file is anything known
 pub file_state-none : file_state [] ≡ (λ file. first_file)
@@ -76,7 +75,7 @@ file_state-set files (suc file) r state within e = λ i f. changed f (cases_eq f
     changed (suc f) (inr ne) = ap (λ k. state_or (slice_get (slice_set files k r) f)) at ∙ ap state_or (slice_get-set_other files file f r (apart f ne)) ∙ ap (λ b. if b then state else state_or (slice_get files f)) (sym (ne_eqb (suc f) (suc file) ne))
 
 -- the rows with one of them changed by what it said
-pub file_state-change : (files : List FileRow) (file : ℕ) (r new : FileRow) (change : FileState → FileState) → IsNumber (length files) file → r ≡ slice_index_or files (file - 1) r → state_of new ≡ change (state_of (slice_index_or files (file - 1) r)) → file_state (slice_set files (file - 1) new) ≡ with_state (file_state files) file (change (file_state files file))
+pub file_state-change : (files : List FileRow) (file : ℕ) (r new : FileRow) (change : FileState → FileState) → IsNumber (length files) file → r ≡ slice_index_or files (file - 1) r → state_of new ≡ change (state_of (slice_index_or files (file - 1) r)) → file_state (slice_set files (file - 1) new) ≡ (λ f. if f == file then change (file_state files file) else file_state files f)
 file_state-change files file r new change within is e =
     file_state-set files file new (change (file_state files file)) within (e ∙ ap change (ap state_of (sym is) ∙ file_state-read files file r within is))
 

@@ -4,7 +4,7 @@ use Rattle.std.specs.List.{length_refill}
 use Rattle.std.proofs.Common.{arith, ap, sym, subst, ◌∙◌, take, drop}
 use Rattle.std.proofs.lemmas.Bool.{and_parts, and_from, eq-eqb, le-leb, lt-leb}
 use Rattle.std.proofs.lemmas.Bool.Decides.{nat_tests}
-use Rattle.std.proofs.lemmas.List.Elements.{All-head, All-tail, All-filter, All-push}
+use Rattle.std.proofs.lemmas.List.Elements.{All-head, All-tail}
 use Rattle.intervals.specs.declared.span.SpanError.{SpanError}
 use Rattle.intervals.specs.declared.span.SpanError.TheVariants.{Invalid}
 use Rattle.intervals.specs.Bytes.{Range, greatest, whole, put, is_in}
@@ -25,7 +25,7 @@ use Rattle.model.specs.declared.policy.Policy.{Policy}
 use Rattle.model.specs.declared.policy.Policy.TheVariants.{Wide, Exact}
 use Rattle.model.specs.Locks.{Locks, no_locks, with_lock, regions, IsFree, IsLowestBlocker, lowest_blocker, IsOfNode}
 use Rattle.model.proofs.BlockerLaws.{is_lowest_blocker}
-use Rattle.model.specs.Descriptors.{Processes, no_processes, with_descriptor, lowest_fd, lowest_description, after_open}
+use Rattle.model.specs.Descriptors.{Processes, no_processes, with_descriptor, lowest_fd, lowest_description, after_open, after_spawn, with_process}
 use Rattle.model.specs.Table.{Target, around, beside, with_processes, target_at, lock_within}
 use Rattle.model.proofs.OwnerLaws.{owner_exact}
 use Rattle.lock_table.specs.declared.row.Row.{Row as LockRow}
@@ -49,16 +49,14 @@ use Rattle.node_core.specs.State.{NodeState, first_file, first_node, process}
 use Rattle.descriptors.specs.Rows.{processes, resolved, fd_reply, Refuses}
 use Rattle.fcntl_table.proofs.TargetLaws.{target_in, target-err, target-ok, resolved_ok}
 use Rattle.node_core.specs.Files.{file_state}
-use Rattle.node_core.specs.Parts.{NodeParts, node_state, IsOwn, IsSpan, IsOwnCall, IsNode, IsNewNumber, tabled}
-use Rattle.node_core.proofs.CallLaws.{none-above}
+use Rattle.node_core.specs.Parts.{NodeParts, node_state, IsOwn, IsSpan, IsOwnCall, IsNode}
+use Rattle.descriptors.specs.declared.edit.ProcessEdit.{ProcessEdit}
+use Rattle.descriptors.specs.Edits.{edited, Fits as ProcessFits}
+use Rattle.node_core.specs.Plans.{table_after, ProcessesFit}
 
 -- the node itself is its own
 own_host : (node incarnation : ℕ) → ((node == node) && (incarnation == incarnation)) ≡ true
 own_host node incarnation = and_from _ _ (eq-eqb node node refl) (eq-eqb incarnation incarnation refl)
-
-if-if : {A : Type 0} (b : Bool) (x y z : A) → (if b then x else (if b then y else z)) ≡ (if b then x else z)
-if-if true x y z = refl
-if-if false x y z = refl
 
 if-both : {A : Type 0} (b : Bool) (x y : A) → x ≡ y → (if b then x else y) ≡ y
 if-both true x y e = e
@@ -68,23 +66,17 @@ pub around-own : (p : NodeParts) (pid : ℕ) → around (node_state p).table (pr
 unfolding node_state
 around-own p pid = ap (λ b. if b then processes p.processes else no_processes) (own_host p.node p.incarnation)
 
-with-own : (p : NodeParts) (pid : ℕ) (rows : List ProcessRow) → with_processes (node_state p).table (process (node_state p) pid) (processes rows) ≡ (node_state (record p { processes = rows })).table
-unfolding node_state
-with-own p pid rows = λ i. record { on = λ n k. if-if ((n == p.node) && (k == p.incarnation)) (processes rows) (processes p.processes) no_processes i; locks = held p.locks }
-
 -- a call that concerns processes and descriptors alone
-pub beside-ok : (p : NodeParts) (pid : ℕ) (rows : List ProcessRow) (answer : Reply) (f : Processes → Result (Processes × Reply) Reply) → f (processes p.processes) ≡ Ok (processes rows, answer) → tabled (node_state p) (beside (node_state p).table (process (node_state p) pid) (f (around (node_state p).table (process (node_state p) pid)))) ≡ (node_state (record p { processes = rows }), answer)
-unfolding node_state
-beside-ok p pid rows answer f e =
-    ap (λ x. tabled (node_state p) (beside (node_state p).table (process (node_state p) pid) (f x))) (around-own p pid)
-    ∙ ap (λ r. tabled (node_state p) (beside (node_state p).table (process (node_state p) pid) r)) e
-    ∙ ap (λ t. tabled (node_state p) (t, answer)) (with-own p pid rows)
+pub beside-ok : (p : NodeParts) (pid : ℕ) (e : ProcessEdit) (answer : Reply) (f : Processes → Result (Processes × Reply) Reply) → f (processes p.processes) ≡ Ok (edited (processes p.processes) e, answer) → beside (node_state p).table (process (node_state p) pid) (f (around (node_state p).table (process (node_state p) pid))) ≡ (table_after (node_state p) (Some e), answer)
+beside-ok p pid e answer f is =
+    ap (λ x. beside (node_state p).table (process (node_state p) pid) (f x)) (around-own p pid)
+    ∙ ap (beside (node_state p).table (process (node_state p) pid)) is
+    ∙ sym (ap (λ ps. (with_processes (node_state p).table (process (node_state p) 0) (edited ps e), answer)) (around-own p 0))
 
-pub beside-err : (p : NodeParts) (pid : ℕ) (refusal : Reply) (f : Processes → Result (Processes × Reply) Reply) → f (processes p.processes) ≡ Err refusal → tabled (node_state p) (beside (node_state p).table (process (node_state p) pid) (f (around (node_state p).table (process (node_state p) pid)))) ≡ (node_state p, refusal)
-unfolding node_state
+pub beside-err : (p : NodeParts) (pid : ℕ) (refusal : Reply) (f : Processes → Result (Processes × Reply) Reply) → f (processes p.processes) ≡ Err refusal → beside (node_state p).table (process (node_state p) pid) (f (around (node_state p).table (process (node_state p) pid))) ≡ ((node_state p).table, refusal)
 beside-err p pid refusal f e =
-    ap (λ x. tabled (node_state p) (beside (node_state p).table (process (node_state p) pid) (f x))) (around-own p pid)
-    ∙ ap (λ r. tabled (node_state p) (beside (node_state p).table (process (node_state p) pid) r)) e
+    ap (λ x. beside (node_state p).table (process (node_state p) pid) (f x)) (around-own p pid)
+    ∙ ap (beside (node_state p).table (process (node_state p) pid)) e
 
 -- a node that begins
 pub first-state : (shape : ShapeFields) (node incarnation : ℕ) (rows : List ProcessRow) (locks : List LockRow) (files : List FileRow) → processes rows ≡ no_processes → held locks ≡ no_locks → file_state files ≡ (λ file. first_file) → node_state (record { shape = shape; node = node; incarnation = incarnation; calls = 0; processes = rows; locks = locks; pending = []; files = files }) ≡ first_node shape node incarnation
@@ -99,29 +91,11 @@ first-state shape node incarnation rows locks files none free nothing = λ i. re
   files = nothing i;
 }
 
--- what holds of all open calls holds of those that are left, and of one that is found
+-- what holds of all open calls holds of one that is found
 pub find-own : (P : OpenCall → Type 0) (test : OpenCall → Bool) (calls : List OpenCall) → All P calls → IfSome (find test calls) P
 find-own P test [] all = tt
 find-own P test (c ∷ calls) all =
     elim (test c) as (λ b. IfSome (if b then Some c else find test calls) P) [ true ↦ All-head P c calls all | false ↦ find-own P test calls (All-tail P c calls all) ]
-
-pub node-calls : (p : NodeParts) (test : OpenCall → Bool) → IsNode p → IsNode (record p { pending = filter test p.pending })
-node-calls p test h = record { host = h.host; own = h.own; files_in = h.files_in; opened_in = h.opened_in; calls_in = All-filter test (IsOwnCall p.shape.files p.node p.incarnation) p.pending h.calls_in; numbered = All-filter test (λ c. c.number ≤ p.calls) p.pending h.numbered }
-
--- what stays where the files are written over, as behind a borrow
-pub node-files : (p : NodeParts) (n : ℕ) (files : List FileRow) → n ≡ length p.files → IsNode p → IsNode (record p { files = take n (files ++ drop (length files) p.files) })
-node-files p n files e h = record { host = h.host; own = h.own; files_in = sym (length_refill n p.files files e) ∙ e ∙ h.files_in; opened_in = h.opened_in; calls_in = h.calls_in; numbered = h.numbered }
-
--- what stays where a call comes last
-pub node-push : (p : NodeParts) (call : OpenCall) → IsOwnCall p.shape.files p.node p.incarnation call → call.number ≤ p.calls → IsNode p → IsNode (record p { pending = p.pending ++ call ∷ [] })
-node-push p call own given h = record {
-  host = h.host;
-  own = h.own;
-  files_in = h.files_in;
-  opened_in = h.opened_in;
-  calls_in = All-push (IsOwnCall p.shape.files p.node p.incarnation) p.pending call h.calls_in own;
-  numbered = All-push (λ c. c.number ≤ p.calls) p.pending call h.numbered given;
-}
 
 -- the owners that a node can have
 pub own_place : (node incarnation : ℕ) (o : Owner) → IsOwn node incarnation o → (k : ℕ) × (k < most_owners) × (o ≡ owner_at node incarnation k)
@@ -179,22 +153,6 @@ own-lock h node incarnation file owner s mode own within all f = record {
     ended o b true past = ap (λ x. if x then mode else h file owner b) (outside b past) ∙ (all file).ends owner b past
     ended o b false past = (all f).ends o b past
 
-pub node-lock : (p : NodeParts) (locks : List LockRow) (file : ℕ) (owner : Owner) (s : Range) (mode : Option Mode) → held locks ≡ with_lock (held p.locks) file owner s mode → IsOwn p.node p.incarnation owner → IsSpan s → IsNode p → IsNode (record p { locks = locks })
-node-lock p locks file owner s mode e own within h =
-    let P : Locks → Type 0 = λ l. (f : ℕ) → IsOfNode (l f) p.node p.incarnation in
-    record { host = h.host; own = subst P (sym e) (own-lock (held p.locks) p.node p.incarnation file owner s mode own within.ends h.own); files_in = h.files_in; opened_in = h.opened_in; calls_in = h.calls_in; numbered = h.numbered }
-
--- bytes are locked within the regions that an owner may have
-pub lock-done : (p : NodeParts) (locks : List LockRow) (c : Target) (mode : Option Mode) → held locks ≡ with_lock (held p.locks) c.file c.owner c.span mode → regions (put (held p.locks c.file c.owner) c.span mode) ≤ 1024 → tabled (node_state p) (lock_within (node_state p).table c mode) ≡ (node_state (record p { locks = locks }), Done)
-unfolding node_state
-lock-done p locks c mode e few =
-    ap (λ b. tabled (node_state p) (if b then (record (node_state p).table { locks = with_lock (held p.locks) c.file c.owner c.span mode }, Done) else ((node_state p).table, NoLocks))) (le-leb _ _ few)
-    ∙ ap (λ (l : Locks). tabled (node_state p) (record (node_state p).table { locks = l }, Done)) (sym e)
-
-pub lock-refused : (p : NodeParts) (c : Target) (mode : Option Mode) → 1024 < regions (put (held p.locks c.file c.owner) c.span mode) → tabled (node_state p) (lock_within (node_state p).table c mode) ≡ (node_state p, NoLocks)
-unfolding node_state
-lock-refused p c mode many =
-    ap (λ b. tabled (node_state p) (if b then (record (node_state p).table { locks = with_lock (held p.locks) c.file c.owner c.span mode }, Done) else ((node_state p).table, NoLocks))) (lt-leb _ _ many)
 
 -- what a process opens is of the file that it named
 opened_if : (b : Bool) (o : Option Opened) (p : Opened) (new : Opened) (P : ℕ → Type 0) → P new.file → (o ≡ Some p → P p.file) → (if b then Some new else o) ≡ Some p → P p.file
@@ -218,26 +176,31 @@ opened-within ps new pid file fd access P e here there q k o some =
     let is = open_if (ps.runs pid) (nat_lt (lowest_fd ps pid) most_descriptors) (with_descriptor ps pid (lowest_fd ps pid) (Some made)) new (lowest_fd ps pid) fd e in
     opened_if ((q == pid) && (k == lowest_fd ps pid)) (ps.opened q k) o made P here (there q k o) (sym (ap (λ (x : Processes). x.opened q k) is) ∙ some)
 
-pub open-within : (p : NodeParts) (rows : List ProcessRow) (pid file fd : ℕ) (access : Access) → after_open (processes p.processes) pid file access ≡ Ok (processes rows, Fd fd) → IsNumber p.shape.files file → IsNode p → IsNode (record p { processes = rows })
-open-within p rows pid file fd access e within h = record {
-  host = h.host;
-  own = h.own;
-  files_in = h.files_in;
-  opened_in = opened-within (processes p.processes) (processes rows) pid file fd access (IsNumber p.shape.files) e within h.opened_in;
-  calls_in = h.calls_in;
-  numbered = h.numbered;
-}
+-- a process that begins has nothing open
+abbrev begun : Processes → ℕ → Processes × Reply
+begun ps pid = (with_process ps pid true (λ fd. None), Done)
 
--- a refusal leaves the processes as they were
-pub refused : (p : NodeParts) (pid : ℕ) (rows : List ProcessRow) (f : Processes → Result (Processes × Reply) Reply) (e : ProcessError) (r : Result Reply AllocError) → MatchResult r (λ reply. (answer : Result (Processes × Reply) Reply) → Refuses e answer → answer ≡ Err reply) (λ _. e ≡ error.NoMemory) → Refuses e (f (processes p.processes)) → rows ≡ p.processes → IfOk r (λ reply. tabled (node_state p) (beside (node_state p).table (process (node_state p) pid) (f (around (node_state p).table (process (node_state p) pid)))) ≡ (node_state (record p { processes = rows }), reply))
-refused p pid rows f e (Ok answer) tells refuses same =
-    beside-err p pid answer f (tells (f (processes p.processes)) refuses) ∙ (λ i. (node_state (record p { processes = sym same i }), answer))
-refused p pid rows f e (Err _) tells refuses same = tt
+abbrev spawn_if : Bool → Processes → ℕ → Result (Processes × Reply) Reply
+spawn_if runs ps pid = if runs then Err reply.Exists else Ok (begun ps pid)
 
-pub locks_refused : (p : NodeParts) (c : Target) (mode : Option Mode) (locks : List LockRow) (e : LockError) (r : Result Reply AllocError) → MatchResult r (λ answer. (e ≡ lock.NoLocks) × (answer ≡ NoLocks)) (λ _. e ≡ lock.NoMemory) → (◌≡◌ {A = Result (Unit {0}) LockError} (Err e) (Err lock.NoLocks) → 1024 < regions (put (held p.locks c.file c.owner) c.span mode)) → locks ≡ p.locks → IfOk r (λ answer. tabled (node_state p) (lock_within (node_state p).table c mode) ≡ (node_state (record p { locks = locks }), answer))
-locks_refused p c mode locks e (Ok answer) tells many same =
-    lock-refused p c mode (many (ap Err tells.0)) ∙ (λ i. (node_state (record p { locks = sym same i }), sym tells.1 i))
-locks_refused p c mode locks e (Err _) tells many same = tt
+spawned-within : (runs : Bool) (ps new : Processes) (pid : ℕ) (P : Opened → Type 0) → spawn_if runs ps pid ≡ Ok (new, Done) → ((q k : ℕ) (o : Opened) → ps.opened q k ≡ Some o → P o) → (q k : ℕ) (o : Opened) → new.opened q k ≡ Some o → P o
+spawned-within true ps new pid P e there q k o some = absurd (cc)
+spawned-within false ps new pid P e there q k o some =
+    by (q == pid) (ap (λ (x : Processes). x.opened q k) (first_of (begun ps pid) (new, Done) e) ∙ some)
+  where
+    by : (b : Bool) → (if b then None else ps.opened q k) ≡ Some o → P o
+    by true h = absurd (cc)
+    by false h = there q k o h
+
+pub open-within : (p : NodeParts) (e : ProcessEdit) (pid file fd : ℕ) (access : Access) → after_open (processes p.processes) pid file access ≡ Ok (edited (processes p.processes) e, Fd fd) → IsNumber (node_state p).shape.files file → ProcessFits p.processes e → IsNode p → ProcessesFit p (Some e)
+unfolding node_state
+open-within p e pid file fd access is within fits h =
+    (fits, opened-within (processes p.processes) (edited (processes p.processes) e) pid file fd access (IsNumber p.shape.files) is within h.opened_in)
+
+pub spawn-within : (p : NodeParts) (e : ProcessEdit) (pid : ℕ) → after_spawn (processes p.processes) pid ≡ Ok (edited (processes p.processes) e, Done) → ProcessFits p.processes e → IsNode p → ProcessesFit p (Some e)
+unfolding node_state
+spawn-within p e pid is fits h =
+    (fits, λ q fd o some. spawned-within ((processes p.processes).runs pid) (processes p.processes) (edited (processes p.processes) e) pid (λ o. IsNumber p.shape.files o.file) is h.opened_in q fd o some)
 
 -- what a node asks for contains what the call needs
 pub desired-ends : (policy : Policy) (t : Token) (s : Range) → s.hi ≤ greatest → s.hi ≤ (desired policy t s).hi
@@ -284,11 +247,6 @@ target-file p pid fd opened (Err e) is h same = tt
 target-file p pid fd opened (Ok t) is h same =
     let within = is.opened_in pid fd opened (resolved_ok ((processes p.processes).runs pid) ((processes p.processes).opened pid fd) (record { node = 0; incarnation = 0; pid = pid }) None OfProcess (Err Invalid) opened h).0 in
     subst (λ n. IsNumber p.shape.files n) (sym same) within
-
--- the number that a node gives out next is new
-pub new-number : (p : NodeParts) → IsNode p → IsNewNumber (node_state (record p { calls = p.calls + 1 })) (p.calls + 1)
-unfolding node_state
-new-number p h = record { given = omega arith; free = none-above p.calls p.pending h.numbered }
 
 -- two nodes in one state
 pub record IsSameState (p q : NodeParts) : Type 0 where

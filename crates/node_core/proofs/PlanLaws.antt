@@ -1,127 +1,95 @@
--- Calls that are answered in their own step, and of which nobody need hear.
-use Rattle.std.specs.Prelude.{◌≡◌, ℕ, ◌+◌, ◌≤◌, ◌==◌, Bool, true, false, not, cond, if◌then◌else◌, List, [], ◌∷◌, ◌++◌, Option, Some, None, Result, Ok, Err, IfOk, IfSome, find, filter, refl}
-use Rattle.std.proofs.Common.{arith, ap, sym, subst, ◌∙◌}
-use Rattle.std.proofs.lemmas.Bool.{eq-eqb, le-leb}
+-- Planned steps.
+use Rattle.std.specs.Prelude.{◌≡◌, ℕ, ◌+◌, ◌≤◌, ◌<◌, ◌==◌, ◌&&◌, Bool, true, false, not, cond, if◌then◌else◌, List, [], ◌∷◌, ◌++◌, All, length, Option, Some, None, Result, Ok, Err, IfOk, IfSome, unwrap_or, filter, refl}
+use Rattle.std.specs.Vec.{vec_capacity}
 use Rattle.std.specs.declared.alloc.AllocError.{AllocError}
+use Rattle.std.proofs.Common.{arith, ap, sym, subst, ◌∙◌}
+use Rattle.std.proofs.lemmas.Bool.{eq-eqb, le-leb, lt-leb}
+use Rattle.std.proofs.lemmas.List.Elements.{All-filter, All-push}
 use Rattle.intervals.specs.Bytes.{put}
 use Rattle.intervals.specs.Runs.{value_at}
 use Rattle.model.specs.declared.mode.Mode.{Mode}
+use Rattle.model.specs.declared.call.CallId.{CallId}
 use Rattle.model.specs.declared.lock_info.LockInfo.{LockInfo}
+use Rattle.model.specs.declared.opened.Opened.{Opened}
 use Rattle.model.specs.declared.reply.Reply.{Reply}
-use Rattle.model.specs.declared.reply.Reply.TheVariants.{Done, Free, NoLocks}
+use Rattle.model.specs.declared.reply.Reply.TheVariants.{Done, NoLocks}
+use Rattle.model.specs.Descriptors.{Processes, no_processes}
+use Rattle.model.specs.Limits.{IsNumber}
 use Rattle.model.specs.Locks.{Locks, replace, with_lock, regions, lowest_blocker, IsOfNode}
-use Rattle.model.specs.Table.{Table, Target, lock_within}
+use Rattle.model.specs.Table.{Target, lock_within}
 use Rattle.lock_table.specs.declared.row.Row.{Row as LockRow}
 use Rattle.lock_table.specs.declared.lock_table.LockEdit.{LockEdit}
-use Rattle.lock_table.specs.Rows.{held, HasRoom}
-use Rattle.std.specs.Vec.{vec_capacity}
+use Rattle.lock_table.specs.Rows.{held, HasRoom as HasRowRoom}
 use Rattle.token_set.specs.Tokens.{covers}
-use Rattle.node_core.specs.declared.change.Quick.{Quick}
+use Rattle.messages.specs.declared.message.Message.TheVariants.{Freed}
+use Rattle.node_core.specs.declared.change.Change.{Change}
+use Rattle.descriptors.specs.declared.row.Row.{Row as ProcessRow}
+use Rattle.descriptors.specs.declared.edit.ProcessEdit.{ProcessEdit}
+use Rattle.descriptors.specs.Edits.{edited, Fits as ProcessFits}
+use Rattle.node_core.specs.declared.edit.Edit.{Edit}
+use Rattle.node_core.specs.declared.effect.Effect.{Effect as EffectFields}
+use Rattle.node_core.specs.declared.file_row.FileRow.{FileRow}
 use Rattle.node_core.specs.declared.open_call.Intent.{Intent}
 use Rattle.node_core.specs.declared.open_call.Intent.TheVariants as intent
 use Rattle.node_core.specs.declared.open_call.OpenCall.{OpenCall}
-use Rattle.node_core.specs.State.{NodeState, open_call, answered}
-use Rattle.node_core.specs.Try.{settled, with_freed, may_free, refusal_of, locked_by, answered_here, requested, tried_against}
-use Rattle.node_core.specs.Calls.{lock_call, unlock_call}
-use Rattle.node_core.specs.Parts.{NodeParts, node_state, IsOwn, IsSpan, IsNode}
-use Rattle.node_core.specs.Plans.{locks_after, numbered, quick, quick_effect, LocksFit}
-use Rattle.node_core.proofs.NodeLaws.{own-lock}
+use Rattle.node_core.specs.declared.open_calls.CallsEdit.{CallsEdit}
+use Rattle.node_core.specs.declared.open_calls.CallsEdit.TheVariants.{Same, Put, Gone}
+use Rattle.descriptors.specs.Rows.{processes}
+use Rattle.node_core.specs.Files.{file_state}
+use Rattle.node_core.specs.State.{NodeState, Effect, answered, target_of, host, outcome}
+use Rattle.node_core.specs.Try.{settled, with_freed, may_free, refusal_of, locked_by, answered_here, requested, tried_against, tried}
+use Rattle.node_core.specs.Parts.{NodeParts, node_state, IsOwn, IsSpan, IsOwnCall, IsNode}
+use Rattle.node_core.specs.Plans.{calls_after, locks_after, processes_after, table_after, pending_after, files_after, files_told, drafted, opened_if, planned, effect_of, LocksFit, ProcessesFit, CallsFit, Fits}
+use Rattle.node_core.proofs.NodeLaws.{own-lock, around-own}
 
--- a number that no call has takes no call away
-filter-none : (number : ℕ) (cs : List OpenCall) → find (λ c. c.number == number) cs ≡ None → filter (λ c. not (c.number == number)) cs ≡ cs
-filter-none number [] h = refl
-filter-none number (c ∷ cs) h = by (c.number == number) refl (filter-none number cs) h
-  where
-    by : (b : Bool) → (c.number == number) ≡ b → (find (λ d. d.number == number) cs ≡ None → filter (λ d. not (d.number == number)) cs ≡ cs) → (if b then Some c else find (λ d. d.number == number) cs) ≡ None → filter (λ d. not (d.number == number)) (c ∷ cs) ≡ c ∷ cs
-    by true is rest none = absurd (cc)
-    by false is rest none =
-        (λ i. cond (not (is i)) (c ∷ filter (λ d. not (d.number == number)) cs) (filter (λ d. not (d.number == number)) cs))
-        ∙ ap (λ (l : List OpenCall). c ∷ l) (rest none)
-
--- and a call that was put last goes again
-filter-pushed : (number : ℕ) (cs : List OpenCall) (c : OpenCall) → c.number ≡ number → find (λ d. d.number == number) cs ≡ None → filter (λ d. not (d.number == number)) (cs ++ c ∷ []) ≡ cs
-filter-pushed number [] c same h =
+-- a call that was put last and goes again leaves no trace
+filter-last : (number : ℕ) (cs : List OpenCall) (c : OpenCall) → c.number ≡ number → filter (λ d. not (d.number == number)) (cs ++ c ∷ []) ≡ filter (λ d. not (d.number == number)) cs
+filter-last number [] c same =
     let is : (c.number == number) ≡ true = eq-eqb c.number number same in
     λ i. cond (not (is i)) (c ∷ []) []
-filter-pushed number (e ∷ cs) c same h = by (e.number == number) refl (filter-pushed number cs c same) h
-  where
-    by : (b : Bool) → (e.number == number) ≡ b → (find (λ d. d.number == number) cs ≡ None → filter (λ d. not (d.number == number)) (cs ++ c ∷ []) ≡ cs) → (if b then Some e else find (λ d. d.number == number) cs) ≡ None → filter (λ d. not (d.number == number)) (e ∷ cs ++ c ∷ []) ≡ e ∷ cs
-    by true is rest none = absurd (cc)
-    by false is rest none =
-        (λ i. cond (not (is i)) (e ∷ filter (λ d. not (d.number == number)) (cs ++ c ∷ [])) (filter (λ d. not (d.number == number)) (cs ++ c ∷ [])))
-        ∙ ap (λ (l : List OpenCall). e ∷ l) (rest none)
+filter-last number (e ∷ cs) c same = λ i. cond (not (e.number == number)) (e ∷ filter-last number cs c same i) (filter-last number cs c same i)
+
+filter-opened : (new : Bool) (cs : List OpenCall) (c : OpenCall) → filter (λ d. not (d.number == c.number)) (opened_if new cs c) ≡ filter (λ d. not (d.number == c.number)) cs
+filter-opened true cs c = filter-last c.number cs c refl
+filter-opened false cs c = refl
+
+pub on : {A : Type 0} (b : Bool) (x y : A) → b ≡ true → (if b then x else y) ≡ x
+on b x y h = ap (λ (c : Bool). if c then x else y) h
 
 off : {A : Type 0} (b : Bool) (x y : A) → b ≡ false → (if b then x else y) ≡ y
 off b x y h = ap (λ (c : Bool). if c then x else y) h
 
-on : {A : Type 0} (b : Bool) (x y : A) → b ≡ true → (if b then x else y) ≡ x
-on b x y h = ap (λ (c : Bool). if c then x else y) h
+-- the state with the call among those that are open, if it is new
+abbrev with_call : NodeState → Bool → OpenCall → NodeState
+with_call s new c = record s { pending = opened_if new s.pending c }
 
-either : {A : Type 0} (b : Bool) (x y : A) → x ≡ y → (if b then x else y) ≡ y
-either true x y e = e
-either false x y e = refl
+answered-opened : (s : NodeState) (new : Bool) (c : OpenCall) (reply : Reply) → answered (with_call s new c) c.number reply ≡ answered s c.number reply
+answered-opened s new c reply = ap (λ (cs : List OpenCall). record (answered s c.number reply) { state = record s { pending = cs } }) (filter-opened new s.pending c)
 
--- where the file is not asked nobody need hear
-locked_by-quiet : (o : NodeState) (number : ℕ) (t : Target) (mode : Option Mode) (a : Table × Reply) → (o.files t.file).asked ≡ false → lock_within o.table t mode ≡ a → locked_by o number t mode ≡ settled o number a
-locked_by-quiet o number t mode a quiet done =
-    ap (λ (x : Table × Reply). if may_free mode x.1 then with_freed t.file (settled o number x) else settled o number x) done
-    ∙ either (may_free mode a.1) (with_freed t.file (settled o number a)) (settled o number a) (off (o.files t.file).asked _ (settled o number a) quiet)
+-- what a lock call comes to where these calls are open afterwards
+abbrev locked_to : NodeState → ℕ → Target → Option Mode → List OpenCall → Effect
+locked_to s number t mode cs =
+    let answer = lock_within s.table t mode in
+    let e : Effect = record (settled s number answer) { state = record s { table = answer.0; pending = cs } } in
+    if may_free mode answer.1 then with_freed t.file e else e
 
--- the state in which the call is open
-abbrev opened : NodeState → OpenCall → NodeState
-opened s c = record (numbered s) { pending = s.pending ++ c ∷ [] }
+answered_here-opened : (s : NodeState) (new : Bool) (c : OpenCall) (i : Intent) → answered_here (with_call s new c) c i ≡ answered_here s c i
+answered_here-opened s new c intent.Set = ap (locked_to s c.number (target_of c) (Some c.mode)) (filter-opened new s.pending c)
+answered_here-opened s new c intent.Query = answered-opened s new c _
 
--- the call is answered with these locks
-settled-quick : (s : NodeState) (e : Option LockEdit) (reply : Reply) → open_call s (s.calls + 1) ≡ None → settled (numbered s) (s.calls + 1) (record s.table { locks = locks_after s.table.locks e }, reply) ≡ quick_effect s e reply
-settled-quick s e reply none = ap (λ (cs : List OpenCall). record (quick_effect s e reply) { state = record (quick s e) { pending = cs } }) (filter-none (s.calls + 1) s.pending none)
+pub tried-blocked : (s : NodeState) (new : Bool) (c : OpenCall) (lock : LockInfo) → lowest_blocker (s.table.locks c.file) c.owner c.span c.mode ≡ Some lock → tried (with_call s new c) c ≡ answered s c.number (refusal_of c.intent lock)
+tried-blocked s new c lock blocks = ap (tried_against (with_call s new c) c) blocks ∙ answered-opened s new c (refusal_of c.intent lock)
 
-settled-opened : (s : NodeState) (c : OpenCall) (e : Option LockEdit) (reply : Reply) → c.number ≡ s.calls + 1 → open_call s (s.calls + 1) ≡ None → settled (opened s c) (s.calls + 1) (record s.table { locks = locks_after s.table.locks e }, reply) ≡ quick_effect s e reply
-settled-opened s c e reply same none = ap (λ (cs : List OpenCall). record (quick_effect s e reply) { state = record (quick s e) { pending = cs } }) (filter-pushed (s.calls + 1) s.pending c same none)
+pub tried-covered : (s : NodeState) (new : Bool) (c : OpenCall) → lowest_blocker (s.table.locks c.file) c.owner c.span c.mode ≡ None → covers (s.files c.file).token c.span c.mode ≡ true → tried (with_call s new c) c ≡ answered_here s c c.intent
+tried-covered s new c free covered =
+    ap (tried_against (with_call s new c) c) free
+    ∙ on (covers (s.files c.file).token c.span c.mode) (answered_here (with_call s new c) c c.intent) (requested (with_call s new c) c) covered
+    ∙ answered_here-opened s new c c.intent
 
-pub refused-quick : (s : NodeState) (reply : Reply) → open_call s (s.calls + 1) ≡ None → answered (numbered s) (s.calls + 1) reply ≡ quick_effect s None reply
-refused-quick s reply none = settled-quick s None reply none
-
-abbrev call_of : NodeState → ℕ → Intent → Mode → Target → OpenCall
-call_of s pid intent mode t = record { number = s.calls + 1; pid = pid; intent = intent; file = t.file; owner = t.owner; mode = mode; span = t.span }
-
-pub blocked-quick : (s : NodeState) (pid : ℕ) (intent : Intent) (mode : Mode) (t : Target) (lock : LockInfo) → open_call s (s.calls + 1) ≡ None → lowest_blocker (s.table.locks t.file) t.owner t.span mode ≡ Some lock → lock_call (numbered s) (s.calls + 1) pid intent mode (Ok t) ≡ quick_effect s None (refusal_of intent lock)
-blocked-quick s pid intent mode t lock none blocks =
-    let c = call_of s pid intent mode t in
-    ap (tried_against (opened s c) c) blocks ∙ settled-opened s c None (refusal_of intent lock) refl none
-
-pub query-quick : (s : NodeState) (pid : ℕ) (mode : Mode) (t : Target) → open_call s (s.calls + 1) ≡ None → lowest_blocker (s.table.locks t.file) t.owner t.span mode ≡ None → covers (s.files t.file).token t.span mode ≡ true → lock_call (numbered s) (s.calls + 1) pid intent.Query mode (Ok t) ≡ quick_effect s None Free
-query-quick s pid mode t none free covered =
-    let c = call_of s pid intent.Query mode t in
-    ap (tried_against (opened s c) c) free
-    ∙ on (covers (s.files t.file).token t.span mode) (answered_here (opened s c) c intent.Query) (requested (opened s c) c) covered
-    ∙ settled-opened s c None Free refl none
-
-pub set-quick : (s : NodeState) (pid : ℕ) (mode : Mode) (t : Target) (e : Option LockEdit) (reply : Reply) → open_call s (s.calls + 1) ≡ None → lowest_blocker (s.table.locks t.file) t.owner t.span mode ≡ None → covers (s.files t.file).token t.span mode ≡ true → (s.files t.file).asked ≡ false → lock_within s.table t (Some mode) ≡ (record s.table { locks = locks_after s.table.locks e }, reply) → lock_call (numbered s) (s.calls + 1) pid intent.Set mode (Ok t) ≡ quick_effect s e reply
-set-quick s pid mode t e reply none free covered quiet done =
-    let c = call_of s pid intent.Set mode t in
-    ap (tried_against (opened s c) c) free
-    ∙ on (covers (s.files t.file).token t.span mode) (answered_here (opened s c) c intent.Set) (requested (opened s c) c) covered
-    ∙ locked_by-quiet (opened s c) (s.calls + 1) t (Some mode) (record s.table { locks = locks_after s.table.locks e }, reply) quiet done
-    ∙ settled-opened s c e reply refl none
-
--- what is found says the same of the call
-abbrev pub IsQuiet : NodeState → Target → Result (Option Quick) AllocError → Type 0
-IsQuiet s t r = IfOk r (λ found. IfSome found (λ q. (s.files t.file).asked ≡ false))
-
-abbrev pub IsLocked : NodeState → Target → Option Mode → Result (Option Quick) AllocError → Type 0
-IsLocked s t mode r = IfOk r (λ found. IfSome found (λ q. lock_within s.table t mode ≡ (record s.table { locks = locks_after s.table.locks q.locks }, q.reply)))
-
-pub unlock-found : (s : NodeState) (t : Target) (r : Result (Option Quick) AllocError) → open_call s (s.calls + 1) ≡ None → IsQuiet s t r → IsLocked s t None r → IfOk r (λ found. IfSome found (λ q. unlock_call (numbered s) (s.calls + 1) (Ok t) ≡ quick_effect s q.locks q.reply))
-unlock-found s t (Ok (Some q)) none quiet done =
-    locked_by-quiet (numbered s) (s.calls + 1) t None (record s.table { locks = locks_after s.table.locks q.locks }, q.reply) quiet done
-    ∙ settled-quick s q.locks q.reply none
-unlock-found s t (Ok None) none quiet done = tt
-unlock-found s t (Err e) none quiet done = tt
-
-pub set-found : (s : NodeState) (pid : ℕ) (mode : Mode) (t : Target) (r : Result (Option Quick) AllocError) → open_call s (s.calls + 1) ≡ None → lowest_blocker (s.table.locks t.file) t.owner t.span mode ≡ None → covers (s.files t.file).token t.span mode ≡ true → IsQuiet s t r → IsLocked s t (Some mode) r → IfOk r (λ found. IfSome found (λ q. lock_call (numbered s) (s.calls + 1) pid intent.Set mode (Ok t) ≡ quick_effect s q.locks q.reply))
-set-found s pid mode t (Ok (Some q)) none free covered quiet done = set-quick s pid mode t q.locks q.reply none free covered quiet done
-set-found s pid mode t (Ok None) none free covered quiet done = tt
-set-found s pid mode t (Err e) none free covered quiet done = tt
+pub tried-uncovered : (s : NodeState) (new : Bool) (c : OpenCall) → lowest_blocker (s.table.locks c.file) c.owner c.span c.mode ≡ None → covers (s.files c.file).token c.span c.mode ≡ false → tried (with_call s new c) c ≡ requested (with_call s new c) c
+tried-uncovered s new c free uncovered =
+    ap (tried_against (with_call s new c) c) free
+    ∙ off (covers (s.files c.file).token c.span c.mode) (answered_here (with_call s new c) c c.intent) (requested (with_call s new c) c) uncovered
 
 -- the bytes are locked within the regions that an owner may have
 pub lock-planned : (p : NodeParts) (e : LockEdit) (c : Target) (mode : Option Mode) → replace (held p.locks) e.file e.owner (value_at e.spans) ≡ with_lock (held p.locks) c.file c.owner c.span mode → regions (put (held p.locks c.file c.owner) c.span mode) ≤ 1024 → lock_within (node_state p).table c mode ≡ (record (node_state p).table { locks = locks_after (node_state p).table.locks (Some e) }, Done)
@@ -130,29 +98,90 @@ lock-planned p e c mode same few =
     ap (λ (b : Bool). if b then (record (node_state p).table { locks = with_lock (held p.locks) c.file c.owner c.span mode }, Done) else ((node_state p).table, NoLocks)) (le-leb _ _ few)
     ∙ ap (λ (l : Locks). (record (node_state p).table { locks = l }, Done)) (sym same)
 
+pub lock-refused : (p : NodeParts) (c : Target) (mode : Option Mode) → 1024 < regions (put (held p.locks c.file c.owner) c.span mode) → lock_within (node_state p).table c mode ≡ ((node_state p).table, NoLocks)
+unfolding node_state
+lock-refused p c mode many =
+    ap (λ (b : Bool). if b then (record (node_state p).table { locks = with_lock (held p.locks) c.file c.owner c.span mode }, Done) else ((node_state p).table, NoLocks)) (lt-leb _ _ many)
+
 pub own-planned : (p : NodeParts) (e : LockEdit) (c : Target) (mode : Option Mode) → replace (held p.locks) e.file e.owner (value_at e.spans) ≡ with_lock (held p.locks) c.file c.owner c.span mode → IsOwn p.node p.incarnation c.owner → IsSpan c.span → IsNode p → (file : ℕ) → IsOfNode (replace (held p.locks) e.file e.owner (value_at e.spans) file) p.node p.incarnation
 own-planned p e c mode same own span node file =
     subst (λ (l : Locks). IsOfNode (l file) p.node p.incarnation) (sym same) (own-lock (held p.locks) p.node p.incarnation c.file c.owner c.span mode own span.ends node.own file)
 
--- the node stays one
-pub node-quick : (p : NodeParts) (locks : List LockRow) (edit : Option LockEdit) → held locks ≡ locks_after (held p.locks) edit → LocksFit p edit → IsNode p → IsNode (record p { calls = p.calls + 1; locks = locks })
-node-quick p locks None made fit h = record {
-  host = h.host;
-  own = subst (λ (l : Locks). (f : ℕ) → IsOfNode (l f) p.node p.incarnation) (sym made) h.own;
-  files_in = h.files_in;
-  opened_in = h.opened_in;
-  calls_in = h.calls_in;
-  numbered = λ k d lt. omega (arith, h.numbered k d lt);
-}
-node-quick p locks (Some e) made fit h = record {
-  host = h.host;
-  own = subst (λ (l : Locks). (f : ℕ) → IsOfNode (l f) p.node p.incarnation) (sym made) fit.2;
-  files_in = h.files_in;
-  opened_in = h.opened_in;
-  calls_in = h.calls_in;
-  numbered = λ k d lt. omega (arith, h.numbered k d lt);
-}
+-- what is planned fits
+pub lock-edit-fits : (p : NodeParts) (e : LockEdit) (c : Target) (mode : Option Mode) → e.room.items ≡ [] → HasRowRoom p.locks e.file e.owner (vec_capacity e.room) → replace (held p.locks) e.file e.owner (value_at e.spans) ≡ with_lock (held p.locks) c.file c.owner c.span mode → IsOwn (node_state p).node (node_state p).incarnation c.owner → IsSpan c.span → IsNode p → LocksFit p (Some e)
+unfolding node_state
+lock-edit-fits p e c mode empty room same own span node = (empty, room, own-planned p e c mode same own span node)
 
-pub room-fits : (p : NodeParts) (edit : Option LockEdit) → LocksFit p edit → IfSome edit (λ e. HasRoom p.locks e.file e.owner (vec_capacity e.room))
+pub room-fits : (p : NodeParts) (edit : Option LockEdit) → LocksFit p edit → IfSome edit (λ e. HasRowRoom p.locks e.file e.owner (vec_capacity e.room))
 room-fits p None fit = tt
 room-fits p (Some e) fit = fit.1
+
+-- the server hears
+pub told-effect : (p : NodeParts) (e : EffectFields) (file : ℕ) (r : Result EffectFields AllocError) → e.edit.freed ≡ None → ((drafted p e.edit.draft).files file).asked ≡ true → IfOk r (λ t. t ≡ record { edit = record e.edit { freed = Some file }; reply = e.reply; sends = e.sends ++ Freed file (host (node_state p)) ∷ [] }) → IfOk r (λ told. with_freed file (effect_of p e) ≡ effect_of p told)
+told-effect p e file (Err x) once asked made = tt
+told-effect p e file (Ok t) once asked made =
+    ap (λ (o : Option ℕ). with_freed file (effect_of p (record e { edit = record e.edit { freed = o } }))) once
+    ∙ on ((drafted p e.edit.draft).files file).asked (effect_of p (record { edit = record e.edit { freed = Some file }; reply = e.reply; sends = e.sends ++ Freed file (host (node_state p)) ∷ [] })) (effect_of p (record e { edit = record e.edit { freed = None } })) asked
+    ∙ sym (ap (effect_of p) made)
+
+-- what a step comes to
+pub outcome-planned : (p : NodeParts) (E : Effect) (e : EffectFields) (call : Option CallId) (change : Change) → E ≡ effect_of p e → change ≡ record { edit = e.edit; outcome = record { call = call; reply = e.reply; sends = e.sends } } → outcome call E ≡ (planned p change.edit, change.outcome)
+outcome-planned p E e call change is made = ap (outcome call) is ∙ sym (ap (λ (x : Change). (planned p x.edit, x.outcome)) made)
+
+if-if : {A : Type 0} (b : Bool) (x y z : A) → (if b then x else (if b then y else z)) ≡ (if b then x else z)
+if-if true x y z = refl
+if-if false x y z = refl
+
+-- the parts once the edit is made
+abbrev changed : NodeParts → ℕ → List ProcessRow → List LockRow → List OpenCall → List FileRow → NodeParts
+changed p calls rows locks pending files = record p { calls = calls; processes = rows; locks = locks; pending = pending; files = files }
+
+table-changed : (p : NodeParts) (e : Option ProcessEdit) (edit : Option LockEdit) (rows : List ProcessRow) (locks : List LockRow) → processes rows ≡ processes_after (processes p.processes) e → held locks ≡ locks_after (held p.locks) edit → (node_state (record p { processes = rows; locks = locks })).table ≡ record (table_after (node_state p) e) { locks = locks_after (node_state p).table.locks edit }
+unfolding node_state
+table-changed p None edit rows locks same made = λ i. record { on = λ n k. if (n == p.node) && (k == p.incarnation) then same i else no_processes; locks = made i }
+table-changed p (Some e) edit rows locks same made =
+    (λ i. record { on = λ n k. if (n == p.node) && (k == p.incarnation) then same i else no_processes; locks = made i })
+    ∙ (λ i. record { on = λ n k. sym (if-if ((n == p.node) && (k == p.incarnation)) (edited (processes p.processes) e) (processes p.processes) no_processes) i; locks = locks_after (held p.locks) edit })
+    ∙ sym (λ i. record { on = λ n k. if (n == p.node) && (k == p.incarnation) then edited (around-own p 0 i) e else (if (n == p.node) && (k == p.incarnation) then processes p.processes else no_processes); locks = locks_after (held p.locks) edit })
+
+pub node-planned : (p : NodeParts) (e : Edit) (calls : ℕ) (rows : List ProcessRow) (locks : List LockRow) (pending : List OpenCall) (files : List FileRow) → calls ≡ calls_after p.calls e.draft.numbered → processes rows ≡ processes_after (processes p.processes) e.processes → held locks ≡ locks_after (held p.locks) e.locks → pending ≡ pending_after p.pending e.calls → file_state files ≡ files_told (files_after (file_state p.files) e.draft.command) e.freed → node_state (changed p calls rows locks pending files) ≡ planned p e
+unfolding node_state
+node-planned p e calls rows locks pending files counted ran held_now left known = λ i. record {
+  shape = p.shape;
+  node = p.node;
+  incarnation = p.incarnation;
+  calls = counted i;
+  table = table-changed p e.processes e.locks rows locks ran held_now i;
+  pending = left i;
+  files = known i;
+}
+
+own-edited : (p : NodeParts) (edit : Option LockEdit) → LocksFit p edit → IsNode p → (file : ℕ) → IsOfNode (locks_after (held p.locks) edit file) p.node p.incarnation
+own-edited p None fit h = h.own
+own-edited p (Some e) fit h = fit.2
+
+opened-edited : (p : NodeParts) (e : Option ProcessEdit) → ProcessesFit p e → IsNode p → (pid fd : ℕ) (o : Opened) → (processes_after (processes p.processes) e).opened pid fd ≡ Some o → IsNumber p.shape.files o.file
+unfolding node_state
+opened-edited p None fit h = h.opened_in
+opened-edited p (Some e) fit h = fit.1
+
+calls-edited : (p : NodeParts) (edit : CallsEdit) → CallsFit p edit → IsNode p → All (IsOwnCall p.shape.files p.node p.incarnation) (pending_after p.pending edit)
+unfolding node_state
+calls-edited p Same fit h = h.calls_in
+calls-edited p (Put call room) fit h = All-push (IsOwnCall p.shape.files p.node p.incarnation) p.pending call h.calls_in fit.1
+calls-edited p (Gone number) fit h = All-filter (λ c. not (c.number == number)) (IsOwnCall p.shape.files p.node p.incarnation) p.pending h.calls_in
+
+-- the node stays one
+pub node-edited : (p : NodeParts) (e : Edit) (calls : ℕ) (rows : List ProcessRow) (locks : List LockRow) (pending : List OpenCall) (files : List FileRow) → processes rows ≡ processes_after (processes p.processes) e.processes → held locks ≡ locks_after (held p.locks) e.locks → pending ≡ pending_after p.pending e.calls → length files ≡ length p.files → Fits p e → IsNode p → IsNode (changed p calls rows locks pending files)
+node-edited p e calls rows locks pending files ran held_now left count fit h = record {
+  host = h.host;
+  own = subst (λ (l : Locks). (f : ℕ) → IsOfNode (l f) p.node p.incarnation) (sym held_now) (own-edited p e.locks fit.1 h);
+  files_in = count ∙ h.files_in;
+  opened_in = subst (λ (ps : Processes). (pid fd : ℕ) (o : Opened) → ps.opened pid fd ≡ Some o → IsNumber p.shape.files o.file) (sym ran) (opened-edited p e.processes fit.2 h);
+  calls_in = subst (All (IsOwnCall p.shape.files p.node p.incarnation)) (sym left) (calls-edited p e.calls fit.3 h);
+}
+
+-- the edit of processes fits
+pub processes-fit : (p : NodeParts) (e : Option ProcessEdit) → ProcessesFit p e → IfSome e (ProcessFits p.processes)
+processes-fit p None fit = tt
+processes-fit p (Some e) fit = fit.0

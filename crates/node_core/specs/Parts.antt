@@ -22,7 +22,6 @@ use Rattle.messages.specs.Messages.{addressee, file_of, is_within, greatest_numb
 use Rattle.descriptors.specs.declared.row.Row.{Row as ProcessRow}
 use Rattle.node_core.specs.declared.file_row.FileRow.{FileRow}
 use Rattle.node_core.specs.declared.open_call.OpenCall.{OpenCall}
-use Rattle.node_core.specs.declared.effect.Effect.{Effect as EffectFields}
 use Rattle.descriptors.specs.Rows.{processes}
 pub use Rattle.fcntl_table.specs.Targets.{IsOwn, IsSpan}
 use Rattle.node_core.specs.Files.{file_state}
@@ -71,15 +70,6 @@ pub record IsNode (p : NodeParts) : Type 0 where
   pub files_in : length p.files ≡ p.shape.files
   pub opened_in : (pid fd : ℕ) (o : Opened) → (processes p.processes).opened pid fd ≡ Some o → IsNumber p.shape.files o.file
   pub calls_in : All (IsOwnCall p.shape.files p.node p.incarnation) p.pending
-  pub numbered : All (λ c. c.number ≤ p.calls) p.pending
-
--- the effect of a step that leads to this state
-abbrev pub effect_of : NodeState → EffectFields → Effect
-effect_of s e = record { state = s; reply = e.reply; sends = e.sends }
-
--- the state with the table that an answer gives, and the answer
-abbrev pub tabled : NodeState → Table × Reply → NodeState × Reply
-tabled s answer = (record s { table = answer.0 }, answer.1)
 
 -- what `spawn` and `open` of the process make of the table, and their answers
 abbrev pub spawned : NodeState → ℕ → Table × Reply
@@ -96,11 +86,6 @@ is_for s m = is_node s.node (addressee m) && is_within s.shape.files (file_of m)
 abbrev pub IsCallOf : NodeState → OpenCall → Type 0
 IsCallOf s c = IsOwnCall s.shape.files s.node s.incarnation c
 
--- a number that the node has given out, and that no open call has
-pub record IsNewNumber (s : NodeState) (number : ℕ) : Type 0 where
-  pub given : number ≤ s.calls
-  pub free : open_call s number ≡ None
-
 -- what the grant makes of the node's knowledge of the file
 abbrev pub granted_file : FileState → Command → Range → FileState
 granted_file f c span = record { token = raised f.token span c.mode; last = c.number; answer = Some (Taken c.file c.number c.call); asked = f.asked }
@@ -110,9 +95,9 @@ abbrev pub revoked_file : FileState → Command → Host → GaveUp → FileStat
 revoked_file f c holder gives =
     record { token = after_giving_up f.token c.mode gives; last = c.number; answer = Some (answer_to c.file c.number holder c.call gives); asked = is_conflict gives || f.asked }
 
--- the files, but this of one of them
-abbrev pub with_state : (ℕ → FileState) → ℕ → FileState → ℕ → FileState
-with_state files file state f = if f == file then state else files f
+-- a command that is not the next one: the last one done is answered again, others do nothing
+abbrev pub out_of_order : NodeState → ℕ → ℕ → Effect
+out_of_order s file number = if (number == (s.files file).last) && nat_le 1 number then remembered s (s.files file).answer else quiet s
 
 -- the node after a command
 abbrev pub after_grant : NodeState → Command → Range → NodeState
@@ -120,11 +105,3 @@ after_grant s c span = with_file s c.file (granted_file (s.files c.file) c span)
 
 abbrev pub after_revoke : NodeState → Command → GaveUp → NodeState
 after_revoke s c gives = with_file s c.file (revoked_file (s.files c.file) c (host s) gives)
-
--- a command that is not the next one: the last one done is answered again, others do nothing
-abbrev pub out_of_order : NodeState → ℕ → ℕ → Effect
-out_of_order s file number = if (number == (s.files file).last) && nat_le 1 number then remembered s (s.files file).answer else quiet s
-
--- the node with the file asked or not
-abbrev pub with_asked : NodeState → ℕ → Bool → NodeState
-with_asked s file asked = with_file s file (record (s.files file) { asked = asked })

@@ -1,16 +1,58 @@
 -- What a planned step changes of a node.
-use Rattle.std.specs.Prelude.{◌≡◌, ℕ, ◌+◌, ◌<◌, [], Option, Some, None}
+use Rattle.std.specs.Prelude.{◌≡◌, ℕ, ◌+◌, ◌<◌, ◌==◌, Bool, true, false, not, if◌then◌else◌, List, [], ◌∷◌, ◌++◌, filter, length, Option, Some, None}
 use Rattle.std.specs.Vec.{vec_capacity}
 use Rattle.intervals.specs.Runs.{value_at}
-use Rattle.model.specs.declared.reply.Reply.{Reply}
+use Rattle.intervals.specs.declared.vec_map.VecMap.{VecMap}
+use Rattle.model.specs.declared.level.Level.{Level}
+use Rattle.model.specs.declared.opened.Opened.{Opened}
+use Rattle.model.specs.Descriptors.{Processes}
+use Rattle.model.specs.Limits.{IsNumber}
 use Rattle.model.specs.Locks.{Locks, replace, IsOfNode}
+use Rattle.model.specs.Table.{Table, around, with_processes}
 use Rattle.lock_table.specs.declared.lock_table.LockEdit.{LockEdit}
-use Rattle.lock_table.specs.Rows.{held, HasRoom}
+use Rattle.lock_table.specs.Rows.{held, HasRoom as HasRowRoom}
+use Rattle.token_set.specs.Tokens.{Token}
+use Rattle.token_set.specs.Sets.{token_of}
 use Rattle.messages.specs.Messages.{greatest_number}
-use Rattle.node_core.specs.declared.change.Step.{Step}
-use Rattle.node_core.specs.declared.change.Step.TheVariants.{Quick, Whole}
-use Rattle.node_core.specs.State.{NodeState, Effect, id_of}
-use Rattle.node_core.specs.Parts.{NodeParts, node_state}
+use Rattle.descriptors.specs.declared.edit.ProcessEdit.{ProcessEdit}
+use Rattle.descriptors.specs.Edits.{edited, Fits as ProcessFits}
+use Rattle.node_core.specs.declared.effect.Effect.{Effect as EffectFields}
+use Rattle.node_core.specs.declared.edit.Draft.{Draft}
+use Rattle.node_core.specs.declared.edit.Edit.{Edit}
+use Rattle.node_core.specs.declared.file_row.FileEdit.{FileEdit}
+use Rattle.node_core.specs.declared.open_call.OpenCall.{OpenCall}
+use Rattle.node_core.specs.declared.open_calls.CallsEdit.{CallsEdit}
+use Rattle.node_core.specs.declared.open_calls.CallsEdit.TheVariants.{Same, Put, Gone}
+use Rattle.descriptors.specs.Rows.{processes}
+use Rattle.node_core.specs.State.{FileState, NodeState, Effect, process}
+use Rattle.node_core.specs.Parts.{NodeParts, node_state, IsCallOf}
+
+-- how many calls the node took, with this one or without
+abbrev pub calls_after : ℕ → Bool → ℕ
+calls_after calls true = calls + 1
+calls_after calls false = calls
+
+-- the call takes the next number
+abbrev pub numbered : NodeState → NodeState
+numbered s = record s { calls = s.calls + 1 }
+
+-- the token once the edit is made
+abbrev pub token_after : Token → Option (VecMap Level) → Token
+token_after t None = t
+token_after t (Some levels) = token_of levels
+
+-- what is known of a file once the command is done
+abbrev pub file_after : FileState → FileEdit → FileState
+file_after f e = record { token = token_after f.token e.token; last = e.last; answer = Some e.answer; asked = e.asked }
+
+abbrev pub files_after : (ℕ → FileState) → Option FileEdit → ℕ → FileState
+files_after files None = files
+files_after files (Some e) = λ f. if f == e.file then file_after (files e.file) e else files f
+
+-- the files, of which one is asked no longer
+abbrev pub files_told : (ℕ → FileState) → Option ℕ → ℕ → FileState
+files_told files None = files
+files_told files (Some file) = λ f. if f == file then record (files file) { asked = false } else files f
 
 -- the locks once the edit is made
 abbrev pub locks_after : Locks → Option LockEdit → Locks
@@ -21,30 +63,98 @@ locks_after h (Some e) = replace h e.file e.owner (value_at e.spans)
 abbrev pub with_locks : NodeState → Locks → NodeState
 with_locks s h = record s { table = record s.table { locks = h } }
 
--- the call takes the next number
-abbrev pub numbered : NodeState → NodeState
-numbered s = record s { calls = s.calls + 1 }
+-- the processes once the edit is made
+abbrev pub processes_after : Processes → Option ProcessEdit → Processes
+processes_after ps None = ps
+processes_after ps (Some e) = edited ps e
 
--- the call is answered in its own step
-abbrev pub quick : NodeState → Option LockEdit → NodeState
-quick s e = with_locks (numbered s) (locks_after s.table.locks e)
+-- the table once the edit of the node's processes is made
+abbrev pub table_after : NodeState → Option ProcessEdit → Table
+table_after s None = s.table
+table_after s (Some e) = with_processes s.table (process s 0) (edited (around s.table (process s 0)) e)
 
-abbrev pub quick_effect : NodeState → Option LockEdit → Reply → Effect
-quick_effect s e reply = record { state = quick s e; reply = Some (id_of s (s.calls + 1), reply); sends = [] }
+-- the open calls once the edit is made
+abbrev pub pending_after : List OpenCall → CallsEdit → List OpenCall
+pending_after calls Same = calls
+pending_after calls (Put call room) = calls ++ call ∷ []
+pending_after calls (Gone number) = filter (λ c. not (c.number == number)) calls
+
+-- the state in which a call is tried
+abbrev pub drafted : NodeParts → Draft → NodeState
+drafted p d = record (node_state p) { calls = calls_after (node_state p).calls d.numbered; files = files_after (node_state p).files d.command }
+
+-- the same with the call itself among those that are open, if it is new
+abbrev pub opened_if : Bool → List OpenCall → OpenCall → List OpenCall
+opened_if true calls c = calls ++ c ∷ []
+opened_if false calls c = calls
+
+abbrev pub trying : NodeParts → Draft → OpenCall → NodeState
+trying p d c = record (drafted p d) { pending = opened_if d.numbered (node_state p).pending c }
 
 -- the state that a step leads to
-abbrev pub planned : NodeParts → Step → NodeState
-planned p (Quick e) = quick (node_state p) e
-planned p (Whole q) = node_state q
+abbrev pub planned : NodeParts → Edit → NodeState
+planned p e =
+    let s = drafted p e.draft in
+    record s {
+      table = record (table_after s e.processes) { locks = locks_after s.table.locks e.locks };
+      pending = pending_after s.pending e.calls;
+      files = files_told s.files e.freed;
+    }
+
+-- what the step comes to
+abbrev pub effect_of : NodeParts → EffectFields → Effect
+effect_of p e = record { state = planned p e.edit; reply = e.reply; sends = e.sends }
+
+-- a number is left, if one is taken
+abbrev pub NumberFits : ℕ → Bool → Type 0
+NumberFits calls true = calls < greatest_number
+NumberFits calls false = Unit {0}
+
+-- the file is one of the shape
+abbrev pub CommandFits : ℕ → Option FileEdit → Type 0
+CommandFits files None = Unit {0}
+CommandFits files (Some e) = IsNumber files e.file
+
+abbrev pub FreedFits : ℕ → Option ℕ → Type 0
+FreedFits files None = Unit {0}
+FreedFits files (Some file) = IsNumber files file
+
+abbrev pub DraftFits : NodeParts → Draft → Type 0
+DraftFits p d = NumberFits (node_state p).calls d.numbered × CommandFits (node_state p).shape.files d.command
 
 -- what the edit of locks needs: room where a row is new, and all locks stay those of the node's owners
 abbrev pub LocksFit : NodeParts → Option LockEdit → Type 0
 LocksFit p None = Unit {0}
 LocksFit p (Some e) =
     (e.room.items ≡ [])
-    × HasRoom p.locks e.file e.owner (vec_capacity e.room)
+    × HasRowRoom p.locks e.file e.owner (vec_capacity e.room)
     × ((file : ℕ) → IsOfNode (replace (held p.locks) e.file e.owner (value_at e.spans) file) p.node p.incarnation)
 
-abbrev pub Fits : NodeParts → Step → Type 0
-Fits p (Quick e) = ((node_state p).calls < greatest_number) × LocksFit p e
-Fits p (Whole q) = Unit {0}
+-- what the edit of processes needs: its own, and all that is open stays of files of the shape
+abbrev pub ProcessesFit : NodeParts → Option ProcessEdit → Type 0
+ProcessesFit p None = Unit {0}
+ProcessesFit p (Some e) =
+    ProcessFits p.processes e
+    × ((pid fd : ℕ) (o : Opened) → (edited (processes p.processes) e).opened pid fd ≡ Some o → IsNumber (node_state p).shape.files o.file)
+
+-- room for one more call than so many, where one is put last
+abbrev pub HasRoom : ℕ → CallsEdit → Type 0
+HasRoom n (Put call room) = (room.items ≡ []) × (n < vec_capacity room)
+HasRoom n _ = Unit {0}
+
+-- the call that is put last is one of the node
+abbrev pub IsPut : NodeParts → CallsEdit → Type 0
+IsPut p (Put call room) = IsCallOf (node_state p) call
+IsPut p _ = Unit {0}
+
+abbrev pub CallsFit : NodeParts → CallsEdit → Type 0
+CallsFit p e = HasRoom (length p.pending) e × IsPut p e
+
+-- what the change needs of the node that it was planned from
+abbrev pub Fits : NodeParts → Edit → Type 0
+Fits p e =
+    DraftFits p e.draft
+    × LocksFit p e.locks
+    × ProcessesFit p e.processes
+    × CallsFit p e.calls
+    × FreedFits (node_state p).shape.files e.freed

@@ -1,6 +1,8 @@
-//! What a step gives.
-ghost use Rattle.std.specs.Prelude.{◌≡◌, None, [], ◌∷◌, ◌++◌, IfOk};
+//! What comes of a step.
+ghost use Rattle.std.specs.Prelude.{◌≡◌, Some, None, [], ◌∷◌, ◌++◌, IfOk};
 
+use crate::change::Change;
+use crate::edit::Edit;
 use messages::items::Items;
 use messages::message::Message;
 use messages::outcome::Outcome;
@@ -8,66 +10,89 @@ use model::call::CallId;
 use model::reply::Reply;
 use std::alloc::{AllocError, Global};
 
-/// What a step gives beside the new state: at most one reply, and messages in their order.
+/// What comes of a step: what it changes, at most one reply, and messages in their order.
 #[derive(Drop)]
 pub struct Effect {
+    pub edit: Edit,
     pub reply: Option<(CallId, Reply)>,
     pub sends: Items<Message>,
 }
 
 impl Effect {
-    /// Nothing is answered, nothing is sent.
-    pub fn quiet(alloc: Global) -> Effect
-        ensures { result ≡ record { reply = None; sends = [] } }
+    /// Nothing is answered or sent.
+    pub fn quiet(alloc: Global, edit: Edit) -> Effect
+        ensures { result ≡ record { edit = edit; reply = None; sends = [] } }
     {
         Effect {
+            edit,
             reply: None,
             sends: Items::new(alloc),
         }
     }
 
     /// Nothing is answered, the message is sent.
-    pub fn sent(alloc: Global, message: Message) -> Result<Effect, AllocError>
-        ensures { IfOk result (λ effect. effect ≡ record { reply = None; sends = message ∷ [] }) }
+    pub fn sent(alloc: Global, edit: Edit, message: Message) -> Result<Effect, AllocError>
+        ensures { IfOk result (λ effect. effect ≡ record { edit = edit; reply = None; sends = message ∷ [] }) }
     {
         Ok(Effect {
+            edit,
             reply: None,
             sends: Items::one(alloc, message)?,
         })
     }
 
+    /// The call is answered.
+    pub fn answered(alloc: Global, edit: Edit, call: CallId, reply: Reply) -> Effect
+        ensures { result ≡ record { edit = edit; reply = Some (call, reply); sends = [] } }
+    {
+        Effect {
+            edit,
+            reply: Some((call, reply)),
+            sends: Items::new(alloc),
+        }
+    }
+
     /// The message is sent before the others.
     pub fn after(self, alloc: Global, first: Message) -> Result<Effect, AllocError>
-        ensures { IfOk result (λ effect. effect ≡ record { reply = self.reply; sends = first ∷ self.sends }) }
+        ensures { IfOk result (λ effect. effect ≡ record { edit = self.edit; reply = self.reply; sends = first ∷ self.sends }) }
     {
         let mut sends = Items::one(alloc, first)?;
         sends.append(self.sends)?;
         Ok(Effect {
+            edit: self.edit,
             reply: self.reply,
             sends,
         })
     }
 
-    /// The message is sent after the others.
-    pub fn before(self, last: Message) -> Result<Effect, AllocError>
-        ensures { IfOk result (λ effect. effect ≡ record { reply = self.reply; sends = self.sends ++ last ∷ [] }) }
+    /// The file is asked no longer, and the message is sent after the others.
+    pub fn before(self, file: u16, last: Message) -> Result<Effect, AllocError>
+        ensures { IfOk result (λ effect. effect ≡ record { edit = record self.edit { freed = Some file }; reply = self.reply; sends = self.sends ++ last ∷ [] }) }
     {
-        let mut sends = self.sends;
+        let Effect { edit, reply, sends } = self;
+        let mut sends = sends;
         sends.push(last)?;
         Ok(Effect {
-            reply: self.reply,
+            edit: Edit {
+                freed: Some(file),
+                ..edit
+            },
+            reply,
             sends,
         })
     }
 
-    /// The outcome of a step in which the call took a name, if one did.
-    pub fn outcome(self, call: Option<CallId>) -> Outcome
-        ensures { result ≡ record { call = call; reply = self.reply; sends = self.sends } }
+    /// The change of a step in which the call took a name, if one did.
+    pub fn change(self, call: Option<CallId>) -> Change
+        ensures { result ≡ record { edit = self.edit; outcome = record { call = call; reply = self.reply; sends = self.sends } } }
     {
-        Outcome {
-            call,
-            reply: self.reply,
-            sends: self.sends,
+        Change {
+            edit: self.edit,
+            outcome: Outcome {
+                call,
+                reply: self.reply,
+                sends: self.sends,
+            },
         }
     }
 }

@@ -1,10 +1,11 @@
 //! What a node knows of one file.
-ghost use Rattle.std.specs.Prelude.{◌≡◌, ◌↔◌, false, IfOk, OnOk, OnErr, IsTrue, Contains};
+ghost use Rattle.std.specs.Prelude.{◌≡◌, ◌↔◌, false, IfOk, IsTrue, Contains};
 ghost use Rattle.token_set.specs.Releases.{IsGivenUp};
 ghost use Rattle.node_core.specs.State.{first_file};
 ghost use Rattle.node_core.specs.Commands.{is_conflict};
 ghost use Rattle.node_core.specs.Files.{state_of};
 ghost use Rattle.node_core.specs.Parts.{granted_file, revoked_file};
+ghost use Rattle.node_core.specs.Plans.{file_after};
 
 use crate::command::Command;
 use intervals::span::Span;
@@ -23,6 +24,17 @@ pub struct FileRow {
     pub token: TokenSet,
     pub last: u32,
     pub answer: Option<Message>,
+    pub asked: bool,
+}
+
+/// What a command changes of what a node knows of a file: the token, where it becomes another, the
+/// number and the answer of the command, and whether a lock was named.
+#[derive(Drop)]
+pub struct FileEdit {
+    pub file: u16,
+    pub token: Option<TokenSet>,
+    pub last: u32,
+    pub answer: Message,
     pub asked: bool,
 }
 
@@ -60,43 +72,70 @@ impl FileRow {
         }
     }
 
-    /// The grant is done: the token is raised, and the answer is remembered.
+    /// What the grant changes: the token is raised, and the answer is remembered.
     ///
     /// # Errors
-    /// `AllocError` where a request for memory was refused; the row is as before.
-    pub fn take(&mut self, command: &Command, span: Span) -> Result<(), AllocError>
-        ensures ok { OnOk result (state_of self.new ≡ granted_file (state_of self.old) command.now span) }
-        ensures unchanged { OnErr result (self.new ≡ self.old) }
+    /// `AllocError` where a request for memory was refused.
+    pub fn plan_grant(&self, command: &Command, span: Span) -> Result<FileEdit, AllocError>
+        ensures file { IfOk result (λ edit. edit.file ≡ command.now.file) }
+        ensures state { IfOk result (λ edit. file_after (state_of self.now) edit ≡ granted_file (state_of self.now) command.now span) }
     {
-        self.token.grant(span, command.mode)?;
-        self.last = command.number;
-        self.answer = Some(command.taken());
-        Ok(())
+        let mut token = self.token.copy()?;
+        token.grant(span, command.mode)?;
+        Ok(FileEdit {
+            file: command.file,
+            token: Some(token),
+            last: command.number,
+            answer: command.taken(),
+            asked: self.asked,
+        })
     }
 
-    /// The revoke is done by the holder's locks of the file: the token is given up as far as none of
-    /// them is in the way, the answer is remembered, and the file is asked where one was named.
+    /// What the revoke changes, by the holder's locks of the file: the token is given up as far as none
+    /// of them is in the way, the answer is remembered, and the file is asked where one was named.
     ///
     /// # Errors
-    /// `AllocError` where a request for memory was refused; the row is as before.
-    pub fn revoke(
-        &mut self,
+    /// `AllocError` where a request for memory was refused.
+    pub fn plan_revoke(
+        &self,
         command: &Command,
         holder: Host,
         wanted: Wanted,
         locks: &[LockInfo],
-    ) -> Result<GaveUp, AllocError>
-        ensures answer { IfOk result (λ gives. IsGivenUp (Contains locks.now) command.now.mode wanted.required wanted.desired gives) }
-        ensures state { IfOk result (λ gives. state_of self.new ≡ revoked_file (state_of self.old) command.now holder gives) }
-        ensures unchanged { OnErr result (self.new ≡ self.old) }
+    ) -> Result<(GaveUp, FileEdit), AllocError>
+        ensures answer { IfOk result (λ r. IsGivenUp (Contains locks.now) command.now.mode wanted.required wanted.desired r.0) }
+        ensures file { IfOk result (λ r. r.1.file ≡ command.now.file) }
+        ensures state { IfOk result (λ r. file_after (state_of self.now) r.1 ≡ revoked_file (state_of self.now) command.now holder r.0) }
     {
-        let gives = self
-            .token
-            .give_up(command.mode, wanted.required, wanted.desired, locks)?;
-        self.last = command.number;
-        self.answer = Some(command.answer(holder, gives));
-        self.asked = is_conflict(&gives) || self.asked;
-        Ok(gives)
+        let mut token = self.token.copy()?;
+        let gives = token.give_up(command.mode, wanted.required, wanted.desired, locks)?;
+        let edit = FileEdit {
+            file: command.file,
+            token: Some(token),
+            last: command.number,
+            answer: command.answer(holder, gives),
+            asked: is_conflict(&gives) || self.asked,
+        };
+        Ok((gives, edit))
+    }
+
+    /// The command is done. Takes no memory.
+    pub fn apply(&mut self, edit: FileEdit)
+        ensures { state_of self.new ≡ file_after (state_of self.old) edit }
+    {
+        let FileEdit {
+            token,
+            last,
+            answer,
+            asked,
+            ..
+        } = edit;
+        if let Some(token) = token {
+            self.token = token;
+        }
+        self.last = last;
+        self.answer = Some(answer);
+        self.asked = asked;
     }
 
     /// The file is asked no longer.

@@ -1,19 +1,12 @@
 //! The files of a node.
-ghost use Rattle.std.specs.Prelude.{◌≡◌, ◌↔◌, false, IfOk, OnOk, IsTrue, Contains, length};
+ghost use Rattle.std.specs.Prelude.{◌≡◌, ◌↔◌, IfOk, IsTrue, length};
 ghost use Rattle.model.specs.Limits.{IsNumber};
-ghost use Rattle.token_set.specs.Releases.{IsGivenUp};
 ghost use Rattle.node_core.specs.State.{first_file};
 ghost use Rattle.node_core.specs.Files.{state_of, file_state};
-ghost use Rattle.node_core.specs.Parts.{with_state, granted_file, revoked_file};
+ghost use Rattle.node_core.specs.Plans.{files_after, files_told, CommandFits, FreedFits};
 
-use crate::command::Command;
-use crate::file_row::FileRow;
-use intervals::span::Span;
-use messages::wanted::Wanted;
-use model::host::Host;
-use model::lock_info::LockInfo;
+use crate::file_row::{FileEdit, FileRow};
 use std::alloc::{AllocError, Global};
-use token_set::gave_up::GaveUp;
 
 /// So many files of which nothing is known.
 pub fn new_files(alloc: Global, count: u16) -> Result<Vec<FileRow>, AllocError>
@@ -59,36 +52,26 @@ pub fn file_of(files: &[FileRow], file: u16) -> &FileRow
     &files[file as usize - 1]
 }
 
-/// The grant is done at its file.
-pub fn take_grant(files: &mut [FileRow], command: &Command, span: Span) -> Result<(), AllocError>
-    requires { IsNumber (length files.old) command.now.file }
-    ensures { OnOk result (file_state files.new ≡ with_state (file_state files.old) command.now.file (granted_file (file_state files.old command.now.file) command.now span)) }
+/// The command is done at its file, if there is one. Takes no memory.
+pub fn apply_command(files: &mut Vec<FileRow>, command: Option<FileEdit>)
+    requires { CommandFits (length files.old.items) command }
+    ensures state { file_state files.new.items ≡ files_after (file_state files.old.items) command }
+    ensures count { length files.new.items ≡ length files.old.items }
 {
-    let row = &mut files[command.file as usize - 1];
-    row.take(command, span)
+    if let Some(edit) = command {
+        let row = &mut files[edit.file as usize - 1];
+        row.apply(edit);
+    }
 }
 
-/// The revoke is done at its file, by the holder's locks of the file.
-pub fn take_revoke(
-    files: &mut [FileRow],
-    command: &Command,
-    holder: Host,
-    wanted: Wanted,
-    locks: &[LockInfo],
-) -> Result<GaveUp, AllocError>
-    requires { IsNumber (length files.old) command.now.file }
-    ensures answer { IfOk result (λ gives. IsGivenUp (Contains locks.now) command.now.mode wanted.required wanted.desired gives) }
-    ensures state { IfOk result (λ gives. file_state files.new ≡ with_state (file_state files.old) command.now.file (revoked_file (file_state files.old command.now.file) command.now holder gives)) }
+/// The file is asked no longer, if there is one.
+pub fn clear_asked(files: &mut Vec<FileRow>, freed: Option<u16>)
+    requires { FreedFits (length files.old.items) freed }
+    ensures state { file_state files.new.items ≡ files_told (file_state files.old.items) freed }
+    ensures count { length files.new.items ≡ length files.old.items }
 {
-    let row = &mut files[command.file as usize - 1];
-    row.revoke(command, holder, wanted, locks)
-}
-
-/// The file is asked no longer.
-pub fn clear_asked(files: &mut [FileRow], file: u16)
-    requires { IsNumber (length files.old) file }
-    ensures { file_state files.new ≡ with_state (file_state files.old) file (record (file_state files.old file) { asked = false }) }
-{
-    let row = &mut files[file as usize - 1];
-    row.clear_asked();
+    if let Some(file) = freed {
+        let row = &mut files[file as usize - 1];
+        row.clear_asked();
+    }
 }

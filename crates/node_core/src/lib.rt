@@ -3,6 +3,7 @@
 
 pub mod change;
 pub mod command;
+pub mod edit;
 pub mod effect;
 pub mod event;
 pub mod file_row;
@@ -12,4 +13,4 @@ pub mod locks;
 pub mod node;
 mod numbers;
 pub mod open_call;
-mod open_calls;
+pub mod open_calls;

@@ -1,27 +1,29 @@
 //! A node.
 ghost use Rattle.std.specs.Prelude.{◌≡◌, ◌≢◌, ◌≤◌, ◌↔◌, Ok, Err, IfOk, IfErr, IfSome, IsTrue};
 ghost use Rattle.model.specs.Limits.{IsNumber, most_processes};
-ghost use Rattle.node_core.specs.State.{first_node, host, process, id_of, open_call, open_call_of, without_call, answered};
+ghost use Rattle.node_core.specs.State.{first_node, host, process, id_of, open_call, open_call_of};
 ghost use Rattle.node_core.specs.Node.{node_rule};
 ghost use Rattle.node_core.specs.Files.{state_of};
-ghost use Rattle.node_core.specs.Parts.{node_state, effect_of, IsCallOf};
+ghost use Rattle.node_core.specs.Parts.{node_state, IsCallOf};
+ghost use Rattle.node_core.specs.Plans.{planned, Fits};
 
-use descriptors::processes::Processes;
-use crate::effect::Effect;
+use crate::change::Change;
+use crate::edit::{Draft, Edit, apply_processes};
 use crate::event::NodeEvent;
 use crate::file_row::FileRow;
-use crate::files::{copy_files, file_of, new_files, same_files};
+use crate::files::{apply_command, clear_asked, copy_files, file_of, new_files, same_files};
+use crate::locks::apply_locks;
+use crate::numbers::calls_after;
 use crate::open_call::OpenCall;
 use crate::open_calls::OpenCalls;
+use descriptors::processes::Processes;
 use lock_table::lock_table::LockTable;
-use messages::items::Items;
 use messages::outcome::Outcome;
 use messages::refusal::StepError;
 use messages::shape::Shape;
 use model::call::CallId;
 use model::host::Host;
 use model::process::Process;
-use model::reply::Reply;
 use std::alloc::{AllocError, Global};
 use std::marker::Model;
 
@@ -179,37 +181,55 @@ impl Node {
         file_of(&self.files, file)
     }
 
-    // The call is open no longer.
-    #[tactic(auto, unfolding(crate::specs::Parts::node_state))]
-    fn close_call(&mut self, number: u32)
-        ensures { node_state self.new ≡ without_call (node_state self.old) number }
-    {
-        self.pending.remove(number);
-    }
-
-    // The call is answered and open no longer.
-    fn answer(&mut self, alloc: Global, number: u32, reply: Reply) -> Effect
-        requires { 1 ≤ number }
-        ensures { answered (node_state self.old) number reply ≡ effect_of (node_state self.new) result }
-    {
-        let id = self.id(number);
-        self.close_call(number);
-        Effect {
-            reply: Some((id, reply)),
-            sends: Items::new(alloc),
-        }
-    }
-
-    // What the event does to this node, and what that gives.
-    fn take_event(&mut self, alloc: Global, event: &NodeEvent) -> Result<Outcome, StepError>
-        ensures ok { IfOk result (λ outcome. node_rule (node_state self.old) event.now ≡ Ok (node_state self.new, outcome)) }
-        ensures err { IfErr result (λ error. error ≢ StepError.NoMemory → node_rule (node_state self.old) event.now ≡ Err error) }
+    /// What the node will do at an event, as `step` says. It costs what the parts that the event
+    /// changes hold, and no more: of the locks those of one owner in one file, of the files one.
+    ///
+    /// # Errors
+    /// Those of `step`.
+    pub fn plan(&self, alloc: Global, event: &NodeEvent) -> Result<Change, StepError>
+        ensures ok { IfOk result (λ change. node_rule (node_state self.now) event.now ≡ Ok (planned self.now change.edit, change.outcome)) }
+        ensures err { IfErr result (λ error. error ≢ StepError.NoMemory → node_rule (node_state self.now) event.now ≡ Err error) }
+        ensures refused { (r : StepError) → node_rule (node_state self.now) event.now ≡ Err r → result ≡ Err r }
+        ensures fits { IfOk result (λ change. Fits self.now change.edit) }
     {
         match event {
-            NodeEvent::Call { pid, op } => self.take_call(alloc, *pid, op),
-            NodeEvent::Deliver(message) => self.take_message(alloc, message),
-            NodeEvent::Retry { pid } => self.retry(alloc, *pid),
+            NodeEvent::Call { pid, op } => self.plan_call(alloc, *pid, op),
+            NodeEvent::Deliver(message) => self.plan_message(alloc, message),
+            NodeEvent::Retry { pid } => self.plan_retry(alloc, *pid),
         }
+    }
+
+    // Makes a planned change of each part.
+    #[tactic(auto, unfolding(crate::specs::Parts::node_state))]
+    fn apply_edit(&mut self, edit: Edit)
+        requires { Fits self.old edit }
+        ensures { node_state self.new ≡ planned self.old edit }
+    {
+        let Edit {
+            draft,
+            processes,
+            locks,
+            calls,
+            freed,
+        } = edit;
+        let Draft { numbered, command } = draft;
+        self.calls = calls_after(self.calls, numbered);
+        apply_processes(&mut self.processes, processes);
+        apply_locks(&mut self.locks, locks);
+        self.pending.apply(calls);
+        apply_command(&mut self.files, command);
+        clear_asked(&mut self.files, freed);
+    }
+
+    /// Makes a planned change. Takes no memory.
+    pub fn apply(&mut self, change: Change) -> Outcome
+        requires { Fits self.old change.edit }
+        ensures state { node_state self.new ≡ planned self.old change.edit }
+        ensures outcome { result ≡ change.outcome }
+    {
+        let Change { edit, outcome } = change;
+        self.apply_edit(edit);
+        outcome
     }
 
     /// What the node does at an event, and what that gives. The node itself stays as it is.
@@ -217,13 +237,15 @@ impl Node {
     /// # Errors
     /// In this order: `Stranger` where a process's number is outside 1 to 256, a file is outside the
     /// shape, or a message is for another; `Busy` where the process has an open call; `Spent` where
-    /// no call number is left. `NoMemory` where a request for memory was refused.
+    /// no call number is left. Each of them comes before memory is asked for. `NoMemory` where a
+    /// request for memory was refused.
     pub fn step(&self, alloc: Global, event: &NodeEvent) -> Result<(Node, Outcome), StepError>
         ensures ok { IfOk result (λ r. node_rule (node_state self.now) event.now ≡ Ok (node_state r.0, r.1)) }
         ensures err { IfErr result (λ error. error ≢ StepError.NoMemory → node_rule (node_state self.now) event.now ≡ Err error) }
+        ensures refused { (r : StepError) → node_rule (node_state self.now) event.now ≡ Err r → result ≡ Err r }
     {
+        let change = self.plan(alloc, event)?;
         let mut next = self.copy(alloc)?;
-        let change = next.plan(alloc, event)?;
         let outcome = next.apply(change);
         Ok((next, outcome))
     }
@@ -259,7 +281,6 @@ impl Node {
 
 mod calls;
 mod commands;
-mod plans;
 mod readers;
 #[cfg(test)]
 mod tests;

@@ -3,6 +3,7 @@ ghost use Rattle.std.specs.Prelude.{◌≡◌};
 ghost use Rattle.messages.specs.Messages.{is_within};
 ghost use Rattle.node_core.specs.Calls.{is_pid};
 ghost use Rattle.node_core.specs.Commands.{is_node};
+ghost use Rattle.node_core.specs.Plans.{calls_after, NumberFits};
 
 use messages::actor::Actor;
 use model::limits::MOST_PROCESSES;
@@ -12,6 +13,17 @@ pub fn is_pid(pid: u16) -> bool
     ensures { result ≡ is_pid pid }
 {
     is_within(MOST_PROCESSES, pid)
+}
+
+/// How many calls a node took, with one more or without.
+pub fn calls_after(calls: u32, numbered: bool) -> u32
+    requires { NumberFits calls numbered }
+    ensures { result ≡ calls_after calls numbered }
+{
+    if numbered {
+        return calls + 1;
+    }
+    calls
 }
 
 /// Whether the number is one of those from 1 to the most.

@@ -1,28 +1,51 @@
 //! The open calls of a node, in order of arrival.
-ghost use Rattle.std.specs.Prelude.{◌≡◌, ◌==◌, ◌↔◌, ◌++◌, ◌∷◌, [], not, None, IfOk, OnOk, OnErr, IsTrue, is_some, find, filter};
+ghost use Rattle.std.specs.Prelude.{◌≡◌, ◌==◌, ◌↔◌, ◌++◌, ◌∷◌, ◌<◌, ◌≤◌, [], not, IfOk, IsTrue, is_some, find, filter, length};
+ghost use Rattle.std.specs.Vec.{vec_capacity};
+ghost use Rattle.node_core.specs.Plans.{pending_after, HasRoom};
 
 use crate::open_call::OpenCall;
-use indexmap::IndexMap;
 use std::alloc::{AllocError, Global};
 use std::marker::Model;
 
-/// The open calls of a node by their numbers, in order of arrival.
+/// How a step changes the open calls.
+#[derive(Drop)]
+pub enum CallsEdit {
+    /// They stay.
+    Same,
+    /// One more call is open, and comes last; the list is empty and has room for all of them.
+    Put(OpenCall, Vec<OpenCall>),
+    /// The call with that number is open no longer.
+    Gone(u32),
+}
+
+/// The open calls of a node, in order of arrival; at most one of each process.
 #[derive(Drop)]
 pub struct OpenCalls {
-    calls: IndexMap<u32, OpenCall>,
+    calls: Vec<OpenCall>,
 }
 
 impl Model for OpenCalls {
     ghost use Rattle.std.specs.Prelude.{List};
-    ghost use Rattle.indexmap.specs.IndexMap.{values};
-    ghost use Rattle.node_core.specs.OpenCalls.{IsByNumber};
     ghost use Rattle.node_core.specs.declared.open_call.OpenCall.{OpenCall as Call};
 
     ghost Value = { List Call };
 
-    ghost view = { λ c. values c.calls };
+    ghost view = { λ c. c.calls.items };
+}
 
-    ghost invariant = { λ c. IsByNumber c.calls };
+// Puts one more call last, by the list that has room for all.
+fn put_last(calls: &mut Vec<OpenCall>, call: OpenCall, room: Vec<OpenCall>)
+    requires empty { room.items ≡ [] }
+    requires room { length calls.old.items < vec_capacity room }
+    ensures { calls.new.items ≡ calls.old.items ++ call ∷ [] }
+{
+    let mut moved = std::mem::replace(calls, room);
+    let Ok(()) = calls.append(&mut moved) else {
+        unreachable!()
+    };
+    let Ok(()) = calls.push(call) else {
+        unreachable!()
+    };
 }
 
 impl OpenCalls {
@@ -31,7 +54,7 @@ impl OpenCalls {
         ensures { result ≡ [] }
     {
         OpenCalls {
-            calls: IndexMap::new(alloc),
+            calls: Vec::new(alloc),
         }
     }
 
@@ -43,7 +66,7 @@ impl OpenCalls {
         ensures { IfOk result (λ copy. copy ≡ self.now) }
     {
         Ok(OpenCalls {
-            calls: self.calls.clone()?,
+            calls: Vec::from_slice(*self.calls.allocator(), &self.calls)?,
         })
     }
 
@@ -51,41 +74,47 @@ impl OpenCalls {
     pub fn get(&self, number: u32) -> Option<OpenCall>
         ensures { result ≡ find (λ c. c.number == number) self.now }
     {
-        self.calls.get(&number).copied()
+        self.calls
+            .iter()
+            .find(|call| call.number == number)
+            .copied()
     }
 
     /// The open call of the process.
     pub fn call_of(&self, pid: u16) -> Option<OpenCall>
         ensures { result ≡ find (λ c. c.pid == pid) self.now }
     {
-        self.calls.values().find(|call| call.pid == pid).copied()
+        self.calls.iter().find(|call| call.pid == pid).copied()
     }
 
     /// Whether the process has an open call.
     pub fn has_call_of(&self, pid: u16) -> bool
         ensures { result ≡ is_some (find (λ c. c.pid == pid) self.now) }
     {
-        self.calls.values().any(|call| call.pid == pid)
+        self.calls.iter().any(|call| call.pid == pid)
     }
 
-    /// The call is open from now on, and comes last. No open call has its number.
+    /// An empty list with room for all open calls and one more.
     ///
     /// # Errors
     /// `AllocError` where a request for memory was refused.
-    pub fn push(&mut self, call: OpenCall) -> Result<(), AllocError>
-        requires { find (λ c. c.number == call.number) self.old ≡ None }
-        ensures ok { OnOk result (self.new ≡ self.old ++ call ∷ []) }
-        ensures err { OnErr result (self.new ≡ self.old) }
+    pub fn room(&self) -> Result<Vec<OpenCall>, AllocError>
+        ensures empty { IfOk result (λ room. room.items ≡ []) }
+        ensures room { IfOk result (λ room. length self.now < vec_capacity room) }
     {
-        self.calls.insert(call.number, call)?;
-        Ok(())
+        Vec::with_capacity(*self.calls.allocator(), self.calls.len() + 1)
     }
 
-    /// The call with that number is open no longer. The others keep their order.
-    pub fn remove(&mut self, number: u32)
-        ensures { self.new ≡ filter (λ c. not (c.number == number)) self.old }
+    /// Makes a planned change. Takes no memory.
+    pub fn apply(&mut self, edit: CallsEdit)
+        requires { HasRoom (length self.old) edit }
+        ensures { self.new ≡ pending_after self.old edit }
     {
-        self.calls.shift_remove(&number);
+        match edit {
+            CallsEdit::Same => {}
+            CallsEdit::Put(call, room) => put_last(&mut self.calls, call, room),
+            CallsEdit::Gone(number) => self.calls.retain(|call| call.number != number),
+        }
     }
 
     /// Whether both are the same calls in the same order.

@@ -115,15 +115,13 @@ fn step(table: &mut FcntlTable, process: Process, op: Op) -> Result<Reply, Alloc
             mode,
             start,
             len,
-        } => Ok(
-            match table.target(process, None, fd, kind, start, len) {
-                Ok(call) => match table.blocker(call, mode) {
-                    Some(lock) => Reply::Blocked(lock),
-                    None => Reply::Free,
-                },
-                Err(refusal) => refusal,
+        } => Ok(match table.target(process, None, fd, kind, start, len) {
+            Ok(call) => match table.blocker(call, mode) {
+                Some(lock) => Reply::Blocked(lock),
+                None => Reply::Free,
             },
-        ),
+            Err(refusal) => refusal,
+        }),
     }
 }
 
@@ -147,13 +145,21 @@ fn two_processes(rt: &impl AllocGlobal) -> Result<FcntlTable, Fail> {
 fn unlocks_the_middle_of_a_lock(rt: HostRuntime) -> Result<(), Fail> {
     let mut table = FcntlTable::new(rt.alloc());
     assert_eq!(rt; step(&mut table, FIRST, Op::Spawn)?, Reply::Done);
-    assert_eq!(rt; step(&mut table, FIRST, open(Access::ReadWrite))?, Reply::Fd(0));
+    assert_eq!(rt;
+        step(&mut table, FIRST, open(Access::ReadWrite))?,
+        Reply::Fd(0)
+    );
     assert_eq!(rt;
         step(&mut table, FIRST, set(0, Mode::Write, 0, 100))?,
         Reply::Done
     );
     assert_eq!(rt; step(&mut table, FIRST, unlock(0, 40, 20))?, Reply::Done);
-    for (lo, hi, held) in [(0, 39, true), (60, 99, true), (0, 99, false), (40, 59, false)] {
+    for (lo, hi, held) in [
+        (0, 39, true),
+        (60, 99, true),
+        (0, 99, false),
+        (40, 59, false),
+    ] {
         assert!(rt; holds(&table, FIRST_OWNER, Mode::Write, lo, hi) == held);
     }
     Ok(())
@@ -164,7 +170,10 @@ fn names_the_whole_region_that_blocks(rt: HostRuntime) -> Result<(), Fail> {
     let mut table = FcntlTable::new(rt.alloc());
     for process in [FIRST, SECOND] {
         assert_eq!(rt; step(&mut table, process, Op::Spawn)?, Reply::Done);
-        assert_eq!(rt; step(&mut table, process, open(Access::ReadWrite))?, Reply::Fd(0));
+        assert_eq!(rt;
+            step(&mut table, process, open(Access::ReadWrite))?,
+            Reply::Fd(0)
+        );
     }
     assert_eq!(rt;
         step(&mut table, FIRST, set(0, Mode::Write, 0, 100))?,
@@ -189,7 +198,10 @@ fn names_the_whole_region_that_blocks(rt: HostRuntime) -> Result<(), Fail> {
 #[test]
 fn queries_name_what_would_block(rt: HostRuntime) -> Result<(), Fail> {
     let mut table = two_processes(&rt)?;
-    assert_eq!(rt; step(&mut table, SECOND, open(Access::ReadOnly))?, Reply::Fd(1));
+    assert_eq!(rt;
+        step(&mut table, SECOND, open(Access::ReadOnly))?,
+        Reply::Fd(1)
+    );
     step(&mut table, FIRST, set(0, Mode::Read, 0, 100))?;
     let blocked = Reply::Blocked(LockInfo {
         owner: FIRST_OWNER,
@@ -262,7 +274,10 @@ fn keeps_process_and_description_locks_apart(rt: HostRuntime) -> Result<(), Fail
         mode: Mode::Read,
         span: Span { lo: 10, hi: 19 },
     };
-    assert_eq!(rt; step(&mut table, SECOND, by_description)?, Reply::Again(blocks));
+    assert_eq!(rt;
+        step(&mut table, SECOND, by_description)?,
+        Reply::Again(blocks)
+    );
     assert_eq!(rt; step(&mut table, SECOND, unlock(0, 15, 1))?, Reply::Done);
     assert_eq!(rt; step(&mut table, SECOND, by_description)?, Reply::Done);
     let blocks = LockInfo {
@@ -295,7 +310,10 @@ fn refuses_one_region_too_many(rt: HostRuntime) -> Result<(), Fail> {
         Reply::NoLocks
     );
     assert!(rt; !holds(&table, FIRST_OWNER, Mode::Read, 2048, 2048));
-    assert_eq!(rt; step(&mut table, FIRST, set(0, Mode::Read, 1, 1))?, Reply::Done);
+    assert_eq!(rt;
+        step(&mut table, FIRST, set(0, Mode::Read, 1, 1))?,
+        Reply::Done
+    );
     assert_eq!(rt;
         step(&mut table, FIRST, set(0, Mode::Read, 2048, 1))?,
         Reply::Done
@@ -343,6 +361,9 @@ fn fails_one_incarnation(rt: HostRuntime) -> Result<(), Fail> {
     ] {
         assert_eq!(rt; step(&mut table, process, Op::Spawn)?, reply);
     }
-    assert_eq!(rt; step(&mut table, SECOND, open(Access::ReadOnly))?, Reply::Fd(0));
+    assert_eq!(rt;
+        step(&mut table, SECOND, open(Access::ReadOnly))?,
+        Reply::Fd(0)
+    );
     Ok(())
 }

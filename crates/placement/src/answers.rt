@@ -28,7 +28,12 @@ fn is_same(one: &Reply, other: &Reply) -> bool
 ///
 /// # Errors
 /// `NoMemory` where a request for memory was refused.
-pub(crate) fn take(table: &mut FcntlTable, process: Process, op: Op, reply: Reply) -> Result<bool, NoMemory>
+pub(crate) fn take(
+    table: &mut FcntlTable,
+    process: Process,
+    op: Op,
+    reply: Reply,
+) -> Result<bool, NoMemory>
     ensures taken { IfOk result (λ yes. yes ≡ true → Step (table_of table.old) process op reply (table_of table.new)) }
     ensures never { IfOk result (λ yes. yes ≡ false → NeverAnswers (table_of table.old) process op reply) }
 {
@@ -40,7 +45,12 @@ pub(crate) fn take(table: &mut FcntlTable, process: Process, op: Op, reply: Repl
 }
 
 // The step that is answered so, where the answer names no lock.
-fn take_answer(table: &mut FcntlTable, process: Process, op: Op, reply: Reply) -> Result<bool, NoMemory>
+fn take_answer(
+    table: &mut FcntlTable,
+    process: Process,
+    op: Op,
+    reply: Reply,
+) -> Result<bool, NoMemory>
     requires { NamesNoLock reply }
     ensures taken { IfOk result (λ yes. yes ≡ true → Step (table_of table.old) process op reply (table_of table.new)) }
     ensures never { IfOk result (λ yes. yes ≡ false → NeverAnswers (table_of table.old) process op reply) }
@@ -177,7 +187,15 @@ fn unlock(
 }
 
 // Whether a lock on a segment would be in the way of another owner's.
-fn query(table: &FcntlTable, process: Process, fd: u8, kind: Kind, mode: Mode, start: i64, len: i64) -> Reply
+fn query(
+    table: &FcntlTable,
+    process: Process,
+    fd: u8,
+    kind: Kind,
+    mode: Mode,
+    start: i64,
+    len: i64,
+) -> Reply
     ensures { Step (table_of table.now) process (Query fd kind mode start len) result (table_of table.now) }
 {
     let call = match table.target(process, None, fd, kind, start, len) {

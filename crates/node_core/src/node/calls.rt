@@ -1,20 +1,25 @@
 //! A node takes a call of one of its processes.
-ghost use Rattle.std.specs.Prelude.{◌≡◌, ◌≢◌, ◌+◌, ◌≤◌, ◌<◌, ◌↔◌, ◌++◌, ◌∷◌, [], true, Ok, Err, IfOk, IfErr, OnOk, IsTrue, is_some};
+ghost use Rattle.std.specs.Prelude.{◌≡◌, ◌≢◌, ◌+◌, ◌≤◌, ◌<◌, ◌↔◌, true, Ok, Err, IfOk, IfErr, IsTrue, is_some};
 ghost use Rattle.model.specs.Limits.{IsNumber, most_processes};
 ghost use Rattle.model.specs.Table.{target};
 ghost use Rattle.messages.specs.Messages.{greatest_number};
 ghost use Rattle.node_core.specs.State.{process, open_call_of};
-ghost use Rattle.node_core.specs.Calls.{is_in_shape, lock_call, unlock_call, called, after_call, call_rule};
+ghost use Rattle.node_core.specs.Try.{settled};
+ghost use Rattle.node_core.specs.Calls.{is_in_shape, lock_call, unlock_call, called, call_rule};
 ghost use Rattle.node_core.specs.Retries.{retry_rule};
-ghost use Rattle.node_core.specs.Parts.{node_state, effect_of, tabled, spawned, opened, IsOwn, IsSpan, IsCallOf, IsNewNumber};
+ghost use Rattle.node_core.specs.Parts.{node_state, spawned, opened, IsOwn, IsSpan};
+ghost use Rattle.node_core.specs.Plans.{numbered, table_after, planned, effect_of, ProcessesFit, Fits};
 
 use super::Node;
+use crate::change::Change;
+use crate::edit::{Draft, Edit};
 use crate::effect::Effect;
 use crate::numbers::is_pid;
 use crate::open_call::{Intent, OpenCall};
+use crate::open_calls::CallsEdit;
+use descriptors::edit::ProcessEdit;
 use fcntl_table::target::target_at;
 use intervals::span::Span;
-use messages::outcome::Outcome;
 use messages::refusal::StepError;
 use model::access::Access;
 use model::lock_call::LockCall;
@@ -27,7 +32,7 @@ use std::alloc::{AllocError, Global};
 impl Node {
     // Whether the file that the operation names is of the shape.
     #[tactic(auto, unfolding(crate::specs::Parts::node_state))]
-    pub(super) fn is_in_shape(&self, op: &Op) -> bool
+    fn is_in_shape(&self, op: &Op) -> bool
         ensures { result ≡ is_in_shape (node_state self.now).shape op.now }
     {
         match op {
@@ -38,7 +43,7 @@ impl Node {
 
     // Whether the process has an open call.
     #[tactic(auto, unfolding(crate::specs::Parts::node_state))]
-    pub(super) fn has_open_call(&self, pid: u16) -> bool
+    fn has_open_call(&self, pid: u16) -> bool
         ensures { result ≡ is_some (open_call_of (node_state self.now) pid) }
     {
         self.pending.has_call_of(pid)
@@ -46,61 +51,52 @@ impl Node {
 
     // Whether no call number is left.
     #[tactic(auto, unfolding(crate::specs::Parts::node_state))]
-    pub(super) fn is_spent(&self) -> bool
+    fn is_spent(&self) -> bool
         ensures { IsTrue result ↔ (greatest_number ≤ (node_state self.now).calls) }
     {
         self.calls == u32::MAX
     }
 
-    // The call takes the next number.
+    // The number that the next call takes.
     #[tactic(auto, unfolding(crate::specs::Parts::node_state))]
-    fn number_call(&mut self) -> u32
-        requires { (node_state self.old).calls < greatest_number }
-        ensures state { node_state self.new ≡ record (node_state self.old) { calls = (node_state self.old).calls + 1 } }
-        ensures number { result ≡ (node_state self.old).calls + 1 }
-        ensures new { IsNewNumber (node_state self.new) result }
+    fn next_number(&self) -> u32
+        requires { (node_state self.now).calls < greatest_number }
+        ensures { result ≡ (node_state self.now).calls + 1 }
     {
-        self.calls += 1;
-        self.calls
-    }
-
-    // The call is open from now on.
-    #[tactic(auto, unfolding(crate::specs::Parts::node_state))]
-    fn keep_call(&mut self, call: OpenCall) -> Result<(), AllocError>
-        requires own { IsCallOf (node_state self.old) call }
-        requires new { IsNewNumber (node_state self.old) call.number }
-        ensures { OnOk result (node_state self.new ≡ record (node_state self.old) { pending = (node_state self.old).pending ++ call ∷ [] }) }
-    {
-        self.pending.push(call)?;
-        Ok(())
+        self.calls + 1
     }
 
     // The process begins.
-    fn spawn(&mut self, pid: u16) -> Result<Reply, AllocError>
+    fn spawn(&self, pid: u16) -> Result<(Option<ProcessEdit>, Reply), AllocError>
         requires { IsNumber most_processes pid }
-        ensures { IfOk result (λ reply. tabled (node_state self.old) (spawned (node_state self.old) pid) ≡ (node_state self.new, reply)) }
+        ensures value { IfOk result (λ r. spawned (node_state self.now) pid ≡ (table_after (node_state self.now) r.0, r.1)) }
+        ensures fits { IfOk result (λ r. ProcessesFit self.now r.0) }
     {
-        if let Err(error) = self.processes.spawn(pid) {
-            return error.reply();
+        match self.processes.plan_spawn(pid) {
+            Ok(edit) => Ok((Some(edit), Reply::Done)),
+            Err(error) => Ok((None, error.reply()?)),
         }
-        Ok(Reply::Done)
     }
 
     // The process opens the file.
-    fn open(&mut self, pid: u16, file: u16, access: Access) -> Result<Reply, AllocError>
-        requires pid { IsNumber most_processes pid }
-        requires file { IsNumber (node_state self.old).shape.files file }
-        ensures { IfOk result (λ reply. tabled (node_state self.old) (opened (node_state self.old) pid file access) ≡ (node_state self.new, reply)) }
+    fn open(
+        &self,
+        pid: u16,
+        file: u16,
+        access: Access,
+    ) -> Result<(Option<ProcessEdit>, Reply), AllocError>
+        requires { IsNumber (node_state self.now).shape.files file }
+        ensures value { IfOk result (λ r. opened (node_state self.now) pid file access ≡ (table_after (node_state self.now) r.0, r.1)) }
+        ensures fits { IfOk result (λ r. ProcessesFit self.now r.0) }
     {
-        let fd = match self.processes.open(pid, file, access) {
-            Ok(fd) => fd,
-            Err(error) => return error.reply(),
-        };
-        Ok(Reply::Fd(fd))
+        match self.processes.plan_open(pid, file, access) {
+            Ok((edit, fd)) => Ok((Some(edit), Reply::Fd(fd))),
+            Err(error) => Ok((None, error.reply()?)),
+        }
     }
 
     // What a lock call of the process is about, or the reply of the first test that fails.
-    pub(super) fn target(
+    fn target(
         &self,
         pid: u16,
         need: Option<Mode>,
@@ -123,98 +119,116 @@ impl Node {
         target_at(self.process(pid), need, kind, opened, segment)
     }
 
-    // A call about a lock that passes its first tests is open, and is tried.
-    fn lock_call(
-        &mut self,
+    // The call of a process is answered, with these processes from then on.
+    fn answer_with(&self, alloc: Global, processes: Option<ProcessEdit>, reply: Reply) -> Effect
+        requires left { (node_state self.now).calls < greatest_number }
+        requires fits { ProcessesFit self.now processes }
+        ensures value { settled (numbered (node_state self.now)) ((node_state self.now).calls + 1) (table_after (node_state self.now) processes, reply) ≡ effect_of self.now result }
+        ensures fits { Fits self.now result.edit }
+    {
+        let number = self.next_number();
+        let edit = Edit {
+            processes,
+            calls: CallsEdit::Gone(number),
+            ..Edit::of(Draft::of_call())
+        };
+        Effect::answered(alloc, edit, self.id(number), reply)
+    }
+
+    // The process begins, and the call is answered.
+    fn call_spawn(&self, alloc: Global, pid: u16) -> Result<Effect, AllocError>
+        requires left { (node_state self.now).calls < greatest_number }
+        requires pid { IsNumber most_processes pid }
+        ensures value { IfOk result (λ effect. called (numbered (node_state self.now)) ((node_state self.now).calls + 1) pid Op.Spawn ≡ effect_of self.now effect) }
+        ensures fits { IfOk result (λ effect. Fits self.now effect.edit) }
+    {
+        let (processes, reply) = self.spawn(pid)?;
+        Ok(self.answer_with(alloc, processes, reply))
+    }
+
+    // The process opens the file, and the call is answered.
+    fn call_open(
+        &self,
         alloc: Global,
-        number: u32,
+        pid: u16,
+        file: u16,
+        access: Access,
+    ) -> Result<Effect, AllocError>
+        requires left { (node_state self.now).calls < greatest_number }
+        requires pid { IsNumber most_processes pid }
+        requires file { IsNumber (node_state self.now).shape.files file }
+        ensures value { IfOk result (λ effect. called (numbered (node_state self.now)) ((node_state self.now).calls + 1) pid (Op.Open file access) ≡ effect_of self.now effect) }
+        ensures fits { IfOk result (λ effect. Fits self.now effect.edit) }
+    {
+        let (processes, reply) = self.open(pid, file, access)?;
+        Ok(self.answer_with(alloc, processes, reply))
+    }
+
+    // A call about a lock that passes its first tests is open, and is tried.
+    fn call_lock(
+        &self,
+        alloc: Global,
         pid: u16,
         intent: Intent,
         mode: Mode,
         target: Result<LockCall, Reply>,
     ) -> Result<Effect, AllocError>
-        requires number { 1 ≤ number }
-        requires new { IsNewNumber (node_state self.old) number }
-        requires own { IfOk target (λ t. IsOwn (node_state self.old).node (node_state self.old).incarnation t.owner) }
-        requires file { IfOk target (λ t. IsNumber (node_state self.old).shape.files t.file) }
+        requires left { (node_state self.now).calls < greatest_number }
+        requires own { IfOk target (λ t. IsOwn (node_state self.now).node (node_state self.now).incarnation t.owner) }
+        requires file { IfOk target (λ t. IsNumber (node_state self.now).shape.files t.file) }
         requires span { IfOk target (λ t. IsSpan t.span) }
-        ensures { IfOk result (λ effect. lock_call (node_state self.old) number pid intent mode target ≡ effect_of (node_state self.new) effect) }
+        ensures value { IfOk result (λ effect. lock_call (numbered (node_state self.now)) ((node_state self.now).calls + 1) pid intent mode target ≡ effect_of self.now effect) }
+        ensures fits { IfOk result (λ effect. Fits self.now effect.edit) }
     {
-        let target = match target {
-            Ok(target) => target,
-            Err(refusal) => return Ok(self.answer(alloc, number, refusal)),
-        };
-        let call = OpenCall {
-            number,
-            pid,
-            intent,
-            file: target.file,
-            owner: target.owner,
-            mode,
-            span: target.span,
-        };
-        self.keep_call(call)?;
-        self.try_call(alloc, &call)
-    }
-
-    // The process begins, and the call is answered.
-    fn call_spawn(&mut self, alloc: Global, number: u32, pid: u16) -> Result<Effect, AllocError>
-        requires number { 1 ≤ number }
-        requires pid { IsNumber most_processes pid }
-        ensures { IfOk result (λ effect. called (node_state self.old) number pid Op.Spawn ≡ effect_of (node_state self.new) effect) }
-    {
-        let reply = self.spawn(pid)?;
-        Ok(self.answer(alloc, number, reply))
-    }
-
-    // The process opens the file, and the call is answered.
-    fn call_open(
-        &mut self,
-        alloc: Global,
-        number: u32,
-        pid: u16,
-        file: u16,
-        access: Access,
-    ) -> Result<Effect, AllocError>
-        requires number { 1 ≤ number }
-        requires pid { IsNumber most_processes pid }
-        requires file { IsNumber (node_state self.old).shape.files file }
-        ensures { IfOk result (λ effect. called (node_state self.old) number pid (Op.Open file access) ≡ effect_of (node_state self.new) effect) }
-    {
-        let reply = self.open(pid, file, access)?;
-        Ok(self.answer(alloc, number, reply))
-    }
-
-    // The bytes are freed, if the call passes its first tests.
-    fn unlock_call(
-        &mut self,
-        alloc: Global,
-        number: u32,
-        target: Result<LockCall, Reply>,
-    ) -> Result<Effect, AllocError>
-        requires number { 1 ≤ number }
-        requires own { IfOk target (λ t. IsOwn (node_state self.old).node (node_state self.old).incarnation t.owner) }
-        requires file { IfOk target (λ t. IsNumber (node_state self.old).shape.files t.file) }
-        requires span { IfOk target (λ t. IsSpan t.span) }
-        ensures { IfOk result (λ effect. unlock_call (node_state self.old) number target ≡ effect_of (node_state self.new) effect) }
-    {
+        let number = self.next_number();
         match target {
-            Ok(target) => self.lock(alloc, number, target, None),
-            Err(refusal) => Ok(self.answer(alloc, number, refusal)),
+            Ok(target) => {
+                let call = OpenCall {
+                    number,
+                    pid,
+                    intent,
+                    file: target.file,
+                    owner: target.owner,
+                    mode,
+                    span: target.span,
+                };
+                self.try_call(alloc, Draft::of_call(), &call)
+            }
+            Err(refusal) => Ok(self.answer(alloc, Draft::of_call(), None, number, refusal)),
         }
     }
 
-    // The call with that number: all but set and query are answered in the same step.
-    fn call(&mut self, alloc: Global, number: u32, pid: u16, op: &Op) -> Result<Effect, AllocError>
-        requires number { 1 ≤ number }
-        requires new { IsNewNumber (node_state self.old) number }
+    // The bytes are freed, if the call passes its first tests.
+    fn call_unlock(
+        &self,
+        alloc: Global,
+        target: Result<LockCall, Reply>,
+    ) -> Result<Effect, AllocError>
+        requires left { (node_state self.now).calls < greatest_number }
+        requires own { IfOk target (λ t. IsOwn (node_state self.now).node (node_state self.now).incarnation t.owner) }
+        requires file { IfOk target (λ t. IsNumber (node_state self.now).shape.files t.file) }
+        requires span { IfOk target (λ t. IsSpan t.span) }
+        ensures value { IfOk result (λ effect. unlock_call (numbered (node_state self.now)) ((node_state self.now).calls + 1) target ≡ effect_of self.now effect) }
+        ensures fits { IfOk result (λ effect. Fits self.now effect.edit) }
+    {
+        let number = self.next_number();
+        match target {
+            Ok(target) => self.lock(alloc, Draft::of_call(), number, target, None),
+            Err(refusal) => Ok(self.answer(alloc, Draft::of_call(), None, number, refusal)),
+        }
+    }
+
+    // The call takes the next number: all but set and query are answered in the same step.
+    fn call(&self, alloc: Global, pid: u16, op: &Op) -> Result<Effect, AllocError>
+        requires left { (node_state self.now).calls < greatest_number }
         requires pid { IsNumber most_processes pid }
-        requires file { is_in_shape (node_state self.old).shape op.now ≡ true }
-        ensures { IfOk result (λ effect. called (node_state self.old) number pid op.now ≡ effect_of (node_state self.new) effect) }
+        requires file { is_in_shape (node_state self.now).shape op.now ≡ true }
+        ensures value { IfOk result (λ effect. called (numbered (node_state self.now)) ((node_state self.now).calls + 1) pid op.now ≡ effect_of self.now effect) }
+        ensures fits { IfOk result (λ effect. Fits self.now effect.edit) }
     {
         match *op {
-            Op::Spawn => self.call_spawn(alloc, number, pid),
-            Op::Open { file, access } => self.call_open(alloc, number, pid, file, access),
+            Op::Spawn => self.call_spawn(alloc, pid),
+            Op::Open { file, access } => self.call_open(alloc, pid, file, access),
             Op::Set {
                 fd,
                 kind,
@@ -223,14 +237,14 @@ impl Node {
                 len,
             } => {
                 let target = self.target(pid, Some(mode), fd, kind, start, len);
-                self.lock_call(alloc, number, pid, Intent::Set, mode, target)
+                self.call_lock(alloc, pid, Intent::Set, mode, target)
             }
             Op::Unlock {
                 fd,
                 kind,
                 start,
                 len,
-            } => self.unlock_call(alloc, number, self.target(pid, None, fd, kind, start, len)),
+            } => self.call_unlock(alloc, self.target(pid, None, fd, kind, start, len)),
             Op::Query {
                 fd,
                 kind,
@@ -239,33 +253,17 @@ impl Node {
                 len,
             } => {
                 let target = self.target(pid, None, fd, kind, start, len);
-                self.lock_call(alloc, number, pid, Intent::Query, mode, target)
+                self.call_lock(alloc, pid, Intent::Query, mode, target)
             }
         }
     }
 
-    // The call takes the next number.
-    fn number_and_call(&mut self, alloc: Global, pid: u16, op: &Op) -> Result<Outcome, AllocError>
-        requires number { (node_state self.old).calls < greatest_number }
-        requires pid { IsNumber most_processes pid }
-        requires file { is_in_shape (node_state self.old).shape op.now ≡ true }
-        ensures { IfOk result (λ outcome. after_call (node_state self.old) pid op.now ≡ (node_state self.new, outcome)) }
-    {
-        let number = self.number_call();
-        let id = self.id(number);
-        let effect = self.call(alloc, number, pid, op)?;
-        Ok(effect.outcome(Some(id)))
-    }
-
     // A process makes a call. A process has at most one open call.
-    pub(super) fn take_call(
-        &mut self,
-        alloc: Global,
-        pid: u16,
-        op: &Op,
-    ) -> Result<Outcome, StepError>
-        ensures ok { IfOk result (λ outcome. call_rule (node_state self.old) pid op.now ≡ Ok (node_state self.new, outcome)) }
-        ensures err { IfErr result (λ error. error ≢ StepError.NoMemory → call_rule (node_state self.old) pid op.now ≡ Err error) }
+    pub(super) fn plan_call(&self, alloc: Global, pid: u16, op: &Op) -> Result<Change, StepError>
+        ensures ok { IfOk result (λ change. call_rule (node_state self.now) pid op.now ≡ Ok (planned self.now change.edit, change.outcome)) }
+        ensures err { IfErr result (λ error. error ≢ StepError.NoMemory → call_rule (node_state self.now) pid op.now ≡ Err error) }
+        ensures refused { (r : StepError) → call_rule (node_state self.now) pid op.now ≡ Err r → result ≡ Err r }
+        ensures fits { IfOk result (λ change. Fits self.now change.edit) }
     {
         if !(is_pid(pid) && self.is_in_shape(op)) {
             return Err(StepError::Stranger);
@@ -276,19 +274,21 @@ impl Node {
         if self.is_spent() {
             return Err(StepError::Spent);
         }
-        Ok(self.number_and_call(alloc, pid, op)?)
+        let effect = self.call(alloc, pid, op)?;
+        Ok(effect.change(Some(self.id(self.next_number()))))
     }
 
     // The open call of the process is tried again, with its own number.
-    pub(super) fn retry(&mut self, alloc: Global, pid: u16) -> Result<Outcome, StepError>
-        ensures ok { IfOk result (λ outcome. retry_rule (node_state self.old) pid ≡ Ok (node_state self.new, outcome)) }
-        ensures err { IfErr result (λ error. error ≢ StepError.NoMemory → retry_rule (node_state self.old) pid ≡ Err error) }
+    pub(super) fn plan_retry(&self, alloc: Global, pid: u16) -> Result<Change, StepError>
+        ensures ok { IfOk result (λ change. retry_rule (node_state self.now) pid ≡ Ok (planned self.now change.edit, change.outcome)) }
+        ensures err { IfErr result (λ error. error ≢ StepError.NoMemory → retry_rule (node_state self.now) pid ≡ Err error) }
+        ensures refused { (r : StepError) → retry_rule (node_state self.now) pid ≡ Err r → result ≡ Err r }
+        ensures fits { IfOk result (λ change. Fits self.now change.edit) }
     {
         if !is_pid(pid) {
             return Err(StepError::Stranger);
         }
-        let waiting = self.open_call_of(pid);
-        let effect = self.try_if(alloc, waiting)?;
-        Ok(effect.outcome(None))
+        let effect = self.try_if(alloc, Draft::none(), self.open_call_of(pid))?;
+        Ok(effect.change(None))
     }
 }

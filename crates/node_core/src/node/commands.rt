@@ -1,20 +1,22 @@
 //! A node takes a message of a token server.
-ghost use Rattle.std.specs.Prelude.{◌≡◌, ◌≢◌, ◌==◌, ◌+◌, true, Ok, Err, IfOk, IfErr, IfSome, OnOk};
+ghost use Rattle.std.specs.Prelude.{◌≡◌, ◌≢◌, ◌==◌, ◌+◌, true, false, if◌then◌else◌, Ok, Err, IfOk, IfErr, IfSome};
 ghost use Rattle.model.specs.Limits.{IsNumber};
 ghost use Rattle.token_set.specs.Releases.{gave_up};
 ghost use Rattle.messages.specs.Messages.{is_within, host_of, file_of};
 ghost use Rattle.node_core.specs.Commands.{remembered, in_order, granted, revoked, denied, delivered, deliver_rule};
-ghost use Rattle.node_core.specs.Parts.{node_state, effect_of, after_grant, after_revoke, out_of_order, is_for, IsCallOf};
+ghost use Rattle.node_core.specs.State.{quiet};
+ghost use Rattle.node_core.specs.Parts.{node_state, after_grant, after_revoke, out_of_order, is_for, IsCallOf};
+ghost use Rattle.node_core.specs.Plans.{drafted, planned, effect_of, DraftFits, Fits};
 
 use super::Node;
+use crate::change::Change;
 use crate::command::Command;
+use crate::edit::{Draft, Edit};
 use crate::effect::Effect;
-use crate::files::{take_grant, take_revoke};
 use crate::numbers::{is_node, is_within};
 use crate::open_call::OpenCall;
 use intervals::span::Span;
 use messages::message::Message;
-use messages::outcome::Outcome;
 use messages::refusal::StepError;
 use messages::wanted::Wanted;
 use model::lock_info::LockInfo;
@@ -33,11 +35,12 @@ impl Node {
     // The answer to the last command is sent again.
     fn remembered(&self, alloc: Global, file: u16) -> Result<Effect, AllocError>
         requires { IsNumber (node_state self.now).shape.files file }
-        ensures { IfOk result (λ effect. remembered (node_state self.now) ((node_state self.now).files file).answer ≡ effect_of (node_state self.now) effect) }
+        ensures value { IfOk result (λ effect. remembered (node_state self.now) ((node_state self.now).files file).answer ≡ effect_of self.now effect) }
+        ensures fits { IfOk result (λ effect. Fits self.now effect.edit) }
     {
         match self.file(file).answer {
-            None => Ok(Effect::quiet(alloc)),
-            Some(answer) => Effect::sent(alloc, answer),
+            None => Ok(Effect::quiet(alloc, Edit::none())),
+            Some(answer) => Effect::sent(alloc, Edit::none(), answer),
         }
     }
 
@@ -52,43 +55,51 @@ impl Node {
     // A command that is not the next one: the last one done is answered again, others do nothing.
     fn take_out_of_order(&self, alloc: Global, command: &Command) -> Result<Effect, AllocError>
         requires { IsNumber (node_state self.now).shape.files command.now.file }
-        ensures { IfOk result (λ effect. out_of_order (node_state self.now) command.now.file command.now.number ≡ effect_of (node_state self.now) effect) }
+        ensures value { IfOk result (λ effect. out_of_order (node_state self.now) command.now.file command.now.number ≡ effect_of self.now effect) }
+        ensures fits { IfOk result (λ effect. Fits self.now effect.edit) }
     {
         if command.number == self.last(command.file) && command.number >= 1 {
             return self.remembered(alloc, command.file);
         }
-        Ok(Effect::quiet(alloc))
+        Ok(Effect::quiet(alloc, Edit::none()))
     }
 
     // The token is raised, the command is done, and the answer to it is remembered.
-    #[tactic(auto, unfolding(crate::specs::Parts::node_state))]
-    fn raise(&mut self, command: &Command, span: Span) -> Result<(), AllocError>
-        requires { IsNumber (node_state self.old).shape.files command.now.file }
-        ensures { OnOk result (node_state self.new ≡ after_grant (node_state self.old) command.now span) }
+    fn raise(&self, command: &Command, span: Span) -> Result<Draft, AllocError>
+        requires { IsNumber (node_state self.now).shape.files command.now.file }
+        ensures state { IfOk result (λ draft. drafted self.now draft ≡ after_grant (node_state self.now) command.now span) }
+        ensures old { IfOk result (λ draft. draft.numbered ≡ false) }
+        ensures fits { IfOk result (DraftFits self.now) }
     {
-        take_grant(&mut self.files, command, span)
+        let edit = self.file(command.file).plan_grant(command, span)?;
+        Ok(Draft {
+            numbered: false,
+            command: Some(edit),
+        })
     }
 
     // The token is raised, and the call that it was for is tried if it is still open.
-    fn grant(&mut self, alloc: Global, command: &Command, span: Span) -> Result<Effect, AllocError>
-        requires { IsNumber (node_state self.old).shape.files command.now.file }
-        ensures { IfOk result (λ effect. granted (node_state self.old) command.now.file command.now.number command.now.call command.now.mode span ≡ effect_of (node_state self.new) effect) }
+    fn grant(&self, alloc: Global, command: &Command, span: Span) -> Result<Effect, AllocError>
+        requires { IsNumber (node_state self.now).shape.files command.now.file }
+        ensures value { IfOk result (λ effect. granted (node_state self.now) command.now.file command.now.number command.now.call command.now.mode span ≡ effect_of self.now effect) }
+        ensures fits { IfOk result (λ effect. Fits self.now effect.edit) }
     {
-        self.raise(command, span)?;
+        let draft = self.raise(command, span)?;
         let waiting = self.open_call(command.call.number);
-        let effect = self.try_if(alloc, waiting)?;
+        let effect = self.try_if(alloc, draft, waiting)?;
         effect.after(alloc, command.taken())
     }
 
     // Grants are done in the order of their numbers, each once.
     fn grant_in_order(
-        &mut self,
+        &self,
         alloc: Global,
         command: &Command,
         span: Span,
     ) -> Result<Effect, AllocError>
-        requires { IsNumber (node_state self.old).shape.files command.now.file }
-        ensures { IfOk result (λ effect. in_order (node_state self.old) command.now.file command.now.number (granted (node_state self.old) command.now.file command.now.number command.now.call command.now.mode span) ≡ effect_of (node_state self.new) effect) }
+        requires { IsNumber (node_state self.now).shape.files command.now.file }
+        ensures value { IfOk result (λ effect. in_order (node_state self.now) command.now.file command.now.number (granted (node_state self.now) command.now.file command.now.number command.now.call command.now.mode span) ≡ effect_of self.now effect) }
+        ensures fits { IfOk result (λ effect. Fits self.now effect.edit) }
     {
         if !self.is_next(command) {
             return self.take_out_of_order(alloc, command);
@@ -98,43 +109,43 @@ impl Node {
 
     // The token is given up as far as no lock is in the way, the command is done, and the answer to
     // it is remembered.
-    #[tactic(auto, unfolding(crate::specs::Parts::node_state))]
-    fn give_up(&mut self, command: &Command, wanted: Wanted) -> Result<GaveUp, AllocError>
-        requires { IsNumber (node_state self.old).shape.files command.now.file }
-        ensures answer { IfOk result (λ gives. gives ≡ gave_up ((node_state self.old).table.locks command.now.file) (node_state self.old).node (node_state self.old).incarnation command.now.mode wanted.required wanted.desired) }
-        ensures state { IfOk result (λ gives. node_state self.new ≡ after_revoke (node_state self.old) command.now gives) }
+    fn give_up(&self, command: &Command, wanted: Wanted) -> Result<(GaveUp, Draft), AllocError>
+        requires { IsNumber (node_state self.now).shape.files command.now.file }
+        ensures answer { IfOk result (λ r. r.0 ≡ gave_up ((node_state self.now).table.locks command.now.file) (node_state self.now).node (node_state self.now).incarnation command.now.mode wanted.required wanted.desired) }
+        ensures state { IfOk result (λ r. drafted self.now r.1 ≡ after_revoke (node_state self.now) command.now r.0) }
+        ensures fits { IfOk result (λ r. DraftFits self.now r.1) }
     {
         let _ = &wanted.required.lo; // tells the proof what each span keeps
         let locks = self.locks.locks(command.file)?;
-        let holder = self.host();
-        let gives = take_revoke(&mut self.files, command, holder, wanted, &locks)?;
-        Ok(gives)
+        let row = self.file(command.file);
+        let (gives, edit) = row.plan_revoke(command, self.host(), wanted, &locks)?;
+        let draft = Draft {
+            numbered: false,
+            command: Some(edit),
+        };
+        Ok((gives, draft))
     }
 
     // The token is given up as far as no lock is in the way, and the answer is sent.
-    fn revoke(
-        &mut self,
-        alloc: Global,
-        command: &Command,
-        wanted: Wanted,
-    ) -> Result<Effect, AllocError>
-        requires { IsNumber (node_state self.old).shape.files command.now.file }
-        ensures { IfOk result (λ effect. revoked (node_state self.old) command.now.file command.now.number command.now.call command.now.mode wanted ≡ effect_of (node_state self.new) effect) }
+    fn revoke(&self, alloc: Global, command: &Command, wanted: Wanted) -> Result<Effect, AllocError>
+        requires { IsNumber (node_state self.now).shape.files command.now.file }
+        ensures value { IfOk result (λ effect. revoked (node_state self.now) command.now.file command.now.number command.now.call command.now.mode wanted ≡ effect_of self.now effect) }
+        ensures fits { IfOk result (λ effect. Fits self.now effect.edit) }
     {
-        let holder = self.host();
-        let gives = self.give_up(command, wanted)?;
-        Effect::sent(alloc, command.answer(holder, gives))
+        let (gives, draft) = self.give_up(command, wanted)?;
+        Effect::sent(alloc, Edit::of(draft), command.answer(self.host(), gives))
     }
 
     // Revokes are done in the order of their numbers, each once.
     fn revoke_in_order(
-        &mut self,
+        &self,
         alloc: Global,
         command: &Command,
         wanted: Wanted,
     ) -> Result<Effect, AllocError>
-        requires { IsNumber (node_state self.old).shape.files command.now.file }
-        ensures { IfOk result (λ effect. in_order (node_state self.old) command.now.file command.now.number (revoked (node_state self.old) command.now.file command.now.number command.now.call command.now.mode wanted) ≡ effect_of (node_state self.new) effect) }
+        requires { IsNumber (node_state self.now).shape.files command.now.file }
+        ensures value { IfOk result (λ effect. in_order (node_state self.now) command.now.file command.now.number (revoked (node_state self.now) command.now.file command.now.number command.now.call command.now.mode wanted) ≡ effect_of self.now effect) }
+        ensures fits { IfOk result (λ effect. Fits self.now effect.edit) }
     {
         if !self.is_next(command) {
             return self.take_out_of_order(alloc, command);
@@ -143,13 +154,17 @@ impl Node {
     }
 
     // A call that may be open no longer is answered with the lock in its way.
-    fn deny(&mut self, alloc: Global, call: Option<OpenCall>, lock: LockInfo) -> Effect
-        requires { IfSome call (IsCallOf (node_state self.old)) }
-        ensures { denied (node_state self.old) lock call ≡ effect_of (node_state self.new) result }
+    fn deny(&self, alloc: Global, call: Option<OpenCall>, lock: LockInfo) -> Effect
+        requires { IfSome call (IsCallOf (node_state self.now)) }
+        ensures value { denied (node_state self.now) lock call ≡ effect_of self.now result }
+        ensures fits { Fits self.now result.edit }
     {
         match call {
-            None => Effect::quiet(alloc),
-            Some(call) => self.answer(alloc, call.number, call.intent.refusal(lock)),
+            None => Effect::quiet(alloc, Edit::none()),
+            Some(call) => {
+                let refusal = call.intent.refusal(lock);
+                self.answer(alloc, Draft::none(), None, call.number, refusal)
+            }
         }
     }
 
@@ -173,9 +188,10 @@ impl Node {
     }
 
     // A message that is for this node and this incarnation.
-    fn deliver(&mut self, alloc: Global, message: &Message) -> Result<Effect, AllocError>
-        requires { is_within (node_state self.old).shape.files (file_of message.now) ≡ true }
-        ensures { IfOk result (λ effect. delivered (node_state self.old) message.now ≡ effect_of (node_state self.new) effect) }
+    fn deliver(&self, alloc: Global, message: &Message) -> Result<Effect, AllocError>
+        requires { is_within (node_state self.now).shape.files (file_of message.now) ≡ true }
+        ensures value { IfOk result (λ effect. delivered (node_state self.now) message.now ≡ effect_of self.now effect) }
+        ensures fits { IfOk result (λ effect. Fits self.now effect.edit) }
     {
         match *message {
             Message::Grant {
@@ -197,26 +213,33 @@ impl Node {
                 let waiting = self.open_call(call.number);
                 Ok(self.deny(alloc, waiting, lock))
             }
-            _ => Ok(Effect::quiet(alloc)),
+            _ => Ok(Effect::quiet(alloc, Edit::none())),
         }
     }
 
     // A message comes. One for another incarnation of the node does nothing.
-    pub(super) fn take_message(
-        &mut self,
-        alloc: Global,
-        message: &Message,
-    ) -> Result<Outcome, StepError>
-        ensures ok { IfOk result (λ outcome. deliver_rule (node_state self.old) message.now ≡ Ok (node_state self.new, outcome)) }
-        ensures err { IfErr result (λ error. error ≢ StepError.NoMemory → deliver_rule (node_state self.old) message.now ≡ Err error) }
+    fn take_message(&self, alloc: Global, message: &Message) -> Result<Effect, AllocError>
+        requires { is_within (node_state self.now).shape.files (file_of message.now) ≡ true }
+        ensures value { IfOk result (λ effect. (if (host_of message.now).incarnation == (node_state self.now).incarnation then delivered (node_state self.now) message.now else quiet (node_state self.now)) ≡ effect_of self.now effect) }
+        ensures fits { IfOk result (λ effect. Fits self.now effect.edit) }
+    {
+        if !self.is_for_now(message) {
+            return Ok(Effect::quiet(alloc, Edit::none()));
+        }
+        self.deliver(alloc, message)
+    }
+
+    // What a message does.
+    pub(super) fn plan_message(&self, alloc: Global, message: &Message) -> Result<Change, StepError>
+        ensures ok { IfOk result (λ change. deliver_rule (node_state self.now) message.now ≡ Ok (planned self.now change.edit, change.outcome)) }
+        ensures err { IfErr result (λ error. error ≢ StepError.NoMemory → deliver_rule (node_state self.now) message.now ≡ Err error) }
+        ensures refused { (r : StepError) → deliver_rule (node_state self.now) message.now ≡ Err r → result ≡ Err r }
+        ensures fits { IfOk result (λ change. Fits self.now change.edit) }
     {
         if !self.is_for_me(message) {
             return Err(StepError::Stranger);
         }
-        if !self.is_for_now(message) {
-            return Ok(Effect::quiet(alloc).outcome(None));
-        }
-        let effect = self.deliver(alloc, message)?;
-        Ok(effect.outcome(None))
+        let effect = self.take_message(alloc, message)?;
+        Ok(effect.change(None))
     }
 }

@@ -1,17 +1,24 @@
 //! A node tries an open call about a lock.
-ghost use Rattle.std.specs.Prelude.{◌≡◌, ◌≤◌, false, IfOk, IfSome, Some};
+ghost use Rattle.std.specs.Prelude.{◌≡◌, ◌≤◌, false, None, IfOk, IfSome};
 ghost use Rattle.model.specs.Limits.{IsNumber};
 ghost use Rattle.model.specs.Locks.{lowest_blocker};
 ghost use Rattle.model.specs.Table.{lock_within};
+ghost use Rattle.token_set.specs.Sets.{token_of};
 ghost use Rattle.token_set.specs.Tokens.{covers, desired};
-ghost use Rattle.node_core.specs.Try.{requested, with_freed, locked_by, answered_here, unblocked, tried, tried_if};
-ghost use Rattle.node_core.specs.Parts.{node_state, effect_of, tabled, with_asked, IsOwn, IsSpan, IsCallOf};
+ghost use Rattle.node_core.specs.State.{answered};
+ghost use Rattle.node_core.specs.Try.{requested, with_freed, locked_by, answered_here, tried, tried_if};
+ghost use Rattle.node_core.specs.Parts.{node_state, IsOwn, IsSpan, IsCallOf};
+ghost use Rattle.node_core.specs.Plans.{drafted, trying, opened_if, pending_after, locks_after, with_locks, effect_of, DraftFits, LocksFit, CallsFit, Fits};
 
 use super::Node;
+use crate::edit::{Draft, Edit};
 use crate::effect::Effect;
-use crate::files::clear_asked;
-use crate::locks::{change_locks, lock_reply, may_free};
+use crate::file_row::FileEdit;
+use crate::locks::may_free;
 use crate::open_call::{Intent, OpenCall};
+use crate::open_calls::CallsEdit;
+use lock_table::error::LockError;
+use lock_table::lock_table::LockEdit;
 use messages::message::{Message, Urgency};
 use messages::wanted::Wanted;
 use model::lock_call::LockCall;
@@ -20,10 +27,11 @@ use model::mode::Mode;
 use model::reply::Reply;
 use std::alloc::{AllocError, Global};
 use token_set::desired::desired;
+use token_set::set::TokenSet;
 
 impl Node {
     // The lowest of the node's own locks that blocks the call.
-    pub(super) fn blocker(&self, call: &OpenCall) -> Option<LockInfo>
+    fn blocker(&self, call: &OpenCall) -> Option<LockInfo>
         requires { IsCallOf (node_state self.now) call.now }
         ensures { result ≡ lowest_blocker ((node_state self.now).table.locks call.now.file) call.now.owner call.now.span call.now.mode }
     {
@@ -31,89 +39,165 @@ impl Node {
             .blocker(call.owner, call.file, call.span, call.mode)
     }
 
-    // Whether the node's token covers the call.
-    pub(super) fn is_covered(&self, call: &OpenCall) -> bool
-        requires { IsCallOf (node_state self.now) call.now }
-        ensures { result ≡ covers ((node_state self.now).files call.now.file).token call.now.span call.now.mode }
+    // The node's token for the file, with the draft.
+    fn token<'a>(&'a self, draft: &'a Draft, file: u16) -> &'a TokenSet
+        requires { IsNumber (node_state self.now).shape.files file }
+        ensures { token_of result.now ≡ ((drafted self.now draft.now).files file).token }
     {
-        self.file(call.file).token.covers(call.span, call.mode)
+        match &draft.command {
+            Some(
+                FileEdit {
+                    file: changed,
+                    token: Some(token),
+                    ..
+                },
+            ) if *changed == file => token,
+            _ => &self.file(file).token,
+        }
+    }
+
+    // Whether a lock of the file was named to its server, with the draft.
+    fn is_asked(&self, draft: &Draft, file: u16) -> bool
+        requires { IsNumber (node_state self.now).shape.files file }
+        ensures { result ≡ ((drafted self.now draft.now).files file).asked }
+    {
+        match &draft.command {
+            Some(edit) if edit.file == file => edit.asked,
+            _ => self.file(file).asked,
+        }
+    }
+
+    // Whether the node's token covers the call.
+    fn is_covered(&self, draft: &Draft, call: &OpenCall) -> bool
+        requires { IsCallOf (node_state self.now) call.now }
+        ensures { result ≡ covers ((drafted self.now draft.now).files call.now.file).token call.now.span call.now.mode }
+    {
+        self.token(draft, call.file).covers(call.span, call.mode)
     }
 
     // The bytes that the call needs, and those that the node asks for with them.
-    fn wanted(&self, call: &OpenCall) -> Wanted
+    fn wanted(&self, draft: &Draft, call: &OpenCall) -> Wanted
         requires { IsCallOf (node_state self.now) call.now }
-        ensures { result ≡ record { required = call.now.span; desired = desired (node_state self.now).shape.policy ((node_state self.now).files call.now.file).token call.now.span } }
+        ensures { result ≡ record { required = call.now.span; desired = desired (node_state self.now).shape.policy ((drafted self.now draft.now).files call.now.file).token call.now.span } }
     {
-        let token = &self.file(call.file).token;
+        let token = self.token(draft, call.file);
         Wanted::new(call.span, desired(self.shape.policy(), call.span, token))
     }
 
-    // The token does not cover the call: the server is asked.
-    fn request(&self, alloc: Global, call: &OpenCall) -> Result<Effect, AllocError>
+    // A new call is open from now on; other calls stay as they are.
+    fn keep_open(&self, draft: &Draft, call: &OpenCall) -> Result<CallsEdit, AllocError>
         requires { IsCallOf (node_state self.now) call.now }
-        ensures { IfOk result (λ effect. requested (node_state self.now) call.now ≡ effect_of (node_state self.now) effect) }
+        ensures value { IfOk result (λ edit. pending_after (node_state self.now).pending edit ≡ opened_if draft.now.numbered (node_state self.now).pending call.now) }
+        ensures fits { IfOk result (CallsFit self.now) }
+    {
+        if !draft.numbered {
+            return Ok(CallsEdit::Same);
+        }
+        Ok(CallsEdit::Put(*call, self.pending.room()?))
+    }
+
+    // The token does not cover the call: the server is asked.
+    fn request(&self, alloc: Global, draft: Draft, call: &OpenCall) -> Result<Effect, AllocError>
+        requires own { IsCallOf (node_state self.now) call.now }
+        requires draft { DraftFits self.now draft }
+        ensures value { IfOk result (λ effect. requested (trying self.now draft call.now) call.now ≡ effect_of self.now effect) }
+        ensures fits { IfOk result (λ effect. Fits self.now effect.edit) }
     {
         let request = Message::Request {
             file: call.file,
             call: self.id(call.number),
             urgency: Urgency::Now,
             mode: call.mode,
-            wanted: self.wanted(call),
+            wanted: self.wanted(&draft, call),
         };
-        Effect::sent(alloc, request)
+        let calls = self.keep_open(&draft, call)?;
+        let edit = Edit {
+            calls,
+            ..Edit::of(draft)
+        };
+        Effect::sent(alloc, edit, request)
     }
 
-    // The bytes are locked or freed, unless their owner would have too many regions.
-    fn lock_within(&mut self, target: LockCall, mode: Option<Mode>) -> Result<Reply, AllocError>
-        requires own { IsOwn (node_state self.old).node (node_state self.old).incarnation target.owner }
+    // The call is answered with these locks, and open no longer.
+    pub(super) fn answer(
+        &self,
+        alloc: Global,
+        draft: Draft,
+        locks: Option<LockEdit>,
+        number: u32,
+        reply: Reply,
+    ) -> Effect
+        requires number { 1 ≤ number }
+        requires draft { DraftFits self.now draft }
+        requires locks { LocksFit self.now locks }
+        ensures value { answered (with_locks (drafted self.now draft) (locks_after (node_state self.now).table.locks locks)) number reply ≡ effect_of self.now result }
+        ensures fits { Fits self.now result.edit }
+        ensures once { result.edit.freed ≡ None }
+    {
+        let edit = Edit {
+            locks,
+            calls: CallsEdit::Gone(number),
+            ..Edit::of(draft)
+        };
+        Effect::answered(alloc, edit, self.id(number), reply)
+    }
+
+    // What locks or frees the bytes, unless their owner would have too many regions, and the reply.
+    fn plan_lock(
+        &self,
+        target: LockCall,
+        mode: Option<Mode>,
+    ) -> Result<(Option<LockEdit>, Reply), AllocError>
+        requires own { IsOwn (node_state self.now).node (node_state self.now).incarnation target.owner }
         requires span { IsSpan target.span }
-        ensures { IfOk result (λ reply. tabled (node_state self.old) (lock_within (node_state self.old).table target mode) ≡ (node_state self.new, reply)) }
+        ensures locked { IfOk result (λ r. lock_within (node_state self.now).table target mode ≡ (record (node_state self.now).table { locks = locks_after (node_state self.now).table.locks r.0 }, r.1)) }
+        ensures fits { IfOk result (λ r. LocksFit self.now r.0) }
     {
-        if let Err(error) = change_locks(&mut self.locks, target, mode) {
-            return lock_reply(error);
+        match self
+            .locks
+            .plan(target.owner, target.file, target.span, mode)
+        {
+            Ok(edit) => Ok((Some(edit), Reply::Done)),
+            Err(LockError::NoLocks) => Ok((None, Reply::NoLocks)),
+            Err(LockError::NoMemory) => Err(AllocError),
         }
-        Ok(Reply::Done)
-    }
-
-    // The file is asked no longer.
-    #[tactic(auto, unfolding(crate::specs::Parts::node_state))]
-    fn clear_asked(&mut self, file: u16)
-        requires { IsNumber (node_state self.old).shape.files file }
-        ensures { node_state self.new ≡ with_asked (node_state self.old) file false }
-    {
-        clear_asked(&mut self.files, file);
     }
 
     // The server of the file hears that locks may be gone, where one was named to it.
-    fn tell_freed(&mut self, file: u16, effect: Effect) -> Result<Effect, AllocError>
-        requires { IsNumber (node_state self.old).shape.files file }
-        ensures { IfOk result (λ told. with_freed file (effect_of (node_state self.old) effect) ≡ effect_of (node_state self.new) told) }
+    fn tell_freed(&self, file: u16, effect: Effect) -> Result<Effect, AllocError>
+        requires file { IsNumber (node_state self.now).shape.files file }
+        requires fits { Fits self.now effect.edit }
+        requires once { effect.edit.freed ≡ None }
+        ensures value { IfOk result (λ told. with_freed file (effect_of self.now effect) ≡ effect_of self.now told) }
+        ensures fits { IfOk result (λ told. Fits self.now told.edit) }
     {
-        if !self.file(file).asked {
+        if !self.is_asked(&effect.edit.draft, file) {
             return Ok(effect);
         }
         let holder = self.host();
-        self.clear_asked(file);
-        effect.before(Message::Freed { file, holder })
+        effect.before(file, Message::Freed { file, holder })
     }
 
     // The bytes are set to the mode or freed, and the call is answered; the server hears of it where
     // that may help others.
     pub(super) fn lock(
-        &mut self,
+        &self,
         alloc: Global,
+        draft: Draft,
         number: u32,
         target: LockCall,
         mode: Option<Mode>,
     ) -> Result<Effect, AllocError>
         requires number { 1 ≤ number }
-        requires file { IsNumber (node_state self.old).shape.files target.file }
-        requires own { IsOwn (node_state self.old).node (node_state self.old).incarnation target.owner }
+        requires draft { DraftFits self.now draft }
+        requires file { IsNumber (node_state self.now).shape.files target.file }
+        requires own { IsOwn (node_state self.now).node (node_state self.now).incarnation target.owner }
         requires span { IsSpan target.span }
-        ensures { IfOk result (λ effect. locked_by (node_state self.old) number target mode ≡ effect_of (node_state self.new) effect) }
+        ensures value { IfOk result (λ effect. locked_by (drafted self.now draft) number target mode ≡ effect_of self.now effect) }
+        ensures fits { IfOk result (λ effect. Fits self.now effect.edit) }
     {
-        let reply = self.lock_within(target, mode)?;
-        let effect = self.answer(alloc, number, reply);
+        let (locks, reply) = self.plan_lock(target, mode)?;
+        let effect = self.answer(alloc, draft, locks, number, reply);
         if !may_free(mode, &reply) {
             return Ok(effect);
         }
@@ -121,50 +205,62 @@ impl Node {
     }
 
     // The node's own table answers.
-    fn answer_here(&mut self, alloc: Global, call: &OpenCall) -> Result<Effect, AllocError>
-        requires { IsCallOf (node_state self.old) call.now }
-        ensures { IfOk result (λ effect. answered_here (node_state self.old) call.now call.now.intent ≡ effect_of (node_state self.new) effect) }
+    fn answer_here(
+        &self,
+        alloc: Global,
+        draft: Draft,
+        call: &OpenCall,
+    ) -> Result<Effect, AllocError>
+        requires own { IsCallOf (node_state self.now) call.now }
+        requires draft { DraftFits self.now draft }
+        ensures value { IfOk result (λ effect. answered_here (drafted self.now draft) call.now call.now.intent ≡ effect_of self.now effect) }
+        ensures fits { IfOk result (λ effect. Fits self.now effect.edit) }
     {
         match call.intent {
-            Intent::Set => self.lock(alloc, call.number, call.target(), Some(call.mode)),
-            Intent::Query => Ok(self.answer(alloc, call.number, Reply::Free)),
+            Intent::Set => self.lock(alloc, draft, call.number, call.target(), Some(call.mode)),
+            Intent::Query => Ok(self.answer(alloc, draft, None, call.number, Reply::Free)),
         }
     }
 
-    // No lock of the node is in the way: where its token covers the call the node answers by itself.
-    fn try_unblocked(&mut self, alloc: Global, call: &OpenCall) -> Result<Effect, AllocError>
-        requires { IsCallOf (node_state self.old) call.now }
-        ensures { IfOk result (λ effect. unblocked (node_state self.old) call.now ≡ effect_of (node_state self.new) effect) }
+    // The node's own locks of other owners are asked first, then its token, and then the server. A new
+    // call that has no answer is open from then on.
+    pub(super) fn try_call(
+        &self,
+        alloc: Global,
+        draft: Draft,
+        call: &OpenCall,
+    ) -> Result<Effect, AllocError>
+        requires own { IsCallOf (node_state self.now) call.now }
+        requires draft { DraftFits self.now draft }
+        ensures value { IfOk result (λ effect. tried (trying self.now draft call.now) call.now ≡ effect_of self.now effect) }
+        ensures fits { IfOk result (λ effect. Fits self.now effect.edit) }
     {
-        if self.is_covered(call) {
-            return self.answer_here(alloc, call);
+        if let Some(lock) = self.blocker(call) {
+            let refusal = call.intent.refusal(lock);
+            return Ok(self.answer(alloc, draft, None, call.number, refusal));
         }
-        self.request(alloc, call)
-    }
-
-    // The node's own locks of other owners are asked first, then its token, and then the server.
-    pub(super) fn try_call(&mut self, alloc: Global, call: &OpenCall) -> Result<Effect, AllocError>
-        requires { IsCallOf (node_state self.old) call.now }
-        ensures { IfOk result (λ effect. tried (node_state self.old) call.now ≡ effect_of (node_state self.new) effect) }
-    {
-        match self.blocker(call) {
-            Some(lock) => Ok(self.answer(alloc, call.number, call.intent.refusal(lock))),
-            None => self.try_unblocked(alloc, call),
+        if self.is_covered(&draft, call) {
+            return self.answer_here(alloc, draft, call);
         }
+        self.request(alloc, draft, call)
     }
 
     // A call that may be open no longer is tried.
     pub(super) fn try_if(
-        &mut self,
+        &self,
         alloc: Global,
+        draft: Draft,
         call: Option<OpenCall>,
     ) -> Result<Effect, AllocError>
-        requires { IfSome call (IsCallOf (node_state self.old)) }
-        ensures { IfOk result (λ effect. tried_if (node_state self.old) call ≡ effect_of (node_state self.new) effect) }
+        requires own { IfSome call (IsCallOf (node_state self.now)) }
+        requires old { draft.numbered ≡ false }
+        requires draft { DraftFits self.now draft }
+        ensures value { IfOk result (λ effect. tried_if (drafted self.now draft) call ≡ effect_of self.now effect) }
+        ensures fits { IfOk result (λ effect. Fits self.now effect.edit) }
     {
         match call {
-            None => Ok(Effect::quiet(alloc)),
-            Some(call) => self.try_call(alloc, &call),
+            None => Ok(Effect::quiet(alloc, Edit::of(draft))),
+            Some(call) => self.try_call(alloc, draft, &call),
         }
     }
 }

@@ -1,6 +1,4 @@
 //! Open calls, by hand-made calls.
-ghost use Rattle.std.specs.Prelude.{◌≡◌, [], IfOk};
-
 use super::*;
 use crate::open_call::Intent;
 use intervals::span::Span;
@@ -9,9 +7,7 @@ use model::mode::Mode;
 use model::owner::{Kind, Owner};
 use std::test::Fail;
 
-fn call(number: u32, pid: u16) -> OpenCall
-    ensures { result.number ≡ number }
-{
+fn call(number: u32, pid: u16) -> OpenCall {
     OpenCall {
         number,
         pid,
@@ -30,27 +26,28 @@ fn call(number: u32, pid: u16) -> OpenCall
 
 // No open calls, in a box: a test keeps no others, since these are dropped in fewer steps, each of
 // which the check proves.
-fn no_calls(alloc: Global) -> Result<Box<OpenCalls>, StepError>
-    ensures { IfOk result (λ calls. calls.value ≡ []) }
-{
+fn no_calls(alloc: Global) -> Result<Box<OpenCalls>, StepError> {
     Ok(Box::new(alloc, OpenCalls::new(alloc))?)
 }
 
+// One more call is open.
+fn push(calls: &mut OpenCalls, call: OpenCall) -> Result<(), AllocError> {
+    let room = calls.room()?;
+    calls.apply(CallsEdit::Put(call, room));
+    Ok(())
+}
+
 // Opens call 3 of process 1, call 9 of process 2 and call 5 of process 4.
-fn open_three(calls: &mut OpenCalls) -> Result<(), AllocError>
-    requires { calls.old ≡ [] }
-{
-    calls.push(call(3, 1))?;
-    calls.push(call(9, 2))?;
-    calls.push(call(5, 4))
+fn open_three(calls: &mut OpenCalls) -> Result<(), AllocError> {
+    push(calls, call(3, 1))?;
+    push(calls, call(9, 2))?;
+    push(calls, call(5, 4))
 }
 
 // Opens the last two of these.
-fn open_two(calls: &mut OpenCalls) -> Result<(), AllocError>
-    requires { calls.old ≡ [] }
-{
-    calls.push(call(9, 2))?;
-    calls.push(call(5, 4))
+fn open_two(calls: &mut OpenCalls) -> Result<(), AllocError> {
+    push(calls, call(9, 2))?;
+    push(calls, call(5, 4))
 }
 
 // Whether calls 5 and 9 are found by their numbers and by their processes, and no others are.
@@ -85,7 +82,7 @@ fn a_copy_is_the_same_calls(rt: HostRuntime) -> Result<(), Fail> {
 // Whether the calls are others until call 3 is open no longer.
 fn keep_the_order(calls: &mut OpenCalls, rest: &OpenCalls) -> bool {
     let were_same = calls.same(rest);
-    calls.remove(3);
+    calls.apply(CallsEdit::Gone(3));
     !were_same && calls.same(rest)
 }
 

@@ -14,7 +14,7 @@ use Rattle.cluster_core.proofs.world.World.node_plan.Goals as goal
 pub returns-clause-ok : goal.returns-clause-ok
 returns-clause-ok c =
     let x : NodeParts = c.index.result.now in
-    let P : WorldParts → Type 0 = λ p. IfOk c.plan.result (λ change. (y : NodeParts) × (y ≡ slice_index_or p.nodes (c.args.node - 1) y) × Fits y change.step × (node_rule ((world_state p).nodes c.args.node) c.args.step.now ≡ Ok (planned y change.step, change.outcome))) in
+    let P : WorldParts → Type 0 = λ p. IfOk c.plan.result (λ change. (y : NodeParts) × (y ≡ slice_index_or p.nodes (c.args.node - 1) y) × Fits y change.edit × (node_rule ((world_state p).nodes c.args.node) c.args.step.now ≡ Ok (planned y change.edit, change.outcome))) in
     let R : WorldParts → Type 0 = λ p. is_within p.shape.nodes c.args.node ≡ true in
     let A : WorldParts → Type 0 = λ p. alive_at p c.args.node ≡ true in
     let here = read_node (record { shape = c.self.inside.shape; nodes = c.self.inside.nodes.items; alive = c.self.inside.alive.items; servers = c.self.inside.servers.items; sent = c.self.inside.sent; length = c.self.inside.length }) c.args.node x c.self.invariant (subst R (sym c.self.view_is) c.requires.node) (subst A (sym c.self.view_is) c.requires.alive) c.index.ensures in

@@ -2,7 +2,7 @@ use Rattle.std.specs.Prelude.{Contains}
 use Rattle.std.proofs.Common.{List, subst}
 use Rattle.model.specs.declared.lock_info.LockInfo.{LockInfo}
 use Rattle.token_set.specs.Releases.{IsRevocable, IsGivenUp}
-use Rattle.node_core.proofs.NodeLaws.{node-files, node-gives}
+use Rattle.node_core.proofs.NodeLaws.{node-gives}
 use Rattle.node_core.proofs.node.Node.give_up.Goals as goal
 
 pub returns-clause-answer : goal.returns-clause-answer
@@ -19,9 +19,3 @@ returns-clause-answer c =
       ends = rw (← c.wanted.view_is) c.wanted.invariant.1;
     } in
     rw (← c.self.view_is) (node-gives _ c.args.command.now.file c.in_ok-locks.locks.items mode w.required w.desired gives c.self.invariant c.in_ok-locks.ensures revocable given)
-
-pub invariant_of-self : goal.invariant_of-self
-invariant_of-self c = node-files _ _ c.take_revoke.new.files c.self.inside.files.ok.0 c.self.invariant
-
-pub invariant_of-self-2 : goal.invariant_of-self-2
-invariant_of-self-2 c = node-files _ _ c.take_revoke.new.files c.self.inside.files.ok.0 c.self.invariant

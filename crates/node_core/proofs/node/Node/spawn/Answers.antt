@@ -1,12 +1,16 @@
-use Rattle.model.specs.Descriptors.{after_spawn}
-use Rattle.node_core.proofs.NodeLaws.{beside-ok, refused}
+use Rattle.std.specs.Prelude.{Result}
+use Rattle.model.specs.declared.reply.Reply.{Reply}
+use Rattle.model.specs.Descriptors.{Processes, after_spawn}
+use Rattle.node_core.proofs.NodeLaws.{beside-ok, beside-err, spawn-within}
 use Rattle.node_core.proofs.node.Node.spawn.Goals as goal
 
-pub returns : goal.returns
-returns c = rw (← c.self.view_is) (beside-ok _ c.args.pid c.spawn.new.self _ (λ ps. after_spawn ps c.args.pid) c.in_default.ensures.ok)
+pub returns-in-Ok-clause-value : goal.returns-in-Ok-clause-value
+returns-in-Ok-clause-value c = rw (← c.self.view_is) (beside-ok _ c.args.pid c.in-Ok.edit _ (λ ps. after_spawn ps c.args.pid) c.in-Ok.ensures.ok)
 
-pub returns-in-Err : goal.returns-in-Err
-returns-in-Err c = rw (← c.self.view_is) (refused _ c.args.pid c.spawn.new.self (λ ps. after_spawn ps c.args.pid) c.in-Err.error c.reply.result c.reply.ensures c.in-Err.ensures.err c.in-Err.ensures.unchanged)
+pub returns-in-Ok-clause-fits : goal.returns-in-Ok-clause-fits
+returns-in-Ok-clause-fits c = rw (← c.self.view_is) (spawn-within _ c.in-Ok.edit c.args.pid c.in-Ok.ensures.ok c.in-Ok.ensures.fits c.self.invariant)
 
-pub invariant_of-self : goal.invariant_of-self
-invariant_of-self c = rw c.in-Err.ensures.unchanged c.self.invariant
+pub returns-in_ok-reply-in-Err-clause-value : goal.returns-in_ok-reply-in-Err-clause-value
+returns-in_ok-reply-in-Err-clause-value c =
+    let f : Processes → Result (Processes × Reply) Reply = λ ps. after_spawn ps c.args.pid in
+    rw (← c.self.view_is) (beside-err _ c.args.pid _ f (c.in_ok-reply-in-Err.ensures _ c.in-Err.ensures.err))

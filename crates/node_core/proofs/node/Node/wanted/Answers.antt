@@ -2,7 +2,6 @@ use Rattle.std.proofs.Common.{◌≡◌, ◌≤◌, ◌∙◌, ap, sym, subst}
 use Rattle.intervals.specs.Bytes.{Range}
 use Rattle.messages.specs.Wants.{Wants}
 use Rattle.token_set.specs.Tokens.{desired}
-use Rattle.node_core.specs.State.{FileState}
 use Rattle.node_core.specs.Parts.{NodeParts, node_state}
 use Rattle.node_core.proofs.NodeLaws.{desired-ends}
 use Rattle.node_core.proofs.node.Node.wanted.Goals as goal
@@ -17,6 +16,5 @@ unfolding node_state
 returns c =
     let s = node_state c.args.self.now in
     let policy : c.policy.result ≡ s.shape.policy = c.policy.ensures ∙ ap (λ (p : NodeParts). p.shape.policy) c.self.view_is in
-    let token = ap (λ (f : FileState). f.token) c.file.ensures in
     let made : Range → Wants = λ r. record { required = c.args.call.now.span; desired = r } in
-    c.new.ensures ∙ ap made (c.desired.ensures ∙ (λ i. desired (policy i) (token i) c.args.call.now.span))
+    c.new.ensures ∙ ap made (c.desired.ensures ∙ (λ i. desired (policy i) (c.token-token.ensures i) c.args.call.now.span))

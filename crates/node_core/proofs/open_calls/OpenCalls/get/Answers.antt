@@ -1,9 +1,10 @@
-use Rattle.std.specs.Prelude.{◌==◌, find}
-use Rattle.std.proofs.Common.{ap, ◌∙◌}
-use Rattle.node_core.proofs.CallLaws.{found-by_number}
+use Rattle.std.specs.Prelude.{◌==◌}
+use Rattle.std.proofs.Common.{◌∙◌, rules, tests}
+use Rattle.std.proofs.lemmas.Iterator.{YieldsList-from_slice}
+use Rattle.std.proofs.lemmas.Iterator.Search.{find_from_yields_List}
 use Rattle.node_core.proofs.open_calls.OpenCalls.get.Goals as goal
 
 pub returns : goal.returns
 returns c =
-    c.copied.ensures ∙ c.get.ensures.value ∙ found-by_number c.args.number c.self.inside.calls.entries c.self.invariant.at_number
-    ∙ ap (find (λ d. d.number == c.args.number)) c.self.view_is
+    c.copied.ensures
+    ∙ find_from_yields_List (λ d. d.number == c.args.number) _ _ _ c.find.ensures.ran (YieldsList-from_slice _ (c.iter.ensures.rest ∙ c.deref.ensures.value ∙ c.self.view_is)) (λ x b q k. search (rules, tests))

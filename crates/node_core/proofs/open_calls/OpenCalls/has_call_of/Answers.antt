@@ -1,11 +1,11 @@
 use Rattle.std.specs.Prelude.{◌==◌}
 use Rattle.std.proofs.Common.{◌∙◌, rules, tests}
-use Rattle.std.proofs.lemmas.Iterator.Consumers.{YieldsList-from_rest}
+use Rattle.std.proofs.lemmas.Iterator.{YieldsList-from_slice}
 use Rattle.std.proofs.lemmas.Iterator.Search.{any_from_yields_List}
 use Rattle.node_core.proofs.CallLaws.{found-any}
 use Rattle.node_core.proofs.open_calls.OpenCalls.has_call_of.Goals as goal
 
 pub returns : goal.returns
 returns c =
-    any_from_yields_List (λ d. d.pid == c.args.pid) _ _ _ c.any.ensures.ran (YieldsList-from_rest _ (c.values.ensures.rest ∙ c.self.view_is)) (λ x b q k. search (rules, tests))
+    any_from_yields_List (λ d. d.pid == c.args.pid) _ _ _ c.any.ensures.ran (YieldsList-from_slice _ (c.iter.ensures.rest ∙ c.deref.ensures.value ∙ c.self.view_is)) (λ x b q k. search (rules, tests))
     ∙ found-any (λ d. d.pid == c.args.pid) c.args.self.now

@@ -1,13 +1,12 @@
-use Rattle.std.specs.Prelude.{◌≤◌}
+use Rattle.std.specs.Prelude.{◌≤◌, ◌<◌, Err}
 use Rattle.std.proofs.Common.{◌≡◌, ap, sym, subst, ◌∙◌}
 use Rattle.intervals.specs.Bytes.{put}
 use Rattle.intervals.specs.Runs.{value_at}
 use Rattle.model.specs.Locks.{replace, with_lock, regions}
 use Rattle.model.specs.Table.{Target}
 use Rattle.lock_table.specs.Rows.{held}
-use Rattle.node_core.specs.Parts.{NodeParts, node_state}
-use Rattle.node_core.proofs.PlanLaws.{lock-planned, own-planned}
-use Rattle.node_core.proofs.node.Node.quick_lock.Goals as goal
+use Rattle.node_core.proofs.PlanLaws.{lock-planned, lock-refused, lock-edit-fits}
+use Rattle.node_core.proofs.node.Node.plan_lock.Goals as goal
 
 pub returns-in-Ok-clause-locked : goal.returns-in-Ok-clause-locked
 returns-in-Ok-clause-locked c =
@@ -18,11 +17,14 @@ returns-in-Ok-clause-locked c =
     rw (← c.self.view_is) (lock-planned _ e c.args.target c.args.mode ok few)
 
 pub returns-in-Ok-clause-fits : goal.returns-in-Ok-clause-fits
-unfolding node_state
 returns-in-Ok-clause-fits c =
     let h = held c.self.inside.locks in
     let e = c.in-Ok.edit in
     let ok = subst (λ (t : Target). replace h e.file e.owner (value_at e.spans) ≡ with_lock h t.file t.owner t.span c.args.mode) c.target.view_is c.in-Ok.ensures.ok in
-    let node = c.requires.own.of_node ∙ ap (λ (p : NodeParts). p.node) (sym c.self.view_is) in
-    let incarnation = c.requires.own.of_incarnation ∙ ap (λ (p : NodeParts). p.incarnation) (sym c.self.view_is) in
-    rw (← c.self.view_is) (c.in-Ok.ensures.empty, c.in-Ok.ensures.room, own-planned _ e c.args.target c.args.mode ok (record { of_node = node; of_incarnation = incarnation; number_in = c.requires.own.number_in }) c.requires.span c.self.invariant)
+    rw (← c.self.view_is) (lock-edit-fits _ e c.args.target c.args.mode c.in-Ok.ensures.empty c.in-Ok.ensures.room ok (rw c.self.view_is c.requires.own) c.requires.span c.self.invariant)
+
+pub returns-in-Err-NoLocks-clause-locked : goal.returns-in-Err-NoLocks-clause-locked
+returns-in-Err-NoLocks-clause-locked c =
+    let h = held c.self.inside.locks in
+    let many = subst (λ (t : Target). 1024 < regions (put (h t.file t.owner) t.span c.args.mode)) c.target.view_is (c.in-Err-NoLocks.ensures.many (ap Err c.in-Err-NoLocks.field-0-is)) in
+    rw (← c.self.view_is) (lock-refused _ c.args.target c.args.mode many)
