@@ -30,8 +30,8 @@ pub record IsNodeChange (p : WorldParts) (event : Event) (n incarnation : ℕ) (
   pub same_event : IsStepOf event n step
   pub node : NodeParts
   pub there : node ≡ slice_index_or p.nodes (n - 1) node
-  pub fits : Fits node change.step
-  pub done : node_rule ((world_state p).nodes n) step ≡ Ok (reached node change.step, change.outcome)
+  pub fits : Fits node change.edit
+  pub done : node_rule ((world_state p).nodes n) step ≡ Ok (reached node change.edit, change.outcome)
   pub incarnation_is : incarnation ≡ named_incarnation ((world_state p).nodes n) event
   pub incarnated : NamesItsIncarnation event incarnation
   pub gives : r ≡ after_node (world_state p) event n (node_rule ((world_state p).nodes n) step)
