@@ -12,7 +12,7 @@ ghost use Rattle.node_core.specs.Parts.{NodeParts, node_state};
 ghost use Rattle.node_core.specs.Plans.{Fits, planned as reached};
 ghost use Rattle.token_server.specs.Server.{server_rule};
 ghost use Rattle.token_server.specs.Parts.{ServerParts, server_state};
-ghost use Rattle.token_server.specs.Edits.{edited, planned};
+ghost use Rattle.token_server.specs.Edits.{planned};
 ghost use Rattle.cluster_core.specs.World.{WorldState, journal_limit, was_declared, first_world};
 ghost use Rattle.cluster_core.specs.Next.{is_known, is_fenced, IsCertain, has_actor, declare_rule, restart_rule, named_incarnation, after_node, after_server, taken, next};
 ghost use Rattle.cluster_core.specs.Parts.{world_state, IsStepOf, IsServerStepOf, IsTakenByNode, IsRest};
@@ -613,7 +613,7 @@ fn settle_server(
     sent: &mut Sent,
 ) -> Result<Outcome, NoRoom>
     requires { index < length servers.old.items }
-    ensures servers { OnOk result ((p : ServerParts) → p ≡ slice_index_or servers.old.items index p → servers.new.items ≡ slice_set servers.old.items index (edited change.edit p)) }
+    ensures servers { OnOk result ((p : ServerParts) → p ≡ slice_index_or servers.old.items index p → (next : ServerParts) × (servers.new.items ≡ slice_set servers.old.items index next) × (server_state next ≡ planned p change.edit)) }
     ensures outcome { IfOk result (λ outcome. outcome ≡ change.outcome) }
     ensures sent { IfOk result (λ outcome. sent.new ≡ sent.old ++ outcome.sends) }
     ensures unchanged { OnErr result ((servers.new.items ≡ servers.old.items) × (sent.new ≡ sent.old)) }

@@ -1,16 +1,17 @@
 -- Lemmas on what writers took.
-use Rattle.std.proofs.Common.{◌≡◌, ℕ, List, [], ◌++◌, Option, Result, Ok, Err, ⊤, inl, inr, sym, ap, ◌∙◌, append_assoc, append-nil}
+use Rattle.std.proofs.Common.{ℕ, List, [], ◌++◌, Option, None, Some, Result, Ok, Err, inl, inr, sym, ap, ◌∙◌, append_assoc, append-nil}
+use Rattle.std.specs.Prelude.{⊤}
 use Rattle.std.proofs.KnownBytes.{Appends-trans}
-use Rattle.std.specs.Io.KnownBytes.{Appends}
+use Rattle.std.specs.Io.KnownBytes.{Appends, Keeps}
 use Rattle.replay.specs.Outputs.{AppendsPart, Writes, WritesOrFails}
 
 -- a beginning of the first bytes is one of the whole
 pub part-before : (old new : Option (List ℕ)) (xs ys : List ℕ) → AppendsPart old new xs → AppendsPart old new (xs ++ ys)
-part-before old new xs ys p = (p.0, p.1 ++ ys, ap (λ (t : List ℕ). t ++ ys) p.2.0 ∙ append_assoc p.0 p.1 ys, p.2.1)
+part-before old new xs ys p = (p.0, p.1 ++ ys, ap (λ (t : List ℕ). t ++ ys) p.2 ∙ append_assoc p.0 p.1 ys, p.3)
 
 -- bytes, and then a beginning of more
 pub part-after : (old mid new : Option (List ℕ)) (xs ys : List ℕ) → Appends old mid xs → AppendsPart mid new ys → AppendsPart old new (xs ++ ys)
-part-after old mid new xs ys first p = (xs ++ p.0, p.1, ap (λ (t : List ℕ). xs ++ t) p.2.0 ∙ sym (append_assoc xs p.0 p.1), Appends-trans old mid new xs p.0 first p.2.1)
+part-after old mid new xs ys first p = (xs ++ p.0, p.1, ap (λ (t : List ℕ). xs ++ t) p.2 ∙ sym (append_assoc xs p.0 p.1), Appends-trans old mid new xs p.0 first p.3)
 
 -- all of the bytes are a beginning of them
 pub part-whole : (old new : Option (List ℕ)) (xs : List ℕ) → Appends old new xs → AppendsPart old new xs
@@ -25,3 +26,15 @@ writes-after old mid new Failed xs ys (Err error) first second = (part-after old
 pub writes-or-fails : {E : Type 0} (old new : Option (List ℕ)) (Failed : Type 0) (xs : List ℕ) (r : Result ⊤ E) → Writes old new Failed xs r → WritesOrFails old new Failed xs
 writes-or-fails old new Failed xs (Ok done) writes = inl writes
 writes-or-fails old new Failed xs (Err error) writes = inr writes
+
+-- what stays takes nothing
+pub kept_none : (old new : Option (List ℕ)) → Keeps old new → Appends old new []
+kept_none None new kept = tt
+kept_none (Some x) None kept = absurd kept
+kept_none (Some x) (Some y) kept = kept ∙ sym (append-nil x)
+
+-- what takes nothing stays
+pub none_kept : (old new : Option (List ℕ)) → Appends old new [] → Keeps old new
+none_kept None new none = tt
+none_kept (Some x) None none = absurd none
+none_kept (Some x) (Some y) none = none ∙ append-nil x

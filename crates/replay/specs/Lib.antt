@@ -1,4 +1,5 @@
 pub mod Outputs
+pub mod Stores
 pub mod Statuses
 pub mod Refusals
 pub mod Faults

@@ -1,13 +1,13 @@
 //! The files of the system.
 ghost use Rattle.std.specs.Prelude.{◌≡◌, ◌↔◌};
 ghost use Rattle.std.specs.IoError.{error_kind};
-ghost use Rattle.std.specs.declared.io.kind.ErrorKind.TheVariants.{OutOfMemory};
 ghost use Rattle.replay.specs.declared.store.StoreError.TheVariants.{NoMemory};
 
 use crate::store::{Store, StoreError};
 use std::alloc::Global;
+use std::fs;
+use std::io::{Error, ErrorKind};
 use std::rt::Files;
-use std::{fs, io};
 
 /// The files of the system, by paths as the caller gives them.
 #[derive(Drop)]
@@ -28,11 +28,11 @@ impl<R: Files + AllocGlobal> Store for Disk<'_, R> {
     }
 }
 
-fn reason_of(error: &io::Error) -> StoreError
-    ensures { error_kind error.now ≡ OutOfMemory ↔ result ≡ NoMemory }
+fn reason_of(error: &Error) -> StoreError
+    ensures { error_kind error.now ≡ ErrorKind.OutOfMemory ↔ result ≡ NoMemory }
 {
     match error.kind() {
-        io::ErrorKind::OutOfMemory => StoreError::NoMemory,
+        ErrorKind::OutOfMemory => StoreError::NoMemory,
         _ => StoreError::Failed,
     }
 }

@@ -1,6 +1,6 @@
 //! Where texts are written.
-ghost use Rattle.std.specs.Prelude.{◌++◌, ⊤, ℕ, List, Option, None, codes, OnErr, OnOk};
-ghost use Rattle.std.specs.Io.KnownBytes.{Keeps};
+ghost use Rattle.std.specs.Prelude.{◌++◌, ◌≤◌, ⊤, ℕ, List, Option, None, codes, length, take, IfOk, OnErr, OnOk};
+ghost use Rattle.std.specs.Io.KnownBytes.{Appends, Keeps};
 ghost use Rattle.replay.specs.Outputs.{Writes};
 
 use std::io::{ErrorKind, Write};
@@ -48,18 +48,29 @@ impl<W: Write> Output for W {
             if rest.is_empty() {
                 return Ok(());
             }
-            match self.write(rest) {
-                Ok(0) => return Err(WriteFailed),
-                Ok(count) => rest = &rest[count..],
-                Err(error) if error.kind() == ErrorKind::Interrupted => {}
-                Err(_) => return Err(WriteFailed),
-            }
+            let count = write_some(self, rest)?;
+            rest = &rest[count..];
         }
         Err(WriteFailed)
     }
 
     fn finish(&mut self) -> Result<(), WriteFailed> {
         self.flush().map_err(|_| WriteFailed)
+    }
+}
+
+// Writes some of the bytes, or none where the writer was interrupted.
+#[tactic(auto, using(crate::proofs::Outputs::kept_none, crate::proofs::Outputs::none_kept))]
+fn write_some<W: Write>(out: &mut W, bytes: &[u8]) -> Result<usize, WriteFailed>
+    ensures bound { IfOk result (λ count. count ≤ length bytes.now) }
+    ensures taken { IfOk result (λ count. Appends (W.contents out.old) (W.contents out.new) (take count bytes.now)) }
+    ensures kept { OnErr result (Keeps (W.contents out.old) (W.contents out.new)) }
+{
+    match out.write(bytes) {
+        Ok(0) => Err(WriteFailed),
+        Ok(count) => Ok(count),
+        Err(error) if error.kind() == ErrorKind::Interrupted => Ok(0),
+        Err(_) => Err(WriteFailed),
     }
 }
 

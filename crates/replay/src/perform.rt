@@ -2,10 +2,12 @@
 ghost use Rattle.std.specs.Prelude.{◌≡◌, ◌≢◌, string_bytes, IfErr, IfOk, OnErr, OnOk};
 ghost use Rattle.std.specs.Io.KnownBytes.{Appends};
 ghost use Rattle.command_line.specs.Words.{path_of};
+ghost use Rattle.replay.specs.declared.fault.Fault.TheVariants.{CannotWriteOutput};
 ghost use Rattle.replay.specs.Commands.{HasListing, HasScript, HasScriptIn, IsFault, IsFaultIn, IsListing, Leaves, ShowsListing, TellsFault};
 ghost use Rattle.replay.specs.Faults.{fault_line};
 ghost use Rattle.replay.specs.Outputs.{AppendsPart, WritesOrFails};
 ghost use Rattle.replay.specs.Parts.{state_of};
+ghost use Rattle.replay.specs.Stores.{SameFiles};
 ghost use Rattle.replay.specs.Statuses.{status_of, IsStatus};
 
 use crate::fault::Fault;
@@ -45,7 +47,7 @@ pub fn perform<S: Store, O: Output, E: Output>(
         (Leaves (HasListing (S.holds store.old (path_of line.now))) O.taken O.has_failed out.old out.new)
         (λ fault. WritesOrFails (E.taken err.old) (E.taken err.new) (E.has_failed err.new) (fault_line fault)) result }
 
-    ensures files { S.holds store.new ≡ S.holds store.old }
+    ensures files { SameFiles (S.holds store.old) (S.holds store.new) }
 {
     match done(alloc, line, store, out) {
         Ok(()) => 0,
@@ -72,12 +74,15 @@ fn done<'a, S: Store, O: Output>(
     ensures flushed { OnOk result (O.is_flushed out.new) }
     ensures fault { IfErr result (λ fault. IsFault (S.holds store.old (path_of line.now)) (S.ran_short store.new) (path_of line.now) fault
         × Leaves (HasListing (S.holds store.old (path_of line.now))) O.taken O.has_failed out.old out.new fault) }
-    ensures files { S.holds store.new ≡ S.holds store.old }
+    ensures files { SameFiles (S.holds store.old) (S.holds store.new) }
 {
     let text = match line {
         Line::Run { script } => listing_of_script(alloc, store, script)?,
     };
-    show(out, text.as_str()).map_err(|_| Fault::CannotWriteOutput)
+    match show(out, text.as_str()) {
+        Ok(()) => Ok(()),
+        Err(_) => Err(Fault::CannotWriteOutput),
+    }
 }
 
 // The listing of what the script of a file comes to.
@@ -88,7 +93,7 @@ fn listing_of_script<'a, S: Store>(
 ) -> Result<String, Fault<'a>>
     ensures listing { IfOk result (λ text. HasListing (S.holds store.old path.now) (string_bytes text)) }
     ensures fault { IfErr result (λ fault. (fault ≢ CannotWriteOutput) × IsFault (S.holds store.old path.now) (S.ran_short store.new) path.now fault) }
-    ensures files { S.holds store.new ≡ S.holds store.old }
+    ensures files { SameFiles (S.holds store.old) (S.holds store.new) }
 {
     let script = script_of(alloc, store, path)?;
     let played = play(alloc, &script)?;
@@ -99,7 +104,7 @@ fn listing_of_script<'a, S: Store>(
 fn script_of<'a, S: Store>(alloc: Global, store: &mut S, path: &'a str) -> Result<Script, Fault<'a>>
     ensures script { IfOk result (HasScript (S.holds store.old path.now)) }
     ensures fault { IfErr result (λ fault. (fault ≢ CannotWriteOutput) × IsFault (S.holds store.old path.now) (S.ran_short store.new) path.now fault) }
-    ensures files { S.holds store.new ≡ S.holds store.old }
+    ensures files { SameFiles (S.holds store.old) (S.holds store.new) }
 {
     match store.read(alloc, path) {
         Ok(bytes) => script_in(alloc, bytes.as_slice(), path),

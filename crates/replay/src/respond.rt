@@ -8,6 +8,7 @@ ghost use Rattle.replay.specs.Commands.{HasListing, IsFault, Leaves, ShowsListin
 ghost use Rattle.replay.specs.Faults.{fault_line};
 ghost use Rattle.replay.specs.Outputs.{AppendsPart, WritesOrFails};
 ghost use Rattle.replay.specs.Refusals.{IsHelp, refusal_status, refusal_text};
+ghost use Rattle.replay.specs.Stores.{SameFiles};
 ghost use Rattle.replay.specs.Statuses.{status_of, IsStatus};
 
 use crate::fault::Fault;
@@ -37,8 +38,8 @@ pub fn respond<W: AsStr, S: Store, O: Output, E: Output>(
         → result ≡ 0 → ShowsListing (S.holds store.old path) (O.taken out.old) (O.taken out.new) }
     ensures fault { (path : List ℕ) → AsksToRun (map W.text words.now) path
         → result ≢ 0 → TellsFault (IsFault (S.holds store.old path) ⊤ path)
-            (Leaves (HasListing (S.holds store.old path)) O.taken O.has_failed out.old out.new)
-            (λ fault. WritesOrFails (E.taken err.old) (E.taken err.new) (E.has_failed err.new) (fault_line fault)) result }
+        (Leaves (HasListing (S.holds store.old path)) O.taken O.has_failed out.old out.new)
+        (λ fault. WritesOrFails (E.taken err.old) (E.taken err.new) (E.has_failed err.new) (fault_line fault)) result }
 
     // The status tells what the words are, and a fault is told by its line.
     ensures zero { result ≡ 0 → AsksForHelp (map W.text words.now) ⊎ ((path : List ℕ) × AsksToRun (map W.text words.now) path) }
@@ -47,7 +48,7 @@ pub fn respond<W: AsStr, S: Store, O: Output, E: Output>(
     ensures told { IsStatus result → result ≢ 0 → (fault : Fault) × (result ≡ status_of fault)
         × WritesOrFails (E.taken err.old) (E.taken err.new) (E.has_failed err.new) (fault_line fault) }
 
-    ensures files { S.holds store.new ≡ S.holds store.old }
+    ensures files { SameFiles (S.holds store.old) (S.holds store.new) }
 {
     match Line::read(alloc, words) {
         Ok(line) => perform(alloc, &line, store, out, err),
@@ -61,7 +62,7 @@ pub fn refuse<O: Output, E: Output>(refusal: &Refusal, out: &mut O, err: &mut E)
     // Help is shown, unless the first writer fails.
     ensures help { IsHelp refusal.now → ((result ≡ 0) × Appends (O.taken out.old) (O.taken out.new) (refusal_text refusal.now) × O.is_flushed out.new × (err.new ≡ err.old))
         ⊎ ((result ≡ 3) × AppendsPart (O.taken out.old) (O.taken out.new) (refusal_text refusal.now) × O.has_failed out.new
-            × WritesOrFails (E.taken err.old) (E.taken err.new) (E.has_failed err.new) (fault_line CannotWriteOutput)) }
+        × WritesOrFails (E.taken err.old) (E.taken err.new) (E.has_failed err.new) (fault_line CannotWriteOutput)) }
 
     // Else the second writer gets the text, and the first nothing.
     ensures refused { ¬ (IsHelp refusal.now) → (result ≡ refusal_status refusal.now) × (out.new ≡ out.old)

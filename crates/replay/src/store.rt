@@ -1,5 +1,6 @@
 //! Files.
 ghost use Rattle.std.specs.Prelude.{◌≡◌, ℕ, List, ⊤, IfOk, Option, Result, Err, None, Some};
+ghost use Rattle.replay.specs.Stores.{SameFiles};
 ghost use Rattle.replay.specs.declared.store.StoreError.TheVariants.{Failed, NoMemory};
 
 use std::alloc::Global;
@@ -31,5 +32,5 @@ pub trait Store {
         ensures short { result ≡ Err NoMemory → ran_short self.new }
 
         // No file changes.
-        ensures files { holds self.new ≡ holds self.old };
+        ensures files { SameFiles (holds self.old) (holds self.new) };
 }

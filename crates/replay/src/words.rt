@@ -1,12 +1,12 @@
 //! The words that the program was given.
 ghost use Rattle.std.specs.Prelude.{◌≡◌, ◌≢◌};
 ghost use Rattle.std.specs.IoError.{error_kind};
-ghost use Rattle.std.specs.declared.io.kind.ErrorKind.TheVariants.{OutOfMemory};
 ghost use Rattle.command_line.specs.declared.refusal.Refusal.TheVariants.{NoMemory, NotText};
 
 use command_line::refusal::Refusal;
+use std::env;
+use std::io::{Error, ErrorKind};
 use std::rt::Env;
-use std::{env, io};
 
 /// The words of the command line, the first of them being the program's name.
 ///
@@ -18,12 +18,12 @@ pub fn read_words<R: Env + AllocGlobal>(rt: &R) -> Result<Vec<String>, Refusal> 
 }
 
 // Words are read but for memory, or for one that is not UTF-8.
-fn refusal_of(error: &io::Error) -> Refusal
-    ensures memory { error_kind error.now ≡ OutOfMemory → result ≡ NoMemory }
-    ensures text { error_kind error.now ≢ OutOfMemory → result ≡ NotText }
+fn refusal_of(error: &Error) -> Refusal
+    ensures memory { error_kind error.now ≡ ErrorKind.OutOfMemory → result ≡ NoMemory }
+    ensures text { error_kind error.now ≢ ErrorKind.OutOfMemory → result ≡ NotText }
 {
     match error.kind() {
-        io::ErrorKind::OutOfMemory => Refusal::NoMemory,
+        ErrorKind::OutOfMemory => Refusal::NoMemory,
         _ => Refusal::NotText,
     }
 }

@@ -2,61 +2,98 @@
 use Rattle.std.specs.List.{list_any}
 use Rattle.std.proofs.lemmas.Bool.Decides.{eqb_tells}
 use Rattle.token_server.specs.State.{row_above}
-use Rattle.std.specs.Prelude.{max, Bool, true, false, not, cond, filter, ◌||◌, ◌≡◌, ◌≢◌, ℕ, zero, suc, ◌+◌, ◌-◌, ◌==◌, if◌then◌else◌, List, [], ◌∷◌, ◌++◌, length, slice_set, Option, Some}
+use Rattle.std.specs.Prelude.{max, Bool, true, false, not, cond, filter, ◌||◌, ◌≡◌, ◌≢◌, ℕ, zero, suc, ◌+◌, ◌-◌, ◌<◌, ◌≤◌, ◌==◌, if◌then◌else◌, List, [], ◌∷◌, ◌++◌, length, slice_get, slice_set, slice_index_or, Option, Some, None}
 use Rattle.std.proofs.Common.{inl, inr, sym, refl, ap, ◌∙◌, arith}
 use Rattle.std.proofs.lemmas.List.{length-set}
+use Rattle.std.proofs.lemmas.Option.{slice_get_past}
 use Rattle.model.specs.Limits.{IsNumber}
 use Rattle.token_server.specs.declared.client.Client.{Client}
 use Rattle.token_server.specs.declared.row_edits.RowEdit.{RowEdit}
 use Rattle.token_server.specs.State.{Row}
 use Rattle.token_server.specs.Parts.{row_seen, row_of, dead_of, client_at, rows_of, deaths_of, with_change}
-use Rattle.token_server.specs.Edits.{overlaid}
-use Rattle.token_server.proofs.ClientLaws.{client_at-set_same, slice_get-set_other, changed_at, same_either}
+use Rattle.token_server.specs.declared.row.Row.{Row as KeptRow}
+use Rattle.token_server.specs.declared.change.Given.{Given}
+use Rattle.token_server.specs.Edits.{Changes, row_kept, client_after, with_client, overlaid, given_row, given_to_row, given_to_client, with_given_row}
+use Rattle.token_server.proofs.ClientLaws.{client_at-read, client_at-place, client_at-set_same, slice_get-set_other, changed_at, same_either}
 
 -- the last edit is made last
-pub overlaid-push : (clients : List Client) (es : List RowEdit) (e : RowEdit) → overlaid clients (es ++ e ∷ []) ≡ slice_set (overlaid clients es) e.place e.client
+pub overlaid-push : (clients : List Client) (es : List RowEdit) (e : RowEdit) → overlaid clients (es ++ e ∷ []) ≡ with_client (overlaid clients es) e (slice_get (overlaid clients es) e.place)
 overlaid-push clients [] e = refl
-overlaid-push clients (d ∷ es) e = overlaid-push (slice_set clients d.place d.client) es e
+overlaid-push clients (d ∷ es) e = overlaid-push (with_client clients d (slice_get clients d.place)) es e
+
+with_client-length : (clients : List Client) (e : RowEdit) (o : Option Client) → length (with_client clients e o) ≡ length clients
+with_client-length clients e None = refl
+with_client-length clients e (Some client) = length-set clients e.place (client_after e client)
 
 -- there are as many nodes as before
 pub overlaid-length : (clients : List Client) (es : List RowEdit) → length (overlaid clients es) ≡ length clients
 overlaid-length clients [] = refl
-overlaid-length clients (e ∷ es) = overlaid-length (slice_set clients e.place e.client) es ∙ length-set clients e.place e.client
+overlaid-length clients (e ∷ es) = overlaid-length (with_client clients e (slice_get clients e.place)) es ∙ with_client-length clients e (slice_get clients e.place)
 
 within_after : (clients : List Client) (es : List RowEdit) (node : ℕ) → IsNumber (length clients) node → IsNumber (length (overlaid clients es)) node
 within_after clients es node within = rw (overlaid-length clients es) within
 
+-- the last edit is of that client
+overlaid-set : (clients : List Client) (es : List RowEdit) (e : RowEdit) (node : ℕ) (client : Client) → IsNumber (length clients) node → e.place ≡ node - 1 → client_at (overlaid clients es) node ≡ Some client → overlaid clients (es ++ e ∷ []) ≡ slice_set (overlaid clients es) e.place (client_after e client)
+overlaid-set clients es e node client within at there =
+    let next : e.place + 1 ≡ node = omega arith in
+    overlaid-push clients es e ∙ ap (with_client (overlaid clients es) e) (sym (client_at-place (overlaid clients es) node e.place next) ∙ there)
+
 -- a node that was edited last
-pub overlaid-here : (clients : List Client) (es : List RowEdit) (e : RowEdit) (node : ℕ) → IsNumber (length clients) node → e.place ≡ node - 1 → client_at (overlaid clients (es ++ e ∷ [])) node ≡ Some e.client
-overlaid-here clients es e node within at =
-    rw (overlaid-push clients es e) (client_at-set_same (overlaid clients es) node e.place e.client (within_after clients es node within) at)
+pub overlaid-here : (clients : List Client) (es : List RowEdit) (e : RowEdit) (node : ℕ) (client : Client) → IsNumber (length clients) node → e.place ≡ node - 1 → client_at (overlaid clients es) node ≡ Some client → client_at (overlaid clients (es ++ e ∷ [])) node ≡ Some (client_after e client)
+overlaid-here clients es e node client within at there =
+    rw (overlaid-set clients es e node client within at there) (client_at-set_same (overlaid clients es) node e.place (client_after e client) (within_after clients es node within) at)
 
 -- a write elsewhere keeps the node
 client_at-set_apart : (clients : List Client) (node place : ℕ) (new : Client) → place + 1 ≢ node → client_at (slice_set clients place new) node ≡ client_at clients node
 client_at-set_apart clients zero place new apart = refl
 client_at-set_apart clients (suc k) place new apart = slice_get-set_other clients place k new (λ e. apart (omega arith))
 
+with_client-apart : (clients : List Client) (e : RowEdit) (o : Option Client) (node : ℕ) → e.place + 1 ≢ node → client_at (with_client clients e o) node ≡ client_at clients node
+with_client-apart clients e None node apart = refl
+with_client-apart clients e (Some client) node apart = client_at-set_apart clients node e.place (client_after e client) apart
+
 -- and one that was not
 pub overlaid-elsewhere : (clients : List Client) (es : List RowEdit) (e : RowEdit) (node : ℕ) → e.place + 1 ≢ node → client_at (overlaid clients (es ++ e ∷ [])) node ≡ client_at (overlaid clients es) node
 overlaid-elsewhere clients es e node apart =
-    rw (overlaid-push clients es e) (client_at-set_apart (overlaid clients es) node e.place e.client apart)
+    rw (overlaid-push clients es e) (with_client-apart (overlaid clients es) e (slice_get (overlaid clients es) e.place) node apart)
 
 -- the rows after an edit
-pub rows_of-edit : (clients : List Client) (es new : List RowEdit) (node : ℕ) (client made : Client) (g : Option Row → Option Row) → IsNumber (length clients) node → client_at (overlaid clients es) node ≡ Some client → row_seen made.row ≡ g (row_seen client.row) → new ≡ es ++ (record { place = node - 1; client = made }) ∷ [] → rows_of (overlaid clients new) ≡ with_change node g (rows_of (overlaid clients es))
+pub rows_of-edit : (clients : List Client) (es new : List RowEdit) (node : ℕ) (e : RowEdit) (f : Option Row → Option Row) (g : ℕ → ℕ) → IsNumber (length clients) node → Changes (overlaid clients es) node f g e → new ≡ es ++ e ∷ [] → rows_of (overlaid clients new) ≡ with_change node f (rows_of (overlaid clients es))
 unfolding rows_of
-rows_of-edit clients es new node client made g within there is pushed =
-    ap (λ l n. row_of (client_at l n)) (ap (overlaid clients) pushed ∙ overlaid-push clients es (record { place = node - 1; client = made }))
-    ∙ (λ i n. changed_at row_of g (overlaid clients es) node (node - 1) client made (within_after clients es node within) refl there is n i)
+rows_of-edit clients es new node e f g within x pushed =
+    ap (λ l n. row_of (client_at l n)) (ap (overlaid clients) pushed ∙ overlaid-set clients es e node x.client within x.place_is x.there)
+    ∙ (λ i n. changed_at row_of f (overlaid clients es) node e.place x.client (client_after e x.client) (within_after clients es node within) x.place_is x.there x.row_is n i)
 
-pub deaths_of-edit : (clients : List Client) (es new : List RowEdit) (node : ℕ) (client made : Client) (g : ℕ → ℕ) → IsNumber (length clients) node → client_at (overlaid clients es) node ≡ Some client → made.dead ≡ g client.dead → new ≡ es ++ (record { place = node - 1; client = made }) ∷ [] → deaths_of (overlaid clients new) ≡ (λ n. if n == node then g (deaths_of (overlaid clients es) n) else deaths_of (overlaid clients es) n)
+pub deaths_of-edit : (clients : List Client) (es new : List RowEdit) (node : ℕ) (e : RowEdit) (f : Option Row → Option Row) (g : ℕ → ℕ) → IsNumber (length clients) node → Changes (overlaid clients es) node f g e → new ≡ es ++ e ∷ [] → deaths_of (overlaid clients new) ≡ (λ n. if n == node then g (deaths_of (overlaid clients es) n) else deaths_of (overlaid clients es) n)
 unfolding deaths_of
-deaths_of-edit clients es new node client made g within there is pushed =
-    ap (λ l n. dead_of (client_at l n)) (ap (overlaid clients) pushed ∙ overlaid-push clients es (record { place = node - 1; client = made }))
-    ∙ (λ i n. changed_at dead_of g (overlaid clients es) node (node - 1) client made (within_after clients es node within) refl there is n i)
+deaths_of-edit clients es new node e f g within x pushed =
+    ap (λ l n. dead_of (client_at l n)) (ap (overlaid clients) pushed ∙ overlaid-set clients es e node x.client within x.place_is x.there)
+    ∙ (λ i n. changed_at dead_of g (overlaid clients es) node e.place x.client (client_after e x.client) (within_after clients es node within) x.place_is x.there x.dead_is n i)
 
-pub deaths_of-edit_same : (clients : List Client) (es new : List RowEdit) (node : ℕ) (client made : Client) → IsNumber (length clients) node → client_at (overlaid clients es) node ≡ Some client → made.dead ≡ client.dead → new ≡ es ++ (record { place = node - 1; client = made }) ∷ [] → deaths_of (overlaid clients new) ≡ deaths_of (overlaid clients es)
-deaths_of-edit_same clients es new node client made within there is pushed =
-    deaths_of-edit clients es new node client made (λ dead. dead) within there is pushed ∙ (λ i n. same_either (n == node) (deaths_of (overlaid clients es) n) i)
+pub deaths_of-edit_same : (clients : List Client) (es new : List RowEdit) (node : ℕ) (e : RowEdit) (f : Option Row → Option Row) → IsNumber (length clients) node → Changes (overlaid clients es) node f (λ dead. dead) e → new ≡ es ++ e ∷ [] → deaths_of (overlaid clients new) ≡ deaths_of (overlaid clients es)
+deaths_of-edit_same clients es new node e f within x pushed =
+    deaths_of-edit clients es new node e f (λ dead. dead) within x pushed ∙ (λ i n. same_either (n == node) (deaths_of (overlaid clients es) n) i)
+
+-- changes that are one at the row that is there
+pub with_change-at : (node : ℕ) (f g : Option Row → Option Row) (rows : ℕ → Option Row) → f (rows node) ≡ g (rows node) → with_change node f rows ≡ with_change node g rows
+with_change-at node f g rows same = λ i n. at n i
+  where
+    at : (n : ℕ) → with_change node f rows n ≡ with_change node g rows n
+    at n = elim (eqb_tells n node) [
+      | inl here ↦ ap (λ (b : Bool). cond b (f (rows n)) (rows n)) here.0 ∙ ap (λ (k : ℕ). f (rows k)) here.1 ∙ same ∙ ap (λ (k : ℕ). g (rows k)) (sym here.1) ∙ sym (ap (λ (b : Bool). cond b (g (rows n)) (rows n)) here.0)
+      | inr apart ↦ ap (λ (b : Bool). cond b (f (rows n)) (rows n)) apart.0 ∙ sym (ap (λ (b : Bool). cond b (g (rows n)) (rows n)) apart.0)
+    ]
+
+-- the rows once one is given something
+pub given-here : (clients : List Client) (node dead : ℕ) (g : Given) (row : KeptRow) (new : Row) → g.place + 1 ≡ node → client_at clients node ≡ Some (record { dead = dead; row = Some row }) → given_row g.commands g.token row ≡ new → with_given_row g clients ≡ (λ n. if n == node then Some new else rows_of clients n)
+given-here clients node dead g row new at there is = λ i n. each n i
+  where
+    each : (n : ℕ) → with_given_row g clients n ≡ (if n == node then Some new else rows_of clients n)
+    each n = ap (λ (k : ℕ). if n == k then given_to_client g (client_at clients n) else rows_of clients n) at ∙ elim (eqb_tells n node) [
+      | inl here ↦ ap (λ (b : Bool). cond b (given_to_client g (client_at clients n)) (rows_of clients n)) here.0 ∙ ap (λ (k : ℕ). given_to_client g (client_at clients k)) here.1 ∙ ap (given_to_client g) there ∙ ap Some is ∙ sym (ap (λ (b : Bool). cond b (Some new) (rows_of clients n)) here.0)
+      | inr apart ↦ ap (λ (b : Bool). cond b (given_to_client g (client_at clients n)) (rows_of clients n)) apart.0 ∙ sym (ap (λ (b : Bool). cond b (Some new) (rows_of clients n)) apart.0)
+    ]
 
 -- what is known of a node
 pub rows_of-there : (clients : List Client) (es : List RowEdit) (node : ℕ) (client : Client) → client_at (overlaid clients es) node ≡ Some client → rows_of (overlaid clients es) node ≡ row_seen client.row
@@ -78,19 +115,45 @@ filter-no_pass test (x ∷ xs) h = by (test x) refl (filter-no_pass test xs) h
         (λ i. cond (not (is i)) (x ∷ filter (λ y. not (test y)) xs) (filter (λ y. not (test y)) xs))
         ∙ ap (λ l. x ∷ l) (rest none)
 
--- a change that changes nothing
-change_same : {A : Type 0} (node : ℕ) (f : A → A) (g : ℕ → A) → f (g node) ≡ g node → (n : ℕ) → g n ≡ (if n == node then f (g n) else g n)
-change_same {A} node f g same n = elim (eqb_tells n node) [
-  | inl here ↦ sym (ap (λ (b : Bool). cond b (f (g n)) (g n)) here.0 ∙ ap (λ (k : ℕ). f (g k)) here.1 ∙ same ∙ ap g (sym here.1))
-  | inr apart ↦ sym (ap (λ (b : Bool). cond b (f (g n)) (g n)) apart.0)
-]
-
-pub rows_of-kept : (clients : List Client) (node incarnation : ℕ) (client : Client) → client_at clients node ≡ Some client → row_above incarnation (row_seen client.row) ≡ row_seen client.row → rows_of clients ≡ with_change node (row_above incarnation) (rows_of clients)
+-- the rows once one is given something, in the list
+pub given-set : (clients : List Client) (place : ℕ) (client new : Client) (g : Given) → place < length clients → g.place ≡ place → client ≡ slice_index_or clients place client → row_seen new.row ≡ given_to_row g.commands g.token client.row → rows_of (slice_set clients place new) ≡ with_given_row g clients
 unfolding rows_of
-rows_of-kept clients node incarnation client there same =
-    λ i n. change_same node (row_above incarnation) (λ k. row_of (client_at clients k)) (ap (λ (o : Option Client). row_above incarnation (row_of o)) there ∙ same ∙ ap row_of (sym there)) n i
+given-set clients place client new g within at read made = λ i n. each n i
+  where
+    there : client_at clients (place + 1) ≡ Some client
+    there = client_at-read clients (place + 1) place client (omega arith, omega arith) (omega arith) read
 
-pub deaths_of-kept : (clients : List Client) (node incarnation : ℕ) (client : Client) → client_at clients node ≡ Some client → max client.dead incarnation ≡ client.dead → deaths_of clients ≡ (λ n. if n == node then max (deaths_of clients n) incarnation else deaths_of clients n)
-unfolding deaths_of
-deaths_of-kept clients node incarnation client there same =
-    λ i n. change_same node (λ dead. max dead incarnation) (λ k. dead_of (client_at clients k)) (ap (λ (o : Option Client). max (dead_of o) incarnation) there ∙ same ∙ ap dead_of (sym there)) n i
+    same : (n : ℕ) → (if n == place + 1 then given_to_row g.commands g.token client.row else row_of (client_at clients n)) ≡ (if n == place + 1 then given_to_client g (client_at clients n) else row_of (client_at clients n))
+    same n = elim (eqb_tells n (place + 1)) [
+      | inl here ↦
+          let x = given_to_row g.commands g.token client.row in
+          let y = given_to_client g (client_at clients n) in
+          let z = row_of (client_at clients n) in
+          ap (λ (b : Bool). cond b x z) here.0 ∙ sym (ap (λ (k : ℕ). given_to_client g (client_at clients k)) here.1 ∙ ap (given_to_client g) there) ∙ sym (ap (λ (b : Bool). cond b y z) here.0)
+      | inr apart ↦
+          let x = given_to_row g.commands g.token client.row in
+          let y = given_to_client g (client_at clients n) in
+          let z = row_of (client_at clients n) in
+          ap (λ (b : Bool). cond b x z) apart.0 ∙ sym (ap (λ (b : Bool). cond b y z) apart.0)
+    ]
+
+    each : (n : ℕ) → row_of (client_at (slice_set clients place new) n) ≡ with_given_row g clients n
+    each n = changed_at row_of (λ row. given_to_row g.commands g.token client.row) clients (place + 1) place client new (omega arith, omega arith) (omega arith) there made n ∙ same n ∙ ap (λ (k : ℕ). if n == k + 1 then given_to_client g (client_at clients n) else row_of (client_at clients n)) (sym at)
+
+-- nobody stands there
+pub given-past : (clients : List Client) (g : Given) → length clients ≤ g.place → rows_of clients ≡ with_given_row g clients
+unfolding rows_of
+given-past clients g past = λ i n. each n i
+  where
+    each : (n : ℕ) → row_of (client_at clients n) ≡ with_given_row g clients n
+    each n = elim (eqb_tells n (g.place + 1)) [
+      | inl here ↦
+          let none : client_at clients n ≡ None = ap (client_at clients) here.1 ∙ client_at-place clients (g.place + 1) g.place refl ∙ slice_get_past clients g.place past in
+          let y = given_to_client g (client_at clients n) in
+          let z = row_of (client_at clients n) in
+          ap row_of none ∙ sym (ap (given_to_client g) none) ∙ sym (ap (λ (b : Bool). cond b y z) here.0)
+      | inr apart ↦
+          let y = given_to_client g (client_at clients n) in
+          let z = row_of (client_at clients n) in
+          sym (ap (λ (b : Bool). cond b y z) apart.0)
+    ]

@@ -5,3 +5,4 @@ pub mod GrantLaws
 pub mod ResendLaws
 pub mod ServeLaws
 pub mod EditLaws
+pub mod ViewLaws

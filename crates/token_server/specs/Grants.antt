@@ -6,11 +6,11 @@ use Rattle.messages.specs.declared.message.Message.TheVariants.{Grant}
 use Rattle.messages.specs.Messages.{greatest_number}
 use Rattle.token_server.specs.declared.held.Held.{Held}
 use Rattle.token_server.specs.State.{Row, ServerState}
-use Rattle.token_server.specs.Serve.{row_conflicts, serve}
+use Rattle.token_server.specs.Serve.{admitted, row_conflicts, serve}
 
--- the request is served, it needs some bytes, which are among those that it would like to have, and its node has that row
+-- the request is the one that is served, or the first of the queue where none is; it needs some bytes, which are among those that it would like to have, and its node has that row
 pub record IsServed (s : ServerState) (r : Held) (row : Row) : Type 0 where
-  pub active : s.active ≡ Some r
+  pub active : (admitted s s.active s.queue).active ≡ Some r
   pub row_is : s.rows r.call.node ≡ Some row
   pub ordered : r.wanted.required.lo ≤ r.wanted.required.hi
   pub starts : r.wanted.desired.lo ≤ r.wanted.required.lo

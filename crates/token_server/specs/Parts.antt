@@ -3,7 +3,7 @@ use Rattle.std.specs.Prelude.{◌≡◌, ℕ, zero, suc, ◌+◌, ◌<◌, ◌==
 use Rattle.intervals.specs.Bytes.{Range}
 use Rattle.model.specs.declared.mode.Mode.{Mode}
 use Rattle.model.specs.Limits.{IsNumber}
-use Rattle.token_set.specs.Tokens.{raised}
+use Rattle.token_set.specs.Tokens.{Token, raised}
 use Rattle.token_set.specs.Releases.{lowered}
 use Rattle.token_set.specs.Sets.{token_of}
 use Rattle.messages.specs.declared.refusal.StepError.{StepError}
@@ -14,11 +14,15 @@ use Rattle.messages.specs.Shapes.{ShapeFields}
 use Rattle.token_server.specs.declared.held.Held.{Held}
 use Rattle.token_server.specs.declared.row.Row.{Row as KeptRow}
 use Rattle.token_server.specs.declared.client.Client.{Client}
-use Rattle.token_server.specs.State.{Row, ServerState}
+use Rattle.token_server.specs.State.{Commands, Row, ServerState}
+
+-- the row in the rules of a node that had those commands, with that token
+abbrev pub row_in : Commands → Token → Row
+row_in commands token = record { incarnation = commands.incarnation; token = token; number = commands.number; outstanding = commands.outstanding }
 
 -- the row in the rules
 abbrev pub row_state : KeptRow → Row
-row_state row = record { incarnation = row.incarnation; token = token_of row.token; number = row.number; outstanding = row.outstanding }
+row_state row = row_in row.commands (token_of row.token)
 
 abbrev pub row_seen : Option KeptRow → Option Row
 row_seen None = None
@@ -26,7 +30,7 @@ row_seen (Some row) = Some (row_state row)
 
 -- the rows say the same
 abbrev pub SameRow : KeptRow → KeptRow → Type 0
-SameRow a b = (a.incarnation ≡ b.incarnation) × (token_of a.token ≡ token_of b.token) × (a.number ≡ b.number) × (a.outstanding ≡ b.outstanding)
+SameRow a b = (a.commands ≡ b.commands) × (token_of a.token ≡ token_of b.token)
 
 abbrev pub row_of : Option Client → Option Row
 row_of None = None
@@ -58,8 +62,16 @@ unfoldable pub deaths_of : List Client → ℕ → ℕ
 deaths_of clients node = dead_of (client_at clients node)
 
 -- the number of the next command, unless one is under way
-abbrev pub next_number : Row → Result (Option ℕ) StepError
-next_number row = if is_some row.outstanding then Ok None else (if nat_lt row.number greatest_number then Ok (Some (row.number + 1)) else Err Spent)
+abbrev pub next_number : Commands → Result (Option ℕ) StepError
+next_number c = if is_some c.outstanding then Ok None else (if nat_lt c.number greatest_number then Ok (Some (c.number + 1)) else Err Spent)
+
+-- the commands once the last is answered
+abbrev pub answered_commands : Commands → Commands
+answered_commands c = record { incarnation = c.incarnation; number = c.number; outstanding = None }
+
+-- the commands once the next is sent
+abbrev pub told_commands : Message → Commands → Commands
+told_commands command c = record { incarnation = c.incarnation; number = c.number + 1; outstanding = Some command }
 
 -- the row once its command is answered
 abbrev pub answered : Row → Row

@@ -7,6 +7,12 @@ use Rattle.messages.specs.declared.message.Message.{Message}
 use Rattle.messages.specs.Messages.{same_call}
 use Rattle.token_server.specs.declared.held.Held.{Held}
 
+-- the commands to a node in one incarnation: the number of the last (0 at first), and that command while no answer has come
+pub record Commands : Type 0 where
+  pub incarnation : ℕ
+  pub number : ℕ
+  pub outstanding : Option Message
+
 -- what the server knows of a node: its incarnation, its token, the number of its last command (0 at first), and that command while no answer has come
 pub record Row : Type 0 where
   pub incarnation : ℕ

@@ -1,15 +1,36 @@
 //! What a step of a token server changes.
+ghost use Rattle.std.specs.Prelude.{◌≡◌};
+
+use crate::commands::Commands;
 use crate::held::Held;
 use crate::queue_edit::QueueEdit;
 use crate::row_edits::RowEdits;
 use messages::outcome::Outcome;
+use token_set::edit::TokenEdit;
 
-/// New values of the small parts of a server that a step changes: of some nodes, of the queue, and the request that is served from then on.
+/// What an event changes of a server before it serves: new values of some nodes, of the queue, and the
+/// request that is served from then on.
 #[derive(Drop)]
-pub struct Edit {
+pub struct Draft {
     pub rows: RowEdits,
     pub queue: QueueEdit,
     pub active: Option<Held>,
+}
+
+/// What a node at a place (from 0) is given as the server serves, if it has a row: the commands to it
+/// from then on, and how its token changes.
+#[derive(Drop)]
+pub struct Given {
+    pub place: usize,
+    pub commands: Commands,
+    pub token: TokenEdit,
+}
+
+/// What a step changes: what the event changes, and then what a node is given.
+#[derive(Drop)]
+pub struct Edit {
+    pub draft: Draft,
+    pub given: Option<Given>,
 }
 
 /// A step that is planned: what it changes, and what it gives.
@@ -17,4 +38,13 @@ pub struct Edit {
 pub struct Change {
     pub edit: Edit,
     pub outcome: Outcome,
+}
+
+impl Change {
+    /// What the step gives.
+    pub fn outcome(&self) -> &Outcome
+        ensures { result.now ≡ self.now.outcome }
+    {
+        &self.outcome
+    }
 }

@@ -1,17 +1,18 @@
 //! Nodes, as a token server knows them.
-ghost use Rattle.std.specs.Prelude.{◌≡◌, if◌then◌else◌, ◌≤◌, ◌<◌, ◌↔◌, false, max, IsTrue, IfOk, IfSome, OnOk, OnErr, Some, None};
-ghost use Rattle.std.specs.Option.{option_map};
-ghost use Rattle.messages.specs.Messages.{greatest_number};
-ghost use Rattle.token_server.specs.State.{empty_row, row_above};
-ghost use Rattle.token_server.specs.Parts.{row_seen, answered, relieved, told, given, SameKnown};
+ghost use Rattle.std.specs.Prelude.{◌≡◌, ◌↔◌, IsTrue, IfOk, Some, None};
+ghost use Rattle.std.specs.Option.{option_map, option_copied};
+ghost use Rattle.token_server.specs.State.{row_above};
+ghost use Rattle.token_server.specs.Parts.{row_seen, SameKnown};
 ghost use Rattle.token_server.specs.Resends.{outstanding_of};
+ghost use Rattle.token_server.specs.Edits.{seen_row, commands_in, token_in, client_after, row_with, row_kept, given_to_row, answered_with};
 
-use crate::row::Row;
-use intervals::span::Span;
+use crate::commands::Commands;
+use crate::row::{Row, RowView};
+use crate::row_edits::{RowAfter, RowEdit};
 use intervals::span_map::NoMemory;
 use messages::message::Message;
-use model::mode::Mode;
-use std::alloc::Global;
+use token_set::edit::TokenEdit;
+use token_set::set::TokenSet;
 
 /// A node, as the server of a file knows it: the greatest incarnation known to be dead (0 at first),
 /// and the row of a later one, if that asked.
@@ -19,6 +20,13 @@ use std::alloc::Global;
 pub struct Client {
     pub dead: u16,
     pub row: Option<Row>,
+}
+
+/// A client that is read.
+#[derive(Clone, Copy)]
+pub struct ClientView<'a> {
+    pub dead: u16,
+    pub row: Option<RowView<'a>>,
 }
 
 impl Client {
@@ -29,80 +37,61 @@ impl Client {
         Client { dead: 0, row: None }
     }
 
-    /// The incarnations up to this one are known to be dead: a row of one of them goes.
-    pub fn forget(&mut self, incarnation: u16)
-        ensures row { row_seen self.new.row ≡ row_above incarnation (row_seen self.old.row) }
-        ensures dead { self.new.dead ≡ max self.old.dead incarnation }
-    {
-        if self.has_row_up_to(incarnation) {
-            self.row = None;
-        }
-        self.dead = self.dead.max(incarnation);
-    }
-
-    /// Whether `forget` changes anything.
-    pub fn forgets(&self, incarnation: u16) -> bool
-        ensures row { result ≡ false → row_above incarnation (row_seen self.now.row) ≡ row_seen self.now.row }
-        ensures dead { result ≡ false → max self.now.dead incarnation ≡ self.now.dead }
-    {
-        if self.has_row_up_to(incarnation) {
-            return true;
-        }
-        self.dead < incarnation
-    }
-
-    // Whether there is a row, of that incarnation or an older one.
-    fn has_row_up_to(&self, incarnation: u16) -> bool
-        ensures { row_above incarnation (row_seen self.now.row) ≡ (if result then None else row_seen self.now.row) }
+    /// The commands to it, if it has a row.
+    pub fn commands(&self) -> Option<Commands>
+        ensures { result ≡ commands_in self.now.row }
     {
         match &self.row {
-            Some(row) => row.incarnation <= incarnation,
-            None => false,
+            Some(row) => Some(row.commands),
+            None => None,
         }
     }
 
-    /// A row of the incarnation, that has got no command yet.
-    pub fn add_row(&mut self, alloc: Global, incarnation: u16)
-        requires { 1 ≤ incarnation }
-        ensures row { row_seen self.new.row ≡ Some (empty_row incarnation) }
-        ensures dead { self.new.dead ≡ self.old.dead }
+    /// Its token, if it has a row.
+    pub fn token(&self) -> Option<&TokenSet>
+        ensures { option_copied result ≡ token_in self.now.row }
     {
-        self.row = Some(Row::new(alloc, incarnation));
+        match &self.row {
+            Some(row) => Some(&row.token),
+            None => None,
+        }
     }
 
-    /// The command to it is answered.
-    pub fn answer(&mut self)
-        ensures row { row_seen self.new.row ≡ option_map answered (row_seen self.old.row) }
+    /// Makes a planned change. Takes no memory.
+    pub fn change(&mut self, edit: RowEdit)
+        ensures { self.new ≡ client_after edit self.old }
+    {
+        let RowEdit { dead, row, .. } = edit;
+        self.dead = dead;
+        match row {
+            Some(after) => self.change_row(after),
+            None => self.row = None,
+        }
+    }
+
+    // Makes a planned change of the row.
+    fn change_row(&mut self, after: RowAfter)
+        ensures row { self.new.row ≡ row_with after.commands after.token self.old.row }
+        ensures dead { self.new.dead ≡ self.old.dead }
+    {
+        let RowAfter { commands, token } = after;
+        match token {
+            Some(token) => self.row = Some(Row { commands, token }),
+            None => {
+                if let Some(row) = &mut self.row {
+                    row.commands = commands;
+                }
+            }
+        }
+    }
+
+    /// The row has had these commands, and its token changes so. Takes no memory.
+    pub fn put(&mut self, commands: Commands, token: TokenEdit)
+        ensures row { row_seen self.new.row ≡ given_to_row commands token self.old.row }
         ensures dead { self.new.dead ≡ self.old.dead }
     {
         if let Some(row) = &mut self.row {
-            row.answer();
-        }
-    }
-
-    /// The command to it is answered: it gave up the span for the mode.
-    ///
-    /// # Errors
-    /// `NoMemory` where a request for memory was refused; all stays as it was.
-    pub fn release(&mut self, span: Span, mode: Mode) -> Result<(), NoMemory>
-        ensures row { OnOk result (row_seen self.new.row ≡ option_map (relieved span mode) (row_seen self.old.row)) }
-        ensures dead { self.new.dead ≡ self.old.dead }
-        ensures err { OnErr result (self.new ≡ self.old) }
-    {
-        match &mut self.row {
-            Some(row) => row.release(span, mode),
-            None => Ok(()),
-        }
-    }
-
-    /// The next command to it, which leaves its token as it is.
-    pub fn tell(&mut self, command: &Message)
-        requires { IfSome (row_seen self.old.row) (λ row. row.number < greatest_number) }
-        ensures row { row_seen self.new.row ≡ option_map (told command.now) (row_seen self.old.row) }
-        ensures dead { self.new.dead ≡ self.old.dead }
-    {
-        if let Some(row) = &mut self.row {
-            row.tell(command);
+            row.put(commands, token);
         }
     }
 
@@ -111,24 +100,8 @@ impl Client {
         ensures { result ≡ outstanding_of (row_seen self.now.row) }
     {
         match &self.row {
-            Some(row) => row.outstanding,
+            Some(row) => row.commands.outstanding,
             None => None,
-        }
-    }
-
-    /// The next command to it, which gives it the span in the mode.
-    ///
-    /// # Errors
-    /// `NoMemory` where a request for memory was refused; all stays as it was.
-    pub fn give(&mut self, span: Span, mode: Mode, command: &Message) -> Result<(), NoMemory>
-        requires { IfSome (row_seen self.old.row) (λ row. row.number < greatest_number) }
-        ensures row { OnOk result (row_seen self.new.row ≡ option_map (given span mode command.now) (row_seen self.old.row)) }
-        ensures dead { self.new.dead ≡ self.old.dead }
-        ensures err { OnErr result (self.new ≡ self.old) }
-    {
-        match &mut self.row {
-            Some(row) => row.give(span, mode, command),
-            None => Ok(()),
         }
     }
 
@@ -169,7 +142,7 @@ impl Client {
     /// Puts another number of the last command in the row.
     pub fn count_to(&mut self, number: u32) {
         if let Some(row) = &mut self.row {
-            row.number = number;
+            row.commands.number = number;
         }
     }
 }

@@ -1,25 +1,16 @@
 //! The nodes of a cluster, as a token server knows them.
-ghost use Rattle.std.specs.Prelude.{◌≡◌, ℕ, ◌+◌, ◌<◌, ◌≤◌, ◌↔◌, false, ◌==◌, if◌then◌else◌, max, length, All, IsTrue, IfOk, IfSome, OnSome, OnOk, OnErr, MatchOption, Some, None};
-ghost use Rattle.std.specs.Option.{option_map};
-ghost use Rattle.intervals.specs.Bytes.{largest_around};
+ghost use Rattle.std.specs.Prelude.{◌≡◌, ℕ, ◌<◌, ◌≤◌, ◌↔◌, length, All, IsTrue, IfOk, Some, None};
 ghost use Rattle.model.specs.Limits.{IsNumber};
-ghost use Rattle.messages.specs.Messages.{greatest_number};
-ghost use Rattle.token_server.specs.State.{empty_row, row_above};
-ghost use Rattle.token_server.specs.Serve.{row_conflicts, row_conflicts_at};
-ghost use Rattle.token_server.specs.Parts.{row_state, client_at, rows_of, deaths_of, answered, relieved, told, given, with_change, SameClients};
+ghost use Rattle.token_server.specs.Parts.{client_at, rows_of, deaths_of, SameClients};
 ghost use Rattle.token_server.specs.Resends.{outstanding_to};
-ghost use Rattle.token_server.specs.Server.{row_of_incarnation};
-ghost use Rattle.token_server.specs.Edits.{overlaid};
+ghost use Rattle.token_server.specs.Edits.{overlaid, with_given_row};
 
+use crate::change::Given;
 use crate::client::Client;
-use crate::row::Row;
 use crate::row_edits::{RowEdit, RowEdits};
-use intervals::span::Span;
 use intervals::span_map::NoMemory;
 use messages::items::Items;
 use messages::message::Message;
-use model::host::Host;
-use model::mode::Mode;
 use std::alloc::Global;
 use std::marker::Model;
 
@@ -68,7 +59,7 @@ fn overlay(clients: &mut [Client], edits: &mut Vec<RowEdit>)
     while !edits.is_empty() {
         let edit = edits.remove(0);
         if edit.place < clients.len() {
-            clients[edit.place] = edit.client;
+            clients[edit.place].change(edit);
         }
     }
 }
@@ -132,103 +123,6 @@ impl Clients {
         overlay(&mut self.clients, &mut edits);
     }
 
-    /// The row of a node.
-    pub fn row(&self, node: u8) -> Option<&Row>
-        requires { 1 ≤ node }
-        ensures row { MatchOption result (rows_of self.now node ≡ None) (λ row. rows_of self.now node ≡ Some (row_state row.now)) }
-        ensures within { OnSome result (node ≤ length self.now) }
-    {
-        if usize::from(node) > self.clients.len() {
-            return None;
-        }
-        self.clients[usize::from(node) - 1].row.as_ref()
-    }
-
-    /// The row of a node, if it is of that incarnation.
-    pub fn row_of(&self, host: Host) -> Option<&Row>
-        ensures row { MatchOption result (row_of_incarnation host.incarnation (rows_of self.now host.node) ≡ None) (λ row. row_of_incarnation host.incarnation (rows_of self.now host.node) ≡ Some (row_state row.now)) }
-        ensures same { IfSome result (λ row. rows_of self.now host.node ≡ Some (row_state row.now)) }
-    {
-        let row = self.row(host.node)?;
-        if row.incarnation == host.incarnation {
-            Some(row)
-        } else {
-            None
-        }
-    }
-
-    /// Whether the row of a node conflicts with the mode at some byte of the span.
-    pub fn conflicts(&self, node: u8, span: Span, mode: Mode) -> bool
-        requires { IsNumber (length self.now) node }
-        ensures { result ≡ row_conflicts (rows_of self.now node) span mode }
-    {
-        match self.row(node) {
-            Some(row) => row.token.conflicts(span, mode),
-            None => false,
-        }
-    }
-
-    /// The largest span that contains `required`, lies in `within`, and has no byte at which the row
-    /// of a node conflicts with the mode.
-    pub fn free_around(&self, node: u8, required: Span, within: Span, mode: Mode) -> Span
-        requires node_in { IsNumber (length self.now) node }
-        requires starts_within { within.lo ≤ required.lo }
-        requires ends_within { required.hi ≤ within.hi }
-        requires free { row_conflicts (rows_of self.now node) required mode ≡ false }
-        ensures { result ≡ largest_around (λ b. row_conflicts_at (rows_of self.now node) b mode) required within }
-    {
-        let _ = &required.lo; // tells the proof that the span has a byte
-        match self.row(node) {
-            Some(row) => row.token.free_around(required, within, mode),
-            None => within,
-        }
-    }
-
-    /// The incarnations of a node up to this one are known to be dead: a row of one of them goes.
-    pub fn forget(&mut self, node: u8, incarnation: u16)
-        requires { IsNumber (length self.old) node }
-        ensures rows { rows_of self.new ≡ with_change node (row_above incarnation) (rows_of self.old) }
-        ensures deaths { deaths_of self.new ≡ (λ n. if n == node then max (deaths_of self.old n) incarnation else deaths_of self.old n) }
-        ensures len { length self.new ≡ length self.old }
-    {
-        self.clients[usize::from(node) - 1].forget(incarnation);
-    }
-
-    /// A row of the node in that incarnation, which has got no command yet.
-    pub fn add_row(&mut self, alloc: Global, node: u8, incarnation: u16)
-        requires node_in { IsNumber (length self.old) node }
-        requires counted { 1 ≤ incarnation }
-        ensures rows { rows_of self.new ≡ with_change node (λ row. Some (empty_row incarnation)) (rows_of self.old) }
-        ensures deaths { deaths_of self.new ≡ deaths_of self.old }
-        ensures len { length self.new ≡ length self.old }
-    {
-        self.clients[usize::from(node) - 1].add_row(alloc, incarnation);
-    }
-
-    /// The command to the node is answered.
-    pub fn answer(&mut self, node: u8)
-        requires { IsNumber (length self.old) node }
-        ensures rows { rows_of self.new ≡ with_change node (option_map answered) (rows_of self.old) }
-        ensures deaths { deaths_of self.new ≡ deaths_of self.old }
-        ensures len { length self.new ≡ length self.old }
-    {
-        self.clients[usize::from(node) - 1].answer();
-    }
-
-    /// The command to the node is answered: it gave up the span for the mode.
-    ///
-    /// # Errors
-    /// `NoMemory` where a request for memory was refused; all stays as it was.
-    pub fn release(&mut self, node: u8, span: Span, mode: Mode) -> Result<(), NoMemory>
-        requires { IsNumber (length self.old) node }
-        ensures rows { OnOk result (rows_of self.new ≡ with_change node (option_map (relieved span mode)) (rows_of self.old)) }
-        ensures deaths { OnOk result (deaths_of self.new ≡ deaths_of self.old) }
-        ensures len { OnOk result (length self.new ≡ length self.old) }
-        ensures err { OnErr result (self.new ≡ self.old) }
-    {
-        self.clients[usize::from(node) - 1].release(span, mode)
-    }
-
     /// The commands that have no answer yet, by rising node.
     ///
     /// # Errors
@@ -245,36 +139,20 @@ impl Clients {
         Ok(commands)
     }
 
-    /// The next command to the node, which leaves its token as it is.
-    pub fn tell(&mut self, node: u8, command: &Message)
-        requires node_in { IsNumber (length self.old) node }
-        requires room { IfSome (rows_of self.old node) (λ row. row.number < greatest_number) }
-        ensures rows { rows_of self.new ≡ with_change node (option_map (told command.now)) (rows_of self.old) }
+    /// What a node is given, from now on. Takes no memory.
+    pub fn give(&mut self, given: Given)
+        ensures rows { rows_of self.new ≡ with_given_row given self.old }
         ensures deaths { deaths_of self.new ≡ deaths_of self.old }
         ensures len { length self.new ≡ length self.old }
     {
-        self.clients[usize::from(node) - 1].tell(command);
-    }
-
-    /// The next command to the node, which gives it the span in the mode.
-    ///
-    /// # Errors
-    /// `NoMemory` where a request for memory was refused; all stays as it was.
-    pub fn give(
-        &mut self,
-        node: u8,
-        span: Span,
-        mode: Mode,
-        command: &Message,
-    ) -> Result<(), NoMemory>
-        requires node_in { IsNumber (length self.old) node }
-        requires room { IfSome (rows_of self.old node) (λ row. row.number < greatest_number) }
-        ensures rows { OnOk result (rows_of self.new ≡ with_change node (option_map (given span mode command.now)) (rows_of self.old)) }
-        ensures deaths { OnOk result (deaths_of self.new ≡ deaths_of self.old) }
-        ensures len { OnOk result (length self.new ≡ length self.old) }
-        ensures err { OnErr result (self.new ≡ self.old) }
-    {
-        self.clients[usize::from(node) - 1].give(span, mode, command)
+        let Given {
+            place,
+            commands,
+            token,
+        } = given;
+        if place < self.clients.len() {
+            self.clients[place].put(commands, token);
+        }
     }
 
     /// Equal clients.

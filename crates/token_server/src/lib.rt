@@ -4,6 +4,7 @@
 pub mod change;
 mod client;
 mod clients;
+mod commands;
 pub mod event;
 pub mod held;
 pub mod laws;

@@ -1,31 +1,50 @@
 //! Nodes as a token server will know them once a planned step is made.
-ghost use Rattle.std.specs.Prelude.{◌≡◌, ℕ, ◌+◌, ◌-◌, ◌<◌, ◌≤◌, [], ◌∷◌, ◌++◌, false, ◌==◌, if◌then◌else◌, max, length, IfSome, OnSome, OnOk, MatchOption, Some, None};
-ghost use Rattle.std.specs.Option.{option_map};
+ghost use Rattle.std.specs.Prelude.{◌≡◌, ℕ, ◌+◌, ◌-◌, ◌<◌, ◌≤◌, [], ◌∷◌, ◌++◌, false, ◌==◌, if◌then◌else◌, max, length, IfOk, IfSome, OnSome, OnOk, MatchOption, Some, None};
+ghost use Rattle.std.specs.Option.{option_map, option_copied};
 ghost use Rattle.intervals.specs.Bytes.{largest_around};
 ghost use Rattle.model.specs.Limits.{IsNumber};
-ghost use Rattle.messages.specs.Messages.{greatest_number};
 ghost use Rattle.token_server.specs.State.{empty_row, row_above};
 ghost use Rattle.token_server.specs.Serve.{row_conflicts, row_conflicts_at};
-ghost use Rattle.token_server.specs.Parts.{row_state, client_at, rows_of, deaths_of, answered, relieved, told, given, with_change};
+ghost use Rattle.token_server.specs.Parts.{row_state, client_at, rows_of, deaths_of, answered, relieved, with_change};
 ghost use Rattle.token_server.specs.Server.{row_of_incarnation};
-ghost use Rattle.token_server.specs.Edits.{overlaid};
+ghost use Rattle.token_server.specs.Edits.{overlaid, Changes, seen, seen_client, token_kept, answered_with};
 
-use crate::client::Client;
+use crate::client::ClientView;
 use crate::clients::Clients;
-use crate::row::Row;
+use crate::commands::Commands;
+use crate::row::RowView;
 use intervals::span::Span;
 use intervals::span_map::NoMemory;
-use messages::message::Message;
 use model::host::Host;
 use model::mode::Mode;
 use std::alloc::Global;
 use std::marker::Model;
+use token_set::set::TokenSet;
 
-/// What a node at a place (from 0) is from now on.
+/// A row from now on: the commands to its node, and its token, or none where that stays.
+#[derive(Drop)]
+pub struct RowAfter {
+    pub commands: Commands,
+    pub token: Option<TokenSet>,
+}
+
+/// What a node at a place (from 0) is from now on: up to which incarnation it is known to be dead, and
+/// its row, if it has one.
 #[derive(Drop)]
 pub struct RowEdit {
     pub place: usize,
-    pub client: Client,
+    pub dead: u16,
+    pub row: Option<RowAfter>,
+}
+
+// The token of the row once the change is made.
+fn token_over<'a>(after: &'a RowAfter, token: Option<&'a TokenSet>) -> Option<&'a TokenSet>
+    ensures { option_copied result ≡ token_kept after.now.token (option_copied token.entry) }
+{
+    match &after.token {
+        Some(own) => Some(own),
+        None => token,
+    }
 }
 
 /// Nodes that a planned step changes, in order: of one node the last counts.
@@ -54,28 +73,120 @@ impl RowEdits {
     }
 
     // A node after the edits.
-    fn client<'a>(&'a self, clients: &'a Clients, node: u8) -> &'a Client
+    fn client<'a>(&'a self, clients: &'a Clients, node: u8) -> ClientView<'a>
         requires { IsNumber (length clients.now) node }
-        ensures { client_at (overlaid clients.now self.now) node ≡ Some result.now }
+        ensures { client_at (overlaid clients.now self.now) node ≡ Some (seen_client result) }
     {
         let place = usize::from(node) - 1;
-        let mut client = clients.at(node);
+        let base = clients.at(node);
+        let mut dead = base.dead;
+        let mut commands = base.commands();
+        let mut token = base.token();
         for edit in &self.edits {
-            if edit.place == place {
-                client = &edit.client;
+            if edit.place != place {
+                continue;
+            }
+            dead = edit.dead;
+            match &edit.row {
+                Some(after) => {
+                    commands = Some(after.commands);
+                    token = token_over(after, token);
+                }
+                None => {
+                    commands = None;
+                    token = None;
+                }
             }
         }
-        client
+        let row = match (commands, token) {
+            (Some(commands), Some(token)) => Some(RowView { commands, token }),
+            _ => None,
+        };
+        ClientView { dead, row }
     }
 
-    // The node is so from now on.
-    fn put(&mut self, node: u8, client: Client) -> Result<(), NoMemory>
-        requires { 1 ≤ node }
-        ensures { OnOk result (self.new ≡ self.old ++ (record { place = node - 1; client = client }) ∷ []) }
+    // The edit is made last.
+    fn put(&mut self, edit: RowEdit) -> Result<(), NoMemory>
+        ensures { OnOk result (self.new ≡ self.old ++ edit ∷ []) }
     {
-        let place = usize::from(node) - 1;
-        self.edits.push(RowEdit { place, client })?;
+        self.edits.push(edit)?;
         Ok(())
+    }
+
+    // A node of which the incarnations up to this one are known to be dead.
+    fn forgotten(&self, clients: &Clients, node: u8, incarnation: u16) -> RowEdit
+        requires { IsNumber (length clients.now) node }
+        ensures { Changes (overlaid clients.now self.now) node (row_above incarnation) (λ dead. max dead incarnation) result }
+    {
+        let client = self.client(clients, node);
+        RowEdit {
+            place: usize::from(node) - 1,
+            dead: client.dead.max(incarnation),
+            row: match client.row {
+                Some(row) if row.commands.incarnation > incarnation => Some(RowAfter {
+                    commands: row.commands,
+                    token: None,
+                }),
+                _ => None,
+            },
+        }
+    }
+
+    // A node with an empty row of that incarnation.
+    fn added(&self, clients: &Clients, alloc: Global, node: u8, incarnation: u16) -> RowEdit
+        requires node_in { IsNumber (length clients.now) node }
+        requires counted { 1 ≤ incarnation }
+        ensures { Changes (overlaid clients.now self.now) node (λ row. Some (empty_row incarnation)) (λ dead. dead) result }
+    {
+        let after = RowAfter {
+            commands: Commands::new(incarnation),
+            token: Some(TokenSet::new(alloc)),
+        };
+        RowEdit {
+            place: usize::from(node) - 1,
+            dead: self.client(clients, node).dead,
+            row: Some(after),
+        }
+    }
+
+    // A node whose command is answered, with this token where there is one and it has a row.
+    fn answered(&self, clients: &Clients, node: u8, token: Option<TokenSet>) -> RowEdit
+        requires { IsNumber (length clients.now) node }
+        ensures { Changes (overlaid clients.now self.now) node (option_map (answered_with token)) (λ dead. dead) result }
+    {
+        let client = self.client(clients, node);
+        RowEdit {
+            place: usize::from(node) - 1,
+            dead: client.dead,
+            row: match client.row {
+                Some(row) => Some(RowAfter {
+                    commands: row.commands.answered(),
+                    token,
+                }),
+                None => None,
+            },
+        }
+    }
+
+    // The token of a node once it gave up the span for the mode, if it has a row.
+    fn lowered_token(
+        &self,
+        clients: &Clients,
+        node: u8,
+        span: Span,
+        mode: Mode,
+    ) -> Result<Option<TokenSet>, NoMemory>
+        requires { IsNumber (length clients.now) node }
+        ensures { IfOk result (λ token. option_map (answered_with token) (rows_of (overlaid clients.now self.now) node) ≡ option_map (relieved span mode) (rows_of (overlaid clients.now self.now) node)) }
+    {
+        match self.row(clients, node) {
+            Some(row) => {
+                let mut token = row.token.copy()?;
+                token.lower(span, mode)?;
+                Ok(Some(token))
+            }
+            None => Ok(None),
+        }
     }
 
     /// The greatest incarnation of a node known to be dead.
@@ -87,27 +198,26 @@ impl RowEdits {
     }
 
     /// The row of a node.
-    pub fn row<'a>(&'a self, clients: &'a Clients, node: u8) -> Option<&'a Row>
+    pub fn row<'a>(&'a self, clients: &'a Clients, node: u8) -> Option<RowView<'a>>
         requires { 1 ≤ node }
-        ensures row { MatchOption result (rows_of (overlaid clients.now self.now) node ≡ None) (λ row. rows_of (overlaid clients.now self.now) node ≡ Some (row_state row.now)) }
+        ensures row { MatchOption result (rows_of (overlaid clients.now self.now) node ≡ None) (λ row. rows_of (overlaid clients.now self.now) node ≡ Some (row_state (seen row))) }
+        ensures client { MatchOption result (rows_of (overlaid clients.now self.now) node ≡ None) (λ row. (dead : ℕ) × (client_at (overlaid clients.now self.now) node ≡ Some (record { dead = dead; row = Some (seen row) }))) }
         ensures within { OnSome result (node ≤ length clients.now) }
     {
         if usize::from(node) > clients.len() {
             return None;
         }
-        self.client(clients, node).row.as_ref()
+        self.client(clients, node).row
     }
 
     /// The row of a node, if it is of that incarnation.
-    pub fn row_of<'a>(&'a self, clients: &'a Clients, host: Host) -> Option<&'a Row>
-        ensures row { MatchOption result (row_of_incarnation host.incarnation (rows_of (overlaid clients.now self.now) host.node) ≡ None) (λ row. row_of_incarnation host.incarnation (rows_of (overlaid clients.now self.now) host.node) ≡ Some (row_state row.now)) }
-        ensures same { IfSome result (λ row. rows_of (overlaid clients.now self.now) host.node ≡ Some (row_state row.now)) }
+    pub fn row_of<'a>(&'a self, clients: &'a Clients, host: Host) -> Option<RowView<'a>>
+        ensures row { MatchOption result (row_of_incarnation host.incarnation (rows_of (overlaid clients.now self.now) host.node) ≡ None) (λ row. row_of_incarnation host.incarnation (rows_of (overlaid clients.now self.now) host.node) ≡ Some (row_state (seen row))) }
+        ensures same { IfSome result (λ row. rows_of (overlaid clients.now self.now) host.node ≡ Some (row_state (seen row))) }
     {
-        let row = self.row(clients, host.node)?;
-        if row.incarnation == host.incarnation {
-            Some(row)
-        } else {
-            None
+        match self.row(clients, host.node) {
+            Some(row) if row.commands.incarnation == host.incarnation => Some(row),
+            _ => None,
         }
     }
 
@@ -151,12 +261,8 @@ impl RowEdits {
         ensures rows { OnOk result (rows_of (overlaid clients.now self.new) ≡ with_change node (row_above incarnation) (rows_of (overlaid clients.now self.old))) }
         ensures deaths { OnOk result (deaths_of (overlaid clients.now self.new) ≡ (λ n. if n == node then max (deaths_of (overlaid clients.now self.old) n) incarnation else deaths_of (overlaid clients.now self.old) n)) }
     {
-        if !self.client(clients, node).forgets(incarnation) {
-            return Ok(());
-        }
-        let mut client = self.client(clients, node).copy()?;
-        client.forget(incarnation);
-        self.put(node, client)
+        let edit = self.forgotten(clients, node, incarnation);
+        self.put(edit)
     }
 
     /// A row of the node in that incarnation, which has got no command yet.
@@ -172,9 +278,8 @@ impl RowEdits {
         ensures rows { OnOk result (rows_of (overlaid clients.now self.new) ≡ with_change node (λ row. Some (empty_row incarnation)) (rows_of (overlaid clients.now self.old))) }
         ensures deaths { OnOk result (deaths_of (overlaid clients.now self.new) ≡ deaths_of (overlaid clients.now self.old)) }
     {
-        let mut client = self.client(clients, node).copy()?;
-        client.add_row(alloc, incarnation);
-        self.put(node, client)
+        let edit = self.added(clients, alloc, node, incarnation);
+        self.put(edit)
     }
 
     /// The command to the node is answered.
@@ -183,9 +288,8 @@ impl RowEdits {
         ensures rows { OnOk result (rows_of (overlaid clients.now self.new) ≡ with_change node (option_map answered) (rows_of (overlaid clients.now self.old))) }
         ensures deaths { OnOk result (deaths_of (overlaid clients.now self.new) ≡ deaths_of (overlaid clients.now self.old)) }
     {
-        let mut client = self.client(clients, node).copy()?;
-        client.answer();
-        self.put(node, client)
+        let edit = self.answered(clients, node, None);
+        self.put(edit)
     }
 
     /// The command to the node is answered: it gave up the span for the mode.
@@ -200,40 +304,9 @@ impl RowEdits {
         ensures rows { OnOk result (rows_of (overlaid clients.now self.new) ≡ with_change node (option_map (relieved span mode)) (rows_of (overlaid clients.now self.old))) }
         ensures deaths { OnOk result (deaths_of (overlaid clients.now self.new) ≡ deaths_of (overlaid clients.now self.old)) }
     {
-        let mut client = self.client(clients, node).copy()?;
-        client.release(span, mode)?;
-        self.put(node, client)
-    }
-
-    /// The next command to the node, which leaves its token as it is.
-    pub fn tell(&mut self, clients: &Clients, node: u8, command: &Message) -> Result<(), NoMemory>
-        requires node_in { IsNumber (length clients.now) node }
-        requires room { IfSome (rows_of (overlaid clients.now self.old) node) (λ row. row.number < greatest_number) }
-        ensures rows { OnOk result (rows_of (overlaid clients.now self.new) ≡ with_change node (option_map (told command.now)) (rows_of (overlaid clients.now self.old))) }
-        ensures deaths { OnOk result (deaths_of (overlaid clients.now self.new) ≡ deaths_of (overlaid clients.now self.old)) }
-    {
-        let mut client = self.client(clients, node).copy()?;
-        client.tell(command);
-        self.put(node, client)
-    }
-
-    /// The next command to the node, which gives it the span in the mode.
-    pub fn give(
-        &mut self,
-        clients: &Clients,
-        node: u8,
-        span: Span,
-        mode: Mode,
-        command: &Message,
-    ) -> Result<(), NoMemory>
-        requires node_in { IsNumber (length clients.now) node }
-        requires room { IfSome (rows_of (overlaid clients.now self.old) node) (λ row. row.number < greatest_number) }
-        ensures rows { OnOk result (rows_of (overlaid clients.now self.new) ≡ with_change node (option_map (given span mode command.now)) (rows_of (overlaid clients.now self.old))) }
-        ensures deaths { OnOk result (deaths_of (overlaid clients.now self.new) ≡ deaths_of (overlaid clients.now self.old)) }
-    {
-        let mut client = self.client(clients, node).copy()?;
-        client.give(span, mode, command)?;
-        self.put(node, client)
+        let token = self.lowered_token(clients, node, span, mode)?;
+        let edit = self.answered(clients, node, token);
+        self.put(edit)
     }
 
     /// The edits, in order.

@@ -1,5 +1,5 @@
 //! The token server of a file.
-ghost use Rattle.std.specs.Prelude.{◌≡◌, ◌≢◌, ◌+◌, ◌<◌, ◌≤◌, ◌↔◌, not, filter, ◌&&◌, ◌||◌, ◌==◌, if◌then◌else◌, IsTrue, IsFalse, false, IsSome, IsNone, IfSome, IfOk, IfErr, OnOk, MatchOption, [], ◌∷◌, Some, None, Ok, Err};
+ghost use Rattle.std.specs.Prelude.{◌≡◌, ◌≢◌, ◌+◌, ◌-◌, ◌<◌, ◌≤◌, ◌↔◌, not, filter, ◌&&◌, ◌||◌, ◌==◌, if◌then◌else◌, IsTrue, IsFalse, false, IsSome, IsNone, IfSome, IfOk, IfErr, OnOk, MatchOption, [], ◌∷◌, Some, None, Ok, Err};
 ghost use Rattle.std.specs.List.{list_any};
 ghost use Rattle.std.specs.Option.{option_map};
 ghost use Rattle.model.specs.Limits.{IsNumber, most_nodes};
@@ -10,11 +10,12 @@ ghost use Rattle.token_server.specs.State.{first_server, is_of_call, is_up_to, u
 ghost use Rattle.token_server.specs.Serve.{admitted, row_conflicts, row_conflicts_at, granted_span, conflicting_node, granted_to, revoked_from, served, serve};
 ghost use Rattle.token_server.specs.Resends.{outstanding, sending_first, resend_rule};
 ghost use Rattle.token_server.specs.Server.{server_rule, learn_rule, with_a_row, is_active, enqueued, asked, denial, row_of_host, revoked_mode, taken, released, in_conflict, delivered, is_server};
-ghost use Rattle.token_server.specs.Parts.{server_state, rows_of, deaths_of, told, given};
-ghost use Rattle.token_server.specs.Edits.{edited, planned};
+ghost use Rattle.token_server.specs.Parts.{server_state, rows_of, deaths_of, told_commands};
+ghost use Rattle.token_server.specs.Edits.{drafted_parts, drafted, with_given, planned};
 
-use crate::change::{Change, Edit};
+use crate::change::{Change, Draft, Edit, Given};
 use crate::clients::Clients;
+use crate::commands::Commands;
 use crate::event::ServerEvent;
 use crate::held::Held;
 use crate::queue_edit::QueueEdit;
@@ -34,6 +35,7 @@ use model::lock_info::LockInfo;
 use model::mode::Mode;
 use std::alloc::Global;
 use std::marker::Model;
+use token_set::edit::TokenEdit;
 
 /// The token server of one file: what it knows of each node, the requests that are queued, in the
 /// order in which they came, and the one that is served.
@@ -104,11 +106,11 @@ impl Server {
         self.clients.same(&other.clients)
     }
 
-    // No edit.
-    fn no_edit(&self, alloc: Global) -> Edit
-        ensures { planned self.now result ≡ server_state self.now }
+    // No draft.
+    fn no_draft(&self, alloc: Global) -> Draft
+        ensures { drafted self.now result ≡ server_state self.now }
     {
-        Edit {
+        Draft {
             rows: RowEdits::new(alloc),
             queue: QueueEdit::Same,
             active: self.active,
@@ -116,17 +118,17 @@ impl Server {
     }
 
     // The incarnations of a node up to this one are known to be dead: their row and requests go.
-    fn forget(&self, edit: Edit, node: u8, incarnation: u16) -> Result<Edit, NoMemory>
+    fn forget(&self, draft: Draft, node: u8, incarnation: u16) -> Result<Draft, NoMemory>
         requires { IsNumber self.now.shape.nodes node }
-        ensures { IfOk result (λ new. planned self.now new ≡ forgotten (planned self.now edit) node incarnation) }
+        ensures { IfOk result (λ new. drafted self.now new ≡ forgotten (drafted self.now draft) node incarnation) }
     {
-        let Edit {
+        let Draft {
             mut rows,
             queue,
             active,
-        } = edit;
+        } = draft;
         rows.forget(&self.clients, node, incarnation)?;
-        Ok(Edit {
+        Ok(Draft {
             rows,
             queue: queue.forgetting(&self.queue, node, incarnation)?,
             active: unless_up_to(active, node, incarnation),
@@ -134,30 +136,31 @@ impl Server {
     }
 
     // A row for the call's node where there is none.
-    fn add_row(&self, edit: &mut Edit, alloc: Global, call: CallId) -> Result<(), NoMemory>
+    fn add_row(&self, draft: &mut Draft, alloc: Global, call: CallId) -> Result<(), NoMemory>
         requires { IsNumber self.now.shape.nodes call.node }
-        ensures { OnOk result (planned self.now edit.new ≡ with_a_row (planned self.now edit.old) call ((planned self.now edit.old).rows call.node)) }
+        ensures { OnOk result (drafted self.now draft.new ≡ with_a_row (drafted self.now draft.old) call ((drafted self.now draft.old).rows call.node)) }
     {
-        if edit.rows.row(&self.clients, call.node).is_some() {
+        if draft.rows.row(&self.clients, call.node).is_some() {
             return Ok(());
         }
-        edit.rows
+        draft
+            .rows
             .add_row(&self.clients, alloc, call.node, call.incarnation)
     }
 
     // Queues the request, unless its call has one.
-    fn enqueue(&self, edit: Edit, request: Held) -> Result<Edit, NoMemory>
-        ensures { IfOk result (λ new. planned self.now new ≡ enqueued (planned self.now edit) request) }
+    fn enqueue(&self, draft: Draft, request: Held) -> Result<Draft, NoMemory>
+        ensures { IfOk result (λ new. drafted self.now new ≡ enqueued (drafted self.now draft) request) }
     {
-        if is_active(&edit.active, request.call) {
-            return Ok(edit);
+        if is_active(&draft.active, request.call) {
+            return Ok(draft);
         }
-        let Edit {
+        let Draft {
             rows,
             queue,
             active,
-        } = edit;
-        Ok(Edit {
+        } = draft;
+        Ok(Draft {
             rows,
             queue: queue.pushing(&self.queue, request)?,
             active,
@@ -165,82 +168,83 @@ impl Server {
     }
 
     // Takes a request: older incarnations of its node are dead, and there is a row from now on.
-    fn ask(&self, edit: Edit, alloc: Global, request: Held) -> Result<Edit, NoMemory>
+    fn ask(&self, draft: Draft, alloc: Global, request: Held) -> Result<Draft, NoMemory>
         requires { IsNumber self.now.shape.nodes request.call.node }
-        ensures { IfOk result (λ new. planned self.now new ≡ asked (planned self.now edit) request) }
+        ensures { IfOk result (λ new. drafted self.now new ≡ asked (drafted self.now draft) request) }
     {
         let call = request.call;
-        let mut young = self.forget(edit, call.node, call.incarnation - 1)?;
+        let mut young = self.forget(draft, call.node, call.incarnation - 1)?;
         self.add_row(&mut young, alloc, call)?;
         self.enqueue(young, request)
     }
 
     // The mode that the command with that number revokes, if it is under way to that holder.
-    fn revoked_mode(&self, edit: &Edit, number: u32, holder: Host) -> Option<Mode>
+    fn revoked_mode<'a>(&'a self, draft: &'a Draft, number: u32, holder: Host) -> Option<Mode>
         requires { IsNumber self.now.shape.nodes holder.node }
-        ensures { MatchOption (row_of_host (planned self.now edit.now) holder) (result ≡ None) (λ row. result ≡ revoked_mode number row.outstanding) }
+        ensures { MatchOption (row_of_host (drafted self.now draft.now) holder) (result ≡ None) (λ row. result ≡ revoked_mode number row.outstanding) }
     {
-        edit.rows
-            .row_of(&self.clients, holder)?
-            .revoked_mode(number)
+        match draft.rows.row_of(&self.clients, holder) {
+            Some(row) => row.commands.revoked_mode(number),
+            None => None,
+        }
     }
 
     // Takes a node's answer to a Grant: the call's request is served no longer. What is sent, or `None`
     // where the answer doesn't count.
     fn take_taken(
         &self,
-        mut edit: Edit,
+        mut draft: Draft,
         alloc: Global,
         number: u32,
         call: CallId,
-    ) -> Result<Option<(Edit, Items<Message>)>, NoMemory>
+    ) -> Result<Option<(Draft, Items<Message>)>, NoMemory>
         requires { IsNumber self.now.shape.nodes call.node }
-        ensures { IfOk result (λ done. taken (planned self.now edit) number call (row_of_host (planned self.now edit) (host_of_call call)) ≡ option_map (λ d. (planned self.now d.0, d.1)) done) }
+        ensures { IfOk result (λ done. taken (drafted self.now draft) number call (row_of_host (drafted self.now draft) (host_of_call call)) ≡ option_map (λ d. (drafted self.now d.0, d.1)) done) }
     {
-        match edit.rows.row_of(&self.clients, call.host()) {
-            Some(row) if row.grants(number) => {}
+        match draft.rows.row_of(&self.clients, call.host()) {
+            Some(row) if row.commands.grants(number) => {}
             _ => return Ok(None),
         }
-        edit.rows.answer(&self.clients, call.node)?;
-        edit.active = unless_of_call(edit.active, call);
-        Ok(Some((edit, Items::new(alloc))))
+        draft.rows.answer(&self.clients, call.node)?;
+        draft.active = unless_of_call(draft.active, call);
+        Ok(Some((draft, Items::new(alloc))))
     }
 
     // Takes a holder's answer that it gave up a span. What is sent, or `None` where the answer doesn't
     // count.
     fn take_released(
         &self,
-        mut edit: Edit,
+        mut draft: Draft,
         alloc: Global,
         number: u32,
         holder: Host,
         span: Span,
-    ) -> Result<Option<(Edit, Items<Message>)>, NoMemory>
+    ) -> Result<Option<(Draft, Items<Message>)>, NoMemory>
         requires { IsNumber self.now.shape.nodes holder.node }
-        ensures { IfOk result (λ done. released (planned self.now edit) number holder span (row_of_host (planned self.now edit) holder) ≡ option_map (λ d. (planned self.now d.0, d.1)) done) }
+        ensures { IfOk result (λ done. released (drafted self.now draft) number holder span (row_of_host (drafted self.now draft) holder) ≡ option_map (λ d. (drafted self.now d.0, d.1)) done) }
     {
-        let Some(mode) = self.revoked_mode(&edit, number, holder) else {
+        let Some(mode) = self.revoked_mode(&draft, number, holder) else {
             return Ok(None);
         };
-        edit.rows.release(&self.clients, holder.node, span, mode)?;
-        Ok(Some((edit, Items::new(alloc))))
+        draft.rows.release(&self.clients, holder.node, span, mode)?;
+        Ok(Some((draft, Items::new(alloc))))
     }
 
     // Takes a holder's answer that a lock is in the way: the call's request is served no longer. What is
     // sent, or `None` where the answer doesn't count.
     fn take_conflict(
         &self,
-        mut edit: Edit,
+        mut draft: Draft,
         alloc: Global,
         number: u32,
         holder: Host,
         call: CallId,
         lock: LockInfo,
-    ) -> Result<Option<(Edit, Items<Message>)>, NoMemory>
+    ) -> Result<Option<(Draft, Items<Message>)>, NoMemory>
         requires { IsNumber self.now.shape.nodes holder.node }
-        ensures { IfOk result (λ done. in_conflict (planned self.now edit) number holder call lock (row_of_host (planned self.now edit) holder) ≡ option_map (λ d. (planned self.now d.0, d.1)) done) }
+        ensures { IfOk result (λ done. in_conflict (drafted self.now draft) number holder call lock (row_of_host (drafted self.now draft) holder) ≡ option_map (λ d. (drafted self.now d.0, d.1)) done) }
     {
-        if self.revoked_mode(&edit, number, holder).is_none() {
+        if self.revoked_mode(&draft, number, holder).is_none() {
             return Ok(None);
         }
         let deny = Message::Deny {
@@ -250,22 +254,22 @@ impl Server {
             number,
             lock,
         };
-        let sends = denial(alloc, &edit.active, call, &deny)?;
-        edit.rows.answer(&self.clients, holder.node)?;
-        edit.active = unless_of_call(edit.active, call);
-        Ok(Some((edit, sends)))
+        let sends = denial(alloc, &draft.active, call, &deny)?;
+        draft.rows.answer(&self.clients, holder.node)?;
+        draft.active = unless_of_call(draft.active, call);
+        Ok(Some((draft, sends)))
     }
 
     // Serves the first of the queue where no request is served.
-    fn admit(&self, edit: Edit) -> Result<Edit, NoMemory>
-        ensures { IfOk result (λ new. planned self.now new ≡ admitted (planned self.now edit) (planned self.now edit).active (planned self.now edit).queue) }
+    fn admit(&self, draft: Draft) -> Result<Draft, NoMemory>
+        ensures { IfOk result (λ new. drafted self.now new ≡ admitted (drafted self.now draft) (drafted self.now draft).active (drafted self.now draft).queue) }
     {
-        if edit.active.is_some() {
-            return Ok(edit);
+        if draft.active.is_some() {
+            return Ok(draft);
         }
-        let Edit { rows, queue, .. } = edit;
+        let Draft { rows, queue, .. } = draft;
         let (queue, active) = queue.taking(&self.queue)?;
-        Ok(Edit {
+        Ok(Draft {
             rows,
             queue,
             active,
@@ -273,24 +277,24 @@ impl Server {
     }
 
     // Whether the row of another node conflicts with what the request needs.
-    fn conflicts_at(&self, edit: &Edit, node: u8, request: &Held) -> bool
+    fn conflicts_at(&self, draft: &Draft, node: u8, request: &Held) -> bool
         requires { IsNumber self.now.shape.nodes node }
-        ensures { result ≡ (not (node == request.now.call.node) && row_conflicts ((planned self.now edit.now).rows node) request.now.wanted.required request.now.mode) }
+        ensures { result ≡ (not (node == request.now.call.node) && row_conflicts ((drafted self.now draft.now).rows node) request.now.wanted.required request.now.mode) }
     {
         !request.is_of_node(node)
-            && edit
+            && draft
                 .rows
                 .conflicts(&self.clients, node, request.required(), request.mode)
     }
 
     // The least other node whose row conflicts with what the request needs.
-    fn conflicting_node(&self, edit: &Edit, request: &Held) -> Option<u8>
+    fn conflicting_node(&self, draft: &Draft, request: &Held) -> Option<u8>
         ensures node_in { IfSome result (λ node. IsNumber self.now.shape.nodes node × IsNumber most_nodes node) }
-        ensures within { IsSome result ↔ (conflicting_node (planned self.now edit.now) request.now ≤ self.now.shape.nodes) }
-        ensures value { IfSome result (λ node. node ≡ conflicting_node (planned self.now edit.now) request.now) }
+        ensures within { IsSome result ↔ (conflicting_node (drafted self.now draft.now) request.now ≤ self.now.shape.nodes) }
+        ensures value { IfSome result (λ node. node ≡ conflicting_node (drafted self.now draft.now) request.now) }
     {
         for place in 0..self.shape.nodes() {
-            if self.conflicts_at(edit, place + 1, request) {
+            if self.conflicts_at(draft, place + 1, request) {
                 return Some(place + 1);
             }
         }
@@ -298,15 +302,15 @@ impl Server {
     }
 
     // The span that a request is granted: the largest that it would like to have.
-    fn granted_span(&self, edit: &Edit, request: &Held) -> Span
-        requires { self.now.shape.nodes < conflicting_node (planned self.now edit.now) request.now }
-        ensures { result ≡ granted_span (planned self.now edit.now) request.now }
+    fn granted_span(&self, draft: &Draft, request: &Held) -> Span
+        requires { self.now.shape.nodes < conflicting_node (drafted self.now draft.now) request.now }
+        ensures { result ≡ granted_span (drafted self.now draft.now) request.now }
     {
         let required = request.required();
         let mut span = request.desired();
         for place in 0..self.shape.nodes() {
             if !request.is_of_node(place + 1) {
-                span = edit
+                span = draft
                     .rows
                     .free_around(&self.clients, place + 1, required, span, request.mode);
             }
@@ -314,49 +318,24 @@ impl Server {
         span
     }
 
-    // Sends the request's node the next command, which gives it the span.
-    fn give(
-        &self,
-        edit: &mut Edit,
-        alloc: Global,
-        request: &Held,
-        span: Span,
-        command: &Message,
-    ) -> Result<Items<Message>, NoMemory>
-        requires node_in { IsNumber self.now.shape.nodes request.now.call.node }
-        requires room { IfSome ((planned self.now edit.old).rows request.now.call.node) (λ row. row.number < greatest_number) }
-        ensures state { OnOk result (planned self.now edit.new ≡ with_row (planned self.now edit.old) request.now.call.node (option_map (given span request.now.mode command.now) ((planned self.now edit.old).rows request.now.call.node))) }
-        ensures sends { IfOk result (λ sends. sends ≡ command.now ∷ []) }
-    {
-        let sends = Items::one(alloc, *command)?;
-        edit.rows.give(
-            &self.clients,
-            request.call.node,
-            span,
-            request.mode,
-            command,
-        )?;
-        Ok(sends)
-    }
-
-    // Gives the request's node the granted span, unless a command to it is under way.
+    // What the request's node is given, and the command that tells it so, unless one to it is under way.
     fn grant(
         &self,
-        edit: &mut Edit,
+        draft: &Draft,
         alloc: Global,
         request: &Held,
-    ) -> Result<Items<Message>, StepError>
-        requires { self.now.shape.nodes < conflicting_node (planned self.now edit.old) request.now }
-        ensures ok { IfOk result (λ sends. granted_to (planned self.now edit.old) request.now ((planned self.now edit.old).rows request.now.call.node) ≡ Ok (planned self.now edit.new, sends)) }
-        ensures err { IfErr result (λ e. e ≢ StepError.NoMemory → granted_to (planned self.now edit.old) request.now ((planned self.now edit.old).rows request.now.call.node) ≡ Err e) }
+    ) -> Result<(Option<Given>, Items<Message>), StepError>
+        requires { self.now.shape.nodes < conflicting_node (drafted self.now draft.now) request.now }
+        ensures ok { IfOk result (λ r. granted_to (drafted self.now draft.now) request.now ((drafted self.now draft.now).rows request.now.call.node) ≡ Ok (with_given r.0 (drafted_parts draft.now self.now), r.1)) }
+        ensures err { IfErr result (λ e. e ≢ StepError.NoMemory → granted_to (drafted self.now draft.now) request.now ((drafted self.now draft.now).rows request.now.call.node) ≡ Err e) }
     {
-        let Some(row) = edit.rows.row(&self.clients, request.call.node) else {
-            return Ok(Items::new(alloc));
+        let Some(row) = draft.rows.row(&self.clients, request.call.node) else {
+            return Ok((None, Items::new(alloc)));
         };
-        let Some(number) = row.next_number()? else {
-            return Ok(Items::new(alloc));
+        let Some(number) = row.commands.next_number()? else {
+            return Ok((None, Items::new(alloc)));
         };
-        let span = self.granted_span(edit, request);
+        let span = self.granted_span(draft, request);
         let command = Message::Grant {
             file: self.file,
             number,
@@ -364,46 +343,29 @@ impl Server {
             mode: request.mode,
             span,
         };
-        Ok(self.give(edit, alloc, request, span, &command)?)
+        let token = row.token.plan_grant(span, request.mode)?;
+        Ok(given(alloc, request.call.node, row.commands, token, &command)?)
     }
 
-    // Sends a node the next command, which leaves its token as it is.
-    fn tell(
-        &self,
-        edit: &mut Edit,
-        alloc: Global,
-        node: u8,
-        command: &Message,
-    ) -> Result<Items<Message>, NoMemory>
-        requires node_in { IsNumber self.now.shape.nodes node }
-        requires room { IfSome ((planned self.now edit.old).rows node) (λ row. row.number < greatest_number) }
-        ensures state { OnOk result (planned self.now edit.new ≡ with_row (planned self.now edit.old) node (option_map (told command.now) ((planned self.now edit.old).rows node))) }
-        ensures sends { IfOk result (λ sends. sends ≡ command.now ∷ []) }
-    {
-        let sends = Items::one(alloc, *command)?;
-        edit.rows.tell(&self.clients, node, command)?;
-        Ok(sends)
-    }
-
-    // Tells a node to give up what the request needs, unless a command to it is under way.
+    // The command that tells a node to give up what the request needs, unless one to it is under way.
     fn revoke(
         &self,
-        edit: &mut Edit,
+        draft: &Draft,
         alloc: Global,
         node: u8,
         request: &Held,
-    ) -> Result<Items<Message>, StepError>
+    ) -> Result<(Option<Given>, Items<Message>), StepError>
         requires node_in { IsNumber self.now.shape.nodes node × IsNumber most_nodes node }
-        ensures ok { IfOk result (λ sends. revoked_from (planned self.now edit.old) request.now node ((planned self.now edit.old).rows node) ≡ Ok (planned self.now edit.new, sends)) }
-        ensures err { IfErr result (λ e. e ≢ StepError.NoMemory → revoked_from (planned self.now edit.old) request.now node ((planned self.now edit.old).rows node) ≡ Err e) }
+        ensures ok { IfOk result (λ r. revoked_from (drafted self.now draft.now) request.now node ((drafted self.now draft.now).rows node) ≡ Ok (with_given r.0 (drafted_parts draft.now self.now), r.1)) }
+        ensures err { IfErr result (λ e. e ≢ StepError.NoMemory → revoked_from (drafted self.now draft.now) request.now node ((drafted self.now draft.now).rows node) ≡ Err e) }
     {
-        let Some(row) = edit.rows.row(&self.clients, node) else {
-            return Ok(Items::new(alloc));
+        let Some(row) = draft.rows.row(&self.clients, node) else {
+            return Ok((None, Items::new(alloc)));
         };
-        let Some(number) = row.next_number()? else {
-            return Ok(Items::new(alloc));
+        let Some(number) = row.commands.next_number()? else {
+            return Ok((None, Items::new(alloc)));
         };
-        let incarnation = row.incarnation;
+        let incarnation = row.commands.incarnation;
         let command = Message::Revoke {
             file: self.file,
             number,
@@ -412,45 +374,49 @@ impl Server {
             mode: request.mode,
             wanted: request.wanted,
         };
-        Ok(self.tell(edit, alloc, node, &command)?)
+        Ok(given(alloc, node, row.commands, TokenEdit::Same, &command)?)
     }
 
     // The request that is served is granted, but where other nodes' rows conflict with it, the token of
     // the least such node is revoked first.
-    fn command(&self, edit: &mut Edit, alloc: Global) -> Result<Items<Message>, StepError>
-        ensures ok { IfOk result (λ sends. served (planned self.now edit.old) (planned self.now edit.old).active ≡ Ok (planned self.now edit.new, sends)) }
-        ensures err { IfErr result (λ e. e ≢ StepError.NoMemory → served (planned self.now edit.old) (planned self.now edit.old).active ≡ Err e) }
+    fn command(
+        &self,
+        draft: &Draft,
+        alloc: Global,
+    ) -> Result<(Option<Given>, Items<Message>), StepError>
+        ensures ok { IfOk result (λ r. served (drafted self.now draft.now) (drafted self.now draft.now).active ≡ Ok (with_given r.0 (drafted_parts draft.now self.now), r.1)) }
+        ensures err { IfErr result (λ e. e ≢ StepError.NoMemory → served (drafted self.now draft.now) (drafted self.now draft.now).active ≡ Err e) }
     {
-        let Some(request) = edit.active else {
-            return Ok(Items::new(alloc));
+        let Some(request) = draft.active else {
+            return Ok((None, Items::new(alloc)));
         };
-        match self.conflicting_node(edit, &request) {
-            Some(node) => self.revoke(edit, alloc, node, &request),
-            None => self.grant(edit, alloc, &request),
+        match self.conflicting_node(draft, &request) {
+            Some(node) => self.revoke(draft, alloc, node, &request),
+            None => self.grant(draft, alloc, &request),
         }
     }
 
     // Serves a request: it is granted, but where other nodes' rows conflict with it, the token of the
     // least such node is revoked first.
-    fn serve(&self, edit: Edit, alloc: Global) -> Result<(Edit, Items<Message>), StepError>
-        ensures ok { IfOk result (λ r. serve (planned self.now edit) ≡ Ok (planned self.now r.0, r.1)) }
-        ensures err { IfErr result (λ e. e ≢ StepError.NoMemory → serve (planned self.now edit) ≡ Err e) }
+    fn serve(&self, draft: Draft, alloc: Global) -> Result<(Edit, Items<Message>), StepError>
+        ensures ok { IfOk result (λ r. serve (drafted self.now draft) ≡ Ok (planned self.now r.0, r.1)) }
+        ensures err { IfErr result (λ e. e ≢ StepError.NoMemory → serve (drafted self.now draft) ≡ Err e) }
     {
-        let mut next = self.admit(edit)?;
-        let sends = self.command(&mut next, alloc)?;
-        Ok((next, sends))
+        let draft = self.admit(draft)?;
+        let (given, sends) = self.command(&draft, alloc)?;
+        Ok((Edit { draft, given }, sends))
     }
 
     // What a message changes before the server serves. What is sent for it, or `None` where it does
     // nothing at all.
     fn deliver(
         &self,
-        edit: Edit,
+        draft: Draft,
         alloc: Global,
         message: &Message,
-    ) -> Result<Option<(Edit, Items<Message>)>, NoMemory>
+    ) -> Result<Option<(Draft, Items<Message>)>, NoMemory>
         requires { IsNumber self.now.shape.nodes (host_of message.now).node }
-        ensures { IfOk result (λ done. delivered (planned self.now edit) message.now ≡ option_map (λ d. (planned self.now d.0, d.1)) done) }
+        ensures { IfOk result (λ done. delivered (drafted self.now draft) message.now ≡ option_map (λ d. (drafted self.now d.0, d.1)) done) }
     {
         match *message {
             Message::Request {
@@ -460,24 +426,24 @@ impl Server {
                 wanted,
                 ..
             } => {
-                let asked = self.ask(edit, alloc, Held::new(call, urgency, mode, wanted))?;
+                let asked = self.ask(draft, alloc, Held::new(call, urgency, mode, wanted))?;
                 Ok(Some((asked, Items::new(alloc))))
             }
-            Message::Taken { number, call, .. } => self.take_taken(edit, alloc, number, call),
+            Message::Taken { number, call, .. } => self.take_taken(draft, alloc, number, call),
             Message::Released {
                 number,
                 holder,
                 span,
                 ..
-            } => self.take_released(edit, alloc, number, holder, span),
+            } => self.take_released(draft, alloc, number, holder, span),
             Message::Conflict {
                 number,
                 holder,
                 call,
                 lock,
                 ..
-            } => self.take_conflict(edit, alloc, number, holder, call, lock),
-            Message::Freed { .. } => Ok(Some((edit, Items::new(alloc)))),
+            } => self.take_conflict(draft, alloc, number, holder, call, lock),
+            Message::Freed { .. } => Ok(Some((draft, Items::new(alloc)))),
             Message::Grant { .. } | Message::Revoke { .. } | Message::Deny { .. } => Ok(None),
         }
     }
@@ -495,17 +461,17 @@ impl Server {
     // Serves after those messages were sent.
     fn serve_after(
         &self,
-        edit: Edit,
+        draft: Draft,
         alloc: Global,
         mut sends: Items<Message>,
     ) -> Result<Change, StepError>
-        ensures ok { IfOk result (λ change. sending_first sends (serve (planned self.now edit)) ≡ Ok (planned self.now change.edit, change.outcome)) }
-        ensures err { IfErr result (λ e. e ≢ StepError.NoMemory → sending_first sends (serve (planned self.now edit)) ≡ Err e) }
+        ensures ok { IfOk result (λ change. sending_first sends (serve (drafted self.now draft)) ≡ Ok (planned self.now change.edit, change.outcome)) }
+        ensures err { IfErr result (λ e. e ≢ StepError.NoMemory → sending_first sends (serve (drafted self.now draft)) ≡ Err e) }
     {
-        let (next, served) = self.serve(edit, alloc)?;
+        let (edit, served) = self.serve(draft, alloc)?;
         sends.append(served)?;
         Ok(Change {
-            edit: next,
+            edit,
             outcome: Outcome::sending(sends),
         })
     }
@@ -516,7 +482,10 @@ impl Server {
         ensures outcome { result.outcome ≡ sending [] }
     {
         Change {
-            edit: self.no_edit(alloc),
+            edit: Edit {
+                draft: self.no_draft(alloc),
+                given: None,
+            },
             outcome: Outcome::sending(Items::new(alloc)),
         }
     }
@@ -533,11 +502,11 @@ impl Server {
         if host.incarnation <= self.clients.dead(host.node) {
             return Ok(self.no_change(alloc));
         }
-        let edit = self.no_edit(alloc);
-        let Some((edit, sends)) = self.deliver(edit, alloc, message)? else {
+        let draft = self.no_draft(alloc);
+        let Some((draft, sends)) = self.deliver(draft, alloc, message)? else {
             return Ok(self.no_change(alloc));
         };
-        self.serve_after(edit, alloc, sends)
+        self.serve_after(draft, alloc, sends)
     }
 
     // The commands that have no answer yet.
@@ -553,8 +522,7 @@ impl Server {
         ensures err { IfErr result (λ e. e ≢ StepError.NoMemory → resend_rule (server_state self.now) ≡ Err e) }
     {
         let commands = self.outstanding(alloc)?;
-        let edit = self.no_edit(alloc);
-        self.serve_after(edit, alloc, commands)
+        self.serve_after(self.no_draft(alloc), alloc, commands)
     }
 
     // The incarnation is known as dead from now on, and then the server serves.
@@ -565,8 +533,8 @@ impl Server {
         if node == 0 || node > self.shape.nodes() {
             return Err(StepError::Stranger);
         }
-        let edit = self.forget(self.no_edit(alloc), node, incarnation)?;
-        self.serve_after(edit, alloc, Items::new(alloc))
+        let draft = self.forget(self.no_draft(alloc), node, incarnation)?;
+        self.serve_after(draft, alloc, Items::new(alloc))
     }
 
     /// What the server will do at an event, as `step` says: only what the event changes is made anew.
@@ -586,19 +554,37 @@ impl Server {
 
     /// Makes a planned change. Takes no memory.
     pub fn apply(&mut self, change: Change) -> Outcome
-        ensures state { self.new ≡ edited change.edit self.old }
+        ensures state { server_state self.new ≡ planned self.old change.edit }
         ensures outcome { result ≡ change.outcome }
     {
         let Change { edit, outcome } = change;
-        let Edit {
+        let Edit { draft, given } = edit;
+        self.draft(draft);
+        self.give(given);
+        outcome
+    }
+
+    // Makes the first part of a change.
+    fn draft(&mut self, draft: Draft)
+        ensures { self.new ≡ drafted_parts draft self.old }
+    {
+        let Draft {
             rows,
             queue,
             active,
-        } = edit;
+        } = draft;
         self.clients.apply(rows);
         self.queue.apply(queue);
         self.active = active;
-        outcome
+    }
+
+    // Makes the last part of a change.
+    fn give(&mut self, given: Option<Given>)
+        ensures { server_state self.new ≡ with_given given self.old }
+    {
+        if let Some(given) = given {
+            self.clients.give(given);
+        }
     }
 
     /// What the server does at an event: the server after it, and what it sends. Requests are served one
@@ -622,6 +608,28 @@ impl Server {
         let outcome = next.apply(change);
         Ok((next, outcome))
     }
+}
+
+// The next command to a node, and what it is given by that.
+fn given(
+    alloc: Global,
+    node: u8,
+    commands: Commands,
+    token: TokenEdit,
+    command: &Message,
+) -> Result<(Option<Given>, Items<Message>), NoMemory>
+    requires node_in { 1 ≤ node }
+    requires room { commands.number < greatest_number }
+    ensures given { IfOk result (λ r. r.0 ≡ Some (record { place = node - 1; commands = told_commands command.now commands; token = token })) }
+    ensures sends { IfOk result (λ r. r.1 ≡ command.now ∷ []) }
+{
+    let sends = Items::one(alloc, *command)?;
+    let given = Given {
+        place: usize::from(node) - 1,
+        commands: commands.told(command),
+        token,
+    };
+    Ok((Some(given), sends))
 }
 
 // Whether both are the same request, or none.

@@ -181,3 +181,37 @@ fn vec_map_copies(rt: HostRuntime) -> Result<(), Fail> {
 fn vec_map_keeps_what_it_had(rt: HostRuntime) -> Result<(), Fail> {
     keeps_what_it_had::<VecMap<Mode>>(&rt, rt.alloc())
 }
+
+#[test]
+fn a_planned_write_is_made_when_it_is_applied(rt: HostRuntime) -> Result<(), Fail> {
+    let mut map = VecMap::new(rt.alloc());
+    for lo in 0..40 {
+        let edit = map.plan(
+            Span {
+                lo: 10 * lo,
+                hi: 10 * lo + 4,
+            },
+            Some(A),
+        )?;
+        assert_eq!(rt; map.get(10 * lo), None);
+        map.apply(edit);
+        assert_eq!(rt; map.get(10 * lo), Some(A));
+    }
+    assert_eq!(rt; map.starts(), 40);
+    let edit = map.plan(Span { lo: 5, hi: 392 }, None)?;
+    map.apply(edit);
+    assert_eq!(rt; map.starts(), 2);
+    assert_eq!(rt; map.run_at(394), Some((Span { lo: 393, hi: 394 }, A)));
+    Ok(())
+}
+
+#[test]
+fn a_write_that_was_planned_for_fewer_runs_changes_nothing(rt: HostRuntime) -> Result<(), Fail> {
+    let mut map = VecMap::new(rt.alloc());
+    let edit = map.plan(Span { lo: 0, hi: 4 }, Some(A))?;
+    map.set(Span { lo: 10, hi: 14 }, B)?;
+    map.apply(edit);
+    assert_eq!(rt; map.get(0), None);
+    assert_eq!(rt; map.get(10), Some(B));
+    Ok(())
+}

@@ -124,3 +124,25 @@ fn tokens_are_the_same_by_their_bytes(rt: HostRuntime) -> Result<(), Fail> {
     assert!(rt; !copy.same(&other));
     Ok(())
 }
+
+#[test]
+fn a_planned_change_is_made_when_it_is_applied(rt: HostRuntime) -> Result<(), Fail> {
+    let mut token = TokenSet::new(rt.alloc());
+    token.grant(Span { lo: 10, hi: 19 }, Mode::Write)?;
+    for (read, write) in [(true, false), (true, true)] {
+        let mode = if write { Mode::Write } else { Mode::Read };
+        let edit = token.plan_grant(Span { lo: 15, hi: 29 }, mode)?;
+        assert!(rt; !token.covers(Span { lo: 15, hi: 29 }, mode));
+        token.apply(edit);
+        assert_eq!(rt; token.covers(Span { lo: 10, hi: 29 }, Mode::Read), read);
+        assert_eq!(rt; token.covers(Span { lo: 10, hi: 29 }, Mode::Write), write);
+    }
+    let edit = token.plan_lower(Span { lo: 12, hi: 13 }, Mode::Read)?;
+    token.apply(edit);
+    assert!(rt; !token.conflicts(Span { lo: 12, hi: 13 }, Mode::Read));
+    let edit = token.plan_lower(Span { lo: 12, hi: 12 }, Mode::Write)?;
+    token.apply(edit);
+    assert!(rt; !token.conflicts(Span { lo: 12, hi: 12 }, Mode::Write));
+    assert!(rt; token.covers(Span { lo: 13, hi: 13 }, Mode::Read));
+    Ok(())
+}

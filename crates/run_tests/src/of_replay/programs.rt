@@ -18,10 +18,6 @@ impl Store for Large {
     fn read(&mut self, _alloc: Global, _path: &str) -> Result<Vec<u8>, StoreError> {
         Err(StoreError::NoMemory)
     }
-
-    fn write(&mut self, _path: &str, _bytes: &[u8]) -> Result<(), StoreError> {
-        Err(StoreError::NoMemory)
-    }
 }
 
 // A full device.

@@ -1,4 +1,6 @@
 //! A file in memory.
+ghost use Rattle.std.specs.Prelude.{◌≡◌, ◌≢◌, ◌⊎◌, None, Some, codes};
+
 use replay::store::{Store, StoreError};
 use std::alloc::Global;
 
@@ -13,14 +15,12 @@ pub(crate) const PATH: &str = "a.lock";
 pub(crate) const RUN: [&str; 3] = ["lockreplay", "run", PATH];
 
 impl Store for Shelf<'_> {
+    ghost holds = { λ shelf path file. ((path ≡ codes "a.lock") × (file ≡ Some shelf.bytes.now)) ⊎ ((path ≢ codes "a.lock") × (file ≡ None)) };
+
     fn read(&mut self, alloc: Global, path: &str) -> Result<Vec<u8>, StoreError> {
         if path != PATH {
             return Err(StoreError::Failed);
         }
         Vec::from_slice(alloc, self.bytes).map_err(|_| StoreError::NoMemory)
-    }
-
-    fn write(&mut self, _path: &str, _bytes: &[u8]) -> Result<(), StoreError> {
-        Err(StoreError::Failed)
     }
 }

@@ -1,14 +1,14 @@
 use Rattle.std.specs.Prelude.{◌≡◌}
 use Rattle.std.proofs.Common.{sym, ap, ◌∙◌, arith}
 use Rattle.token_server.specs.Parts.{ServerParts}
-use Rattle.token_server.specs.Edits.{planned}
+use Rattle.token_server.specs.Edits.{drafted}
 use Rattle.token_server.proofs.GrantLaws.{narrowed-start, narrowed-holds, narrowed-free, narrowed-more, narrowed-skip, narrowed-end}
 use Rattle.token_server.proofs.server.Server.granted_span.Goals.{then-not-is_of_node, else-not-is_of_node}
 use Rattle.token_server.proofs.server.Server.granted_span.Goals as goal
 
 pub loop-place-init : goal.loop-place-init
 loop-place-init c =
-    let s = planned c.args.self.now c.args.edit.now in
+    let s = drafted c.args.self.now c.args.draft.now in
     let r = c.args.request.now in
     rw c.desired-span.ensures.value (narrowed-start s r (rw (← c.required-required.ensures.value) c.required-required.ensures.ordered) (rw (← c.desired-span.ensures.value) c.desired-span.ensures.starts_before) (rw (← c.desired-span.ensures.value) c.desired-span.ensures.ends_after))
 
@@ -26,11 +26,11 @@ pub free_around-span-requires-clause-free : goal.free_around-span-requires-claus
 free_around-span-requires-clause-free c =
     let nodes : c.nodes-place-end.result ≡ c.args.self.now.shape.nodes = c.nodes-place-end.ensures.value ∙ ap (λ (p : ServerParts). p.shape.nodes) c.self.view_is in
     let clients : c.self.inside.clients ≡ c.args.self.now.clients = ap (λ (p : ServerParts). p.clients) c.self.view_is in
-    rw (c.required-required.ensures.value, clients) (narrowed-free (planned c.args.self.now c.args.edit.now) c.args.request.now c.loop-place.place c.requires (omega arith) (sym c.is_of_node.ensures ∙ c.if-not-is_of_node.true))
+    rw (c.required-required.ensures.value, clients) (narrowed-free (drafted c.args.self.now c.args.draft.now) c.args.request.now c.loop-place.place c.requires (omega arith) (sym c.is_of_node.ensures ∙ c.if-not-is_of_node.true))
 
 pub loop-place-preserved : goal.loop-place-preserved
 loop-place-preserved c =
-    let s = planned c.args.self.now c.args.edit.now in
+    let s = drafted c.args.self.now c.args.draft.now in
     let r = c.args.request.now in
     let nodes : c.nodes-place-end.result ≡ c.args.self.now.shape.nodes = c.nodes-place-end.ensures.value ∙ ap (λ (p : ServerParts). p.shape.nodes) c.self.view_is in
     elim c.if-not-is_of_node.branch [
@@ -41,4 +41,4 @@ loop-place-preserved c =
 pub returns : goal.returns
 returns c =
     let nodes : c.nodes-place-end.result ≡ c.args.self.now.shape.nodes = c.nodes-place-end.ensures.value ∙ ap (λ (p : ServerParts). p.shape.nodes) c.self.view_is in
-    narrowed-end (planned c.args.self.now c.args.edit.now) c.args.request.now c.loop-place.place c.loop-place.span c.loop-place.invariant (omega arith)
+    narrowed-end (drafted c.args.self.now c.args.draft.now) c.args.request.now c.loop-place.place c.loop-place.span c.loop-place.invariant (omega arith)

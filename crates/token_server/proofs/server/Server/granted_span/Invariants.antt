@@ -1,6 +1,6 @@
-use Rattle.token_server.specs.Edits.{planned}
+use Rattle.token_server.specs.Edits.{drafted}
 use Rattle.token_server.proofs.GrantLaws.{IsNarrowed}
 use Rattle.token_server.proofs.server.Server.granted_span.Given as goal
 
 abbrev pub invariant-loop-place : goal.invariant-loop-place
-invariant-loop-place l = IsNarrowed (planned l.self l.edit) l.request l.place l.span
+invariant-loop-place l = IsNarrowed (drafted l.self l.draft) l.request l.place l.span
