@@ -1,5 +1,5 @@
 -- A node that is declared and restarted, step by step.
-use Rattle.std.proofs.Common.{◌≡◌, refl, [], Option, Some, None, Result, Ok, Err}
+use Rattle.std.proofs.Common.{◌≡◌, refl, Option, Some, None, Result, Ok, Err}
 use Rattle.model.specs.declared.policy.Policy.TheVariants.{Wide}
 use Rattle.model.specs.declared.call.CallId.{CallId}
 use Rattle.model.specs.declared.op.Op.TheVariants.{Spawn}

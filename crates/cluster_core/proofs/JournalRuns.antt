@@ -1,15 +1,15 @@
 -- Runs, one entry more at a time.
 use Rattle.std.proofs.Common.{◌≡◌, ℕ, ◌+◌, ◌<◌, ◌≤◌, refl, sym, ◌∙◌, ap, subst, List, [], ◌∷◌, ◌++◌, length, take, drop, get_or, Ok, Err}
 use Rattle.std.proofs.lemmas.List.{map-append, take_all, take-append-drop}
-use Rattle.messages.specs.Shapes.{ShapeFields}
+use Rattle.messages.specs.Shapes.{ShapeFields, IsShape}
 use Rattle.messages.specs.declared.refusal.Refused.{Refused}
 use Rattle.messages.specs.declared.event.Event.{Event}
 use Rattle.messages.specs.declared.entry.Entry.{Entry}
 use Rattle.cluster_core.specs.World.{WorldState, first_world}
 use Rattle.cluster_core.specs.Next.{next}
-use Rattle.cluster_core.specs.Parts.{WorldParts, world_state}
+use Rattle.cluster_core.specs.Parts.{world_state}
 use Rattle.cluster_core.specs.Runs.{Leads}
-use Rattle.cluster_core.specs.Journals.{events_of, IsFirstRefusal}
+use Rattle.cluster_core.specs.Journals.{events_of, IsFirstRefusal, RunFields, LeadsToItsWorld, GoesOn}
 use Rattle.cluster_core.proofs.Places.{take_read, drop_read}
 use Rattle.cluster_core.proofs.Steps.{next_step}
 
@@ -67,9 +67,23 @@ first_refusal shape events i es w event refusal lt is ran refused = record {
   refused = refused;
 }
 
--- a world that begins has its own shape
-pub begins : (p : WorldParts) (shape : ShapeFields) → world_state p ≡ first_world shape → world_state p ≡ first_world p.shape
-begins p shape is = is ∙ ap (λ (w : WorldState). first_world w.shape) (sym is)
+-- a step keeps the shape, and so does a run
+next_shape : (w v : WorldState) (event : Event) (e : Entry) → next w event ≡ Ok (v, e) → v.shape ≡ w.shape
+next_shape w v event e step = next_step w (λ q. q.0.shape ≡ w.shape) event (v, e) (λ n s done is. refl) (λ file s done is. refl) (λ n is alive. refl) (λ n is dead few. refl) step
 
-pub leads_from : (p : WorldParts) (shape : ShapeFields) (es : List Entry) (w : WorldState) → world_state p ≡ first_world shape → Leads (first_world p.shape) es w → Leads (first_world shape) es w
-leads_from p shape es w is leads = subst (λ (v : WorldState). Leads (first_world v.shape) es w) is leads
+pub leads_shape : (w v : WorldState) (es : List Entry) → Leads w es v → v.shape ≡ w.shape
+leads_shape w v [] leads = ap (λ (u : WorldState). u.shape) (sym leads)
+leads_shape w v (e ∷ es) leads = leads_shape leads.0 v es leads.2 ∙ next_shape w leads.0 e.event e leads.1
+
+-- the run whose parts were opened goes on
+pub goes_on : (r s : RunFields) (event : Event) → LeadsToItsWorld r → GoesOn r event s → LeadsToItsWorld s
+goes_on r s event led on =
+    let e : Entry = on.0 in
+    let of = entry_event (world_state r.world) (world_state s.world) event e on.1 in
+    let shape = next_shape (world_state r.world) (world_state s.world) event e on.1 in
+    let step = subst (λ (x : Event). next (world_state r.world) x ≡ Ok (world_state s.world, e)) (sym of) on.1 in
+    let more = leads_push (first_world r.world.shape) (world_state r.world) (world_state s.world) r.entries e led.leads step in
+    record {
+      served = subst IsShape (sym shape) led.served;
+      leads = subst (λ (x : ShapeFields). Leads (first_world x) s.entries (world_state s.world)) (sym shape) (subst (λ (es : List Entry). Leads (first_world r.world.shape) es (world_state s.world)) (sym on.2) more);
+    }

@@ -56,4 +56,5 @@ pub mod FailuresRow
 pub mod Fences
 pub mod MemberSteps
 pub mod Apart
+pub mod CertainRefusals
 pub mod Lengths

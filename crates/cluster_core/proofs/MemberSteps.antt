@@ -1,6 +1,6 @@
 -- A world after one of its nodes was declared failed, or restarted.
 use Rattle.std.specs.Prelude.{slice_set, slice_index_or, ◌==◌, ◌-◌}
-use Rattle.std.proofs.Common.{◌≡◌, ℕ, ◌+◌, ◌<◌, ◌≤◌, Bool, true, false, not, nat_le, nat_lt, ◌&&◌, if◌then◌else◌, refl, sym, ◌∙◌, ap, subst, arith, List, [], ◌++◌, append-nil, length, None, Result, Ok, Err}
+use Rattle.std.proofs.Common.{◌≡◌, ℕ, ◌+◌, ◌<◌, ◌≤◌, Bool, true, false, nat_le, nat_lt, ◌&&◌, if◌then◌else◌, refl, sym, ◌∙◌, ap, subst, arith, List, [], append-nil, length, None, Result, Ok, Err}
 use Rattle.std.proofs.lemmas.Bool.Decides.{nat_tests}
 use Rattle.std.proofs.lemmas.List.{length-set}
 use Rattle.std.proofs.lemmas.Option.{none-some}
@@ -20,6 +20,7 @@ use Rattle.cluster_core.specs.Listings.{IsTokenOf}
 use Rattle.cluster_core.specs.World.{WorldState, journal_limit, most_incarnations, was_declared}
 use Rattle.cluster_core.specs.Next.{entry, declared, restarted, silent, declare_rule, restart_rule}
 use Rattle.cluster_core.specs.Parts.{WorldParts, IsWorld, numbered, seated, listed, alive_at, world_state}
+use Rattle.cluster_core.specs.Changes.{IsRestart}
 use Rattle.cluster_core.proofs.Choices.{at_number}
 use Rattle.cluster_core.proofs.WorldSteps.{within_is, put_at, read_number}
 
@@ -120,18 +121,23 @@ module _ (p : WorldParts) (world : IsWorld p) (n : ℕ) (number : is_within p.sh
     within = omega arith;
   }
 
-  pub restarted_done : (x : NodeParts) (last : ℕ) (o : Outcome) (items : List Message) (e : Entry) → alive_at p n ≡ false → last ≡ (listed p n).incarnation → last < most_incarnations → node_state x ≡ first_node p.shape n (last + 1) → o ≡ sending items → items ≡ [] → e ≡ entry (Restart n) (last + 1) o → restart_rule (world_state p) n ≡ Ok (world_state (restarted_parts p n x), e)
-  restarted_done x last o items e dead last_is few is made none entry_is =
+  few_enough : (k : ℕ) → k ≤ 65535 → nat_le k 65535 ≡ true
+  few_enough k h = grind (arith, nat_tests)
+
+  pub restarted_goes : alive_at p n ≡ false → (listed p n).incarnation < most_incarnations → restart_rule (world_state p) n ≡ Ok (silent (restarted (world_state p) n) (Restart n) ((world_state p).nodes n).incarnation)
+  restarted_goes dead few =
       let i = ((world_state p).nodes n).incarnation in
-      let now : last + 1 ≡ i = ap (λ (k : ℕ). k + 1) last_is ∙ sym (its_incarnation p n false dead) in
-      let here = is ∙ ap (λ (k : ℕ). first_node p.shape n (k + 1)) last_is in
-      let its : entry (Restart n) i (sending []) ≡ e = (λ j. entry (Restart n) (sym now j) (sym (made ∙ ap sending none) j)) ∙ sym entry_is in
+      let now : i ≡ (listed p n).incarnation + 1 = its_incarnation p n false dead in
       let within : nat_le i most_incarnations ≡ true = few_enough i (omega arith) in
       ap (λ (b : Bool). if b then Err NotDead else (if nat_le i most_incarnations then Ok (silent (restarted (world_state p) n) (Restart n) i) else Err TooManyRestarts)) dead
-      ∙ (ap (λ (b : Bool). if b then Ok (silent (restarted (world_state p) n) (Restart n) i) else Err TooManyRestarts) within ∙ (λ j. Ok (restarted_is x dead here i j, its j)))
-    where
-      few_enough : (k : ℕ) → k ≤ 65535 → nat_le k 65535 ≡ true
-      few_enough k h = grind (arith, nat_tests)
+      ∙ ap (λ (b : Bool). if b then Ok (silent (restarted (world_state p) n) (Restart n) i) else Err TooManyRestarts) within
+
+  pub restarted_done : (x : NodeParts) (k : ℕ) (o : Outcome) (items : List Message) (e : Entry) → alive_at p n ≡ false → (listed p n).incarnation < most_incarnations → node_state x ≡ first_node p.shape n ((listed p n).incarnation + 1) → k ≡ (node_state x).incarnation → o ≡ sending items → items ≡ [] → e ≡ entry (Restart n) k o → restart_rule (world_state p) n ≡ Ok (world_state (restarted_parts p n x), e)
+  restarted_done x k o items e dead few is k_is made none entry_is =
+      let i = ((world_state p).nodes n).incarnation in
+      let now : k ≡ i = k_is ∙ (ap (λ (s : NodeState). s.incarnation) is ∙ sym (its_incarnation p n false dead)) in
+      let its : entry (Restart n) i (sending []) ≡ e = (λ j. entry (Restart n) (sym now j) (sym (made ∙ ap sending none) j)) ∙ sym entry_is in
+      restarted_goes dead few ∙ (λ j. Ok (restarted_is x dead is i j, its j))
 
   pub restarted_none : alive_at p n ≡ false → (listed p n).incarnation ≡ 65535 → restart_rule (world_state p) n ≡ Err TooManyRestarts
   restarted_none dead is =
@@ -168,17 +174,33 @@ module _ (p now : WorldParts) (view : p ≡ now) (world : IsWorld p) (n : ℕ) (
         let P : WorldParts → Type 0 = λ q. (world_state q).alive n ≡ false → restart_rule (world_state q) n ≡ Err TooManyRestarts in
         subst P view (λ h. restarted_none p world n number_before h (sym listed_is ∙ is)) dead
 
-    module _ (y : NodeParts) (dead : (world_state now).alive n ≡ false) (begins : node_state y ≡ first_node p.shape n (last + 1)) where
-      dead_before : alive_at p n ≡ false
-      dead_before = subst (λ (q : WorldParts). (world_state q).alive n ≡ false) (sym view) dead
+    pub may_restart : (y : NodeParts) → (world_state now).alive n ≡ false → last < most_incarnations → node_state y ≡ first_node p.shape n (last + 1) → IsRestart now n y
+    may_restart y dead few begins = record {
+      number = number;
+      dead = dead;
+      few = subst (λ (q : WorldParts). (listed q n).incarnation < most_incarnations) view (subst (λ (k : ℕ). k < most_incarnations) listed_is few);
+      begins = subst (λ (q : WorldParts). node_state y ≡ first_node q.shape n ((listed q n).incarnation + 1)) view (begins ∙ ap (λ (k : ℕ). first_node p.shape n (k + 1)) listed_is);
+    }
 
-      pub restarted_settled : now.length < journal_limit → IsWorld (restarted_parts p n y)
-      restarted_settled room = restarted_world p world n number_before y (subst (λ (q : WorldParts). q.length < journal_limit) (sym view) room) dead_before (begins ∙ ap (λ (k : ℕ). first_node p.shape n (k + 1)) listed_is)
+    -- then the rule does not refuse
+    pub not_refused : (e : Refused) → (world_state now).alive n ≡ false → last < most_incarnations → restart_rule (world_state now) n ≡ Err e → ⊥
+    not_refused e dead few refused =
+        let P : WorldParts → Type 0 = λ q. alive_at q n ≡ false → restart_rule (world_state q) n ≡ Err e → ⊥ in
+        let goes : P p = λ d r. let both : ◌≡◌ {A = Result (WorldState × Entry) Refused} (Ok (silent (restarted (world_state p) n) (Restart n) ((world_state p).nodes n).incarnation)) (Err e) = sym (restarted_goes p world n number_before d (subst (λ (k : ℕ). k < most_incarnations) listed_is few)) ∙ r in absurd (cc) in
+        subst P view goes dead refused
 
-      pub restarted_returns : (o : Outcome) (items : List Message) (e : Entry) → last < most_incarnations → o ≡ sending items → items ≡ [] → e ≡ entry (Restart n) (last + 1) o → restart_rule (world_state now) n ≡ Ok (world_state (restarted_parts p n y), e)
-      restarted_returns o items e few made none entry_is =
-          subst (λ (q : WorldParts). restart_rule (world_state q) n ≡ Ok (world_state (restarted_parts p n y), e)) view
-          (restarted_done p world n number_before y last o items e dead_before listed_is few begins made none entry_is)
+  -- the node begins again
+  module _ (y : NodeParts) (restart : IsRestart now n y) where
+    restart_before : IsRestart p n y
+    restart_before = subst (λ (q : WorldParts). IsRestart q n y) (sym view) restart
+
+    pub restarted_settled : now.length < journal_limit → IsWorld (restarted_parts p n y)
+    restarted_settled room = restarted_world p world n number_before y (subst (λ (q : WorldParts). q.length < journal_limit) (sym view) room) restart_before.dead restart_before.begins
+
+    pub restarted_returns : (k : ℕ) (o : Outcome) (items : List Message) (e : Entry) → k ≡ (node_state y).incarnation → o ≡ sending items → items ≡ [] → e ≡ entry (Restart n) k o → restart_rule (world_state now) n ≡ Ok (world_state (restarted_parts p n y), e)
+    restarted_returns k o items e k_is made none entry_is =
+        subst (λ (q : WorldParts). restart_rule (world_state q) n ≡ Ok (world_state (restarted_parts p n y), e)) view
+        (restarted_done p world n number_before y k o items e restart_before.dead restart_before.few restart_before.begins k_is made none entry_is)
 
 -- a node that is not alive has no token and no lock
 pub dead_token : (p : WorldParts) (n : ℕ) → alive_at p n ≡ false → (t : TokenRun) → IsTokenOf (world_state p) n t → ⊥

@@ -1,5 +1,5 @@
 -- A node that is declared failed, and one that restarts, keep what holds of tokens, rows and messages.
-use Rattle.std.proofs.Common.{◌≡◌, ℕ, ◌+◌, ◌≤◌, if◌then◌else◌, ◌==◌, ◌⊎◌, inl, inr, refl, sym, ◌∙◌, ap, subst, arith, List, [], append-nil, Option}
+use Rattle.std.proofs.Common.{◌≡◌, ℕ, ◌+◌, ◌≤◌, if◌then◌else◌, ◌==◌, ◌⊎◌, inl, inr, refl, sym, ◌∙◌, ap, subst, arith, List, append-nil, Option}
 use Rattle.std.proofs.lemmas.Option.{none-some}
 use Rattle.model.specs.declared.level.Level.TheVariants.{Exclusive}
 use Rattle.token_set.specs.Tokens.{Token, no_token}

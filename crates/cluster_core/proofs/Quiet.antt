@@ -1,5 +1,5 @@
 -- Items that leave the table as it was, and the replies of calls that are denied.
-use Rattle.std.proofs.Common.{◌≡◌, refl, sym, subst, [], ◌∷◌, Some, None, Result, Ok, Err}
+use Rattle.std.proofs.Common.{◌≡◌, refl, sym, subst, List, [], ◌∷◌, ◌++◌, Some, None, Result, Ok, Err}
 use Rattle.model.specs.declared.lock_info.LockInfo.{LockInfo}
 use Rattle.model.specs.declared.process.Process.{Process}
 use Rattle.model.specs.declared.op.Op.{Op}
@@ -13,11 +13,8 @@ use Rattle.model.proofs.ReplayLaws.{spawn_never, spawn_never-blocked, open_never
 use Rattle.node_core.specs.declared.open_call.Intent.{Intent}
 use Rattle.node_core.specs.declared.open_call.Intent.TheVariants as intent
 use Rattle.node_core.specs.Try.{refusal_of}
-use Rattle.cluster_core.specs.Histories.{ItemStep, QuietItemsMayStandEarlier}
-
-pub quiet_earlier : QuietItemsMayStandEarlier
-quiet_earlier t m u [] ys i before after quiet = (m, subst (λ (x : Table). ItemStep x i m) (sym before) quiet, after)
-quiet_earlier t m u (x ∷ xs) ys i before after quiet = (before.0, before.1, quiet_earlier before.0 m u xs ys i before.2 after quiet)
+use Rattle.cluster_core.specs.declared.item.Item.{Item}
+use Rattle.cluster_core.specs.Histories.{caller, ItemStep, Legal, IsReadOnly, moved, QuietItemsMayStandEarlier}
 
 -- the reply to a call that is denied names a lock
 pub refusal_names : (i : Intent) (lock : LockInfo) → NamesNoLock (refusal_of i lock) → ⊥
@@ -42,3 +39,20 @@ blocked_stays t u p (Open file access) lock h = absurd (open_never-blocked t p f
 blocked_stays t u p (Set fd kind mode start len) lock h = absurd (set_never-blocked t p fd kind mode start len lock u h)
 blocked_stays t u p (Unlock fd kind start len) lock h = absurd (unlock_never-blocked t p fd kind start len lock u h)
 blocked_stays t u p (Query fd kind mode start len) lock h = tests_stay t u (target t p None fd kind start len) (Blocked lock) (QueryStep t mode (Blocked lock) u) (λ c b. b.1) h
+
+-- an item more, where it leaves the table as it is there
+put_in : (t m u : Table) (xs ys : List Item) (i : Item) → Legal t xs m → Legal m ys u → ItemStep m i m → Legal t (xs ++ i ∷ ys) u
+put_in t m u [] ys i before after quiet = (m, subst (λ (x : Table). ItemStep x i m) (sym before) quiet, after)
+put_in t m u (x ∷ xs) ys i before after quiet = (before.0, before.1, put_in before.0 m u xs ys i before.2 after quiet)
+
+-- an item less, which leaves the table as it was
+taken_out : (m u : Table) (ys zs : List Item) (i : Item) → Legal m (ys ++ i ∷ zs) u → IsReadOnly i → Legal m (ys ++ zs) u
+taken_out m u [] zs i legal quiet = subst (λ (x : Table). Legal x zs u) (quiet m legal.0 legal.1) legal.2
+taken_out m u (y ∷ ys) zs i legal quiet = (legal.0, legal.1, taken_out legal.0 u ys zs i legal.2 quiet)
+
+pub quiet_earlier : QuietItemsMayStandEarlier
+quiet_earlier = record {
+  moves = λ t m u xs ys zs i to before after quiet here. put_in t m u xs (ys ++ zs) (moved to i) before (taken_out m u ys zs i after quiet) here;
+  again = λ at id pid op lock old new step. again_stays old new (caller id pid) op lock step.1;
+  blocked = λ at id pid op lock old new step. blocked_stays old new (caller id pid) op lock step.1;
+}

@@ -1,7 +1,5 @@
 -- Every run is safe and has a history and a plain one, and each denial its evidence.
-use Rattle.std.proofs.Common.{◌≡◌, ℕ, true, refl, List, take, Ok}
-use Rattle.model.specs.declared.call.CallId.{CallId}
-use Rattle.model.specs.declared.lock_info.LockInfo.{LockInfo}
+use Rattle.std.proofs.Common.{◌≡◌, ℕ, refl, List, take, Ok}
 use Rattle.messages.specs.Shapes.{ShapeFields, IsShape}
 use Rattle.messages.specs.declared.message.Message.TheVariants.{Conflict}
 use Rattle.messages.specs.declared.event.Event.{Event}

@@ -1,14 +1,12 @@
 -- What a node answers or holds under its token, no lock of another node is in the way of.
-use Rattle.std.proofs.Common.{◌≡◌, ℕ, ◌≤◌, true, false, refl, sym, ◌∙◌, subst, Some}
-use Rattle.model.specs.declared.mode.Mode.{Mode}
+use Rattle.std.proofs.Common.{◌≡◌, ℕ, true, sym, ◌∙◌, subst, Some}
 use Rattle.model.specs.declared.op.Op.{Op}
 use Rattle.model.specs.declared.reply.Reply.{Reply}
 use Rattle.node_core.specs.State.{NodeState, process}
 use Rattle.cluster_core.specs.World.{WorldState, has_node}
 use Rattle.cluster_core.specs.Safe.{Excludes, AreApart, AreCovered, IsSafe}
-use Rattle.cluster_core.specs.Evidence.{IsAbout}
 use Rattle.cluster_core.proofs.Covering.{IsCovered, unbarred_byte, unbarred_apart}
-use Rattle.cluster_core.proofs.Tries.{IsUnhindered, IsServed}
+use Rattle.cluster_core.proofs.Tries.{IsServed}
 use Rattle.cluster_core.proofs.Lifting.{IsFreeElsewhere}
 
 -- where tokens are apart and locks are covered, two nodes share each byte that both lock

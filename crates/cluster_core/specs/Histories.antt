@@ -4,7 +4,9 @@ use Rattle.std.specs.List.{list_any}
 use Rattle.model.specs.declared.call.CallId.{CallId}
 use Rattle.model.specs.declared.host.Host.{Host}
 use Rattle.model.specs.declared.op.Op.{Op}
+use Rattle.model.specs.declared.lock_info.LockInfo.{LockInfo}
 use Rattle.model.specs.declared.reply.Reply.{Reply}
+use Rattle.model.specs.declared.reply.Reply.TheVariants.{Again, Blocked}
 use Rattle.model.specs.declared.process.Process.{Process}
 use Rattle.model.specs.Limits.{IsProcess}
 use Rattle.model.specs.Table.{Table, empty_table, gone}
@@ -47,14 +49,26 @@ Legal old (i ∷ is) new = (mid : Table) × ItemStep old i mid × Legal mid is n
 abbrev pub IsLegal : List Item → Type 0
 IsLegal h = (last : Table) × Legal empty_table h last
 
--- items that lead from table to table still do with one more, where that one leaves the table as it is there
-abbrev pub QuietItemsMayStandEarlier : Type 0
-QuietItemsMayStandEarlier =
-    (t m u : Table) (xs ys : List Item) (i : Item)
-    → Legal t xs m
-    → Legal m ys u
-    → ItemStep m i m
-    → Legal t (xs ++ i ∷ ys) u
+-- an item that leaves every table as it was where it may stand
+abbrev pub IsReadOnly : Item → Type 0
+IsReadOnly i = (old new : Table) → ItemStep old i new → new ≡ old
+
+-- the same item at another position
+abbrev pub moved : ℕ → Item → Item
+moved to (Answered at id pid op reply) = Answered to id pid op reply
+moved to (Gone at node incarnation) = Gone to node incarnation
+
+-- items that lead from table to table still do where one that is read-only is taken out and put in earlier, where the table there allows it; the replies that name a lock are read-only
+pub record QuietItemsMayStandEarlier : Type 0 where
+  pub moves :
+      (t m u : Table) (xs ys zs : List Item) (i : Item) (to : ℕ)
+      → Legal t xs m
+      → Legal m (ys ++ i ∷ zs) u
+      → IsReadOnly i
+      → ItemStep m (moved to i) m
+      → Legal t (xs ++ moved to i ∷ (ys ++ zs)) u
+  pub again : (at : ℕ) (id : CallId) (pid : ℕ) (op : Op) (lock : LockInfo) → IsReadOnly (Answered at id pid op (Again lock))
+  pub blocked : (at : ℕ) (id : CallId) (pid : ℕ) (op : Op) (lock : LockInfo) → IsReadOnly (Answered at id pid op (Blocked lock))
 
 -- positions rise strictly
 abbrev pub Rising : List Item → Type 0

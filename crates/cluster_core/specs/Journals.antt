@@ -1,11 +1,12 @@
 -- Journals, and what a list of events comes to.
-use Rattle.std.specs.Prelude.{◌≡◌, List, ◌∷◌, ◌++◌, map, Err}
+use Rattle.std.specs.Prelude.{◌≡◌, List, [], ◌∷◌, ◌++◌, map, Ok, Err}
 use Rattle.messages.specs.Shapes.{ShapeFields, IsShape}
 use Rattle.messages.specs.declared.refusal.Refused.{Refused}
 use Rattle.messages.specs.declared.event.Event.{Event}
 use Rattle.messages.specs.declared.entry.Entry.{Entry}
 use Rattle.cluster_core.specs.World.{WorldState, first_world}
 use Rattle.cluster_core.specs.Next.{next}
+use Rattle.cluster_core.specs.Parts.{WorldParts, world_state}
 use Rattle.cluster_core.specs.Runs.{Leads, IsRun}
 
 -- the entries that a cluster of this shape made
@@ -30,3 +31,20 @@ pub record IsFirstRefusal (shape : ShapeFields) (events : List Event) (refusal :
   pub rest : List Event
   pub in_order : events ≡ events_of done ++ event ∷ rest
   pub refused : next world event ≡ Err refusal
+
+-- a run that goes on: the entries so far, and the world to which they lead
+pub record RunFields : Type 0 where
+  pub world : WorldParts
+  pub entries : List Entry
+
+-- the shape is served, and the entries lead from the first world to this one
+pub record LeadsToItsWorld (r : RunFields) : Type 0 where
+  pub served : IsShape r.world.shape
+  pub leads : Leads (first_world r.world.shape) r.entries (world_state r.world)
+
+-- the run goes on by the event: its world steps, and the entry comes last
+abbrev pub GoesOn : RunFields → Event → RunFields → Type 0
+GoesOn r event s = (e : Entry) × (next (world_state r.world) event ≡ Ok (world_state s.world, e)) × (s.entries ≡ r.entries ++ e ∷ [])
+
+abbrev pub journal_of : RunFields → JournalFields
+journal_of r = record { shape = r.world.shape; entries = r.entries }

@@ -2,6 +2,7 @@ pub mod World
 pub mod Next
 pub mod Runs
 pub mod Parts
+pub mod Changes
 pub mod Known
 pub mod Journals
 pub mod Union

@@ -1,8 +1,8 @@
 -- What an event does to the cluster.
-use Rattle.std.specs.Prelude.{ℕ, ◌+◌, Bool, true, false, not, ◌&&◌, ◌==◌, nat_le, if◌then◌else◌, [], ◌++◌, Result, Ok, Err}
+use Rattle.std.specs.Prelude.{◌≡◌, ℕ, ◌+◌, ⊤, Bool, true, false, not, ◌&&◌, ◌==◌, nat_le, if◌then◌else◌, [], ◌++◌, Result, Ok, Err}
 use Rattle.messages.specs.declared.refusal.StepError.{StepError}
 use Rattle.messages.specs.declared.refusal.Refused.{Refused}
-use Rattle.messages.specs.declared.refusal.Refused.TheVariants.{Stranger, JournalFull, NotAlive, NotDead, TooManyRestarts, Fenced}
+use Rattle.messages.specs.declared.refusal.Refused.TheVariants.{NoMemory, Busy, Stranger, JournalFull, Spent, NotAlive, NotDead, TooManyRestarts, Fenced}
 use Rattle.messages.specs.Refusals.{refused_by}
 use Rattle.messages.specs.declared.message.Message.{Message}
 use Rattle.messages.specs.declared.event.Event.{Event}
@@ -117,3 +117,15 @@ next w event =
     else (if not (is_known w event) then Err Stranger
     else (if is_fenced w event then Err Fenced
     else taken w event))
+
+-- a refusal that is decided before any memory is taken: any but those of an actor's own step
+abbrev pub IsCertain : WorldState → Event → Refused → Type 0
+IsCertain w event JournalFull = ⊤
+IsCertain w event Stranger = is_known w event ≡ false
+IsCertain w event Fenced = ⊤
+IsCertain w event NotAlive = ⊤
+IsCertain w event NotDead = ⊤
+IsCertain w event TooManyRestarts = ⊤
+IsCertain w event NoMemory = ⊥
+IsCertain w event Busy = ⊥
+IsCertain w event Spent = ⊥

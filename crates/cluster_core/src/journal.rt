@@ -1,10 +1,8 @@
 //! Journals of runs.
-ghost use Rattle.std.specs.Prelude.{◌≡◌, ◌≢◌, ◌++◌, ◌∷◌, [], IfOk, IfErr, OnOk};
+ghost use Rattle.std.specs.Prelude.{◌≡◌, ◌≢◌, IfOk, IfErr};
 ghost use Rattle.messages.specs.declared.refusal.Refused.TheVariants.{NoMemory};
 ghost use Rattle.messages.specs.Shapes.{IsShape};
-ghost use Rattle.cluster_core.specs.World.{first_world};
-ghost use Rattle.cluster_core.specs.Parts.{world_state};
-ghost use Rattle.cluster_core.specs.Runs.{Leads, IsRun};
+ghost use Rattle.cluster_core.specs.Runs.{IsRun};
 ghost use Rattle.cluster_core.specs.Journals.{events_of, IsFirstRefusal};
 ghost use Rattle.cluster_core.specs.Histories.{HasOneHistory};
 ghost use Rattle.cluster_core.specs.Plain.{HasPlainHistory};
@@ -12,12 +10,12 @@ ghost use Rattle.cluster_core.specs.Safe.{LeadsToSafe};
 ghost use Rattle.cluster_core.specs.Numbers.{LeadsToNumbers};
 ghost use Rattle.cluster_core.specs.Evidence.{DenialsHaveEvidence};
 
-use crate::world::World;
+use crate::run::Run;
 use messages::entry::Entry;
 use messages::event::Event;
 use messages::refusal::Refused;
 use messages::shape::Shape;
-use std::alloc::{AllocError, Global};
+use std::alloc::Global;
 use std::marker::Model;
 
 /// What happened in a cluster of a shape, entry by entry from its beginning: always a run.
@@ -38,6 +36,15 @@ impl Model for Journal {
 }
 
 impl Journal {
+    /// The journal of these entries, which are a run.
+    pub(crate) fn of_run(shape: Shape, entries: Vec<Entry>) -> Journal
+        requires served { IsShape shape }
+        requires run { IsRun shape entries.items }
+        ensures { result ≡ record { shape = shape; entries = entries.items } }
+    {
+        Journal { shape, entries }
+    }
+
     /// The shape of the cluster: one that is served.
     pub fn shape(&self) -> Shape
         ensures value { result ≡ self.now.shape }
@@ -86,43 +93,10 @@ pub fn run(alloc: Global, shape: Shape, events: &[Event]) -> Result<Journal, Ref
     // Else the events before one happened, and that one is refused so.
     ensures refused { IfErr result (λ refusal. refusal ≢ NoMemory → IsFirstRefusal shape events.now refusal) }
 {
-    let entries = made(alloc, shape, events)?;
-    Ok(Journal { shape, entries })
-}
-
-// The entries of the events, which happen in a cluster that begins.
-fn made(alloc: Global, shape: Shape, events: &[Event]) -> Result<Vec<Entry>, Refused>
-    ensures served { OnOk result (IsShape shape) }
-    ensures events { IfOk result (λ entries. events_of entries.items ≡ events.now) }
-    ensures run { IfOk result (λ entries. IsRun shape entries.items) }
-    ensures refused { IfErr result (λ refusal. refusal ≢ NoMemory → IsFirstRefusal shape events.now refusal) }
-{
-    let mut world = World::new(alloc, shape)?;
-    happened(alloc, &mut world, events)
-}
-
-// The entries of the events, which happen in a world that begins.
-fn happened(alloc: Global, world: &mut World, events: &[Event]) -> Result<Vec<Entry>, Refused>
-    requires { world_state world.old ≡ first_world world.old.shape }
-    ensures events { IfOk result (λ entries. events_of entries.items ≡ events.now) }
-    ensures leads { IfOk result (λ entries. Leads (first_world world.old.shape) entries.items (world_state world.new)) }
-    ensures refused { IfErr result (λ refusal. refusal ≢ NoMemory → IsFirstRefusal world.old.shape events.now refusal) }
-{
-    let mut entries = Vec::new(alloc);
+    let mut run = Run::new(alloc, shape)?;
     for event in events {
-        let entry = match world.step(alloc, *event) {
-            Ok(entry) => entry,
-            Err(refusal) => return Err(refusal),
-        };
-        add(&mut entries, entry)?;
+        run.take(alloc, *event)?;
     }
-    Ok(entries)
-}
-
-// One more entry at the end.
-fn add(entries: &mut Vec<Entry>, entry: Entry) -> Result<(), AllocError>
-    ensures { OnOk result (entries.new.items ≡ entries.old.items ++ entry ∷ []) }
-{
-    entries.push(entry)?;
-    Ok(())
+    let (journal, _) = run.into_journal();
+    Ok(journal)
 }

@@ -21,9 +21,9 @@ pub fn every_run_has_a_plain_history()
     ensures { EveryRunHasAPlainHistory }
 {}
 
-/// A legal list of items stays legal with one more item where that one leaves the table as it is there.
-/// A call that is denied is such an item: the replies `Again` and `Blocked` leave the table as it was.
-/// So it may be put wherever the table there allows that reply.
+/// A legal list of items stays legal where an item that leaves every table as it was is taken out where
+/// it stands and put in earlier, where the table there allows it. A call that is denied is such an item:
+/// the replies `Again` and `Blocked` leave the table as it was.
 pub fn what_changes_nothing_may_stand_earlier()
     ensures { QuietItemsMayStandEarlier }
 {}

@@ -5,6 +5,7 @@ pub mod held_lock;
 pub mod item;
 pub mod journal;
 pub mod laws;
+pub mod run;
 pub mod sent;
 pub mod token_run;
 pub mod world;

@@ -14,8 +14,11 @@ ghost use Rattle.token_server.specs.Server.{server_rule};
 ghost use Rattle.token_server.specs.Parts.{ServerParts, server_state};
 ghost use Rattle.token_server.specs.Edits.{planned};
 ghost use Rattle.cluster_core.specs.World.{WorldState, journal_limit, was_declared, first_world};
-ghost use Rattle.cluster_core.specs.Next.{is_known, is_fenced, has_actor, declare_rule, restart_rule, named_incarnation, after_node, after_server, taken, next};
+ghost use Rattle.cluster_core.specs.Next.{is_known, is_fenced, IsCertain, has_actor, declare_rule, restart_rule, named_incarnation, after_node, after_server, taken, next};
 ghost use Rattle.cluster_core.specs.Parts.{world_state, IsStepOf, IsServerStepOf, IsTakenByNode, IsRest};
+ghost use Rattle.cluster_core.specs.Changes.{IsNodeChange, IsServerChange, IsRestart, Makes, Plans};
+ghost use Rattle.messages.specs.declared.event.Event.TheVariants as event;
+ghost use Rattle.messages.specs.declared.refusal.Refused.{Refused};
 ghost use Rattle.cluster_core.specs.Runs.{Leads};
 ghost use Rattle.cluster_core.specs.Safe.{IsSafe};
 ghost use Rattle.node_core.specs.State.{first_node};
@@ -23,6 +26,7 @@ ghost use Rattle.token_server.specs.State.{first_server};
 
 use crate::journal::Journal;
 use crate::sent::Sent;
+use crate::world::change::Change;
 use intervals::span_map::NoMemory as NoRoom;
 use messages::actor::Actor;
 use messages::entry::Entry;
@@ -42,6 +46,7 @@ use token_server::change::Change as ServerChange;
 use token_server::event::ServerEvent;
 use token_server::server::Server;
 
+pub(crate) mod change;
 mod listings;
 
 /// The most entries of a journal.
@@ -153,6 +158,13 @@ impl World {
             sent: Sent::new(alloc),
             length: 0,
         })
+    }
+
+    /// The shape of the cluster.
+    pub(crate) fn shape(&self) -> Shape
+        ensures { result ≡ self.now.shape }
+    {
+        self.shape
     }
 
     // Whether the actor is one of the cluster.
@@ -288,75 +300,67 @@ impl World {
         self.servers[file as usize - 1].plan(alloc, step)
     }
 
-    // The node takes a step at its event.
-    fn step_node(
-        &mut self,
+    // What the node will do at its event.
+    fn plan_node(
+        &self,
         alloc: Global,
         event: &Event,
         node: u8,
         step: &NodeEvent,
-    ) -> Result<Entry, Refused>
-        requires room { self.old.length < journal_limit }
-        requires node { is_within self.old.shape.nodes node ≡ true }
-        requires alive { (world_state self.old).alive node ≡ true }
+    ) -> Result<Change, Refused>
+        requires node { is_within self.now.shape.nodes node ≡ true }
+        requires alive { (world_state self.now).alive node ≡ true }
         requires same_event { IsStepOf event.now node step.now }
-        ensures ok { IfOk result (λ entry. after_node (world_state self.old) event.now node (node_rule ((world_state self.old).nodes node) step.now) ≡ Ok (world_state self.new, entry)) }
-        ensures err { IfErr result (λ e. e ≢ NoMemory → after_node (world_state self.old) event.now node (node_rule ((world_state self.old).nodes node) step.now) ≡ Err e) }
-        ensures unchanged { OnErr result (self.new ≡ self.old) }
+        ensures ok { IfOk result (λ change. Makes self.now event.now change (after_node (world_state self.now) event.now node (node_rule ((world_state self.now).nodes node) step.now))) }
+        ensures err { IfErr result (λ e. e ≢ NoMemory → after_node (world_state self.now) event.now node (node_rule ((world_state self.now).nodes node) step.now) ≡ Err e) }
+        ensures refused { (e : Refused) → is_known (world_state self.now) event.now ≡ true → IsCertain (world_state self.now) event.now e → after_node (world_state self.now) event.now node (node_rule ((world_state self.now).nodes node) step.now) ≡ Err e → result ≡ Err e }
     {
         let incarnation = self.named_incarnation(event, node);
         let change = self.node_plan(alloc, node, step)?;
-        let outcome = settle_node(&mut self.nodes, node as usize - 1, change, &mut self.sent)?;
-        self.length += 1;
-        Ok(Entry::at_node(*event, incarnation, outcome))
+        Ok(Change::OfNode {
+            node,
+            incarnation,
+            change,
+        })
     }
 
-    // The server takes a step at its event.
-    fn step_server(
-        &mut self,
+    // What the server will do at its event.
+    fn plan_server(
+        &self,
         alloc: Global,
         event: &Event,
         file: u16,
         step: &ServerEvent,
-    ) -> Result<Entry, Refused>
-        requires room { self.old.length < journal_limit }
-        requires file { is_within self.old.shape.files file ≡ true }
+    ) -> Result<Change, Refused>
+        requires file { is_within self.now.shape.files file ≡ true }
         requires same_event { IsServerStepOf event.now step.now }
-        ensures ok { IfOk result (λ entry. after_server (world_state self.old) event.now file (server_rule ((world_state self.old).servers file) step.now) ≡ Ok (world_state self.new, entry)) }
-        ensures err { IfErr result (λ e. e ≢ NoMemory → after_server (world_state self.old) event.now file (server_rule ((world_state self.old).servers file) step.now) ≡ Err e) }
-        ensures unchanged { OnErr result (self.new ≡ self.old) }
+        ensures ok { IfOk result (λ change. Makes self.now event.now change (after_server (world_state self.now) event.now file (server_rule ((world_state self.now).servers file) step.now))) }
+        ensures err { IfErr result (λ e. e ≢ NoMemory → after_server (world_state self.now) event.now file (server_rule ((world_state self.now).servers file) step.now) ≡ Err e) }
+        ensures refused { (e : Refused) → is_known (world_state self.now) event.now ≡ true → IsCertain (world_state self.now) event.now e → after_server (world_state self.now) event.now file (server_rule ((world_state self.now).servers file) step.now) ≡ Err e → result ≡ Err e }
     {
         let change = self.server_plan(alloc, file, step)?;
-        let outcome = settle_server(&mut self.servers, file as usize - 1, change, &mut self.sent)?;
-        self.length += 1;
-        Ok(Entry::new(*event, outcome))
+        Ok(Change::OfServer { file, change })
     }
 
-    // The node is declared failed.
-    fn declare(&mut self, alloc: Global, node: u8) -> Result<Entry, Refused>
-        requires room { self.old.length < journal_limit }
-        requires node { is_within self.old.shape.nodes node ≡ true }
-        ensures ok { IfOk result (λ entry. declare_rule (world_state self.old) node ≡ Ok (world_state self.new, entry)) }
-        ensures err { IfErr result (λ e. declare_rule (world_state self.old) node ≡ Err e) }
-        ensures unchanged { OnErr result (self.new ≡ self.old) }
+    // What comes of a declaration of the node.
+    fn plan_declare(&self, node: u8) -> Result<Change, Refused>
+        requires { is_within self.now.shape.nodes node ≡ true }
+        ensures ok { IfOk result (λ change. Makes self.now (event.Declare node) change (declare_rule (world_state self.now) node)) }
+        ensures err { IfErr result (λ e. declare_rule (world_state self.now) node ≡ Err e) }
+        ensures refused { (e : Refused) → declare_rule (world_state self.now) node ≡ Err e → result ≡ Err e }
     {
         if !self.is_alive(node) {
             return Err(Refused::NotAlive);
         }
-        let incarnation = self.node(node).incarnation();
-        self.alive[node as usize - 1] = false;
-        self.length += 1;
-        let outcome = Outcome::sending(Items::new(alloc));
-        Ok(Entry::at_node(Event::Declare { node }, incarnation, outcome))
+        Ok(Change::Declared { node })
     }
 
-    // The node restarts.
-    fn restart(&mut self, alloc: Global, node: u8) -> Result<Entry, Refused>
-        requires room { self.old.length < journal_limit }
-        requires node { is_within self.old.shape.nodes node ≡ true }
-        ensures ok { IfOk result (λ entry. restart_rule (world_state self.old) node ≡ Ok (world_state self.new, entry)) }
-        ensures err { IfErr result (λ e. e ≢ NoMemory → restart_rule (world_state self.old) node ≡ Err e) }
-        ensures unchanged { OnErr result (self.new ≡ self.old) }
+    // What comes of a restart of the node.
+    fn plan_restart(&self, alloc: Global, node: u8) -> Result<Change, Refused>
+        requires { is_within self.now.shape.nodes node ≡ true }
+        ensures ok { IfOk result (λ change. Makes self.now (event.Restart node) change (restart_rule (world_state self.now) node)) }
+        ensures err { IfErr result (λ e. e ≢ NoMemory → restart_rule (world_state self.now) node ≡ Err e) }
+        ensures refused { (e : Refused) → restart_rule (world_state self.now) node ≡ Err e → result ≡ Err e }
     {
         if self.is_alive(node) {
             return Err(Refused::NotDead);
@@ -366,41 +370,36 @@ impl World {
             return Err(Refused::TooManyRestarts);
         }
         let begun = Node::new(alloc, self.shape, node, last + 1)?;
-        self.nodes[node as usize - 1] = begun;
-        self.alive[node as usize - 1] = true;
-        self.length += 1;
-        let outcome = Outcome::sending(Items::new(alloc));
-        Ok(Entry::at_node(Event::Restart { node }, last + 1, outcome))
+        Ok(Change::Restarted { node, begun })
     }
 
-    // The actor that takes the event does its step.
-    fn take(&mut self, alloc: Global, event: &Event) -> Result<Entry, Refused>
-        requires room { self.old.length < journal_limit }
-        requires known { is_known (world_state self.old) event.now ≡ true }
-        requires free { is_fenced (world_state self.old) event.now ≡ false }
-        ensures ok { IfOk result (λ entry. taken (world_state self.old) event.now ≡ Ok (world_state self.new, entry)) }
-        ensures err { IfErr result (λ e. e ≢ NoMemory → taken (world_state self.old) event.now ≡ Err e) }
-        ensures unchanged { OnErr result (self.new ≡ self.old) }
+    // What the actor that takes the event will do.
+    fn plan_taken(&self, alloc: Global, event: &Event) -> Result<Change, Refused>
+        requires known { is_known (world_state self.now) event.now ≡ true }
+        requires free { is_fenced (world_state self.now) event.now ≡ false }
+        ensures ok { IfOk result (λ change. Makes self.now event.now change (taken (world_state self.now) event.now)) }
+        ensures err { IfErr result (λ e. e ≢ NoMemory → taken (world_state self.now) event.now ≡ Err e) }
+        ensures refused { (e : Refused) → IsCertain (world_state self.now) event.now e → taken (world_state self.now) event.now ≡ Err e → result ≡ Err e }
     {
         match event {
             Event::Call { node, pid, op } => {
                 let step = NodeEvent::Call { pid: *pid, op: *op };
-                self.step_node(alloc, event, *node, &step)
+                self.plan_node(alloc, event, *node, &step)
             }
             Event::Deliver(message) => match message.addressee() {
                 Actor::Node(node) => {
-                    self.step_node(alloc, event, node, &NodeEvent::Deliver(*message))
+                    self.plan_node(alloc, event, node, &NodeEvent::Deliver(*message))
                 }
                 Actor::Server(file) => {
-                    self.step_server(alloc, event, file, &ServerEvent::Deliver(*message))
+                    self.plan_server(alloc, event, file, &ServerEvent::Deliver(*message))
                 }
             },
             Event::Retry { node, pid } => {
-                self.step_node(alloc, event, *node, &NodeEvent::Retry { pid: *pid })
+                self.plan_node(alloc, event, *node, &NodeEvent::Retry { pid: *pid })
             }
-            Event::Resend { file } => self.step_server(alloc, event, *file, &ServerEvent::Resend),
-            Event::Declare { node } => self.declare(alloc, *node),
-            Event::Restart { node } => self.restart(alloc, *node),
+            Event::Resend { file } => self.plan_server(alloc, event, *file, &ServerEvent::Resend),
+            Event::Declare { node } => self.plan_declare(*node),
+            Event::Restart { node } => self.plan_restart(alloc, *node),
             Event::Learn {
                 file,
                 node,
@@ -410,8 +409,122 @@ impl World {
                     node: *node,
                     incarnation: *incarnation,
                 };
-                self.step_server(alloc, event, *file, &step)
+                self.plan_server(alloc, event, *file, &step)
             }
+        }
+    }
+
+    /// What the event will do: the change of the one actor that takes it.
+    ///
+    /// # Errors
+    /// Those of `step`.
+    pub(crate) fn plan(&self, alloc: Global, event: &Event) -> Result<Change, Refused>
+        ensures ok { IfOk result (λ change. Plans self.now event.now change) }
+        ensures err { IfErr result (λ e. e ≢ NoMemory → next (world_state self.now) event.now ≡ Err e) }
+        ensures refused { (e : Refused) → IsCertain (world_state self.now) event.now e → next (world_state self.now) event.now ≡ Err e → result ≡ Err e }
+    {
+        if self.length >= JOURNAL_LIMIT {
+            return Err(Refused::JournalFull);
+        }
+        if !self.is_known(event) {
+            return Err(Refused::Stranger);
+        }
+        if self.is_fenced(event) {
+            return Err(Refused::Fenced);
+        }
+        self.plan_taken(alloc, event)
+    }
+
+    // The node does the step that was planned.
+    fn change_node(
+        &mut self,
+        event: &Event,
+        node: u8,
+        incarnation: u16,
+        change: NodeChange,
+    ) -> Result<Entry, NoRoom>
+        requires room { self.old.length < journal_limit }
+        requires made { IsNodeChange self.old event.now node incarnation change (next (world_state self.old) event.now) }
+        ensures ok { IfOk result (λ entry. next (world_state self.old) event.now ≡ Ok (world_state self.new, entry)) }
+        ensures err { OnErr result ((e : Refused) → next (world_state self.old) event.now ≢ Err e) }
+        ensures unchanged { OnErr result (self.new ≡ self.old) }
+    {
+        let outcome = settle_node(&mut self.nodes, node as usize - 1, change, &mut self.sent)?;
+        self.length += 1;
+        Ok(Entry::at_node(*event, incarnation, outcome))
+    }
+
+    // The server does the step that was planned.
+    fn change_server(
+        &mut self,
+        event: &Event,
+        file: u16,
+        change: ServerChange,
+    ) -> Result<Entry, NoRoom>
+        requires room { self.old.length < journal_limit }
+        requires made { IsServerChange self.old event.now file change (next (world_state self.old) event.now) }
+        ensures ok { IfOk result (λ entry. next (world_state self.old) event.now ≡ Ok (world_state self.new, entry)) }
+        ensures err { OnErr result ((e : Refused) → next (world_state self.old) event.now ≢ Err e) }
+        ensures unchanged { OnErr result (self.new ≡ self.old) }
+    {
+        let outcome = settle_server(&mut self.servers, file as usize - 1, change, &mut self.sent)?;
+        self.length += 1;
+        Ok(Entry::new(*event, outcome))
+    }
+
+    // The node is declared failed.
+    fn declare(&mut self, alloc: Global, node: u8) -> Entry
+        requires room { self.old.length < journal_limit }
+        requires node { is_within self.old.shape.nodes node ≡ true }
+        requires alive { (world_state self.old).alive node ≡ true }
+        ensures { declare_rule (world_state self.old) node ≡ Ok (world_state self.new, result) }
+    {
+        let incarnation = self.node(node).incarnation();
+        self.alive[node as usize - 1] = false;
+        self.length += 1;
+        let outcome = Outcome::sending(Items::new(alloc));
+        Entry::at_node(Event::Declare { node }, incarnation, outcome)
+    }
+
+    // The node restarts, as this one.
+    fn restart(&mut self, alloc: Global, node: u8, begun: Node) -> Entry
+        requires room { self.old.length < journal_limit }
+        requires made { IsRestart self.old node begun }
+        ensures { restart_rule (world_state self.old) node ≡ Ok (world_state self.new, result) }
+    {
+        let incarnation = begun.incarnation();
+        self.nodes[node as usize - 1] = begun;
+        self.alive[node as usize - 1] = true;
+        self.length += 1;
+        let outcome = Outcome::sending(Items::new(alloc));
+        Entry::at_node(Event::Restart { node }, incarnation, outcome)
+    }
+
+    /// The event happens as it was planned. Its messages are put among those that were sent, which is
+    /// all that may take memory.
+    ///
+    /// # Errors
+    /// `NoMemory` where a request for memory was refused. The world is then as it was.
+    pub(crate) fn settle(
+        &mut self,
+        alloc: Global,
+        event: &Event,
+        change: Change,
+    ) -> Result<Entry, NoRoom>
+        requires { Plans self.old event.now change }
+        ensures ok { IfOk result (λ entry. next (world_state self.old) event.now ≡ Ok (world_state self.new, entry)) }
+        ensures err { OnErr result ((e : Refused) → next (world_state self.old) event.now ≢ Err e) }
+        ensures unchanged { OnErr result (self.new ≡ self.old) }
+    {
+        match change {
+            Change::OfNode {
+                node,
+                incarnation,
+                change,
+            } => self.change_node(event, node, incarnation, change),
+            Change::OfServer { file, change } => self.change_server(event, file, change),
+            Change::Declared { node } => Ok(self.declare(alloc, node)),
+            Change::Restarted { node, begun } => Ok(self.restart(alloc, node, begun)),
         }
     }
 
@@ -419,24 +532,20 @@ impl World {
     ///
     /// # Errors
     /// In this order: `JournalFull` where the world has 1,048,576 entries; `Stranger` where the event
-    /// names a number outside the shape or a message that was never sent; what the actor's step
-    /// refuses, `Busy`, `Stranger` or `Spent`; `NoMemory` where a request for memory was refused. The
-    /// world is then as it was.
+    /// names a number outside the shape or a message that was never sent; `Fenced` where it would be a
+    /// step of a node that was declared failed; what the actor's step refuses, `Busy`, `Stranger` or
+    /// `Spent`, and of a declaration or a restart `NotAlive`, `NotDead` or `TooManyRestarts`;
+    /// `NoMemory` where a request for memory was refused. The world is then as it was.
     pub fn step(&mut self, alloc: Global, event: Event) -> Result<Entry, Refused>
         ensures ok { IfOk result (λ entry. next (world_state self.old) event ≡ Ok (world_state self.new, entry)) }
         ensures err { IfErr result (λ e. e ≢ NoMemory → next (world_state self.old) event ≡ Err e) }
+
+        // A refusal that is decided before memory is taken always comes.
+        ensures refused { (e : Refused) → IsCertain (world_state self.old) event e → next (world_state self.old) event ≡ Err e → result ≡ Err e }
         ensures unchanged { OnErr result (self.new ≡ self.old) }
     {
-        if self.length >= JOURNAL_LIMIT {
-            return Err(Refused::JournalFull);
-        }
-        if !self.is_known(&event) {
-            return Err(Refused::Stranger);
-        }
-        if self.is_fenced(&event) {
-            return Err(Refused::Fenced);
-        }
-        self.take(alloc, &event)
+        let change = self.plan(alloc, &event)?;
+        Ok(self.settle(alloc, &event, change)?)
     }
 
     /// Every message that was sent so far, in order of sending; equal messages stand there each.

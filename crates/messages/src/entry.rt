@@ -54,7 +54,7 @@ impl Entry {
             incarnation,
             call: outcome.call,
             reply: outcome.reply,
-            sends: outcome.sends,
+            sends: outcome.sends.fitted(),
         }
     }
 

@@ -4,7 +4,7 @@ ghost use Rattle.messages.specs.declared.entry.Entry.{Entry};
 ghost use Rattle.cluster_core.specs.World.{journal_limit};
 ghost use Rattle.cluster_core.specs.Safe.{LeadsToSafe};
 ghost use Rattle.cluster_core.specs.Histories.{HasHistory, EachAtItsPlace};
-ghost use Rattle.cluster_core.proofs.Placement.{find_call, item_of, gone_at, slots_after, items_in, history_of};
+ghost use Rattle.cluster_core.proofs.Placement.{find_call, item_of, gone_at, slots_after, slots_of, items_in, history_of};
 ghost use Rattle.placement.specs.Indexes.{Indexes, Locates, Notes, AreBefore, slot_of};
 
 use crate::history::History;
@@ -47,20 +47,28 @@ pub fn placed(alloc: Global, journal: &Journal) -> Result<History, NoMemory>
     Ok(History::of_rising(items))
 }
 
-// The items of the history that the entries make, in one pass over them.
+// The items of the history that the entries make.
 fn items_of(alloc: Global, entries: &[Entry]) -> Result<Vec<Item>, NoMemory>
     requires { length entries.now ≤ journal_limit }
     ensures { IfOk result (λ items. items.items ≡ history_of entries.now) }
 {
+    items_in(alloc, slots_of(alloc, entries)?)
+}
+
+// The slots of the history, one for each entry, in one pass over them.
+fn slots_of(alloc: Global, entries: &[Entry]) -> Result<Vec<Option<Item>>, NoMemory>
+    requires { length entries.now ≤ journal_limit }
+    ensures { IfOk result (λ slots. slots.items ≡ slots_of entries.now) }
+{
     let mut calls = HashMap::new(alloc);
     let mut conflicts = HashMap::new(alloc);
-    let mut slots = Vec::new(alloc);
+    let mut slots = Vec::with_capacity(alloc, entries.len())?;
     for (index, entry) in entries.iter().enumerate() {
         note_call(&mut calls, entry)?;
         answer(&mut slots, &calls, &conflicts, entry)?;
         note_conflicts(&mut conflicts, index, entry)?;
     }
-    items_in(alloc, slots)
+    Ok(slots)
 }
 
 // Takes the entry into the index: its call, where it makes one and none of that name came before.

@@ -3,7 +3,7 @@ use Rattle.std.proofs.Common.{◌≡◌, ℕ, ◌+◌, ◌<◌, Bool, true, fals
 use Rattle.std.specs.Prelude.{nat_lt, slice_get}
 use Rattle.std.specs.declared.result.Result.{Result}
 use Rattle.std.specs.declared.result.Result.TheVariants.{Ok, Err}
-use Rattle.std.proofs.lemmas.List.{map-append, take_more, drop_more, take-append-drop}
+use Rattle.std.proofs.lemmas.List.{take_more, drop_more, take-append-drop}
 use Rattle.messages.specs.declared.refusal.Refused.{Refused}
 use Rattle.messages.specs.declared.refusal.Refused.TheVariants.{Stranger, Fenced}
 use Rattle.messages.specs.declared.event.Event.{Event}
@@ -14,7 +14,6 @@ use Rattle.messages.specs.Shapes.{ShapeFields}
 use Rattle.cluster_core.specs.World.{WorldState, first_world}
 use Rattle.cluster_core.specs.Next.{next}
 use Rattle.cluster_core.specs.Runs.{Leads}
-use Rattle.cluster_core.specs.Journals.{events_of}
 use Rattle.cluster_core.proofs.JournalRuns.{leads_push, entry_event}
 use Rattle.lockscript.specs.declared.script_line.Command.{Command}
 use Rattle.lockscript.specs.declared.script_line.Command.TheVariants.{Call, Deliver, Lose, Settle, Retry, Resend, Declare, Restart, Learn}
@@ -109,12 +108,3 @@ fills shape ls i l p lt is runs full = record {
   ran = runs;
   full = full;
 }
-
--- the events of one more entry
-pub events_more : (es : List Entry) (i : ℕ) (e : Entry) (xs ys : List Event) → i < length es → e ≡ get_or es i e → xs ≡ events_of (take i es) → ys ≡ xs ++ e.event ∷ [] → ys ≡ events_of (take (i + 1) es)
-events_more es i e xs ys lt is so_far made =
-    made
-    ∙ (ap (λ (zs : List Event). zs ++ e.event ∷ []) so_far
-    ∙ (ap (λ (d : Entry). events_of (take i es) ++ d.event ∷ []) is
-    ∙ (sym (map-append (λ (d : Entry). d.event) (take i es) (get_or es i e ∷ []))
-    ∙ sym (ap (λ (ds : List Entry). events_of ds) (take_more es i e lt)))))

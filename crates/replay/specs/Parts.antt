@@ -1,20 +1,18 @@
 -- A run of a script as plain data, and what it stands for.
 use Rattle.std.specs.Prelude.{ℕ, List}
-use Rattle.messages.specs.declared.entry.Entry.{Entry}
-use Rattle.cluster_core.specs.Journals.{JournalFields}
+use Rattle.cluster_core.specs.Journals.{JournalFields, RunFields}
 use Rattle.cluster_core.specs.Parts.{WorldParts, world_state}
 use Rattle.replay.specs.Progress.{Progress}
 use Rattle.replay.specs.Played.{PlayedState}
 use Rattle.replay.specs.Settled.{SettledParts, settled_in}
 
 pub record PlayerParts : Type 0 where
-  pub world : WorldParts
-  pub entries : List Entry
+  pub run : RunFields
   pub settled : SettledParts
   pub refused : List (ℕ × ℕ)
 
 abbrev pub progress : PlayerParts → Progress
-progress p = record { entries = p.entries; world = world_state p.world; settled = settled_in p.settled; refused = p.refused }
+progress p = record { entries = p.run.entries; world = world_state p.run.world; settled = settled_in p.settled; refused = p.refused }
 
 pub record PlayedParts : Type 0 where
   pub journal : JournalFields

@@ -75,5 +75,5 @@ fn play_lines(alloc: Global, shape: Shape, lines: &[ScriptLine]) -> Result<Playe
     for line in lines {
         player.take(alloc, line)?;
     }
-    player.finish(alloc, shape)
+    Ok(player.finish(shape))
 }

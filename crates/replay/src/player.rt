@@ -1,8 +1,6 @@
 //! The run of a script, line by line.
 ghost use Rattle.std.specs.Prelude.{◌≡◌, ◌+◌, ◌<◌, ◌≤◌, Err, Some, None, IfErr, IfOk, IfSome, MatchOption, OnOk};
-ghost use Rattle.messages.specs.declared.entry.Entry.{Entry};
 ghost use Rattle.cluster_core.specs.Histories.{HasOneHistory};
-ghost use Rattle.cluster_core.specs.Journals.{events_of};
 ghost use Rattle.cluster_core.specs.Parts.{world_state};
 ghost use Rattle.cluster_core.specs.Runs.{Leads};
 ghost use Rattle.cluster_core.specs.Safe.{IsSafe};
@@ -15,23 +13,21 @@ ghost use Rattle.replay.specs.Progress.{after_refusal, delivery, first_progress,
 use crate::play::PlayError;
 use crate::played::Played;
 use crate::settled::Settled;
-use cluster_core::journal::run;
-use cluster_core::world::{JOURNAL_LIMIT, World};
+use cluster_core::run::Run;
+use cluster_core::world::JOURNAL_LIMIT;
 use lockscript::script_line::{Command, ScriptLine};
-use messages::entry::Entry;
 use messages::event::Event;
 use messages::message::Message;
 use messages::refusal::Refused;
 use messages::shape::Shape;
-use std::alloc::{AllocError, Global};
+use std::alloc::Global;
 use std::marker::Model;
 
 /// What came of the lines so far: the world, the entries that led to it, the messages that are
 /// settled, and the lines that were refused.
 #[derive(Drop)]
 pub(crate) struct Player {
-    world: World,
-    entries: Vec<Entry>,
+    run: Run,
     settled: Settled,
     refused: Vec<(u32, u16)>,
 }
@@ -41,7 +37,7 @@ impl Model for Player {
 
     ghost Value = { PlayerParts };
 
-    ghost view = { λ p. record { world = p.world; entries = p.entries.items; settled = p.settled; refused = p.refused.items } };
+    ghost view = { λ p. record { run = p.run; settled = p.settled; refused = p.refused.items } };
 }
 
 impl Player {
@@ -51,8 +47,7 @@ impl Player {
         ensures err { IfErr result (λ error. error ≡ NoMemory) }
     {
         Ok(Player {
-            world: World::new(alloc, shape)?,
-            entries: Vec::new(alloc),
+            run: Run::new(alloc, shape)?,
             settled: Settled::new(alloc),
             refused: Vec::new(alloc),
         })
@@ -101,11 +96,10 @@ impl Player {
         ensures full { IfErr result (λ error. error ≡ JournalFull → FindsItFull (progress self.old) event) }
         ensures rests { OnOk result (self.new.settled ≡ self.old.settled) }
     {
-        match self.world.step(alloc, event) {
-            Ok(entry) => self.entries.push(entry)?,
-            Err(refusal) => self.refuse(line, refusal)?,
+        match self.run.take(alloc, event) {
+            Ok(()) => Ok(()),
+            Err(refusal) => self.refuse(line, refusal),
         }
-        Ok(())
     }
 
     // Lists a line with its refusal, unless the refusal ends the run.
@@ -127,7 +121,7 @@ impl Player {
     fn unsent(&self) -> Refused
         ensures { delivery (progress self.now) None ≡ Err result }
     {
-        if self.entries.len() >= JOURNAL_LIMIT as usize {
+        if self.run.entries().len() >= JOURNAL_LIMIT as usize {
             Refused::JournalFull
         } else {
             Refused::Stranger
@@ -141,7 +135,7 @@ impl Player {
         ensures full { IfErr result (λ error. error ≡ JournalFull → IsFullIn line (Command.Deliver number) (progress self.old)) }
     {
         let index = number as usize - 1;
-        match self.world.sent().get(index).copied() {
+        match self.run.world().sent().get(index).copied() {
             Some(message) => self.deliver_sent(alloc, line, index, message),
             None => self.refuse(line, self.unsent()),
         }
@@ -158,11 +152,8 @@ impl Player {
         ensures ok { OnOk result (Comes line index (progress self.old) (delivery (progress self.old) (Some message)) (progress self.new)) }
         ensures full { IfErr result (λ error. error ≡ JournalFull → delivery (progress self.old) (Some message) ≡ Err Refused.JournalFull) }
     {
-        match self.world.step(alloc, Event::Deliver(message)) {
-            Ok(entry) => {
-                self.entries.push(entry)?;
-                self.settled.settle(index)?;
-            }
+        match self.run.take(alloc, Event::Deliver(message)) {
+            Ok(()) => self.settled.settle(index)?,
             Err(refusal) => self.refuse(line, refusal)?,
         }
         Ok(())
@@ -175,7 +166,7 @@ impl Player {
         ensures err { IfErr result (λ error. error ≡ NoMemory) }
     {
         let index = number as usize - 1;
-        if index < self.world.sent().len() {
+        if index < self.run.world().sent().len() {
             self.settled.settle(index)?;
         } else {
             self.refuse(line, Refused::Stranger)?;
@@ -191,7 +182,7 @@ impl Player {
         ensures rises { self.old.settled.cursor ≤ self.new.settled.cursor }
     {
         self.settled.advance();
-        self.world.sent().get(self.settled.cursor()).copied()
+        self.run.world().sent().get(self.settled.cursor()).copied()
     }
 
     // Delivers the message at the cursor, or passes over it where its delivery is refused: silently
@@ -204,8 +195,8 @@ impl Player {
         ensures rises { OnOk result (self.new.settled.cursor ≡ self.old.settled.cursor + 1) }
     {
         self.settled.pass();
-        match self.world.step(alloc, Event::Deliver(message)) {
-            Ok(entry) => self.entries.push(entry)?,
+        match self.run.take(alloc, Event::Deliver(message)) {
+            Ok(()) => {}
             Err(Refused::Fenced) => {}
             Err(refusal) => self.refuse(line, refusal)?,
         }
@@ -224,30 +215,14 @@ impl Player {
         Ok(())
     }
 
-    /// What came of all lines, on a cluster of this shape. Each event was accepted once already, so
-    /// the run of all of them ends, unless a request for memory is refused.
-    pub(crate) fn finish(self, alloc: Global, shape: Shape) -> Result<Played, PlayError>
-        requires { Leads (first_world shape) self.entries (progress self).world }
-        ensures ok { IfOk result (λ played. state_of played ≡ played_of shape (progress self)) }
-        ensures history { IfOk result (λ played. HasOneHistory shape played.journal.entries) }
-        ensures safe { IfOk result (λ played. IsSafe (world_state played.world)) }
-        ensures err { IfErr result (λ error. error ≡ NoMemory) }
+    /// What came of all lines, on a cluster of this shape.
+    pub(crate) fn finish(self, shape: Shape) -> Played
+        requires { Leads (first_world shape) self.run.entries (progress self).world }
+        ensures value { state_of result ≡ played_of shape (progress self) }
+        ensures history { HasOneHistory shape result.journal.entries }
+        ensures safe { IsSafe (world_state result.world) }
     {
-        let events = events_in(alloc, self.entries.as_slice())?;
-        match run(alloc, shape, events.as_slice()) {
-            Ok(journal) => Ok(Played::new(journal, self.world, self.refused)),
-            Err(_) => Err(PlayError::NoMemory),
-        }
+        let (journal, world) = self.run.into_journal();
+        Played::new(journal, world, self.refused)
     }
-}
-
-// The events of the entries, in order.
-fn events_in(alloc: Global, entries: &[Entry]) -> Result<Vec<Event>, AllocError>
-    ensures { IfOk result (λ events. events.items ≡ events_of entries.now) }
-{
-    let mut events = Vec::with_capacity(alloc, entries.len())?;
-    for entry in entries {
-        events.push(entry.event())?;
-    }
-    Ok(events)
 }

@@ -1,4 +1,5 @@
 //! The cluster, and what it lists.
 mod listings;
+mod run;
 mod sent;
 mod world;

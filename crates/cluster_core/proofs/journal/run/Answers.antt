@@ -1,25 +1,76 @@
-use Rattle.std.proofs.lemmas.Result.{err_from_is_err_and, IfOk-from_err}
-use Rattle.cluster_core.proofs.Apart.{numbers_after}
-use Rattle.cluster_core.proofs.Runs.{every_run, every_plain, safe_run, every_denial}
+use Rattle.std.proofs.Common.{◌≡◌, ◌∙◌, sym, ap, subst, List}
+use Rattle.std.proofs.lemmas.Result.{err_from_is_err_and}
+use Rattle.messages.specs.Shapes.{ShapeFields}
+use Rattle.messages.specs.declared.entry.Entry.{Entry}
+use Rattle.cluster_core.specs.Evidence.{DenialsHaveEvidence}
+use Rattle.cluster_core.specs.Histories.{HasOneHistory}
+use Rattle.cluster_core.specs.Journals.{JournalFields, events_of}
+use Rattle.cluster_core.specs.Numbers.{LeadsToNumbers}
+use Rattle.cluster_core.specs.Parts.{world_state}
+use Rattle.cluster_core.specs.Plain.{HasPlainHistory}
+use Rattle.cluster_core.specs.Runs.{IsRun}
+use Rattle.cluster_core.specs.Safe.{LeadsToSafe}
+use Rattle.cluster_core.specs.World.{first_world}
+use Rattle.cluster_core.proofs.JournalRuns.{Ran, ran_empty, ran_more, ran_all, first_refusal, leads_shape}
 use Rattle.cluster_core.proofs.journal.run.Goals as goal
 
-pub returns-in_err-entries-clause-refused : goal.returns-in_err-entries-clause-refused
-returns-in_err-entries-clause-refused c = let p = err_from_is_err_and c.from_residual.result c.from_residual.ensures.1 in rw (p.1, p.2) c.in_err-entries.ensures.refused
+pub loop-event-init : goal.loop-event-init
+loop-event-init c =
+    let P : List Entry → Type 0 = λ es. Ran c.args.shape c.args.events.now 0 es (world_state c.in_ok-run.run'.world) in
+    subst P (sym c.in_ok-run.ensures.entries) (ran_empty c.args.shape c.args.events.now (world_state c.in_ok-run.run'.world) c.in_ok-run.ensures.world)
 
-pub invariant_of-result : goal.invariant_of-result
-invariant_of-result c = record { served = c.in_ok-entries.ensures.served; run = c.in_ok-entries.ensures.run }
+pub loop-event-preserved : goal.loop-event-preserved
+loop-event-preserved c =
+    let on = c.in_ok-take.ensures.ok in
+    ran_more _ _ _ _ _ _ _ _ on.0 c.loop-event-test.true c.event-item.is c.loop-event.invariant on.1 on.2
+
+pub returns-in_err-take-clause-refused : goal.returns-in_err-take-clause-refused
+returns-in_err-take-clause-refused c =
+    let p = err_from_is_err_and c.from_residual-in_err-take.result c.from_residual-in_err-take.ensures.1 in
+    rw (p.1, p.2) (λ other. first_refusal _ _ _ _ _ _ _ c.loop-event-test.true c.event-item.is c.loop-event.invariant (c.in_err-take.ensures.err other))
+
+pub returns-clause-shape : goal.returns-clause-shape
+returns-clause-shape c =
+    let w = world_state c.loop-event.run.world in
+    let is : c.into_journal-journal.result.0.shape ≡ c.args.shape = ap (λ (j : JournalFields). j.shape) c.into_journal-journal.ensures.journal ∙ leads_shape (first_world c.args.shape) w c.loop-event.run.entries c.loop-event.invariant.leads in
+    is
+
+pub returns-clause-events : goal.returns-clause-events
+returns-clause-events c =
+    ap (λ (j : JournalFields). events_of j.entries) c.into_journal-journal.ensures.journal ∙ ran_all _ _ _ _ _ c.loop-event-test.false c.loop-event.invariant
 
 pub returns-clause-one_table : goal.returns-clause-one_table
-returns-clause-one_table c = every_run _ _ _ c.in_ok-entries.ensures.served c.in_ok-entries.ensures.run.1
+returns-clause-one_table c =
+    let w = world_state c.loop-event.run.world in
+    let is : c.into_journal-journal.result.0.shape ≡ c.args.shape = ap (λ (j : JournalFields). j.shape) c.into_journal-journal.ensures.journal ∙ leads_shape (first_world c.args.shape) w c.loop-event.run.entries c.loop-event.invariant.leads in
+    subst (λ (s : ShapeFields). HasOneHistory s c.into_journal-journal.result.0.entries) is c.into_journal-journal.ensures.one_table
 
 pub returns-clause-plain : goal.returns-clause-plain
-returns-clause-plain c = every_plain _ _ _ c.in_ok-entries.ensures.served c.in_ok-entries.ensures.run.1
+returns-clause-plain c =
+    let w = world_state c.loop-event.run.world in
+    let is : c.into_journal-journal.result.0.shape ≡ c.args.shape = ap (λ (j : JournalFields). j.shape) c.into_journal-journal.ensures.journal ∙ leads_shape (first_world c.args.shape) w c.loop-event.run.entries c.loop-event.invariant.leads in
+    subst (λ (s : ShapeFields). HasPlainHistory s c.into_journal-journal.result.0.entries) is c.into_journal-journal.ensures.plain
 
 pub returns-clause-safe : goal.returns-clause-safe
-returns-clause-safe c = λ w l. safe_run _ _ w c.in_ok-entries.ensures.served l
+returns-clause-safe c =
+    let w = world_state c.loop-event.run.world in
+    let is : c.into_journal-journal.result.0.shape ≡ c.args.shape = ap (λ (j : JournalFields). j.shape) c.into_journal-journal.ensures.journal ∙ leads_shape (first_world c.args.shape) w c.loop-event.run.entries c.loop-event.invariant.leads in
+    subst (λ (s : ShapeFields). LeadsToSafe s c.into_journal-journal.result.0.entries) is c.into_journal-journal.ensures.leads_to_safe
 
 pub returns-clause-numbers : goal.returns-clause-numbers
-returns-clause-numbers c = numbers_after _ _
+returns-clause-numbers c =
+    let w = world_state c.loop-event.run.world in
+    let is : c.into_journal-journal.result.0.shape ≡ c.args.shape = ap (λ (j : JournalFields). j.shape) c.into_journal-journal.ensures.journal ∙ leads_shape (first_world c.args.shape) w c.loop-event.run.entries c.loop-event.invariant.leads in
+    subst (λ (s : ShapeFields). LeadsToNumbers s c.into_journal-journal.result.0.entries) is c.into_journal-journal.ensures.numbers
 
 pub returns-clause-evidence : goal.returns-clause-evidence
-returns-clause-evidence c = every_denial _ _ c.in_ok-entries.ensures.served
+returns-clause-evidence c =
+    let w = world_state c.loop-event.run.world in
+    let is : c.into_journal-journal.result.0.shape ≡ c.args.shape = ap (λ (j : JournalFields). j.shape) c.into_journal-journal.ensures.journal ∙ leads_shape (first_world c.args.shape) w c.loop-event.run.entries c.loop-event.invariant.leads in
+    subst (λ (s : ShapeFields). DenialsHaveEvidence s c.into_journal-journal.result.0.entries) is c.into_journal-journal.ensures.evidence
+
+pub returns-clause-run : goal.returns-clause-run
+returns-clause-run c =
+    let w = world_state c.loop-event.run.world in
+    let is : c.into_journal-journal.result.0.shape ≡ c.args.shape = ap (λ (j : JournalFields). j.shape) c.into_journal-journal.ensures.journal ∙ leads_shape (first_world c.args.shape) w c.loop-event.run.entries c.loop-event.invariant.leads in
+    subst (λ (s : ShapeFields). IsRun s c.into_journal-journal.result.0.entries) is (world_state c.into_journal-journal.result.1, c.into_journal-journal.ensures.leads)

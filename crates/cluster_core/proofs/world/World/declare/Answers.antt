@@ -1,4 +1,4 @@
-use Rattle.std.proofs.Common.{◌≡◌, true, rules, ap, sym, ◌∙◌}
+use Rattle.std.proofs.Common.{ap, ◌∙◌}
 use Rattle.node_core.specs.State.{NodeState}
 use Rattle.cluster_core.proofs.MemberSteps.{declared_settled, declared_returns}
 use Rattle.cluster_core.proofs.world.World.declare.Goals as goal
@@ -6,7 +6,6 @@ use Rattle.cluster_core.proofs.world.World.declare.Goals as goal
 pub invariant_of-self : goal.invariant_of-self
 invariant_of-self c = declared_settled _ _ c.self.view_is c.self.invariant c.args.node c.requires.node c.requires.room
 
-pub returns-clause-ok : goal.returns-clause-ok
-returns-clause-ok c =
-    let alive : c.is_alive.result ≡ true = search rules in
-    declared_returns _ _ c.self.view_is c.self.invariant c.args.node c.requires.node c.incarnation-incarnation.result c.sending-outcome.result _ c.at_node.result (sym c.is_alive.ensures ∙ alive) (c.incarnation-incarnation.ensures.value ∙ ap (λ (s : NodeState). s.incarnation) c.node.ensures) c.sending-outcome.ensures c.new.ensures c.at_node.ensures
+pub returns : goal.returns
+returns c =
+    declared_returns _ _ c.self.view_is c.self.invariant c.args.node c.requires.node c.incarnation-incarnation.result c.sending-outcome.result _ c.at_node.result c.requires.alive (c.incarnation-incarnation.ensures.value ∙ ap (λ (s : NodeState). s.incarnation) c.node.ensures) c.sending-outcome.ensures c.new.ensures c.at_node.ensures

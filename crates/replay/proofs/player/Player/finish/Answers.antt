@@ -1,39 +1,39 @@
-use Rattle.std.proofs.Common.{◌∙◌, sym, ap, subst, List}
-use Rattle.messages.specs.declared.entry.Entry.{Entry}
+use Rattle.std.proofs.Common.{◌≡◌, ◌∙◌, sym, ap, subst}
+use Rattle.messages.specs.Shapes.{ShapeFields}
 use Rattle.cluster_core.specs.Histories.{HasOneHistory}
-use Rattle.cluster_core.specs.Journals.{JournalFields, events_of}
+use Rattle.cluster_core.specs.Journals.{JournalFields, RunFields}
 use Rattle.cluster_core.specs.Parts.{world_state}
 use Rattle.cluster_core.specs.Runs.{Leads}
 use Rattle.cluster_core.specs.Safe.{IsSafe}
 use Rattle.cluster_core.specs.World.{first_world}
+use Rattle.cluster_core.proofs.JournalRuns.{leads_shape}
 use Rattle.replay.specs.Parts.{PlayerParts, PlayedParts, progress, state_of}
 use Rattle.replay.specs.Played.{PlayedState, played_of}
-use Rattle.replay.proofs.OneRun.{journal_is, ends_in}
 use Rattle.replay.proofs.player.Player.finish.Goals as goal
 
 pub new-requires : goal.new-requires
-new-requires c =
-    let P : PlayerParts → Type 0 = λ p. Leads (first_world c.args.shape) p.entries (world_state p.world) in
-    let leads = subst P (sym c.self.view_is) c.requires in
-    ends_in c.args.shape c.self.inside.entries.items (world_state c.self.inside.world) c.in_ok-events.events.items c.in-Ok.journal leads (c.in_ok-events.ensures ∙ ap (λ (es : List Entry). events_of es) c.as_slice.ensures.value) c.in-Ok.ensures.shape (c.in-Ok.ensures.events ∙ c.as_slice-2.ensures.value) c.in-Ok.ensures.run c.in-Ok.ensures.safe
+new-requires c = record { leads = c.into_journal-journal.ensures.leads; safe = c.into_journal-journal.ensures.safe }
 
-pub returns-in-Ok-clause-ok : goal.returns-in-Ok-clause-ok
-returns-in-Ok-clause-ok c =
-    let P : PlayerParts → Type 0 = λ p. Leads (first_world c.args.shape) p.entries (world_state p.world) in
-    let leads = subst P (sym c.self.view_is) c.requires in
-    let is = journal_is c.args.shape c.self.inside.entries.items (world_state c.self.inside.world) c.in_ok-events.events.items c.in-Ok.journal leads (c.in_ok-events.ensures ∙ ap (λ (es : List Entry). events_of es) c.as_slice.ensures.value) c.in-Ok.ensures.shape (c.in-Ok.ensures.events ∙ c.as_slice-2.ensures.value) c.in-Ok.ensures.run in
+pub returns-clause-value : goal.returns-clause-value
+returns-clause-value c =
+    let r : RunFields = c.self.inside.run in
+    let P : PlayerParts → Type 0 = λ p. Leads (first_world c.args.shape) p.run.entries (world_state p.run.world) in
+    let shape : r.world.shape ≡ c.args.shape = leads_shape (first_world c.args.shape) (world_state r.world) r.entries (subst P (sym c.self.view_is) c.requires) in
+    let journal : c.into_journal-journal.result.0 ≡ record { shape = c.args.shape; entries = r.entries } = c.into_journal-journal.ensures.journal ∙ (λ i. record { shape = shape i; entries = r.entries }) in
     ap (λ (p : PlayedParts). state_of p) c.new.ensures
-    ∙ (ap (λ (j : JournalFields). let s : PlayedState = record { journal = j; world = world_state c.self.inside.world; refused = c.self.inside.refused.items } in s) is
+    ∙ ((λ i. let s : PlayedState = record { journal = journal i; world = world_state (c.into_journal-journal.ensures.world i); refused = c.self.inside.refused.items } in s)
     ∙ ap (λ (p : PlayerParts). played_of c.args.shape (progress p)) c.self.view_is)
 
-pub returns-in-Ok-clause-history : goal.returns-in-Ok-clause-history
-returns-in-Ok-clause-history c =
-    let P : PlayedParts → Type 0 = λ p. HasOneHistory c.args.shape p.journal.entries in
-    subst P (sym c.new.ensures) c.in-Ok.ensures.one_table
+pub returns-clause-history : goal.returns-clause-history
+returns-clause-history c =
+    let r : RunFields = c.self.inside.run in
+    let P : PlayerParts → Type 0 = λ p. Leads (first_world c.args.shape) p.run.entries (world_state p.run.world) in
+    let shape : r.world.shape ≡ c.args.shape = leads_shape (first_world c.args.shape) (world_state r.world) r.entries (subst P (sym c.self.view_is) c.requires) in
+    let its : c.into_journal-journal.result.0.shape ≡ c.args.shape = ap (λ (j : JournalFields). j.shape) c.into_journal-journal.ensures.journal ∙ shape in
+    let Q : PlayedParts → Type 0 = λ p. HasOneHistory c.args.shape p.journal.entries in
+    subst Q (sym c.new.ensures) (subst (λ (x : ShapeFields). HasOneHistory x c.into_journal-journal.result.0.entries) its c.into_journal-journal.ensures.one_table)
 
-pub returns-in-Ok-clause-safe : goal.returns-in-Ok-clause-safe
-returns-in-Ok-clause-safe c =
-    let P : PlayerParts → Type 0 = λ p. Leads (first_world c.args.shape) p.entries (world_state p.world) in
+pub returns-clause-safe : goal.returns-clause-safe
+returns-clause-safe c =
     let Q : PlayedParts → Type 0 = λ p. IsSafe (world_state p.world) in
-    let leads = subst P (sym c.self.view_is) c.requires in
-    subst Q (sym c.new.ensures) (ends_in c.args.shape c.self.inside.entries.items (world_state c.self.inside.world) c.in_ok-events.events.items c.in-Ok.journal leads (c.in_ok-events.ensures ∙ ap (λ (es : List Entry). events_of es) c.as_slice.ensures.value) c.in-Ok.ensures.shape (c.in-Ok.ensures.events ∙ c.as_slice-2.ensures.value) c.in-Ok.ensures.run c.in-Ok.ensures.safe).safe
+    subst Q (sym c.new.ensures) c.into_journal-journal.ensures.safe

@@ -1,10 +1,9 @@
-use Rattle.std.proofs.Common.{◌≡◌, arith, subst, IfOk}
-use Rattle.cluster_core.proofs.Placement.{Slots, items_in}
+use Rattle.std.proofs.Common.{arith}
 use Rattle.placement.proofs.Placing.{as_many, all_before, placing_empty, placing_more, placing_whole}
-use Rattle.placement.proofs.placed.items_of.Goals as goal
+use Rattle.placement.proofs.placed.slots_of.Goals as goal
 
 pub loop-index-init : goal.loop-index-init
-loop-index-init c = placing_empty _ _ _ c.new-calls.ensures.empty c.new-conflicts.ensures.empty c.new-slots.ensures.items
+loop-index-init c = placing_empty _ _ _ c.new-calls.ensures.empty c.new-conflicts.ensures.empty c.in_ok-slots.ensures.items
 
 pub answer-requires-clause-room : goal.answer-requires-clause-room
 answer-requires-clause-room c =
@@ -21,4 +20,4 @@ loop-index-preserved c =
 
 pub returns : goal.returns
 returns c =
-    subst (λ (slots : Slots). IfOk c.items_in.result (λ items. items.items ≡ items_in slots)) (placing_whole c.args.entries.now c.loop-index.index c.loop-index.calls c.loop-index.conflicts c.loop-index.slots.items c.loop-index-test.false c.loop-index.invariant) c.items_in.ensures
+    placing_whole c.args.entries.now c.loop-index.index c.loop-index.calls c.loop-index.conflicts c.loop-index.slots.items c.loop-index-test.false c.loop-index.invariant

@@ -1,0 +1,72 @@
+-- What an event will do to a world, as it was planned from the world's parts.
+use Rattle.std.specs.Prelude.{◌≡◌, ℕ, ◌+◌, ◌-◌, ◌<◌, true, false, Result, Ok, slice_index_or}
+use Rattle.messages.specs.Messages.{is_within}
+use Rattle.messages.specs.Entries.{NamesItsIncarnation}
+use Rattle.messages.specs.declared.refusal.Refused.{Refused}
+use Rattle.messages.specs.declared.event.Event.{Event}
+use Rattle.messages.specs.declared.entry.Entry.{Entry}
+use Rattle.node_core.specs.declared.change.Change.{Change as NodeChange}
+use Rattle.node_core.specs.declared.event.NodeEvent.{NodeEvent}
+use Rattle.node_core.specs.Node.{node_rule}
+use Rattle.node_core.specs.Parts.{NodeParts, node_state}
+use Rattle.node_core.specs.Plans.{Fits, planned as reached}
+use Rattle.node_core.specs.State.{first_node}
+use Rattle.token_server.specs.declared.change.Change.{Change as ServerChange}
+use Rattle.token_server.specs.declared.event.ServerEvent.{ServerEvent}
+use Rattle.token_server.specs.Edits.{planned}
+use Rattle.token_server.specs.Parts.{ServerParts}
+use Rattle.token_server.specs.Server.{server_rule}
+use Rattle.cluster_core.specs.declared.world.change.Change.{Change}
+use Rattle.cluster_core.specs.declared.world.change.Change.TheVariants.{OfNode, OfServer, Declared, Restarted}
+use Rattle.cluster_core.specs.World.{WorldState, journal_limit, most_incarnations}
+use Rattle.cluster_core.specs.Next.{named_incarnation, after_node, after_server, declare_rule, restart_rule, next}
+use Rattle.cluster_core.specs.Parts.{WorldParts, IsStepOf, IsServerStepOf, alive_at, listed, world_state}
+
+-- the change is of the node's own step at the event, from which r comes
+pub record IsNodeChange (p : WorldParts) (event : Event) (n incarnation : ℕ) (change : NodeChange) (r : Result (WorldState × Entry) Refused) : Type 0 where
+  pub step : NodeEvent
+  pub number : is_within p.shape.nodes n ≡ true
+  pub alive : alive_at p n ≡ true
+  pub same_event : IsStepOf event n step
+  pub node : NodeParts
+  pub there : node ≡ slice_index_or p.nodes (n - 1) node
+  pub fits : Fits node change.edit
+  pub done : node_rule ((world_state p).nodes n) step ≡ Ok (reached node change.edit, change.outcome)
+  pub incarnation_is : incarnation ≡ named_incarnation ((world_state p).nodes n) event
+  pub incarnated : NamesItsIncarnation event incarnation
+  pub gives : r ≡ after_node (world_state p) event n (node_rule ((world_state p).nodes n) step)
+
+-- the change is of the server's own step at the event, from which r comes
+pub record IsServerChange (p : WorldParts) (event : Event) (file : ℕ) (change : ServerChange) (r : Result (WorldState × Entry) Refused) : Type 0 where
+  pub step : ServerEvent
+  pub number : is_within p.shape.files file ≡ true
+  pub same_event : IsServerStepOf event step
+  pub server : ServerParts
+  pub there : server ≡ slice_index_or p.servers (file - 1) server
+  pub done : server_rule ((world_state p).servers file) step ≡ Ok (planned server change.edit, change.outcome)
+  pub gives : r ≡ after_server (world_state p) event file (server_rule ((world_state p).servers file) step)
+
+-- the node may be declared
+pub record IsDeclaration (p : WorldParts) (n : ℕ) (r : Result (WorldState × Entry) Refused) : Type 0 where
+  pub number : is_within p.shape.nodes n ≡ true
+  pub alive : alive_at p n ≡ true
+  pub gives : r ≡ declare_rule (world_state p) n
+
+-- the node may begin again as this one
+pub record IsRestart (p : WorldParts) (n : ℕ) (begun : NodeParts) : Type 0 where
+  pub number : is_within p.shape.nodes n ≡ true
+  pub dead : alive_at p n ≡ false
+  pub few : (listed p n).incarnation < most_incarnations
+  pub begins : node_state begun ≡ first_node p.shape n ((listed p n).incarnation + 1)
+
+-- the change is what makes r of the event
+abbrev pub Makes : WorldParts → Event → Change → Result (WorldState × Entry) Refused → Type 0
+Makes p event (OfNode n incarnation change) r = IsNodeChange p event n incarnation change r
+Makes p event (OfServer file change) r = IsServerChange p event file change r
+Makes p event (Declared n) r = IsDeclaration p n r
+Makes p event (Restarted n begun) r = IsRestart p n begun × (r ≡ restart_rule (world_state p) n)
+
+-- the change is what the event will do
+pub record Plans (p : WorldParts) (event : Event) (change : Change) : Type 0 where
+  pub room : p.length < journal_limit
+  pub made : Makes p event change (next (world_state p) event)

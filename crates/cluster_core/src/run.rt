@@ -1,0 +1,122 @@
+//! A run that goes on, event by event.
+ghost use Rattle.std.specs.Prelude.{◌≡◌, ◌≢◌, Ok, Err, ◌++◌, ◌∷◌, [], IfOk, IfErr, OnOk, OnErr};
+ghost use Rattle.messages.specs.declared.entry.Entry.{Entry};
+ghost use Rattle.messages.specs.declared.refusal.Refused.{Refused};
+ghost use Rattle.messages.specs.declared.refusal.Refused.TheVariants.{NoMemory};
+ghost use Rattle.messages.specs.Shapes.{IsShape};
+ghost use Rattle.cluster_core.specs.World.{first_world};
+ghost use Rattle.cluster_core.specs.Next.{next, IsCertain};
+ghost use Rattle.cluster_core.specs.Parts.{world_state};
+ghost use Rattle.cluster_core.specs.Runs.{Leads};
+ghost use Rattle.cluster_core.specs.Journals.{journal_of, GoesOn};
+ghost use Rattle.cluster_core.specs.Histories.{HasOneHistory};
+ghost use Rattle.cluster_core.specs.Plain.{HasPlainHistory};
+ghost use Rattle.cluster_core.specs.Safe.{IsSafe, LeadsToSafe};
+ghost use Rattle.cluster_core.specs.Numbers.{LeadsToNumbers};
+ghost use Rattle.cluster_core.specs.Evidence.{DenialsHaveEvidence};
+
+use crate::journal::Journal;
+use crate::world::World;
+use intervals::span_map::NoMemory as NoRoom;
+use messages::entry::Entry;
+use messages::event::Event;
+use messages::refusal::Refused;
+use messages::shape::Shape;
+use std::alloc::Global;
+use std::marker::Model;
+
+/// A run of a cluster that goes on: the entries so far, and the world to which they lead.
+#[derive(Drop)]
+pub struct Run {
+    world: World,
+    entries: Vec<Entry>,
+}
+
+impl Model for Run {
+    ghost use Rattle.cluster_core.specs.Journals.{RunFields, LeadsToItsWorld};
+
+    ghost Value = { RunFields };
+
+    ghost view = { λ r. record { world = r.world; entries = r.entries.items } };
+
+    ghost invariant = { λ r. LeadsToItsWorld (record { world = r.world; entries = r.entries.items }) };
+}
+
+impl Run {
+    /// The run of a cluster that begins: no entry yet.
+    ///
+    /// # Errors
+    /// `NoMemory` where a request for memory was refused.
+    pub fn new(alloc: Global, shape: Shape) -> Result<Run, NoRoom>
+        ensures world { IfOk result (λ run. world_state run.world ≡ first_world shape) }
+        ensures entries { IfOk result (λ run. run.entries ≡ []) }
+    {
+        Ok(Run {
+            world: World::new(alloc, shape)?,
+            entries: Vec::new(alloc),
+        })
+    }
+
+    /// The event happens, as `World::step` has it, and its entry comes last.
+    ///
+    /// # Errors
+    /// Those of `World::step`. The run is then as it was.
+    pub fn take(&mut self, alloc: Global, event: Event) -> Result<(), Refused>
+        ensures ok { OnOk result (GoesOn self.old event self.new) }
+        ensures err { IfErr result (λ e. e ≢ NoMemory → next (world_state self.old.world) event ≡ Err e) }
+
+        // A refusal that is decided before memory is taken always comes.
+        ensures refused { (e : Refused) → IsCertain (world_state self.old.world) event e → next (world_state self.old.world) event ≡ Err e → result ≡ Err e }
+        ensures unchanged { OnErr result (self.new ≡ self.old) }
+    {
+        let change = self.world.plan(alloc, &event)?;
+        self.entries.reserve(1)?;
+        let entry = self.world.settle(alloc, &event, change)?;
+        self.entries.push_reserved(entry);
+        Ok(())
+    }
+
+    /// The world to which the entries lead: tokens of two nodes don't conflict, and locks are covered
+    /// by tokens.
+    pub fn world(&self) -> &World
+        ensures value { result.now ≡ self.now.world }
+        ensures leads { Leads (first_world self.now.world.shape) self.now.entries (world_state self.now.world) }
+        ensures safe { IsSafe (world_state self.now.world) }
+    {
+        &self.world
+    }
+
+    /// The entries so far, the first at position 1.
+    pub fn entries(&self) -> &[Entry]
+        ensures { result.now ≡ self.now.entries }
+    {
+        self.entries.as_slice()
+    }
+
+    /// The journal of the run, and the world to which its entries lead.
+    pub fn into_journal(self) -> (Journal, World)
+        ensures journal { result.0 ≡ journal_of self }
+        ensures world { result.1 ≡ self.world }
+        ensures leads { Leads (first_world result.0.shape) result.0.entries (world_state result.1) }
+
+        // One table explains every reply, and ends as what the nodes hold.
+        ensures one_table { HasOneHistory result.0.shape result.0.entries }
+
+        // It also explains those replies that name no lock, each where it is given, and ends so.
+        ensures plain { HasPlainHistory result.0.shape result.0.entries }
+
+        // Tokens of two nodes don't conflict, locks are covered by tokens, and locks of two nodes
+        // don't conflict.
+        ensures safe { IsSafe (world_state result.1) }
+        ensures leads_to_safe { LeadsToSafe result.0.shape result.0.entries }
+
+        // No command of a server has the number of another to the same node about the same file.
+        ensures numbers { LeadsToNumbers result.0.shape result.0.entries }
+
+        // Each denial has its evidence.
+        ensures evidence { DenialsHaveEvidence result.0.shape result.0.entries }
+    {
+        let Run { world, entries } = self;
+        (Journal::of_run(world.shape(), entries), world)
+    }
+}

@@ -1,0 +1,29 @@
+//! What an event will do to a world.
+use node_core::change::Change as NodeChange;
+use node_core::node::Node;
+use token_server::change::Change as ServerChange;
+
+/// What an event will do to a world: the change of the one actor that takes it.
+#[derive(Drop)]
+pub(crate) enum Change {
+    /// The node does this step; the entry names this incarnation, 0 for none.
+    OfNode {
+        node: u8,
+        incarnation: u16,
+        change: NodeChange,
+    },
+    /// The token server of the file does this step.
+    OfServer {
+        file: u16,
+        change: ServerChange,
+    },
+    /// The node is declared failed.
+    Declared {
+        node: u8,
+    },
+    /// The node begins again, as this one.
+    Restarted {
+        node: u8,
+        begun: Node,
+    },
+}
