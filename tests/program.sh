@@ -17,7 +17,7 @@ passed=0
 failed=0
 
 # Counts a case: its name, the status that is wanted, the one that came, and two files each for standard output and
-# standard error, what is wanted and what came (- for nothing).
+# standard error, what is wanted and what came.
 judge() {
     local wrong=
     [ "$3" = "$2" ] || wrong="status $3, and not $2"
@@ -36,7 +36,7 @@ try() {
     local name=$1 status=$2 out=$3 err=$4
     shift 4
     timeout 120 "$program" "$@" >came.out 2>came.err </dev/null
-    judge "$name" "$status" "$out" came.out "$err" came.err
+    judge "$name" "$status" $? "$out" came.out "$err" came.err
 }
 
 # Runs the program on words that get help, or are told what is wrong: the named stream has the text (or a line that
