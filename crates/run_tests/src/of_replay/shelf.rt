@@ -1,6 +1,4 @@
 //! A file in memory.
-ghost use Rattle.std.specs.Prelude.{◌≡◌, ◌≢◌, ◌⊎◌, None, Some, codes};
-
 use replay::store::{Store, StoreError};
 use std::alloc::Global;
 
@@ -15,8 +13,6 @@ pub(crate) const PATH: &str = "a.lock";
 pub(crate) const RUN: [&str; 3] = ["lockreplay", "run", PATH];
 
 impl Store for Shelf<'_> {
-    ghost holds = { λ shelf path file. ((path ≡ codes "a.lock") × (file ≡ Some shelf.bytes.now)) ⊎ ((path ≢ codes "a.lock") × (file ≡ None)) };
-
     fn read(&mut self, alloc: Global, path: &str) -> Result<Vec<u8>, StoreError> {
         if path != PATH {
             return Err(StoreError::Failed);
