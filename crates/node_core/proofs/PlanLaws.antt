@@ -42,54 +42,8 @@ use Rattle.node_core.specs.Parts.{NodeParts, node_state, IsOwn, IsSpan, IsOwnCal
 use Rattle.node_core.specs.Plans.{calls_after, locks_after, processes_after, table_after, pending_after, files_after, files_told, drafted, opened_if, planned, effect_of, LocksFit, ProcessesFit, CallsFit, Fits}
 use Rattle.node_core.proofs.NodeLaws.{own-lock, around-own}
 
--- a call that was put last and goes again leaves no trace
-filter-last : (number : ℕ) (cs : List OpenCall) (c : OpenCall) → c.number ≡ number → filter (λ d. not (d.number == number)) (cs ++ c ∷ []) ≡ filter (λ d. not (d.number == number)) cs
-filter-last number [] c same =
-    let is : (c.number == number) ≡ true = eq-eqb c.number number same in
-    λ i. cond (not (is i)) (c ∷ []) []
-filter-last number (e ∷ cs) c same = λ i. cond (not (e.number == number)) (e ∷ filter-last number cs c same i) (filter-last number cs c same i)
-
-filter-opened : (new : Bool) (cs : List OpenCall) (c : OpenCall) → filter (λ d. not (d.number == c.number)) (opened_if new cs c) ≡ filter (λ d. not (d.number == c.number)) cs
-filter-opened true cs c = filter-last c.number cs c refl
-filter-opened false cs c = refl
-
 pub on : {A : Type 0} (b : Bool) (x y : A) → b ≡ true → (if b then x else y) ≡ x
 on b x y h = ap (λ (c : Bool). if c then x else y) h
-
-off : {A : Type 0} (b : Bool) (x y : A) → b ≡ false → (if b then x else y) ≡ y
-off b x y h = ap (λ (c : Bool). if c then x else y) h
-
--- the state with the call among those that are open, if it is new
-abbrev with_call : NodeState → Bool → OpenCall → NodeState
-with_call s new c = record s { pending = opened_if new s.pending c }
-
-answered-opened : (s : NodeState) (new : Bool) (c : OpenCall) (reply : Reply) → answered (with_call s new c) c.number reply ≡ answered s c.number reply
-answered-opened s new c reply = ap (λ (cs : List OpenCall). record (answered s c.number reply) { state = record s { pending = cs } }) (filter-opened new s.pending c)
-
--- what a lock call comes to where these calls are open afterwards
-abbrev locked_to : NodeState → ℕ → Target → Option Mode → List OpenCall → Effect
-locked_to s number t mode cs =
-    let answer = lock_within s.table t mode in
-    let e : Effect = record (settled s number answer) { state = record s { table = answer.0; pending = cs } } in
-    if may_free mode answer.1 then with_freed t.file e else e
-
-answered_here-opened : (s : NodeState) (new : Bool) (c : OpenCall) (i : Intent) → answered_here (with_call s new c) c i ≡ answered_here s c i
-answered_here-opened s new c intent.Set = ap (locked_to s c.number (target_of c) (Some c.mode)) (filter-opened new s.pending c)
-answered_here-opened s new c intent.Query = answered-opened s new c _
-
-pub tried-blocked : (s : NodeState) (new : Bool) (c : OpenCall) (lock : LockInfo) → lowest_blocker (s.table.locks c.file) c.owner c.span c.mode ≡ Some lock → tried (with_call s new c) c ≡ answered s c.number (refusal_of c.intent lock)
-tried-blocked s new c lock blocks = ap (tried_against (with_call s new c) c) blocks ∙ answered-opened s new c (refusal_of c.intent lock)
-
-pub tried-covered : (s : NodeState) (new : Bool) (c : OpenCall) → lowest_blocker (s.table.locks c.file) c.owner c.span c.mode ≡ None → covers (s.files c.file).token c.span c.mode ≡ true → tried (with_call s new c) c ≡ answered_here s c c.intent
-tried-covered s new c free covered =
-    ap (tried_against (with_call s new c) c) free
-    ∙ on (covers (s.files c.file).token c.span c.mode) (answered_here (with_call s new c) c c.intent) (requested (with_call s new c) c) covered
-    ∙ answered_here-opened s new c c.intent
-
-pub tried-uncovered : (s : NodeState) (new : Bool) (c : OpenCall) → lowest_blocker (s.table.locks c.file) c.owner c.span c.mode ≡ None → covers (s.files c.file).token c.span c.mode ≡ false → tried (with_call s new c) c ≡ requested (with_call s new c) c
-tried-uncovered s new c free uncovered =
-    ap (tried_against (with_call s new c) c) free
-    ∙ off (covers (s.files c.file).token c.span c.mode) (answered_here (with_call s new c) c c.intent) (requested (with_call s new c) c) uncovered
 
 -- the bytes are locked within the regions that an owner may have
 pub lock-planned : (p : NodeParts) (e : LockEdit) (c : Target) (mode : Option Mode) → replace (held p.locks) e.file e.owner (value_at e.spans) ≡ with_lock (held p.locks) c.file c.owner c.span mode → regions (put (held p.locks c.file c.owner) c.span mode) ≤ 1024 → lock_within (node_state p).table c mode ≡ (record (node_state p).table { locks = locks_after (node_state p).table.locks (Some e) }, Done)
