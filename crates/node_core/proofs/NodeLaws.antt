@@ -153,7 +153,6 @@ own-lock h node incarnation file owner s mode own within all f = record {
     ended o b true past = ap (λ x. if x then mode else h file owner b) (outside b past) ∙ (all file).ends owner b past
     ended o b false past = (all f).ends o b past
 
-
 -- what a process opens is of the file that it named
 opened_if : (b : Bool) (o : Option Opened) (p : Opened) (new : Opened) (P : ℕ → Type 0) → P new.file → (o ≡ Some p → P p.file) → (if b then Some new else o) ≡ Some p → P p.file
 opened_if true o p new P here there e = let same : new ≡ p = cc in subst (λ (x : Opened). P x.file) same here

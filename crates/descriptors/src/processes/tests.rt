@@ -53,7 +53,10 @@ fn answers_by_the_first_test_that_fails(rt: HostRuntime) -> Result<(), Fail> {
 }
 
 // Two processes that run.
-fn begun(alloc: Global, first: u16, second: u16) -> Result<Processes, ProcessError> {
+fn begun(alloc: Global, first: u16, second: u16) -> Result<Processes, ProcessError>
+    requires first { IsNumber most_processes first }
+    requires second { IsNumber most_processes second }
+{
     let mut processes = Processes::new(alloc);
     processes.spawn(first)?;
     processes.spawn(second)?;
