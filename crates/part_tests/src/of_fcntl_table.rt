@@ -1,6 +1,6 @@
 //! What the table of a single machine answers, at values from outside and worked out by hand.
 use fcntl_table::table::FcntlTable;
-use intervals::span::Span;
+use intervals::span::{GREATEST, Span};
 use model::access::Access;
 use model::lock_info::LockInfo;
 use model::mode::Mode;
@@ -125,8 +125,11 @@ fn step(table: &mut FcntlTable, process: Process, op: Op) -> Result<Reply, Alloc
     }
 }
 
-// Whether the owner has that region in file 1.
+// Whether the bytes are a span, and a region that the owner has in file 1.
 fn holds(table: &FcntlTable, owner: Owner, mode: Mode, lo: u64, hi: u64) -> bool {
+    if lo > hi || hi > GREATEST {
+        return false;
+    }
     let span = Span { lo, hi };
     table.has_region(1, &LockInfo { owner, mode, span })
 }
