@@ -11,8 +11,8 @@ use model::reply::Reply;
 use std::marker::Model;
 
 /// One entry of the journal: an event, and what it gave. `call` is there exactly where the event is
-/// a call, and names its node; `incarnation` is that of the node where the event is a retry, at least
-/// 1, else 0.
+/// a call, and names its node; `incarnation` is that of the node where the event is a retry or
+/// declares it failed, the new one where it restarts (each at least 1), else 0.
 #[derive(Drop)]
 pub struct Entry {
     event: Event,
