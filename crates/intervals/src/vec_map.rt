@@ -1,5 +1,5 @@
 //! A span map as a sorted vector of runs.
-ghost use Rattle.std.specs.Prelude.{◌≡◌, ◌≤◌, ◌<◌, ◌+◌, ℕ, IfOk, OnOk, OnErr, IsTrue, ◌↔◌, MatchOption, Some, None};
+ghost use Rattle.std.specs.Prelude.{◌≡◌, ◌≤◌, ◌<◌, ◌+◌, ℕ, nat_le, length, IfOk, OnOk, OnErr, IsTrue, ◌↔◌, MatchOption, Some, None};
 ghost use Rattle.intervals.specs.Bytes.{greatest, put, IsBarred, NoneIn, IsFirstIn, IsLargest, IsRun, IsSameOutOf};
 ghost use Rattle.intervals.specs.Runs.{bytes_of, value_at};
 ghost use Rattle.intervals.specs.Edits.{written};
@@ -66,6 +66,13 @@ impl<V: Exact> VecMap<V> {
         if self.runs.len() <= runs {
             write(&mut self.runs, room, span, value);
         }
+    }
+
+    /// Whether `apply` makes this write: the map has no more runs than the edit has room for.
+    pub fn fits(&self, edit: &SpanEdit<V>) -> bool
+        ensures { result ≡ nat_le (length self.now) edit.now.runs }
+    {
+        self.runs.len() <= edit.runs
     }
 
     // The run that has the byte.

@@ -42,6 +42,10 @@ file_state-read files (suc file) r within e =
     let here : r ≡ slice_index_or files file r = e ∙ ap (λ k. slice_index_or files k r) at in
     ap state_or (sym (slice_get_read files (length files) file r refl (let h = within.1 in omega arith) here))
 
+-- the row itself
+pub row-there : (files : List FileRow) (file : ℕ) (r : FileRow) → IsNumber (length files) file → r ≡ slice_index_or files (file - 1) r → slice_get files (file - 1) ≡ Some r
+row-there files file r within e = slice_get_read files (length files) (file - 1) r refl (let h = within.0 in let k = within.1 in omega arith) e
+
 slice_get-set_same : (files : List FileRow) (k : ℕ) (r : FileRow) → k < length files → slice_get (slice_set files k r) k ≡ Some r
 slice_get-set_same [] k r within = absurd (omega arith)
 slice_get-set_same (x ∷ files) zero r within = refl

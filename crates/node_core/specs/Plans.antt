@@ -1,9 +1,8 @@
 -- What a planned step changes of a node.
-use Rattle.std.specs.Prelude.{◌≡◌, ℕ, ◌+◌, ◌<◌, ◌==◌, Bool, true, false, not, if◌then◌else◌, List, [], ◌∷◌, ◌++◌, filter, length, Option, Some, None}
+use Rattle.std.specs.Prelude.{◌≡◌, ℕ, ◌+◌, ◌-◌, ◌<◌, ◌==◌, Bool, true, false, not, if◌then◌else◌, List, [], ◌∷◌, ◌++◌, filter, length, Option, Some, None}
+use Rattle.std.specs.List.{slice_get}
 use Rattle.std.specs.Vec.{vec_capacity}
 use Rattle.intervals.specs.Runs.{value_at}
-use Rattle.intervals.specs.declared.vec_map.VecMap.{VecMap}
-use Rattle.model.specs.declared.level.Level.{Level}
 use Rattle.model.specs.declared.opened.Opened.{Opened}
 use Rattle.model.specs.Descriptors.{Processes}
 use Rattle.model.specs.Limits.{IsNumber}
@@ -11,8 +10,7 @@ use Rattle.model.specs.Locks.{Locks, replace, IsOfNode}
 use Rattle.model.specs.Table.{Table, around, with_processes}
 use Rattle.lock_table.specs.declared.lock_table.LockEdit.{LockEdit}
 use Rattle.lock_table.specs.Rows.{held, HasRoom as HasRowRoom}
-use Rattle.token_set.specs.Tokens.{Token}
-use Rattle.token_set.specs.Sets.{token_of}
+use Rattle.token_set.specs.Edits.{edited as token_edited}
 use Rattle.messages.specs.Messages.{greatest_number}
 use Rattle.descriptors.specs.declared.edit.ProcessEdit.{ProcessEdit}
 use Rattle.descriptors.specs.Edits.{edited, Fits as ProcessFits}
@@ -20,11 +18,13 @@ use Rattle.node_core.specs.declared.effect.Effect.{Effect as EffectFields}
 use Rattle.node_core.specs.declared.edit.Draft.{Draft}
 use Rattle.node_core.specs.declared.edit.Edit.{Edit}
 use Rattle.node_core.specs.declared.file_row.FileEdit.{FileEdit}
+use Rattle.node_core.specs.declared.file_row.FileRow.{FileRow}
 use Rattle.node_core.specs.declared.open_call.OpenCall.{OpenCall}
 use Rattle.node_core.specs.declared.open_calls.CallsEdit.{CallsEdit}
 use Rattle.node_core.specs.declared.open_calls.CallsEdit.TheVariants.{Same, Put, Gone}
 use Rattle.descriptors.specs.Rows.{processes}
-use Rattle.node_core.specs.State.{FileState, NodeState, Effect, process}
+use Rattle.node_core.specs.Files.{file_state}
+use Rattle.node_core.specs.State.{FileState, NodeState, Effect, process, first_file}
 use Rattle.node_core.specs.Parts.{NodeParts, node_state, IsCallOf}
 
 -- how many calls the node took, with this one or without
@@ -36,18 +36,17 @@ calls_after calls false = calls
 abbrev pub numbered : NodeState → NodeState
 numbered s = record s { calls = s.calls + 1 }
 
--- the token once the edit is made
-abbrev pub token_after : Token → Option (VecMap Level) → Token
-token_after t None = t
-token_after t (Some levels) = token_of levels
-
 -- what is known of a file once the command is done
-abbrev pub file_after : FileState → FileEdit → FileState
-file_after f e = record { token = token_after f.token e.token; last = e.last; answer = Some e.answer; asked = e.asked }
+abbrev pub file_after : FileRow → FileEdit → FileState
+file_after r e = record { token = token_edited e.token r.token; last = e.last; answer = Some e.answer; asked = e.asked }
 
-abbrev pub files_after : (ℕ → FileState) → Option FileEdit → ℕ → FileState
-files_after files None = files
-files_after files (Some e) = λ f. if f == e.file then file_after (files e.file) e else files f
+abbrev pub row_after : Option FileRow → FileEdit → FileState
+row_after None e = first_file
+row_after (Some r) e = file_after r e
+
+abbrev pub files_after : List FileRow → Option FileEdit → ℕ → FileState
+files_after rows None = file_state rows
+files_after rows (Some e) = λ f. if f == e.file then row_after (slice_get rows (e.file - 1)) e else file_state rows f
 
 -- the files, of which one is asked no longer
 abbrev pub files_told : (ℕ → FileState) → Option ℕ → ℕ → FileState
@@ -81,7 +80,7 @@ pending_after calls (Gone number) = filter (λ c. not (c.number == number)) call
 
 -- the state in which a call is tried
 abbrev pub drafted : NodeParts → Draft → NodeState
-drafted p d = record (node_state p) { calls = calls_after (node_state p).calls d.numbered; files = files_after (node_state p).files d.command }
+drafted p d = record (node_state p) { calls = calls_after (node_state p).calls d.numbered; files = files_after p.files d.command }
 
 -- the same with the call itself among those that are open, if it is new
 abbrev pub opened_if : Bool → List OpenCall → OpenCall → List OpenCall

@@ -14,6 +14,7 @@ use messages::wanted::Wanted;
 use model::host::Host;
 use model::lock_info::LockInfo;
 use std::alloc::{AllocError, Global};
+use token_set::edit::TokenEdit;
 use token_set::gave_up::GaveUp;
 use token_set::set::TokenSet;
 
@@ -27,12 +28,12 @@ pub struct FileRow {
     pub asked: bool,
 }
 
-/// What a command changes of what a node knows of a file: the token, where it becomes another, the
-/// number and the answer of the command, and whether a lock was named.
+/// What a command changes of what a node knows of a file: the token, the number and the answer of the
+/// command, and whether a lock was named.
 #[derive(Drop)]
 pub struct FileEdit {
     pub file: u16,
-    pub token: Option<TokenSet>,
+    pub token: TokenEdit,
     pub last: u32,
     pub answer: Message,
     pub asked: bool,
@@ -78,13 +79,11 @@ impl FileRow {
     /// `AllocError` where a request for memory was refused.
     pub fn plan_grant(&self, command: &Command, span: Span) -> Result<FileEdit, AllocError>
         ensures file { IfOk result (λ edit. edit.file ≡ command.now.file) }
-        ensures state { IfOk result (λ edit. file_after (state_of self.now) edit ≡ granted_file (state_of self.now) command.now span) }
+        ensures state { IfOk result (λ edit. file_after self.now edit ≡ granted_file (state_of self.now) command.now span) }
     {
-        let mut token = self.token.copy()?;
-        token.grant(span, command.mode)?;
         Ok(FileEdit {
             file: command.file,
-            token: Some(token),
+            token: self.token.plan_grant(span, command.mode)?,
             last: command.number,
             answer: command.taken(),
             asked: self.asked,
@@ -105,13 +104,14 @@ impl FileRow {
     ) -> Result<(GaveUp, FileEdit), AllocError>
         ensures answer { IfOk result (λ r. IsGivenUp (Contains locks.now) command.now.mode wanted.required wanted.desired r.0) }
         ensures file { IfOk result (λ r. r.1.file ≡ command.now.file) }
-        ensures state { IfOk result (λ r. file_after (state_of self.now) r.1 ≡ revoked_file (state_of self.now) command.now holder r.0) }
+        ensures state { IfOk result (λ r. file_after self.now r.1 ≡ revoked_file (state_of self.now) command.now holder r.0) }
     {
-        let mut token = self.token.copy()?;
-        let gives = token.give_up(command.mode, wanted.required, wanted.desired, locks)?;
+        let (gives, token) =
+            self.token
+                .plan_give_up(command.mode, wanted.required, wanted.desired, locks)?;
         let edit = FileEdit {
             file: command.file,
-            token: Some(token),
+            token,
             last: command.number,
             answer: command.answer(holder, gives),
             asked: is_conflict(&gives) || self.asked,
@@ -121,7 +121,7 @@ impl FileRow {
 
     /// The command is done. Takes no memory.
     pub fn apply(&mut self, edit: FileEdit)
-        ensures { state_of self.new ≡ file_after (state_of self.old) edit }
+        ensures { state_of self.new ≡ file_after self.old edit }
     {
         let FileEdit {
             token,
@@ -130,9 +130,7 @@ impl FileRow {
             asked,
             ..
         } = edit;
-        if let Some(token) = token {
-            self.token = token;
-        }
+        self.token.apply(token);
         self.last = last;
         self.answer = Some(answer);
         self.asked = asked;

@@ -1,5 +1,6 @@
 //! The files of a node.
-ghost use Rattle.std.specs.Prelude.{◌≡◌, ◌↔◌, IfOk, IsTrue, length};
+ghost use Rattle.std.specs.Prelude.{◌≡◌, ◌-◌, ◌↔◌, Some, IfOk, IsTrue, length};
+ghost use Rattle.std.specs.List.{slice_get};
 ghost use Rattle.model.specs.Limits.{IsNumber};
 ghost use Rattle.node_core.specs.State.{first_file};
 ghost use Rattle.node_core.specs.Files.{state_of, file_state};
@@ -47,7 +48,8 @@ pub fn same_files(files: &[FileRow], others: &[FileRow]) -> bool
 /// The row of the file.
 pub fn file_of(files: &[FileRow], file: u16) -> &FileRow
     requires { IsNumber (length files.now) file }
-    ensures { state_of result.now ≡ file_state files.now file }
+    ensures state { state_of result.now ≡ file_state files.now file }
+    ensures row { slice_get files.now (file - 1) ≡ Some result.now }
 {
     &files[file as usize - 1]
 }
@@ -55,7 +57,7 @@ pub fn file_of(files: &[FileRow], file: u16) -> &FileRow
 /// The command is done at its file, if there is one. Takes no memory.
 pub fn apply_command(files: &mut Vec<FileRow>, command: Option<FileEdit>)
     requires { CommandFits (length files.old.items) command }
-    ensures state { file_state files.new.items ≡ files_after (file_state files.old.items) command }
+    ensures state { file_state files.new.items ≡ files_after files.old.items command }
     ensures count { length files.new.items ≡ length files.old.items }
 {
     if let Some(edit) = command {

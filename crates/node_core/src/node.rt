@@ -1,5 +1,6 @@
 //! A node.
-ghost use Rattle.std.specs.Prelude.{◌≡◌, ◌≢◌, ◌≤◌, ◌↔◌, Ok, Err, IfOk, IfErr, IfSome, IsTrue};
+ghost use Rattle.std.specs.Prelude.{◌≡◌, ◌≢◌, ◌≤◌, ◌-◌, ◌↔◌, Some, Ok, Err, IfOk, IfErr, IfSome, IsTrue};
+ghost use Rattle.std.specs.List.{slice_get};
 ghost use Rattle.model.specs.Limits.{IsNumber, most_processes};
 ghost use Rattle.node_core.specs.State.{first_node, host, process, id_of, open_call, open_call_of};
 ghost use Rattle.node_core.specs.Node.{node_rule};
@@ -176,7 +177,8 @@ impl Node {
     // What the node knows of the file.
     fn file(&self, file: u16) -> &FileRow
         requires { IsNumber (node_state self.now).shape.files file }
-        ensures { state_of result.now ≡ (node_state self.now).files file }
+        ensures state { state_of result.now ≡ (node_state self.now).files file }
+        ensures row { slice_get self.now.files (file - 1) ≡ Some result.now }
     {
         file_of(&self.files, file)
     }

@@ -4,13 +4,14 @@ use Rattle.std.proofs.Common.{arith, ap, sym, ◌∙◌, inl, inr}
 use Rattle.std.proofs.lemmas.Bool.{cases_lt, and_from, and_right, le-leb}
 use Rattle.std.proofs.lemmas.Bool.Decides.{nat_tests}
 use Rattle.intervals.specs.Bytes.{Range, is_in, NoneIn, AllAre, put}
+use Rattle.model.specs.declared.mode.Mode.{Mode}
 use Rattle.model.specs.declared.mode.Mode.TheVariants.{Read}
 use Rattle.model.specs.declared.level.Level.{Level}
 use Rattle.model.specs.declared.level.Level.TheVariants.{Shared, Exclusive}
-use Rattle.token_set.specs.Tokens.{Token, conflicts, level_conflicts, raised_level, raised}
+use Rattle.token_set.specs.Tokens.{Token, serves, covers, conflicts, level_conflicts, raised_level, raised}
 use Rattle.token_set.specs.Sets.{IsFirstExclusive, at_exclusive}
 use Rattle.token_set.specs.Releases.{lowered_level, lowered}
-use Rattle.token_set.proofs.TokenLaws.{none-conflicts}
+use Rattle.token_set.proofs.TokenLaws.{none-conflicts, covers-from}
 
 -- the bytes below `from` are done, and those from there on are as in f
 pub record IsDoneTo (t : Token) (s : Range) (level : Level) (f g : Token) (from : ℕ) : Type 0 where
@@ -143,6 +144,11 @@ below_end s b is = grind (arith, nat_tests)
 -- a grant for read where no byte is exclusive: shared throughout
 pub raised-free : (t : Token) (s : Range) → conflicts t s Read ≡ false → put t s (Some Shared) ≡ raised t s Read
 raised-free t s free = λ i b. inside_alone (is_in s b) _ _ (t b) (λ is. raised_shared (t b) (none-conflicts t s Read free b (above_start s b is) (below_end s b is))) i
+
+-- a write serves a span within its own as its level does
+pub covers-put : (t : Token) (s span : Range) (level : Option Level) (mode : Mode) → s.lo ≤ span.lo → span.hi ≤ s.hi → serves level mode ≡ true → covers (put t s level) span mode ≡ true
+covers-put t s span level mode starts ends served =
+    covers-from (put t s level) span mode (λ b above below. ap (λ i. serves (if i then level else t b) mode) (inside s b (omega arith) (omega arith)) ∙ served)
 
 -- a revoke for read where each byte is exclusive: shared throughout
 pub lowered-all : (t : Token) (s : Range) → AllAre t s (Some Exclusive) → put t s (Some Shared) ≡ lowered t s Read

@@ -1,7 +1,8 @@
 //! The token of one node for one file.
 ghost use Rattle.std.specs.Prelude.{◌≡◌, ◌≤◌, true, Some, IfOk, OnOk, OnErr, IsTrue, ◌↔◌, MatchOption, Contains};
-ghost use Rattle.intervals.specs.Bytes.{IsLargest, NoneIn, largest_around};
-ghost use Rattle.token_set.specs.Tokens.{no_token, covers, raised, conflicts, level_conflicts, holds_nothing};
+ghost use Rattle.intervals.specs.Bytes.{IsLargest, NoneIn, put, largest_around};
+ghost use Rattle.intervals.specs.Edits.{written};
+ghost use Rattle.token_set.specs.Tokens.{Token, no_token, serves, covers, raised, conflicts, level_conflicts, holds_nothing};
 ghost use Rattle.token_set.specs.Sets.{token_of, bar_of, HasLevels, IsFirstExclusive, at_exclusive};
 ghost use Rattle.token_set.specs.Releases.{lowered, IsGivenUp, after_giving_up};
 ghost use Rattle.token_set.specs.Edits.{edited};
@@ -10,6 +11,7 @@ ghost use Rattle.token_set.specs.Runs.{NothingFrom, IsNextRun, ListsRuns};
 use crate::edit::TokenEdit;
 use crate::gave_up::GaveUp;
 use intervals::span::{GREATEST, Span};
+use intervals::span_edit::SpanEdit;
 use intervals::span_map::{NoMemory, SpanMap};
 use intervals::vec_map::VecMap;
 use model::level::Level;
@@ -112,6 +114,31 @@ fn has_levels(levels: &Levels, span: Span) -> bool
         lo = run.hi + 1;
     }
     false
+}
+
+// Whether a byte of that level serves the mode.
+fn serves(level: Option<Level>, mode: Mode) -> bool
+    ensures { result ≡ serves level mode }
+{
+    match (level, mode) {
+        (None, _) => false,
+        (Some(Level::Shared), Mode::Write) => false,
+        _ => true,
+    }
+}
+
+// Whether each byte of the inner span is one of the outer.
+fn is_within(inner: Span, outer: Span) -> bool
+    ensures { IsTrue result → (outer.lo ≤ inner.lo) × (inner.hi ≤ outer.hi) }
+{
+    outer.lo <= inner.lo && inner.hi <= outer.hi
+}
+
+// Whether the write gives each byte of the span a level that serves the mode.
+fn is_served(write: &SpanEdit<Level>, span: Span, mode: Mode) -> bool
+    ensures { IsTrue result → (t : Token) → covers (put t write.now.span write.now.value) span mode ≡ true }
+{
+    is_within(span, write.span) && serves(write.value, mode)
 }
 
 // The longest run of one level with the lowest byte from `from` on that has any.
@@ -224,6 +251,54 @@ impl TokenSet {
             TokenEdit::Same => {}
             TokenEdit::Write(edit) => self.levels.apply(edit),
             TokenEdit::Whole(token) => *self = token,
+        }
+    }
+
+    // The token once the write is made, as one of its own.
+    fn written(&self, write: &SpanEdit<Level>) -> Result<TokenSet, NoMemory>
+        ensures { IfOk result (λ token. token_of token ≡ written write.now self.now) }
+    {
+        let mut levels = self.levels.copy()?;
+        if self.levels.fits(write) {
+            match write.value {
+                Some(level) => levels.set(write.span, level)?,
+                None => levels.clear(write.span)?,
+            }
+        }
+        Ok(TokenSet { levels })
+    }
+
+    /// The token once the edit is made, as one of its own; the token itself stays as it is.
+    ///
+    /// # Errors
+    /// `NoMemory` where a request for memory was refused.
+    pub fn after(&self, edit: &TokenEdit) -> Result<TokenSet, NoMemory>
+        ensures { IfOk result (λ token. token_of token ≡ edited edit.now self.now) }
+    {
+        match edit {
+            TokenEdit::Same => self.copy(),
+            TokenEdit::Write(write) => self.written(write),
+            TokenEdit::Whole(token) => token.copy(),
+        }
+    }
+
+    /// What `covers` answers once the edit is made. Where the edit gives each byte of the span a level
+    /// that serves the mode, it takes no memory and no time.
+    ///
+    /// # Errors
+    /// `NoMemory` where a request for memory was refused.
+    pub fn covers_after(&self, edit: &TokenEdit, span: Span, mode: Mode) -> Result<bool, NoMemory>
+        ensures { IfOk result (λ yes. yes ≡ covers (edited edit.now self.now) span mode) }
+    {
+        match edit {
+            TokenEdit::Same => Ok(self.covers(span, mode)),
+            TokenEdit::Write(write) => {
+                if self.levels.fits(write) && is_served(write, span, mode) {
+                    return Ok(true);
+                }
+                Ok(self.written(write)?.covers(span, mode))
+            }
+            TokenEdit::Whole(token) => Ok(token.covers(span, mode)),
         }
     }
 

@@ -13,7 +13,6 @@ ghost use Rattle.node_core.specs.Plans.{drafted, trying, opened_if, pending_afte
 use super::Node;
 use crate::edit::{Draft, Edit};
 use crate::effect::Effect;
-use crate::file_row::FileEdit;
 use crate::locks::may_free;
 use crate::open_call::{Intent, OpenCall};
 use crate::open_calls::CallsEdit;
@@ -39,23 +38,6 @@ impl Node {
             .blocker(call.owner, call.file, call.span, call.mode)
     }
 
-    // The node's token for the file, with the draft.
-    fn token<'a>(&'a self, draft: &'a Draft, file: u16) -> &'a TokenSet
-        requires { IsNumber (node_state self.now).shape.files file }
-        ensures { token_of result.now ≡ ((drafted self.now draft.now).files file).token }
-    {
-        match &draft.command {
-            Some(
-                FileEdit {
-                    file: changed,
-                    token: Some(token),
-                    ..
-                },
-            ) if *changed == file => token,
-            _ => &self.file(file).token,
-        }
-    }
-
     // Whether a lock of the file was named to its server, with the draft.
     fn is_asked(&self, draft: &Draft, file: u16) -> bool
         requires { IsNumber (node_state self.now).shape.files file }
@@ -67,21 +49,39 @@ impl Node {
         }
     }
 
-    // Whether the node's token covers the call.
-    fn is_covered(&self, draft: &Draft, call: &OpenCall) -> bool
+    // Whether the node's token covers the call, with the draft.
+    fn is_covered(&self, draft: &Draft, call: &OpenCall) -> Result<bool, AllocError>
         requires { IsCallOf (node_state self.now) call.now }
-        ensures { result ≡ covers ((drafted self.now draft.now).files call.now.file).token call.now.span call.now.mode }
+        ensures { IfOk result (λ yes. yes ≡ covers ((drafted self.now draft.now).files call.now.file).token call.now.span call.now.mode) }
     {
-        self.token(draft, call.file).covers(call.span, call.mode)
+        let token = &self.file(call.file).token;
+        match &draft.command {
+            Some(edit) if edit.file == call.file => token.covers_after(&edit.token, call.span, call.mode),
+            _ => Ok(token.covers(call.span, call.mode)),
+        }
     }
 
-    // The bytes that the call needs, and those that the node asks for with them.
-    fn wanted(&self, draft: &Draft, call: &OpenCall) -> Wanted
+    // The bytes that the call needs, and those that the node asks for with them, by its token.
+    fn wanted_by(&self, token: &TokenSet, call: &OpenCall) -> Wanted
         requires { IsCallOf (node_state self.now) call.now }
-        ensures { result ≡ record { required = call.now.span; desired = desired (node_state self.now).shape.policy ((drafted self.now draft.now).files call.now.file).token call.now.span } }
+        ensures { result ≡ record { required = call.now.span; desired = desired (node_state self.now).shape.policy (token_of token.now) call.now.span } }
     {
-        let token = self.token(draft, call.file);
         Wanted::new(call.span, desired(self.shape.policy(), call.span, token))
+    }
+
+    // The same by its token with the draft.
+    fn wanted(&self, draft: &Draft, call: &OpenCall) -> Result<Wanted, AllocError>
+        requires { IsCallOf (node_state self.now) call.now }
+        ensures { IfOk result (λ wanted. wanted ≡ record { required = call.now.span; desired = desired (node_state self.now).shape.policy ((drafted self.now draft.now).files call.now.file).token call.now.span }) }
+    {
+        let token = &self.file(call.file).token;
+        match &draft.command {
+            Some(edit) if edit.file == call.file => {
+                let token = token.after(&edit.token)?;
+                Ok(self.wanted_by(&token, call))
+            }
+            _ => Ok(self.wanted_by(token, call)),
+        }
     }
 
     // A new call is open from now on; other calls stay as they are.
@@ -108,7 +108,7 @@ impl Node {
             call: self.id(call.number),
             urgency: Urgency::Now,
             mode: call.mode,
-            wanted: self.wanted(&draft, call),
+            wanted: self.wanted(&draft, call)?,
         };
         let calls = self.keep_open(&draft, call)?;
         let edit = Edit {
@@ -239,7 +239,7 @@ impl Node {
             let refusal = call.intent.refusal(lock);
             return Ok(self.answer(alloc, draft, None, call.number, refusal));
         }
-        if self.is_covered(&draft, call) {
+        if self.is_covered(&draft, call)? {
             return self.answer_here(alloc, draft, call);
         }
         self.request(alloc, draft, call)

@@ -1,14 +1,17 @@
-use Rattle.std.specs.Prelude.{Option}
+use Rattle.std.specs.Prelude.{Option, Some}
+use Rattle.std.specs.List.{slice_get}
 use Rattle.std.proofs.Common.{ap, sym, subst, ◌∙◌}
 use Rattle.node_core.specs.declared.file_row.FileEdit.{FileEdit}
 use Rattle.node_core.specs.Files.{state_of, file_state}
-use Rattle.node_core.specs.Plans.{file_after, files_after, CommandFits}
-use Rattle.node_core.proofs.FileLaws.{file_state-change}
+use Rattle.node_core.specs.Plans.{file_after, files_after, row_after, CommandFits}
+use Rattle.node_core.proofs.FileLaws.{file_state-set, row-there}
 use Rattle.node_core.proofs.files.apply_command.Goals as goal
 
 pub returns-in-Some-clause-state : goal.returns-in-Some-clause-state
 returns-in-Some-clause-state c =
     let files = c.args.files.now.items in
-    let made = c.apply.ensures ∙ ap (λ r. file_after (state_of r) c.in-Some.edit) c.index_mut-row.ensures.value in
-    file_state-change files c.in-Some.edit.file c.index_mut-row.result.now c.apply.new.self (λ f. file_after f c.in-Some.edit) (rw c.in-Some.is at c.requires) c.index_mut-row.ensures.value made
-    ∙ sym (ap (files_after (file_state files)) c.in-Some.is)
+    let edit = c.in-Some.edit in
+    let within = rw c.in-Some.is at c.requires in
+    let there = row-there files edit.file c.index_mut-row.result.now within c.index_mut-row.ensures.value in
+    file_state-set files edit.file c.apply.new.self (row_after (slice_get files (edit.file - 1)) edit) within (c.apply.ensures ∙ sym (ap (λ r. row_after r edit) there))
+    ∙ sym (ap (files_after files) c.in-Some.is)

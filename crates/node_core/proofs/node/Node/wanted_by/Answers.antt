@@ -4,7 +4,7 @@ use Rattle.messages.specs.Wants.{Wants}
 use Rattle.token_set.specs.Tokens.{desired}
 use Rattle.node_core.specs.Parts.{NodeParts, node_state}
 use Rattle.node_core.proofs.NodeLaws.{desired-ends}
-use Rattle.node_core.proofs.node.Node.wanted.Goals as goal
+use Rattle.node_core.proofs.node.Node.wanted_by.Goals as goal
 
 pub new-requires-clause-ends_within : goal.new-requires-clause-ends_within
 new-requires-clause-ends_within c =
@@ -17,4 +17,4 @@ returns c =
     let s = node_state c.args.self.now in
     let policy : c.policy.result ≡ s.shape.policy = c.policy.ensures ∙ ap (λ (p : NodeParts). p.shape.policy) c.self.view_is in
     let made : Range → Wants = λ r. record { required = c.args.call.now.span; desired = r } in
-    c.new.ensures ∙ ap made (c.desired.ensures ∙ (λ i. desired (policy i) (c.token-token.ensures i) c.args.call.now.span))
+    c.new.ensures ∙ ap made (c.desired.ensures ∙ (λ i. desired (policy i) (token_of c.args.token.now) c.args.call.now.span))
