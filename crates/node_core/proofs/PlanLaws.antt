@@ -98,7 +98,7 @@ table-changed p (Some e) edit rows locks same made =
     ∙ (λ i. record { on = λ n k. sym (if-if ((n == p.node) && (k == p.incarnation)) (edited (processes p.processes) e) (processes p.processes) no_processes) i; locks = locks_after (held p.locks) edit })
     ∙ sym (λ i. record { on = λ n k. if (n == p.node) && (k == p.incarnation) then edited (around-own p 0 i) e else (if (n == p.node) && (k == p.incarnation) then processes p.processes else no_processes); locks = locks_after (held p.locks) edit })
 
-pub node-planned : (p : NodeParts) (e : Edit) (calls : ℕ) (rows : List ProcessRow) (locks : List LockRow) (pending : List OpenCall) (files : List FileRow) → calls ≡ calls_after p.calls e.draft.numbered → processes rows ≡ processes_after (processes p.processes) e.processes → held locks ≡ locks_after (held p.locks) e.locks → pending ≡ pending_after p.pending e.calls → file_state files ≡ files_told (files_after (file_state p.files) e.draft.command) e.freed → node_state (changed p calls rows locks pending files) ≡ planned p e
+pub node-planned : (p : NodeParts) (e : Edit) (calls : ℕ) (rows : List ProcessRow) (locks : List LockRow) (pending : List OpenCall) (files : List FileRow) → calls ≡ calls_after p.calls e.draft.numbered → processes rows ≡ processes_after (processes p.processes) e.processes → held locks ≡ locks_after (held p.locks) e.locks → pending ≡ pending_after p.pending e.calls → file_state files ≡ files_told (files_after (file_state p.files) p.files e.draft.command) e.freed → node_state (changed p calls rows locks pending files) ≡ planned p e
 unfolding node_state
 node-planned p e calls rows locks pending files counted ran held_now left known = λ i. record {
   shape = p.shape;

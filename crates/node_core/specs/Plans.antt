@@ -23,7 +23,6 @@ use Rattle.node_core.specs.declared.open_call.OpenCall.{OpenCall}
 use Rattle.node_core.specs.declared.open_calls.CallsEdit.{CallsEdit}
 use Rattle.node_core.specs.declared.open_calls.CallsEdit.TheVariants.{Same, Put, Gone}
 use Rattle.descriptors.specs.Rows.{processes}
-use Rattle.node_core.specs.Files.{file_state}
 use Rattle.node_core.specs.State.{FileState, NodeState, Effect, process, first_file}
 use Rattle.node_core.specs.Parts.{NodeParts, node_state, IsCallOf}
 
@@ -44,9 +43,10 @@ abbrev pub row_after : Option FileRow → FileEdit → FileState
 row_after None e = first_file
 row_after (Some r) e = file_after r e
 
-abbrev pub files_after : List FileRow → Option FileEdit → ℕ → FileState
-files_after rows None = file_state rows
-files_after rows (Some e) = λ f. if f == e.file then row_after (slice_get rows (e.file - 1)) e else file_state rows f
+-- what is known of each file, once it is done at the rows
+abbrev pub files_after : (ℕ → FileState) → List FileRow → Option FileEdit → ℕ → FileState
+files_after files rows None = files
+files_after files rows (Some e) = λ f. if f == e.file then row_after (slice_get rows (e.file - 1)) e else files f
 
 -- the files, of which one is asked no longer
 abbrev pub files_told : (ℕ → FileState) → Option ℕ → ℕ → FileState
@@ -80,7 +80,7 @@ pending_after calls (Gone number) = filter (λ c. not (c.number == number)) call
 
 -- the state in which a call is tried
 abbrev pub drafted : NodeParts → Draft → NodeState
-drafted p d = record (node_state p) { calls = calls_after (node_state p).calls d.numbered; files = files_after p.files d.command }
+drafted p d = record (node_state p) { calls = calls_after (node_state p).calls d.numbered; files = files_after (node_state p).files p.files d.command }
 
 -- the same with the call itself among those that are open, if it is new
 abbrev pub opened_if : Bool → List OpenCall → OpenCall → List OpenCall

@@ -106,9 +106,9 @@ impl FileRow {
         ensures file { IfOk result (λ r. r.1.file ≡ command.now.file) }
         ensures state { IfOk result (λ r. file_after self.now r.1 ≡ revoked_file (state_of self.now) command.now holder r.0) }
     {
-        let (gives, token) =
-            self.token
-                .plan_give_up(command.mode, wanted.required, wanted.desired, locks)?;
+        let (gives, token) = self
+            .token
+            .plan_give_up(command.mode, wanted.required, wanted.desired, locks)?;
         let edit = FileEdit {
             file: command.file,
             token,

@@ -57,7 +57,7 @@ pub fn file_of(files: &[FileRow], file: u16) -> &FileRow
 /// The command is done at its file, if there is one. Takes no memory.
 pub fn apply_command(files: &mut Vec<FileRow>, command: Option<FileEdit>)
     requires { CommandFits (length files.old.items) command }
-    ensures state { file_state files.new.items ≡ files_after files.old.items command }
+    ensures state { file_state files.new.items ≡ files_after (file_state files.old.items) files.old.items command }
     ensures count { length files.new.items ≡ length files.old.items }
 {
     if let Some(edit) = command {

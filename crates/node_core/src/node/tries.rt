@@ -43,9 +43,10 @@ impl Node {
         requires { IsNumber (node_state self.now).shape.files file }
         ensures { result ≡ ((drafted self.now draft.now).files file).asked }
     {
+        let row = self.file(file);
         match &draft.command {
             Some(edit) if edit.file == file => edit.asked,
-            _ => self.file(file).asked,
+            _ => row.asked,
         }
     }
 
@@ -56,7 +57,11 @@ impl Node {
     {
         let token = &self.file(call.file).token;
         match &draft.command {
-            Some(edit) if edit.file == call.file => token.covers_after(&edit.token, call.span, call.mode),
+            Some(edit) if edit.file == call.file => token.covers_after(
+                &edit.token,
+                call.span,
+                call.mode,
+            ),
             _ => Ok(token.covers(call.span, call.mode)),
         }
     }

@@ -1,4 +1,4 @@
-use Rattle.std.specs.Prelude.{Option, Some}
+use Rattle.std.specs.Prelude.{◌-◌, Option, Some}
 use Rattle.std.specs.List.{slice_get}
 use Rattle.std.proofs.Common.{ap, sym, subst, ◌∙◌}
 use Rattle.node_core.specs.declared.file_row.FileEdit.{FileEdit}
@@ -14,4 +14,4 @@ returns-in-Some-clause-state c =
     let within = rw c.in-Some.is at c.requires in
     let there = row-there files edit.file c.index_mut-row.result.now within c.index_mut-row.ensures.value in
     file_state-set files edit.file c.apply.new.self (row_after (slice_get files (edit.file - 1)) edit) within (c.apply.ensures ∙ sym (ap (λ r. row_after r edit) there))
-    ∙ sym (ap (files_after files) c.in-Some.is)
+    ∙ sym (ap (files_after (file_state files) files) c.in-Some.is)

@@ -1,6 +1,7 @@
 use Rattle.std.proofs.Common.{◌≡◌, ◌≤◌, ◌∙◌, ap, sym, subst}
 use Rattle.intervals.specs.Bytes.{Range}
 use Rattle.messages.specs.Wants.{Wants}
+use Rattle.token_set.specs.Sets.{token_of}
 use Rattle.token_set.specs.Tokens.{desired}
 use Rattle.node_core.specs.Parts.{NodeParts, node_state}
 use Rattle.node_core.proofs.NodeLaws.{desired-ends}
