@@ -132,7 +132,7 @@ fn has_its_lines_of_messages(rt: HostRuntime) -> Result<(), Fail> {
 }
 
 // What may not stand in line 2.
-const BAD_SECOND_LINES: [&str; 70] = [
+const BAD_SECOND_LINES: [&str; 72] = [
     "cluster nodes 1 files 1 policy wide",
     "Settle",
     "settle ",
