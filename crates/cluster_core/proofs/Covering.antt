@@ -45,7 +45,7 @@ use Rattle.node_core.specs.Node.{node_rule}
 use Rattle.cluster_core.specs.Safe.{Excludes}
 use Rattle.cluster_core.proofs.Choices.{at_number}
 use Rattle.cluster_core.proofs.NodeSteps.{call_done, deliver_done, retry_done, remembered_state, in_order_either}
-use Rattle.cluster_core.proofs.Tries.{Settles, locked_by_settles, shut_settles}
+use Rattle.cluster_core.proofs.Tries.{locked_by_settles, shut_settles}
 use Rattle.cluster_core.proofs.Clearing.{released_clear}
 
 -- the token serves each byte that is locked

@@ -1,5 +1,5 @@
 -- Values of one field or a few.
-use Rattle.std.proofs.Common.{◌≡◌, ℕ, ◌<◌, ◌^◌, refl, arith, rules, codes, decimal, FitsSigned, w64}
+use Rattle.std.proofs.Common.{ℕ, ◌<◌, ◌^◌, refl, arith, rules, decimal, FitsSigned, w64}
 use Rattle.std.specs.Prelude.{⊤}
 use Rattle.std.specs.Fmt.{signed_decimal}
 use Rattle.std.proofs.lemmas.Fmt.{decimal_injective, signed_decimal_injective}

@@ -1,7 +1,6 @@
 -- The laws of closes, exits and forks.
-use Rattle.std.proofs.Common.{◌≡◌, ℕ, Bool, true, false, if◌then◌else◌, ◌&&◌, ◌==◌, inl, inr, refl, sym, ◌∙◌, ap, subst, ℤ, nat_le, Option, Some, None, Result, Ok, Err}
-use Rattle.std.proofs.lemmas.Bool.{and_from, eq-eqb, both_ways, cases_Bool}
-use Rattle.std.proofs.lemmas.Option.{none-some, same_Some}
+use Rattle.std.proofs.Common.{◌≡◌, ℕ, Bool, true, false, if◌then◌else◌, ◌&&◌, ◌==◌, refl, sym, ◌∙◌, ap, subst, ℤ, Option, Some, None, Result, Ok, Err}
+use Rattle.std.proofs.lemmas.Bool.{and_from, eq-eqb, both_ways}
 use Rattle.intervals.specs.Bytes.{nothing}
 use Rattle.model.specs.declared.mode.Mode.{Mode}
 use Rattle.model.specs.declared.opened.Opened.{Opened}
@@ -11,11 +10,11 @@ use Rattle.model.specs.declared.op.Op.{Op}
 use Rattle.model.specs.declared.op.Op.TheVariants.{Spawn, Fork, Open, Dup, Close, Exit, Set, Unlock, Query}
 use Rattle.model.specs.declared.reply.Reply.{Reply}
 use Rattle.model.specs.declared.reply.Reply.TheVariants.{Done, Again, Free, Blocked, Exists, NoProcess, NoLocks}
-use Rattle.model.specs.Limits.{IsNumber, most_processes, most_descriptors}
+use Rattle.model.specs.Limits.{IsNumber, most_processes}
 use Rattle.model.specs.Owners.{same_owner, process_owner, description_owner}
 use Rattle.model.specs.Locks.{without_owner, without_owner_anywhere}
-use Rattle.model.specs.Descriptors.{Processes, with_process, with_descriptor, is_open, after_fork}
-use Rattle.model.specs.Table.{Table, Target, around, descriptor, is_running, beside, with_processes, target, lock_within, closed, closed_at, after_close, exited, after_exit}
+use Rattle.model.specs.Descriptors.{Processes, with_process, with_descriptor, is_open}
+use Rattle.model.specs.Table.{Table, Target, around, descriptor, is_running, beside, with_processes, target, lock_within, closed, closed_at, exited}
 use Rattle.model.specs.Anchors.{IsAnchored, IsOwn}
 use Rattle.model.specs.Step.{Step, AfterTests, SetStep, QueryStep}
 use Rattle.model.specs.Laws.{ClosedFileHasNoLock, LastCloseDropsLocks, HasGone, ExitLeavesNothing, IsChild, sibling, ForkSharesDescriptions, CallsKeepAnchors}

@@ -14,13 +14,13 @@ use Rattle.model.specs.declared.access.Access.{Access}
 use Rattle.model.specs.declared.opened.Opened.{Opened}
 use Rattle.model.specs.declared.process.Process.{Process}
 use Rattle.model.specs.declared.reply.Reply.{Reply}
-use Rattle.model.specs.declared.reply.Reply.TheVariants.{Done, Fd, Exists, NoProcess, BadFd, TooManyFiles, NoLocks}
+use Rattle.model.specs.declared.reply.Reply.TheVariants.{Done, Fd, Exists, NoProcess, TooManyFiles, NoLocks}
 use Rattle.model.specs.Limits.{IsNumber, most_processes, most_descriptors, most_descriptions, most_regions}
 use Rattle.model.specs.Owners.{same_owner, owner_at, most_owners}
 use Rattle.model.specs.Locks.{Locks, IsOfNode, with_lock}
 use Rattle.model.specs.Descriptors.{Processes, with_process, with_descriptor, is_of, is_open, lowest_fd, lowest_description, after_spawn, after_fork, after_open, after_dup, again_on, on_lowest_fd}
 use Rattle.model.specs.Table.{Table, Target, empty_table, target, beside, with_processes, lock_within, locked, regions_with, after_unlock}
-use Rattle.model.specs.Anchors.{Hangs, AreAnchored, IsAnchored, IsOwn}
+use Rattle.model.specs.Anchors.{Hangs, AreAnchored, IsOwn}
 use Rattle.model.proofs.OwnerLaws.{owner_exact}
 use Rattle.model.proofs.SearchLaws.{some_passes-found}
 use Rattle.model.proofs.DescriptorLaws.{lowest_description-number, lowest_fd-free}

@@ -1,17 +1,16 @@
 -- Calls that are not done leave the table as it was.
-use Rattle.std.proofs.Common.{◌≡◌, ℕ, Bool, true, false, if◌then◌else◌, ◌∙◌, refl, subst, nat_le, nat_lt, Option, Some, None, Result, Ok, Err}
+use Rattle.std.proofs.Common.{◌≡◌, ℕ, Bool, true, false, if◌then◌else◌, ◌∙◌, refl, subst, nat_le, Option, Some, None, Result, Ok, Err}
 use Rattle.model.specs.declared.mode.Mode.{Mode}
-use Rattle.model.specs.declared.access.Access.{Access}
 use Rattle.model.specs.declared.opened.Opened.{Opened}
 use Rattle.model.specs.declared.process.Process.{Process}
 use Rattle.model.specs.declared.op.Op.{Op}
 use Rattle.model.specs.declared.op.Op.TheVariants.{Spawn, Fork, Open, Dup, Close, Exit, Set, Unlock, Query}
 use Rattle.model.specs.declared.reply.Reply.{Reply}
 use Rattle.model.specs.declared.reply.Reply.TheVariants.{Done, Fd, Again, Free, Blocked, NoProcess, Exists, TooManyFiles, NoLocks}
-use Rattle.model.specs.Limits.{most_descriptors, most_regions}
-use Rattle.model.specs.Descriptors.{Processes, lowest_fd, on_lowest_fd, again_on, after_spawn, after_fork, after_open, after_dup}
+use Rattle.model.specs.Limits.{most_regions}
+use Rattle.model.specs.Descriptors.{Processes, again_on, after_spawn, after_fork, after_open, after_dup}
 use Rattle.model.specs.Table.{Table, Target, around, descriptor, is_running, beside, target, locked, lock_within, regions_with, after_unlock, closed_at, after_close, exited, after_exit}
-use Rattle.model.specs.Step.{Is, Step, AfterTests, SetStep, QueryStep}
+use Rattle.model.specs.Step.{Is, AfterTests, SetStep, QueryStep}
 use Rattle.model.specs.Laws.{TellsNoChange, OnlyDoneCallsChange}
 
 -- an answer that tells of no change comes with the same table

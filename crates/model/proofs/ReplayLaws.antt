@@ -17,10 +17,10 @@ use Rattle.model.specs.declared.lock_info.LockInfo.{LockInfo}
 use Rattle.model.specs.declared.op.Op.{Op}
 use Rattle.model.specs.declared.op.Op.TheVariants.{Spawn, Fork, Open, Dup, Close, Exit, Set, Unlock, Query}
 use Rattle.model.specs.declared.reply.Reply.{Reply}
-use Rattle.model.specs.declared.reply.Reply.TheVariants.{Done, Fd, Again, Free, Blocked, NoProcess, Exists, BadFd, TooManyFiles, NoLocks}
+use Rattle.model.specs.declared.reply.Reply.TheVariants.{Done, Fd, Again, Free, Blocked, NoProcess, Exists, TooManyFiles, NoLocks}
 use Rattle.model.specs.Locks.{excludes, bars}
 use Rattle.model.specs.Descriptors.{Processes, after_spawn, after_fork, after_open, after_dup, again_on}
-use Rattle.model.specs.Table.{Table, Target, around, beside, is_running, descriptor, allows, target_at, target, lock_within, after_unlock, closed_at, after_close, exited, after_exit}
+use Rattle.model.specs.Table.{Table, Target, around, beside, is_running, descriptor, allows, target_at, target, lock_within, after_unlock, closed_at, exited}
 use Rattle.model.specs.Step.{BlocksCall, Unblocked, AfterTests, SetStep, QueryStep, IsPossible, Step}
 use Rattle.model.specs.Replay.{NeverAnswers, NamesNoLock}
 

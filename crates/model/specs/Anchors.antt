@@ -1,5 +1,5 @@
 -- No lock outlives its descriptors.
-use Rattle.std.specs.Prelude.{◌≡◌, ℕ, ◌<◌, Bool, true, false, ◌&&◌, ◌==◌, Option, Some}
+use Rattle.std.specs.Prelude.{◌≡◌, ℕ, ◌<◌, true, false, ◌&&◌, ◌==◌, Some}
 use Rattle.model.specs.declared.mode.Mode.{Mode}
 use Rattle.model.specs.declared.owner.Kind.{Kind}
 use Rattle.model.specs.declared.owner.Kind.TheVariants.{OfProcess, OfDescription}

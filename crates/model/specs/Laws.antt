@@ -1,5 +1,5 @@
 -- What programs may rely on: which calls change nothing, and what is left where descriptors close, and where processes fork and exit.
-use Rattle.std.specs.Prelude.{◌≡◌, ℕ, true, false, if◌then◌else◌, Option, Some, None}
+use Rattle.std.specs.Prelude.{◌≡◌, ℕ, true, false, if◌then◌else◌, Some, None}
 use Rattle.intervals.specs.Bytes.{nothing}
 use Rattle.model.specs.declared.op.Op.{Op}
 use Rattle.model.specs.declared.op.Op.TheVariants.{Fork, Close, Exit}
