@@ -3,7 +3,6 @@ use Rattle.std.proofs.Common.{◌≡◌, ℕ, Bool, true, false, if◌then◌els
 use Rattle.model.specs.declared.mode.Mode.{Mode}
 use Rattle.model.specs.declared.opened.Opened.{Opened}
 use Rattle.model.specs.declared.process.Process.{Process}
-use Rattle.model.specs.declared.op.Op.{Op}
 use Rattle.model.specs.declared.op.Op.TheVariants.{Spawn, Fork, Open, Dup, Close, Exit, Set, Unlock, Query}
 use Rattle.model.specs.declared.reply.Reply.{Reply}
 use Rattle.model.specs.declared.reply.Reply.TheVariants.{Done, Fd, Again, Free, Blocked, NoProcess, Exists, TooManyFiles, NoLocks}
