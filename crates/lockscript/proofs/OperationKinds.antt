@@ -1,5 +1,5 @@
 -- The kinds of operations.
-use Rattle.std.proofs.Common.{◌≡◌, ◌≢◌, ℕ, ℤ, List, [], ◌∷◌, ◌++◌, Some, None, refl, codes, decimal}
+use Rattle.std.proofs.Common.{◌≡◌, ◌≢◌, ℕ, ℤ, List, [], ◌∷◌, ◌++◌, Some, None, refl, arith, codes, decimal}
 use Rattle.std.specs.Prelude.{⊤}
 use Rattle.model.specs.Limits.{IsNumber, most_processes}
 use Rattle.model.specs.declared.access.Access.{Access}
