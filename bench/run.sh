@@ -10,7 +10,7 @@ if [ -z "$folder" ]; then
     folder=$(mktemp -d) || exit 1
     trap 'rm -rf "$folder"' EXIT
 fi
-[ $# -gt 0 ] || set -- covered readers lossy fight storm crowd walk
+[ $# -gt 0 ] || set -- covered readers lossy fight storm crowd walk churn
 "$here/../lockreplay" --help >/dev/null || exit 1
 
 # Runs the program so many times. Prints the processor seconds of the fastest run, and the peak memory in kilobytes.

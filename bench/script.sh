@@ -14,6 +14,9 @@
 #          million bytes, so that each comes to hold hundreds of regions; the node's token covers all of it
 # walk     a process on each of 64 nodes reads ten bytes of one file, all at one place, then all at the next: so their tokens
 #          come to have thousands of runs, since each asks for just those bytes
+# churn    a process of one node forks children, 64 at once: each opens one of four files, locks bytes of it for itself and
+#          for the description, closes one of its two descriptors of that, locks again and exits; the node's token
+#          covers all of it
 kind=${1:?usage: script.sh KIND LINES}
 lines=${2:?usage: script.sh KIND LINES}
 exec awk -v kind="$kind" -v lines="$lines" '
@@ -145,6 +148,30 @@ function walk() {
     }
 }
 
+# The parent has descriptors 0 to 3; a child gets 4 and 5 beside them, and exits once 63 more were forked.
+function churn() {
+    put("cluster nodes 1 files 4 policy wide")
+    put("call 1 1 spawn")
+    for (file = 1; file <= 4; file++) {
+        put("call 1 1 open " file " rw")
+        put("call 1 1 set " file - 1 " proc write 0 1")
+        put("settle")
+    }
+    for (number = 0; written < lines; number++) {
+        if (number >= 64)
+            put("call 1 " 2 + (number - 64) % 128 " exit")
+        child = 2 + number % 128
+        first = 1 + number % 64 * 200
+        put("call 1 1 fork " child)
+        put("call 1 " child " open " 1 + number % 4 " rw")
+        put("call 1 " child " dup 4")
+        put("call 1 " child " set 4 proc write " first " 100")
+        put("call 1 " child " set 5 desc write " first + 100 " 100")
+        put("call 1 " child " close 4")
+        put("call 1 " child " set 5 proc read " first " 100")
+    }
+}
+
 BEGIN {
     if (kind == "covered")
         covered()
@@ -160,6 +187,8 @@ BEGIN {
         crowd()
     else if (kind == "walk")
         walk()
+    else if (kind == "churn")
+        churn()
     else
         exit 2
 }'

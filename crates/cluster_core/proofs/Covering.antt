@@ -12,14 +12,15 @@ use Rattle.model.specs.declared.owner.Owner.{Owner}
 use Rattle.model.specs.declared.process.Process.{Process}
 use Rattle.model.specs.declared.call.CallId.{CallId}
 use Rattle.model.specs.declared.op.Op.{Op}
-use Rattle.model.specs.declared.op.Op.TheVariants.{Spawn, Open, Set, Unlock, Query}
+use Rattle.model.specs.declared.op.Op.TheVariants.{Spawn, Fork, Open, Dup, Close, Exit, Set, Unlock, Query}
 use Rattle.model.specs.declared.reply.Reply.{Reply}
 use Rattle.model.specs.declared.reply.Reply.TheVariants.{Done, NoLocks}
 use Rattle.model.specs.Limits.{most_regions}
 use Rattle.model.specs.Owners.{same_owner}
 use Rattle.model.specs.Locks.{FileLocks, Locks, IsOfNode, bars, with_lock, lowest_blocker}
-use Rattle.model.specs.Descriptors.{Processes, after_spawn, after_open}
-use Rattle.model.specs.Table.{Table, Target, around, beside, target, lock_within, locked, regions_with}
+use Rattle.model.specs.Descriptors.{Processes, is_of_file, has_open, after_spawn, after_fork, after_open, after_dup}
+use Rattle.model.specs.Table.{Table, Target, around, descriptor, beside, target, lock_within, locked, regions_with, after_close, after_exit}
+use Rattle.model.proofs.Closings.{AreFewer, fewer_after_close, fewer_after_exit}
 use Rattle.token_set.specs.Tokens.{Token, serves, covers, raised, raised_level}
 use Rattle.token_set.specs.Releases.{gave_up, after_giving_up}
 use Rattle.token_set.specs.declared.gave_up.GaveUp.{GaveUp}
@@ -36,15 +37,15 @@ use Rattle.node_core.specs.declared.event.NodeEvent.TheVariants.{Call, Deliver, 
 use Rattle.node_core.specs.declared.open_call.Intent.{Intent}
 use Rattle.node_core.specs.declared.open_call.Intent.TheVariants as intent
 use Rattle.node_core.specs.declared.open_call.OpenCall.{OpenCall}
-use Rattle.node_core.specs.State.{NodeState, FileState, Effect, first_node, process, host, open_call, open_call_of, target_of}
+use Rattle.node_core.specs.State.{NodeState, FileState, Effect, first_node, process, host, open_call, open_call_of, without_call_of, target_of}
 use Rattle.node_core.specs.Try.{requested, locked_by, answered_here, tried, tried_against, tried_if}
-use Rattle.node_core.specs.Calls.{called, after_call, lock_call, unlock_call}
+use Rattle.node_core.specs.Calls.{called, after_call, lock_call, unlock_call, shut_by}
 use Rattle.node_core.specs.Commands.{in_order, after_command, granted, revoked, answer_to, is_conflict, denied, delivered}
 use Rattle.node_core.specs.Node.{node_rule}
 use Rattle.cluster_core.specs.Safe.{Excludes}
 use Rattle.cluster_core.proofs.Choices.{at_number}
 use Rattle.cluster_core.proofs.NodeSteps.{call_done, deliver_done, retry_done, remembered_state, in_order_either}
-use Rattle.cluster_core.proofs.Tries.{locked_by_settles}
+use Rattle.cluster_core.proofs.Tries.{locked_by_settles, shut_settles}
 use Rattle.cluster_core.proofs.Clearing.{released_clear}
 
 -- the token serves each byte that is locked
@@ -172,10 +173,21 @@ unlock_call_covered : (s : NodeState) (number : ℕ) (found : Result Target Repl
 unlock_call_covered s number (Err refusal) old = old
 unlock_call_covered s number (Ok about) old = locked_by_covered s number about None tt old
 
+-- descriptors are closed: the locks that are left were there
+shut_covered : (s : NodeState) (number : ℕ) (passes : ℕ → Bool) (answer : Table × Reply) → AreFewer s.table.locks answer.0.locks → Covered s → Covered (shut_by s number passes answer).state
+shut_covered s number passes answer fewer old file o b m held =
+    let settles = shut_settles s number passes answer in
+    subst (λ (t : Token). serves (t b) m ≡ true) (sym (settles.tokens file))
+    (old file o b m (fewer file o b m (subst (λ (t : Table). t.locks file o b ≡ Some m) settles.table held)))
+
 -- a call is taken
 pub called_covered : (s : NodeState) (number pid : ℕ) (op : Op) → Covered s → Covered (called s number pid op).state
 called_covered s number pid Spawn old = beside_covered s.files s.table (process s pid) (after_spawn (around s.table (process s pid)) pid) old
 called_covered s number pid (Open file access) old = beside_covered s.files s.table (process s pid) (after_open (around s.table (process s pid)) pid file access) old
+called_covered s number pid (Fork child) old = beside_covered s.files s.table (process s pid) (after_fork (around s.table (process s pid)) pid child) old
+called_covered s number pid (Dup fd) old = beside_covered s.files s.table (process s pid) (after_dup (around s.table (process s pid)) pid fd) old
+called_covered s number pid (Close fd) old = shut_covered s number (λ file. is_of_file file (descriptor s.table (process s pid) fd)) (after_close s.table (process s pid) fd) (fewer_after_close (process s pid) s.table fd) old
+called_covered s number pid Exit old = shut_covered (without_call_of s pid) number (has_open (around s.table (process s pid)) pid) (after_exit s.table (process s pid)) (fewer_after_exit (process s pid) s.table) old
 called_covered s number pid (Set fd kind mode start len) old = lock_call_covered s number pid intent.Set mode (target s.table (process s pid) (Some mode) fd kind start len) old
 called_covered s number pid (Unlock fd kind start len) old = unlock_call_covered s number (target s.table (process s pid) None fd kind start len) old
 called_covered s number pid (Query fd kind mode start len) old = lock_call_covered s number pid intent.Query mode (target s.table (process s pid) None fd kind start len) old

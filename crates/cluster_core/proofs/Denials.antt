@@ -29,7 +29,7 @@ use Rattle.cluster_core.specs.Union.{union}
 use Rattle.cluster_core.specs.Histories.{caller, names_conflict, EntryAt, IsCalledAt, OneCall}
 use Rattle.cluster_core.specs.Evidence.{IsAbout, IsAsked, IsFirstDone, HasEvidence}
 use Rattle.cluster_core.proofs.Entries.{entry_at-last, entry_at-push, entry_at-within}
-use Rattle.cluster_core.proofs.NodeTables.{IsOwn}
+use Rattle.model.specs.Anchors.{IsOwn}
 use Rattle.cluster_core.proofs.Tries.{about_step, blocked_step}
 use Rattle.cluster_core.proofs.Joined.{is_of_host, holder_of_host}
 use Rattle.cluster_core.proofs.Lifting.{union_locks-host, about_lifts}

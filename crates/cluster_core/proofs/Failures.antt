@@ -12,8 +12,8 @@ use Rattle.cluster_core.specs.Union.{union}
 use Rattle.cluster_core.proofs.Choices.{at_number}
 use Rattle.cluster_core.proofs.Unions.{live_at}
 use Rattle.cluster_core.proofs.Lifting.{union_locks-host}
-use Rattle.cluster_core.proofs.Hanging.{IsAnchored, AreAnchored}
-use Rattle.cluster_core.proofs.Anchors.{without_host, gone_is}
+use Rattle.model.specs.Anchors.{IsAnchored, AreAnchored}
+use Rattle.model.proofs.Anchors.{without_host, gone_is}
 
 -- what stands nowhere any more stood in that incarnation alone
 gone_part : {A : Type 0} (c h d e : Bool) (x none : A) → d ≡ e → (if c then none else none) ≡ (if e then none else (if h && d then x else none))
@@ -56,6 +56,7 @@ module _ (w : WorldState) (n : ℕ) where
       subst (λ (ps : Processes). AreAnchored ps (union w).locks n i) (sym here) (record {
         numbers = a.numbers;
         descriptors = a.descriptors;
+        agree = a.agree;
         locks = λ file owner b mode node incarnation held.
             a.locks file owner b mode node incarnation (ap (λ (f : ℕ → Option Mode). f b) (sym (union_locks-host w n file owner there node incarnation)) ∙ held);
       })

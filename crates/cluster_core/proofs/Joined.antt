@@ -11,20 +11,22 @@ use Rattle.model.specs.declared.owner.Owner.{Owner}
 use Rattle.model.specs.declared.opened.Opened.{Opened}
 use Rattle.model.specs.declared.process.Process.{Process}
 use Rattle.model.specs.declared.op.Op.{Op}
-use Rattle.model.specs.declared.op.Op.TheVariants.{Spawn, Open, Set, Unlock, Query}
+use Rattle.model.specs.declared.op.Op.TheVariants.{Spawn, Fork, Open, Dup, Close, Exit, Set, Unlock, Query}
 use Rattle.model.specs.declared.reply.Reply.{Reply}
 use Rattle.model.specs.declared.reply.Reply.TheVariants.{Done, Again, NoProcess, NoLocks, Free, Blocked}
 use Rattle.model.specs.Limits.{most_descriptors, most_regions}
 use Rattle.model.specs.Owners.{same_owner, process_owner, description_owner}
 use Rattle.model.specs.Locks.{bars, replace, without_owner, without_owner_anywhere, regions, IsFree, Blocks}
-use Rattle.model.specs.Descriptors.{Processes, with_process, with_descriptor, is_open, after_spawn, after_open}
-use Rattle.model.specs.Table.{Table, Target, around, is_running, descriptor, beside, with_processes, target, target_at, owner_of, locked, lock_within, regions_with, after_unlock, after_last_close, closed, closed_if, closed_below, exited}
+use Rattle.model.specs.Descriptors.{Processes, with_process, with_descriptor, is_open, after_spawn, after_fork, after_open, after_dup}
+use Rattle.model.specs.Table.{Table, Target, around, is_running, descriptor, beside, with_processes, target, target_at, owner_of, locked, lock_within, regions_with, after_unlock, after_last_close, closed, closed_at, closed_if, closed_below, after_close, exited, after_exit}
 use Rattle.model.specs.Step.{Is, AfterTests, SetStep, QueryStep, Step}
 use Rattle.model.proofs.OwnerLaws.{owner_exact}
 use Rattle.cluster_core.specs.Evidence.{IsAbout}
 use Rattle.cluster_core.proofs.Refusals.{if_then}
-use Rattle.cluster_core.proofs.Targets.{passes_at}
-use Rattle.cluster_core.proofs.NodeTables.{IsOwn, itself, owner_at-node, owner_at-incarnation}
+use Rattle.model.proofs.Targets.{passes_at}
+use Rattle.model.specs.Anchors.{IsOwn}
+use Rattle.model.proofs.Hanging.{itself}
+use Rattle.model.proofs.NodeTables.{owner_at-node, owner_at-incarnation}
 use Rattle.cluster_core.proofs.Tries.{about_maps, IsUnhindered}
 
 -- the owner is one of the node in that incarnation
@@ -188,6 +190,27 @@ module _ (others : Table) (p : Process) where
       ∙ ap (λ (ps : Processes). with_processes (all before) p (end ps)) (around-joined before)
       ∙ sym (joined-with_processes before (end (around before p)))
 
+  -- what a call of the process makes of it, where it runs
+  ran-joined : (t : Table) (one two : Table × Reply) → two ≡ answer_of_all one → (if is_running (all t) p then two else (all t, NoProcess)) ≡ answer_of_all (if is_running t p then one else (t, NoProcess))
+  ran-joined t one two same =
+      ap (λ (ps : Processes). if ps.runs p.pid then two else (all t, NoProcess)) (around-joined t) ∙ either (is_running t p)
+    where
+      either : (b : Bool) → (if b then two else (all t, NoProcess)) ≡ answer_of_all (if b then one else (t, NoProcess))
+      either true = same
+      either false = refl
+
+  closed_at-joined : (t : Table) (fd : ℕ) (o : Option Opened) → closed_at (all t) p fd o ≡ answer_of_all (closed_at t p fd o)
+  closed_at-joined t fd None = refl
+  closed_at-joined t fd (Some o) = λ i. (closed-joined t fd o i, Done)
+
+  after_close-joined : (t : Table) (fd : ℕ) → after_close (all t) p fd ≡ answer_of_all (after_close t p fd)
+  after_close-joined t fd =
+      ran-joined t (closed_at t p fd (descriptor t p fd)) (closed_at (all t) p fd (descriptor (all t) p fd))
+      (ap (λ (ps : Processes). closed_at (all t) p fd (ps.opened p.pid fd)) (around-joined t) ∙ closed_at-joined t fd (descriptor t p fd))
+
+  after_exit-joined : (t : Table) → after_exit (all t) p ≡ answer_of_all (after_exit t p)
+  after_exit-joined t = ran-joined t (exited t p, Done) (exited (all t) p, Done) (λ i. (exited-joined t i, Done))
+
   -- locks in the way
   pub blocks-joined : (t : Table) (file : ℕ) (owner : Owner) (s : Range) (mode : Mode) (lock : LockInfo) → IsOwn t p.node p.incarnation → Blocks (t.locks file) owner s mode lock → Blocks ((all t).locks file) owner s mode lock
   blocks-joined t file owner s mode lock own b =
@@ -238,6 +261,14 @@ module _ (others : Table) (p : Process) where
   step-joined t u (Open file access) reply own elsewhere h =
       let r : Processes → Result (Processes × Reply) Reply = λ ps. after_open ps p.pid file access in
       is-joined (beside t p (r (around t p))) (beside (all t) p (r (around (all t) p))) reply u (ap (λ ps. beside (all t) p (r ps)) (around-joined t) ∙ beside-joined t (r (around t p))) h
+  step-joined t u (Fork child) reply own elsewhere h =
+      let r : Processes → Result (Processes × Reply) Reply = λ ps. after_fork ps p.pid child in
+      (h.0, is-joined (beside t p (r (around t p))) (beside (all t) p (r (around (all t) p))) reply u (ap (λ ps. beside (all t) p (r ps)) (around-joined t) ∙ beside-joined t (r (around t p))) h.1)
+  step-joined t u (Dup fd) reply own elsewhere h =
+      let r : Processes → Result (Processes × Reply) Reply = λ ps. after_dup ps p.pid fd in
+      is-joined (beside t p (r (around t p))) (beside (all t) p (r (around (all t) p))) reply u (ap (λ ps. beside (all t) p (r ps)) (around-joined t) ∙ beside-joined t (r (around t p))) h
+  step-joined t u (Close fd) reply own elsewhere h = is-joined (after_close t p fd) (after_close (all t) p fd) reply u (after_close-joined t fd) h
+  step-joined t u Exit reply own elsewhere h = is-joined (after_exit t p) (after_exit (all t) p) reply u (after_exit-joined t) h
   step-joined t u (Set fd kind mode start len) reply own elsewhere h =
       let found = target t p (Some mode) fd kind start len in
       let P : Result Target Reply → Type 0 = λ x. AfterTests (all t) x reply (all u) (SetStep (all t) mode reply (all u)) in

@@ -13,8 +13,6 @@ pub mod Entries
 pub mod Fitting
 pub mod Prefixes
 pub mod Slots
-pub mod Targets
-pub mod NodeTables
 pub mod Covering
 pub mod Tries
 pub mod Served
@@ -48,8 +46,6 @@ pub mod NodeTokens
 pub mod ServerRows
 pub mod Present
 pub mod Members
-pub mod Hanging
-pub mod Anchors
 pub mod Failures
 pub mod Resting
 pub mod FailuresRow

@@ -16,7 +16,7 @@ use Rattle.node_core.specs.State.{NodeState, process}
 use Rattle.cluster_core.specs.World.{WorldState, has_node, is_live}
 use Rattle.cluster_core.specs.Union.{union}
 use Rattle.cluster_core.proofs.Choices.{if_again}
-use Rattle.cluster_core.proofs.NodeTables.{IsOwn}
+use Rattle.model.specs.Anchors.{IsOwn}
 use Rattle.cluster_core.specs.Evidence.{IsAbout}
 use Rattle.cluster_core.proofs.Tries.{IsUnhindered}
 use Rattle.cluster_core.proofs.Unions.{live_at}

@@ -1,5 +1,5 @@
 -- Each step of a node keeps what holds of it.
-use Rattle.std.proofs.Common.{◌≡◌, ℕ, ◌+◌, ◌≤◌, Bool, ◌==◌, inl, inr, refl, sym, ◌∙◌, ap, subst, arith, List, [], ◌∷◌, ◌++◌, find, Option, Some, None}
+use Rattle.std.proofs.Common.{◌≡◌, ℕ, ◌+◌, ◌≤◌, Bool, true, ◌==◌, inl, inr, refl, sym, ◌∙◌, ap, subst, arith, List, [], ◌∷◌, ◌++◌, find, All, Option, Some, None}
 use Rattle.std.proofs.lemmas.Bool.{eqb-true}
 use Rattle.std.proofs.lemmas.Option.{same_Some}
 use Rattle.std.proofs.lemmas.List.Elements.{All-same, All-push, All-contains}
@@ -21,16 +21,16 @@ use Rattle.messages.specs.declared.entry.Entry.{Entry}
 use Rattle.node_core.specs.declared.open_call.OpenCall.{OpenCall}
 use Rattle.node_core.specs.State.{NodeState, FileState, Effect, quiet, without_call, process, id_of, open_call_of, outcome}
 use Rattle.node_core.specs.Try.{refusal_of, tried, tried_if}
-use Rattle.node_core.specs.Calls.{called, after_call}
+use Rattle.node_core.specs.Calls.{is_in_shape, called, after_call}
 use Rattle.node_core.specs.Commands.{remembered, in_order, after_command, granted, revoked, denied, delivered}
 use Rattle.cluster_core.specs.Histories.{IsRepliedAt}
 use Rattle.cluster_core.specs.Next.{entry}
 use Rattle.cluster_core.proofs.Entries.{not_there, IsNamed, Unanswered, unanswered-push, named-push}
 use Rattle.cluster_core.proofs.Fitting.{Called, called-keeps, called-last}
 use Rattle.cluster_core.proofs.NodeSteps.{IsTo, in_order_either}
-use Rattle.cluster_core.proofs.NodeTables.{IsOwn, same_follows}
-use Rattle.cluster_core.proofs.Tries.{Continues, IsAnswered, IsSilent, tried_ends, called_ends}
-use Rattle.cluster_core.proofs.Nodes.{IsOpen, Holds, Moves, IsNoDenial, open-continues, opened, all_wait, others_wait, found_open, stay_same, stay_closed, stay_opened}
+use Rattle.model.specs.Anchors.{IsOwn}
+use Rattle.cluster_core.proofs.Tries.{Continues, IsAnswered, IsSilent, Stays, IsIdle, same_continues, stays_closed, tried_ends, called_ends}
+use Rattle.cluster_core.proofs.Nodes.{IsOpen, Holds, Moves, IsNoDenial, still_goes_on, open-continues, opened, all_wait, others_wait, found_open, stay_same, stay_closed, stay_opened}
 
 -- an entry that names no call counts none
 same_numbers : (past : List Entry) (e : Entry) (s u : NodeState) → Continues s u → u.calls ≡ s.calls → e.call ≡ None → Holds past s → (id : CallId) → IsNamed (past ++ e ∷ []) id → id.node ≡ u.node → id.incarnation ≡ u.incarnation → id.number ≤ u.calls
@@ -40,14 +40,14 @@ same_numbers past e s u g calls none holds id named node incarnation = elim (nam
 ]
 
 own_after : (s u : NodeState) → Continues s u → IsOwn u.table u.node u.incarnation
-own_after s u g = subst (λ (i : ℕ). IsOwn u.table u.node i) (sym g.incarnation) (subst (λ (n : ℕ). IsOwn u.table n s.incarnation) (sym g.node) g.follows.own)
+own_after s u g = subst (λ (i : ℕ). IsOwn u.table u.node i) (sym g.incarnation) (subst (λ (n : ℕ). IsOwn u.table n s.incarnation) (sym g.node) g.own)
 
 -- a step that names no call and answers none
 silent_moves : (past : List Entry) (e : Entry) (s u : NodeState) → Continues s u → u.calls ≡ s.calls → u.pending ≡ s.pending → e.call ≡ None → IsSilent s u e.reply → Holds past s → Moves past s u e
 silent_moves past e s u g calls pending none silent holds = record {
   holds = record {
     own = own_after s u g;
-    waiting = All-same (IsOpen (past ++ e ∷ []) u) u.pending s.pending pending (all_wait past e s u s.pending g silent.no_reply holds.waiting);
+    waiting = All-same (IsOpen (past ++ e ∷ []) u) u.pending s.pending pending (all_wait past e s u s.pending g silent holds.waiting);
     numbers = same_numbers past e s u g calls none holds;
   };
   node = g.node;
@@ -59,10 +59,10 @@ silent_moves past e s u g calls pending none silent holds = record {
 }
 
 -- what holds of the node after an open call is answered
-closed_holds : (past : List Entry) (e : Entry) (s u : NodeState) (number : ℕ) (reply : Reply) → Continues s u → u.calls ≡ s.calls → e.call ≡ None → e.reply ≡ Some (id_of s number, reply) → u.pending ≡ (without_call s number).pending → Holds past s → Holds (past ++ e ∷ []) u
+closed_holds : (past : List Entry) (e : Entry) (s u : NodeState) (number : ℕ) (reply : Reply) → Continues s u → u.calls ≡ s.calls → e.call ≡ None → e.reply ≡ Some (id_of s number, reply) → All (Stays s.pending number) u.pending → Holds past s → Holds (past ++ e ∷ []) u
 closed_holds past e s u number reply g calls none is_reply closed holds = record {
   own = own_after s u g;
-  waiting = All-same (IsOpen (past ++ e ∷ []) u) u.pending (without_call s number).pending closed (others_wait past e s u number reply g is_reply holds.waiting);
+  waiting = others_wait past e s u number reply g is_reply closed holds.waiting;
   numbers = same_numbers past e s u g calls none holds;
 }
 
@@ -106,7 +106,7 @@ module _ (past : List Entry) (s : NodeState) (holds : Holds past s) where
   said event e = entry event 0 (outcome None e).1
 
   still : Continues s s
-  still = record { node = refl; incarnation = refl; follows = same_follows s.table s.node s.incarnation holds.own }
+  still = same_continues s s.pending holds.own
 
   -- nothing but messages
   pub quiet_receives : (event : Event) (e : Effect) → e.state ≡ s → e.reply ≡ None → Receives past s e.state (said event e)
@@ -129,14 +129,14 @@ module _ (past : List Entry) (s : NodeState) (holds : Holds past s) where
         | None ↦ λ h is.
             let silent : IsSilent s next e.reply = record { no_reply = is; table = refl } in
             record {
-              moves = silent_moves past e s next (record { node = refl; incarnation = refl; follows = same_follows s.table s.node s.incarnation holds.own }) refl refl none silent holds;
+              moves = silent_moves past e s next (record { node = refl; incarnation = refl; own = still.own; goes_on = still.goes_on }) refl refl none silent holds;
               idle = λ empty. (empty, silent);
             }
         | Some c ↦ λ h is.
             let o = All-contains (IsOpen past s) s.pending c holds.waiting (found_open test s.pending c h).0 in
             let u = (tried next c).state in
             let t = tried_ends next c o.op o.is_process.pid_in holds.own o.ready in
-            let g : Continues s u = record { node = t.continues.node; incarnation = t.continues.incarnation; follows = t.continues.follows } in
+            let g : Continues s u = record { node = t.continues.node; incarnation = t.continues.incarnation; own = t.continues.own; goes_on = t.continues.goes_on } in
             record {
               moves = elim t.ends [
                 | inl a ↦ answer_moves past e s u c o undenied g t.calls none (record { reply = a.reply; is_reply = is ∙ a.is_reply; step = a.step; served = a.served; closed = a.closed }) holds
@@ -163,7 +163,7 @@ module _ (past : List Entry) (s : NodeState) (holds : Holds past s) where
       let e = revoked s file number call mode wanted in
       let silent : IsSilent s e.state None = record { no_reply = refl; table = refl } in
       record {
-        moves = silent_moves past (said event e) s e.state (record { node = refl; incarnation = refl; follows = same_follows s.table s.node s.incarnation holds.own }) refl refl refl silent holds;
+        moves = silent_moves past (said event e) s e.state (record { node = refl; incarnation = refl; own = still.own; goes_on = still.goes_on }) refl refl refl silent holds;
         idle = λ none. (none, silent);
       }
 
@@ -174,19 +174,20 @@ module _ (past : List Entry) (s : NodeState) (holds : Holds past s) where
       let test : OpenCall → Bool = λ d. d.number == call.number in
       let e = said (Deliver (Deny file call holder number lock)) (denied s lock (Some c)) in
       let u = without_call s c.number in
-      let g : Continues s u = record { node = refl; incarnation = refl; follows = same_follows s.table s.node s.incarnation holds.own } in
+      let g : Continues s u = same_continues s u.pending holds.own in
+      let left = stays_closed s.pending c.number in
       let found = found_open test s.pending c h in
       let same_node : s.node ≡ call.node = sym (eqb-true call.node s.node to.node) in
       let same_incarnation : s.incarnation ≡ call.incarnation = sym to.incarnation in
       let same_number : c.number ≡ call.number = eqb-true c.number call.number found.1 in
       record {
         moves = record {
-          holds = closed_holds past e s u c.number (refusal_of c.intent lock) g refl refl refl refl holds;
+          holds = closed_holds past e s u c.number (refusal_of c.intent lock) g refl refl refl left holds;
           node = refl;
           incarnation = refl;
           fresh = λ id is. absurd (not_there e.call id refl is);
           of_incarnation = λ id is. absurd (not_there e.call id refl is);
-          stay = stay_closed s u e c.number refl;
+          stay = stay_closed s u e c.number left;
           ends = inr (inl (record {
             file = file;
             call = call;
@@ -224,7 +225,7 @@ module _ (past : List Entry) (s : NodeState) (holds : Holds past s) where
   delivered_receives (Freed file holder) to = quiet_receives (Deliver (Freed file holder)) (quiet s) refl refl
 
 -- a new call
-module _ (past : List Entry) (s : NodeState) (node pid : ℕ) (op : Op) (holds : Holds past s) (named : s.node ≡ node) (is_process : IsProcess (process s pid)) (known : (id : CallId) (reply : Reply) (at : ℕ) → IsRepliedAt past id reply at → IsNamed past id) where
+module _ (past : List Entry) (s : NodeState) (node pid : ℕ) (op : Op) (holds : Holds past s) (named : s.node ≡ node) (is_process : IsProcess (process s pid)) (known : (id : CallId) (reply : Reply) (at : ℕ) → IsRepliedAt past id reply at → IsNamed past id) (of_shape : is_in_shape s.shape op ≡ true) (idle : IsIdle s.pending pid op) where
   not_named : IsNamed past (id_of s (s.calls + 1)) → ⊥
   not_named n = let below = holds.numbers (id_of s (s.calls + 1)) n refl refl in absurd (omega arith)
 
@@ -238,20 +239,21 @@ module _ (past : List Entry) (s : NodeState) (node pid : ℕ) (op : Op) (holds :
       let id = id_of s number in
       let e = entry (Call node pid op) 0 (after_call s pid op).1 in
       let u = (called counted number pid op).state in
-      let t = called_ends counted number pid op is_process.pid_in holds.own in
-      let g : Continues s u = record { node = t.continues.node; incarnation = t.continues.incarnation; follows = t.continues.follows } in
+      let t = called_ends counted number pid op is_process.pid_in of_shape idle holds.own in
+      let g : Continues s u = record { node = t.continues.node; incarnation = t.continues.incarnation; own = t.continues.own; goes_on = t.continues.goes_on } in
       let here : Called (past ++ e ∷ []) id pid op = called-last past e id pid op (ap (λ n. Call n pid op) (sym named)) refl not_named in
       let fresh : Unanswered past id = λ reply at r. not_named (known id reply at r) in
       record {
         holds = record {
           own = own_after s u g;
           waiting = elim t.ends [
-            | inl a ↦ All-same (IsOpen (past ++ e ∷ []) u) u.pending (without_call s number).pending a.closed (others_wait past e s u number a.reply g a.is_reply holds.waiting)
+            | inl a ↦ others_wait past e s u number a.reply g a.is_reply a.closed holds.waiting
             | inr o ↦
                 let c = o.call in
+                let silent : IsSilent s u e.reply = record { no_reply = o.silent.no_reply; table = o.silent.table } in
                 let opens : IsOpen (past ++ e ∷ []) s c = opened past e s number pid op c o.number_is o.pid_is o.ready is_process here (unanswered-push past e id fresh (λ reply h. not_there e.reply (id, reply) o.silent.no_reply h)) in
                 All-same (IsOpen (past ++ e ∷ []) u) u.pending (s.pending ++ c ∷ []) o.pending
-                (All-push (IsOpen (past ++ e ∷ []) u) s.pending c (all_wait past e s u s.pending g o.silent.no_reply holds.waiting) (open-continues (past ++ e ∷ []) s u c g opens))
+                (All-push (IsOpen (past ++ e ∷ []) u) s.pending c (all_wait past e s u s.pending g silent holds.waiting) (open-continues (past ++ e ∷ []) s u c g (still_goes_on s u c.pid o.silent.table) opens))
           ];
           numbers = λ other n same_node same_incarnation. elim (named-push past e other n) [
             | inl old ↦ let below = holds.numbers other old (same_node ∙ g.node) (same_incarnation ∙ g.incarnation) in let calls = t.calls in omega arith

@@ -9,10 +9,11 @@ use Rattle.model.specs.declared.host.Host.{Host}
 use Rattle.model.specs.declared.lock_info.LockInfo.{LockInfo}
 use Rattle.model.specs.declared.mode.Mode.{Mode}
 use Rattle.model.specs.declared.op.Op.{Op}
-use Rattle.model.specs.declared.op.Op.TheVariants.{Spawn, Open, Set, Unlock, Query}
+use Rattle.model.specs.declared.op.Op.TheVariants.{Spawn, Fork, Open, Dup, Close, Exit, Set, Unlock, Query}
 use Rattle.model.specs.declared.reply.Reply.{Reply}
 use Rattle.model.specs.Locks.{lowest_blocker}
-use Rattle.model.specs.Table.{Target, target, lock_within}
+use Rattle.model.specs.Descriptors.{is_of_file, has_open}
+use Rattle.model.specs.Table.{Table, Target, around, descriptor, target, lock_within, after_close, after_exit}
 use Rattle.token_set.specs.Tokens.{Token, covers, raised}
 use Rattle.token_set.specs.Releases.{gave_up, after_giving_up}
 use Rattle.token_set.specs.declared.gave_up.GaveUp.{GaveUp}
@@ -25,13 +26,13 @@ use Rattle.messages.proofs.SameMessages.{same_message-is-equality}
 use Rattle.node_core.specs.declared.open_call.Intent.{Intent}
 use Rattle.node_core.specs.declared.open_call.Intent.TheVariants as intent
 use Rattle.node_core.specs.declared.open_call.OpenCall.{OpenCall}
-use Rattle.node_core.specs.State.{FileState, NodeState, Effect, quiet, answered, host, open_call, process, target_of}
+use Rattle.node_core.specs.State.{FileState, NodeState, Effect, quiet, answered, without_call_of, host, open_call, process, target_of}
 use Rattle.node_core.specs.Try.{settled as after_settling, may_free, with_freed, locked_by, answered_here, tried, tried_against, tried_if, requested}
-use Rattle.node_core.specs.Calls.{lock_call, unlock_call, called}
+use Rattle.node_core.specs.Calls.{lock_call, unlock_call, called, shut_by}
 use Rattle.node_core.specs.Commands.{granted, revoked, answer_to, is_conflict, after_command, in_order, denied, remembered}
 use Rattle.cluster_core.proofs.Choices.{if_either, at_number}
 use Rattle.cluster_core.proofs.KnownMessages.{sent_either}
-use Rattle.cluster_core.proofs.NodeSteps.{in_order_either}
+use Rattle.cluster_core.proofs.NodeSteps.{in_order_either, shut_keeps}
 use Rattle.cluster_core.proofs.Talks.{settled, IsHostOf, IsCommandTo, IsAnswerOf, unasked}
 use Rattle.cluster_core.proofs.TalkMoves.{done_file}
 
@@ -174,10 +175,21 @@ unlock_call_asks : (s : NodeState) (number : ℕ) (r : Result Target Reply) → 
 unlock_call_asks s number (Err refusal) = answered_asks s number refusal
 unlock_call_asks s number (Ok t) = locked_by_asks s number t None
 
+-- descriptors are closed
+shut_asks : (s : NodeState) (number : ℕ) (passes : ℕ → Bool) (answer : Table × Reply) → AsksFrom s (shut_by s number passes answer)
+shut_asks s number passes answer =
+    shut_keeps (AsksFrom s) (with_freed_asks s) s number passes answer (says_nothing s (after_settling s number answer) refl refl (λ file. refl) refl)
+
 -- a call
 pub called_asks : (s : NodeState) (number pid : ℕ) (op : Op) → AsksFrom s (called s number pid op)
 called_asks s number pid Spawn = says_nothing s _ refl refl (λ file. refl) refl
 called_asks s number pid (Open file access) = says_nothing s _ refl refl (λ file. refl) refl
+called_asks s number pid (Fork child) = says_nothing s _ refl refl (λ file. refl) refl
+called_asks s number pid (Dup fd) = says_nothing s _ refl refl (λ file. refl) refl
+called_asks s number pid (Close fd) = shut_asks s number (λ file. is_of_file file (descriptor s.table (process s pid) fd)) (after_close s.table (process s pid) fd)
+called_asks s number pid Exit =
+    let a = shut_asks (without_call_of s pid) number (has_open (around s.table (process s pid)) pid) (after_exit s.table (process s pid)) in
+    record { node_is = a.node_is; incarnation_is = a.incarnation_is; files_are = a.files_are; sends = a.sends }
 called_asks s number pid (Set fd kind mode start len) = lock_call_asks s number pid intent.Set mode (target s.table (process s pid) (Some mode) fd kind start len)
 called_asks s number pid (Unlock fd kind start len) = unlock_call_asks s number (target s.table (process s pid) None fd kind start len)
 called_asks s number pid (Query fd kind mode start len) = lock_call_asks s number pid intent.Query mode (target s.table (process s pid) None fd kind start len)

@@ -1,7 +1,6 @@
 -- What holds of a node after each run, and what its steps make of that.
-use Rattle.std.proofs.Common.{◌≡◌, ℕ, suc, ◌≤◌, Bool, true, false, not, if◌then◌else◌, ◌==◌, ◌⊎◌, refl, sym, ap, subst, arith, List, [], ◌∷◌, ◌++◌, filter, find, All, Contains, inl, inr, Some, None}
-use Rattle.std.proofs.lemmas.Bool.{eq-eqb, both_ways, not-true}
-use Rattle.std.proofs.lemmas.List.Elements.{All-filter, All-weaker, All-same, All-push, All-contains_itself, filter_passes}
+use Rattle.std.proofs.Common.{◌≡◌, ℕ, suc, ◌≤◌, Bool, true, false, if◌then◌else◌, ◌⊎◌, refl, sym, ap, subst, arith, List, [], ◌∷◌, ◌++◌, find, All, Contains, inl, inr, Some}
+use Rattle.std.proofs.lemmas.List.Elements.{All-weaker, All-same, All-push, All-contains, All-contains_itself}
 use Rattle.model.specs.declared.call.CallId.{CallId}
 use Rattle.model.specs.declared.host.Host.{Host}
 use Rattle.model.specs.declared.lock_info.LockInfo.{LockInfo}
@@ -17,13 +16,14 @@ use Rattle.messages.specs.declared.event.Event.{Event}
 use Rattle.messages.specs.declared.event.Event.TheVariants.{Deliver, Declare}
 use Rattle.messages.specs.declared.entry.Entry.{Entry}
 use Rattle.node_core.specs.declared.open_call.OpenCall.{OpenCall}
-use Rattle.node_core.specs.State.{NodeState, without_call, process, id_of, target_of}
+use Rattle.node_core.specs.State.{NodeState, process, id_of, target_of}
 use Rattle.node_core.specs.Try.{refusal_of}
 use Rattle.cluster_core.proofs.Entries.{not_there, same_answer, IsNamed, Unanswered, unanswered-push}
 use Rattle.cluster_core.proofs.Fitting.{Called, called-keeps}
 use Rattle.cluster_core.specs.Evidence.{IsAbout}
-use Rattle.cluster_core.proofs.NodeTables.{IsOwn, GoesOn, target_goes_on}
-use Rattle.cluster_core.proofs.Tries.{about_maps, IsReady, IsServed, Continues, IsSilent}
+use Rattle.model.specs.Anchors.{IsOwn}
+use Rattle.model.proofs.NodeTables.{GoesOn, same_goes_on, target_goes_on}
+use Rattle.cluster_core.proofs.Tries.{about_maps, IsReady, IsServed, Continues, Stays, IsSilent}
 use Rattle.cluster_core.proofs.Lists.{All-both}
 
 -- an open call: it passes its tests, stands in the run, and is not answered there
@@ -57,50 +57,50 @@ open-push past e s c other o = record {
 }
 
 -- what a call is about it stays about while its process goes on
-about_goes_on : (t u : Table) (node incarnation pid : ℕ) (op : Op) (mode : Mode) (c : Target) → GoesOn (t.on node incarnation) (u.on node incarnation) → IsAbout t (record { node = node; incarnation = incarnation; pid = pid }) op mode c → IsAbout u (record { node = node; incarnation = incarnation; pid = pid }) op mode c
+about_goes_on : (t u : Table) (node incarnation pid : ℕ) (op : Op) (mode : Mode) (c : Target) → GoesOn (t.on node incarnation) (u.on node incarnation) pid → IsAbout t (record { node = node; incarnation = incarnation; pid = pid }) op mode c → IsAbout u (record { node = node; incarnation = incarnation; pid = pid }) op mode c
 about_goes_on t u node incarnation pid op mode c g a = about_maps t u (record { node = node; incarnation = incarnation; pid = pid }) op mode c (λ need fd kind start len h. target_goes_on t u node incarnation pid need fd kind start len c g h) a
 
 -- and while its node goes on
-pub ready-continues : (s u : NodeState) (pid : ℕ) (op : Op) (c : OpenCall) → Continues s u → IsReady s.table (process s pid) op c → IsReady u.table (process u pid) op c
-ready-continues s u pid op c g r =
+pub ready-continues : (s u : NodeState) (pid : ℕ) (op : Op) (c : OpenCall) → u.node ≡ s.node → u.incarnation ≡ s.incarnation → GoesOn (s.table.on s.node s.incarnation) (u.table.on s.node s.incarnation) pid → IsReady s.table (process s pid) op c → IsReady u.table (process u pid) op c
+ready-continues s u pid op c node incarnation going r =
     let P : Process → Type 0 = λ p. IsReady u.table p op c in
-    subst P (sym (same_process s u pid g.node g.incarnation)) (record {
+    subst P (sym (same_process s u pid node incarnation)) (record {
       is_for = r.is_for;
-      passes = about_goes_on s.table u.table s.node s.incarnation pid op c.mode (target_of c) g.follows.goes_on r.passes;
+      passes = about_goes_on s.table u.table s.node s.incarnation pid op c.mode (target_of c) going r.passes;
     })
 
-pub open-continues : (past : List Entry) (s u : NodeState) (c : OpenCall) → Continues s u → IsOpen past s c → IsOpen past u c
-open-continues past s u c g o =
+pub open-continues : (past : List Entry) (s u : NodeState) (c : OpenCall) → Continues s u → GoesOn (s.table.on s.node s.incarnation) (u.table.on s.node s.incarnation) c.pid → IsOpen past s c → IsOpen past u c
+open-continues past s u c g going o =
     let same = sym (same_id s u c.number g.node g.incarnation) in
     record {
       op = o.op;
-      ready = ready-continues s u c.pid o.op c g o.ready;
+      ready = ready-continues s u c.pid o.op c g.node g.incarnation going o.ready;
       is_process = subst (λ (p : Process). IsProcess p) (sym (same_process s u c.pid g.node g.incarnation)) o.is_process;
       called = subst (λ (id : CallId). Called past id c.pid o.op) same o.called;
       unanswered = subst (λ (id : CallId). Unanswered past id) same o.unanswered;
     }
 
+-- where the table stays, all processes go on
+pub still_goes_on : (s u : NodeState) (pid : ℕ) → u.table ≡ s.table → GoesOn (s.table.on s.node s.incarnation) (u.table.on s.node s.incarnation) pid
+still_goes_on s u pid same = same_goes_on (s.table.on s.node s.incarnation) (u.table.on s.node s.incarnation) pid (ap (λ (t : Table). t.on s.node s.incarnation) same)
+
 -- the open calls after an entry that answers none of them
-pub all_wait : (past : List Entry) (e : Entry) (s u : NodeState) (calls : List OpenCall) → Continues s u → e.reply ≡ None → All (IsOpen past s) calls → All (IsOpen (past ++ e ∷ []) u) calls
-all_wait past e s u calls g none waiting = All-weaker (IsOpen past s) (IsOpen (past ++ e ∷ []) u) each calls waiting
+pub all_wait : (past : List Entry) (e : Entry) (s u : NodeState) (calls : List OpenCall) → Continues s u → IsSilent s u e.reply → All (IsOpen past s) calls → All (IsOpen (past ++ e ∷ []) u) calls
+all_wait past e s u calls g silent waiting = All-weaker (IsOpen past s) (IsOpen (past ++ e ∷ []) u) each calls waiting
   where
     each : (c : OpenCall) → IsOpen past s c → IsOpen (past ++ e ∷ []) u c
-    each c o = open-continues (past ++ e ∷ []) s u c g (open-push past e s c (λ reply h. not_there e.reply (id_of s c.number, reply) none h) o)
+    each c o = open-continues (past ++ e ∷ []) s u c g (still_goes_on s u c.pid silent.table) (open-push past e s c (λ reply h. not_there e.reply (id_of s c.number, reply) silent.no_reply h) o)
 
--- the open calls but for the one that is answered
-pub others_wait : (past : List Entry) (e : Entry) (s u : NodeState) (number : ℕ) (reply : Reply) → Continues s u → e.reply ≡ Some (id_of s number, reply) → All (IsOpen past s) s.pending → All (IsOpen (past ++ e ∷ []) u) (without_call s number).pending
-others_wait past e s u number reply g is waiting =
-    let test : OpenCall → Bool = λ c. not (c.number == number) in
-    All-both (IsOpen past s) (λ c. test c ≡ true) (IsOpen (past ++ e ∷ []) u) each (filter test s.pending) (All-filter test (IsOpen past s) s.pending waiting) (filter_passes test s.pending)
+-- the open calls that are left after an entry that answers another
+pub others_wait : (past : List Entry) (e : Entry) (s u : NodeState) (number : ℕ) (reply : Reply) → Continues s u → e.reply ≡ Some (id_of s number, reply) → All (Stays s.pending number) u.pending → All (IsOpen past s) s.pending → All (IsOpen (past ++ e ∷ []) u) u.pending
+others_wait past e s u number reply g is left waiting =
+    All-both (Stays s.pending number) (λ (c : OpenCall). GoesOn (s.table.on s.node s.incarnation) (u.table.on s.node s.incarnation) c.pid) (IsOpen (past ++ e ∷ []) u) each u.pending left g.goes_on
   where
-    apart : (c : OpenCall) → not (c.number == number) ≡ true → c.number ≡ number → ⊥
-    apart c h same = both_ways (c.number == number) (not-true (c.number == number) h) (eq-eqb c.number number same)
+    other : (c : OpenCall) → (c.number ≡ number → ⊥) → (r : Reply) → e.reply ≡ Some (id_of s c.number, r) → ⊥
+    other c apart r said = apart (ap (λ (id : CallId). id.number) (same_answer e.reply (id_of s c.number) (id_of s number) r reply said is).0)
 
-    other : (c : OpenCall) → not (c.number == number) ≡ true → (r : Reply) → e.reply ≡ Some (id_of s c.number, r) → ⊥
-    other c h r said = apart c h (ap (λ (id : CallId). id.number) (same_answer e.reply (id_of s c.number) (id_of s number) r reply said is).0)
-
-    each : (c : OpenCall) → IsOpen past s c → not (c.number == number) ≡ true → IsOpen (past ++ e ∷ []) u c
-    each c o h = open-continues (past ++ e ∷ []) s u c g (open-push past e s c (other c h) o)
+    each : (c : OpenCall) → Stays s.pending number c → GoesOn (s.table.on s.node s.incarnation) (u.table.on s.node s.incarnation) c.pid → IsOpen (past ++ e ∷ []) u c
+    each c stays going = open-continues (past ++ e ∷ []) s u c g going (open-push past e s c (other c stays.1) (All-contains (IsOpen past s) s.pending c waiting stays.0))
 
 -- an open call that is found is one of those, and passes
 pub found_open : (test : OpenCall → Bool) (calls : List OpenCall) (c : OpenCall) → find test calls ≡ Some c → Contains calls c × (test c ≡ true)
@@ -125,10 +125,8 @@ StayOpen s u e = All (λ c. Contains s.pending c ⊎ (e.call ≡ Some (id_of u c
 pub stay_same : (s u : NodeState) (e : Entry) → u.pending ≡ s.pending → StayOpen s u e
 stay_same s u e same = All-weaker (Contains s.pending) (λ c. Contains s.pending c ⊎ (e.call ≡ Some (id_of u c.number))) (λ c there. inl there) u.pending (All-same (Contains s.pending) u.pending s.pending same (All-contains_itself s.pending))
 
-pub stay_closed : (s u : NodeState) (e : Entry) (number : ℕ) → u.pending ≡ (without_call s number).pending → StayOpen s u e
-stay_closed s u e number same =
-    let test : OpenCall → Bool = λ c. not (c.number == number) in
-    All-weaker (Contains s.pending) (λ c. Contains s.pending c ⊎ (e.call ≡ Some (id_of u c.number))) (λ c there. inl there) u.pending (All-same (Contains s.pending) u.pending (filter test s.pending) same (All-filter test (Contains s.pending) s.pending (All-contains_itself s.pending)))
+pub stay_closed : (s u : NodeState) (e : Entry) (number : ℕ) → All (Stays s.pending number) u.pending → StayOpen s u e
+stay_closed s u e number left = All-weaker (Stays s.pending number) (λ c. Contains s.pending c ⊎ (e.call ≡ Some (id_of u c.number))) (λ c stays. inl stays.0) u.pending left
 
 pub stay_opened : (s u : NodeState) (e : Entry) (c : OpenCall) → u.pending ≡ s.pending ++ c ∷ [] → e.call ≡ Some (id_of u c.number) → StayOpen s u e
 stay_opened s u e c same named =

@@ -29,7 +29,7 @@ use Rattle.node_core.specs.declared.event.NodeEvent.TheVariants as node
 use Rattle.node_core.specs.declared.open_call.OpenCall.{OpenCall}
 use Rattle.node_core.specs.State.{NodeState, Effect, quiet, host, outcome, process, open_call_of}
 use Rattle.node_core.specs.Try.{tried_if}
-use Rattle.node_core.specs.Calls.{is_pid, is_in_shape, after_call}
+use Rattle.node_core.specs.Calls.{is_pid, is_in_shape, is_busy, after_call}
 use Rattle.node_core.specs.Commands.{remembered, answer_to, revoked, delivered, deliver_rule}
 use Rattle.node_core.specs.Retries.{retry_rule}
 use Rattle.node_core.specs.Node.{node_rule}
@@ -46,11 +46,12 @@ use Rattle.cluster_core.specs.Evidence.{IsTold, HasEvidence}
 use Rattle.cluster_core.proofs.Placement.{slots_of, items_in, history_of}
 use Rattle.cluster_core.specs.Plain.{IsPlainHistory}
 use Rattle.cluster_core.proofs.Entries.{none_named, none_called, none_replied}
-use Rattle.cluster_core.proofs.NodeSteps.{IsTo, call_done, deliver_done, retry_done}
+use Rattle.cluster_core.proofs.NodeSteps.{IsTo, call_done, call_free, deliver_done, retry_done}
 use Rattle.cluster_core.proofs.Steps.{next_taken, next_unfenced, node_step, server_step, declare_step, restart_step}
 use Rattle.cluster_core.proofs.ServerSteps.{IsSending, server_rule-sending}
-use Rattle.cluster_core.proofs.NodeTables.{IsOwn, own_empty}
-use Rattle.cluster_core.proofs.Tries.{IsSilent}
+use Rattle.model.specs.Anchors.{IsOwn}
+use Rattle.model.proofs.NodeTables.{own_empty}
+use Rattle.cluster_core.proofs.Tries.{IsSilent, not_busy}
 use Rattle.cluster_core.proofs.Nodes.{IsOpen, IsExplained, IsDenied, IsNoDeclaration, Moves, found_open}
 use Rattle.cluster_core.proofs.Moves.{delivered_receives, quiet_receives, retried_receives, call_moves}
 use Rattle.cluster_core.proofs.Lifting.{IsFreeElsewhere}
@@ -198,12 +199,12 @@ module _ (shape : ShapeFields) (past : List Entry) (w : WorldState) (few : IsNum
       pub keeps : ((asks : AsksFor (Backed shape (past ++ made ∷ []) later) u) → All (Backed shape (past ++ made ∷ []) later) o.sends) → IsSafe later → IsNumber most_nodes w.shape.nodes × Good shape (past ++ made ∷ []) later
       keeps sends safe = (few, node_good shape past w n u event incarnation o g made_so moves not_strange (free safe) denied (sends (asks shape past w n u event incarnation o g made_so moves not_strange)) undeclared)
 
-  call_good : (n pid : ℕ) (op : Op) → is_known w (Call n pid op) ≡ true → After (Call n pid op) (recorded (with_node w n (after_call (w.nodes n) pid op).0) (Call n pid op) 0 (after_call (w.nodes n) pid op).1)
-  call_good n pid op known made_so safe =
+  call_good : (n pid : ℕ) (op : Op) → is_known w (Call n pid op) ≡ true → (is_in_shape (w.nodes n).shape op ≡ true) × (is_busy (w.nodes n) pid op ≡ false) → After (Call n pid op) (recorded (with_node w n (after_call (w.nodes n) pid op).0) (Call n pid op) 0 (after_call (w.nodes n) pid op).1)
+  call_good n pid op known free made_so safe =
       let s = w.nodes n in
       let r = after_call s pid op in
       let event = Call n pid op in
-      let moves = call_moves past s n pid op (g.holds n) (g.named n) (process_in n pid op known (not-true-false (w.alive n) (next_unfenced w event _ made_so))) (replied_named shape past w g) in
+      let moves = call_moves past s n pid op (g.holds n) (g.named n) (process_in n pid op known (not-true-false (w.alive n) (next_unfenced w event _ made_so))) (replied_named shape past w g) free.0 (not_busy s pid op free.1) in
       let there = (and_parts (has_node w n) (is_pid pid && is_in_shape w.shape op) known).0 in
       let run = past ++ entry event 0 r.1 ∷ [] in
       let v = (recorded (with_node w n r.0) event 0 r.1).0 in
@@ -369,7 +370,7 @@ module _ (shape : ShapeFields) (past : List Entry) (w : WorldState) (few : IsNum
       let s = w.nodes n in
       let P : NodeState × Outcome → Type 0 = λ d. After (Call n pid op) (recorded (with_node w n d.0) (Call n pid op) 0 d.1) in
       node_step w (After (Call n pid op)) (Call n pid op) n (node_rule s (node.Call pid op)) p
-      (λ done is. subst P (call_done s pid op done is) (call_good n pid op known)) h
+      (λ done is. subst P (call_done s pid op done is) (call_good n pid op known (call_free s pid op done is))) h
   taken_good (Deliver (Grant file number call mode span)) p known h =
       let m = Grant file number call mode span in
       let both = and_parts (has_node w call.node) (is_among w.sent m) known in

@@ -1,15 +1,13 @@
 -- Items that leave the table as it was, and the replies of calls that are denied.
-use Rattle.std.proofs.Common.{◌≡◌, refl, sym, subst, List, [], ◌∷◌, ◌++◌, Some, None, Result, Ok, Err}
+use Rattle.std.proofs.Common.{◌≡◌, refl, sym, subst, List, [], ◌∷◌, ◌++◌}
 use Rattle.model.specs.declared.lock_info.LockInfo.{LockInfo}
 use Rattle.model.specs.declared.process.Process.{Process}
 use Rattle.model.specs.declared.op.Op.{Op}
-use Rattle.model.specs.declared.op.Op.TheVariants.{Spawn, Open, Set, Unlock, Query}
-use Rattle.model.specs.declared.reply.Reply.{Reply}
 use Rattle.model.specs.declared.reply.Reply.TheVariants.{Again, Blocked}
 use Rattle.model.specs.Replay.{NamesNoLock}
-use Rattle.model.specs.Table.{Table, Target, target}
-use Rattle.model.specs.Step.{Step, SetStep, QueryStep, AfterTests}
-use Rattle.model.proofs.ReplayLaws.{spawn_never, spawn_never-blocked, open_never, open_never-blocked, unlock_never, unlock_never-blocked, set_never-blocked, query_never-again}
+use Rattle.model.specs.Table.{Table}
+use Rattle.model.specs.Step.{Step}
+use Rattle.model.proofs.ReadOnly.{only_done_change}
 use Rattle.node_core.specs.declared.open_call.Intent.{Intent}
 use Rattle.node_core.specs.declared.open_call.Intent.TheVariants as intent
 use Rattle.node_core.specs.Try.{refusal_of}
@@ -22,23 +20,11 @@ refusal_names intent.Set lock none = (none lock).0 refl
 refusal_names intent.Query lock none = (none lock).1 refl
 
 -- a call that names a lock leaves the table as it was
-tests_stay : (t u : Table) (found : Result Target Reply) (reply : Reply) (Answer : Target → Type 0) → ((c : Target) → Answer c → u ≡ t) → AfterTests t found reply u Answer → u ≡ t
-tests_stay t u (Err refusal) reply Answer stays h = h.1
-tests_stay t u (Ok c) reply Answer stays h = stays c h
-
 pub again_stays : (t u : Table) (p : Process) (op : Op) (lock : LockInfo) → Step t p op (Again lock) u → u ≡ t
-again_stays t u p Spawn lock h = absurd (spawn_never t p lock u h)
-again_stays t u p (Open file access) lock h = absurd (open_never t p file access lock u h)
-again_stays t u p (Set fd kind mode start len) lock h = tests_stay t u (target t p (Some mode) fd kind start len) (Again lock) (SetStep t mode (Again lock) u) (λ c b. b.1) h
-again_stays t u p (Unlock fd kind start len) lock h = absurd (unlock_never t p fd kind start len lock u h)
-again_stays t u p (Query fd kind mode start len) lock h = absurd (query_never-again t p fd kind mode start len lock u h)
+again_stays t u p op lock h = only_done_change t u p op (Again lock) tt h
 
 pub blocked_stays : (t u : Table) (p : Process) (op : Op) (lock : LockInfo) → Step t p op (Blocked lock) u → u ≡ t
-blocked_stays t u p Spawn lock h = absurd (spawn_never-blocked t p lock u h)
-blocked_stays t u p (Open file access) lock h = absurd (open_never-blocked t p file access lock u h)
-blocked_stays t u p (Set fd kind mode start len) lock h = absurd (set_never-blocked t p fd kind mode start len lock u h)
-blocked_stays t u p (Unlock fd kind start len) lock h = absurd (unlock_never-blocked t p fd kind start len lock u h)
-blocked_stays t u p (Query fd kind mode start len) lock h = tests_stay t u (target t p None fd kind start len) (Blocked lock) (QueryStep t mode (Blocked lock) u) (λ c b. b.1) h
+blocked_stays t u p op lock h = only_done_change t u p op (Blocked lock) tt h
 
 -- an item more, where it leaves the table as it is there
 put_in : (t m u : Table) (xs ys : List Item) (i : Item) → Legal t xs m → Legal m ys u → ItemStep m i m → Legal t (xs ++ i ∷ ys) u

@@ -1,17 +1,18 @@
 -- What a node sends.
 use Rattle.std.specs.Prelude.{◌==◌}
-use Rattle.std.proofs.Common.{◌≡◌, ℕ, ◌+◌, Bool, false, refl, sym, subst, List, [], ◌∷◌, ◌++◌, All, Contains, Option, Some, None, Result, Ok, Err}
-use Rattle.std.proofs.lemmas.List.Elements.{All-nil, All-cons, Contains-push}
+use Rattle.std.proofs.Common.{◌≡◌, ℕ, ◌+◌, Bool, false, refl, sym, subst, [], ◌∷◌, ◌++◌, All, Contains, Option, Some, None, Result, Ok, Err}
+use Rattle.std.proofs.lemmas.List.Elements.{All-nil, All-cons, All-push, Contains-push}
 use Rattle.intervals.specs.Bytes.{Range}
 use Rattle.model.specs.declared.call.CallId.{CallId}
 use Rattle.model.specs.declared.host.Host.{Host}
 use Rattle.model.specs.declared.lock_info.LockInfo.{LockInfo}
 use Rattle.model.specs.declared.mode.Mode.{Mode}
 use Rattle.model.specs.declared.op.Op.{Op}
-use Rattle.model.specs.declared.op.Op.TheVariants.{Spawn, Open, Set, Unlock, Query}
+use Rattle.model.specs.declared.op.Op.TheVariants.{Spawn, Fork, Open, Dup, Close, Exit, Set, Unlock, Query}
 use Rattle.model.specs.declared.reply.Reply.{Reply}
 use Rattle.model.specs.Locks.{lowest_blocker, lowest_in_way}
-use Rattle.model.specs.Table.{Target, target, lock_within}
+use Rattle.model.specs.Descriptors.{is_of_file, has_open}
+use Rattle.model.specs.Table.{Table, Target, around, descriptor, target, lock_within, after_close, after_exit}
 use Rattle.token_set.specs.Tokens.{covers, desired, raised}
 use Rattle.token_set.specs.Releases.{given_up_span, answer_of}
 use Rattle.messages.specs.Wants.{Wants}
@@ -21,12 +22,12 @@ use Rattle.messages.specs.declared.message.Message.TheVariants.{Request, Grant, 
 use Rattle.node_core.specs.declared.open_call.Intent.{Intent}
 use Rattle.node_core.specs.declared.open_call.Intent.TheVariants as intent
 use Rattle.node_core.specs.declared.open_call.OpenCall.{OpenCall}
-use Rattle.node_core.specs.State.{NodeState, Effect, quiet, with_file, host, process, id_of, target_of, open_call}
+use Rattle.node_core.specs.State.{NodeState, Effect, quiet, with_file, without_call_of, host, process, id_of, target_of, open_call}
 use Rattle.node_core.specs.Try.{settled, requested, may_free, with_freed, locked_by, answered_here, tried, tried_against, tried_if}
-use Rattle.node_core.specs.Calls.{lock_call, unlock_call, called}
+use Rattle.node_core.specs.Calls.{lock_call, unlock_call, called, shut_by}
 use Rattle.node_core.specs.Commands.{remembered, in_order, after_command, granted, answer_to, revoked, denied, delivered}
 use Rattle.cluster_core.proofs.Choices.{if_either}
-use Rattle.cluster_core.proofs.NodeSteps.{in_order_either}
+use Rattle.cluster_core.proofs.NodeSteps.{in_order_either, shut_keeps}
 use Rattle.cluster_core.proofs.Nodes.{found_open}
 
 -- the messages that need no reason
@@ -47,18 +48,18 @@ module _ (P : Message → Type 0) (free : IsFreely P) where
   nothing_sent : (e : Effect) → e.sends ≡ [] → SendsOnly e
   nothing_sent e none asks = subst (All P) (sym none) (All-nil P)
 
-  with_freed-sends : (file : ℕ) (e : Effect) → e.sends ≡ [] → SendsOnly (with_freed file e)
-  with_freed-sends file e none =
+  with_freed-sends : (file : ℕ) (e : Effect) → SendsOnly e → SendsOnly (with_freed file e)
+  with_freed-sends file e so_far =
       let told : Effect = record { state = with_file e.state file (record (e.state.files file) { asked = false }); reply = e.reply; sends = e.sends ++ Freed file (host e.state) ∷ [] } in
       if_either SendsOnly (e.state.files file).asked told e
-      (λ asks. subst (λ (ms : List Message). All P (ms ++ Freed file (host e.state) ∷ [])) (sym none) (All-cons P (Freed file (host e.state)) [] (free.freed file (host e.state)) (All-nil P)))
-      (nothing_sent e none)
+      (λ asks. All-push P e.sends (Freed file (host e.state)) (so_far asks) (free.freed file (host e.state)))
+      so_far
 
   locked_by-sends : (s : NodeState) (number : ℕ) (c : Target) (mode : Option Mode) → SendsOnly (locked_by s number c mode)
   locked_by-sends s number c mode =
       let answer = lock_within s.table c mode in
       if_either SendsOnly (may_free mode answer.1) (with_freed c.file (settled s number answer)) (settled s number answer)
-      (with_freed-sends c.file (settled s number answer) refl)
+      (with_freed-sends c.file (settled s number answer) (nothing_sent (settled s number answer) refl))
       (nothing_sent (settled s number answer) refl)
 
   answered_here-sends : (s : NodeState) (c : OpenCall) (i : Intent) → SendsOnly (answered_here s c i)
@@ -90,9 +91,16 @@ module _ (P : Message → Type 0) (free : IsFreely P) where
   unlock_call-sends s number (Err refusal) = λ asks. All-nil P
   unlock_call-sends s number (Ok c) = locked_by-sends s number c None
 
+  shut-sends : (s : NodeState) (number : ℕ) (passes : ℕ → Bool) (answer : Table × Reply) → SendsOnly (shut_by s number passes answer)
+  shut-sends s number passes answer = shut_keeps SendsOnly with_freed-sends s number passes answer (nothing_sent (settled s number answer) refl)
+
   pub called-sends : (s : NodeState) (number pid : ℕ) (op : Op) → SendsOnly (called s number pid op)
   called-sends s number pid Spawn = λ asks. All-nil P
   called-sends s number pid (Open file access) = λ asks. All-nil P
+  called-sends s number pid (Fork child) = λ asks. All-nil P
+  called-sends s number pid (Dup fd) = λ asks. All-nil P
+  called-sends s number pid (Close fd) = shut-sends s number (λ file. is_of_file file (descriptor s.table (process s pid) fd)) (after_close s.table (process s pid) fd)
+  called-sends s number pid Exit = shut-sends (without_call_of s pid) number (has_open (around s.table (process s pid)) pid) (after_exit s.table (process s pid))
   called-sends s number pid (Set fd kind mode start len) = lock_call-sends s number pid intent.Set mode (target s.table (process s pid) (Some mode) fd kind start len)
   called-sends s number pid (Unlock fd kind start len) = unlock_call-sends s number (target s.table (process s pid) None fd kind start len)
   called-sends s number pid (Query fd kind mode start len) = lock_call-sends s number pid intent.Query mode (target s.table (process s pid) None fd kind start len)

@@ -12,7 +12,7 @@ use Rattle.messages.specs.Messages.{is_within}
 use Rattle.cluster_core.specs.World.{WorldState, first_world, has_node, is_live}
 use Rattle.cluster_core.specs.Union.{union}
 use Rattle.cluster_core.proofs.Choices.{if_either}
-use Rattle.cluster_core.proofs.NodeTables.{owner_at-node, owner_at-incarnation}
+use Rattle.model.proofs.NodeTables.{owner_at-node, owner_at-incarnation}
 
 -- it depends on the nodes' incarnations and tables alone
 pub union_same : (w v : WorldState) → v.shape ≡ w.shape → ((n : ℕ) → (v.nodes n).incarnation ≡ (w.nodes n).incarnation) → ((n : ℕ) → (v.nodes n).table ≡ (w.nodes n).table) → union v ≡ union w

@@ -26,7 +26,7 @@ use Rattle.cluster_core.specs.World.{WorldState, first_world}
 use Rattle.cluster_core.specs.Union.{union}
 use Rattle.cluster_core.specs.Histories.{caller, EntryAt, IsCalledAt, OneCall}
 use Rattle.cluster_core.specs.Evidence.{IsAbout, IsAsked, IsWorldAfter, IsFirstDone, HasEvidence}
-use Rattle.cluster_core.proofs.Targets.{IsSpan, target_span}
+use Rattle.model.proofs.Targets.{IsSpan, target_span}
 use Rattle.cluster_core.proofs.Entries.{IsNamed, named_called, entry_at-within, called_at-keeps}
 use Rattle.cluster_core.proofs.Tries.{about_finds, about_one}
 use Rattle.cluster_core.proofs.Joined.{is_of_host, target_of_host}

@@ -34,8 +34,8 @@ use Rattle.cluster_core.proofs.Entries.{not_there, same_answer, IsNamed, Unanswe
 use Rattle.cluster_core.proofs.Fitting.{Called}
 use Rattle.cluster_core.proofs.Tries.{IsSilent}
 use Rattle.cluster_core.proofs.Nodes.{IsOpen, Holds, IsExplained, IsDenied, IsNoDenial, IsNoDeclaration, Moves, same_id, open-push}
-use Rattle.cluster_core.proofs.Hanging.{IsAnchored}
-use Rattle.cluster_core.proofs.NodeTables.{own_empty}
+use Rattle.model.specs.Anchors.{IsAnchored}
+use Rattle.model.proofs.NodeTables.{own_empty}
 use Rattle.cluster_core.proofs.Failures.{union_gone}
 use Rattle.cluster_core.proofs.Unions.{union_same}
 use Rattle.cluster_core.proofs.Lifting.{IsFreeElsewhere, DiffersAt, step_lifts, about_lifts}

@@ -36,6 +36,7 @@ use messages::message::Message;
 use messages::outcome::Outcome;
 use messages::refusal::{Refused, StepError};
 use messages::shape::Shape;
+use model::limits::MOST_PROCESSES;
 use model::op::Op;
 use node_core::change::Change as NodeChange;
 use node_core::event::NodeEvent;
@@ -80,12 +81,13 @@ fn is_number(most: u16, number: u16) -> bool
     1 <= number && number <= most
 }
 
-// Whether a file that the operation names is one of the shape.
+// Whether the file and the process that the operation names are ones that there can be.
 fn is_of_shape(shape: Shape, op: &Op) -> bool
     ensures { result ≡ is_in_shape shape op.now }
 {
     match op {
         Op::Open { file, .. } => is_number(shape.files(), *file),
+        Op::Fork { child } => is_number(MOST_PROCESSES, *child),
         _ => true,
     }
 }

@@ -35,13 +35,18 @@ Every other line is one of these:
   learn F N I         the server of file F learns that incarnation I of N failed
 K counts the messages in the order of sending, from 1. OP is one of these:
   spawn                              the process begins
-  open F rw                          file F gets the lowest free descriptor (0 to 63)
-  set FD proc MODE START LEN         lock a segment, unless it is blocked
-  unlock FD proc START LEN           unlock a segment
-  query FD proc MODE START LEN       ask which lock blocks a segment
-MODE is read or write. A segment has LEN bytes from byte START on. With LEN 0 it goes
-on to the greatest offset, 9223372036854775807; with LEN below 0 it is the -LEN bytes
-before START.
+  fork PID                           process PID begins, with the same descriptors
+  open F ACCESS                      file F gets the lowest free descriptor (0 to 63)
+  dup FD                             one more descriptor of what FD refers to
+  close FD                           the process loses FD, and its locks on that file
+  exit                               the process ends, with its descriptors and locks
+  set FD KIND MODE START LEN         lock a segment, unless it is blocked
+  unlock FD KIND START LEN           unlock a segment
+  query FD KIND MODE START LEN       ask which lock blocks a segment
+ACCESS is r, w or rw, MODE read or write. KIND says whose the lock is: proc, of the
+process, or desc, of what FD refers to, which keeps it until its last close. A segment
+has LEN bytes from byte START on. With LEN 0 it goes on to the greatest offset,
+9223372036854775807; with LEN below 0 it is the -LEN bytes before START.
 
 The listing has five sections: the refused lines, the replies, the tokens at the end,
 the locks at the end, and one history, in which every call has its place in one table

@@ -161,12 +161,20 @@ fresh-row pid r runs is none number = record {
   idle = λ ended fd. none fd;
 }
 
+-- the row of a process that begins with the descriptors of another
+pub copied-row : (pid from : ℕ) (r before : Row) → IsSameRow r before → before.runs ≡ true → IsRow from before → IsNumber most_processes pid → IsRow pid r
+copied-row pid from r before same runs h number = record {
+  numbered = numbered-same r.opened before.opened same.opened h.numbered;
+  number_in = λ begun. number;
+  idle = λ ended fd. absurd (both_ways r.runs ended (same.runs ∙ runs));
+}
+
 -- a process begins or ends
-pub processes-reset : (rows : List Row) (pid : ℕ) (runs : Bool) (r : Row) → pid < length rows → r.runs ≡ runs → ((fd : ℕ) → slot r.opened fd ≡ None) → processes (slice_set rows pid r) ≡ with_process (processes rows) pid runs (λ fd. None)
+pub processes-reset : (rows : List Row) (pid : ℕ) (runs : Bool) (fds : ℕ → Option Opened) (r : Row) → pid < length rows → r.runs ≡ runs → ((fd : ℕ) → slot r.opened fd ≡ fds fd) → processes (slice_set rows pid r) ≡ with_process (processes rows) pid runs fds
 unfolding processes
-processes-reset rows pid runs r within is none = processes-is (slice_set rows pid r) (with_process (processes rows) pid runs (λ fd. None))
+processes-reset rows pid runs fds r within is opened = processes-is (slice_set rows pid r) (with_process (processes rows) pid runs fds)
     (λ q. ap (λ (s : Row). s.runs) (row-set rows pid r q within) ∙ runs-if (q == pid) r (row rows q) ∙ (λ i. if q == pid then is i else (row rows q).runs))
-    (λ q fd. ap (λ (s : Row). slot s.opened fd) (row-set rows pid r q within) ∙ slot-if (q == pid) r (row rows q) fd ∙ (λ i. if q == pid then none fd i else slot (row rows q).opened fd))
+    (λ q fd. ap (λ (s : Row). slot s.opened fd) (row-set rows pid r q within) ∙ slot-if (q == pid) r (row rows q) fd ∙ (λ i. if q == pid then opened fd i else slot (row rows q).opened fd))
 
 -- a process without a row doesn't run
 pub processes-past : (rows : List Row) (pid : ℕ) → length rows ≤ pid → processes rows ≡ with_process (processes rows) pid false (λ fd. None)

@@ -5,12 +5,13 @@ use Rattle.model.specs.Limits.{IsNumber, most_processes, most_descriptors, most_
 use Rattle.model.specs.Descriptors.{Processes, with_process, with_descriptor}
 use Rattle.descriptors.specs.declared.row.Row.{Row}
 use Rattle.descriptors.specs.declared.edit.ProcessEdit.{ProcessEdit}
-use Rattle.descriptors.specs.declared.edit.ProcessEdit.TheVariants.{Begins, Opens}
+use Rattle.descriptors.specs.declared.edit.ProcessEdit.TheVariants.{Begins, Forks, Opens}
 use Rattle.descriptors.specs.Rows.{processes, AreRows}
 
 -- the processes once the edit is made
 abbrev pub edited : Processes → ProcessEdit → Processes
 edited ps (Begins pid rows) = with_process ps pid true (λ fd. None)
+edited ps (Forks pid child rows) = with_process ps child true (ps.opened pid)
 edited ps (Opens pid fd opened) = with_descriptor ps pid fd (Some opened)
 
 -- there is a row for the process, in more rows that say the same or else already
@@ -21,4 +22,5 @@ HasPlace rows pid (Some more) = (pid < length more.items) × (processes more.ite
 -- what the edit needs
 abbrev pub Fits : List Row → ProcessEdit → Type 0
 Fits rows (Begins pid more) = IsNumber most_processes pid × HasPlace rows pid more
+Fits rows (Forks pid child more) = ((processes rows).runs pid ≡ true) × IsNumber most_processes child × HasPlace rows child more
 Fits rows (Opens pid fd opened) = ((processes rows).runs pid ≡ true) × (fd < most_descriptors) × IsNumber most_descriptions opened.description

@@ -75,9 +75,15 @@ abbrev pub Refuses : ProcessError → Result (Processes × Reply) Reply → Type
 Refuses error.NoMemory answer = IsOk answer
 Refuses error.NoProcess answer = answer ≡ Err reply.NoProcess
 Refuses error.Exists answer = answer ≡ Err reply.Exists
+Refuses error.BadFd answer = answer ≡ Err reply.BadFd
 Refuses error.TooManyFiles answer = answer ≡ Err reply.TooManyFiles
 
 -- the reply that tells of it
 abbrev pub fd_reply : FdError → Reply
 fd_reply NoProcess = reply.NoProcess
 fd_reply BadFd = reply.BadFd
+
+-- the same refusal of a call
+abbrev pub process_error : FdError → ProcessError
+process_error NoProcess = error.NoProcess
+process_error BadFd = error.BadFd

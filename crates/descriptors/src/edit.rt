@@ -7,7 +7,20 @@ use model::opened::Opened;
 pub enum ProcessEdit {
     /// The process begins, with no descriptors. Where no row is kept for it yet, `rows` are those that
     /// are kept and more, up to its own.
-    Begins { pid: u16, rows: Option<Vec<Row>> },
+    Begins {
+        pid: u16,
+        rows: Option<Vec<Row>>,
+    },
+    /// The child begins, with the descriptors of the process; `rows` as of `Begins`.
+    Forks {
+        pid: u16,
+        child: u16,
+        rows: Option<Vec<Row>>,
+    },
     /// The descriptor, which is free, refers to this from now on.
-    Opens { pid: u16, fd: u8, opened: Opened },
+    Opens {
+        pid: u16,
+        fd: u8,
+        opened: Opened,
+    },
 }

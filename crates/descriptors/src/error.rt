@@ -20,6 +20,9 @@ pub enum ProcessError {
     /// The process runs already.
     #[error("the process runs already")]
     Exists,
+    /// The process has no such descriptor (POSIX.1-2017 `dup()`, EBADF).
+    #[error("no such descriptor")]
+    BadFd,
     /// The process has 64 descriptors (POSIX.1-2017 `open()`, EMFILE).
     #[error("too many open files")]
     TooManyFiles,
@@ -47,7 +50,21 @@ impl ProcessError {
             ProcessError::NoMemory => Err(AllocError),
             ProcessError::NoProcess => Ok(Reply::NoProcess),
             ProcessError::Exists => Ok(Reply::Exists),
+            ProcessError::BadFd => Ok(Reply::BadFd),
             ProcessError::TooManyFiles => Ok(Reply::TooManyFiles),
+        }
+    }
+}
+
+impl From<FdError> for ProcessError {
+    ghost use Rattle.descriptors.specs.Rows.{process_error};
+
+    ghost from_gives = { λ error made. made ≡ process_error error };
+
+    fn from(error: FdError) -> Self {
+        match error {
+            FdError::NoProcess => ProcessError::NoProcess,
+            FdError::BadFd => ProcessError::BadFd,
         }
     }
 }
@@ -84,6 +101,7 @@ mod tests {
         for (error, reply) in [
             (ProcessError::NoProcess, Ok(Reply::NoProcess)),
             (ProcessError::Exists, Ok(Reply::Exists)),
+            (ProcessError::BadFd, Ok(Reply::BadFd)),
             (ProcessError::TooManyFiles, Ok(Reply::TooManyFiles)),
             (ProcessError::NoMemory, Err(AllocError)),
         ] {

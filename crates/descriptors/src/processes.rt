@@ -2,14 +2,14 @@
 ghost use Rattle.std.specs.Prelude.{◌≡◌, ◌≢◌, ◌≤◌, ◌<◌, ◌↔◌, ℕ, true, false, None, Some, Ok, Err, IfOk, IfErr, IfSome, OnOk, OnErr, IsTrue, MatchOption, is_none};
 ghost use Rattle.model.specs.declared.reply.Reply.TheVariants.{Done, Fd};
 ghost use Rattle.model.specs.Limits.{IsNumber, most_processes, most_descriptors, most_descriptions};
-ghost use Rattle.model.specs.Descriptors.{no_processes, with_process, with_descriptor, lowest_fd, after_spawn, after_open};
+ghost use Rattle.model.specs.Descriptors.{no_processes, with_process, with_descriptor, lowest_fd, after_spawn, after_fork, after_open, after_dup};
 ghost use Rattle.descriptors.specs.Rows.{processes, resolved, Refuses, IsClosed};
 ghost use Rattle.descriptors.specs.Edits.{edited, Fits, HasPlace};
 
 use crate::edit::ProcessEdit;
 use crate::error::{FdError, ProcessError};
 use crate::row::Row;
-use crate::rows::{is_idle, is_running, opened_at, refer, reset, same_rows, with_place};
+use crate::rows::{copy_row, is_idle, is_running, opened_at, refer, reset, same_rows, with_place};
 use crate::used::{is_open, lowest_description};
 use model::access::Access;
 use model::limits::MOST_DESCRIPTORS;
@@ -111,6 +111,43 @@ impl Processes {
         Ok(())
     }
 
+    /// What `fork` would change.
+    ///
+    /// # Errors
+    /// Those of `fork`.
+    pub fn plan_fork(&self, pid: u16, child: u16) -> Result<ProcessEdit, ProcessError>
+        requires { IsNumber most_processes child }
+        ensures ok { IfOk result (λ edit. after_fork (processes self.now) pid child ≡ Ok (edited (processes self.now) edit, Done)) }
+        ensures err { IfErr result (λ error. Refuses error (after_fork (processes self.now) pid child)) }
+        ensures fits { IfOk result (λ edit. Fits self.now edit) }
+    {
+        if !self.is_running(pid) {
+            return Err(ProcessError::NoProcess);
+        }
+        if self.is_running(child) {
+            return Err(ProcessError::Exists);
+        }
+        let rows = with_place(&self.rows, child as usize)?;
+        Ok(ProcessEdit::Forks { pid, child, rows })
+    }
+
+    /// The child begins, with the descriptors of the process: each refers to the same description in
+    /// both (POSIX.1-2017 `fork()`). Its number is from 1 to 256.
+    ///
+    /// # Errors
+    /// `NoProcess` where the process doesn't run, which is tested first; `Exists` where the child runs
+    /// already; both before memory is asked for; `NoMemory`.
+    pub fn fork(&mut self, pid: u16, child: u16) -> Result<(), ProcessError>
+        requires { IsNumber most_processes child }
+        ensures ok { OnOk result (after_fork (processes self.old) pid child ≡ Ok (processes self.new, Done)) }
+        ensures err { IfErr result (λ error. Refuses error (after_fork (processes self.old) pid child)) }
+        ensures unchanged { OnErr result (self.new ≡ self.old) }
+    {
+        let edit = self.plan_fork(pid, child)?;
+        self.apply(edit);
+        Ok(())
+    }
+
     fn is_free(&self, pid: u16, fd: u8) -> bool
         ensures { result ≡ is_none ((processes self.now).opened pid fd) }
     {
@@ -185,6 +222,56 @@ impl Processes {
         Ok(fd)
     }
 
+    /// What `dup` would change, and the descriptor that it would answer. Takes no memory.
+    ///
+    /// # Errors
+    /// Those of `dup`.
+    pub fn plan_dup(&self, pid: u16, fd: u8) -> Result<(ProcessEdit, u8), ProcessError>
+        ensures ok { IfOk result (λ planned. after_dup (processes self.now) pid fd ≡ Ok (edited (processes self.now) planned.0, Fd planned.1)) }
+        ensures err { IfErr result (λ error. (error ≢ ProcessError.NoMemory) × Refuses error (after_dup (processes self.now) pid fd)) }
+        ensures fits { IfOk result (λ planned. Fits self.now planned.0) }
+    {
+        let found = self.resolve(pid, fd)?;
+        let Some(lowest) = self.lowest_fd(pid) else {
+            return Err(ProcessError::TooManyFiles);
+        };
+        let edit = ProcessEdit::Opens {
+            pid,
+            fd: lowest,
+            opened: found,
+        };
+        Ok((edit, lowest))
+    }
+
+    /// The lowest descriptor that is free, which it answers, refers from now on to the description that
+    /// this one refers to (POSIX.1-2017 `dup()`). Takes no memory.
+    ///
+    /// # Errors
+    /// In this order: `NoProcess` where the process doesn't run; `BadFd` where it has no such
+    /// descriptor; `TooManyFiles` where it has 64.
+    pub fn dup(&mut self, pid: u16, fd: u8) -> Result<u8, ProcessError>
+        ensures ok { IfOk result (λ made. after_dup (processes self.old) pid fd ≡ Ok (processes self.new, Fd made)) }
+        ensures err { IfErr result (λ error. (error ≢ ProcessError.NoMemory) × Refuses error (after_dup (processes self.old) pid fd)) }
+        ensures unchanged { OnErr result (self.new ≡ self.old) }
+    {
+        let (edit, made) = self.plan_dup(pid, fd)?;
+        self.apply(edit);
+        Ok(made)
+    }
+
+    // The child begins, with the descriptors of the process, in these rows if there are any.
+    fn copy_to(&mut self, pid: u16, child: u16, rows: Option<Vec<Row>>)
+        requires runs { (processes self.old).runs pid ≡ true }
+        requires number { IsNumber most_processes child }
+        requires place { HasPlace self.old child rows }
+        ensures { processes self.new ≡ with_process (processes self.old) child true ((processes self.old).opened pid) }
+    {
+        if let Some(rows) = rows {
+            self.rows = rows;
+        }
+        copy_row(&mut self.rows, pid as usize, child as usize);
+    }
+
     // The process begins, in these rows if there are any.
     fn begin(&mut self, pid: u16, rows: Option<Vec<Row>>)
         requires number { IsNumber most_processes pid }
@@ -204,6 +291,7 @@ impl Processes {
     {
         match edit {
             ProcessEdit::Begins { pid, rows } => self.begin(pid, rows),
+            ProcessEdit::Forks { pid, child, rows } => self.copy_to(pid, child, rows),
             ProcessEdit::Opens { pid, fd, opened } => self.refer(pid, fd, Some(opened)),
         }
     }

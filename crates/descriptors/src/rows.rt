@@ -74,6 +74,19 @@ pub fn reset(rows: &mut [Row], pid: usize, runs: bool)
     rows[pid] = Row::new(runs);
 }
 
+/// The process runs from now on, with the descriptors of another.
+pub fn copy_row(rows: &mut [Row], pid: usize, child: usize)
+    requires within { child < length rows.old }
+    requires runs { (processes rows.old).runs pid ≡ true }
+    requires number { IsNumber most_processes child }
+    requires rows { AreRows rows.old }
+    ensures processes { processes rows.new ≡ with_process (processes rows.old) child true ((processes rows.old).opened pid) }
+    ensures rows { AreRows rows.new }
+{
+    let row = row_at(rows, pid);
+    rows[child] = row;
+}
+
 /// The descriptor refers to this, or to nothing, from now on.
 pub fn refer(rows: &mut [Row], pid: usize, fd: u8, opened: Option<Opened>)
     requires within { pid < length rows.old }

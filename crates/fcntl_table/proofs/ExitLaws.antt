@@ -75,7 +75,3 @@ closed_below-runs t now p n so_far runs = ap (λ (x : Table). is_running x p) so
 pub ended-table : (m new : FcntlTable) (host : Host) (pid : ℕ) → processes_of new.hosts ≡ with_host (processes_of m.hosts) host (with_process (processes_of m.hosts host.node host.incarnation) pid false (λ fd. None)) → new.locks ≡ m.locks → table_of new ≡ with_processes (table_of m) (process_at host pid) (with_process (around (table_of m) (process_at host pid)) pid false (λ fd. None))
 unfolding table_of
 ended-table m new host pid on locks i = record { on = on i; locks = held (locks i) }
-
--- the process of a host
-pub process_is : (p : Process) (host : Host) (pid : ℕ) → host ≡ host_of p → pid ≡ p.pid → process_at host pid ≡ p
-process_is p host pid of_p is i = record { node = (of_p i).node; incarnation = (of_p i).incarnation; pid = is i }

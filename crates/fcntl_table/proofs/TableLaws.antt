@@ -1,5 +1,5 @@
 -- What a single machine's table answers.
-use Rattle.std.proofs.Common.{◌≡◌, ℕ, sym, ◌∙◌, ap, subst, Option, Some, Result, Ok, Err, ℤ}
+use Rattle.std.proofs.Common.{◌≡◌, ℕ, Bool, true, false, if◌then◌else◌, refl, sym, ◌∙◌, ap, subst, Option, Some, None, Result, Ok, Err, ℤ}
 use Rattle.std.specs.Prelude.{IfOk, MatchResult}
 use Rattle.intervals.specs.declared.span.SpanError.{SpanError}
 use Rattle.intervals.specs.Bytes.{Range}
@@ -10,19 +10,23 @@ use Rattle.model.specs.declared.opened.Opened.{Opened}
 use Rattle.model.specs.declared.owner.Kind.{Kind}
 use Rattle.model.specs.declared.process.Process.{Process}
 use Rattle.model.specs.declared.reply.Reply.{Reply}
+use Rattle.model.specs.declared.reply.Reply.TheVariants as reply
+use Rattle.model.specs.declared.reply.Reply.TheVariants.{Done}
 use Rattle.model.specs.Descriptors.{Processes, no_processes}
 use Rattle.model.specs.Locks.{no_locks}
-use Rattle.model.specs.Table.{Table, Target, empty_table, around, beside, target_at, target}
+use Rattle.model.specs.Table.{Table, Target, empty_table, around, is_running, descriptor, beside, target_at, target, closed_at, closed_if, after_close}
 use Rattle.model.specs.Step.{Is}
 use Rattle.lock_table.specs.Rows.{held}
 use Rattle.descriptors.specs.declared.error.FdError.{FdError}
-use Rattle.descriptors.specs.Rows.{resolved, fd_reply}
+use Rattle.descriptors.specs.declared.error.FdError.TheVariants.{NoProcess, BadFd}
+use Rattle.descriptors.specs.Rows.{opened_or, resolved, fd_reply}
+use Rattle.model.proofs.Refusals.{ok_is}
 use Rattle.fcntl_table.proofs.TargetLaws.{target-ok, target-err}
 use Rattle.fcntl_table.specs.declared.table.FcntlTable.{FcntlTable}
 use Rattle.fcntl_table.specs.Hosts.{processes_of}
 use Rattle.fcntl_table.specs.Tables.{table_of}
 use Rattle.fcntl_table.specs.declared.edit.TableEdit.{TableEdit}
-use Rattle.fcntl_table.specs.declared.edit.TableEdit.TheVariants.{Nothing, OfProcess}
+use Rattle.fcntl_table.specs.declared.edit.TableEdit.TheVariants.{Nothing, OfProcess, Closes}
 use Rattle.fcntl_table.specs.Edits.{edited}
 use Rattle.descriptors.specs.declared.edit.ProcessEdit.{ProcessEdit}
 use Rattle.descriptors.specs.Edits.{edited as edited_processes}
@@ -54,6 +58,39 @@ target-of m p need host pid fd kind start len opened segment r of_p is found cut
 pub target-refused : (m : FcntlTable) (p : Process) (need : Option Mode) (host : Host) (pid fd : ℕ) (kind : Kind) (start len : ℤ) (error : FdError) (refusal : Reply) → host ≡ host_of p → pid ≡ p.pid → Err error ≡ resolved (processes_of m.hosts host.node host.incarnation) pid fd → refusal ≡ fd_reply error → Err refusal ≡ target (table_of m) p need fd kind start len
 target-refused m p need host pid fd kind start len error refusal of_p is found told =
     ap Err told ∙ sym (target-err (around (table_of m) p) p need fd kind (seg start len) error (found-around m p host pid fd (Err error) of_p is found))
+
+-- a descriptor that refers to something is one of a process that runs
+found_there : (b : Bool) (x : Option Opened) (opened : Opened) → (if b then opened_or x else Err NoProcess) ≡ Ok opened → (b ≡ true) × (x ≡ Some opened)
+found_there true (Some o) opened h = (refl, ap Some (ok_is o opened h))
+found_there true None opened h = absurd (cc)
+found_there false x opened h = absurd (cc)
+
+closes_there : (t : Table) (p : Process) (fd : ℕ) (b : Bool) (x : Option Opened) (opened : Opened) → b ≡ true → x ≡ Some opened → (if b then closed_at t p fd x else (t, reply.NoProcess)) ≡ (closed_if t p fd x, Done)
+closes_there t p fd true (Some o) opened runs there = refl
+closes_there t p fd true None opened runs there = absurd (cc)
+closes_there t p fd false x opened runs there = absurd (cc)
+
+-- a close that will be done
+pub close-found : (m : FcntlTable) (p : Process) (host : Host) (pid fd : ℕ) (opened : Opened) → host ≡ host_of p → pid ≡ p.pid → Ok opened ≡ resolved (processes_of m.hosts host.node host.incarnation) pid fd → Is (after_close (table_of m) p fd) Done (edited (table_of m) (Closes p fd)) × (is_running (table_of m) p ≡ true)
+close-found m p host pid fd opened of_p is found =
+    let t = table_of m in
+    let there = found_there (is_running t p) (descriptor t p fd) opened (found-around m p host pid fd (Ok opened) of_p is found) in
+    let done = closes_there t p fd (is_running t p) (descriptor t p fd) opened there.0 there.1 in
+    ((ap (λ (a : Table × Reply). a.1) (sym done), ap (λ (a : Table × Reply). a.0) (sym done)), there.0)
+
+refused_there : (t : Table) (p : Process) (fd : ℕ) (b : Bool) (x : Option Opened) (error : FdError) → (if b then opened_or x else Err NoProcess) ≡ Err error → (if b then closed_at t p fd x else (t, reply.NoProcess)) ≡ (t, fd_reply error)
+refused_there t p fd true (Some o) error h = absurd (cc)
+refused_there t p fd true None NoProcess h = absurd (cc)
+refused_there t p fd true None BadFd h = refl
+refused_there t p fd false x NoProcess h = refl
+refused_there t p fd false x BadFd h = absurd (cc)
+
+-- or refused
+pub close-refused : (m : FcntlTable) (p : Process) (host : Host) (pid fd : ℕ) (error : FdError) (refusal : Reply) → host ≡ host_of p → pid ≡ p.pid → Err error ≡ resolved (processes_of m.hosts host.node host.incarnation) pid fd → refusal ≡ fd_reply error → Is (after_close (table_of m) p fd) refusal (table_of m)
+close-refused m p host pid fd error refusal of_p is found told =
+    let t = table_of m in
+    let done = refused_there t p fd (is_running t p) (descriptor t p fd) error (found-around m p host pid fd (Err error) of_p is found) in
+    (told ∙ ap (λ (a : Table × Reply). a.1) (sym done), ap (λ (a : Table × Reply). a.0) (sym done))
 
 -- a call beside the locks that the processes of its node take
 pub planned-ok : (t : Table) (p : Process) (host : Host) (e : ProcessEdit) (r : Processes → Result (Processes × Reply) Reply) (reply : Reply) → host ≡ host_of p → r (t.on host.node host.incarnation) ≡ Ok (edited_processes (t.on host.node host.incarnation) e, reply) → Is (beside t p (r (around t p))) reply (edited t (OfProcess host e))

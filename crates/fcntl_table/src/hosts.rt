@@ -2,7 +2,7 @@
 ghost use Rattle.std.specs.Prelude.{◌≡◌, ℕ, true, false, None, Ok, IfOk, IfErr, IfSome, IsTrue, ◌↔◌, OnOk, MatchOption};
 ghost use Rattle.model.specs.declared.reply.Reply.TheVariants.{Done, Fd};
 ghost use Rattle.model.specs.Limits.{IsHost, IsNumber, most_processes, most_descriptions};
-ghost use Rattle.model.specs.Descriptors.{no_processes, with_process, after_spawn, after_open};
+ghost use Rattle.model.specs.Descriptors.{no_processes, with_process, after_spawn, after_fork, after_open, after_dup};
 ghost use Rattle.descriptors.specs.Rows.{processes, resolved, Refuses};
 ghost use Rattle.descriptors.specs.Edits.{edited};
 ghost use Rattle.fcntl_table.specs.Hosts.{Closes, ClosesOn, FitsOn, IsKept, processes_of, with_host};
@@ -109,6 +109,48 @@ impl Hosts {
             unreachable!()
         };
         node.plan_spawn(pid)
+    }
+
+    /// What a child of the process of the host would change.
+    ///
+    /// # Errors
+    /// Those of `Processes::fork`.
+    pub(crate) fn plan_fork(
+        &self,
+        host: Host,
+        pid: u16,
+        child: u16,
+    ) -> Result<ProcessEdit, ProcessError>
+        requires { IsNumber most_processes child }
+        ensures ok { IfOk result (λ edit. after_fork (processes_of self.now host.node host.incarnation) pid child ≡ Ok (edited (processes_of self.now host.node host.incarnation) edit, Done)) }
+        ensures err { IfErr result (λ error. Refuses error (after_fork (processes_of self.now host.node host.incarnation) pid child)) }
+        ensures fits { IfOk result (FitsOn self.now host) }
+    {
+        match self.by_host.get(&host) {
+            Some(node) => node.plan_fork(pid, child),
+            None => Err(ProcessError::NoProcess),
+        }
+    }
+
+    /// What one more descriptor of what the process of the host has open there would change, and the
+    /// descriptor. Takes no memory.
+    ///
+    /// # Errors
+    /// Those of `Processes::dup`.
+    pub(crate) fn plan_dup(
+        &self,
+        host: Host,
+        pid: u16,
+        fd: u8,
+    ) -> Result<(ProcessEdit, u8), ProcessError>
+        ensures ok { IfOk result (λ planned. after_dup (processes_of self.now host.node host.incarnation) pid fd ≡ Ok (edited (processes_of self.now host.node host.incarnation) planned.0, Fd planned.1)) }
+        ensures err { IfErr result (λ error. Refuses error (after_dup (processes_of self.now host.node host.incarnation) pid fd)) }
+        ensures fits { IfOk result (λ planned. FitsOn self.now host planned.0) }
+    {
+        match self.by_host.get(&host) {
+            Some(node) => node.plan_dup(pid, fd),
+            None => Err(ProcessError::NoProcess),
+        }
     }
 
     /// What a process of the host that opens the file would change, and the descriptor.

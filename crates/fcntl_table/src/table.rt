@@ -1,10 +1,10 @@
 //! The table of a single machine.
 ghost use Rattle.std.specs.Prelude.{◌≡◌, None, IfOk, IsTrue, ◌↔◌, OnOk, MatchOption, MatchResult, Result, Err};
 ghost use Rattle.model.specs.Locks.{IsRegion, IsLowestBlocker};
-ghost use Rattle.model.specs.Descriptors.{Processes, after_spawn, after_open};
+ghost use Rattle.model.specs.Descriptors.{Processes, after_spawn, after_fork, after_open, after_dup};
 ghost use Rattle.model.specs.declared.reply.Reply.{Reply};
 ghost use Rattle.model.specs.Limits.{IsNumber, most_processes};
-ghost use Rattle.model.specs.Table.{empty_table, around, beside, target, lock_within};
+ghost use Rattle.model.specs.Table.{empty_table, around, beside, target, lock_within, after_close, after_exit};
 ghost use Rattle.model.specs.Step.{Is, Unblocked};
 ghost use Rattle.descriptors.specs.Rows.{Refuses};
 ghost use Rattle.fcntl_table.specs.declared.edit.TableEdit.TheVariants.{Nothing};
@@ -168,6 +168,79 @@ impl FcntlTable {
         }
     }
 
+    /// What `fork` would change, and its reply: `Done`, `NoProcess`, or `Exists` where the child runs
+    /// already.
+    ///
+    /// # Errors
+    /// `NoMemory`.
+    pub fn plan_fork(&self, process: Process, child: u16) -> Result<Planned, NoMemory>
+        requires { IsNumber most_processes child }
+        ensures ok { IfOk result (λ planned. Is (beside (table_of self.now) process (after_fork (around (table_of self.now) process) process.pid child)) planned.reply (edited (table_of self.now) planned.edit)) }
+        ensures fits { IfOk result (λ planned. Fits self.now planned.edit) }
+    {
+        let host = host_of(process);
+        match self.hosts.plan_fork(host, process.pid, child) {
+            Ok(edit) => Ok(Planned {
+                edit: TableEdit::OfProcess { host, edit },
+                reply: Reply::Done,
+            }),
+            Err(error) => refused(error),
+        }
+    }
+
+    /// What `dup` would change, and its reply: the descriptor, `NoProcess`, `BadFd` or `TooManyFiles`.
+    ///
+    /// # Errors
+    /// `NoMemory`.
+    pub fn plan_dup(&self, process: Process, fd: u8) -> Result<Planned, NoMemory>
+        ensures ok { IfOk result (λ planned. Is (beside (table_of self.now) process (after_dup (around (table_of self.now) process) process.pid fd)) planned.reply (edited (table_of self.now) planned.edit)) }
+        ensures fits { IfOk result (λ planned. Fits self.now planned.edit) }
+    {
+        let host = host_of(process);
+        match self.hosts.plan_dup(host, process.pid, fd) {
+            Ok((edit, fd)) => Ok(Planned {
+                edit: TableEdit::OfProcess { host, edit },
+                reply: Reply::Fd(fd),
+            }),
+            Err(error) => refused(error),
+        }
+    }
+
+    /// What `close` would change, and its reply: `Done`, `NoProcess` or `BadFd`. Takes no memory.
+    pub fn plan_close(&self, process: Process, fd: u8) -> Planned
+        ensures is { Is (after_close (table_of self.now) process fd) result.reply (edited (table_of self.now) result.edit) }
+        ensures fits { Fits self.now result.edit }
+    {
+        match self.hosts.resolve(host_of(process), process.pid, fd) {
+            Ok(_) => Planned {
+                edit: TableEdit::Closes { process, fd },
+                reply: Reply::Done,
+            },
+            Err(error) => Planned {
+                edit: TableEdit::Nothing,
+                reply: error.reply(),
+            },
+        }
+    }
+
+    /// What `exit` would change, and its reply: `Done` or `NoProcess`. Takes no memory.
+    #[tactic(auto, unfolding(crate::specs::Tables::table_of))]
+    pub fn plan_exit(&self, process: Process) -> Planned
+        ensures is { Is (after_exit (table_of self.now) process) result.reply (edited (table_of self.now) result.edit) }
+        ensures fits { Fits self.now result.edit }
+    {
+        if !self.hosts.is_running(host_of(process), process.pid) {
+            return Planned {
+                edit: TableEdit::Nothing,
+                reply: Reply::NoProcess,
+            };
+        }
+        Planned {
+            edit: TableEdit::Exits { process },
+            reply: Reply::Done,
+        }
+    }
+
     /// What `lock_within` would change, and its reply: `Done`, or `NoLocks` where the owner would have more
     /// than 1,024 regions in the file.
     ///
@@ -200,6 +273,8 @@ impl FcntlTable {
             TableEdit::Nothing => {}
             TableEdit::OfProcess { host, edit } => self.hosts.apply(host, edit),
             TableEdit::OfLocks(edit) => self.locks.apply(edit),
+            TableEdit::Closes { process, fd } => self.close_of(process, fd),
+            TableEdit::Exits { process } => self.exit_of(process),
         }
     }
 
@@ -227,6 +302,54 @@ impl FcntlTable {
         let Planned { edit, reply } = self.plan_open(process, file, access)?;
         self.apply(edit);
         Ok(reply)
+    }
+
+    /// The child begins, with the descriptors of the process (POSIX.1-2017 `fork()`). Answers `Done`,
+    /// `NoProcess`, or `Exists` where the child runs already. The child's number is from 1 to 256.
+    ///
+    /// # Errors
+    /// `NoMemory`.
+    pub fn fork(&mut self, process: Process, child: u16) -> Result<Reply, NoMemory>
+        requires { IsNumber most_processes child }
+        ensures { IfOk result (λ reply. Is (beside (table_of self.old) process (after_fork (around (table_of self.old) process) process.pid child)) reply (table_of self.new)) }
+    {
+        let Planned { edit, reply } = self.plan_fork(process, child)?;
+        self.apply(edit);
+        Ok(reply)
+    }
+
+    /// One more descriptor of what this one refers to (POSIX.1-2017 `dup()`). Answers the descriptor,
+    /// `NoProcess`, `BadFd` or `TooManyFiles`.
+    ///
+    /// # Errors
+    /// `NoMemory`.
+    pub fn dup(&mut self, process: Process, fd: u8) -> Result<Reply, NoMemory>
+        ensures { IfOk result (λ reply. Is (beside (table_of self.old) process (after_dup (around (table_of self.old) process) process.pid fd)) reply (table_of self.new)) }
+    {
+        let Planned { edit, reply } = self.plan_dup(process, fd)?;
+        self.apply(edit);
+        Ok(reply)
+    }
+
+    /// The descriptor goes, and all locks of the process on its file; where it was the last of its
+    /// description, so do the locks of that (POSIX.1-2017 `close()`, `fcntl()`; Linux `fcntl(2)`).
+    /// Answers `Done`, `NoProcess` or `BadFd`. Takes no memory.
+    pub fn close(&mut self, process: Process, fd: u8) -> Reply
+        ensures { Is (after_close (table_of self.old) process fd) result (table_of self.new) }
+    {
+        let Planned { edit, reply } = self.plan_close(process, fd);
+        self.apply(edit);
+        reply
+    }
+
+    /// Every descriptor of the process is closed, and the process goes (POSIX.1-2017 `_exit()`).
+    /// Answers `Done` or `NoProcess`. Takes no memory.
+    pub fn exit(&mut self, process: Process) -> Reply
+        ensures { Is (after_exit (table_of self.old) process) result (table_of self.new) }
+    {
+        let Planned { edit, reply } = self.plan_exit(process);
+        self.apply(edit);
+        reply
     }
 
     /// The bytes of the call are locked in the mode, or freed, whatever other owners hold: a caller that

@@ -1,5 +1,5 @@
 -- The kinds of lines.
-use Rattle.std.proofs.Common.{◌≡◌, ◌≢◌, ℕ, List, [], ◌∷◌, ◌++◌, Option, Some, None, arith, refl, codes, decimal}
+use Rattle.std.proofs.Common.{◌≡◌, ◌≢◌, ℕ, List, [], ◌∷◌, ◌++◌, Some, None, arith, refl, codes, decimal}
 use Rattle.std.specs.Prelude.{⊤}
 use Rattle.model.specs.Limits.{IsNumber, most_nodes, most_processes}
 use Rattle.model.specs.declared.op.Op.{Op}

@@ -15,7 +15,7 @@ use Rattle.model.specs.Limits.{IsNumber, most_nodes, most_processes}
 use Rattle.messages.specs.Shapes.{most_files}
 use Rattle.std.specs.Prelude.{⊤}
 use Rattle.lockscript.specs.Scripts.{greatest_message}
-use Rattle.lockscript.specs.Served.{IsDescriptor, IsServedKind}
+use Rattle.lockscript.specs.Served.{IsDescriptor}
 use Rattle.lockscript.specs.Texts.{kind_text, mode_text}
 use Rattle.lockscript.proofs.Pairs.{AreWords, heads, same-split, tails}
 
@@ -85,7 +85,7 @@ fd_words n fits = Lacks-decimal n (omega (arith, fits))
 pub offset_words : AreWords signed_decimal (FitsSigned w64)
 offset_words = Lacks-signed_decimal
 
-pub kind_words : AreWords kind_text IsServedKind
+pub kind_words : AreWords kind_text (λ _. ⊤)
 kind_words k served = Lacks-kind_text k
 
 pub mode_words : AreWords mode_text (λ _. ⊤)

@@ -15,7 +15,7 @@ use Rattle.model.specs.declared.policy.Policy.TheVariants.{Wide, Exact}
 use Rattle.model.specs.declared.call.CallId.{CallId}
 use Rattle.model.specs.declared.lock_info.LockInfo.{LockInfo}
 use Rattle.model.specs.declared.op.Op.{Op}
-use Rattle.model.specs.declared.op.Op.TheVariants.{Spawn, Open, Set, Unlock, Query}
+use Rattle.model.specs.declared.op.Op.TheVariants.{Spawn, Fork, Open, Dup, Close, Exit, Set, Unlock, Query}
 use Rattle.lockscript.specs.Reads.{pair_text}
 use Rattle.model.specs.declared.reply.Reply.{Reply}
 use Rattle.model.specs.declared.reply.Reply.TheVariants.{Done, Fd, Again, Free, Blocked, NoProcess, Exists, BadFd, TooManyFiles, NoLocks, Invalid, Overflow}
@@ -82,7 +82,11 @@ asked_lock_text = pair_text decimal (pair_text kind_text (pair_text mode_text se
 
 abbrev pub op_text : Op → List ℕ
 op_text Spawn = codes "spawn"
+op_text (Fork child) = codes "fork " ++ decimal child
 op_text (Open file access) = codes "open " ++ pair_text decimal access_text (file, access)
+op_text (Dup fd) = codes "dup " ++ decimal fd
+op_text (Close fd) = codes "close " ++ decimal fd
+op_text Exit = codes "exit"
 op_text (Set fd kind mode start len) = codes "set " ++ asked_lock_text (fd, (kind, (mode, (start, len))))
 op_text (Unlock fd kind start len) = codes "unlock " ++ pair_text decimal (pair_text kind_text segment_text) (fd, (kind, (start, len)))
 op_text (Query fd kind mode start len) = codes "query " ++ asked_lock_text (fd, (kind, (mode, (start, len))))

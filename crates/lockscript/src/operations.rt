@@ -6,10 +6,10 @@ ghost use Rattle.model.specs.Limits.{IsNumber};
 ghost use Rattle.messages.specs.Shapes.{most_files};
 ghost use Rattle.lockscript.specs.Layout.{space};
 ghost use Rattle.lockscript.specs.Reads.{Both, IsOneField, Lacks, Reads, pair_text};
-ghost use Rattle.lockscript.specs.Served.{AreOffsets, IsAskedLock, IsDescriptor, IsServedAccess, IsServedKind, IsServedOp};
+ghost use Rattle.lockscript.specs.Served.{AreOffsets, IsAskedLock, IsDescriptor, IsServedOp};
 ghost use Rattle.lockscript.specs.Texts.{access_text, asked_lock_text, kind_text, mode_text, op_text, segment_text};
 
-use crate::fields::{descriptor_of, file_of, split_field};
+use crate::fields::{descriptor_of, file_of, pid_of, split_field};
 use crate::number::offset_of;
 use crate::words::{access_of, kind_of, mode_of};
 use model::access::Access;
@@ -17,8 +17,7 @@ use model::mode::Mode;
 use model::op::Op;
 use model::owner::Kind;
 
-/// The operation that the text writes, of those that are served: so far `spawn`, `open`, `set`,
-/// `unlock` and `query`.
+/// The operation that the text writes.
 pub(crate) fn op_of(text: &str) -> Option<Op>
     ensures { Reads op_text IsServedOp text.now result }
 {
@@ -34,7 +33,10 @@ fn op_with(word: &str, operands: &str) -> Option<Op>
     ensures { Reads op_text IsServedOp (word.now ++ space ∷ operands.now) result }
 {
     match word {
+        "fork" => fork_of(operands),
         "open" => open_of(operands),
+        "dup" => dup_of(operands),
+        "close" => close_of(operands),
         "set" => set_of(operands),
         "unlock" => unlock_of(operands),
         "query" => query_of(operands),
@@ -49,8 +51,33 @@ fn op_alone(word: &str) -> Option<Op>
 {
     match word {
         "spawn" => Some(Op::Spawn),
+        "exit" => Some(Op::Exit),
         _ => None,
     }
+}
+
+// `fork` with these operands.
+fn fork_of(operands: &str) -> Option<Op>
+    ensures { Reads op_text IsServedOp (codes "fork " ++ operands.now) result }
+{
+    let child = pid_of(operands)?;
+    Some(Op::Fork { child })
+}
+
+// `dup` with these operands.
+fn dup_of(operands: &str) -> Option<Op>
+    ensures { Reads op_text IsServedOp (codes "dup " ++ operands.now) result }
+{
+    let fd = descriptor_of(operands)?;
+    Some(Op::Dup { fd })
+}
+
+// `close` with these operands.
+fn close_of(operands: &str) -> Option<Op>
+    ensures { Reads op_text IsServedOp (codes "close " ++ operands.now) result }
+{
+    let fd = descriptor_of(operands)?;
+    Some(Op::Close { fd })
 }
 
 // `open` with these operands.
@@ -104,7 +131,7 @@ fn query_of(operands: &str) -> Option<Op>
 
 // `F ACCESS`.
 fn open_operands(text: &str) -> Option<(u16, Access)>
-    ensures { Reads (pair_text decimal access_text) (Both (IsNumber most_files) IsServedAccess) text.now result }
+    ensures { Reads (pair_text decimal access_text) (Both (IsNumber most_files) (λ _. ⊤)) text.now result }
 {
     match split_field(text) {
         Some((file, access)) => file_of(file).zip(access_of(access)),
@@ -124,7 +151,7 @@ fn asked_lock(text: &str) -> Option<(u8, (Kind, (Mode, (i64, i64))))>
 
 // `KIND MODE START LEN`.
 fn kind_mode_segment(text: &str) -> Option<(Kind, (Mode, (i64, i64)))>
-    ensures { Reads (pair_text kind_text (pair_text mode_text segment_text)) (Both IsServedKind (Both (λ _. ⊤) AreOffsets)) text.now result }
+    ensures { Reads (pair_text kind_text (pair_text mode_text segment_text)) (Both (λ _. ⊤) (Both (λ _. ⊤) AreOffsets)) text.now result }
 {
     match split_field(text) {
         Some((kind, rest)) => kind_of(kind).zip(mode_segment(rest)),
@@ -144,7 +171,7 @@ fn mode_segment(text: &str) -> Option<(Mode, (i64, i64))>
 
 // `FD KIND START LEN`.
 fn unlock_operands(text: &str) -> Option<(u8, (Kind, (i64, i64)))>
-    ensures { Reads (pair_text decimal (pair_text kind_text segment_text)) (Both IsDescriptor (Both IsServedKind AreOffsets)) text.now result }
+    ensures { Reads (pair_text decimal (pair_text kind_text segment_text)) (Both IsDescriptor (Both (λ _. ⊤) AreOffsets)) text.now result }
 {
     match split_field(text) {
         Some((fd, rest)) => descriptor_of(fd).zip(kind_segment(rest)),
@@ -154,7 +181,7 @@ fn unlock_operands(text: &str) -> Option<(u8, (Kind, (i64, i64)))>
 
 // `KIND START LEN`.
 fn kind_segment(text: &str) -> Option<(Kind, (i64, i64))>
-    ensures { Reads (pair_text kind_text segment_text) (Both IsServedKind AreOffsets) text.now result }
+    ensures { Reads (pair_text kind_text segment_text) (Both (λ _. ⊤) AreOffsets) text.now result }
 {
     match split_field(text) {
         Some((kind, rest)) => kind_of(kind).zip(segment(rest)),

@@ -130,7 +130,11 @@ pub(crate) fn push_op(out: &mut String, op: &Op) -> Result<(), AllocError>
 {
     match op {
         Op::Spawn => out.push_str("spawn"),
+        Op::Fork { child } => write!(out, "fork {child}"),
         Op::Open { file, access } => push_open(out, *file, *access),
+        Op::Dup { fd } => write!(out, "dup {fd}"),
+        Op::Close { fd } => write!(out, "close {fd}"),
+        Op::Exit => out.push_str("exit"),
         Op::Set {
             fd,
             kind,

@@ -2,7 +2,6 @@
 ghost use Rattle.std.specs.Prelude.{⊤};
 ghost use Rattle.lockscript.specs.Texts.{access_text, kind_text, mode_text, policy_text};
 ghost use Rattle.lockscript.specs.Reads.{Reads};
-ghost use Rattle.lockscript.specs.Served.{IsServedAccess, IsServedKind};
 
 use model::access::Access;
 use model::mode::Mode;
@@ -31,22 +30,25 @@ pub(crate) fn policy_of(word: &str) -> Option<Policy>
     }
 }
 
-/// The access that the word names, of those that are served: so far reading and writing.
+/// The access that the word names.
 pub(crate) fn access_of(word: &str) -> Option<Access>
-    ensures { Reads access_text IsServedAccess word.now result }
+    ensures { Reads access_text (λ _. ⊤) word.now result }
 {
     match word {
+        "r" => Some(Access::ReadOnly),
+        "w" => Some(Access::WriteOnly),
         "rw" => Some(Access::ReadWrite),
         _ => None,
     }
 }
 
-/// The kind of owner that the word names, of those that are served: so far processes.
+/// The kind of owner that the word names.
 pub(crate) fn kind_of(word: &str) -> Option<Kind>
-    ensures { Reads kind_text IsServedKind word.now result }
+    ensures { Reads kind_text (λ _. ⊤) word.now result }
 {
     match word {
         "proc" => Some(Kind::OfProcess),
+        "desc" => Some(Kind::OfDescription),
         _ => None,
     }
 }

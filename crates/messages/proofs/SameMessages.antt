@@ -11,7 +11,7 @@ use Rattle.model.specs.declared.mode.Mode.{Mode}
 use Rattle.model.specs.declared.mode.Mode.TheVariants.{Read, Write}
 use Rattle.model.specs.declared.lock_info.LockInfo.{LockInfo}
 use Rattle.model.specs.declared.op.Op.{Op}
-use Rattle.model.specs.declared.op.Op.TheVariants.{Spawn, Open, Set, Unlock, Query}
+use Rattle.model.specs.declared.op.Op.TheVariants.{Spawn, Fork, Open, Dup, Close, Exit, Set, Unlock, Query}
 use Rattle.model.specs.contracts.op.OpPartialEq.TheImpl as derived_of_ops
 use Rattle.model.specs.Owners.{same_mode}
 use Rattle.model.proofs.OwnerLaws.{owner_exact, owner_refl}
@@ -208,6 +208,10 @@ message_eq-Decides a b =
 -- the derived `==` of calls is equality
 pub op_eq-Decides : (a b : Op) → Decides (derived_of_ops.ghosts.eq a b) (a ≡ b)
 op_eq-Decides Spawn Spawn = (λ h. refl, λ e. refl)
+op_eq-Decides (Fork child) (Fork other) = grind (arith, common_steps)
+op_eq-Decides (Dup fd) (Dup k) = grind (arith, common_steps)
+op_eq-Decides (Close fd) (Close k) = grind (arith, common_steps)
+op_eq-Decides Exit Exit = (λ h. refl, λ e. refl)
 op_eq-Decides (Open file access) (Open other way) = grind (arith, common_steps)
 op_eq-Decides (Set fd kind mode start len) (Set k j m s l) = grind (arith, common_steps)
 op_eq-Decides (Unlock fd kind start len) (Unlock k j s l) = grind (arith, common_steps)

@@ -8,3 +8,11 @@ pub mod RunLaws
 pub mod BlockerLaws
 pub mod ReplayLaws
 pub mod WayLaws
+pub mod Refusals
+pub mod Targets
+pub mod Hanging
+pub mod Anchors
+pub mod NodeTables
+pub mod Closings
+pub mod DescriptorCalls
+pub mod ReadOnly

@@ -15,13 +15,13 @@ use Rattle.model.specs.declared.opened.Opened.{Opened}
 use Rattle.model.specs.declared.process.Process.{Process}
 use Rattle.model.specs.declared.lock_info.LockInfo.{LockInfo}
 use Rattle.model.specs.declared.op.Op.{Op}
-use Rattle.model.specs.declared.op.Op.TheVariants.{Spawn, Open, Set, Unlock, Query}
+use Rattle.model.specs.declared.op.Op.TheVariants.{Spawn, Fork, Open, Dup, Close, Exit, Set, Unlock, Query}
 use Rattle.model.specs.declared.reply.Reply.{Reply}
-use Rattle.model.specs.declared.reply.Reply.TheVariants.{Done, Fd, Again, Free, Blocked, NoProcess, TooManyFiles, NoLocks}
+use Rattle.model.specs.declared.reply.Reply.TheVariants.{Done, Fd, Again, Free, Blocked, NoProcess, Exists, TooManyFiles, NoLocks}
 use Rattle.model.specs.Locks.{excludes, bars}
-use Rattle.model.specs.Descriptors.{Processes, after_spawn, after_open}
-use Rattle.model.specs.Table.{Table, Target, around, beside, is_running, descriptor, allows, target_at, target, lock_within, after_unlock}
-use Rattle.model.specs.Step.{BlocksCall, Unblocked, AfterTests, SetStep, QueryStep, Step}
+use Rattle.model.specs.Descriptors.{Processes, after_spawn, after_fork, after_open, after_dup, again_on}
+use Rattle.model.specs.Table.{Table, Target, around, beside, is_running, descriptor, allows, target_at, target, lock_within, after_unlock, closed_at, exited}
+use Rattle.model.specs.Step.{BlocksCall, Unblocked, AfterTests, SetStep, QueryStep, IsPossible, Step}
 use Rattle.model.specs.Replay.{NeverAnswers, NamesNoLock}
 
 -- a span has a byte
@@ -126,7 +126,11 @@ tests_replies Answer t a b n m (Ok c) is one h k = one c is h k
 -- a call that may get an answer that names no lock gets no other
 pub replies_are_one : (t : Table) (p : Process) (op : Op) (a b : Reply) (n m : Table) → NamesNoLock b → Step t p op a n → Step t p op b m → a ≡ b
 replies_are_one t p Spawn a b n m none h k = h.0 ∙ sym k.0
+replies_are_one t p (Fork child) a b n m none h k = h.1.0 ∙ sym k.1.0
 replies_are_one t p (Open file access) a b n m none h k = h.0 ∙ sym k.0
+replies_are_one t p (Dup fd) a b n m none h k = h.0 ∙ sym k.0
+replies_are_one t p (Close fd) a b n m none h k = h.0 ∙ sym k.0
+replies_are_one t p Exit a b n m none h k = h.0 ∙ sym k.0
 replies_are_one t p (Set fd kind mode start len) a b n m none h k =
     tests_replies (SetStep t mode) t a b n m (target t p (Some mode) fd kind start len) (target-is t p (Some mode) fd kind start len) (λ c span. set_replies t mode a b n m c span none) h k
 replies_are_one t p (Unlock fd kind start len) a b n m none h k = h.0 ∙ sym k.0
@@ -151,7 +155,11 @@ tests_tables Answer t a n m (Ok c) one h k = one c h k
 -- one answer leaves one table
 pub tables_are_one : (t : Table) (p : Process) (op : Op) (a : Reply) (n m : Table) → Step t p op a n → Step t p op a m → n ≡ m
 tables_are_one t p Spawn a n m h k = h.1 ∙ sym k.1
+tables_are_one t p (Fork child) a n m h k = h.1.1 ∙ sym k.1.1
 tables_are_one t p (Open file access) a n m h k = h.1 ∙ sym k.1
+tables_are_one t p (Dup fd) a n m h k = h.1 ∙ sym k.1
+tables_are_one t p (Close fd) a n m h k = h.1 ∙ sym k.1
+tables_are_one t p Exit a n m h k = h.1 ∙ sym k.1
 tables_are_one t p (Set fd kind mode start len) a n m h k = tests_tables (SetStep t mode) t a n m (target t p (Some mode) fd kind start len) (set_tables t mode a n m) h k
 tables_are_one t p (Unlock fd kind start len) a n m h k = h.1 ∙ sym k.1
 tables_are_one t p (Query fd kind mode start len) a n m h k = tests_tables (QueryStep t mode) t a n m (target t p None fd kind start len) (query_tables t mode a n m) h k
@@ -160,12 +168,6 @@ tables_are_one t p (Query fd kind mode start len) a n m h k = tests_tables (Quer
 spawn-names_none : (t : Table) (p : Process) → NamesNone (beside t p (after_spawn (around t p) p.pid))
 spawn-names_none t p = names_none_if t p ((around t p).runs p.pid) _ _ (λ lock. (λ e. cc, λ e. cc)) (λ lock. (λ e. cc, λ e. cc))
 
-pub spawn_never : (t : Table) (p : Process) (lock : LockInfo) → NeverAnswers t p Spawn (Again lock)
-spawn_never t p lock new h = (spawn-names_none t p lock).0 h.0
-
-pub spawn_never-blocked : (t : Table) (p : Process) (lock : LockInfo) → NeverAnswers t p Spawn (Blocked lock)
-spawn_never-blocked t p lock new h = (spawn-names_none t p lock).1 h.0
-
 opened-names_none : (t : Table) (p : Process) (b : Bool) (ps : Processes) (fd : ℕ) → NamesNone (beside t p (if b then Ok (ps, Fd fd) else Err TooManyFiles))
 opened-names_none t p true ps fd lock = (λ e. cc, λ e. cc)
 opened-names_none t p false ps fd lock = (λ e. cc, λ e. cc)
@@ -173,17 +175,88 @@ opened-names_none t p false ps fd lock = (λ e. cc, λ e. cc)
 open-names_none : (t : Table) (p : Process) (file : ℕ) (access : Access) → NamesNone (beside t p (after_open (around t p) p.pid file access))
 open-names_none t p file access = names_none_if t p (is_running t p) _ (Err NoProcess) (opened-names_none t p _ _ _) (λ lock. (λ e. cc, λ e. cc))
 
+fork-names_none : (t : Table) (p : Process) (child : ℕ) → NamesNone (beside t p (after_fork (around t p) p.pid child))
+fork-names_none t p child = names_none_if t p (is_running t p) _ (Err NoProcess) (names_none_if t p ((around t p).runs child) (Err Exists) _ (λ lock. (λ e. cc, λ e. cc)) (λ lock. (λ e. cc, λ e. cc))) (λ lock. (λ e. cc, λ e. cc))
+
+again-names_none : (t : Table) (p : Process) (o : Option Opened) → NamesNone (beside t p (again_on (around t p) p.pid o))
+again-names_none t p None = λ lock. (λ e. cc, λ e. cc)
+again-names_none t p (Some o) = opened-names_none t p _ _ _
+
+dup-names_none : (t : Table) (p : Process) (fd : ℕ) → NamesNone (beside t p (after_dup (around t p) p.pid fd))
+dup-names_none t p fd = names_none_if t p (is_running t p) _ (Err NoProcess) (again-names_none t p (descriptor t p fd)) (λ lock. (λ e. cc, λ e. cc))
+
+closed-names_none : (t : Table) (p : Process) (fd : ℕ) (b : Bool) (o : Option Opened) → NamesNone (if b then closed_at t p fd o else (t, NoProcess))
+closed-names_none t p fd true None lock = (λ e. cc, λ e. cc)
+closed-names_none t p fd true (Some o) lock = (λ e. cc, λ e. cc)
+closed-names_none t p fd false o lock = (λ e. cc, λ e. cc)
+
+exit-names_none : (t : Table) (p : Process) (b : Bool) → NamesNone (if b then (exited t p, Done) else (t, NoProcess))
+exit-names_none t p true lock = (λ e. cc, λ e. cc)
+exit-names_none t p false lock = (λ e. cc, λ e. cc)
+
+-- a call that is not about a lock names none
+abbrev IsNoLockCall : Op → Type 0
+IsNoLockCall (Set fd kind mode start len) = ⊥
+IsNoLockCall (Query fd kind mode start len) = ⊥
+IsNoLockCall _ = Unit {0}
+
+other_never : (t u : Table) (p : Process) (op : Op) (reply : Reply) → IsNoLockCall op → Step t p op reply u → NamesNoLock reply
+other_never t u p Spawn reply is h = subst NamesNoLock (sym h.0) (spawn-names_none t p)
+other_never t u p (Fork child) reply is h = subst NamesNoLock (sym h.1.0) (fork-names_none t p child)
+other_never t u p (Open file access) reply is h = subst NamesNoLock (sym h.0) (open-names_none t p file access)
+other_never t u p (Dup fd) reply is h = subst NamesNoLock (sym h.0) (dup-names_none t p fd)
+other_never t u p (Close fd) reply is h = subst NamesNoLock (sym h.0) (closed-names_none t p fd (is_running t p) (descriptor t p fd))
+other_never t u p Exit reply is h = subst NamesNoLock (sym h.0) (exit-names_none t p (is_running t p))
+other_never t u p (Unlock fd kind start len) reply is h = subst NamesNoLock (sym h.0) (unlock-names_none t (target t p None fd kind start len) (target-is t p None fd kind start len))
+other_never t u p (Set fd kind mode start len) reply is h = absurd is
+other_never t u p (Query fd kind mode start len) reply is h = absurd is
+
+pub spawn_never : (t : Table) (p : Process) (lock : LockInfo) → NeverAnswers t p Spawn (Again lock)
+spawn_never t p lock new h = (other_never t new p Spawn (Again lock) tt h lock).0 refl
+
+pub spawn_never-blocked : (t : Table) (p : Process) (lock : LockInfo) → NeverAnswers t p Spawn (Blocked lock)
+spawn_never-blocked t p lock new h = (other_never t new p Spawn (Blocked lock) tt h lock).1 refl
+
+pub fork_never : (t : Table) (p : Process) (child : ℕ) (lock : LockInfo) → NeverAnswers t p (Fork child) (Again lock)
+fork_never t p child lock new h = (other_never t new p (Fork child) (Again lock) tt h lock).0 refl
+
+pub fork_never-blocked : (t : Table) (p : Process) (child : ℕ) (lock : LockInfo) → NeverAnswers t p (Fork child) (Blocked lock)
+fork_never-blocked t p child lock new h = (other_never t new p (Fork child) (Blocked lock) tt h lock).1 refl
+
 pub open_never : (t : Table) (p : Process) (file : ℕ) (access : Access) (lock : LockInfo) → NeverAnswers t p (Open file access) (Again lock)
-open_never t p file access lock new h = (open-names_none t p file access lock).0 h.0
+open_never t p file access lock new h = (other_never t new p (Open file access) (Again lock) tt h lock).0 refl
 
 pub open_never-blocked : (t : Table) (p : Process) (file : ℕ) (access : Access) (lock : LockInfo) → NeverAnswers t p (Open file access) (Blocked lock)
-open_never-blocked t p file access lock new h = (open-names_none t p file access lock).1 h.0
+open_never-blocked t p file access lock new h = (other_never t new p (Open file access) (Blocked lock) tt h lock).1 refl
+
+pub dup_never : (t : Table) (p : Process) (fd : ℕ) (lock : LockInfo) → NeverAnswers t p (Dup fd) (Again lock)
+dup_never t p fd lock new h = (other_never t new p (Dup fd) (Again lock) tt h lock).0 refl
+
+pub dup_never-blocked : (t : Table) (p : Process) (fd : ℕ) (lock : LockInfo) → NeverAnswers t p (Dup fd) (Blocked lock)
+dup_never-blocked t p fd lock new h = (other_never t new p (Dup fd) (Blocked lock) tt h lock).1 refl
+
+pub close_never : (t : Table) (p : Process) (fd : ℕ) (lock : LockInfo) → NeverAnswers t p (Close fd) (Again lock)
+close_never t p fd lock new h = (other_never t new p (Close fd) (Again lock) tt h lock).0 refl
+
+pub close_never-blocked : (t : Table) (p : Process) (fd : ℕ) (lock : LockInfo) → NeverAnswers t p (Close fd) (Blocked lock)
+close_never-blocked t p fd lock new h = (other_never t new p (Close fd) (Blocked lock) tt h lock).1 refl
+
+pub exit_never : (t : Table) (p : Process) (lock : LockInfo) → NeverAnswers t p Exit (Again lock)
+exit_never t p lock new h = (other_never t new p Exit (Again lock) tt h lock).0 refl
+
+pub exit_never-blocked : (t : Table) (p : Process) (lock : LockInfo) → NeverAnswers t p Exit (Blocked lock)
+exit_never-blocked t p lock new h = (other_never t new p Exit (Blocked lock) tt h lock).1 refl
 
 pub unlock_never : (t : Table) (p : Process) (fd : ℕ) (kind : Kind) (start len : ℤ) (lock : LockInfo) → NeverAnswers t p (Unlock fd kind start len) (Again lock)
-unlock_never t p fd kind start len lock new h = (unlock-names_none t (target t p None fd kind start len) (target-is t p None fd kind start len) lock).0 h.0
+unlock_never t p fd kind start len lock new h = (other_never t new p (Unlock fd kind start len) (Again lock) tt h lock).0 refl
 
 pub unlock_never-blocked : (t : Table) (p : Process) (fd : ℕ) (kind : Kind) (start len : ℤ) (lock : LockInfo) → NeverAnswers t p (Unlock fd kind start len) (Blocked lock)
-unlock_never-blocked t p fd kind start len lock new h = (unlock-names_none t (target t p None fd kind start len) (target-is t p None fd kind start len) lock).1 h.0
+unlock_never-blocked t p fd kind start len lock new h = (other_never t new p (Unlock fd kind start len) (Blocked lock) tt h lock).1 refl
+
+-- no call of a process that there can not be is answered
+pub impossible_never : (t : Table) (p : Process) (op : Op) (reply : Reply) → (IsPossible op → ⊥) → NeverAnswers t p op reply
+impossible_never t p (Fork child) reply never new h = never h.0
+impossible_never t p _ reply never new h = never tt
 
 -- a test names no lock
 tests_never : (Answer : Target → Type 0) (t new : Table) (reply : Reply) (r : Result Target Reply) → IsTarget r → ((e : Reply) → NamesNoLock e → reply ≡ e → ⊥) → ((c : Target) → Answer c → ⊥) → AfterTests t r reply new Answer → ⊥

@@ -4,7 +4,7 @@ use Rattle.intervals.specs.Search.{first, some_passes}
 use Rattle.model.specs.declared.access.Access.{Access}
 use Rattle.model.specs.declared.opened.Opened.{Opened}
 use Rattle.model.specs.declared.reply.Reply.{Reply}
-use Rattle.model.specs.declared.reply.Reply.TheVariants.{Done, Fd, NoProcess, Exists, TooManyFiles}
+use Rattle.model.specs.declared.reply.Reply.TheVariants.{Done, Fd, NoProcess, Exists, BadFd, TooManyFiles}
 use Rattle.model.specs.Limits.{most_processes, most_descriptors, most_descriptions}
 
 -- which processes run on a node in one incarnation, and what each of their descriptors refers to
@@ -35,6 +35,15 @@ abbrev pub is_of : ℕ → Option Opened → Bool
 is_of d None = false
 is_of d (Some o) = o.description == d
 
+-- what the descriptor refers to is of this file
+abbrev pub is_of_file : ℕ → Option Opened → Bool
+is_of_file file None = false
+is_of_file file (Some o) = o.file == file
+
+-- the process has a descriptor of the file
+abbrev pub has_open : Processes → ℕ → ℕ → Bool
+has_open ps pid file = some_passes (λ fd. is_of_file file (ps.opened pid fd)) 0 most_descriptors
+
 -- some process of the node has a descriptor of the description
 abbrev pub is_open : Processes → ℕ → Bool
 is_open ps d = some_passes (λ pid. some_passes (λ fd. is_of d (ps.opened pid fd)) 0 most_descriptors) 1 most_processes
@@ -47,6 +56,13 @@ lowest_description ps = first (λ d. not (is_open ps d)) 1 most_descriptions
 abbrev pub after_spawn : Processes → ℕ → Result (Processes × Reply) Reply
 after_spawn ps pid = if ps.runs pid then Err Exists else Ok (with_process ps pid true (λ fd. None), Done)
 
+-- POSIX.1-2017 fork(): the child has the caller's descriptors; each refers to the description that it refers to in the caller
+abbrev pub after_fork : Processes → ℕ → ℕ → Result (Processes × Reply) Reply
+after_fork ps pid child =
+    if ps.runs pid
+    then (if ps.runs child then Err Exists else Ok (with_process ps child true (ps.opened pid), Done))
+    else Err NoProcess
+
 -- the lowest free descriptor gets to refer to this, if there is one
 abbrev pub on_lowest_fd : Processes → ℕ → Opened → ℕ → Result (Processes × Reply) Reply
 on_lowest_fd ps pid o fd = if nat_lt fd most_descriptors then Ok (with_descriptor ps pid fd (Some o), Fd fd) else Err TooManyFiles
@@ -57,3 +73,12 @@ after_open ps pid file access =
     if ps.runs pid
     then on_lowest_fd ps pid (record { file = file; description = lowest_description ps; access = access }) (lowest_fd ps pid)
     else Err NoProcess
+
+-- one more descriptor of what is open there
+abbrev pub again_on : Processes → ℕ → Option Opened → Result (Processes × Reply) Reply
+again_on ps pid None = Err BadFd
+again_on ps pid (Some o) = on_lowest_fd ps pid o (lowest_fd ps pid)
+
+-- POSIX.1-2017 dup(): the lowest free descriptor refers to the same description
+abbrev pub after_dup : Processes → ℕ → ℕ → Result (Processes × Reply) Reply
+after_dup ps pid fd = if ps.runs pid then again_on ps pid (ps.opened pid fd) else Err NoProcess

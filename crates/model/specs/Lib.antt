@@ -6,3 +6,5 @@ pub mod Descriptors
 pub mod Table
 pub mod Step
 pub mod Replay
+pub mod Anchors
+pub mod Laws

@@ -4,12 +4,13 @@ use Rattle.model.specs.declared.lock_info.LockInfo.{LockInfo}
 use Rattle.model.specs.declared.mode.Mode.{Mode}
 use Rattle.model.specs.declared.process.Process.{Process}
 use Rattle.model.specs.declared.op.Op.{Op}
-use Rattle.model.specs.declared.op.Op.TheVariants.{Spawn, Open, Set, Unlock, Query}
+use Rattle.model.specs.declared.op.Op.TheVariants.{Spawn, Fork, Open, Dup, Close, Exit, Set, Unlock, Query}
 use Rattle.model.specs.declared.reply.Reply.{Reply}
 use Rattle.model.specs.declared.reply.Reply.TheVariants.{Done, Again, NoLocks, Free, Blocked}
 use Rattle.model.specs.Locks.{IsFree, Blocks}
-use Rattle.model.specs.Descriptors.{after_spawn, after_open}
-use Rattle.model.specs.Table.{Table, Target, around, beside, target, lock_within, after_unlock}
+use Rattle.model.specs.Limits.{IsNumber, most_processes}
+use Rattle.model.specs.Descriptors.{after_spawn, after_fork, after_open, after_dup}
+use Rattle.model.specs.Table.{Table, Target, around, beside, target, lock_within, after_unlock, after_close, after_exit}
 
 -- the answer and the new table are these
 abbrev pub Is : Table × Reply → Reply → Table → Type 0
@@ -41,10 +42,19 @@ QueryStep old mode (Blocked lock) new c = Blocks (old.locks c.file) c.owner c.sp
 QueryStep old mode Free new c = Unblocked old c mode × (new ≡ old)
 QueryStep old mode _ new c = ⊥
 
--- from the old table the call of the process may get this reply and leave the new one
+-- a process that the operation names has a number that a process can have
+abbrev pub IsPossible : Op → Type 0
+IsPossible (Fork child) = IsNumber most_processes child
+IsPossible _ = Unit {0}
+
+-- from the old table the call of the process may get this reply and leave the new one; no process has a number past the greatest
 abbrev pub Step : Table → Process → Op → Reply → Table → Type 0
 Step old p Spawn reply new = Is (beside old p (after_spawn (around old p) p.pid)) reply new
+Step old p (Fork child) reply new = IsNumber most_processes child × Is (beside old p (after_fork (around old p) p.pid child)) reply new
 Step old p (Open file access) reply new = Is (beside old p (after_open (around old p) p.pid file access)) reply new
+Step old p (Dup fd) reply new = Is (beside old p (after_dup (around old p) p.pid fd)) reply new
+Step old p (Close fd) reply new = Is (after_close old p fd) reply new
+Step old p Exit reply new = Is (after_exit old p) reply new
 Step old p (Set fd kind mode start len) reply new = AfterTests old (target old p (Some mode) fd kind start len) reply new (SetStep old mode reply new)
 Step old p (Unlock fd kind start len) reply new = Is (after_unlock old (target old p None fd kind start len)) reply new
 Step old p (Query fd kind mode start len) reply new = AfterTests old (target old p None fd kind start len) reply new (QueryStep old mode reply new)

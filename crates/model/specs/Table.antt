@@ -110,6 +110,14 @@ abbrev pub closed_if : Table → Process → ℕ → Option Opened → Table
 closed_if t p fd None = t
 closed_if t p fd (Some o) = closed t p fd o
 
+-- what a close of that descriptor comes to
+abbrev pub closed_at : Table → Process → ℕ → Option Opened → Table × Reply
+closed_at t p fd None = (t, BadFd)
+closed_at t p fd (Some o) = (closed t p fd o, Done)
+
+abbrev pub after_close : Table → Process → ℕ → Table × Reply
+after_close t p fd = if is_running t p then closed_at t p fd (descriptor t p fd) else (t, NoProcess)
+
 -- the descriptors below n are closed, one after the other
 unfoldable pub closed_below : Table → Process → ℕ → Table
 closed_below t p zero = t
@@ -122,6 +130,9 @@ abbrev pub exited : Table → Process → Table
 exited t p =
     let shut = closed_below t p most_descriptors in
     with_processes shut p (with_process (around shut p) p.pid false (λ fd. None))
+
+abbrev pub after_exit : Table → Process → Table × Reply
+after_exit t p = if is_running t p then (exited t p, Done) else (t, NoProcess)
 
 abbrev pub exited_if : Table → Process → Table
 exited_if t p = if is_running t p then exited t p else t

@@ -1,5 +1,6 @@
 //! Laws of the definitions.
 ghost use Rattle.model.specs.Locks.{LowestIsLowest, LowestInWayIsLowest, LowestInWayIsOne};
+ghost use Rattle.model.specs.Laws.{ClosedFileHasNoLock, LastCloseDropsLocks, ExitLeavesNothing, ForkSharesDescriptions, CallsKeepAnchors, OnlyDoneCallsChange};
 
 /// The search for the lowest lock that blocks finds it, and finds none exactly where no byte of the
 /// span is barred.
@@ -16,4 +17,37 @@ pub fn the_lowest_in_the_way_is_the_lowest()
 /// At most one region is the lowest in the way.
 pub fn the_lowest_in_the_way_is_one()
     ensures { LowestInWayIsOne }
+{}
+
+/// A process that closes a descriptor of a file holds nothing there, whichever descriptor made the
+/// lock (POSIX.1-2017 `fcntl()`).
+pub fn a_closed_file_has_no_lock()
+    ensures { ClosedFileHasNoLock }
+{}
+
+/// A description keeps its locks until the last descriptor of its node that refers to it is closed
+/// (Linux `fcntl(2)`, F_OFD_SETLK).
+pub fn the_last_close_drops_locks()
+    ensures { LastCloseDropsLocks }
+{}
+
+/// Of a process that exits nothing is left, and its number is free (POSIX.1-2017 `_exit()`).
+pub fn an_exit_leaves_nothing()
+    ensures { ExitLeavesNothing }
+{}
+
+/// A child has its parent's descriptors, on the same descriptions, and none of its process locks
+/// (POSIX.1-2017 `fork()`).
+pub fn a_fork_shares_descriptions()
+    ensures { ForkSharesDescriptions }
+{}
+
+/// Whatever the processes of a node call, none of its locks outlives the descriptors that it hangs on.
+pub fn no_lock_outlives_its_descriptors()
+    ensures { CallsKeepAnchors }
+{}
+
+/// A call that is answered neither `Done` nor with a descriptor leaves the table as it was.
+pub fn only_done_calls_change()
+    ensures { OnlyDoneCallsChange }
 {}

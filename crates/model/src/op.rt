@@ -8,11 +8,25 @@ use crate::owner::Kind;
 pub enum Op {
     /// The process begins.
     Spawn,
+    /// A process with this number begins, with the caller's descriptors (POSIX.1-2017 `fork()`).
+    Fork {
+        child: u16,
+    },
     /// A descriptor of a file.
     Open {
         file: u16,
         access: Access,
     },
+    /// One more descriptor of what this one refers to (POSIX.1-2017 `dup()`).
+    Dup {
+        fd: u8,
+    },
+    /// The descriptor goes (POSIX.1-2017 `close()`).
+    Close {
+        fd: u8,
+    },
+    /// The process goes, with its descriptors (POSIX.1-2017 `_exit()`).
+    Exit,
     /// A lock on a segment, at once or not at all (POSIX.1-2017 `fcntl()`, F_SETLK).
     Set {
         fd: u8,

@@ -25,9 +25,10 @@ use Rattle.model.specs.declared.policy.Policy.{Policy}
 use Rattle.model.specs.declared.policy.Policy.TheVariants.{Wide, Exact}
 use Rattle.model.specs.Locks.{Locks, no_locks, with_lock, regions, IsFree, IsLowestBlocker, lowest_blocker, IsOfNode}
 use Rattle.model.proofs.BlockerLaws.{is_lowest_blocker}
-use Rattle.model.specs.Descriptors.{Processes, no_processes, with_descriptor, lowest_fd, lowest_description, after_open, after_spawn, with_process}
+use Rattle.model.specs.Descriptors.{Processes, no_processes, with_descriptor, lowest_fd, lowest_description, after_open, after_spawn, with_process, after_fork, after_dup, again_on}
 use Rattle.model.specs.Table.{Target, around, beside, with_processes, target_at, lock_within}
 use Rattle.model.proofs.OwnerLaws.{owner_exact}
+use Rattle.model.proofs.Refusals.{ok_is}
 use Rattle.lock_table.specs.declared.row.Row.{Row as LockRow}
 use Rattle.lock_table.specs.Rows.{held}
 use Rattle.lock_table.specs.Listing.{IsListing}
@@ -190,6 +191,38 @@ spawned-within false ps new pid P e there q k o some =
     by : (b : Bool) → (if b then None else ps.opened q k) ≡ Some o → P o
     by true h = absurd (cc)
     by false h = there q k o h
+
+forked_is : (b c : Bool) (x new : Processes) → ◌≡◌ {A = Result (Processes × Reply) Reply} (if b then (if c then Err reply.Exists else Ok (x, Done)) else Err reply.NoProcess) (Ok (new, Done)) → x ≡ new
+forked_is true true x new h = absurd (cc)
+forked_is true false x new h = ap (λ (a : Processes × Reply). a.0) (ok_is (x, Done) (new, Done) h)
+forked_is false c x new h = absurd (cc)
+
+either_open : (b : Bool) (x y : Option Opened) (o : Opened) (P : ℕ → Type 0) → (x ≡ Some o → P o.file) → (y ≡ Some o → P o.file) → (if b then x else y) ≡ Some o → P o.file
+either_open true x y o P h k = h
+either_open false x y o P h k = k
+
+pub fork-within : (p : NodeParts) (e : ProcessEdit) (pid child : ℕ) → after_fork (processes p.processes) pid child ≡ Ok (edited (processes p.processes) e, Done) → ProcessFits p.processes e → IsNode p → ProcessesFit p (Some e)
+unfolding node_state
+fork-within p e pid child is fits h =
+    let ps = processes p.processes in
+    let made = forked_is (ps.runs pid) (ps.runs child) (with_process ps child true (ps.opened pid)) (edited ps e) is in
+    (fits, λ q fd o some. either_open (q == child) (ps.opened pid fd) (ps.opened q fd) o (IsNumber p.shape.files) (h.opened_in pid fd o) (h.opened_in q fd o) (ap (λ (x : Processes). x.opened q fd) made ∙ some))
+
+on_is : (b : Bool) (x new : Processes) (j k : ℕ) → ◌≡◌ {A = Result (Processes × Reply) Reply} (if b then Ok (x, Fd j) else Err reply.TooManyFiles) (Ok (new, Fd k)) → x ≡ new
+on_is true x new j k h = ap (λ (a : Processes × Reply). a.0) (ok_is (x, Fd j) (new, Fd k) h)
+on_is false x new j k h = absurd (cc)
+
+dup_is : (ps new : Processes) (pid k : ℕ) (b : Bool) (x : Option Opened) → (if b then again_on ps pid x else Err reply.NoProcess) ≡ Ok (new, Fd k) → (o : Opened) × (x ≡ Some o) × (with_descriptor ps pid (lowest_fd ps pid) (Some o) ≡ new)
+dup_is ps new pid k true (Some o) h = (o, refl, on_is (nat_lt (lowest_fd ps pid) most_descriptors) (with_descriptor ps pid (lowest_fd ps pid) (Some o)) new (lowest_fd ps pid) k h)
+dup_is ps new pid k true None h = absurd (cc)
+dup_is ps new pid k false x h = absurd (cc)
+
+pub dup-within : (p : NodeParts) (e : ProcessEdit) (pid fd made : ℕ) → after_dup (processes p.processes) pid fd ≡ Ok (edited (processes p.processes) e, Fd made) → ProcessFits p.processes e → IsNode p → ProcessesFit p (Some e)
+unfolding node_state
+dup-within p e pid fd made is fits h =
+    let ps = processes p.processes in
+    let d = dup_is ps (edited ps e) pid made (ps.runs pid) (ps.opened pid fd) is in
+    (fits, λ q k o some. either_open ((q == pid) && (k == lowest_fd ps pid)) (Some d.0) (ps.opened q k) o (IsNumber p.shape.files) (λ same. h.opened_in pid fd o (d.1 ∙ same)) (h.opened_in q k o) (ap (λ (x : Processes). x.opened q k) d.2 ∙ some))
 
 pub open-within : (p : NodeParts) (e : ProcessEdit) (pid file fd : ℕ) (access : Access) → after_open (processes p.processes) pid file access ≡ Ok (edited (processes p.processes) e, Fd fd) → IsNumber (node_state p).shape.files file → ProcessFits p.processes e → IsNode p → ProcessesFit p (Some e)
 unfolding node_state

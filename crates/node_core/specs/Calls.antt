@@ -1,12 +1,12 @@
 -- A node takes a call of one of its processes.
-use Rattle.std.specs.Prelude.{ℕ, ◌+◌, Bool, true, not, ◌&&◌, nat_lt, if◌then◌else◌, [], ◌∷◌, ◌++◌, is_some, Some, None, Result, Ok, Err}
+use Rattle.std.specs.Prelude.{ℕ, ◌+◌, Bool, true, false, not, ◌&&◌, nat_lt, if◌then◌else◌, [], ◌∷◌, ◌++◌, is_some, Some, None, Result, Ok, Err}
 use Rattle.model.specs.declared.mode.Mode.{Mode}
 use Rattle.model.specs.declared.op.Op.{Op}
-use Rattle.model.specs.declared.op.Op.TheVariants.{Spawn, Open, Set, Unlock, Query}
+use Rattle.model.specs.declared.op.Op.TheVariants.{Spawn, Fork, Open, Dup, Close, Exit, Set, Unlock, Query}
 use Rattle.model.specs.declared.reply.Reply.{Reply}
 use Rattle.model.specs.Limits.{most_processes}
-use Rattle.model.specs.Descriptors.{after_spawn, after_open}
-use Rattle.model.specs.Table.{Target, around, beside, target}
+use Rattle.model.specs.Descriptors.{is_of_file, has_open, after_spawn, after_fork, after_open, after_dup}
+use Rattle.model.specs.Table.{Table, Target, around, descriptor, beside, target, after_close, after_exit}
 use Rattle.messages.specs.Shapes.{ShapeFields}
 use Rattle.messages.specs.declared.refusal.StepError.{StepError}
 use Rattle.messages.specs.declared.refusal.StepError.TheVariants.{Busy, Stranger, Spent}
@@ -15,15 +15,16 @@ use Rattle.messages.specs.Messages.{is_within, greatest_number}
 use Rattle.node_core.specs.declared.open_call.Intent.{Intent}
 use Rattle.node_core.specs.declared.open_call.Intent.TheVariants as intent
 use Rattle.node_core.specs.declared.open_call.OpenCall.{OpenCall}
-use Rattle.node_core.specs.State.{NodeState, Effect, answered, open_call_of, process, id_of, outcome}
-use Rattle.node_core.specs.Try.{settled, locked_by, tried}
+use Rattle.node_core.specs.State.{NodeState, Effect, answered, without_call_of, open_call_of, process, id_of, outcome}
+use Rattle.node_core.specs.Try.{settled, may_free, with_freed_of, locked_by, tried}
 
 -- the number is one of a process
 abbrev pub is_pid : ℕ → Bool
 is_pid pid = is_within most_processes pid
 
--- the file that the operation names is of the shape
+-- the file that the operation names is of the shape, and the process is one that a node can have
 abbrev pub is_in_shape : ShapeFields → Op → Bool
+is_in_shape shape (Fork child) = is_pid child
 is_in_shape shape (Open file access) = is_within shape.files file
 is_in_shape shape _ = true
 
@@ -39,10 +40,19 @@ abbrev pub unlock_call : NodeState → ℕ → Result Target Reply → Effect
 unlock_call s number (Err refusal) = answered s number refusal
 unlock_call s number (Ok target) = locked_by s number target None
 
+-- descriptors of the files that pass are closed: the servers hear that locks may be gone
+abbrev pub shut_by : NodeState → ℕ → (ℕ → Bool) → Table × Reply → Effect
+shut_by s number passes answer =
+    if may_free None answer.1 then with_freed_of passes s.shape.files (settled s number answer) else settled s number answer
+
 -- the call with that number: all but set and query are answered in the same step
 abbrev pub called : NodeState → ℕ → ℕ → Op → Effect
 called s number pid Spawn = settled s number (beside s.table (process s pid) (after_spawn (around s.table (process s pid)) pid))
+called s number pid (Fork child) = settled s number (beside s.table (process s pid) (after_fork (around s.table (process s pid)) pid child))
 called s number pid (Open file access) = settled s number (beside s.table (process s pid) (after_open (around s.table (process s pid)) pid file access))
+called s number pid (Dup fd) = settled s number (beside s.table (process s pid) (after_dup (around s.table (process s pid)) pid fd))
+called s number pid (Close fd) = shut_by s number (λ file. is_of_file file (descriptor s.table (process s pid) fd)) (after_close s.table (process s pid) fd)
+called s number pid Exit = shut_by (without_call_of s pid) number (has_open (around s.table (process s pid)) pid) (after_exit s.table (process s pid))
 called s number pid (Set fd kind mode start len) = lock_call s number pid intent.Set mode (target s.table (process s pid) (Some mode) fd kind start len)
 called s number pid (Unlock fd kind start len) = unlock_call s number (target s.table (process s pid) None fd kind start len)
 called s number pid (Query fd kind mode start len) = lock_call s number pid intent.Query mode (target s.table (process s pid) None fd kind start len)
@@ -51,9 +61,17 @@ called s number pid (Query fd kind mode start len) = lock_call s number pid inte
 abbrev pub after_call : NodeState → ℕ → Op → NodeState × Outcome
 after_call s pid op = outcome (Some (id_of s (s.calls + 1))) (called (record s { calls = s.calls + 1 }) (s.calls + 1) pid op)
 
+abbrev pub is_exit : Op → Bool
+is_exit Exit = true
+is_exit _ = false
+
+-- the process waits for an answer, and the call is none that it may make then: it may exit
+abbrev pub is_busy : NodeState → ℕ → Op → Bool
+is_busy s pid op = not (is_exit op) && is_some (open_call_of s pid)
+
 -- a process has at most one open call
 abbrev pub call_rule : NodeState → ℕ → Op → Result (NodeState × Outcome) StepError
 call_rule s pid op =
     if not (is_pid pid && is_in_shape s.shape op) then Err Stranger
-    else (if is_some (open_call_of s pid) then Err Busy
+    else (if is_busy s pid op then Err Busy
     else (if nat_lt s.calls greatest_number then Ok (after_call s pid op) else Err Spent))

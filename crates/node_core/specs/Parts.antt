@@ -6,7 +6,7 @@ use Rattle.model.specs.declared.opened.Opened.{Opened}
 use Rattle.model.specs.declared.reply.Reply.{Reply}
 use Rattle.model.specs.Limits.{IsHost, IsNumber}
 use Rattle.model.specs.Locks.{IsOfNode}
-use Rattle.model.specs.Descriptors.{no_processes, after_spawn, after_open}
+use Rattle.model.specs.Descriptors.{no_processes, after_spawn, after_fork, after_open, after_dup}
 use Rattle.model.specs.Table.{Table, around, beside}
 use Rattle.lock_table.specs.declared.row.Row.{Row as LockRow}
 use Rattle.lock_table.specs.Rows.{held}
@@ -71,9 +71,15 @@ pub record IsNode (p : NodeParts) : Type 0 where
   pub opened_in : (pid fd : ℕ) (o : Opened) → (processes p.processes).opened pid fd ≡ Some o → IsNumber p.shape.files o.file
   pub calls_in : All (IsOwnCall p.shape.files p.node p.incarnation) p.pending
 
--- what `spawn` and `open` of the process make of the table, and their answers
+-- what `spawn`, `fork`, `open` and `dup` of the process make of the table, and their answers
 abbrev pub spawned : NodeState → ℕ → Table × Reply
 spawned s pid = beside s.table (process s pid) (after_spawn (around s.table (process s pid)) pid)
+
+abbrev pub forked : NodeState → ℕ → ℕ → Table × Reply
+forked s pid child = beside s.table (process s pid) (after_fork (around s.table (process s pid)) pid child)
+
+abbrev pub dupped : NodeState → ℕ → ℕ → Table × Reply
+dupped s pid fd = beside s.table (process s pid) (after_dup (around s.table (process s pid)) pid fd)
 
 abbrev pub opened : NodeState → ℕ → ℕ → Access → Table × Reply
 opened s pid file access = beside s.table (process s pid) (after_open (around s.table (process s pid)) pid file access)

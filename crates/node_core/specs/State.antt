@@ -42,6 +42,10 @@ with_file s file state = record s { files = λ f. if f == file then state else s
 abbrev pub without_call : NodeState → ℕ → NodeState
 without_call s number = record s { pending = filter (λ c. not (c.number == number)) s.pending }
 
+-- an open call of the process is dropped
+abbrev pub without_call_of : NodeState → ℕ → NodeState
+without_call_of s pid = record s { pending = filter (λ c. not (c.pid == pid)) s.pending }
+
 -- the open call with that number
 abbrev pub open_call : NodeState → ℕ → Option OpenCall
 open_call s number = find (λ c. c.number == number) s.pending

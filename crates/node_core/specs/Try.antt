@@ -1,5 +1,5 @@
 -- A node tries an open call about a lock.
-use Rattle.std.specs.Prelude.{ℕ, Bool, true, false, if◌then◌else◌, [], ◌∷◌, ◌++◌, Option, Some, None}
+use Rattle.std.specs.Prelude.{ℕ, zero, suc, Bool, true, false, if◌then◌else◌, [], ◌∷◌, ◌++◌, Option, Some, None}
 use Rattle.model.specs.declared.mode.Mode.{Mode}
 use Rattle.model.specs.declared.mode.Mode.TheVariants.{Read}
 use Rattle.model.specs.declared.lock_info.LockInfo.{LockInfo}
@@ -43,6 +43,13 @@ with_freed file e =
     if (e.state.files file).asked
     then record { state = with_file e.state file (record (e.state.files file) { asked = false }); reply = e.reply; sends = e.sends ++ Freed file (host e.state) ∷ [] }
     else e
+
+-- so do those of the files that pass, up to n, one after the other
+unfoldable pub with_freed_of : (ℕ → Bool) → ℕ → Effect → Effect
+with_freed_of passes zero e = e
+with_freed_of passes (suc n) e =
+    let before = with_freed_of passes n e in
+    if passes (suc n) then with_freed (suc n) before else before
 
 -- the bytes are set to the mode or freed, and the server hears of it where that may help others
 abbrev pub locked_by : NodeState → ℕ → Target → Option Mode → Effect

@@ -238,9 +238,9 @@ impl Node {
     ///
     /// # Errors
     /// In this order: `Stranger` where a process's number is outside 1 to 256, a file is outside the
-    /// shape, or a message is for another; `Busy` where the process has an open call; `Spent` where
-    /// no call number is left. Each of them comes before memory is asked for. `NoMemory` where a
-    /// request for memory was refused.
+    /// shape, or a message is for another; `Busy` where the process has an open call and doesn't exit;
+    /// `Spent` where no call number is left. Each of them comes before memory is asked for. `NoMemory`
+    /// where a request for memory was refused.
     pub fn step(&self, alloc: Global, event: &NodeEvent) -> Result<(Node, Outcome), StepError>
         ensures ok { IfOk result (λ r. node_rule (node_state self.now) event.now ≡ Ok (node_state r.0, r.1)) }
         ensures err { IfErr result (λ error. error ≢ StepError.NoMemory → node_rule (node_state self.now) event.now ≡ Err error) }

@@ -2,6 +2,7 @@
 use fcntl_table::table::FcntlTable;
 use intervals::span::{GREATEST, Span};
 use model::access::Access;
+use model::limits::MOST_PROCESSES;
 use model::lock_info::LockInfo;
 use model::mode::Mode;
 use model::op::Op;
@@ -92,7 +93,12 @@ fn set_step(
 fn step(table: &mut FcntlTable, process: Process, op: Op) -> Result<Reply, AllocError> {
     match op {
         Op::Spawn => table.spawn(process),
+        Op::Fork { child } if 1 <= child && child <= MOST_PROCESSES => table.fork(process, child),
+        Op::Fork { .. } => Ok(Reply::NoProcess),
         Op::Open { file, access } => table.open(process, file, access),
+        Op::Dup { fd } => table.dup(process, fd),
+        Op::Close { fd } => Ok(table.close(process, fd)),
+        Op::Exit => Ok(table.exit(process)),
         Op::Set {
             fd,
             kind,

@@ -2,12 +2,13 @@
 ghost use Rattle.std.specs.Prelude.{◌≡◌, true, false, IsTrue, ◌↔◌, IfOk};
 ghost use Rattle.model.specs.declared.op.Op.TheVariants.{Set, Unlock, Query};
 ghost use Rattle.model.specs.declared.reply.Reply.TheVariants.{Again, Blocked};
-ghost use Rattle.model.specs.Step.{BlocksCall, Step};
+ghost use Rattle.model.specs.Step.{BlocksCall, IsPossible, Step};
 ghost use Rattle.model.specs.Replay.{NeverAnswers, NamesNoLock};
 ghost use Rattle.fcntl_table.specs.Tables.{table_of};
 
 use fcntl_table::table::FcntlTable;
 use intervals::span_map::NoMemory;
+use model::limits::MOST_PROCESSES;
 use model::lock_call::LockCall;
 use model::lock_info::LockInfo;
 use model::mode::Mode;
@@ -55,8 +56,21 @@ fn take_answer(
     ensures taken { IfOk result (λ yes. yes ≡ true → Step (table_of table.old) process op reply (table_of table.new)) }
     ensures never { IfOk result (λ yes. yes ≡ false → NeverAnswers (table_of table.old) process op reply) }
 {
+    if !is_possible(&op) {
+        return Ok(false);
+    }
     let answer = step(table, process, op)?;
     Ok(is_same(&answer, &reply))
+}
+
+// Whether a process that the operation names has a number that a process can have.
+fn is_possible(op: &Op) -> bool
+    ensures { IsTrue result ↔ IsPossible op.now }
+{
+    match op {
+        Op::Fork { child } => 1 <= *child && *child <= MOST_PROCESSES,
+        _ => true,
+    }
 }
 
 // Whether the call may be answered by this lock, as one that blocks it.
@@ -117,11 +131,16 @@ fn is_blocked_by(table: &FcntlTable, call: LockCall, mode: Mode, lock: &LockInfo
 // Answers a call of the process. A segment is tested before the open mode of its descriptor; where
 // locks of several owners block, one of them is named.
 fn step(table: &mut FcntlTable, process: Process, op: Op) -> Result<Reply, NoMemory>
+    requires { IsPossible op }
     ensures { IfOk result (λ reply. Step (table_of table.old) process op reply (table_of table.new)) }
 {
     match op {
         Op::Spawn => table.spawn(process),
+        Op::Fork { child } => table.fork(process, child),
         Op::Open { file, access } => table.open(process, file, access),
+        Op::Dup { fd } => table.dup(process, fd),
+        Op::Close { fd } => Ok(table.close(process, fd)),
+        Op::Exit => Ok(table.exit(process)),
         Op::Set {
             fd,
             kind,

@@ -44,25 +44,6 @@ impl FcntlTable {
         self.hosts.forget_idle(host);
     }
 
-    /// The descriptor of the process, if there is one, refers to nothing from now on; the locks of the
-    /// process in that file go, and those of the description if no descriptor refers to it any more
-    /// (POSIX.1-2017 `close()`). Takes no memory.
-    pub fn close(&mut self, process: Process, fd: u8)
-        requires { is_running (table_of self.old) process ≡ true }
-        ensures { table_of self.new ≡ closed_if (table_of self.old) process fd (descriptor (table_of self.old) process fd) }
-    {
-        self.close_if(host_of(process), process.pid, fd);
-    }
-
-    /// The process exits: each of its descriptors is closed, and it runs no longer (POSIX.1-2017
-    /// `_Exit()`). Takes no memory.
-    pub fn exit(&mut self, process: Process)
-        requires { is_running (table_of self.old) process ≡ true }
-        ensures { table_of self.new ≡ exited (table_of self.old) process }
-    {
-        self.exit_on(host_of(process), process.pid);
-    }
-
     // Every process of the node exits.
     fn exit_all(&mut self, host: Host)
         ensures { table_of self.new ≡ gone (table_of self.old) host.node host.incarnation }
@@ -81,6 +62,22 @@ impl FcntlTable {
         if self.hosts.is_running(host, pid) {
             self.exit_on(host, pid);
         }
+    }
+
+    // The process, which runs, exits.
+    pub(super) fn exit_of(&mut self, process: Process)
+        requires { is_running (table_of self.old) process ≡ true }
+        ensures { table_of self.new ≡ exited (table_of self.old) process }
+    {
+        self.exit_on(host_of(process), process.pid);
+    }
+
+    // The descriptor of the process, which runs, is closed, if there is one.
+    pub(super) fn close_of(&mut self, process: Process, fd: u8)
+        requires { is_running (table_of self.old) process ≡ true }
+        ensures { table_of self.new ≡ closed_if (table_of self.old) process fd (descriptor (table_of self.old) process fd) }
+    {
+        self.close_if(host_of(process), process.pid, fd);
     }
 
     // The process exits.

@@ -5,9 +5,9 @@ ghost use Rattle.model.specs.Table.{target};
 ghost use Rattle.messages.specs.Messages.{greatest_number};
 ghost use Rattle.node_core.specs.State.{process, open_call_of};
 ghost use Rattle.node_core.specs.Try.{settled};
-ghost use Rattle.node_core.specs.Calls.{is_in_shape, lock_call, unlock_call, called, call_rule};
+ghost use Rattle.node_core.specs.Calls.{is_in_shape, is_exit, is_busy, lock_call, unlock_call, called, call_rule};
 ghost use Rattle.node_core.specs.Retries.{retry_rule};
-ghost use Rattle.node_core.specs.Parts.{node_state, spawned, opened, IsOwn, IsSpan};
+ghost use Rattle.node_core.specs.Parts.{node_state, spawned, forked, opened, dupped, IsOwn, IsSpan};
 ghost use Rattle.node_core.specs.Plans.{numbered, table_after, planned, effect_of, ProcessesFit, Fits};
 
 use super::Node;
@@ -29,24 +29,35 @@ use model::owner::Kind;
 use model::reply::Reply;
 use std::alloc::{AllocError, Global};
 
+// Whether the process exits.
+fn is_exit(op: &Op) -> bool
+    ensures { result ≡ is_exit op.now }
+{
+    match op {
+        Op::Exit => true,
+        _ => false,
+    }
+}
+
 impl Node {
-    // Whether the file that the operation names is of the shape.
+    // Whether the file and the process that the operation names are ones that there can be.
     #[tactic(auto, unfolding(crate::specs::Parts::node_state))]
     fn is_in_shape(&self, op: &Op) -> bool
         ensures { result ≡ is_in_shape (node_state self.now).shape op.now }
     {
         match op {
             Op::Open { file, .. } => 1 <= *file && *file <= self.shape.files(),
+            Op::Fork { child } => is_pid(*child),
             _ => true,
         }
     }
 
-    // Whether the process has an open call.
+    // Whether the process waits for an answer, and so may not make the call.
     #[tactic(auto, unfolding(crate::specs::Parts::node_state))]
-    fn has_open_call(&self, pid: u16) -> bool
-        ensures { result ≡ is_some (open_call_of (node_state self.now) pid) }
+    fn is_busy(&self, pid: u16, op: &Op) -> bool
+        ensures { result ≡ is_busy (node_state self.now) pid op.now }
     {
-        self.pending.has_call_of(pid)
+        !is_exit(op) && self.pending.has_call_of(pid)
     }
 
     // Whether no call number is left.
@@ -74,6 +85,29 @@ impl Node {
     {
         match self.processes.plan_spawn(pid) {
             Ok(edit) => Ok((Some(edit), Reply::Done)),
+            Err(error) => Ok((None, error.reply()?)),
+        }
+    }
+
+    // The child begins, with the descriptors of the process.
+    fn fork(&self, pid: u16, child: u16) -> Result<(Option<ProcessEdit>, Reply), AllocError>
+        requires { IsNumber most_processes child }
+        ensures value { IfOk result (λ r. forked (node_state self.now) pid child ≡ (table_after (node_state self.now) r.0, r.1)) }
+        ensures fits { IfOk result (λ r. ProcessesFit self.now r.0) }
+    {
+        match self.processes.plan_fork(pid, child) {
+            Ok(edit) => Ok((Some(edit), Reply::Done)),
+            Err(error) => Ok((None, error.reply()?)),
+        }
+    }
+
+    // One more descriptor of what this one refers to.
+    fn dup(&self, pid: u16, fd: u8) -> Result<(Option<ProcessEdit>, Reply), AllocError>
+        ensures value { IfOk result (λ r. dupped (node_state self.now) pid fd ≡ (table_after (node_state self.now) r.0, r.1)) }
+        ensures fits { IfOk result (λ r. ProcessesFit self.now r.0) }
+    {
+        match self.processes.plan_dup(pid, fd) {
+            Ok((edit, made)) => Ok((Some(edit), Reply::Fd(made))),
             Err(error) => Ok((None, error.reply()?)),
         }
     }
@@ -143,6 +177,27 @@ impl Node {
         ensures fits { IfOk result (λ effect. Fits self.now effect.edit) }
     {
         let (processes, reply) = self.spawn(pid)?;
+        Ok(self.answer_with(alloc, processes, reply))
+    }
+
+    // The child begins, and the call is answered.
+    fn call_fork(&self, alloc: Global, pid: u16, child: u16) -> Result<Effect, AllocError>
+        requires left { (node_state self.now).calls < greatest_number }
+        requires child { IsNumber most_processes child }
+        ensures value { IfOk result (λ effect. called (numbered (node_state self.now)) ((node_state self.now).calls + 1) pid (Op.Fork child) ≡ effect_of self.now effect) }
+        ensures fits { IfOk result (λ effect. Fits self.now effect.edit) }
+    {
+        let (processes, reply) = self.fork(pid, child)?;
+        Ok(self.answer_with(alloc, processes, reply))
+    }
+
+    // One more descriptor is open, and the call is answered.
+    fn call_dup(&self, alloc: Global, pid: u16, fd: u8) -> Result<Effect, AllocError>
+        requires left { (node_state self.now).calls < greatest_number }
+        ensures value { IfOk result (λ effect. called (numbered (node_state self.now)) ((node_state self.now).calls + 1) pid (Op.Dup fd) ≡ effect_of self.now effect) }
+        ensures fits { IfOk result (λ effect. Fits self.now effect.edit) }
+    {
+        let (processes, reply) = self.dup(pid, fd)?;
         Ok(self.answer_with(alloc, processes, reply))
     }
 
@@ -229,6 +284,9 @@ impl Node {
         match *op {
             Op::Spawn => self.call_spawn(alloc, pid),
             Op::Open { file, access } => self.call_open(alloc, pid, file, access),
+            Op::Fork { child } => self.call_fork(alloc, pid, child),
+            Op::Dup { fd } => self.call_dup(alloc, pid, fd),
+            Op::Close { .. } | Op::Exit => Err(AllocError),
             Op::Set {
                 fd,
                 kind,
@@ -268,7 +326,7 @@ impl Node {
         if !(is_pid(pid) && self.is_in_shape(op)) {
             return Err(StepError::Stranger);
         }
-        if self.has_open_call(pid) {
+        if self.is_busy(pid, op) {
             return Err(StepError::Busy);
         }
         if self.is_spent() {

@@ -55,6 +55,38 @@ fn call(node: u8, pid: u16, op: Op) -> Command {
 }
 
 #[test]
+fn has_its_descriptor_calls(rt: HostRuntime) -> Result<(), Fail> {
+    let text =
+        "cluster nodes 1 files 1 policy wide\ncall 1 1 open 1 r\ncall 1 1 open 1 w\ncall 1 1 fork 256\ncall 1 1 dup 255\ncall 1 1 close 64\ncall 1 1 exit\ncall 1 1 unlock 0 desc 0 1\n";
+    let script = Script::parse(rt.alloc(), text)?;
+    let want = [
+        Op::Open {
+            file: 1,
+            access: Access::ReadOnly,
+        },
+        Op::Open {
+            file: 1,
+            access: Access::WriteOnly,
+        },
+        Op::Fork { child: 256 },
+        Op::Dup { fd: 255 },
+        Op::Close { fd: 64 },
+        Op::Exit,
+        Op::Unlock {
+            fd: 0,
+            kind: Kind::OfDescription,
+            start: 0,
+            len: 1,
+        },
+    ];
+    assert_eq!(rt; script.lines().len(), want.len());
+    for (line, op) in script.lines().iter().zip(want.iter()) {
+        assert_eq!(rt; line.command(), call(1, 1, *op));
+    }
+    Ok(())
+}
+
+#[test]
 fn has_its_lines(rt: HostRuntime) -> Result<(), Fail> {
     let script = Script::parse(rt.alloc(), SCRIPT)?;
     assert_eq!(rt; script.shape(), Shape::new(1, 2, Policy::Exact)?);
@@ -100,7 +132,7 @@ fn has_its_lines_of_messages(rt: HostRuntime) -> Result<(), Fail> {
 }
 
 // What may not stand in line 2.
-const BAD_SECOND_LINES: [&str; 70] = [
+const BAD_SECOND_LINES: [&str; 72] = [
     "cluster nodes 1 files 1 policy wide",
     "Settle",
     "settle ",
@@ -128,11 +160,11 @@ const BAD_SECOND_LINES: [&str; 70] = [
     "call 1 1 open 0 rw",
     "call 1 1 open 257 rw",
     "call 1 1 open 1",
-    "call 1 1 open 1 r",
-    "call 1 1 open 1 w",
+    "call 1 1 open 1 wr",
+    "call 1 1 open 1 x",
     "call 1 1 open 1 rw ",
     "call 1 1 set 256 proc write 0 1",
-    "call 1 1 set 0 desc write 0 1",
+    "call 1 1 set 0 file write 0 1",
     "call 1 1 set 0 proc shared 0 1",
     "call 1 1 set 0 proc write -0 1",
     "call 1 1 set 0 proc write 00 1",
@@ -142,16 +174,18 @@ const BAD_SECOND_LINES: [&str; 70] = [
     "call 1 1 set 0 proc write 0",
     "call 1 1 set 0 proc write 0 1 2",
     "call 1 1 unlock 0 proc write 0 1",
-    "call 1 1 unlock 0 desc 0 1",
+    "call 1 1 unlock 0 file 0 1",
     "call 1 1 query 0 proc shared 0 1",
     "call 1 1 query 0 proc 0 1",
-    "call 1 1 query 0 desc write 0 1",
+    "call 1 1 query 0 file write 0 1",
     "call 1 1 query 256 proc write 0 1",
     "call 1 1 query 0 proc write 0 1 ",
-    "call 1 1 fork 2",
-    "call 1 1 dup 0",
-    "call 1 1 close 0",
-    "call 1 1 exit",
+    "call 1 1 fork",
+    "call 1 1 fork 0",
+    "call 1 1 fork 257",
+    "call 1 1 dup 256",
+    "call 1 1 close",
+    "call 1 1 exit 0",
     "call 1 1 wait 0 proc write 0 1",
     "deliver",
     "deliver 0",

@@ -1,5 +1,6 @@
--- Locks hang on descriptors: no lock of a process stands in a file of which it has no descriptor, and none of a description that nothing refers to.
-use Rattle.std.proofs.Common.{◌≡◌, ℕ, ◌<◌, true, refl, subst, ℤ, Option, Some, Ok}
+-- What locks hang on.
+use Rattle.std.proofs.Common.{◌≡◌, ℕ, true, ◌&&◌, ◌==◌, refl, subst, ℤ, Option, Some, Ok}
+use Rattle.std.proofs.lemmas.Bool.{and_from, eq-eqb}
 use Rattle.std.proofs.lemmas.Option.{none-some}
 use Rattle.intervals.specs.Segment.{seg}
 use Rattle.model.specs.declared.mode.Mode.{Mode}
@@ -9,38 +10,25 @@ use Rattle.model.specs.declared.owner.Owner.{Owner}
 use Rattle.model.specs.declared.opened.Opened.{Opened}
 use Rattle.model.specs.declared.process.Process.{Process}
 use Rattle.model.specs.declared.reply.Reply.TheVariants.{NoProcess}
-use Rattle.model.specs.Limits.{IsNumber, most_processes, most_descriptors}
 use Rattle.model.specs.Locks.{Locks}
 use Rattle.model.specs.Descriptors.{Processes, no_processes}
 use Rattle.model.specs.Table.{Table, Target, is_running, descriptor, target, target_at, owner_of}
-use Rattle.cluster_core.proofs.Refusals.{if_then}
-use Rattle.cluster_core.proofs.Targets.{passes_at}
-
--- a process that has locks in a file has a descriptor of it; a description that has locks is open
-abbrev pub Hangs : Processes → ℕ → Kind → ℕ → Type 0
-Hangs ps file OfProcess number = (fd : ℕ) × (o : Opened) × (ps.opened number fd ≡ Some o) × (o.file ≡ file)
-Hangs ps file OfDescription number = (pid : ℕ) × (fd : ℕ) × (o : Opened) × (ps.opened pid fd ≡ Some o) × (o.description ≡ number)
-
--- the processes of a node have numbers that they can have, descriptors are of processes that run and have numbers that they can have, and no lock of the node outlives the descriptors that it hangs on
-pub record AreAnchored (ps : Processes) (h : Locks) (n i : ℕ) : Type 0 where
-  pub numbers : (pid : ℕ) → ps.runs pid ≡ true → IsNumber most_processes pid
-  pub descriptors : (pid fd : ℕ) (o : Opened) → ps.opened pid fd ≡ Some o → (ps.runs pid ≡ true) × (fd < most_descriptors)
-  pub locks : (file : ℕ) (owner : Owner) (b : ℕ) (mode : Mode) → owner.node ≡ n → owner.incarnation ≡ i → h file owner b ≡ Some mode → Hangs ps file owner.kind owner.number
-
-abbrev pub IsAnchored : Table → ℕ → ℕ → Type 0
-IsAnchored t n i = AreAnchored (t.on n i) t.locks n i
+use Rattle.model.specs.Anchors.{Hangs, AreAnchored}
+use Rattle.model.proofs.Refusals.{if_then}
+use Rattle.model.proofs.Targets.{passes_at}
 
 pub anchored_none : (h : Locks) (n i : ℕ) → ((file : ℕ) (owner : Owner) (b : ℕ) (mode : Mode) → h file owner b ≡ Some mode → ⊥) → AreAnchored no_processes h n i
 anchored_none h n i none = record {
   numbers = λ pid r. absurd (cc);
   descriptors = λ pid fd o r. absurd (none-some o r);
+  agree = λ pid fd qid k o x r. absurd (none-some o r);
   locks = λ file owner b mode node incarnation held. absurd (none file owner b mode held);
 }
 
 -- what holds on to a descriptor does where that stays
 pub hangs_on : (file : ℕ) (kind : Kind) (number : ℕ) (before after : Processes) → ((q fd : ℕ) (x : Opened) → before.opened q fd ≡ Some x → after.opened q fd ≡ Some x) → Hangs before file kind number → Hangs after file kind number
 hangs_on file OfProcess number before after stays (fd, x, h, of) = (fd, x, stays number fd x h, of)
-hangs_on file OfDescription number before after stays (q, fd, x, h, of) = (q, fd, x, stays q fd x h, of)
+hangs_on file OfDescription number before after stays (q, fd, x, h, description, of) = (q, fd, x, stays q fd x h, description, of)
 
 -- a lock call that passes its tests is about a lock that would hang on its descriptor
 pub target_hangs : (t : Table) (p : Process) (need : Option Mode) (fd : ℕ) (kind : Kind) (start len : ℤ) (c : Target) → target t p need fd kind start len ≡ Ok c → Hangs (t.on p.node p.incarnation) c.file c.owner.kind c.owner.number
@@ -51,4 +39,8 @@ target_hangs t p need fd kind start len c h =
   where
     its : (k : Kind) (o : Opened) → descriptor t p fd ≡ Some o → Hangs (t.on p.node p.incarnation) o.file (owner_of p k o).kind (owner_of p k o).number
     its OfProcess o there = (fd, o, there, refl)
-    its OfDescription o there = (p.pid, fd, o, there, refl)
+    its OfDescription o there = (p.pid, fd, o, there, refl, refl)
+
+-- processes of the node
+pub itself : (n i : ℕ) → ((n == n) && (i == i)) ≡ true
+itself n i = and_from _ _ (eq-eqb n n refl) (eq-eqb i i refl)

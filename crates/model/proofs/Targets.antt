@@ -15,7 +15,7 @@ use Rattle.model.specs.declared.reply.Reply.TheVariants.{NoProcess, BadFd}
 use Rattle.model.specs.Limits.{IsNumber, most_processes, most_descriptions}
 use Rattle.model.specs.Owners.{owner_at, most_owners, process_owner, description_owner}
 use Rattle.model.specs.Table.{Table, Target, is_running, descriptor, target, target_at, owner_of, allows}
-use Rattle.cluster_core.proofs.Refusals.{if_ok, if_then}
+use Rattle.model.proofs.Refusals.{if_ok, if_then}
 
 -- bytes of a file, at least one
 pub record IsSpan (s : Range) : Type 0 where

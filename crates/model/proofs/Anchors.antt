@@ -16,12 +16,13 @@ use Rattle.model.specs.Descriptors.{Processes, no_processes, with_process, with_
 use Rattle.model.specs.Table.{Table, around, descriptor, is_running, with_processes, closed, closed_if, closed_below, exited, exited_if, exited_to, gone}
 use Rattle.model.proofs.OwnerLaws.{owner_exact, owner_refl}
 use Rattle.intervals.specs.Search.{first, some_passes}
-use Rattle.token_set.proofs.SearchLaws.{some_passes-first}
-use Rattle.cluster_core.proofs.Hanging.{Hangs, AreAnchored, IsAnchored, hangs_on}
-use Rattle.cluster_core.proofs.NodeTables.{itself}
+use Rattle.model.specs.Anchors.{Hangs, AreAnchored, IsAnchored}
+use Rattle.model.proofs.SearchLaws.{first-passes}
+use Rattle.model.proofs.Hanging.{hangs_on, itself}
+use Rattle.model.proofs.NodeTables.{GoesOn, same_goes_on, goes_then}
 
 -- a lock that is left where some are dropped
-left : (b : Bool) (bytes : ℕ → Option Mode) (k : ℕ) (mode : Mode) → (if b then nothing else bytes) k ≡ Some mode → (b ≡ false) × (bytes k ≡ Some mode)
+pub left : (b : Bool) (bytes : ℕ → Option Mode) (k : ℕ) (mode : Mode) → (if b then nothing else bytes) k ≡ Some mode → (b ≡ false) × (bytes k ≡ Some mode)
 left true bytes k mode h = absurd (none-some mode h)
 left false bytes k mode h = (refl, h)
 
@@ -39,8 +40,8 @@ open_refers : (ps : Processes) (d : ℕ) → is_open ps d ≡ true → (pid : �
 open_refers ps d h =
     let pids : ℕ → Bool = λ pid. some_passes (λ fd. is_of d (ps.opened pid fd)) 0 most_descriptors in
     let pid = first pids 1 most_processes in
-    let one = some_passes-first pids 1 most_processes h in
-    let two = some_passes-first (λ fd. is_of d (ps.opened pid fd)) 0 most_descriptors one.here in
+    let one = first-passes pids 1 most_processes h in
+    let two = first-passes (λ fd. is_of d (ps.opened pid fd)) 0 most_descriptors one.here in
     let fd = first (λ k. is_of d (ps.opened pid k)) 0 most_descriptors in
     let found = of_some d (ps.opened pid fd) two.here in
     (pid, fd, found.0, found.1, found.2)
@@ -103,26 +104,30 @@ module _ (ps : Processes) (h : Locks) (n i : ℕ) (a : AreAnchored ps h n i) (pi
         absurd (both_ways ((o.file == file) && same_owner (process_owner p) owner) not_its (and_from (o.file == file) (same_owner (process_owner p) owner) (eq-eqb o.file file files) mine))
     | inr other ↦ (fd', x, stays_open number fd' x opened other, of)
   ]
-  hangs_still file OfDescription number not_its still (q, fd', x, opened, of) = elim (is_this q fd') [
+  hangs_still file OfDescription number not_its still (q, fd', x, opened, numbered, of) = elim (is_this q fd') [
     | inl same ↦
         let is = the_same q fd' x opened same in
-        let description : o.description ≡ number = ap (λ (y : Opened). y.description) (sym is) ∙ of in
+        let description : o.description ≡ number = ap (λ (y : Opened). y.description) (sym is) ∙ numbered in
+        let files : o.file ≡ file = ap (λ (y : Opened). y.file) (sym is) ∙ of in
         let owner : Owner = record { node = n; incarnation = i; kind = OfDescription; number = number } in
         elim still [
           | inl opens ↦
               let r = open_refers fewer o.description opens in
-              (r.0, r.1, r.2, r.3, r.4 ∙ description)
+              let old = left_open ((r.0 == pid) && (r.1 == fd)) (ps.opened r.0 r.1) r.2 r.3 in
+              let one = a.agree r.0 r.1 pid fd r.2 o old.1 there r.4 in
+              (r.0, r.1, r.2, r.3, r.4 ∙ description, ap (λ (y : Opened). y.file) one ∙ files)
           | inr other ↦
               let its : same_owner (description_owner p o.description) owner ≡ true = ap (λ (k : ℕ). same_owner (record { node = n; incarnation = i; kind = OfDescription; number = k }) owner) description ∙ owner_refl owner in
               absurd (both_ways (same_owner (description_owner p o.description) owner) other its)
         ]
-    | inr other ↦ (q, fd', x, stays_open q fd' x opened other, of)
+    | inr other ↦ (q, fd', x, stays_open q fd' x opened other, numbered, of)
   ]
 
   pub close_anchored : AreAnchored fewer locks_left n i
   close_anchored = record {
     numbers = a.numbers;
     descriptors = λ q k x is. a.descriptors q k x (left_open ((q == pid) && (k == fd)) (ps.opened q k) x is).1;
+    agree = λ q k r j x y one two. a.agree q k r j x y (left_open ((q == pid) && (k == fd)) (ps.opened q k) x one).1 (left_open ((r == pid) && (j == fd)) (ps.opened r j) y two).1;
     locks = λ file owner b mode node incarnation held.
         let l = is_left file owner b mode held in
         let same : record { node = n; incarnation = i; kind = owner.kind; number = owner.number } ≡ owner = λ j. record { node = sym node j; incarnation = sym incarnation j; kind = owner.kind; number = owner.number } in
@@ -140,15 +145,17 @@ IsElsewhere n i m k = ((m == n) && (k == i)) ≡ false
 pub record Leaves (n i : ℕ) (t u : Table) : Type 0 where
   pub anchored : IsAnchored u n i
   pub others : (m k : ℕ) → IsElsewhere n i m k → u.on m k ≡ t.on m k
+  pub fewer : (q fd : ℕ) (x : Opened) → (u.on n i).opened q fd ≡ Some x → (t.on n i).opened q fd ≡ Some x
   pub their_locks : (file : ℕ) (owner : Owner) → IsElsewhere n i owner.node owner.incarnation → u.locks file owner ≡ t.locks file owner
 
 leaves_same : (n i : ℕ) (t : Table) → IsAnchored t n i → Leaves n i t t
-leaves_same n i t a = record { anchored = a; others = λ m k h. refl; their_locks = λ file owner h. refl }
+leaves_same n i t a = record { anchored = a; others = λ m k h. refl; fewer = λ q fd x h. h; their_locks = λ file owner h. refl }
 
 leaves_then : (n i : ℕ) (t u v : Table) → Leaves n i t u → Leaves n i u v → Leaves n i t v
 leaves_then n i t u v a b = record {
   anchored = b.anchored;
   others = λ m k h. b.others m k h ∙ a.others m k h;
+  fewer = λ q fd x h. a.fewer q fd x (b.fewer q fd x h);
   their_locks = λ file owner h. b.their_locks file owner h ∙ a.their_locks file owner h;
 }
 
@@ -196,6 +203,9 @@ module _ (t : Table) (n i pid fd : ℕ) (o : Opened) (a : IsAnchored t n i) (the
       locks_chosen (is_open (around mid its) o.description) mid (without_owner_anywhere mid.locks (description_owner its o.description))
       ∙ ap (λ (ps : Processes). if is_open ps o.description then mid.locks else without_owner_anywhere mid.locks (description_owner its o.description)) mid_on
 
+  shut_opened : (q k : ℕ) (x : Opened) → ((closed t its fd o).on n i).opened q k ≡ Some x → (((q == pid) && (k == fd)) ≡ false) × ((t.on n i).opened q k ≡ Some x)
+  shut_opened q k x h = left_open ((q == pid) && (k == fd)) ((t.on n i).opened q k) x (ap (λ (ps : Processes). ps.opened q k) (sym shut_on) ∙ h)
+
   pub closed_leaves : Leaves n i t (closed t its fd o)
   closed_leaves = record {
     anchored =
@@ -203,6 +213,7 @@ module _ (t : Table) (n i pid fd : ℕ) (o : Opened) (a : IsAnchored t n i) (the
         subst (λ (ps : Processes). AreAnchored ps (closed t its fd o).locks n i) (sym shut_on)
         (subst (λ (h : Locks). AreAnchored its_fewer h n i) (sym shut_locks) after);
     others = λ m k h. on_chosen (is_open (around mid its) o.description) mid (without_owner_anywhere mid.locks (description_owner its o.description)) m k ∙ rw h refl;
+    fewer = λ q k x h. (shut_opened q k x h).1;
     their_locks = λ file owner h.
         let one : mid.locks file owner ≡ t.locks file owner = no_more file owner (not_its_owner n i pid file o.file owner OfProcess pid h) in
         ap (λ (x : Locks). x file owner) (locks_chosen (is_open (around mid its) o.description) mid (without_owner_anywhere mid.locks (description_owner its o.description)))
@@ -216,11 +227,14 @@ module _ (t : Table) (n i pid fd : ℕ) (o : Opened) (a : IsAnchored t n i) (the
       apart true file owner other = refl
       apart false file owner other = rw other refl
 
-  shut_opened : (q k : ℕ) (x : Opened) → ((closed t its fd o).on n i).opened q k ≡ Some x → (((q == pid) && (k == fd)) ≡ false) × ((t.on n i).opened q k ≡ Some x)
-  shut_opened q k x h = left_open ((q == pid) && (k == fd)) ((t.on n i).opened q k) x (ap (λ (ps : Processes). ps.opened q k) (sym shut_on) ∙ h)
-
   shut_runs : (q : ℕ) → ((closed t its fd o).on n i).runs q ≡ (t.on n i).runs q
   shut_runs q = ap (λ (ps : Processes). ps.runs q) shut_on
+
+  pub shut_goes_on : (q : ℕ) → (q ≡ pid → ⊥) → GoesOn (t.on n i) ((closed t its fd o).on n i) q
+  shut_goes_on q other = subst (λ (ps : Processes). GoesOn (t.on n i) ps q) (sym shut_on) (record {
+    runs = λ h. h;
+    opened = λ k x h. stays_open (t.on n i) t.locks n i a pid fd o there q k x h (λ both. other both.0);
+  })
 
 closed_below-zero : (t : Table) (p : Process) → closed_below t p zero ≡ t
 unfolding closed_below
@@ -243,6 +257,7 @@ pub record IsShut (n i pid k : ℕ) (t u : Table) : Type 0 where
   pub leaves : Leaves n i t u
   pub runs : (q : ℕ) → (u.on n i).runs q ≡ (t.on n i).runs q
   pub shut : (fd : ℕ) → fd < k → (u.on n i).opened pid fd ≡ None
+  pub others : (q : ℕ) → (q ≡ pid → ⊥) → GoesOn (t.on n i) (u.on n i) q
 
 module _ (n i pid : ℕ) where
   abbrev who : Process
@@ -252,6 +267,7 @@ module _ (n i pid : ℕ) where
   shut_more k t u None is s = record {
     leaves = s.leaves;
     runs = s.runs;
+    others = s.others;
     shut = λ fd lt. elim (cases_eq fd k) [
       | inl same ↦ ap (λ (j : ℕ). (u.on n i).opened pid j) same ∙ is
       | inr other ↦ s.shut fd (omega arith)
@@ -264,6 +280,7 @@ module _ (n i pid : ℕ) where
       record {
         leaves = leaves_then n i t u v s.leaves (closed_leaves u n i pid k o a is);
         runs = λ q. shut_runs u n i pid k o a is q ∙ s.runs q;
+        others = λ q other. goes_then (t.on n i) (u.on n i) (v.on n i) q (s.others q other) (shut_goes_on u n i pid k o a is q other);
         shut = λ fd lt. none_of ((v.on n i).opened pid fd) (λ x h.
             let old = opened fd x h in
             elim (cases_eq fd k) [
@@ -277,7 +294,7 @@ module _ (n i pid : ℕ) where
       none_of (Some x) none = absurd (none x refl)
 
   shut_below : (k : ℕ) (t : Table) → IsAnchored t n i → IsShut n i pid k t (closed_below t who k)
-  shut_below zero t a = subst (IsShut n i pid zero t) (sym (closed_below-zero t who)) (record { leaves = leaves_same n i t a; runs = λ q. refl; shut = λ fd lt. absurd (omega arith) })
+  shut_below zero t a = subst (IsShut n i pid zero t) (sym (closed_below-zero t who)) (record { leaves = leaves_same n i t a; runs = λ q. refl; shut = λ fd lt. absurd (omega arith); others = λ q other. same_goes_on (t.on n i) (t.on n i) q refl })
   shut_below (suc k) t a =
       let u = closed_below t who k in
       subst (IsShut n i pid (suc k) t) (sym (closed_below-more t who k)) (shut_more k t u (descriptor u who k) refl (shut_below k t a))
@@ -287,8 +304,9 @@ module _ (n i pid : ℕ) where
     pub leaves : Leaves n i t u
     pub stopped : (u.on n i).runs pid ≡ false
     pub others_run : (q : ℕ) → (u.on n i).runs q ≡ true → (t.on n i).runs q ≡ true
+    pub others : (q : ℕ) → (q ≡ pid → ⊥) → GoesOn (t.on n i) (u.on n i) q
 
-  exits : (t : Table) → IsAnchored t n i → HasExited t (exited t who)
+  pub exits : (t : Table) → IsAnchored t n i → HasExited t (exited t who)
   exits t a =
       let u = closed_below t who most_descriptors in
       let s = shut_below most_descriptors t a in
@@ -308,16 +326,22 @@ module _ (n i pid : ℕ) where
             let old = left_open (q == pid) (before.opened q fd) x h in
             let was = b.descriptors q fd x old.1 in
             (ap (λ (c : Bool). if c then false else before.runs q) old.0 ∙ was.0, was.1);
+        agree = λ q fd r k x y one two. b.agree q fd r k x y (left_open (q == pid) (before.opened q fd) x one).1 (left_open (r == pid) (before.opened r k) y two).1;
         locks = λ file owner byte mode node incarnation held. hangs_on file owner.kind owner.number before after stays (b.locks file owner byte mode node incarnation held);
       } in
       record {
         leaves = record {
           anchored = subst (λ (ps : Processes). AreAnchored ps u.locks n i) (sym here) anchored;
           others = λ m k h. rw h (s.leaves.others m k h);
+          fewer = λ q fd x h. s.leaves.fewer q fd x (left_open (q == pid) (before.opened q fd) x (ap (λ (ps : Processes). ps.opened q fd) (sym here) ∙ h)).1;
           their_locks = s.leaves.their_locks;
         };
         stopped = ap (λ (ps : Processes). ps.runs pid) here ∙ ap (λ (c : Bool). if c then false else before.runs pid) (eq-eqb pid pid refl);
         others_run = λ q r. sym (s.runs q) ∙ (ran (q == pid) (before.runs q) (ap (λ (ps : Processes). ps.runs q) (sym here) ∙ r)).1;
+        others = λ q other. subst (λ (ps : Processes). GoesOn (t.on n i) ps q) (sym here) (goes_then (t.on n i) before after q (s.others q other) (record {
+          runs = λ r. rw (ne_eqb q pid other) r;
+          opened = λ fd x h. rw (ne_eqb q pid other) h;
+        }));
       }
     where
       ran : (c x : Bool) → (if c then false else x) ≡ true → (c ≡ false) × (x ≡ true)
@@ -327,7 +351,7 @@ module _ (n i pid : ℕ) where
   exits_if : (t : Table) → IsAnchored t n i → HasExited t (exited_if t who)
   exits_if t a = elim (is_running t who) as (λ b. is_running t who ≡ b → HasExited t (if b then exited t who else t)) [
     | true ↦ λ h. exits t a
-    | false ↦ λ h. record { leaves = leaves_same n i t a; stopped = h; others_run = λ q r. r }
+    | false ↦ λ h. record { leaves = leaves_same n i t a; stopped = h; others_run = λ q r. r; others = λ q other. same_goes_on (t.on n i) (t.on n i) q refl }
   ] refl
 
 -- the processes up to a number have exited
@@ -382,7 +406,7 @@ module _ (t : Table) (n i : ℕ) (a : IsAnchored t n i) where
 
   hangs_nowhere : (file : ℕ) (kind : Kind) (number : ℕ) → Hangs (last.on n i) file kind number → ⊥
   hangs_nowhere file OfProcess number (fd, x, h, of) = none-some x (sym (none_opened number fd) ∙ h)
-  hangs_nowhere file OfDescription number (q, fd, x, h, of) = none-some x (sym (none_opened q fd) ∙ h)
+  hangs_nowhere file OfDescription number (q, fd, x, h, description, of) = none-some x (sym (none_opened q fd) ∙ h)
 
   none_locked : (file : ℕ) (owner : Owner) → owner.node ≡ n → owner.incarnation ≡ i → (b : ℕ) → last.locks file owner b ≡ None
   none_locked file owner node incarnation b = elim (last.locks file owner b) as (λ x. last.locks file owner b ≡ x → x ≡ None) [

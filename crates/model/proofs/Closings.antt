@@ -1,0 +1,101 @@
+-- What a close and an exit make of the table of a node.
+use Rattle.std.proofs.Common.{◌≡◌, ℕ, zero, suc, Bool, true, false, if◌then◌else◌, ◌&&◌, ◌==◌, refl, sym, ◌∙◌, Option, Some, None}
+use Rattle.std.proofs.lemmas.Option.{none-some}
+use Rattle.model.specs.declared.mode.Mode.{Mode}
+use Rattle.model.specs.declared.owner.Owner.{Owner}
+use Rattle.model.specs.declared.opened.Opened.{Opened}
+use Rattle.model.specs.declared.process.Process.{Process}
+use Rattle.model.specs.declared.reply.Reply.{Reply}
+use Rattle.model.specs.declared.reply.Reply.TheVariants.{Done, NoProcess}
+use Rattle.model.specs.Limits.{most_descriptors}
+use Rattle.model.specs.Owners.{same_owner, process_owner, description_owner}
+use Rattle.model.specs.Locks.{Locks, without_owner, without_owner_anywhere}
+use Rattle.model.specs.Descriptors.{with_descriptor, is_open}
+use Rattle.model.specs.Table.{Table, around, is_running, descriptor, with_processes, closed, closed_at, closed_if, closed_below, after_close, exited, after_exit}
+use Rattle.model.specs.Anchors.{IsOwn}
+use Rattle.model.proofs.NodeTables.{Follows, same_follows}
+use Rattle.model.proofs.Anchors.{left, Leaves, closed_leaves, shut_goes_on, exits}
+
+-- the locks that are left were there
+abbrev pub AreFewer : Locks → Locks → Type 0
+AreFewer before after = (file : ℕ) (owner : Owner) (b : ℕ) (mode : Mode) → after file owner b ≡ Some mode → before file owner b ≡ Some mode
+
+module _ (p : Process) where
+  pub fewer_closed : (t : Table) (fd : ℕ) (o : Opened) → AreFewer t.locks (closed t p fd o).locks
+  fewer_closed t fd o file owner b mode =
+      let mid : Table = record (with_processes t p (with_descriptor (around t p) p.pid fd None)) { locks = without_owner t.locks o.file (process_owner p) } in
+      let gone : Table = record mid { locks = without_owner_anywhere mid.locks (description_owner p o.description) } in
+      let its = (o.file == file) && same_owner (process_owner p) owner in
+      elim (is_open (around mid p) o.description) as (λ x. (if x then mid else gone).locks file owner b ≡ Some mode → t.locks file owner b ≡ Some mode) [
+        | true ↦ λ h. (left its (t.locks file owner) b mode h).1
+        | false ↦ λ h. (left its (t.locks file owner) b mode (left (same_owner (description_owner p o.description) owner) (mid.locks file owner) b mode h).1).1
+      ]
+
+  fewer_if : (t : Table) (fd : ℕ) (o : Option Opened) → AreFewer t.locks (closed_if t p fd o).locks
+  fewer_if t fd None = λ file owner b mode h. h
+  fewer_if t fd (Some o) = fewer_closed t fd o
+
+  fewer_below : (t : Table) (n : ℕ) → AreFewer t.locks (closed_below t p n).locks
+  unfolding closed_below
+  fewer_below t zero = λ file owner b mode h. h
+  fewer_below t (suc n) =
+      let before = closed_below t p n in
+      λ file owner b mode h. fewer_below t n file owner b mode (fewer_if before n (descriptor before p n) file owner b mode h)
+
+  pub fewer_after_close : (t : Table) (fd : ℕ) → AreFewer t.locks (after_close t p fd).0.locks
+  fewer_after_close t fd =
+      let out : Bool → Table × Reply = λ b. if b then closed_at t p fd (descriptor t p fd) else (t, NoProcess) in
+      elim (is_running t p) as (λ b. AreFewer t.locks (out b).0.locks) [
+        | true ↦ elim (descriptor t p fd) as (λ x. AreFewer t.locks (closed_at t p fd x).0.locks) [ Some o ↦ fewer_closed t fd o | None ↦ λ file owner b mode h. h ]
+        | false ↦ λ file owner b mode h. h
+      ]
+
+  pub fewer_after_exit : (t : Table) → AreFewer t.locks (after_exit t p).0.locks
+  fewer_after_exit t =
+      let out : Bool → Table × Reply = λ b. if b then (exited t p, Done) else (t, NoProcess) in
+      elim (is_running t p) as (λ b. AreFewer t.locks (out b).0.locks) [
+        | true ↦ fewer_below t most_descriptors
+        | false ↦ λ file owner b mode h. h
+      ]
+
+-- the table stays the node's own
+left_own : (t u : Table) (n i : ℕ) → IsOwn t n i → Leaves n i t u → AreFewer t.locks u.locks → IsOwn u n i
+left_own t u n i own leaves fewer = record {
+  others = λ m k h. leaves.others m k h ∙ own.others m k h;
+  descriptions = λ q fd o h. own.descriptions q fd o (leaves.fewer q fd o h);
+  locks = λ file. record {
+    is_own = λ o b mode h. (own.locks file).is_own o b mode (fewer file o b mode h);
+    ends = λ o b past. none_left file o b ((own.locks file).ends o b past) (u.locks file o b) refl;
+  };
+  anchored = leaves.anchored;
+}
+  where
+    none_left : (file : ℕ) (o : Owner) (b : ℕ) → t.locks file o b ≡ None → (x : Option Mode) → u.locks file o b ≡ x → u.locks file o b ≡ None
+    none_left file o b none None is = is
+    none_left file o b none (Some mode) is = absurd (none-some mode (sym none ∙ fewer file o b mode is))
+
+pub close_follows : (t : Table) (n i pid fd : ℕ) → IsOwn t n i → Follows t (after_close t (record { node = n; incarnation = i; pid = pid }) fd).0 n i pid
+close_follows t n i pid fd own =
+    let p : Process = record { node = n; incarnation = i; pid = pid } in
+    let out : Bool → Table × Reply = λ b. if b then closed_at t p fd (descriptor t p fd) else (t, NoProcess) in
+    elim (is_running t p) as (λ b. Follows t (out b).0 n i pid) [
+      | false ↦ same_follows t n i pid own
+      | true ↦ elim (descriptor t p fd) as (λ x. descriptor t p fd ≡ x → Follows t (closed_at t p fd x).0 n i pid) [
+        | None ↦ λ h. same_follows t n i pid own
+        | Some o ↦ λ h. record {
+          own = left_own t (closed t p fd o) n i own (closed_leaves t n i pid fd o own.anchored h) (fewer_closed p t fd o);
+          others = shut_goes_on t n i pid fd o own.anchored h;
+        }
+      ] refl
+    ]
+
+pub exit_follows : (t : Table) (n i pid : ℕ) → IsOwn t n i → Follows t (after_exit t (record { node = n; incarnation = i; pid = pid })).0 n i pid
+exit_follows t n i pid own =
+    let p : Process = record { node = n; incarnation = i; pid = pid } in
+    let out : Bool → Table × Reply = λ b. if b then (exited t p, Done) else (t, NoProcess) in
+    elim (is_running t p) as (λ b. Follows t (out b).0 n i pid) [
+      | false ↦ same_follows t n i pid own
+      | true ↦
+          let e = exits n i pid t own.anchored in
+          record { own = left_own t (exited t p) n i own e.leaves (fewer_below p t most_descriptors); others = e.others }
+    ]
