@@ -344,13 +344,13 @@ impl Server {
             span,
         };
         let token = row.token.plan_grant(span, request.mode)?;
-        Ok(given(alloc, request.call.node, row.commands, token, &command)?)
+        Ok(given(alloc, request.call.node, *row.commands, token, &command)?)
     }
 
     // The command that tells a node to give up what the request needs, unless one to it is under way.
-    fn revoke(
-        &self,
-        draft: &Draft,
+    fn revoke<'a>(
+        &'a self,
+        draft: &'a Draft,
         alloc: Global,
         node: u8,
         request: &Held,
@@ -365,7 +365,7 @@ impl Server {
         let Some(number) = row.commands.next_number()? else {
             return Ok((None, Items::new(alloc)));
         };
-        let incarnation = row.commands.incarnation;
+        let incarnation = row.commands.incarnation();
         let command = Message::Revoke {
             file: self.file,
             number,
@@ -374,7 +374,7 @@ impl Server {
             mode: request.mode,
             wanted: request.wanted,
         };
-        Ok(given(alloc, node, row.commands, TokenEdit::Same, &command)?)
+        Ok(given(alloc, node, *row.commands, TokenEdit::Same, &command)?)
     }
 
     // The request that is served is granted, but where other nodes' rows conflict with it, the token of
