@@ -1,34 +1,34 @@
--- What an actor's own step refuses is none of the refusals that are decided before.
-use Rattle.std.proofs.Common.{◌≡◌, ℕ, true, sym, ◌∙◌, ap, subst, Result, Ok, Err}
+-- What an actor's own step refuses, the world refuses.
+use Rattle.std.proofs.Common.{◌≡◌, ◌≢◌, ℕ, refl, sym, ◌∙◌, ap, Result, Ok, Err}
 use Rattle.messages.specs.Refusals.{refused_by}
 use Rattle.messages.specs.declared.event.Event.{Event}
 use Rattle.messages.specs.declared.entry.Entry.{Entry}
 use Rattle.messages.specs.declared.outcome.Outcome.{Outcome}
 use Rattle.messages.specs.declared.refusal.Refused.{Refused}
 use Rattle.messages.specs.declared.refusal.StepError.{StepError}
-use Rattle.messages.specs.declared.refusal.StepError.TheVariants.{NoMemory, Busy, Stranger, Spent}
+use Rattle.messages.specs.declared.refusal.StepError.TheVariants.{Spent}
+use Rattle.messages.specs.declared.refusal.Refused.TheVariants.{Spent as AnySpent}
 use Rattle.node_core.specs.State.{NodeState}
 use Rattle.token_server.specs.State.{ServerState}
 use Rattle.cluster_core.specs.World.{WorldState}
-use Rattle.cluster_core.specs.Next.{is_known, after_node, after_server, IsCertain}
+use Rattle.cluster_core.specs.Next.{after_node, after_server}
 
-err_is : {A E : Type 0} (a b : E) → ◌≡◌ {A = Result A E} (Err a) (Err b) → a ≡ b
+pub err_is : {A E : Type 0} (a b : E) → ◌≡◌ {A = Result A E} (Err a) (Err b) → a ≡ b
 err_is a b e = cc
 
-module _ (w : WorldState) (event : Event) (known : is_known w event ≡ true) where
-  own_refusal : (e : StepError) → IsCertain w event (refused_by e) → ⊥
-  own_refusal NoMemory certain = certain
-  own_refusal Busy certain = certain
-  own_refusal Stranger certain = absurd (cc)
-  own_refusal Spent certain = certain
+-- a refusal of a node's step is the node's own
+pub node_refused : (w : WorldState) (event : Event) (n : ℕ) (x : Result (NodeState × Outcome) StepError) (r : Refused) → after_node w event n x ≡ Err r → (e : StepError) × (x ≡ Err e) × (refused_by e ≡ r)
+node_refused w event n (Ok done) r refused = absurd (cc)
+node_refused w event n (Err e) r refused = (e, refl, err_is {A = WorldState × Entry} (refused_by e) r refused)
 
-  pub node_uncertain : (n : ℕ) (x : Result (NodeState × Outcome) StepError) (r : Refused) → IsCertain w event r → after_node w event n x ≡ Err r → ⊥
-  node_uncertain n (Ok done) r certain refused = absurd (cc)
-  node_uncertain n (Err e) r certain refused = own_refusal e (subst (IsCertain w event) (sym (err_is {A = WorldState × Entry} (refused_by e) r refused)) certain)
+-- and one of a server's step the server's
+pub server_refused : (w : WorldState) (event : Event) (file : ℕ) (x : Result (ServerState × Outcome) StepError) (r : Refused) → after_server w event file x ≡ Err r → (e : StepError) × (x ≡ Err e) × (refused_by e ≡ r)
+server_refused w event file (Ok done) r refused = absurd (cc)
+server_refused w event file (Err e) r refused = (e, refl, err_is {A = WorldState × Entry} (refused_by e) r refused)
 
-  pub server_uncertain : (file : ℕ) (x : Result (ServerState × Outcome) StepError) (r : Refused) → IsCertain w event r → after_server w event file x ≡ Err r → ⊥
-  server_uncertain file (Ok done) r certain refused = absurd (cc)
-  server_uncertain file (Err e) r certain refused = own_refusal e (subst (IsCertain w event) (sym (err_is {A = WorldState × Entry} (refused_by e) r refused)) certain)
+-- where a server has a number left if the world says so
+pub refused-unspent : (e : StepError) (r : Refused) → refused_by e ≡ r → r ≢ AnySpent → e ≢ Spent
+refused-unspent e r same unspent is = unspent (sym same ∙ ap refused_by is)
 
 -- a step of its actor that is done is not refused
 pub node_goes : (w : WorldState) (event : Event) (n : ℕ) (x : Result (NodeState × Outcome) StepError) (done : NodeState × Outcome) (q : Result (WorldState × Entry) Refused) (r : Refused) → x ≡ Ok done → q ≡ after_node w event n x → q ≡ Err r → ⊥

@@ -2,7 +2,7 @@
 use Rattle.std.specs.Prelude.{◌≡◌, ℕ, ◌+◌, ⊤, Bool, true, false, not, ◌&&◌, ◌==◌, nat_le, if◌then◌else◌, [], ◌++◌, Result, Ok, Err}
 use Rattle.messages.specs.declared.refusal.StepError.{StepError}
 use Rattle.messages.specs.declared.refusal.Refused.{Refused}
-use Rattle.messages.specs.declared.refusal.Refused.TheVariants.{NoMemory, Busy, Stranger, JournalFull, Spent, NotAlive, NotDead, TooManyRestarts, Fenced}
+use Rattle.messages.specs.declared.refusal.Refused.TheVariants.{Stranger, JournalFull, Spent, NotAlive, NotDead, TooManyRestarts, Fenced}
 use Rattle.messages.specs.Refusals.{refused_by}
 use Rattle.messages.specs.declared.message.Message.{Message}
 use Rattle.messages.specs.declared.event.Event.{Event}
@@ -118,14 +118,18 @@ next w event =
     else (if is_fenced w event then Err Fenced
     else taken w event))
 
--- a refusal that is decided before any memory is taken: any but those of an actor's own step
-abbrev pub IsCertain : WorldState → Event → Refused → Type 0
-IsCertain w event JournalFull = ⊤
-IsCertain w event Stranger = is_known w event ≡ false
-IsCertain w event Fenced = ⊤
-IsCertain w event NotAlive = ⊤
-IsCertain w event NotDead = ⊤
-IsCertain w event TooManyRestarts = ⊤
-IsCertain w event NoMemory = ⊥
-IsCertain w event Busy = ⊥
-IsCertain w event Spent = ⊥
+abbrev pub is_a_server : Actor → Bool
+is_a_server (ANode n) = false
+is_a_server (AServer file) = true
+
+-- a server takes the event
+abbrev pub is_at_server : Event → Bool
+is_at_server (Deliver m) = is_a_server (addressee m)
+is_at_server (Resend file) = true
+is_at_server (Learn file n incarnation) = true
+is_at_server _ = false
+
+-- a refusal that always comes, for want of memory never stands in its place: any, but that a server has no number left
+abbrev pub IsCertain : Event → Refused → Type 0
+IsCertain event Spent = is_at_server event ≡ false
+IsCertain event _ = ⊤

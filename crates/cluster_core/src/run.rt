@@ -65,8 +65,8 @@ impl Run {
         ensures ok { OnOk result (GoesOn self.old event self.new) }
         ensures err { IfErr result (λ e. e ≢ NoMemory → next (world_state self.old.world) event ≡ Err e) }
 
-        // A refusal that is decided before memory is taken always comes.
-        ensures refused { (e : Refused) → IsCertain (world_state self.old.world) event e → next (world_state self.old.world) event ≡ Err e → result ≡ Err e }
+        // Want of memory never stands in the place of a refusal, but that a server has no number left.
+        ensures refused { (e : Refused) → IsCertain event e → next (world_state self.old.world) event ≡ Err e → result ≡ Err e }
         ensures unchanged { OnErr result (self.new ≡ self.old) }
     {
         let change = self.world.plan(alloc, &event)?;

@@ -284,6 +284,7 @@ impl World {
         requires alive { (world_state self.now).alive node ≡ true }
         ensures ok { IfOk result (λ change. (p : NodeParts) × (p ≡ slice_index_or self.now.nodes (node - 1) p) × Fits p change.edit × (node_rule ((world_state self.now).nodes node) step.now ≡ Ok (reached p change.edit, change.outcome))) }
         ensures err { IfErr result (λ e. e ≢ OutOfMemory → node_rule ((world_state self.now).nodes node) step.now ≡ Err e) }
+        ensures refused { (r : StepError) → node_rule ((world_state self.now).nodes node) step.now ≡ Err r → result ≡ Err r }
     {
         self.nodes[node as usize - 1].plan(alloc, step)
     }
@@ -298,6 +299,7 @@ impl World {
         requires { is_within self.now.shape.files file ≡ true }
         ensures ok { IfOk result (λ change. (p : ServerParts) × (p ≡ slice_index_or self.now.servers (file - 1) p) × (server_rule ((world_state self.now).servers file) step.now ≡ Ok (planned p change.edit, change.outcome))) }
         ensures err { IfErr result (λ e. e ≢ OutOfMemory → server_rule ((world_state self.now).servers file) step.now ≡ Err e) }
+        ensures refused { (r : StepError) → r ≢ StepError.Spent → server_rule ((world_state self.now).servers file) step.now ≡ Err r → result ≡ Err r }
     {
         self.servers[file as usize - 1].plan(alloc, step)
     }
@@ -315,7 +317,7 @@ impl World {
         requires same_event { IsStepOf event.now node step.now }
         ensures ok { IfOk result (λ change. Makes self.now event.now change (after_node (world_state self.now) event.now node (node_rule ((world_state self.now).nodes node) step.now))) }
         ensures err { IfErr result (λ e. e ≢ NoMemory → after_node (world_state self.now) event.now node (node_rule ((world_state self.now).nodes node) step.now) ≡ Err e) }
-        ensures refused { (e : Refused) → is_known (world_state self.now) event.now ≡ true → IsCertain (world_state self.now) event.now e → after_node (world_state self.now) event.now node (node_rule ((world_state self.now).nodes node) step.now) ≡ Err e → result ≡ Err e }
+        ensures refused { (e : Refused) → after_node (world_state self.now) event.now node (node_rule ((world_state self.now).nodes node) step.now) ≡ Err e → result ≡ Err e }
     {
         let incarnation = self.named_incarnation(event, node);
         let change = self.node_plan(alloc, node, step)?;
@@ -338,7 +340,7 @@ impl World {
         requires same_event { IsServerStepOf event.now step.now }
         ensures ok { IfOk result (λ change. Makes self.now event.now change (after_server (world_state self.now) event.now file (server_rule ((world_state self.now).servers file) step.now))) }
         ensures err { IfErr result (λ e. e ≢ NoMemory → after_server (world_state self.now) event.now file (server_rule ((world_state self.now).servers file) step.now) ≡ Err e) }
-        ensures refused { (e : Refused) → is_known (world_state self.now) event.now ≡ true → IsCertain (world_state self.now) event.now e → after_server (world_state self.now) event.now file (server_rule ((world_state self.now).servers file) step.now) ≡ Err e → result ≡ Err e }
+        ensures refused { (e : Refused) → e ≢ Refused.Spent → after_server (world_state self.now) event.now file (server_rule ((world_state self.now).servers file) step.now) ≡ Err e → result ≡ Err e }
     {
         let change = self.server_plan(alloc, file, step)?;
         Ok(Change::OfServer { file, change })
@@ -381,7 +383,7 @@ impl World {
         requires free { is_fenced (world_state self.now) event.now ≡ false }
         ensures ok { IfOk result (λ change. Makes self.now event.now change (taken (world_state self.now) event.now)) }
         ensures err { IfErr result (λ e. e ≢ NoMemory → taken (world_state self.now) event.now ≡ Err e) }
-        ensures refused { (e : Refused) → IsCertain (world_state self.now) event.now e → taken (world_state self.now) event.now ≡ Err e → result ≡ Err e }
+        ensures refused { (e : Refused) → IsCertain event.now e → taken (world_state self.now) event.now ≡ Err e → result ≡ Err e }
     {
         match event {
             Event::Call { node, pid, op } => {
@@ -423,7 +425,7 @@ impl World {
     pub(crate) fn plan(&self, alloc: Global, event: &Event) -> Result<Change, Refused>
         ensures ok { IfOk result (λ change. Plans self.now event.now change) }
         ensures err { IfErr result (λ e. e ≢ NoMemory → next (world_state self.now) event.now ≡ Err e) }
-        ensures refused { (e : Refused) → IsCertain (world_state self.now) event.now e → next (world_state self.now) event.now ≡ Err e → result ≡ Err e }
+        ensures refused { (e : Refused) → IsCertain event.now e → next (world_state self.now) event.now ≡ Err e → result ≡ Err e }
     {
         if self.length >= JOURNAL_LIMIT {
             return Err(Refused::JournalFull);
@@ -542,8 +544,8 @@ impl World {
         ensures ok { IfOk result (λ entry. next (world_state self.old) event ≡ Ok (world_state self.new, entry)) }
         ensures err { IfErr result (λ e. e ≢ NoMemory → next (world_state self.old) event ≡ Err e) }
 
-        // A refusal that is decided before memory is taken always comes.
-        ensures refused { (e : Refused) → IsCertain (world_state self.old) event e → next (world_state self.old) event ≡ Err e → result ≡ Err e }
+        // Want of memory never stands in the place of a refusal, but that a server has no number left.
+        ensures refused { (e : Refused) → IsCertain event e → next (world_state self.old) event ≡ Err e → result ≡ Err e }
         ensures unchanged { OnErr result (self.new ≡ self.old) }
     {
         let change = self.plan(alloc, &event)?;

@@ -67,12 +67,6 @@ changed : {A : Type 0} (f : Option Client → A) (g : A → A) (clients : List C
 changed f g clients node place client new within e read made n =
     changed_at f g clients node place client new within e (client_at-read clients node place client within e read) made n
 
--- the rows after a change of one client
-pub rows_of-set : (clients : List Client) (node place : ℕ) (client new : Client) (g : Option Row → Option Row) → IsNumber (length clients) node → place ≡ node - 1 → client ≡ slice_index_or clients place client → row_seen new.row ≡ g (row_seen client.row) → rows_of (slice_set clients place new) ≡ with_change node g (rows_of clients)
-unfolding rows_of
-rows_of-set clients node place client new g within e read made =
-    λ i n. changed row_of g clients node place client new within e read made n i
-
 -- the greatest dead incarnations after a change of one client
 pub deaths_of-set : (clients : List Client) (node place : ℕ) (client new : Client) (g : ℕ → ℕ) → IsNumber (length clients) node → place ≡ node - 1 → client ≡ slice_index_or clients place client → new.dead ≡ g client.dead → deaths_of (slice_set clients place new) ≡ (λ n. if n == node then g (deaths_of clients n) else deaths_of clients n)
 unfolding deaths_of
@@ -87,11 +81,6 @@ same_either false x = refl
 pub deaths_of-set_same : (clients : List Client) (node place : ℕ) (client new : Client) → IsNumber (length clients) node → place ≡ node - 1 → client ≡ slice_index_or clients place client → new.dead ≡ client.dead → deaths_of (slice_set clients place new) ≡ deaths_of clients
 deaths_of-set_same clients node place client new within e read made =
     deaths_of-set clients node place client new (λ dead. dead) within e read made ∙ (λ i n. same_either (n == node) (deaths_of clients n) i)
-
--- what is known of the client that is read at a place
-pub rows_of-read : (clients : List Client) (node place : ℕ) (client : Client) → IsNumber (length clients) node → place ≡ node - 1 → client ≡ slice_index_or clients place client → rows_of clients node ≡ row_seen client.row
-unfolding rows_of
-rows_of-read clients node place client within e read = ap row_of (client_at-read clients node place client within e read)
 
 pub deaths_of-read : (clients : List Client) (node place : ℕ) (client : Client) → IsNumber (length clients) node → place ≡ node - 1 → client ≡ slice_index_or clients place client → deaths_of clients node ≡ client.dead
 unfolding deaths_of
@@ -142,11 +131,6 @@ same_rows clients others long same = (λ i n. (same_at clients others long same 
 pub same_known : (clients others : List Client) → (rows_of clients ≡ rows_of others) × (deaths_of clients ≡ deaths_of others) → SameClients clients others
 unfolding rows_of deaths_of
 same_known clients others same k within = (ap (λ f. f (suc k)) same.0, ap (λ f. f (suc k)) same.1)
-
--- the row behind a reference
-pub row_read : (o : Option (Bor KeptRow)) (row : Option KeptRow) → option_copied o ≡ row → MatchOption o (row_seen row ≡ None) (λ r. row_seen row ≡ Some (row_state r.now))
-row_read None row e = ap row_seen (sym e)
-row_read (Some r) row e = ap row_seen (sym e)
 
 -- whether the same is known of each two says whether both have the same rows
 pub same_clients : (b : Bool) (clients others these those : List Client) → these ≡ clients → those ≡ others → length clients ≡ length others → IsTrue b ↔ SameClients these those → IsTrue b ↔ ((rows_of clients ≡ rows_of others) × (deaths_of clients ≡ deaths_of others))

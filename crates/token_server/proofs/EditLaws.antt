@@ -85,16 +85,6 @@ with_change-at node f g rows same = λ i n. at n i
       | inr apart ↦ ap (λ (b : Bool). cond b (f (rows n)) (rows n)) apart.0 ∙ sym (ap (λ (b : Bool). cond b (g (rows n)) (rows n)) apart.0)
     ]
 
--- the rows once one is given something
-pub given-here : (clients : List Client) (node dead : ℕ) (g : Given) (row : KeptRow) (new : Row) → g.place + 1 ≡ node → client_at clients node ≡ Some (record { dead = dead; row = Some row }) → given_row g.commands g.token row ≡ new → with_given_row g clients ≡ (λ n. if n == node then Some new else rows_of clients n)
-given-here clients node dead g row new at there is = λ i n. each n i
-  where
-    each : (n : ℕ) → with_given_row g clients n ≡ (if n == node then Some new else rows_of clients n)
-    each n = ap (λ (k : ℕ). if n == k then given_to_client g (client_at clients n) else rows_of clients n) at ∙ elim (eqb_tells n node) [
-      | inl here ↦ ap (λ (b : Bool). cond b (given_to_client g (client_at clients n)) (rows_of clients n)) here.0 ∙ ap (λ (k : ℕ). given_to_client g (client_at clients k)) here.1 ∙ ap (given_to_client g) there ∙ ap Some is ∙ sym (ap (λ (b : Bool). cond b (Some new) (rows_of clients n)) here.0)
-      | inr apart ↦ ap (λ (b : Bool). cond b (given_to_client g (client_at clients n)) (rows_of clients n)) apart.0 ∙ sym (ap (λ (b : Bool). cond b (Some new) (rows_of clients n)) apart.0)
-    ]
-
 -- what is known of a node
 pub rows_of-there : (clients : List Client) (es : List RowEdit) (node : ℕ) (client : Client) → client_at (overlaid clients es) node ≡ Some client → rows_of (overlaid clients es) node ≡ row_seen client.row
 unfolding rows_of

@@ -65,6 +65,11 @@ pub free_around-none : (row : Option Row) (required within : Range) (mode : Mode
 free_around-none row required within mode order starts ends none =
     sym (largest_around-free (λ b. row_conflicts_at row b mode) required within order starts ends (λ b above below here. both_ways _ (ap (λ row. row_conflicts_at row b mode) none) here))
 
+-- a span that is just what is needed is as large as it may be
+pub free_around-exact : (row : Option Row) (required within : Range) (mode : Mode) → required.lo ≤ required.hi → within.lo ≡ required.lo → within.hi ≡ required.hi → row_conflicts row required mode ≡ false → within ≡ largest_around (λ b. row_conflicts_at row b mode) required within
+free_around-exact row required within mode order starts ends free =
+    sym (largest_around-free (λ b. row_conflicts_at row b mode) required within order (omega arith) (omega arith) (λ b above below here. row_free row required mode free b (omega arith) (omega arith) here))
+
 -- no row of another node conflicts, where no node is found whose row does
 no_conflict : (s : ServerState) (r : Held) → s.shape.nodes < conflicting_node s r → (n : ℕ) → 1 ≤ n → n ≤ s.shape.nodes → conflicts_at s r n ≡ false
 no_conflict s r none n above within = (first_is_first (conflicts_at s r) 1 s.shape.nodes).none_before n above (omega arith)

@@ -6,3 +6,4 @@ pub mod ResendLaws
 pub mod ServeLaws
 pub mod EditLaws
 pub mod ViewLaws
+pub mod RefusalLaws

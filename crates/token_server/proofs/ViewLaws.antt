@@ -48,20 +48,6 @@ whole_after : (r : Option RowAfter) (t : Option (VecMap Level)) → commands_aft
 whole_after None t e = refl
 whole_after (Some after) t e = absurd cc
 
-both_in : (row : Option KeptRow) → both (commands_in row) (token_in row) ≡ row
-both_in None = refl
-both_in (Some row) = refl
-
-whole_in : (row : Option KeptRow) → commands_in row ≡ None → token_in row ≡ None
-whole_in None e = refl
-whole_in (Some row) e = absurd cc
-
-pub read-start : (clients : List Client) (node : ℕ) (client : Client) (commands : Option Commands) (token : Option (VecMap Level)) → client_at clients node ≡ Some client → commands ≡ commands_in client.row → token ≡ token_in client.row → IsRead clients [] node client.dead commands token
-read-start clients node client commands token there cs ts = record {
-  client = there ∙ ap (λ (row : Option KeptRow). Some (record { dead = client.dead; row = row })) (sym (both_in client.row)) ∙ (λ i. Some (record { dead = client.dead; row = both (sym cs i) (sym ts i) }));
-  whole = λ none. ts ∙ whole_in client.row (sym cs ∙ none);
-}
-
 pub read-here : (clients : List Client) (es : List RowEdit) (e : RowEdit) (node dead : ℕ) (commands : Option Commands) (token : Option (VecMap Level)) → IsNumber (length clients) node → e.place ≡ node - 1 → IsRead clients es node dead commands token → IsRead clients (es ++ e ∷ []) node e.dead (commands_after e.row) (token_after e.row token)
 read-here clients es e node dead commands token within at before = record {
   client = overlaid-here clients es e node _ within at before.client ∙ ap (λ (row : Option KeptRow). Some (record { dead = e.dead; row = row })) (kept_both e.row commands token before.whole);

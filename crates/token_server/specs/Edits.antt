@@ -22,7 +22,7 @@ use Rattle.token_server.specs.Parts.{ServerParts, server_state, row_in, row_seen
 
 -- a row that is read, as a value
 abbrev pub seen : RowView → KeptRow
-seen r = record { commands = r.commands; token = r.token.now }
+seen r = record { commands = r.commands.now; token = r.token.now }
 
 abbrev pub seen_row : Option RowView → Option KeptRow
 seen_row None = None

@@ -38,11 +38,11 @@ impl Client {
     }
 
     /// The commands to it, if it has a row.
-    pub fn commands(&self) -> Option<Commands>
-        ensures { result ≡ commands_in self.now.row }
+    pub fn commands(&self) -> Option<&Commands>
+        ensures { option_copied result ≡ commands_in self.now.row }
     {
         match &self.row {
-            Some(row) => Some(row.commands),
+            Some(row) => Some(&row.commands),
             None => None,
         }
     }

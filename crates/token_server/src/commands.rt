@@ -44,6 +44,14 @@ impl Commands {
         }
     }
 
+    /// The incarnation of the node.
+    pub fn incarnation(&self) -> u16
+        ensures value { result ≡ self.now.incarnation }
+        ensures counted { 1 ≤ result }
+    {
+        self.incarnation
+    }
+
     /// The number of the next command, unless one is under way.
     ///
     /// # Errors

@@ -20,7 +20,7 @@ pub struct Row {
 /// A row that is read.
 #[derive(Clone, Copy)]
 pub struct RowView<'a> {
-    pub commands: Commands,
+    pub commands: &'a Commands,
     pub token: &'a TokenSet,
 }
 

@@ -89,7 +89,7 @@ impl RowEdits {
             dead = edit.dead;
             match &edit.row {
                 Some(after) => {
-                    commands = Some(after.commands);
+                    commands = Some(&after.commands);
                     token = token_over(after, token);
                 }
                 None => {
@@ -114,7 +114,7 @@ impl RowEdits {
     }
 
     // A node of which the incarnations up to this one are known to be dead.
-    fn forgotten(&self, clients: &Clients, node: u8, incarnation: u16) -> RowEdit
+    fn forgotten<'a>(&'a self, clients: &'a Clients, node: u8, incarnation: u16) -> RowEdit
         requires { IsNumber (length clients.now) node }
         ensures { Changes (overlaid clients.now self.now) node (row_above incarnation) (λ dead. max dead incarnation) result }
     {
@@ -123,8 +123,8 @@ impl RowEdits {
             place: usize::from(node) - 1,
             dead: client.dead.max(incarnation),
             row: match client.row {
-                Some(row) if row.commands.incarnation > incarnation => Some(RowAfter {
-                    commands: row.commands,
+                Some(row) if row.commands.incarnation() > incarnation => Some(RowAfter {
+                    commands: *row.commands,
                     token: None,
                 }),
                 _ => None,
@@ -160,7 +160,7 @@ impl RowEdits {
             dead: client.dead,
             row: match client.row {
                 Some(row) => Some(RowAfter {
-                    commands: row.commands.answered(),
+                    commands: (*row.commands).answered(),
                     token,
                 }),
                 None => None,
@@ -216,7 +216,7 @@ impl RowEdits {
         ensures same { IfSome result (λ row. rows_of (overlaid clients.now self.now) host.node ≡ Some (row_state (seen row))) }
     {
         match self.row(clients, host.node) {
-            Some(row) if row.commands.incarnation == host.incarnation => Some(row),
+            Some(row) if row.commands.incarnation() == host.incarnation => Some(row),
             _ => None,
         }
     }
@@ -249,6 +249,9 @@ impl RowEdits {
         ensures { result ≡ largest_around (λ b. row_conflicts_at (rows_of (overlaid clients.now self.now) node) b mode) required within }
     {
         let _ = &required.lo; // tells the proof that the span has a byte
+        if within.lo == required.lo && within.hi == required.hi {
+            return within;
+        }
         match self.row(clients, node) {
             Some(row) => row.token.free_around(required, within, mode),
             None => within,

@@ -1,5 +1,5 @@
 //! The token server of a file.
-ghost use Rattle.std.specs.Prelude.{◌≡◌, ◌≢◌, ◌+◌, ◌-◌, ◌<◌, ◌≤◌, ◌↔◌, not, filter, ◌&&◌, ◌||◌, ◌==◌, if◌then◌else◌, IsTrue, IsFalse, false, IsSome, IsNone, IfSome, IfOk, IfErr, OnOk, MatchOption, [], ◌∷◌, Some, None, Ok, Err};
+ghost use Rattle.std.specs.Prelude.{◌≡◌, ◌≢◌, ◌+◌, ◌-◌, ◌<◌, ◌≤◌, ◌↔◌, not, filter, ◌&&◌, ◌||◌, ◌==◌, if◌then◌else◌, IsTrue, IsFalse, true, false, IsSome, IsNone, IfSome, IfOk, IfErr, OnOk, MatchOption, [], ◌∷◌, Some, None, Ok, Err};
 ghost use Rattle.std.specs.List.{list_any};
 ghost use Rattle.std.specs.Option.{option_map};
 ghost use Rattle.model.specs.Limits.{IsNumber, most_nodes};
@@ -344,13 +344,13 @@ impl Server {
             span,
         };
         let token = row.token.plan_grant(span, request.mode)?;
-        Ok(given(alloc, request.call.node, row.commands, token, &command)?)
+        Ok(given(alloc, request.call.node, *row.commands, token, &command)?)
     }
 
     // The command that tells a node to give up what the request needs, unless one to it is under way.
-    fn revoke(
-        &self,
-        draft: &Draft,
+    fn revoke<'a>(
+        &'a self,
+        draft: &'a Draft,
         alloc: Global,
         node: u8,
         request: &Held,
@@ -365,7 +365,7 @@ impl Server {
         let Some(number) = row.commands.next_number()? else {
             return Ok((None, Items::new(alloc)));
         };
-        let incarnation = row.commands.incarnation;
+        let incarnation = row.commands.incarnation();
         let command = Message::Revoke {
             file: self.file,
             number,
@@ -374,7 +374,7 @@ impl Server {
             mode: request.mode,
             wanted: request.wanted,
         };
-        Ok(given(alloc, node, row.commands, TokenEdit::Same, &command)?)
+        Ok(given(alloc, node, *row.commands, TokenEdit::Same, &command)?)
     }
 
     // The request that is served is granted, but where other nodes' rows conflict with it, the token of
@@ -490,14 +490,12 @@ impl Server {
         }
     }
 
-    // Takes a message.
-    fn take(&self, alloc: Global, message: &Message) -> Result<Change, StepError>
+    // Takes a message of a node of the cluster to this server.
+    fn take_own(&self, alloc: Global, message: &Message) -> Result<Change, StepError>
+        requires { (is_server self.now.file (addressee message.now) && is_within self.now.shape.nodes (host_of message.now).node) ≡ true }
         ensures ok { IfOk result (λ change. server_rule (server_state self.now) (ServerEvent.Deliver message.now) ≡ Ok (planned self.now change.edit, change.outcome)) }
         ensures err { IfErr result (λ e. e ≢ StepError.NoMemory → server_rule (server_state self.now) (ServerEvent.Deliver message.now) ≡ Err e) }
     {
-        if !self.is_addressed_by(message) {
-            return Err(StepError::Stranger);
-        }
         let host = message.host();
         if host.incarnation <= self.clients.dead(host.node) {
             return Ok(self.no_change(alloc));
@@ -507,6 +505,18 @@ impl Server {
             return Ok(self.no_change(alloc));
         };
         self.serve_after(draft, alloc, sends)
+    }
+
+    // Takes a message.
+    fn take(&self, alloc: Global, message: &Message) -> Result<Change, StepError>
+        ensures ok { IfOk result (λ change. server_rule (server_state self.now) (ServerEvent.Deliver message.now) ≡ Ok (planned self.now change.edit, change.outcome)) }
+        ensures err { IfErr result (λ e. e ≢ StepError.NoMemory → server_rule (server_state self.now) (ServerEvent.Deliver message.now) ≡ Err e) }
+        ensures refused { (r : StepError) → r ≢ StepError.Spent → server_rule (server_state self.now) (ServerEvent.Deliver message.now) ≡ Err r → result ≡ Err r }
+    {
+        if !self.is_addressed_by(message) {
+            return Err(StepError::Stranger);
+        }
+        self.take_own(alloc, message)
     }
 
     // The commands that have no answer yet.
@@ -525,16 +535,26 @@ impl Server {
         self.serve_after(self.no_draft(alloc), alloc, commands)
     }
 
+    // The incarnation of a node of the cluster is known as dead from now on, and then the server serves.
+    fn learn_own(&self, alloc: Global, node: u8, incarnation: u16) -> Result<Change, StepError>
+        requires { IsNumber self.now.shape.nodes node }
+        ensures ok { IfOk result (λ change. learn_rule (server_state self.now) node incarnation ≡ Ok (planned self.now change.edit, change.outcome)) }
+        ensures err { IfErr result (λ e. e ≢ StepError.NoMemory → learn_rule (server_state self.now) node incarnation ≡ Err e) }
+    {
+        let draft = self.forget(self.no_draft(alloc), node, incarnation)?;
+        self.serve_after(draft, alloc, Items::new(alloc))
+    }
+
     // The incarnation is known as dead from now on, and then the server serves.
     fn learn(&self, alloc: Global, node: u8, incarnation: u16) -> Result<Change, StepError>
         ensures ok { IfOk result (λ change. learn_rule (server_state self.now) node incarnation ≡ Ok (planned self.now change.edit, change.outcome)) }
         ensures err { IfErr result (λ e. e ≢ StepError.NoMemory → learn_rule (server_state self.now) node incarnation ≡ Err e) }
+        ensures refused { (r : StepError) → r ≢ StepError.Spent → learn_rule (server_state self.now) node incarnation ≡ Err r → result ≡ Err r }
     {
         if node == 0 || node > self.shape.nodes() {
             return Err(StepError::Stranger);
         }
-        let draft = self.forget(self.no_draft(alloc), node, incarnation)?;
-        self.serve_after(draft, alloc, Items::new(alloc))
+        self.learn_own(alloc, node, incarnation)
     }
 
     /// What the server will do at an event, as `step` says: only what the event changes is made anew.
@@ -544,6 +564,9 @@ impl Server {
     pub fn plan(&self, alloc: Global, event: &ServerEvent) -> Result<Change, StepError>
         ensures ok { IfOk result (λ change. server_rule (server_state self.now) event.now ≡ Ok (planned self.now change.edit, change.outcome)) }
         ensures err { IfErr result (λ e. e ≢ StepError.NoMemory → server_rule (server_state self.now) event.now ≡ Err e) }
+
+        // A refusal that is decided before memory is taken always comes: any but that no number is left.
+        ensures refused { (r : StepError) → r ≢ StepError.Spent → server_rule (server_state self.now) event.now ≡ Err r → result ≡ Err r }
     {
         match event {
             ServerEvent::Deliver(message) => self.take(alloc, message),
@@ -596,15 +619,18 @@ impl Server {
     /// by required and desired ranges: Schmuck and Haskin, FAST 2002.)
     ///
     /// # Errors
-    /// `NoMemory` where a request for memory was refused; `Stranger` where a message is not for this
-    /// server or names a node that the cluster doesn't have; `Spent` where the next command to a node
+    /// `Stranger` where a message is not for this server or names a node that the cluster doesn't have,
+    /// which is tested first; `NoMemory` where a request for memory was refused; `Spent` where the next command to a node
     /// would need a number past 4,294,967,295.
     pub fn step(&self, alloc: Global, event: &ServerEvent) -> Result<(Server, Outcome), StepError>
         ensures ok { IfOk result (λ r. server_rule (server_state self.now) event.now ≡ Ok (server_state r.0, r.1)) }
         ensures err { IfErr result (λ e. e ≢ StepError.NoMemory → server_rule (server_state self.now) event.now ≡ Err e) }
+
+        // A refusal that is decided before memory is taken always comes: any but that no number is left.
+        ensures refused { (r : StepError) → r ≢ StepError.Spent → server_rule (server_state self.now) event.now ≡ Err r → result ≡ Err r }
     {
+        let change = self.plan(alloc, event)?;
         let mut next = self.copy()?;
-        let change = next.plan(alloc, event)?;
         let outcome = next.apply(change);
         Ok((next, outcome))
     }

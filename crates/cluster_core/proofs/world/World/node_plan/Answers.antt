@@ -2,6 +2,7 @@ use Rattle.std.specs.Prelude.{IfOk, IfErr, ◌≢◌, ◌-◌, slice_index_or}
 use Rattle.std.specs.declared.result.Result.TheVariants.{Ok, Err}
 use Rattle.std.proofs.Common.{◌≡◌, true, sym, subst}
 use Rattle.messages.specs.Messages.{is_within}
+use Rattle.messages.specs.declared.refusal.StepError.{StepError}
 use Rattle.messages.specs.declared.refusal.StepError.TheVariants.{NoMemory}
 use Rattle.cluster_core.specs.Parts.{WorldParts, alive_at, world_state}
 use Rattle.node_core.specs.Node.{node_rule}
@@ -27,3 +28,11 @@ returns-clause-err c =
     let R : WorldParts → Type 0 = λ p. is_within p.shape.nodes c.args.node ≡ true in
     let A : WorldParts → Type 0 = λ p. alive_at p c.args.node ≡ true in
     subst P c.self.view_is (subst Q (sym (read_node (record { shape = c.self.inside.shape; nodes = c.self.inside.nodes.items; alive = c.self.inside.alive.items; servers = c.self.inside.servers.items; sent = c.self.inside.sent; length = c.self.inside.length }) c.args.node c.index.result.now c.self.invariant (subst R (sym c.self.view_is) c.requires.node) (subst A (sym c.self.view_is) c.requires.alive) c.index.ensures)) c.plan.ensures.err)
+
+pub returns-clause-refused : goal.returns-clause-refused
+returns-clause-refused c =
+    let P : WorldParts → Type 0 = λ p. (r : StepError) → node_rule ((world_state p).nodes c.args.node) c.args.step.now ≡ Err r → c.plan.result ≡ Err r in
+    let Q : NodeState → Type 0 = λ s. (r : StepError) → node_rule s c.args.step.now ≡ Err r → c.plan.result ≡ Err r in
+    let R : WorldParts → Type 0 = λ p. is_within p.shape.nodes c.args.node ≡ true in
+    let A : WorldParts → Type 0 = λ p. alive_at p c.args.node ≡ true in
+    subst P c.self.view_is (subst Q (sym (read_node (record { shape = c.self.inside.shape; nodes = c.self.inside.nodes.items; alive = c.self.inside.alive.items; servers = c.self.inside.servers.items; sent = c.self.inside.sent; length = c.self.inside.length }) c.args.node c.index.result.now c.self.invariant (subst R (sym c.self.view_is) c.requires.node) (subst A (sym c.self.view_is) c.requires.alive) c.index.ensures)) c.plan.ensures.refused)

@@ -5,4 +5,4 @@ use Rattle.token_server.proofs.row_edits.RowEdits.client.Given as goal
 
 -- so far the node is this
 abbrev pub invariant-loop-edit : goal.invariant-loop-edit
-invariant-loop-edit l = IsRead l.clients (take l.edit-index l.self) l.node l.dead l.commands (option_copied l.token)
+invariant-loop-edit l = IsRead l.clients (take l.edit-index l.self) l.node l.dead (option_copied l.commands) (option_copied l.token)
