@@ -43,6 +43,18 @@ abbrev pub history_line : Item → List ℕ
 history_line (Answered position id pid op reply) = placed position (call_text id) ++ decimal pid ++ codes " " ++ op_text op ++ codes " -> " ++ reply_text reply ++ codes "\n"
 history_line (Gone position node incarnation) = placed position (codes "gone") ++ host_text node incarnation ++ codes "\n"
 
+-- the first four sections, each under its heading
+abbrev pub listing_start : List (ℕ × ℕ) → List Entry → List TokenRun → List HeldLock → List ℕ
+listing_start refused entries tokens locks =
+    codes "refused\n" ++ flat_map refused_line refused
+    ++ codes "replies\n" ++ reply_lines 1 entries
+    ++ codes "tokens\n" ++ flat_map token_line tokens
+    ++ codes "locks\n" ++ flat_map lock_line locks
+
+-- the last section under its heading
+abbrev pub history_text : List Item → List ℕ
+history_text history = codes "history\n" ++ flat_map history_line history
+
 -- the five sections, each under its heading
 abbrev pub listing_text : List (ℕ × ℕ) → List Entry → List TokenRun → List HeldLock → List Item → List ℕ
 listing_text refused entries tokens locks history =

@@ -1,7 +1,7 @@
 //! The listing of what a run gave.
 ghost use Rattle.std.specs.Prelude.{◌≡◌, ◌++◌, codes, flat_map, string_bytes, IfOk, OnOk};
 ghost use Rattle.cluster_core.specs.declared.item.Item.TheVariants.{Answered, Gone};
-ghost use Rattle.lockscript.specs.Listing.{listing_text, lock_line, refused_line, replied, reply_lines, token_line, history_line};
+ghost use Rattle.lockscript.specs.Listing.{listing_text, listing_start, history_text, lock_line, refused_line, replied, reply_lines, token_line, history_line};
 ghost use Rattle.lockscript.specs.Texts.{reply_text};
 
 use crate::columns::{push_host_column, push_owner_column, push_placed, push_span_line};
@@ -33,12 +33,29 @@ pub fn listing(
 ) -> Result<String, NoMemory>
     ensures { IfOk result (λ text. string_bytes text ≡ listing_text refused.now entries.now tokens.now locks.now history.now) }
 {
+    let mut out = listing_start(alloc, refused, entries, tokens, locks)?;
+    push_history(&mut out, history)?;
+    Ok(out)
+}
+
+/// The listing of a run up to its history: the first four of its sections.
+///
+/// # Errors
+/// `NoMemory` where a request for memory was refused.
+pub fn listing_start(
+    alloc: Global,
+    refused: &[(u32, u16)],
+    entries: &[Entry],
+    tokens: &[TokenRun],
+    locks: &[HeldLock],
+) -> Result<String, NoMemory>
+    ensures { IfOk result (λ text. string_bytes text ≡ listing_start refused.now entries.now tokens.now locks.now) }
+{
     let mut out = String::new(alloc);
     push_refused(&mut out, refused)?;
     push_replies(&mut out, entries)?;
     push_tokens(&mut out, tokens)?;
     push_locks(&mut out, locks)?;
-    push_history(&mut out, history)?;
     Ok(out)
 }
 
@@ -121,8 +138,12 @@ fn push_lock(out: &mut String, held: &HeldLock) -> Result<(), AllocError>
     push_span_line(out, held.file, held.lock.span, mode_word(held.lock.mode))
 }
 
-fn push_history(out: &mut String, history: &[Item]) -> Result<(), AllocError>
-    ensures { OnOk result (string_bytes out.new ≡ string_bytes out.old ++ codes "history\n" ++ flat_map history_line history.now) }
+/// Writes the last section of a listing, the history, with its heading.
+///
+/// # Errors
+/// `AllocError` where a request for memory was refused.
+pub fn push_history(out: &mut String, history: &[Item]) -> Result<(), AllocError>
+    ensures { OnOk result (string_bytes out.new ≡ string_bytes out.old ++ history_text history.now) }
 {
     out.push_str("history\n")?;
     for item in history {

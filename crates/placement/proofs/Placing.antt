@@ -1,10 +1,12 @@
 -- The slots of a run that goes on by one entry.
-use Rattle.std.proofs.Common.{◌≡◌, ℕ, ◌+◌, ◌<◌, ◌≤◌, refl, sym, ◌∙◌, ap, subst, arith, List, [], ◌∷◌, ◌++◌, length, length-append, take, get_or, slice_set, Option, Some, None}
-use Rattle.std.specs.List.{flat_map}
-use Rattle.std.specs.Option.{option_to_list}
-use Rattle.std.proofs.lemmas.List.Concat.{flat_map-cons}
+use Rattle.std.proofs.Common.{◌≡◌, ℕ, ◌+◌, ◌<◌, ◌≤◌, refl, sym, ◌∙◌, ap, subst, arith, List, [], ◌∷◌, ◌++◌, length, length-append, take, get_or, slice_get, slice_set, Option, Some, None}
+use Rattle.std.specs.List.{cons_option, filter_map}
 use Rattle.std.proofs.Math.Seq.{set-append_seam}
-use Rattle.std.proofs.lemmas.List.{take_more, take_all, length-take-le, length-set}
+use Rattle.std.proofs.lemmas.List.{take_more, take_all, length-take-le, length-set, length-map, map-append, map-set}
+use Rattle.std.proofs.lemmas.List.Elements.{filter_map-append}
+use Rattle.std.proofs.lemmas.Option.{slice_get-get_or}
+use Rattle.std.specs.HashMap.{get}
+use Rattle.model.specs.contracts.call.CallIdPartialEq.TheImpl as derived
 use Rattle.model.specs.declared.call.CallId.{CallId}
 use Rattle.model.specs.declared.reply.Reply.{Reply}
 use Rattle.messages.specs.declared.message.Message.TheVariants.{Deny}
@@ -14,9 +16,12 @@ use Rattle.messages.specs.declared.entry.Entry.{Entry}
 use Rattle.cluster_core.specs.declared.item.Item.{Item}
 use Rattle.cluster_core.proofs.Placement.{Slots, find_call, item_of, filled, placed_by, slots_after, slots_from, slots_of, items_in, gone_at}
 use Rattle.cluster_core.proofs.Slots.{slots_of-push}
-use Rattle.placement.specs.Indexes.{Calls, Conflicts, Indexes, Locates, AreBefore, slot_of}
+use Rattle.placement.specs.declared.slot.Slot.{Slot}
+use Rattle.placement.specs.declared.slot.Slot.TheVariants.{Empty, Declared}
+use Rattle.placement.specs.Indexes.{Calls, Conflicts, Indexes, Locates, AreBefore, slot_of, call_at}
+use Rattle.placement.specs.Standing.{declared_by, answered_so, answered_by, stands, standing}
 use Rattle.placement.proofs.Locating.{located_before, located_none}
-use Rattle.placement.proofs.Index.{indexes_start}
+use Rattle.placement.proofs.Index.{indexes_start, get-same_call}
 
 own_slot : (slots : Slots) (n : ℕ) (item : ℕ → Option Item) → n ≡ length slots → slots ++ item (n + 1) ∷ [] ≡ slice_set (slots ++ None ∷ []) (length slots) (item (length slots + 1))
 own_slot slots n item same = ap (λ (k : ℕ). slots ++ item (k + 1) ∷ []) same ∙ sym (set-append_seam slots None [] (item (length slots + 1)))
@@ -38,14 +43,49 @@ module _ (es : List Entry) (slots : Slots) (e : Entry) (id : CallId) (reply : Re
       ∙ (ap (λ (n : ℕ). filled (slots ++ None ∷ []) (slot_of es n event) item_at) (sym own_is)
       ∙ ap (λ (o : Option ℕ). filled (slots ++ None ∷ []) o item_at) (sym is))))
 
-  pub answer_placed : (wide : Slots) (found : Option ℕ) (index : ℕ) (item : Option Item) → wide ≡ slots ++ None ∷ [] → found ≡ slot_of es own event → found ≡ Some index → item ≡ item_at (index + 1) → slice_set wide index item ≡ slots_after es slots e e.reply
+  answer_placed : (wide : Slots) (found : Option ℕ) (index : ℕ) (item : Option Item) → wide ≡ slots ++ None ∷ [] → found ≡ slot_of es own event → found ≡ Some index → item ≡ item_at (index + 1) → slice_set wide index item ≡ slots_after es slots e e.reply
   answer_placed wide found index item wider is some made =
       ap (λ (w : Slots). slice_set w index item) wider
       ∙ (ap (λ (i : Option Item). slice_set (slots ++ None ∷ []) index i) made
       ∙ sym (slots_filled (Some index) (sym some ∙ is)))
 
-  pub answer_unplaced : (wide : Slots) (found : Option ℕ) → wide ≡ slots ++ None ∷ [] → found ≡ slot_of es own event → found ≡ None → wide ≡ slots_after es slots e e.reply
+  answer_unplaced : (wide : Slots) (found : Option ℕ) → wide ≡ slots ++ None ∷ [] → found ≡ slot_of es own event → found ≡ None → wide ≡ slots_after es slots e e.reply
   answer_unplaced wide found wider is none = wider ∙ sym (slots_filled None (sym none ∙ is))
+
+-- one slot more
+standing-push : (all : List Entry) (slots : List Slot) (s : Slot) → standing all (slots ++ s ∷ []) ≡ standing all slots ++ stands all s ∷ []
+standing-push all slots s = map-append (stands all) slots (s ∷ [])
+
+length-standing : (all : List Entry) (slots : List Slot) → length (standing all slots) ≡ length slots
+length-standing all slots = length-map slots (stands all)
+
+-- a call of the index that an entry answers
+pub slot_answers : (all es : List Entry) (calls : Calls) (at k : ℕ) (e : Entry) (r : CallId × Reply) (found : Option ℕ) → Indexes all calls es → found ≡ get derived.ghosts.eq calls r.0 → slice_get all k ≡ Some e → e.reply ≡ Some r → answered_by at (call_at all found) (slice_get all k) ≡ item_of at r.0 r.1 (find_call es r.0)
+slot_answers all es calls at k e r found indexed got there replies =
+    ap (answered_by at (call_at all found)) there
+    ∙ (ap (answered_so at (call_at all found)) replies
+    ∙ ap (item_of at r.0 r.1) (ap (call_at all) (got ∙ get-same_call calls r.0) ∙ indexed.found r.0))
+
+-- an entry that answers a call
+module _ (all es : List Entry) (slots wide : List Slot) (e : Entry) (r : CallId × Reply) (own : ℕ) (event : Event) (found : Option ℕ) (long : length es ≡ length slots) (replies : e.reply ≡ Some r) (own_is : own ≡ length slots) (event_is : event ≡ e.event) (wider : wide ≡ slots ++ Empty ∷ []) (is : found ≡ slot_of es own event) where
+  pub answers_some : (index : ℕ) (s : Slot) → found ≡ Some index → stands all s ≡ item_of (index + 1) r.0 r.1 (find_call (es ++ e ∷ []) r.0) → standing all (slice_set wide index s) ≡ slots_after es (standing all slots) e e.reply
+  answers_some index s some made =
+      map-set (stands all) wide index s
+      ∙ answer_placed es (standing all slots) e r.0 r.1 own event (long ∙ sym (length-standing all slots)) replies (own_is ∙ sym (length-standing all slots)) event_is (standing all wide) found index (stands all s) (ap (standing all) wider ∙ standing-push all slots Empty) is some made
+
+  pub answers_nowhere : found ≡ None → standing all wide ≡ slots_after es (standing all slots) e e.reply
+  answers_nowhere none =
+      answer_unplaced es (standing all slots) e r.0 r.1 own event (long ∙ sym (length-standing all slots)) replies (own_is ∙ sym (length-standing all slots)) event_is (standing all wide) found (ap (standing all) wider ∙ standing-push all slots Empty) is none
+
+-- an entry that answers no call
+pub answers_none : (all es : List Entry) (slots wide : List Slot) (e : Entry) (at k : ℕ) → length es ≡ length slots → slice_get all (length slots) ≡ Some e → e.reply ≡ None → at ≡ length slots + 1 → k ≡ length slots → wide ≡ slots ++ Declared at k ∷ [] → standing all wide ≡ slots_after es (standing all slots) e e.reply
+answers_none all es slots wide e at k long there none at_is k_is wider =
+    ap (standing all) wider
+    ∙ (standing-push all slots (Declared at k)
+    ∙ (ap (λ (n : ℕ). standing all slots ++ declared_by at (slice_get all n) ∷ []) k_is
+    ∙ (ap (λ (x : Option Entry). standing all slots ++ declared_by at x ∷ []) there
+    ∙ (ap (λ (n : ℕ). standing all slots ++ gone_at n e.incarnation e.event ∷ []) (at_is ∙ ap (λ (n : ℕ). n + 1) (sym long))
+    ∙ ap (slots_after es (standing all slots) e) (sym none)))))
 
 -- as many slots as entries
 length-push : {A : Type 0} (xs : List A) (x : A) → length (xs ++ x ∷ []) ≡ length xs + 1
@@ -70,36 +110,40 @@ length-slots_from past slots (e ∷ es) =
     let rest = length-slots_from (past ++ e ∷ []) (slots_after past slots e e.reply) es in
     omega arith
 
--- the indexes and the slots so far
-pub record Placing (past : List Entry) (calls : Calls) (conflicts : Conflicts) (slots : Slots) : Type 0 where
-  pub indexed : Indexes calls past
+-- the indexes and the slots so far, of a run with all these entries
+pub record Placing (all past : List Entry) (calls : Calls) (conflicts : Conflicts) (slots : List Slot) : Type 0 where
+  pub indexed : Indexes all calls past
   pub located : Locates conflicts past
-  pub placed : slots ≡ slots_of past
+  pub placed : standing all slots ≡ slots_of past
 
-length-placing : (past : List Entry) (calls : Calls) (conflicts : Conflicts) (slots : Slots) → Placing past calls conflicts slots → length slots ≡ length past
-length-placing past calls conflicts slots p = let all = length-slots_from [] [] past in ap length p.placed ∙ omega arith
+length-placing : (all past : List Entry) (calls : Calls) (conflicts : Conflicts) (slots : List Slot) → Placing all past calls conflicts slots → length slots ≡ length past
+length-placing all past calls conflicts slots p =
+    let whole = length-slots_from [] [] past in
+    let long : length slots ≡ length (slots_of past) = sym (length-standing all slots) ∙ ap length p.placed in
+    long ∙ omega arith
 
-pub placing_empty : (calls : Calls) (conflicts : Conflicts) (slots : Slots) → calls.entries ≡ [] → conflicts.entries ≡ [] → slots ≡ [] → Placing [] calls conflicts slots
-placing_empty calls conflicts slots none untold empty = record { indexed = indexes_start calls none; located = located_none conflicts untold; placed = empty }
+pub placing_empty : (all : List Entry) (calls : Calls) (conflicts : Conflicts) (slots : List Slot) → calls.entries ≡ [] → conflicts.entries ≡ [] → slots ≡ [] → Placing all [] calls conflicts slots
+placing_empty all calls conflicts slots none untold empty = record { indexed = indexes_start all calls none; located = located_none conflicts untold; placed = ap (standing all) empty }
 
 -- one more of the entries
-module _ (es : List Entry) (i : ℕ) (e : Entry) (calls : Calls) (conflicts : Conflicts) (slots : Slots) (lt : i < length es) (p : Placing (take i es) calls conflicts slots) where
+module _ (es : List Entry) (i : ℕ) (e : Entry) (calls : Calls) (conflicts : Conflicts) (slots : List Slot) (lt : i < length es) (p : Placing es (take i es) calls conflicts slots) where
   length-take : length (take i es) ≡ i
   length-take = length-take-le i es (omega arith)
 
   pub as_many : length slots ≡ i
-  as_many = length-placing (take i es) calls conflicts slots p ∙ length-take
+  as_many = length-placing es (take i es) calls conflicts slots p ∙ length-take
 
   pub all_before : AreBefore conflicts (length slots)
-  all_before = subst (AreBefore conflicts) (sym (length-placing (take i es) calls conflicts slots p)) (located_before conflicts (take i es) p.located)
+  all_before = subst (AreBefore conflicts) (sym (length-placing es (take i es) calls conflicts slots p)) (located_before conflicts (take i es) p.located)
 
-  pub placing_more : (next : Calls) (told : Conflicts) (more : Slots) → e ≡ get_or es i e → ((past : List Entry) → Indexes calls past → Indexes next (past ++ e ∷ [])) → ((past : List Entry) → length past ≡ length slots → Indexes next (past ++ e ∷ []) → Locates conflicts past → more ≡ slots_after past slots e e.reply) → ((past : List Entry) → length past ≡ i → Locates conflicts past → Locates told (past ++ e ∷ [])) → Placing (take (i + 1) es) next told more
+  pub placing_more : (next : Calls) (told : Conflicts) (more : List Slot) → e ≡ get_or es i e → ((all past : List Entry) → slice_get all i ≡ Some e → Indexes all calls past → Indexes all next (past ++ e ∷ [])) → ((all past : List Entry) → slice_get all (length slots) ≡ Some e → length past ≡ length slots → Indexes all next (past ++ e ∷ []) → Locates conflicts past → standing all more ≡ slots_after past (standing all slots) e e.reply) → ((past : List Entry) → length past ≡ i → Locates conflicts past → Locates told (past ++ e ∷ [])) → Placing es (take (i + 1) es) next told more
   placing_more next told more is indexes answers locates =
       let past = take i es in
+      let there : slice_get es i ≡ Some e = slice_get-get_or es i e lt ∙ ap (λ (x : Entry). Some x) (sym is) in
       let grown : take (i + 1) es ≡ past ++ e ∷ [] = take_more es i e lt ∙ ap (λ (x : Entry). past ++ x ∷ []) (sym is) in
-      let indexed = indexes past p.indexed in
-      let placed = answers past (sym (length-placing past calls conflicts slots p)) indexed p.located in
-      let P : List Entry → Type 0 = λ xs. Placing xs next told more in
+      let indexed = indexes es past there p.indexed in
+      let placed = answers es past (ap (slice_get es) as_many ∙ there) (sym (length-placing es (take i es) calls conflicts slots p)) indexed p.located in
+      let P : List Entry → Type 0 = λ xs. Placing es xs next told more in
       subst P (sym grown) (record {
         indexed = indexed;
         located = locates past length-take p.located;
@@ -107,11 +151,21 @@ module _ (es : List Entry) (i : ℕ) (e : Entry) (calls : Calls) (conflicts : Co
       })
 
 -- all of them
-pub placing_whole : (es : List Entry) (i : ℕ) (calls : Calls) (conflicts : Conflicts) (slots : Slots) → length es ≤ i → Placing (take i es) calls conflicts slots → slots ≡ slots_of es
+pub placing_whole : (es : List Entry) (i : ℕ) (calls : Calls) (conflicts : Conflicts) (slots : List Slot) → length es ≤ i → Placing es (take i es) calls conflicts slots → standing es slots ≡ slots_of es
 placing_whole es i calls conflicts slots all p = p.placed ∙ ap slots_of (take_all i es all)
 
--- the full slots in their order
-pub full_slots : (slots : Slots) → flat_map option_to_list slots ≡ items_in slots
-full_slots [] = refl
-full_slots (None ∷ os) = flat_map-cons option_to_list None os ∙ full_slots os
-full_slots (Some i ∷ os) = flat_map-cons option_to_list (Some i) os ∙ ap (λ (is : List Item). i ∷ is) (full_slots os)
+-- the items in the slots
+items_in-standing : (all : List Entry) (slots : List Slot) → items_in (standing all slots) ≡ filter_map (stands all) slots
+items_in-standing all [] = refl
+items_in-standing all (s ∷ ss) = ap (cons_option (stands all s)) (items_in-standing all ss)
+
+pub items_all : (all : List Entry) (slots : List Slot) (i : ℕ) (items : List Item) → length slots ≤ i → items ≡ filter_map (stands all) (take i slots) → items ≡ items_in (standing all slots)
+items_all all slots i items past so_far = so_far ∙ (ap (filter_map (stands all)) (take_all i slots past) ∙ sym (items_in-standing all slots))
+
+-- one slot more
+pub items_more : (all : List Entry) (slots : List Slot) (i : ℕ) (d : Slot) (items : List Item) (o : Option Item) → i < length slots → o ≡ stands all (get_or slots i d) → items ≡ filter_map (stands all) (take i slots) → items ++ cons_option o [] ≡ filter_map (stands all) (take (i + 1) slots)
+items_more all slots i d items o lt stood so_far =
+    ap (λ (xs : List Item). xs ++ cons_option o []) so_far
+    ∙ (ap (λ (x : Option Item). filter_map (stands all) (take i slots) ++ cons_option x []) stood
+    ∙ (sym (filter_map-append (stands all) (take i slots) (get_or slots i d ∷ []))
+    ∙ ap (filter_map (stands all)) (sym (take_more slots i d lt))))

@@ -1,5 +1,5 @@
 -- Indexes of the calls and of the conflicts of a run.
-use Rattle.std.specs.Prelude.{◌≡◌, ◌<◌, ℕ, Bool, ◌==◌, ◌&&◌, if◌then◌else◌, List, position, Option, Some, None}
+use Rattle.std.specs.Prelude.{◌≡◌, ◌<◌, ℕ, Bool, ◌==◌, ◌&&◌, if◌then◌else◌, List, position, slice_get, Option, Some, None, is_some}
 use Rattle.std.specs.declared.hash.FoldHasher.{FoldHasher}
 use Rattle.std.specs.declared.hash.BuildHasherDefault.{BuildHasherDefault}
 use Rattle.std.specs.HashMap.{HashMap, get}
@@ -15,14 +15,21 @@ use Rattle.messages.specs.Messages.{same_call, same_host, is_conflict}
 use Rattle.cluster_core.specs.Histories.{names_conflict}
 use Rattle.cluster_core.specs.Calls.{find_call}
 use Rattle.placement.specs.declared.revoke_id.RevokeId.{RevokeId}
+use Rattle.placement.specs.Standing.{made_by}
 
--- by the name of a call: the process that makes it, and what it asks for
+-- by the name of a call: the index of the entry that makes it
 abbrev pub Calls : Type 0
-Calls = HashMap CallId (ℕ × Op) (BuildHasherDefault FoldHasher)
+Calls = HashMap CallId ℕ (BuildHasherDefault FoldHasher)
 
--- the index has the calls of the entries, each as the first entry of its name has it
-abbrev pub Indexes : Calls → List Entry → Type 0
-Indexes calls es = (id : CallId) → get same_call calls id ≡ find_call es id
+-- what the entry with that index calls
+abbrev pub call_at : List Entry → Option ℕ → Option (ℕ × Op)
+call_at all None = None
+call_at all (Some k) = made_by (slice_get all k)
+
+-- the index has the calls of the entries, each as the first entry of its name has it, by its index among all entries
+pub record Indexes (all : List Entry) (calls : Calls) (es : List Entry) : Type 0 where
+  pub found : (id : CallId) → call_at all (get same_call calls id) ≡ find_call es id
+  pub known : (id : CallId) → is_some (get same_call calls id) ≡ is_some (find_call es id)
 
 abbrev pub same_revoke : RevokeId → RevokeId → Bool
 same_revoke a b = (a.file == b.file) && ((a.number == b.number) && same_host a.holder b.holder)

@@ -6,3 +6,4 @@ pub mod history;
 pub mod legal;
 pub mod placed;
 mod revoke_id;
+mod slot;

@@ -1,14 +1,18 @@
 //! The history of a run.
-ghost use Rattle.std.specs.Prelude.{◌≡◌, ◌≤◌, ◌<◌, ⊤, List, ◌++◌, ◌∷◌, [], length, IfOk, OnOk, MatchOption};
+ghost use Rattle.std.specs.Prelude.{◌≡◌, ◌≤◌, ◌<◌, ⊤, List, ◌++◌, ◌∷◌, [], length, slice_get, Some, IfOk, OnOk, MatchOption};
+ghost use Rattle.model.specs.declared.call.CallId.{CallId};
+ghost use Rattle.model.specs.declared.reply.Reply.{Reply};
 ghost use Rattle.messages.specs.declared.entry.Entry.{Entry};
 ghost use Rattle.cluster_core.specs.World.{journal_limit};
 ghost use Rattle.cluster_core.specs.Safe.{LeadsToSafe};
 ghost use Rattle.cluster_core.specs.Histories.{HasHistory, EachAtItsPlace};
-ghost use Rattle.cluster_core.proofs.Placement.{find_call, item_of, gone_at, slots_after, slots_of, items_in, history_of};
+ghost use Rattle.cluster_core.proofs.Placement.{find_call, item_of, slots_after, slots_of, items_in, history_of};
 ghost use Rattle.placement.specs.Indexes.{Indexes, Locates, Notes, AreBefore, slot_of};
+ghost use Rattle.placement.specs.Standing.{stands, standing};
 
 use crate::history::History;
 use crate::revoke_id::RevokeId;
+use crate::slot::Slot;
 use cluster_core::item::Item;
 use cluster_core::journal::Journal;
 use intervals::span_map::NoMemory;
@@ -16,13 +20,11 @@ use messages::entry::Entry;
 use messages::event::Event;
 use messages::message::Message;
 use model::call::CallId;
-use model::op::Op;
-use model::reply::Reply;
 use std::alloc::Global;
 use std::collections::HashMap;
 
-// By the name of a call: the process that makes it, and what it asks for.
-type Calls = HashMap<CallId, (u16, Op)>;
+// By the name of a call: the index of the entry that makes it.
+type Calls = HashMap<CallId, u32>;
 
 // By the name of a revoke: the index of the first entry that tells of a lock in its way.
 type Conflicts = HashMap<RevokeId, usize>;
@@ -52,19 +54,20 @@ fn items_of(alloc: Global, entries: &[Entry]) -> Result<Vec<Item>, NoMemory>
     requires { length entries.now ≤ journal_limit }
     ensures { IfOk result (λ items. items.items ≡ history_of entries.now) }
 {
-    items_in(alloc, slots_of(alloc, entries)?)
+    let slots = slots_of(alloc, entries)?;
+    items_in(alloc, entries, slots.as_slice())
 }
 
 // The slots of the history, one for each entry, in one pass over them.
-fn slots_of(alloc: Global, entries: &[Entry]) -> Result<Vec<Option<Item>>, NoMemory>
+fn slots_of(alloc: Global, entries: &[Entry]) -> Result<Vec<Slot>, NoMemory>
     requires { length entries.now ≤ journal_limit }
-    ensures { IfOk result (λ slots. slots.items ≡ slots_of entries.now) }
+    ensures { IfOk result (λ slots. standing entries.now slots.items ≡ slots_of entries.now) }
 {
     let mut calls = HashMap::new(alloc);
     let mut conflicts = HashMap::new(alloc);
     let mut slots = Vec::with_capacity(alloc, entries.len())?;
     for (index, entry) in entries.iter().enumerate() {
-        note_call(&mut calls, entry)?;
+        note_call(&mut calls, index, entry)?;
         answer(&mut slots, &calls, &conflicts, entry)?;
         note_conflicts(&mut conflicts, index, entry)?;
     }
@@ -72,17 +75,19 @@ fn slots_of(alloc: Global, entries: &[Entry]) -> Result<Vec<Option<Item>>, NoMem
 }
 
 // Takes the entry into the index: its call, where it makes one and none of that name came before.
-fn note_call(calls: &mut Calls, entry: &Entry) -> Result<(), NoMemory>
-    ensures { OnOk result ((es : List Entry) → Indexes calls.old es → Indexes calls.new (es ++ entry.now ∷ [])) }
+// `index` entries came before it.
+fn note_call(calls: &mut Calls, index: usize, entry: &Entry) -> Result<(), NoMemory>
+    requires room { index < journal_limit }
+    ensures { OnOk result ((all es : List Entry) → slice_get all index ≡ Some entry.now → Indexes all calls.old es → Indexes all calls.new (es ++ entry.now ∷ [])) }
 {
     let Some(id) = entry.call() else {
         return Ok(());
     };
-    let Event::Call { pid, op, .. } = entry.event() else {
+    let Event::Call { .. } = entry.event() else {
         return Ok(());
     };
     if !calls.contains_key(&id) {
-        calls.insert(id, (pid, op))?;
+        calls.insert(id, index as u32)?;
     }
     Ok(())
 }
@@ -123,41 +128,30 @@ fn note_conflict(conflicts: &mut Conflicts, index: usize, message: &Message) -> 
 }
 
 // One slot more, for an entry that comes after those of `conflicts`. Where it answers a call of
-// `calls`, the item of that call goes to its place.
+// `calls`, that call goes to its place.
 fn answer(
-    slots: &mut Vec<Option<Item>>,
+    slots: &mut Vec<Slot>,
     calls: &Calls,
     conflicts: &Conflicts,
     entry: &Entry,
 ) -> Result<(), NoMemory>
     requires room { length slots.now.items < journal_limit }
     requires before { AreBefore conflicts.now (length slots.now.items) }
-    ensures { OnOk result ((es : List Entry) → length es ≡ length slots.old.items → Indexes calls.now (es ++ entry.now ∷ []) → Locates conflicts.now es → slots.new.items ≡ slots_after es slots.old.items entry.now entry.now.reply) }
+    ensures { OnOk result ((all es : List Entry) → slice_get all (length slots.old.items) ≡ Some entry.now → length es ≡ length slots.old.items → Indexes all calls.now (es ++ entry.now ∷ []) → Locates conflicts.now es → standing all slots.new.items ≡ slots_after es (standing all slots.old.items) entry.now entry.now.reply) }
 {
     let own = slots.len();
-    let Some((id, reply)) = entry.reply() else {
-        slots.push(gone_at(own as u32 + 1, entry))?;
+    let Some(answered) = entry.reply() else {
+        slots.push(Slot::Declared {
+            position: own as u32 + 1,
+            entry: own as u32,
+        })?;
         return Ok(());
     };
-    slots.push(None)?;
+    slots.push(Slot::Empty)?;
     if let Some(index) = slot_of(conflicts, own, &entry.event()) {
-        slots[index] = item_of(calls, index as u32 + 1, id, reply);
+        slots[index] = slot_at(calls, index as u32 + 1, answered.0, own as u32);
     }
     Ok(())
-}
-
-// The failure of a node that the entry at that position declares.
-fn gone_at(position: u32, entry: &Entry) -> Option<Item>
-    ensures { result ≡ gone_at position entry.now.incarnation entry.now.event }
-{
-    let Event::Declare { node } = entry.event() else {
-        return None;
-    };
-    Some(Item::Gone {
-        position,
-        node,
-        incarnation: entry.incarnation(),
-    })
 }
 
 // The slot for the call that an entry with this event answers: that of the first entry that tells of
@@ -187,24 +181,29 @@ fn slot_of(conflicts: &Conflicts, own: usize, event: &Event) -> Option<usize>
     }
 }
 
-// The item of a call of the index at that position, with that reply.
-fn item_of(calls: &Calls, position: u32, id: CallId, reply: Reply) -> Option<Item>
-    ensures { (es : List Entry) → Indexes calls.now es → result ≡ item_of position id reply (find_call es id) }
+// The slot at that position of a call of the index, which the entry with the index `reply` answers.
+fn slot_at(calls: &Calls, position: u32, id: CallId, reply: u32) -> Slot
+    ensures { (all es : List Entry) → Indexes all calls.now es → (e : Entry) (r : CallId × Reply) → slice_get all reply ≡ Some e → e.reply ≡ Some r → r.0 ≡ id → stands all result ≡ item_of position r.0 r.1 (find_call es r.0) }
 {
-    let (pid, op) = *calls.get(&id)?;
-    Some(Item::Answered {
-        position,
-        id,
-        pid,
-        op,
-        reply,
-    })
+    match calls.get(&id) {
+        Some(call) => Slot::Answered {
+            position,
+            call: *call,
+            reply,
+        },
+        None => Slot::Empty,
+    }
 }
 
 // What stands in the slots, in their order.
-#[tactic(auto, using(crate::proofs::Placing::full_slots))]
-fn items_in(alloc: Global, slots: Vec<Option<Item>>) -> Result<Vec<Item>, NoMemory>
-    ensures { IfOk result (λ items. items.items ≡ items_in slots.items) }
+fn items_in(alloc: Global, entries: &[Entry], slots: &[Slot]) -> Result<Vec<Item>, NoMemory>
+    ensures { IfOk result (λ items. items.items ≡ items_in (standing entries.now slots.now)) }
 {
-    Ok(slots.into_iter().flatten().collect(alloc)?)
+    let mut items = Vec::new(alloc);
+    for slot in slots {
+        if let Some(item) = slot.item(entries) {
+            items.push(item)?;
+        }
+    }
+    Ok(items)
 }

@@ -3,7 +3,7 @@ use Rattle.placement.proofs.Placing.{as_many, all_before, placing_empty, placing
 use Rattle.placement.proofs.placed.slots_of.Goals as goal
 
 pub loop-index-init : goal.loop-index-init
-loop-index-init c = placing_empty _ _ _ c.new-calls.ensures.empty c.new-conflicts.ensures.empty c.in_ok-slots.ensures.items
+loop-index-init c = placing_empty _ _ _ _ c.new-calls.ensures.empty c.new-conflicts.ensures.empty c.in_ok-slots.ensures.items
 
 pub answer-requires-clause-room : goal.answer-requires-clause-room
 answer-requires-clause-room c =

@@ -1,0 +1,88 @@
+//! What stands at an entry of a run.
+ghost use Rattle.std.specs.Prelude.{◌≡◌};
+ghost use Rattle.cluster_core.specs.Calls.{called_by};
+ghost use Rattle.cluster_core.proofs.Placement.{gone_at};
+ghost use Rattle.placement.specs.Standing.{answered_so, stands};
+
+use cluster_core::item::Item;
+use messages::entry::Entry;
+use messages::event::Event;
+use model::op::Op;
+
+/// What stands at an entry, told by indices of entries (from 0) and a position (from 1): nothing; the
+/// failure of a node, where an entry declares one; or the call that one entry makes and another
+/// answers.
+#[derive(Clone, Copy)]
+pub(crate) enum Slot {
+    Empty,
+    Declared {
+        position: u32,
+        entry: u32,
+    },
+    Answered {
+        position: u32,
+        call: u32,
+        reply: u32,
+    },
+}
+
+impl Slot {
+    /// The item that stands there, if one does.
+    pub(crate) fn item(&self, entries: &[Entry]) -> Option<Item>
+        ensures { result ≡ stands entries.now self.now }
+    {
+        match *self {
+            Slot::Empty => None,
+            Slot::Declared { position, entry } => {
+                gone_at(position, entries.get(entry as usize)?)
+            }
+            Slot::Answered {
+                position,
+                call,
+                reply,
+            } => {
+                let made = made_by(entries.get(call as usize)?)?;
+                answered_at(position, made, entries.get(reply as usize)?)
+            }
+        }
+    }
+}
+
+// The failure of a node that the entry at that position declares.
+fn gone_at(position: u32, entry: &Entry) -> Option<Item>
+    ensures { result ≡ gone_at position entry.now.incarnation entry.now.event }
+{
+    let Event::Declare { node } = entry.event() else {
+        return None;
+    };
+    Some(Item::Gone {
+        position,
+        node,
+        incarnation: entry.incarnation(),
+    })
+}
+
+// The process that makes a call at the entry, and what it asks for.
+fn made_by(entry: &Entry) -> Option<(u16, Op)>
+    ensures { result ≡ called_by entry.now.event None }
+{
+    let Event::Call { pid, op, .. } = entry.event() else {
+        return None;
+    };
+    Some((pid, op))
+}
+
+// The item at that position of the call that the entry answers, by a process that asks for this.
+fn answered_at(position: u32, made: (u16, Op), entry: &Entry) -> Option<Item>
+    ensures { result ≡ answered_so position (Some made) entry.now.reply }
+{
+    let (id, reply) = entry.reply()?;
+    let (pid, op) = made;
+    Some(Item::Answered {
+        position,
+        id,
+        pid,
+        op,
+        reply,
+    })
+}
