@@ -2,6 +2,8 @@
 #![tactic(auto)]
 
 #[cfg(test)]
+mod of_descriptors;
+#[cfg(test)]
 mod of_fcntl_table;
 #[cfg(test)]
 mod of_intervals;
@@ -11,5 +13,9 @@ mod of_lock_table;
 mod of_messages;
 #[cfg(test)]
 mod of_model;
+#[cfg(test)]
+mod of_node_core;
+#[cfg(test)]
+mod of_token_server;
 #[cfg(test)]
 mod of_token_set;

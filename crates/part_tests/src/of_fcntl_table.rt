@@ -1,4 +1,7 @@
 //! What the table of a single machine answers, at values from outside and worked out by hand.
+mod locks;
+mod target;
+
 use fcntl_table::table::FcntlTable;
 use intervals::span::{GREATEST, Span};
 use model::access::Access;

@@ -4,6 +4,8 @@
 #[cfg(test)]
 mod of_cluster_core;
 #[cfg(test)]
+mod of_command_line;
+#[cfg(test)]
 mod of_lockscript;
 #[cfg(test)]
 mod of_placement;

@@ -1,0 +1,3 @@
+//! Processes and descriptors.
+mod error;
+mod processes;
