@@ -49,7 +49,8 @@ impl Processes {
         }
     }
 
-    fn is_running(&self, pid: u16) -> bool
+    /// Whether the process runs. Takes no memory.
+    pub fn is_running(&self, pid: u16) -> bool
         ensures { result ≡ (processes self.now).runs pid }
     {
         is_running(&self.rows, pid as usize)

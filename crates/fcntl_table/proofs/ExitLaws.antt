@@ -16,7 +16,7 @@ use Rattle.fcntl_table.specs.Hosts.{Closes, process_at, shown, with_host}
 use Rattle.fcntl_table.proofs.TableLaws.{host_of}
 
 -- the processes that were put on a node
-at_node : (on : ℕ → ℕ → Processes) (host : Host) (ps : Processes) → with_host on host ps host.node host.incarnation ≡ ps
+pub at_node : (on : ℕ → ℕ → Processes) (host : Host) (ps : Processes) → with_host on host ps host.node host.incarnation ≡ ps
 at_node on host ps = ap (λ (b : Bool). if b then ps else on host.node host.incarnation) (host_refl host)
 
 -- what was put on a node, put again
