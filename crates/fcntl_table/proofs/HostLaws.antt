@@ -1,5 +1,5 @@
 -- The processes of each node, looked up and changed by the node.
-use Rattle.std.proofs.Common.{rules, ◌≡◌, ℕ, Bool, true, false, ◌&&◌, ◌==◌, cond, if◌then◌else◌, refl, sym, ◌∙◌, ap, subst, inl, inr, List, [], Option, Some, None, IsSome, is_some, unwrap_or}
+use Rattle.std.proofs.Common.{rules, ◌≡◌, ℕ, Bool, true, false, ◌&&◌, ◌==◌, cond, refl, sym, ◌∙◌, ap, subst, inl, inr, List, [], Option, Some, None, IsSome, is_some, unwrap_or}
 use Rattle.std.specs.Cmp.{nat_eq_equiv}
 use Rattle.std.specs.declared.hash.FoldHasher.{FoldHasher}
 use Rattle.std.specs.declared.hash.BuildHasherDefault.{BuildHasherDefault}

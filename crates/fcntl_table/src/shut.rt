@@ -3,7 +3,7 @@ ghost use Rattle.std.specs.Prelude.{◌≡◌, ℕ, true, IfSome};
 ghost use Rattle.model.specs.Limits.{IsNumber, most_of, most_processes, most_descriptions};
 ghost use Rattle.model.specs.Descriptors.{Processes as ProcessTable};
 ghost use Rattle.model.specs.Table.{descriptor, closed_if, exited};
-ghost use Rattle.descriptors.specs.Rows.{processes};
+ghost use Rattle.descriptors.specs.Rows.{processes as processes_of};
 ghost use Rattle.fcntl_table.specs.Hosts.{Closes, process_at, shown};
 
 use descriptors::processes::Processes;
@@ -28,7 +28,7 @@ fn owner(host: Host, kind: Kind, number: u16) -> Owner
 
 // The descriptor is closed. What it referred to, and whether the description went.
 fn close_in(node: &mut Processes, pid: u16, fd: u8) -> Option<(Opened, bool)>
-    ensures closes { Closes (processes node.old) pid fd result (processes node.new) }
+    ensures closes { Closes (processes_of node.old) pid fd result (processes_of node.new) }
     ensures number { IfSome result (λ closed. IsNumber most_descriptions closed.0.description) }
 {
     let opened = node.resolve(pid, fd).ok()?;
@@ -42,7 +42,7 @@ fn close_in(node: &mut Processes, pid: u16, fd: u8) -> Option<(Opened, bool)>
 /// 1 to 256. Takes no memory.
 pub fn close_at(processes: &mut Processes, locks: &mut LockTable, host: Host, pid: u16, fd: u8)
     requires number { IsNumber most_processes pid }
-    requires runs { (processes processes.old).runs pid ≡ true }
+    requires runs { (processes_of processes.old).runs pid ≡ true }
     ensures { (on : ℕ → ℕ → ProcessTable) → shown on host processes.new locks.new ≡ closed_if (shown on host processes.old locks.old) (process_at host pid) fd (descriptor (shown on host processes.old locks.old) (process_at host pid) fd) }
 {
     let Some((opened, went)) = close_in(processes, pid, fd) else {
@@ -58,7 +58,7 @@ pub fn close_at(processes: &mut Processes, locks: &mut LockTable, host: Host, pi
 /// `_Exit()`). Its number is from 1 to 256. Takes no memory.
 pub fn exit_at(processes: &mut Processes, locks: &mut LockTable, host: Host, pid: u16)
     requires number { IsNumber most_processes pid }
-    requires runs { (processes processes.old).runs pid ≡ true }
+    requires runs { (processes_of processes.old).runs pid ≡ true }
     ensures { (on : ℕ → ℕ → ProcessTable) → shown on host processes.new locks.new ≡ exited (shown on host processes.old locks.old) (process_at host pid) }
 {
     for fd in 0..MOST_DESCRIPTORS {
