@@ -59,7 +59,7 @@ use Rattle.node_core.specs.Plans.{table_after, ProcessesFit}
 own_host : (node incarnation : ℕ) → ((node == node) && (incarnation == incarnation)) ≡ true
 own_host node incarnation = and_from _ _ (eq-eqb node node refl) (eq-eqb incarnation incarnation refl)
 
-if-both : {A : Type 0} (b : Bool) (x y : A) → x ≡ y → (if b then x else y) ≡ y
+pub if-both : {A : Type 0} (b : Bool) (x y : A) → x ≡ y → (if b then x else y) ≡ y
 if-both true x y e = e
 if-both false x y e = refl
 

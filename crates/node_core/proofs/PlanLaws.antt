@@ -90,6 +90,13 @@ pub told-push : (files : ℕ → FileState) (freed : List ℕ) (file : ℕ) → 
 told-push files [] file = refl
 told-push files (f ∷ more) file = told-push (told files f) more file
 
+-- none that are told come after it
+rises-more : (freed : List ℕ) (file : ℕ) → All (λ f. f < file) freed → All (λ f. f < file + 1) freed
+rises-more [] file rises = All-nil (λ f. f < file + 1)
+rises-more (f ∷ more) file rises =
+    let first : f < file = All-head (λ k. k < file) f more rises in
+    All-cons (λ k. k < file + 1) f more (omega arith) (rises-more more file (All-tail (λ k. k < file) f more rises))
+
 asked-still : (p : NodeParts) (e : EffectFields) (file : ℕ) (b : Bool) → All (λ f. f < file) e.edit.freed → ((drafted p e.edit.draft).files file).asked ≡ b → ((planned p e.edit).files file).asked ≡ b
 asked-still p e file b rises asked =
     ap (λ (f : FileState). f.asked) (told-other (drafted p e.edit.draft).files e.edit.freed file rises) ∙ asked
@@ -186,7 +193,7 @@ opened-left p edit rows locks shut rows_left locks_left made shuts fit h pid fd 
     let now : (shut_after me t shut).on me.node me.incarnation ≡ processes rows_left = ap (λ (x : Table). x.on me.node me.incarnation) (sym (shuts none)) ∙ at_node none me (processes rows_left) in
     let there = shut-open me t shut pid fd o (ap (λ (ps : Processes). ps.opened pid fd) now ∙ is) in
     let was = ap (λ (ps : Processes). ps.opened pid fd) (sym made) in
-    opened-edited p edit fit h pid fd o (sym was ∙ ap (λ (ps : Processes). ps.opened pid fd) (sym (at_node none me (processes rows))) ∙ there)
+    opened-edited p edit fit h pid fd o (was ∙ ap (λ (ps : Processes). ps.opened pid fd) (sym (at_node none me (processes rows))) ∙ there)
 
 -- the node stays one
 pub node-edited : (p : NodeParts) (e : Edit) (calls : ℕ) (rows : List ProcessRow) (locks : List LockRow) (rows_left : List ProcessRow) (locks_left : List LockRow) (pending : List OpenCall) (files : List FileRow) → processes rows ≡ processes_after (processes p.processes) e.processes → held locks ≡ locks_after (held p.locks) e.locks → Shuts (host (node_state p)) rows locks e.shut rows_left locks_left → pending ≡ pending_after p.pending e.calls → length files ≡ length p.files → Fits p e → IsNode p → IsNode (changed p calls rows_left locks_left pending files)

@@ -65,7 +65,11 @@ freed-one file (suc n) e low high =
 -- the files up to one more
 pub freed-more : (passes : ℕ → Bool) (n : ℕ) (e before : Effect) → with_freed_of passes n e ≡ before → with_freed_of passes (n + 1) e ≡ (if passes (n + 1) then with_freed (n + 1) before else before)
 unfolding with_freed_of
-freed-more passes n e before is = ap (λ (x : Effect). if passes (n + 1) then with_freed (n + 1) x else x) is
+freed-more passes n e before is =
+    let at : n + 1 ≡ suc n = omega arith in
+    ap (λ (k : ℕ). with_freed_of passes k e) at
+    ∙ ap (λ (x : Effect). if passes (suc n) then with_freed (suc n) x else x) is
+    ∙ ap (λ (k : ℕ). if passes k then with_freed k before else before) (sym at)
 
 pub freed-zero : (passes : ℕ → Bool) (e : Effect) → with_freed_of passes 0 e ≡ e
 unfolding with_freed_of

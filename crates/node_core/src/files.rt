@@ -80,7 +80,7 @@ pub fn clear_asked(files: &mut Vec<FileRow>, freed: &[u16])
     ensures state { file_state files.new.items ≡ files_told (file_state files.old.items) freed.now }
     ensures count { length files.new.items ≡ length files.old.items }
 {
-    for i in 0..freed.len() {
-        clear_one(files, freed[i]);
+    for file in freed {
+        clear_one(files, *file);
     }
 }

@@ -65,10 +65,13 @@ impl Node {
         ensures fits { IfOk result (λ told. Fits self.now told.edit) }
         ensures rises { IfOk result (λ told. All (λ f. f < file + 1) told.edit.freed) }
     {
-        if self.is_asked(&effect.edit.draft, file) && self.processes.has_open(pid, file) {
-            return self.tell_freed(file, effect);
+        if !self.is_asked(&effect.edit.draft, file) {
+            return Ok(effect);
         }
-        Ok(effect)
+        if !self.processes.has_open(pid, file) {
+            return Ok(effect);
+        }
+        self.tell_freed(file, effect)
     }
 
     // The servers of the files that the process has open hear that locks may be gone, by rising files.
