@@ -1,22 +1,20 @@
 -- Planned steps.
-use Rattle.std.specs.Prelude.{◌≡◌, ℕ, ◌+◌, ◌≤◌, ◌<◌, ◌==◌, ◌&&◌, Bool, true, false, not, cond, if◌then◌else◌, List, [], ◌∷◌, ◌++◌, All, length, Option, Some, None, Result, Ok, Err, IfOk, IfSome, unwrap_or, filter, refl}
+use Rattle.std.specs.Prelude.{◌≡◌, ℕ, ◌+◌, ◌≤◌, ◌<◌, ◌==◌, ◌&&◌, Bool, true, false, not, if◌then◌else◌, List, [], ◌∷◌, ◌++◌, All, length, Option, Some, None, Result, Ok, Err, IfOk, IfSome, filter, refl}
 use Rattle.std.specs.Vec.{vec_capacity}
 use Rattle.std.specs.declared.alloc.AllocError.{AllocError}
 use Rattle.std.proofs.Common.{arith, ap, sym, subst, ◌∙◌}
-use Rattle.std.proofs.lemmas.Bool.{eq-eqb, ne_eqb, le-leb, lt-leb}
-use Rattle.std.proofs.lemmas.List.Elements.{All-head, All-tail, All-filter, All-push}
+use Rattle.std.proofs.lemmas.Bool.{ne_eqb, le-leb, lt-leb}
+use Rattle.std.proofs.lemmas.List.Elements.{All-nil, All-cons, All-head, All-tail, All-filter, All-push}
 use Rattle.intervals.specs.Bytes.{put}
 use Rattle.intervals.specs.Runs.{value_at}
 use Rattle.model.specs.declared.mode.Mode.{Mode}
 use Rattle.model.specs.declared.call.CallId.{CallId}
 use Rattle.model.specs.declared.host.Host.{Host}
-use Rattle.model.specs.declared.lock_info.LockInfo.{LockInfo}
 use Rattle.model.specs.declared.opened.Opened.{Opened}
-use Rattle.model.specs.declared.reply.Reply.{Reply}
 use Rattle.model.specs.declared.reply.Reply.TheVariants.{Done, NoLocks}
 use Rattle.model.specs.Descriptors.{Processes, no_processes}
 use Rattle.model.specs.Limits.{IsNumber}
-use Rattle.model.specs.Locks.{Locks, replace, with_lock, regions, lowest_blocker, IsOfNode}
+use Rattle.model.specs.Locks.{Locks, replace, with_lock, regions, IsOfNode}
 use Rattle.model.specs.Table.{Table, Target, lock_within}
 use Rattle.model.proofs.Closings.{AreFewer, fewer_of_node}
 use Rattle.fcntl_table.specs.Hosts.{shown}
@@ -24,7 +22,7 @@ use Rattle.fcntl_table.proofs.ExitLaws.{at_node}
 use Rattle.lock_table.specs.declared.row.Row.{Row as LockRow}
 use Rattle.lock_table.specs.declared.lock_table.LockEdit.{LockEdit}
 use Rattle.lock_table.specs.Rows.{held, HasRoom as HasRowRoom}
-use Rattle.token_set.specs.Tokens.{covers}
+use Rattle.messages.specs.declared.message.Message.{Message}
 use Rattle.messages.specs.declared.message.Message.TheVariants.{Freed}
 use Rattle.node_core.specs.declared.change.Change.{Change}
 use Rattle.descriptors.specs.declared.row.Row.{Row as ProcessRow}
@@ -34,17 +32,15 @@ use Rattle.node_core.specs.declared.edit.Edit.{Edit}
 use Rattle.node_core.specs.declared.edit.Shut.{Shut}
 use Rattle.node_core.specs.declared.effect.Effect.{Effect as EffectFields}
 use Rattle.node_core.specs.declared.file_row.FileRow.{FileRow}
-use Rattle.node_core.specs.declared.open_call.Intent.{Intent}
-use Rattle.node_core.specs.declared.open_call.Intent.TheVariants as intent
 use Rattle.node_core.specs.declared.open_call.OpenCall.{OpenCall}
 use Rattle.node_core.specs.declared.open_calls.CallsEdit.{CallsEdit}
 use Rattle.node_core.specs.declared.open_calls.CallsEdit.TheVariants.{Same, Put, Gone, Left}
 use Rattle.descriptors.specs.Rows.{processes}
 use Rattle.node_core.specs.Files.{file_state}
-use Rattle.node_core.specs.State.{FileState, NodeState, Effect, answered, target_of, host, outcome}
-use Rattle.node_core.specs.Try.{settled, with_freed, may_free, refusal_of, locked_by, answered_here, requested, tried_against, tried}
+use Rattle.node_core.specs.State.{FileState, Effect, host, outcome}
+use Rattle.node_core.specs.Try.{with_freed}
 use Rattle.node_core.specs.Parts.{NodeParts, node_state, IsOwn, IsSpan, IsOwnCall, IsNode}
-use Rattle.node_core.specs.Plans.{calls_after, locks_after, processes_after, table_after, pending_after, files_after, told, files_told, shut_after, drafted, opened_if, planned, effect_of, LocksFit, ProcessesFit, CallsFit, Fits}
+use Rattle.node_core.specs.Plans.{calls_after, locks_after, processes_after, table_after, pending_after, files_after, told, files_told, shut_after, drafted, planned, effect_of, LocksFit, ProcessesFit, CallsFit, Fits}
 use Rattle.node_core.proofs.NodeLaws.{own-lock, around-own}
 use Rattle.node_core.proofs.ShutLaws.{shut-fewer, shut-open}
 
@@ -95,7 +91,8 @@ rises-more : (freed : List ℕ) (file : ℕ) → All (λ f. f < file) freed → 
 rises-more [] file rises = All-nil (λ f. f < file + 1)
 rises-more (f ∷ more) file rises =
     let first : f < file = All-head (λ k. k < file) f more rises in
-    All-cons (λ k. k < file + 1) f more (omega arith) (rises-more more file (All-tail (λ k. k < file) f more rises))
+    let here : f < file + 1 = omega arith in
+    All-cons (λ k. k < file + 1) f more here (rises-more more file (All-tail (λ k. k < file) f more rises))
 
 asked-still : (p : NodeParts) (e : EffectFields) (file : ℕ) (b : Bool) → All (λ f. f < file) e.edit.freed → ((drafted p e.edit.draft).files file).asked ≡ b → ((planned p e.edit).files file).asked ≡ b
 asked-still p e file b rises asked =
@@ -111,7 +108,20 @@ told-effect p e file (Ok t) rises asked made =
     ∙ ap hears (sym (told-push files e.edit.freed file))
     ∙ sym (ap (effect_of p) made)
 
--- or has no need to
+-- so the change fits still
+pub told-fits : (p : NodeParts) (e : EffectFields) (file : ℕ) (m : Message) (r : Result EffectFields AllocError) → Fits p e.edit → IsNumber (node_state p).shape.files file → IfOk r (λ t. t ≡ record { edit = record e.edit { freed = e.edit.freed ++ file ∷ [] }; reply = e.reply; sends = e.sends ++ m ∷ [] }) → IfOk r (λ t. Fits p t.edit)
+told-fits p e file m (Err x) fits within made = tt
+told-fits p e file m (Ok t) fits within made =
+    subst (λ (x : EffectFields). Fits p x.edit) (sym made) (fits.0, fits.1, fits.2, fits.3, fits.4, All-push (IsNumber (node_state p).shape.files) e.edit.freed file fits.5 within)
+
+-- and the files that are told rise
+pub told-rises : (e : EffectFields) (file : ℕ) (m : Message) (r : Result EffectFields AllocError) → All (λ f. f < file) e.edit.freed → IfOk r (λ t. t ≡ record { edit = record e.edit { freed = e.edit.freed ++ file ∷ [] }; reply = e.reply; sends = e.sends ++ m ∷ [] }) → IfOk r (λ t. All (λ f. f < file + 1) t.edit.freed)
+told-rises e file m (Err x) rises made = tt
+told-rises e file m (Ok t) rises made =
+    let here : file < file + 1 = omega arith in
+    subst (λ (x : EffectFields). All (λ f. f < file + 1) x.edit.freed) (sym made) (All-push (λ f. f < file + 1) e.edit.freed file (rises-more e.edit.freed file rises) here)
+
+-- or it has no need to
 pub told-nothing : (p : NodeParts) (e : EffectFields) (file : ℕ) → All (λ f. f < file) e.edit.freed → ((drafted p e.edit.draft).files file).asked ≡ false → with_freed file (effect_of p e) ≡ effect_of p e
 told-nothing p e file rises asked =
     let files = (drafted p e.edit.draft).files in

@@ -1,5 +1,5 @@
 -- Calls by which a process closes descriptors.
-use Rattle.std.specs.Prelude.{◌≡◌, ℕ, zero, suc, ◌+◌, ◌≤◌, ◌<◌, ◌==◌, Bool, true, false, if◌then◌else◌, Option, Some, None, Result, Ok, Err, refl}
+use Rattle.std.specs.Prelude.{◌≡◌, ℕ, zero, suc, ◌+◌, ◌≤◌, ◌<◌, ◌==◌, Bool, true, false, if◌then◌else◌, Option, None, Ok, Err, refl}
 use Rattle.std.proofs.Common.{arith, ap, sym, ◌∙◌, inl, inr}
 use Rattle.std.proofs.lemmas.Bool.{cases_eq, eq-eqb, ne_eqb}
 use Rattle.model.specs.declared.host.Host.{Host}
@@ -11,7 +11,7 @@ use Rattle.model.specs.declared.reply.Reply.TheVariants as reply
 use Rattle.model.specs.declared.reply.Reply.TheVariants.{Done}
 use Rattle.model.specs.Limits.{IsNumber, most_descriptors}
 use Rattle.model.specs.Descriptors.{Processes, is_of_file, has_open}
-use Rattle.model.specs.Table.{Table, around, descriptor, is_running, closed_if, after_close, exited, after_exit}
+use Rattle.model.specs.Table.{Table, around, descriptor, is_running, exited}
 use Rattle.model.proofs.Closings.{AreFewer, AreFewerOpen, fewer_if, fewer_below, open_if, open_exited}
 use Rattle.descriptors.specs.declared.error.FdError.{FdError}
 use Rattle.descriptors.specs.declared.error.FdError.TheVariants.{NoProcess, BadFd}
@@ -132,3 +132,12 @@ unfolding node_state
 opened-within-shape p pid fd o node is =
     let there = found_there ((processes p.processes).runs pid) ((processes p.processes).opened pid fd) o is in
     node.opened_in pid fd o there.1
+
+-- the files of the shape, one after the other
+pub next-file : (p : NodeParts) (n count : ℕ) → count ≡ p.shape.files → n < count → IsNumber (node_state p).shape.files (n + 1)
+unfolding node_state
+next-file p n count is below = (omega arith, let at = is in omega arith)
+
+pub last-file : (p : NodeParts) (n count : ℕ) → count ≡ p.shape.files → n ≡ count → (node_state p).shape.files ≡ n
+unfolding node_state
+last-file p n count is end = sym is ∙ sym end

@@ -133,7 +133,11 @@ impl Node {
         ensures fits { IfOk result (λ effect. Fits self.now effect.edit) }
     {
         let (gives, draft) = self.give_up(command, wanted)?;
-        Effect::sent(alloc, Edit::of(alloc, draft), command.answer(self.host(), gives))
+        Effect::sent(
+            alloc,
+            Edit::of(alloc, draft),
+            command.answer(self.host(), gives),
+        )
     }
 
     // Revokes are done in the order of their numbers, each once.

@@ -1,8 +1,6 @@
-use Rattle.std.specs.Prelude.{Option}
-use Rattle.std.proofs.Common.{ap, sym, subst, ◌∙◌}
-use Rattle.node_core.specs.declared.file_row.FileEdit.{FileEdit}
+use Rattle.std.proofs.Common.{ap, sym, ◌∙◌}
 use Rattle.node_core.specs.Files.{state_of, file_state}
-use Rattle.node_core.specs.Plans.{file_after, files_after, CommandFits}
+use Rattle.node_core.specs.Plans.{file_after, files_after}
 use Rattle.node_core.proofs.FileLaws.{file_state-change}
 use Rattle.node_core.proofs.files.apply_command.Goals as goal
 

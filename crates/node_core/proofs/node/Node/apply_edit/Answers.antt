@@ -1,6 +1,6 @@
 use Rattle.std.specs.Prelude.{IfSome}
 use Rattle.std.specs.Vec.{vec_capacity}
-use Rattle.std.proofs.Common.{◌≡◌, ap, sym, subst, ◌∙◌}
+use Rattle.std.proofs.Common.{ap, sym, subst, ◌∙◌}
 use Rattle.model.specs.declared.host.Host.{Host}
 use Rattle.model.specs.Descriptors.{Processes}
 use Rattle.descriptors.specs.Edits.{Fits as ProcessFits}

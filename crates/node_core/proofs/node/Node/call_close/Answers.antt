@@ -1,6 +1,7 @@
 use Rattle.std.specs.Prelude.{◌≡◌, Ok, Err, IfOk}
 use Rattle.std.proofs.Common.{ap, sym, subst, ◌∙◌}
 use Rattle.model.specs.declared.reply.Reply.TheVariants.{Done}
+use Rattle.model.specs.Limits.{IsNumber}
 use Rattle.descriptors.specs.Rows.{processes, resolved}
 use Rattle.node_core.specs.declared.edit.Shut.TheVariants.{Nothing, Closes}
 use Rattle.node_core.specs.declared.open_calls.CallsEdit.TheVariants.{Gone}
@@ -19,7 +20,7 @@ returns-in-Ok-clause-value c =
     let p : NodeParts = c.args.self.now in
     let o = c.in-Ok.opened in
     let is = subst (λ (q : NodeParts). resolved (processes q.processes) c.args.pid c.args.fd ≡ Ok o) c.self.view_is (sym c.in-Ok.ensures.value) in
-    let within = rw (← c.self.view_is) (opened-within-shape _ c.args.pid c.args.fd o c.self.invariant (sym c.in-Ok.ensures.value)) in
+    let within : IsNumber (node_state p).shape.files o.file = rw (← c.self.view_is) (opened-within-shape _ c.args.pid c.args.fd o c.self.invariant (sym c.in-Ok.ensures.value)) in
     let made = (λ i. shut_effect (node_state p) (Closes c.args.pid c.args.fd) (Gone (sym c.next_number.ensures i)) Done) ∙ c.answer_shut-effect.ensures.value in
     let all = close-found p c.args.pid c.args.fd o is within ∙ ap (with_freed o.file) made in
     subst (λ (x : Effect). IfOk c.tell_freed.result (λ e. x ≡ effect_of p e)) (sym all) c.tell_freed.ensures.value
