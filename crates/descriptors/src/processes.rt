@@ -2,13 +2,13 @@
 ghost use Rattle.std.specs.Prelude.{◌≡◌, ◌≢◌, ◌≤◌, ◌<◌, ◌↔◌, ℕ, true, false, None, Some, Ok, Err, IfOk, IfErr, IfSome, OnOk, OnErr, IsTrue, MatchOption, is_none};
 ghost use Rattle.model.specs.declared.reply.Reply.TheVariants.{Done, Fd};
 ghost use Rattle.model.specs.Limits.{IsNumber, most_processes, most_descriptors, most_descriptions};
-ghost use Rattle.model.specs.Descriptors.{no_processes, with_process, with_descriptor, lowest_fd, after_spawn, after_fork, after_open, after_dup};
+ghost use Rattle.model.specs.Descriptors.{no_processes, with_process, with_descriptor, lowest_fd, has_open, after_spawn, after_fork, after_open, after_dup};
 ghost use Rattle.descriptors.specs.Rows.{processes, resolved, Refuses, IsClosed};
 ghost use Rattle.descriptors.specs.Edits.{edited, Fits, HasPlace};
 
 use crate::edit::ProcessEdit;
 use crate::error::{FdError, ProcessError};
-use crate::row::Row;
+use crate::row::{Row, is_of_file};
 use crate::rows::{copy_row, is_idle, is_running, opened_at, refer, reset, same_rows, with_place};
 use crate::used::{is_open, lowest_description};
 use model::access::Access;
@@ -49,7 +49,8 @@ impl Processes {
         }
     }
 
-    fn is_running(&self, pid: u16) -> bool
+    /// Whether the process runs. Takes no memory.
+    pub fn is_running(&self, pid: u16) -> bool
         ensures { result ≡ (processes self.now).runs pid }
     {
         is_running(&self.rows, pid as usize)
@@ -77,6 +78,19 @@ impl Processes {
             return Err(FdError::NoProcess);
         }
         self.opened(pid, fd).ok_or(FdError::BadFd)
+    }
+
+    /// Whether a descriptor of the process is of the file: none is of a process that doesn't run. Takes no
+    /// memory.
+    pub fn has_open(&self, pid: u16, file: u16) -> bool
+        ensures { result ≡ has_open (processes self.now) pid file }
+    {
+        for fd in 0..MOST_DESCRIPTORS {
+            if is_of_file(file, self.opened(pid, fd)) {
+                return true;
+            }
+        }
+        false
     }
 
     /// What `spawn` would change.

@@ -1,6 +1,6 @@
 //! One process and its descriptors.
 ghost use Rattle.std.specs.Prelude.{◌≡◌, ◌↔◌, ◌<◌, ◌==◌, if◌then◌else◌, IsTrue, IfSome, ℕ, None};
-ghost use Rattle.model.specs.Descriptors.{is_of};
+ghost use Rattle.model.specs.Descriptors.{is_of, is_of_file};
 ghost use Rattle.descriptors.specs.Rows.{slot, refers, IsSameRow};
 
 use model::limits::MOST_DESCRIPTORS;
@@ -25,6 +25,13 @@ fn is_of(description: u16, opened: Option<Opened>) -> bool
     ensures { result ≡ is_of description opened }
 {
     opened.is_some_and(|opened| opened.description == description)
+}
+
+// Whether this is of the file.
+pub(crate) fn is_of_file(file: u16, opened: Option<Opened>) -> bool
+    ensures { result ≡ is_of_file file opened }
+{
+    opened.is_some_and(|opened| opened.file == file)
 }
 
 impl Row {

@@ -1,5 +1,5 @@
 -- Descriptors that are closed, and processes that exit.
-use Rattle.std.proofs.Common.{◌≡◌, ℕ, zero, suc, Bool, true, false, not, if◌then◌else◌, refl, sym, ◌∙◌, ap, Option, Some, None}
+use Rattle.std.proofs.Common.{◌≡◌, ℕ, ◌==◌, ◌&&◌, zero, suc, Bool, true, false, not, if◌then◌else◌, refl, sym, ◌∙◌, ap, List, Option, Some, None}
 use Rattle.model.specs.declared.host.Host.{Host}
 use Rattle.model.specs.declared.opened.Opened.{Opened}
 use Rattle.model.specs.declared.process.Process.{Process}
@@ -7,42 +7,57 @@ use Rattle.model.specs.Owners.{process_owner, description_owner}
 use Rattle.model.specs.Locks.{Locks, without_owner, without_owner_anywhere}
 use Rattle.model.specs.Descriptors.{Processes, is_open, with_process, with_descriptor}
 use Rattle.model.specs.Table.{Table, around, is_running, descriptor, with_processes, closed_if, closed_below}
+use Rattle.lock_table.specs.declared.row.Row.{Row as LockRow}
 use Rattle.lock_table.specs.Rows.{held}
 use Rattle.model.proofs.OwnerLaws.{host_refl}
-use Rattle.fcntl_table.specs.declared.table.FcntlTable.{FcntlTable}
-use Rattle.fcntl_table.specs.Hosts.{ClosesOn, process_at, processes_of, with_host}
-use Rattle.fcntl_table.specs.Tables.{table_of}
-use Rattle.fcntl_table.proofs.HostLaws.{with_host-same}
+use Rattle.descriptors.specs.declared.row.Row.{Row}
+use Rattle.descriptors.specs.Rows.{processes}
+use Rattle.fcntl_table.specs.Hosts.{Closes, process_at, shown, with_host}
 use Rattle.fcntl_table.proofs.TableLaws.{host_of}
 
 -- the processes that were put on a node
-at_node : (on : ℕ → ℕ → Processes) (host : Host) (ps : Processes) → with_host on host ps host.node host.incarnation ≡ ps
+pub at_node : (on : ℕ → ℕ → Processes) (host : Host) (ps : Processes) → with_host on host ps host.node host.incarnation ≡ ps
 at_node on host ps = ap (λ (b : Bool). if b then ps else on host.node host.incarnation) (host_refl host)
 
+-- what was put on a node, put again
+twice : (on : ℕ → ℕ → Processes) (host : Host) (first second : Processes) → with_host (with_host on host first) host second ≡ with_host on host second
+twice on host first second i = λ n k. either ((n == host.node) && (k == host.incarnation)) second first (on n k) i
+  where
+    either : {A : Type 0} (b : Bool) (x y z : A) → (if b then x else (if b then y else z)) ≡ (if b then x else z)
+    either true x y z = refl
+    either false x y z = refl
+
+-- whether the process runs
+pub runs-at : (on : ℕ → ℕ → Processes) (host : Host) (rows : List Row) (locks : List LockRow) (pid : ℕ) → is_running (shown on host rows locks) (process_at host pid) ≡ (processes rows).runs pid
+runs-at on host rows locks pid = ap (λ (ps : Processes). ps.runs pid) (at_node on host (processes rows))
+
 -- a descriptor that is not there
-pub closed-none : (m new : FcntlTable) (host : Host) (pid fd : ℕ) → ClosesOn m.hosts host pid fd None new.hosts → is_running (table_of m) (process_at host pid) ≡ true → new.locks ≡ m.locks → table_of new ≡ closed_if (table_of m) (process_at host pid) fd (descriptor (table_of m) (process_at host pid) fd)
-unfolding table_of
-closed-none m new host pid fd closes runs locks =
-    let stays : processes_of new.hosts ≡ processes_of m.hosts = closes.2 ∙ (ap (with_host (processes_of m.hosts) host) closes.1.1 ∙ with_host-same (processes_of m.hosts) host) in
-    let same : table_of new ≡ table_of m = λ i. record { on = stays i; locks = held (locks i) } in
-    same ∙ sym (ap (closed_if (table_of m) (process_at host pid) fd) (closes.1.0 runs))
+pub closed-none : (on : ℕ → ℕ → Processes) (host : Host) (rows new : List Row) (locks : List LockRow) (pid fd : ℕ) → Closes (processes rows) pid fd None (processes new) → (processes rows).runs pid ≡ true → shown on host new locks ≡ closed_if (shown on host rows locks) (process_at host pid) fd (descriptor (shown on host rows locks) (process_at host pid) fd)
+closed-none on host rows new locks pid fd closes runs =
+    let t : Table = shown on host rows locks in
+    let nothing_there : descriptor t (process_at host pid) fd ≡ None = ap (λ (ps : Processes). ps.opened pid fd) (at_node on host (processes rows)) ∙ closes.0 runs in
+    let same : shown on host new locks ≡ t = λ i. record { on = with_host on host (closes.1 i); locks = held locks } in
+    same ∙ sym (ap (closed_if t (process_at host pid) fd) nothing_there)
 
 -- a descriptor that is there: the locks of the process in that file go, and where the description goes, so do its own
-pub closed-some : (m new : FcntlTable) (host : Host) (pid fd : ℕ) (opened : Opened) (went : Bool) → ClosesOn m.hosts host pid fd (Some (opened, went)) new.hosts → held new.locks ≡ (if went then without_owner_anywhere (without_owner (held m.locks) opened.file (process_owner (process_at host pid))) (description_owner (process_at host pid) opened.description) else without_owner (held m.locks) opened.file (process_owner (process_at host pid))) → table_of new ≡ closed_if (table_of m) (process_at host pid) fd (descriptor (table_of m) (process_at host pid) fd)
-unfolding table_of
-closed-some m new host pid fd opened went closes locks =
+pub closed-some : (on : ℕ → ℕ → Processes) (host : Host) (rows new : List Row) (locks left : List LockRow) (pid fd : ℕ) (opened : Opened) (went : Bool) → Closes (processes rows) pid fd (Some (opened, went)) (processes new) → held left ≡ (if went then without_owner_anywhere (without_owner (held locks) opened.file (process_owner (process_at host pid))) (description_owner (process_at host pid) opened.description) else without_owner (held locks) opened.file (process_owner (process_at host pid))) → shown on host new left ≡ closed_if (shown on host rows locks) (process_at host pid) fd (descriptor (shown on host rows locks) (process_at host pid) fd)
+closed-some on host rows new locks left pid fd opened went closes dropped_too =
     let p : Process = process_at host pid in
-    let t : Table = table_of m in
-    let dropped : Locks = without_owner (held m.locks) opened.file (process_owner p) in
+    let t : Table = shown on host rows locks in
+    let fewer : Processes = with_descriptor (around t p) pid fd None in
+    let dropped : Locks = without_owner (held locks) opened.file (process_owner p) in
     let anywhere : Locks = without_owner_anywhere dropped (description_owner p opened.description) in
-    let shut : Table = record (with_processes t p (with_descriptor (around t p) pid fd None)) { locks = dropped } in
-    let here : around shut p ≡ closes.0 = at_node (processes_of m.hosts) host (with_descriptor (around t p) pid fd None) ∙ sym closes.1.1 in
-    let on : processes_of new.hosts ≡ shut.on = closes.2 ∙ ap (with_host (processes_of m.hosts) host) closes.1.1 in
+    let shut : Table = record (with_processes t p fewer) { locks = dropped } in
+    let own : around t p ≡ processes rows = at_node on host (processes rows) in
+    let is_fewer : processes new ≡ fewer = closes.1 ∙ ap (λ (ps : Processes). with_descriptor ps pid fd None) (sym own) in
+    let here : around shut p ≡ processes new = at_node t.on host fewer ∙ sym is_fewer in
+    let there : descriptor t p fd ≡ Some opened = ap (λ (ps : Processes). ps.opened pid fd) own ∙ closes.0 in
+    let now : with_host on host (processes new) ≡ shut.on = ap (with_host on host) is_fewer ∙ sym (twice on host (processes rows) fewer) in
     let tables : Bool → Table = λ b. if b then shut else record shut { locks = anywhere } in
-    (λ i. record { on = on i; locks = locks i })
-    ∙ (by shut anywhere (is_open closes.0 opened.description) went closes.1.2
+    (λ i. record { on = now i; locks = dropped_too i })
+    ∙ (by shut anywhere (is_open (processes new) opened.description) went closes.2
     ∙ (ap (λ (ps : Processes). tables (is_open ps opened.description)) (sym here)
-    ∙ sym (ap (closed_if t p fd) closes.1.0)))
+    ∙ sym (ap (closed_if t p fd) there)))
   where
     by : (shut : Table) (anywhere : Locks) (b w : Bool) → w ≡ not b → record shut { locks = if w then anywhere else shut.locks } ≡ (if b then shut else record shut { locks = anywhere })
     by shut anywhere true w e = ap (λ (x : Bool). record shut { locks = if x then anywhere else shut.locks }) e
@@ -72,6 +87,9 @@ pub closed_below-runs : (t now : Table) (p : Process) (n : ℕ) → now ≡ clos
 closed_below-runs t now p n so_far runs = ap (λ (x : Table). is_running x p) so_far ∙ (still-runs t p n ∙ runs)
 
 -- a process that ends
-pub ended-table : (m new : FcntlTable) (host : Host) (pid : ℕ) → processes_of new.hosts ≡ with_host (processes_of m.hosts) host (with_process (processes_of m.hosts host.node host.incarnation) pid false (λ fd. None)) → new.locks ≡ m.locks → table_of new ≡ with_processes (table_of m) (process_at host pid) (with_process (around (table_of m) (process_at host pid)) pid false (λ fd. None))
-unfolding table_of
-ended-table m new host pid on locks i = record { on = on i; locks = held (locks i) }
+pub ended-table : (on : ℕ → ℕ → Processes) (host : Host) (rows new : List Row) (locks : List LockRow) (pid : ℕ) → processes new ≡ with_process (processes rows) pid false (λ fd. None) → shown on host new locks ≡ with_processes (shown on host rows locks) (process_at host pid) (with_process (around (shown on host rows locks) (process_at host pid)) pid false (λ fd. None))
+ended-table on host rows new locks pid is =
+    let none : Processes = with_process (around (shown on host rows locks) (process_at host pid)) pid false (λ fd. None) in
+    let gone : processes new ≡ none = is ∙ ap (λ (ps : Processes). with_process ps pid false (λ fd. None)) (sym (at_node on host (processes rows))) in
+    let now : with_host on host (processes new) ≡ with_host (with_host on host (processes rows)) host none = ap (with_host on host) gone ∙ sym (twice on host (processes rows) none) in
+    λ i. record { on = now i; locks = held locks }

@@ -1,22 +1,24 @@
 -- The processes of each node, looked up and changed by the node.
-use Rattle.std.proofs.Common.{rules, ◌≡◌, ℕ, Bool, true, false, ◌&&◌, ◌==◌, cond, if◌then◌else◌, refl, sym, ◌∙◌, ap, subst, inl, inr, List, [], Option, Some, None, IsSome, is_some, unwrap_or}
+use Rattle.std.proofs.Common.{rules, ◌≡◌, ℕ, Bool, true, false, ◌&&◌, ◌==◌, cond, refl, sym, ◌∙◌, ap, subst, inl, inr, List, [], Option, Some, None, IsSome, is_some, unwrap_or}
 use Rattle.std.specs.Cmp.{nat_eq_equiv}
 use Rattle.std.specs.declared.hash.FoldHasher.{FoldHasher}
 use Rattle.std.specs.declared.hash.BuildHasherDefault.{BuildHasherDefault}
 use Rattle.std.specs.HashMap.{HashMap, Updates, UpdatesBy, WritesThrough}
 use Rattle.std.specs.Map.{lookup}
-use Rattle.std.proofs.lemmas.Bool.{cases_Bool, and_parts, eqb-true}
+use Rattle.std.proofs.lemmas.Bool.{cases_Bool, and_parts, eqb-true, false≢true}
 use Rattle.model.specs.declared.host.Host.{Host}
-use Rattle.model.specs.declared.opened.Opened.{Opened}
 use Rattle.model.specs.contracts.host.HostPartialEq.TheImpl as derived
 use Rattle.model.specs.Limits.{IsHost}
-use Rattle.model.specs.Descriptors.{Processes, no_processes, with_process}
+use Rattle.model.specs.Descriptors.{Processes, no_processes}
+use Rattle.model.specs.Table.{Table}
+use Rattle.lock_table.specs.declared.row.Row.{Row as LockRow}
+use Rattle.lock_table.specs.Rows.{held}
 use Rattle.model.specs.Owners.{same_host}
 use Rattle.descriptors.specs.declared.row.Row.{Row}
 use Rattle.descriptors.specs.declared.edit.ProcessEdit.{ProcessEdit}
 use Rattle.descriptors.specs.Rows.{processes}
 use Rattle.descriptors.specs.Edits.{edited, Fits}
-use Rattle.fcntl_table.specs.Hosts.{HostRows, AreHosts, Closes, ClosesOn, FitsOn, processes_of, with_host}
+use Rattle.fcntl_table.specs.Hosts.{HostRows, AreHosts, FitsOn, processes_of, shown, table_with, with_host}
 
 abbrev at : ℕ → ℕ → Host
 at node incarnation = record { node = node; incarnation = incarnation }
@@ -201,29 +203,18 @@ pub made_on : (old new : HostRows) (host : Host) (before after : Processes) (edi
 made_on old new host before after edit changes is =
     changes.is ∙ ap (with_host (processes_of old) host) (is ∙ ap (λ (ps : Processes). edited ps edit) (sym changes.was))
 
--- a descriptor that is closed by the processes of its node
-pub closes_on : (old new : HostRows) (host : Host) (pid fd : ℕ) (before after : Processes) (closed : Option (Opened × Bool)) → Changes old host before after new → Closes before pid fd closed after → ClosesOn old host pid fd closed new
-closes_on old new host pid fd before after closed changes closes =
-    let P : Processes → Type 0 = λ x. Closes x pid fd closed after in
-    (after, subst P (sym changes.was) closes, changes.is)
+-- what a change of one node's processes and of the locks makes of the whole table
+pub shut_on : (F : Table → Table) (old new : HostRows) (host : Host) (rows written : List Row) (locks left : List LockRow) → Changes old host (processes rows) (processes written) new → ((on : ℕ → ℕ → Processes) → shown on host written left ≡ F (shown on host rows locks)) → table_with new (held left) ≡ F (table_with old (held locks))
+shut_on F old new host rows written locks left changes made =
+    let on : ℕ → ℕ → Processes = processes_of old in
+    let whole : with_host on host (processes rows) ≡ on = ap (with_host on host) (sym changes.was) ∙ with_host-same on host in
+    let after : table_with new (held left) ≡ shown on host written left = λ i. record { on = changes.is i; locks = held left } in
+    let before : shown on host rows locks ≡ table_with old (held locks) = λ i. record { on = whole i; locks = held locks } in
+    after ∙ (made on ∙ ap F before)
 
--- a process that ends on its node
-pub ended : (old new : HostRows) (host : Host) (pid : ℕ) (before after : Processes) → Changes old host before after new → after ≡ with_process before pid false (λ fd. None) → processes_of new ≡ with_host (processes_of old) host (with_process (processes_of old host.node host.incarnation) pid false (λ fd. None))
-ended old new host pid before after changes is =
-    changes.is ∙ ap (with_host (processes_of old) host) (is ∙ ap (λ (ps : Processes). with_process ps pid false (λ fd. None)) (sym changes.was))
-
-pub ended-nowhere : (pid : ℕ) → no_processes ≡ with_process no_processes pid false (λ fd. None)
-ended-nowhere pid i = record {
-  runs = λ q. either (q == pid) false i;
-  opened = λ q fd. either (q == pid) (none fd) i;
-}
-  where
-    none : ℕ → Option Opened
-    none fd = None
-
-    either : {A : Type 0} (b : Bool) (x : A) → x ≡ (if b then x else x)
-    either true x = refl
-    either false x = refl
+-- a process runs only on a node of which something is kept
+pub runs-nowhere : (hosts : HostRows) (host : Host) (pid : ℕ) → processes_of hosts host.node host.incarnation ≡ no_processes → (processes_of hosts host.node host.incarnation).runs pid ≡ true → ⊥
+runs-nowhere hosts host pid none runs = false≢true (ap (λ (ps : Processes). ps.runs pid) (sym none) ∙ runs)
 
 -- a host of which none runs is kept no longer
 abbrev pub Removes : HostRows → Host → HostRows → Type 0

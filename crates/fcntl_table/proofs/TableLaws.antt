@@ -60,12 +60,12 @@ target-refused m p need host pid fd kind start len error refusal of_p is found t
     ap Err told ∙ sym (target-err (around (table_of m) p) p need fd kind (seg start len) error (found-around m p host pid fd (Err error) of_p is found))
 
 -- a descriptor that refers to something is one of a process that runs
-found_there : (b : Bool) (x : Option Opened) (opened : Opened) → (if b then opened_or x else Err NoProcess) ≡ Ok opened → (b ≡ true) × (x ≡ Some opened)
+pub found_there : (b : Bool) (x : Option Opened) (opened : Opened) → (if b then opened_or x else Err NoProcess) ≡ Ok opened → (b ≡ true) × (x ≡ Some opened)
 found_there true (Some o) opened h = (refl, ap Some (ok_is o opened h))
 found_there true None opened h = absurd (cc)
 found_there false x opened h = absurd (cc)
 
-closes_there : (t : Table) (p : Process) (fd : ℕ) (b : Bool) (x : Option Opened) (opened : Opened) → b ≡ true → x ≡ Some opened → (if b then closed_at t p fd x else (t, reply.NoProcess)) ≡ (closed_if t p fd x, Done)
+pub closes_there : (t : Table) (p : Process) (fd : ℕ) (b : Bool) (x : Option Opened) (opened : Opened) → b ≡ true → x ≡ Some opened → (if b then closed_at t p fd x else (t, reply.NoProcess)) ≡ (closed_if t p fd x, Done)
 closes_there t p fd true (Some o) opened runs there = refl
 closes_there t p fd true None opened runs there = absurd (cc)
 closes_there t p fd false x opened runs there = absurd (cc)
@@ -78,7 +78,7 @@ close-found m p host pid fd opened of_p is found =
     let done = closes_there t p fd (is_running t p) (descriptor t p fd) opened there.0 there.1 in
     ((ap (λ (a : Table × Reply). a.1) (sym done), ap (λ (a : Table × Reply). a.0) (sym done)), there.0)
 
-refused_there : (t : Table) (p : Process) (fd : ℕ) (b : Bool) (x : Option Opened) (error : FdError) → (if b then opened_or x else Err NoProcess) ≡ Err error → (if b then closed_at t p fd x else (t, reply.NoProcess)) ≡ (t, fd_reply error)
+pub refused_there : (t : Table) (p : Process) (fd : ℕ) (b : Bool) (x : Option Opened) (error : FdError) → (if b then opened_or x else Err NoProcess) ≡ Err error → (if b then closed_at t p fd x else (t, reply.NoProcess)) ≡ (t, fd_reply error)
 refused_there t p fd true (Some o) error h = absurd (cc)
 refused_there t p fd true None NoProcess h = absurd (cc)
 refused_there t p fd true None BadFd h = refl

@@ -9,6 +9,8 @@ use Rattle.model.specs.Locks.{Locks}
 use Rattle.model.specs.Descriptors.{Processes, is_open, with_descriptor}
 use Rattle.model.specs.Table.{Table}
 use Rattle.model.specs.Owners.{same_host}
+use Rattle.lock_table.specs.declared.row.Row.{Row as LockRow}
+use Rattle.lock_table.specs.Rows.{held}
 use Rattle.descriptors.specs.declared.row.Row.{Row}
 use Rattle.descriptors.specs.declared.edit.ProcessEdit.{ProcessEdit}
 use Rattle.descriptors.specs.Rows.{processes}
@@ -48,12 +50,11 @@ pub record FitsOn (hosts : HostRows) (host : Host) (edit : ProcessEdit) : Type 0
   pub kept : lookup (same_host host) hosts ≡ Some rows
   pub fits : Fits rows edit
 
+-- the table in which the node has these processes, with these locks
+abbrev pub shown : (ℕ → ℕ → Processes) → Host → List Row → List LockRow → Table
+shown on host rows locks = record { on = with_host on host (processes rows); locks = held locks }
+
 -- a descriptor is closed: it referred to this, and the description went or not. Where there is none, nothing changes
 abbrev pub Closes : Processes → ℕ → ℕ → Option (Opened × Bool) → Processes → Type 0
 Closes old pid fd None new = (old.runs pid ≡ true → old.opened pid fd ≡ None) × (new ≡ old)
 Closes old pid fd (Some closed) new = (old.opened pid fd ≡ Some closed.0) × (new ≡ with_descriptor old pid fd None) × (closed.1 ≡ not (is_open new closed.0.description))
-
--- so it is on the node
-abbrev pub ClosesOn : HostRows → Host → ℕ → ℕ → Option (Opened × Bool) → HostRows → Type 0
-ClosesOn old host pid fd closed new =
-    (ps : Processes) × Closes (processes_of old host.node host.incarnation) pid fd closed ps × (processes_of new ≡ with_host (processes_of old) host ps)

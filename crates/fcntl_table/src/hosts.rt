@@ -1,17 +1,21 @@
 //! The processes of each host: a node in one of its incarnations.
-ghost use Rattle.std.specs.Prelude.{◌≡◌, ℕ, true, false, None, Ok, IfOk, IfErr, IfSome, IsTrue, ◌↔◌, OnOk, MatchOption};
+ghost use Rattle.std.specs.Prelude.{◌≡◌, ℕ, true, false, Ok, IfOk, IfErr, IsTrue, ◌↔◌, OnOk, MatchOption};
 ghost use Rattle.model.specs.declared.reply.Reply.TheVariants.{Done, Fd};
 ghost use Rattle.model.specs.Limits.{IsHost, IsNumber, most_processes, most_descriptions};
-ghost use Rattle.model.specs.Descriptors.{no_processes, with_process, after_spawn, after_fork, after_open, after_dup};
-ghost use Rattle.descriptors.specs.Rows.{processes, resolved, Refuses};
+ghost use Rattle.model.specs.Descriptors.{no_processes, after_spawn, after_fork, after_open, after_dup};
+ghost use Rattle.model.specs.Table.{descriptor, closed_if, exited};
+ghost use Rattle.lock_table.specs.Rows.{held};
+ghost use Rattle.descriptors.specs.Rows.{resolved, Refuses};
 ghost use Rattle.descriptors.specs.Edits.{edited};
-ghost use Rattle.fcntl_table.specs.Hosts.{Closes, ClosesOn, FitsOn, IsKept, processes_of, with_host};
+ghost use Rattle.fcntl_table.specs.Hosts.{FitsOn, IsKept, process_at, processes_of, table_with, with_host};
 
+use crate::shut::{close_at, exit_at};
 use descriptors::edit::ProcessEdit;
 use descriptors::error::{FdError, ProcessError};
 use descriptors::processes::Processes;
 use indexmap::IndexMap;
 use intervals::span_map::NoMemory;
+use lock_table::lock_table::LockTable;
 use model::access::Access;
 use model::host::Host;
 use model::limits::MOST_NODES;
@@ -41,16 +45,6 @@ fn is_host(node: u8, incarnation: u16) -> bool
     ensures { IsTrue result ↔ IsHost node incarnation }
 {
     1 <= node && node <= MOST_NODES && 1 <= incarnation
-}
-
-// The descriptor is closed. What it referred to, and whether the description went.
-fn close_in(node: &mut Processes, pid: u16, fd: u8) -> Option<(Opened, bool)>
-    ensures closes { Closes (processes node.old) pid fd result (processes node.new) }
-    ensures number { IfSome result (λ closed. IsNumber most_descriptions closed.0.description) }
-{
-    let opened = node.resolve(pid, fd).ok()?;
-    let went = node.close(pid, fd).ok()?;
-    Some((opened, went))
 }
 
 impl Hosts {
@@ -203,24 +197,28 @@ impl Hosts {
         self.resolve(host, pid, 0) != Err(FdError::NoProcess)
     }
 
-    /// The descriptor of the node's process is closed. Answers what it referred to, and whether the
-    /// description went; `None` where the process has no such descriptor.
-    pub(crate) fn close(&mut self, host: Host, pid: u16, fd: u8) -> Option<(Opened, bool)>
-        ensures closes { ClosesOn self.old host pid fd result self.new }
-        ensures number { IfSome result (λ closed. IsNumber most_descriptions closed.0.description) }
-    {
-        let node = self.by_host.get_mut(&host)?;
-        close_in(node, pid, fd)
-    }
-
-    /// The process runs on the node no longer, and has no descriptors.
-    pub(crate) fn end(&mut self, host: Host, pid: u16)
-        ensures { processes_of self.new ≡ with_host (processes_of self.old) host (with_process (processes_of self.old host.node host.incarnation) pid false (λ fd. None)) }
+    /// The descriptor of the node's process is closed, if there is one, with the locks that hang on it.
+    pub(crate) fn close(&mut self, locks: &mut LockTable, host: Host, pid: u16, fd: u8)
+        requires number { IsNumber most_processes pid }
+        requires runs { (processes_of self.old host.node host.incarnation).runs pid ≡ true }
+        ensures { table_with self.new (held locks.new) ≡ closed_if (table_with self.old (held locks.old)) (process_at host pid) fd (descriptor (table_with self.old (held locks.old)) (process_at host pid) fd) }
     {
         let Some(node) = self.by_host.get_mut(&host) else {
             return;
         };
-        node.end(pid);
+        close_at(node, locks, host, pid, fd);
+    }
+
+    /// The node's process exits.
+    pub(crate) fn exit(&mut self, locks: &mut LockTable, host: Host, pid: u16)
+        requires number { IsNumber most_processes pid }
+        requires runs { (processes_of self.old host.node host.incarnation).runs pid ≡ true }
+        ensures { table_with self.new (held locks.new) ≡ exited (table_with self.old (held locks.old)) (process_at host pid) }
+    {
+        let Some(node) = self.by_host.get_mut(&host) else {
+            return;
+        };
+        exit_at(node, locks, host, pid);
     }
 
     // Whether no process runs on the host.

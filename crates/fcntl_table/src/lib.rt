@@ -4,5 +4,6 @@
 pub mod edit;
 mod hosts;
 pub mod locks;
+pub mod shut;
 pub mod table;
 pub mod target;

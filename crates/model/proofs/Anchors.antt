@@ -27,7 +27,7 @@ left true bytes k mode h = absurd (none-some mode h)
 left false bytes k mode h = (refl, h)
 
 -- a descriptor that is left where one is closed
-left_open : (b : Bool) (x : Option Opened) (o : Opened) → (if b then None else x) ≡ Some o → (b ≡ false) × (x ≡ Some o)
+pub left_open : (b : Bool) (x : Option Opened) (o : Opened) → (if b then None else x) ≡ Some o → (b ≡ false) × (x ≡ Some o)
 left_open true x o h = absurd (none-some o h)
 left_open false x o h = (refl, h)
 

@@ -4,3 +4,4 @@ pub mod NodeLaws
 pub mod ReaderLaws
 pub mod RuleLaws
 pub mod PlanLaws
+pub mod ShutLaws

@@ -1,8 +1,7 @@
 -- A node's parts and its state.
-use Rattle.std.specs.Prelude.{◌≡◌, ℕ, ◌+◌, ◌-◌, ◌<◌, ◌≤◌, ◌&&◌, ◌==◌, Bool, true, false, nat_lt, if◌then◌else◌, List, [], ◌∷◌, ◌++◌, Option, Some, None, Result, Ok, Err, All, Contains, IfOk, IfErr, IfSome, MatchOption, MatchResult, find, filter, length, refl}
-use Rattle.std.specs.List.{length_refill}
-use Rattle.std.proofs.Common.{arith, ap, sym, subst, ◌∙◌, take, drop}
-use Rattle.std.proofs.lemmas.Bool.{and_parts, and_from, eq-eqb, le-leb, lt-leb}
+use Rattle.std.specs.Prelude.{◌≡◌, ℕ, ◌+◌, ◌-◌, ◌<◌, ◌≤◌, ◌&&◌, ◌==◌, Bool, true, false, nat_lt, if◌then◌else◌, List, [], ◌∷◌, Option, Some, None, Result, Ok, Err, All, Contains, IfOk, IfSome, MatchOption, find, length, refl}
+use Rattle.std.proofs.Common.{arith, ap, sym, subst, ◌∙◌}
+use Rattle.std.proofs.lemmas.Bool.{and_parts, and_from, eq-eqb}
 use Rattle.std.proofs.lemmas.Bool.Decides.{nat_tests}
 use Rattle.std.proofs.lemmas.List.Elements.{All-head, All-tail}
 use Rattle.intervals.specs.declared.span.SpanError.{SpanError}
@@ -14,7 +13,6 @@ use Rattle.model.specs.declared.owner.Kind.{Kind}
 use Rattle.model.specs.declared.owner.Kind.TheVariants.{OfProcess, OfDescription}
 use Rattle.model.specs.declared.owner.Owner.{Owner}
 use Rattle.model.specs.declared.opened.Opened.{Opened}
-use Rattle.model.specs.declared.process.Process.{Process}
 use Rattle.model.specs.declared.reply.Reply.{Reply}
 use Rattle.model.specs.declared.reply.Reply.TheVariants.{Done, Fd, NoLocks}
 use Rattle.model.specs.declared.reply.Reply.TheVariants as reply
@@ -23,34 +21,29 @@ use Rattle.model.specs.Owners.{same_owner, owner_at, most_owners}
 use Rattle.model.specs.declared.lock_info.LockInfo.{LockInfo}
 use Rattle.model.specs.declared.policy.Policy.{Policy}
 use Rattle.model.specs.declared.policy.Policy.TheVariants.{Wide, Exact}
-use Rattle.model.specs.Locks.{Locks, no_locks, with_lock, regions, IsFree, IsLowestBlocker, lowest_blocker, IsOfNode}
+use Rattle.model.specs.Locks.{Locks, no_locks, with_lock, IsFree, IsLowestBlocker, lowest_blocker, IsOfNode}
 use Rattle.model.proofs.BlockerLaws.{is_lowest_blocker}
 use Rattle.model.specs.Descriptors.{Processes, no_processes, with_descriptor, lowest_fd, lowest_description, after_open, after_spawn, with_process, after_fork, after_dup, again_on}
-use Rattle.model.specs.Table.{Target, around, beside, with_processes, target_at, lock_within}
+use Rattle.model.specs.Table.{Target, around, beside, with_processes, target_at}
 use Rattle.model.proofs.OwnerLaws.{owner_exact}
 use Rattle.model.proofs.Refusals.{ok_is}
 use Rattle.lock_table.specs.declared.row.Row.{Row as LockRow}
 use Rattle.lock_table.specs.Rows.{held}
 use Rattle.lock_table.specs.Listing.{IsListing}
-use Rattle.lock_table.specs.declared.error.LockError.{LockError}
-use Rattle.lock_table.specs.declared.error.LockError.TheVariants as lock
 use Rattle.token_set.specs.Tokens.{Token, desired, holds_nothing}
 use Rattle.token_set.specs.Releases.{IsRevocable, IsGivenUp, gave_up}
 use Rattle.token_set.specs.declared.gave_up.GaveUp.{GaveUp}
 use Rattle.token_set.proofs.ReleaseLaws.{list_gives_up}
-use Rattle.std.specs.declared.alloc.AllocError.{AllocError}
 use Rattle.messages.specs.Shapes.{ShapeFields}
 use Rattle.descriptors.specs.declared.row.Row.{Row as ProcessRow}
-use Rattle.descriptors.specs.declared.error.ProcessError.{ProcessError}
-use Rattle.descriptors.specs.declared.error.ProcessError.TheVariants as error
 use Rattle.descriptors.specs.declared.error.FdError.{FdError}
 use Rattle.node_core.specs.declared.file_row.FileRow.{FileRow}
 use Rattle.node_core.specs.declared.open_call.OpenCall.{OpenCall}
 use Rattle.node_core.specs.State.{NodeState, first_file, first_node, process}
-use Rattle.descriptors.specs.Rows.{processes, resolved, fd_reply, Refuses}
+use Rattle.descriptors.specs.Rows.{processes, resolved, fd_reply}
 use Rattle.fcntl_table.proofs.TargetLaws.{target_in, target-err, target-ok, resolved_ok}
 use Rattle.node_core.specs.Files.{file_state}
-use Rattle.node_core.specs.Parts.{NodeParts, node_state, IsOwn, IsSpan, IsOwnCall, IsNode}
+use Rattle.node_core.specs.Parts.{NodeParts, node_state, IsOwn, IsOwnCall, IsNode}
 use Rattle.descriptors.specs.declared.edit.ProcessEdit.{ProcessEdit}
 use Rattle.descriptors.specs.Edits.{edited, Fits as ProcessFits}
 use Rattle.node_core.specs.Plans.{table_after, ProcessesFit}
@@ -59,7 +52,7 @@ use Rattle.node_core.specs.Plans.{table_after, ProcessesFit}
 own_host : (node incarnation : ℕ) → ((node == node) && (incarnation == incarnation)) ≡ true
 own_host node incarnation = and_from _ _ (eq-eqb node node refl) (eq-eqb incarnation incarnation refl)
 
-if-both : {A : Type 0} (b : Bool) (x y : A) → x ≡ y → (if b then x else y) ≡ y
+pub if-both : {A : Type 0} (b : Bool) (x y : A) → x ≡ y → (if b then x else y) ≡ y
 if-both true x y e = e
 if-both false x y e = refl
 

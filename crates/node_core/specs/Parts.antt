@@ -1,5 +1,5 @@
 -- What a node is made of, and the state that it is.
-use Rattle.std.specs.Prelude.{◌≡◌, ℕ, ◌≤◌, Bool, ◌&&◌, ◌||◌, ◌==◌, nat_le, if◌then◌else◌, List, All, length, Some, None}
+use Rattle.std.specs.Prelude.{◌≡◌, ℕ, Bool, ◌&&◌, ◌||◌, ◌==◌, nat_le, if◌then◌else◌, List, All, length, Some}
 use Rattle.intervals.specs.Bytes.{Range}
 use Rattle.model.specs.declared.access.Access.{Access}
 use Rattle.model.specs.declared.opened.Opened.{Opened}
@@ -25,7 +25,7 @@ use Rattle.node_core.specs.declared.open_call.OpenCall.{OpenCall}
 use Rattle.descriptors.specs.Rows.{processes}
 pub use Rattle.fcntl_table.specs.Targets.{IsOwn, IsSpan}
 use Rattle.node_core.specs.Files.{file_state}
-use Rattle.node_core.specs.State.{FileState, NodeState, Effect, with_file, quiet, host, process, open_call}
+use Rattle.node_core.specs.State.{FileState, NodeState, Effect, with_file, quiet, host, process}
 use Rattle.node_core.specs.Commands.{remembered, answer_to, is_conflict, is_node}
 
 pub record NodeParts : Type 0 where

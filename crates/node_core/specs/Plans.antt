@@ -1,13 +1,15 @@
 -- What a planned step changes of a node.
-use Rattle.std.specs.Prelude.{◌≡◌, ℕ, ◌+◌, ◌-◌, ◌<◌, ◌==◌, Bool, true, false, not, if◌then◌else◌, List, [], ◌∷◌, ◌++◌, filter, length, Option, Some, None}
+use Rattle.std.specs.Prelude.{◌≡◌, ℕ, ◌+◌, ◌-◌, ◌<◌, ◌==◌, Bool, true, false, not, if◌then◌else◌, List, [], ◌∷◌, ◌++◌, All, filter, length, Option, Some, None}
 use Rattle.std.specs.List.{slice_get}
 use Rattle.std.specs.Vec.{vec_capacity}
 use Rattle.intervals.specs.Runs.{value_at}
+use Rattle.model.specs.declared.host.Host.{Host}
 use Rattle.model.specs.declared.opened.Opened.{Opened}
+use Rattle.model.specs.declared.reply.Reply.{Reply}
 use Rattle.model.specs.Descriptors.{Processes}
-use Rattle.model.specs.Limits.{IsNumber}
+use Rattle.model.specs.Limits.{IsNumber, most_processes}
 use Rattle.model.specs.Locks.{Locks, replace, IsOfNode}
-use Rattle.model.specs.Table.{Table, around, with_processes}
+use Rattle.model.specs.Table.{Table, around, descriptor, with_processes, closed_if, exited}
 use Rattle.lock_table.specs.declared.lock_table.LockEdit.{LockEdit}
 use Rattle.lock_table.specs.Rows.{held, HasRoom as HasRowRoom}
 use Rattle.token_set.specs.Edits.{edited as token_edited}
@@ -16,14 +18,17 @@ use Rattle.descriptors.specs.declared.edit.ProcessEdit.{ProcessEdit}
 use Rattle.descriptors.specs.Edits.{edited, Fits as ProcessFits}
 use Rattle.node_core.specs.declared.effect.Effect.{Effect as EffectFields}
 use Rattle.node_core.specs.declared.edit.Draft.{Draft}
+use Rattle.fcntl_table.specs.Hosts.{process_at}
 use Rattle.node_core.specs.declared.edit.Edit.{Edit}
+use Rattle.node_core.specs.declared.edit.Shut.{Shut}
+use Rattle.node_core.specs.declared.edit.Shut.TheVariants.{Nothing, Closes, Exits}
 use Rattle.node_core.specs.declared.file_row.FileEdit.{FileEdit}
 use Rattle.node_core.specs.declared.file_row.FileRow.{FileRow}
 use Rattle.node_core.specs.declared.open_call.OpenCall.{OpenCall}
 use Rattle.node_core.specs.declared.open_calls.CallsEdit.{CallsEdit}
-use Rattle.node_core.specs.declared.open_calls.CallsEdit.TheVariants.{Same, Put, Gone}
+use Rattle.node_core.specs.declared.open_calls.CallsEdit.TheVariants.{Same, Put, Gone, Left}
 use Rattle.descriptors.specs.Rows.{processes}
-use Rattle.node_core.specs.State.{FileState, NodeState, Effect, process, first_file}
+use Rattle.node_core.specs.State.{FileState, NodeState, Effect, first_file, host, id_of, process}
 use Rattle.node_core.specs.Parts.{NodeParts, node_state, IsCallOf}
 
 -- how many calls the node took, with this one or without
@@ -49,9 +54,13 @@ files_after files rows None = files
 files_after files rows (Some e) = λ f. if f == e.file then row_after (slice_get rows (e.file - 1)) e else files f
 
 -- the files, of which one is asked no longer
-abbrev pub files_told : (ℕ → FileState) → Option ℕ → ℕ → FileState
-files_told files None = files
-files_told files (Some file) = λ f. if f == file then record (files file) { asked = false } else files f
+abbrev pub told : (ℕ → FileState) → ℕ → ℕ → FileState
+told files file = λ f. if f == file then record (files file) { asked = false } else files f
+
+-- so are these, one after the other
+abbrev pub files_told : (ℕ → FileState) → List ℕ → ℕ → FileState
+files_told files [] = files
+files_told files (file ∷ more) = files_told (told files file) more
 
 -- the locks once the edit is made
 abbrev pub locks_after : Locks → Option LockEdit → Locks
@@ -72,11 +81,18 @@ abbrev pub table_after : NodeState → Option ProcessEdit → Table
 table_after s None = s.table
 table_after s (Some e) = with_processes s.table (process s 0) (edited (around s.table (process s 0)) e)
 
+-- the table once that is closed on the host
+abbrev pub shut_after : Host → Table → Shut → Table
+shut_after h t Nothing = t
+shut_after h t (Closes pid fd) = closed_if t (process_at h pid) fd (descriptor t (process_at h pid) fd)
+shut_after h t (Exits pid) = exited t (process_at h pid)
+
 -- the open calls once the edit is made
 abbrev pub pending_after : List OpenCall → CallsEdit → List OpenCall
 pending_after calls Same = calls
 pending_after calls (Put call room) = calls ++ call ∷ []
 pending_after calls (Gone number) = filter (λ c. not (c.number == number)) calls
+pending_after calls (Left pid number) = filter (λ c. not (c.number == number)) (filter (λ c. not (c.pid == pid)) calls)
 
 -- the state in which a call is tried
 abbrev pub drafted : NodeParts → Draft → NodeState
@@ -95,10 +111,18 @@ abbrev pub planned : NodeParts → Edit → NodeState
 planned p e =
     let s = drafted p e.draft in
     record s {
-      table = record (table_after s e.processes) { locks = locks_after s.table.locks e.locks };
+      table = shut_after (host s) (record (table_after s e.processes) { locks = locks_after s.table.locks e.locks }) e.shut;
       pending = pending_after s.pending e.calls;
       files = files_told s.files e.freed;
     }
+
+-- a call that closes something is answered, with these calls open from then on
+abbrev pub shut_effect : NodeState → Shut → CallsEdit → Reply → Effect
+shut_effect s shut calls reply = record {
+  state = record (numbered s) { table = shut_after (host s) s.table shut; pending = pending_after s.pending calls };
+  reply = Some (id_of s (s.calls + 1), reply);
+  sends = [];
+}
 
 -- what the step comes to
 abbrev pub effect_of : NodeParts → EffectFields → Effect
@@ -113,10 +137,6 @@ NumberFits calls false = Unit {0}
 abbrev pub CommandFits : ℕ → Option FileEdit → Type 0
 CommandFits files None = Unit {0}
 CommandFits files (Some e) = IsNumber files e.file
-
-abbrev pub FreedFits : ℕ → Option ℕ → Type 0
-FreedFits files None = Unit {0}
-FreedFits files (Some file) = IsNumber files file
 
 abbrev pub DraftFits : NodeParts → Draft → Type 0
 DraftFits p d = NumberFits (node_state p).calls d.numbered × CommandFits (node_state p).shape.files d.command
@@ -135,6 +155,12 @@ ProcessesFit p None = Unit {0}
 ProcessesFit p (Some e) =
     ProcessFits p.processes e
     × ((pid fd : ℕ) (o : Opened) → (edited (processes p.processes) e).opened pid fd ≡ Some o → IsNumber (node_state p).shape.files o.file)
+
+-- a process that closes something runs
+abbrev pub ShutFits : Processes → Shut → Type 0
+ShutFits ps Nothing = Unit {0}
+ShutFits ps (Closes pid fd) = IsNumber most_processes pid × (ps.runs pid ≡ true)
+ShutFits ps (Exits pid) = IsNumber most_processes pid × (ps.runs pid ≡ true)
 
 -- room for one more call than so many, where one is put last
 abbrev pub HasRoom : ℕ → CallsEdit → Type 0
@@ -155,5 +181,6 @@ Fits p e =
     DraftFits p e.draft
     × LocksFit p e.locks
     × ProcessesFit p e.processes
+    × ShutFits (processes_after (processes p.processes) e.processes) e.shut
     × CallsFit p e.calls
-    × FreedFits (node_state p).shape.files e.freed
+    × All (IsNumber (node_state p).shape.files) e.freed

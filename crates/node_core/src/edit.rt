@@ -1,15 +1,22 @@
 //! What a step of a node changes, as plain data.
-ghost use Rattle.std.specs.Prelude.{◌≡◌, true, false, None, IfSome};
+ghost use Rattle.std.specs.Prelude.{◌≡◌, ℕ, true, false, None, [], IfSome};
 ghost use Rattle.descriptors.specs.Rows.{processes as processes_of};
 ghost use Rattle.descriptors.specs.Edits.{Fits as ProcessFits};
-ghost use Rattle.node_core.specs.Plans.{processes_after};
+ghost use Rattle.fcntl_table.specs.Hosts.{shown};
+ghost use Rattle.model.specs.Descriptors.{Processes as ProcessTable};
+ghost use Rattle.node_core.specs.Plans.{processes_after, shut_after, ShutFits};
+ghost use Rattle.node_core.specs.declared.edit.Shut.TheVariants.{Nothing};
 ghost use Rattle.node_core.specs.declared.open_calls.CallsEdit.TheVariants.{Same};
 
 use crate::file_row::FileEdit;
 use crate::open_calls::CallsEdit;
 use descriptors::edit::ProcessEdit;
 use descriptors::processes::Processes;
-use lock_table::lock_table::LockEdit;
+use fcntl_table::shut::{close_at, exit_at};
+use lock_table::lock_table::{LockEdit, LockTable};
+use messages::items::Items;
+use model::host::Host;
+use std::alloc::Global;
 
 /// What a step changes before a call is tried: whether the call takes the next number, and what a
 /// command makes of a file.
@@ -41,36 +48,48 @@ impl Draft {
     }
 }
 
-/// What a step changes: its draft, and then the processes, what one owner holds in one file, the open
-/// calls, and a file whose server hears that locks may be gone.
+/// What a step closes, with the locks that hang on it.
+#[derive(Clone, Copy)]
+pub enum Shut {
+    Nothing,
+    /// A descriptor of a process.
+    Closes { pid: u16, fd: u8 },
+    /// All descriptors of a process, which runs no longer.
+    Exits { pid: u16 },
+}
+
+/// What a step changes: its draft, and then the processes, what one owner holds in one file, what is
+/// closed, the open calls, and the files whose servers hear that locks may be gone, in that order.
 #[derive(Drop)]
 pub struct Edit {
     pub draft: Draft,
     pub processes: Option<ProcessEdit>,
     pub locks: Option<LockEdit>,
+    pub shut: Shut,
     pub calls: CallsEdit,
-    pub freed: Option<u16>,
+    pub freed: Items<u16>,
 }
 
 impl Edit {
-    /// The draft, and nothing more.
-    pub fn of(draft: Draft) -> Edit
-        ensures { result ≡ record { draft = draft; processes = None; locks = None; calls = Same; freed = None } }
+    /// The draft, and nothing more. Takes no memory.
+    pub fn of(alloc: Global, draft: Draft) -> Edit
+        ensures { result ≡ record { draft = draft; processes = None; locks = None; shut = Nothing; calls = Same; freed = [] } }
     {
         Edit {
             draft,
             processes: None,
             locks: None,
+            shut: Shut::Nothing,
             calls: CallsEdit::Same,
-            freed: None,
+            freed: Items::new(alloc),
         }
     }
 
-    /// Nothing.
-    pub fn none() -> Edit
-        ensures { result ≡ record { draft = record { numbered = false; command = None }; processes = None; locks = None; calls = Same; freed = None } }
+    /// Nothing. Takes no memory.
+    pub fn none(alloc: Global) -> Edit
+        ensures { result ≡ record { draft = record { numbered = false; command = None }; processes = None; locks = None; shut = Nothing; calls = Same; freed = [] } }
     {
-        Edit::of(Draft::none())
+        Edit::of(alloc, Draft::none())
     }
 }
 
@@ -82,5 +101,17 @@ pub fn apply_processes(processes: &mut Processes, edit: Option<ProcessEdit>)
     match edit {
         Some(edit) => processes.apply(edit),
         None => {}
+    }
+}
+
+/// Closes what a step closes on the host, with the locks that hang on it. Takes no memory.
+pub fn apply_shut(processes: &mut Processes, locks: &mut LockTable, host: Host, shut: Shut)
+    requires { ShutFits (processes_of processes.old) shut }
+    ensures { (on : ℕ → ℕ → ProcessTable) → shown on host processes.new locks.new ≡ shut_after host (shown on host processes.old locks.old) shut }
+{
+    match shut {
+        Shut::Nothing => {}
+        Shut::Closes { pid, fd } => close_at(processes, locks, host, pid, fd),
+        Shut::Exits { pid } => exit_at(processes, locks, host, pid),
     }
 }

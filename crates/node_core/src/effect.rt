@@ -65,21 +65,18 @@ impl Effect {
         })
     }
 
-    /// The file is asked no longer, and the message is sent after the others.
+    /// One more file is asked no longer, and the message is sent after the others.
     pub fn before(self, file: u16, last: Message) -> Result<Effect, AllocError>
-        ensures { IfOk result (λ effect. effect ≡ record { edit = record self.edit { freed = Some file }; reply = self.reply; sends = self.sends ++ last ∷ [] }) }
+        ensures { IfOk result (λ effect. effect ≡ record { edit = record self.edit { freed = self.edit.freed ++ file ∷ [] }; reply = self.reply; sends = self.sends ++ last ∷ [] }) }
     {
-        let Effect { edit, reply, sends } = self;
-        let mut sends = sends;
-        sends.push(last)?;
-        Ok(Effect {
-            edit: Edit {
-                freed: Some(file),
-                ..edit
-            },
+        let Effect {
+            mut edit,
             reply,
-            sends,
-        })
+            mut sends,
+        } = self;
+        edit.freed.push(file)?;
+        sends.push(last)?;
+        Ok(Effect { edit, reply, sends })
     }
 
     /// The change of a step in which the call took a name, if one did.

@@ -1,10 +1,10 @@
 //! The files of a node.
-ghost use Rattle.std.specs.Prelude.{◌≡◌, ◌-◌, ◌↔◌, Some, IfOk, IsTrue, length};
+ghost use Rattle.std.specs.Prelude.{◌≡◌, ◌-◌, ◌↔◌, Some, IfOk, IsTrue, All, length};
 ghost use Rattle.std.specs.List.{slice_get};
 ghost use Rattle.model.specs.Limits.{IsNumber};
 ghost use Rattle.node_core.specs.State.{first_file};
 ghost use Rattle.node_core.specs.Files.{state_of, file_state};
-ghost use Rattle.node_core.specs.Plans.{files_after, files_told, CommandFits, FreedFits};
+ghost use Rattle.node_core.specs.Plans.{files_after, told, files_told, CommandFits};
 
 use crate::file_row::{FileEdit, FileRow};
 use std::alloc::{AllocError, Global};
@@ -66,14 +66,23 @@ pub fn apply_command(files: &mut Vec<FileRow>, command: Option<FileEdit>)
     }
 }
 
-/// The file is asked no longer, if there is one.
-pub fn clear_asked(files: &mut Vec<FileRow>, freed: Option<u16>)
-    requires { FreedFits (length files.old.items) freed }
-    ensures state { file_state files.new.items ≡ files_told (file_state files.old.items) freed }
+// The file is asked no longer.
+fn clear_one(files: &mut Vec<FileRow>, file: u16)
+    requires { IsNumber (length files.old.items) file }
+    ensures state { file_state files.new.items ≡ told (file_state files.old.items) file }
     ensures count { length files.new.items ≡ length files.old.items }
 {
-    if let Some(file) = freed {
-        let row = &mut files[file as usize - 1];
-        row.clear_asked();
+    let row = &mut files[file as usize - 1];
+    row.clear_asked();
+}
+
+/// These files are asked no longer. Takes no memory.
+pub fn clear_asked(files: &mut Vec<FileRow>, freed: &[u16])
+    requires { All (IsNumber (length files.old.items)) freed.now }
+    ensures state { file_state files.new.items ≡ files_told (file_state files.old.items) freed.now }
+    ensures count { length files.new.items ≡ length files.old.items }
+{
+    for file in freed {
+        clear_one(files, *file);
     }
 }

@@ -9,7 +9,7 @@ ghost use Rattle.node_core.specs.Parts.{node_state, IsCallOf};
 ghost use Rattle.node_core.specs.Plans.{planned, Fits};
 
 use crate::change::Change;
-use crate::edit::{Draft, Edit, apply_processes};
+use crate::edit::{Draft, Edit, apply_processes, apply_shut};
 use crate::event::NodeEvent;
 use crate::file_row::FileRow;
 use crate::files::{apply_command, clear_asked, copy_files, file_of, new_files, same_files};
@@ -184,7 +184,8 @@ impl Node {
     }
 
     /// What the node will do at an event, as `step` says. It costs what the parts that the event
-    /// changes hold, and no more: of the locks those of one owner in one file, of the files one.
+    /// changes hold, and no more: of the locks those of one owner in one file, of the files one, or at an
+    /// `exit` those that the process has open.
     ///
     /// # Errors
     /// Those of `step`.
@@ -211,16 +212,19 @@ impl Node {
             draft,
             processes,
             locks,
+            shut,
             calls,
             freed,
         } = edit;
         let Draft { numbered, command } = draft;
+        let host = self.host();
         self.calls = calls_after(self.calls, numbered);
         apply_processes(&mut self.processes, processes);
         apply_locks(&mut self.locks, locks);
+        apply_shut(&mut self.processes, &mut self.locks, host, shut);
         self.pending.apply(calls);
         apply_command(&mut self.files, command);
-        clear_asked(&mut self.files, freed);
+        clear_asked(&mut self.files, freed.as_slice());
     }
 
     /// Makes a planned change. Takes no memory.
@@ -284,6 +288,7 @@ impl Node {
 mod calls;
 mod commands;
 mod readers;
+mod shuts;
 #[cfg(test)]
 mod tests;
 mod tries;

@@ -16,6 +16,8 @@ pub enum CallsEdit {
     Put(OpenCall, Vec<OpenCall>),
     /// The call with that number is open no longer.
     Gone(u32),
+    /// The call of the process is open no longer, nor is the one with that number.
+    Left { pid: u16, number: u32 },
 }
 
 /// The open calls of a node, in order of arrival; at most one of each process.
@@ -105,6 +107,20 @@ impl OpenCalls {
         Vec::with_capacity(*self.calls.allocator(), self.calls.len() + 1)
     }
 
+    // The call with that number is open no longer.
+    fn drop_call(&mut self, number: u32)
+        ensures { self.new ≡ filter (λ c. not (c.number == number)) self.old }
+    {
+        self.calls.retain(|call| call.number != number);
+    }
+
+    // No call of the process is open any longer.
+    fn drop_calls_of(&mut self, pid: u16)
+        ensures { self.new ≡ filter (λ c. not (c.pid == pid)) self.old }
+    {
+        self.calls.retain(|call| call.pid != pid);
+    }
+
     /// Makes a planned change. Takes no memory.
     pub fn apply(&mut self, edit: CallsEdit)
         requires { HasRoom (length self.old) edit }
@@ -113,7 +129,11 @@ impl OpenCalls {
         match edit {
             CallsEdit::Same => {}
             CallsEdit::Put(call, room) => put_last(&mut self.calls, call, room),
-            CallsEdit::Gone(number) => self.calls.retain(|call| call.number != number),
+            CallsEdit::Gone(number) => self.drop_call(number),
+            CallsEdit::Left { pid, number } => {
+                self.drop_calls_of(pid);
+                self.drop_call(number);
+            }
         }
     }
 

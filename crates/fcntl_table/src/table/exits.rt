@@ -1,28 +1,14 @@
 //! Descriptors that are closed, processes that exit, hosts that are gone.
 ghost use Rattle.std.specs.Prelude.{◌≡◌, true};
-ghost use Rattle.model.specs.Limits.{IsNumber, most_of, most_processes};
+ghost use Rattle.model.specs.Limits.{IsNumber, most_processes};
 ghost use Rattle.model.specs.Table.{is_running, descriptor, closed_if, exited, exited_if, gone};
 ghost use Rattle.fcntl_table.specs.Hosts.{process_at};
 ghost use Rattle.fcntl_table.specs.Tables.{table_of};
 
 use super::{FcntlTable, host_of};
 use model::host::Host;
-use model::limits::{MOST_DESCRIPTORS, MOST_PROCESSES};
-use model::owner::{Kind, Owner};
+use model::limits::MOST_PROCESSES;
 use model::process::Process;
-
-// The owner of that kind and number on the node.
-fn owner(host: Host, kind: Kind, number: u16) -> Owner
-    requires { IsNumber (most_of kind) number }
-    ensures { result ≡ record { node = host.node; incarnation = host.incarnation; kind = kind; number = number } }
-{
-    Owner {
-        node: host.node,
-        incarnation: host.incarnation,
-        kind,
-        number,
-    }
-}
 
 impl FcntlTable {
     /// The node fails: every process of that incarnation exits. Where there can be no such node no
@@ -81,32 +67,23 @@ impl FcntlTable {
     }
 
     // The process exits.
+    #[tactic(auto, unfolding(crate::specs::Tables::table_of))]
     fn exit_on(&mut self, host: Host, pid: u16)
         requires number { IsNumber most_processes pid }
         requires runs { is_running (table_of self.old) (process_at host pid) ≡ true }
         ensures { table_of self.new ≡ exited (table_of self.old) (process_at host pid) }
     {
-        for fd in 0..MOST_DESCRIPTORS {
-            self.close_if(host, pid, fd);
-        }
-        self.hosts.end(host, pid);
+        self.hosts.exit(&mut self.locks, host, pid);
     }
 
     // The descriptor of the process is closed, if there is one.
+    #[tactic(auto, unfolding(crate::specs::Tables::table_of))]
     fn close_if(&mut self, host: Host, pid: u16, fd: u8)
         requires number { IsNumber most_processes pid }
         requires runs { is_running (table_of self.old) (process_at host pid) ≡ true }
         ensures { table_of self.new ≡ closed_if (table_of self.old) (process_at host pid) fd
             (descriptor (table_of self.old) (process_at host pid) fd) }
     {
-        let Some((opened, went)) = self.hosts.close(host, pid, fd) else {
-            return;
-        };
-        self.locks
-            .drop_owner(owner(host, Kind::OfProcess, pid), opened.file);
-        if went {
-            self.locks
-                .drop_owner_anywhere(owner(host, Kind::OfDescription, opened.description));
-        }
+        self.hosts.close(&mut self.locks, host, pid, fd);
     }
 }

@@ -70,7 +70,7 @@ impl Node {
 
     // The number that the next call takes.
     #[tactic(auto, unfolding(crate::specs::Parts::node_state))]
-    fn next_number(&self) -> u32
+    pub(super) fn next_number(&self) -> u32
         requires { (node_state self.now).calls < greatest_number }
         ensures { result ≡ (node_state self.now).calls + 1 }
     {
@@ -164,7 +164,7 @@ impl Node {
         let edit = Edit {
             processes,
             calls: CallsEdit::Gone(number),
-            ..Edit::of(Draft::of_call())
+            ..Edit::of(alloc, Draft::of_call())
         };
         Effect::answered(alloc, edit, self.id(number), reply)
     }
@@ -286,7 +286,8 @@ impl Node {
             Op::Open { file, access } => self.call_open(alloc, pid, file, access),
             Op::Fork { child } => self.call_fork(alloc, pid, child),
             Op::Dup { fd } => self.call_dup(alloc, pid, fd),
-            Op::Close { .. } | Op::Exit => Err(AllocError),
+            Op::Close { fd } => self.call_close(alloc, pid, fd),
+            Op::Exit => self.call_exit(alloc, pid),
             Op::Set {
                 fd,
                 kind,

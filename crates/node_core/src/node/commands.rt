@@ -39,8 +39,8 @@ impl Node {
         ensures fits { IfOk result (λ effect. Fits self.now effect.edit) }
     {
         match self.file(file).answer {
-            None => Ok(Effect::quiet(alloc, Edit::none())),
-            Some(answer) => Effect::sent(alloc, Edit::none(), answer),
+            None => Ok(Effect::quiet(alloc, Edit::none(alloc))),
+            Some(answer) => Effect::sent(alloc, Edit::none(alloc), answer),
         }
     }
 
@@ -61,7 +61,7 @@ impl Node {
         if command.number == self.last(command.file) && command.number >= 1 {
             return self.remembered(alloc, command.file);
         }
-        Ok(Effect::quiet(alloc, Edit::none()))
+        Ok(Effect::quiet(alloc, Edit::none(alloc)))
     }
 
     // The token is raised, the command is done, and the answer to it is remembered.
@@ -133,7 +133,11 @@ impl Node {
         ensures fits { IfOk result (λ effect. Fits self.now effect.edit) }
     {
         let (gives, draft) = self.give_up(command, wanted)?;
-        Effect::sent(alloc, Edit::of(draft), command.answer(self.host(), gives))
+        Effect::sent(
+            alloc,
+            Edit::of(alloc, draft),
+            command.answer(self.host(), gives),
+        )
     }
 
     // Revokes are done in the order of their numbers, each once.
@@ -160,7 +164,7 @@ impl Node {
         ensures fits { Fits self.now result.edit }
     {
         match call {
-            None => Effect::quiet(alloc, Edit::none()),
+            None => Effect::quiet(alloc, Edit::none(alloc)),
             Some(call) => {
                 let refusal = call.intent.refusal(lock);
                 self.answer(alloc, Draft::none(), None, call.number, refusal)
@@ -213,7 +217,7 @@ impl Node {
                 let waiting = self.open_call(call.number);
                 Ok(self.deny(alloc, waiting, lock))
             }
-            _ => Ok(Effect::quiet(alloc, Edit::none())),
+            _ => Ok(Effect::quiet(alloc, Edit::none(alloc))),
         }
     }
 
@@ -224,7 +228,7 @@ impl Node {
         ensures fits { IfOk result (λ effect. Fits self.now effect.edit) }
     {
         if !self.is_for_now(message) {
-            return Ok(Effect::quiet(alloc, Edit::none()));
+            return Ok(Effect::quiet(alloc, Edit::none(alloc)));
         }
         self.deliver(alloc, message)
     }

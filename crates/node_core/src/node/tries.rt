@@ -1,5 +1,5 @@
 //! A node tries an open call about a lock.
-ghost use Rattle.std.specs.Prelude.{◌≡◌, ◌≤◌, false, None, IfOk, IfSome};
+ghost use Rattle.std.specs.Prelude.{◌≡◌, ◌≤◌, ◌<◌, ◌+◌, false, [], All, IfOk, IfSome};
 ghost use Rattle.model.specs.Limits.{IsNumber};
 ghost use Rattle.model.specs.Locks.{lowest_blocker};
 ghost use Rattle.model.specs.Table.{lock_within};
@@ -39,7 +39,7 @@ impl Node {
     }
 
     // Whether a lock of the file was named to its server, with the draft.
-    fn is_asked(&self, draft: &Draft, file: u16) -> bool
+    pub(super) fn is_asked(&self, draft: &Draft, file: u16) -> bool
         requires { IsNumber (node_state self.now).shape.files file }
         ensures { result ≡ ((drafted self.now draft.now).files file).asked }
     {
@@ -118,7 +118,7 @@ impl Node {
         let calls = self.keep_open(&draft, call)?;
         let edit = Edit {
             calls,
-            ..Edit::of(draft)
+            ..Edit::of(alloc, draft)
         };
         Effect::sent(alloc, edit, request)
     }
@@ -137,12 +137,12 @@ impl Node {
         requires locks { LocksFit self.now locks }
         ensures value { answered (with_locks (drafted self.now draft) (locks_after (node_state self.now).table.locks locks)) number reply ≡ effect_of self.now result }
         ensures fits { Fits self.now result.edit }
-        ensures once { result.edit.freed ≡ None }
+        ensures first { result.edit.freed ≡ [] }
     {
         let edit = Edit {
             locks,
             calls: CallsEdit::Gone(number),
-            ..Edit::of(draft)
+            ..Edit::of(alloc, draft)
         };
         Effect::answered(alloc, edit, self.id(number), reply)
     }
@@ -168,13 +168,15 @@ impl Node {
         }
     }
 
-    // The server of the file hears that locks may be gone, where one was named to it.
-    fn tell_freed(&self, file: u16, effect: Effect) -> Result<Effect, AllocError>
+    // The server of the file, which comes after those that hear already, hears that locks may be gone,
+    // where one was named to it.
+    pub(super) fn tell_freed(&self, file: u16, effect: Effect) -> Result<Effect, AllocError>
         requires file { IsNumber (node_state self.now).shape.files file }
         requires fits { Fits self.now effect.edit }
-        requires once { effect.edit.freed ≡ None }
+        requires rises { All (λ f. f < file) effect.edit.freed }
         ensures value { IfOk result (λ told. with_freed file (effect_of self.now effect) ≡ effect_of self.now told) }
         ensures fits { IfOk result (λ told. Fits self.now told.edit) }
+        ensures rises { IfOk result (λ told. All (λ f. f < file + 1) told.edit.freed) }
     {
         if !self.is_asked(&effect.edit.draft, file) {
             return Ok(effect);
@@ -264,7 +266,7 @@ impl Node {
         ensures fits { IfOk result (λ effect. Fits self.now effect.edit) }
     {
         match call {
-            None => Ok(Effect::quiet(alloc, Edit::of(draft))),
+            None => Ok(Effect::quiet(alloc, Edit::of(alloc, draft))),
             Some(call) => self.try_call(alloc, draft, &call),
         }
     }

@@ -1,15 +1,22 @@
-use Rattle.std.specs.Prelude.{false}
-use Rattle.std.proofs.Common.{ap, sym, subst, ◌∙◌}
-use Rattle.node_core.specs.State.{FileState}
-use Rattle.node_core.specs.Files.{state_of, file_state}
-use Rattle.node_core.specs.Plans.{files_told, FreedFits}
-use Rattle.node_core.proofs.FileLaws.{file_state-change}
+use Rattle.std.specs.Prelude.{slice_index_or}
+use Rattle.std.proofs.Common.{arith, ap, sym, take, ◌<◌, length, ◌∙◌}
+use Rattle.std.proofs.lemmas.List.{take_more}
+use Rattle.node_core.specs.Files.{file_state}
+use Rattle.node_core.specs.Plans.{told, files_told}
+use Rattle.node_core.proofs.PlanLaws.{told-push}
 use Rattle.node_core.proofs.files.clear_asked.Goals as goal
 
-pub returns-in-Some-clause-state : goal.returns-in-Some-clause-state
-returns-in-Some-clause-state c =
-    let files = c.args.files.now.items in
-    let clear : FileState → FileState = λ f. record f { asked = false } in
-    let made = c.clear_asked.ensures ∙ ap (λ r. clear (state_of r)) c.index_mut-row.ensures.value in
-    file_state-change files c.in-Some.file c.index_mut-row.result.now c.clear_asked.new.self clear (rw c.in-Some.is at c.requires) c.index_mut-row.ensures.value made
-    ∙ sym (ap (files_told (file_state files)) c.in-Some.is)
+pub loop-file-preserved : goal.loop-file-preserved
+loop-file-preserved c =
+    let i = c.loop-file.file-index in
+    let freed = c.args.freed.now in
+    let files = file_state c.args.files.now.items in
+    let within : i < length freed = omega (arith, c.loop-file-test.true) in
+    record {
+      state =
+          c.clear_one.ensures.state
+          ∙ ap (λ known. told known (slice_index_or freed i 0)) c.loop-file.invariant.state
+          ∙ sym (told-push files (take i freed) (slice_index_or freed i 0))
+          ∙ sym (ap (files_told files) (take_more freed i 0 within));
+      count = c.clear_one.ensures.count ∙ c.loop-file.invariant.count;
+    }

@@ -1,21 +1,28 @@
-use Rattle.std.proofs.Common.{refl}
-use Rattle.model.specs.Descriptors.{no_processes}
-use Rattle.descriptors.specs.Rows.{processes}
-use Rattle.fcntl_table.proofs.HostLaws.{closes_on, changes-written, changes-nothing, hosts-written}
+use Rattle.std.proofs.Common.{ap, sym, ◌∙◌}
+use Rattle.model.specs.Descriptors.{Processes}
+use Rattle.model.specs.Table.{Table, descriptor, closed_if}
+use Rattle.fcntl_table.specs.Hosts.{HostRows, process_at, processes_of}
+use Rattle.fcntl_table.proofs.HostLaws.{changes-nothing, changes-written, hosts-written, processes-found, runs-nowhere, shut_on}
 use Rattle.fcntl_table.proofs.hosts.Hosts.close.Goals as goal
 
-pub returns-in_err-node-clause-closes : goal.returns-in_err-node-clause-closes
-returns-in_err-node-clause-closes c =
-    let changes = changes-nothing c.args.self.now c.self.inside.by_host c.get_mut.follows.lender-at-none c.args.host c.self.view_is c.in_err-node.ensures.value c.get_mut.follows.holds-at-none in
-    closes_on c.args.self.now _ c.args.host c.args.pid c.args.fd no_processes no_processes c.from_residual.result changes (rw c.from_residual.ensures (λ runs. refl, refl))
+pub returns-in_default : goal.returns-in_default
+returns-in_default c =
+    let changes = changes-nothing c.args.self.now c.self.inside.by_host c.get_mut.follows.lender-at-none c.args.host c.self.view_is c.in_default.ensures.value c.get_mut.follows.holds-at-none in
+    absurd (runs-nowhere c.args.self.now c.args.host c.args.pid changes.was c.requires.runs)
+
+pub close_at-requires-clause-runs : goal.close_at-requires-clause-runs
+close_at-requires-clause-runs c =
+    let was = ap (λ (hosts : HostRows). processes_of hosts c.args.host.node c.args.host.incarnation) (sym c.self.view_is) ∙ processes-found c.self.inside.by_host.entries c.args.host c.in-Some.node.now c.in-Some.ensures.value in
+    ap (λ (ps : Processes). ps.runs c.args.pid) (sym was) ∙ c.requires.runs
 
 pub invariant_of-self-2 : goal.invariant_of-self-2
 invariant_of-self-2 c =
-    hosts-written c.self.inside.by_host _ c.args.host c.in_ok-node.node.now c.close_in.new.node c.self.invariant c.in_ok-node.ensures.value (c.get_mut.follows.holds c.close_in.new.node)
+    hosts-written c.self.inside.by_host _ c.args.host c.in-Some.node.now c.close_at.new.processes c.self.invariant c.in-Some.ensures.value (c.get_mut.follows.holds c.close_at.new.processes)
 
-pub returns-clause-closes : goal.returns-clause-closes
-returns-clause-closes c =
-    let rows = c.in_ok-node.node.now in
-    let written = c.close_in.new.node in
-    let changes = changes-written c.args.self.now c.self.inside.by_host _ c.args.host rows written c.self.view_is c.in_ok-node.ensures.value (c.get_mut.follows.holds written) in
-    closes_on c.args.self.now _ c.args.host c.args.pid c.args.fd (processes rows) (processes written) c.close_in.result changes c.close_in.ensures.closes
+pub returns : goal.returns
+returns c =
+    let rows = c.in-Some.node.now in
+    let written = c.close_at.new.processes in
+    let changes = changes-written c.args.self.now c.self.inside.by_host _ c.args.host rows written c.self.view_is c.in-Some.ensures.value (c.get_mut.follows.holds written) in
+    let made : Table → Table = λ t. closed_if t (process_at c.args.host c.args.pid) c.args.fd (descriptor t (process_at c.args.host c.args.pid) c.args.fd) in
+    shut_on made c.args.self.now _ c.args.host rows written c.args.locks.now c.close_at.new.locks changes c.close_at.ensures

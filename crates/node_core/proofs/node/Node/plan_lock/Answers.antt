@@ -1,5 +1,5 @@
 use Rattle.std.specs.Prelude.{◌≤◌, ◌<◌, Err}
-use Rattle.std.proofs.Common.{◌≡◌, ap, sym, subst, ◌∙◌}
+use Rattle.std.proofs.Common.{◌≡◌, ap, subst}
 use Rattle.intervals.specs.Bytes.{put}
 use Rattle.intervals.specs.Runs.{value_at}
 use Rattle.model.specs.Locks.{replace, with_lock, regions}

@@ -1,0 +1,68 @@
+//! One host's descriptors that are closed, and its processes that exit.
+ghost use Rattle.std.specs.Prelude.{◌≡◌, ℕ, true, IfSome};
+ghost use Rattle.model.specs.Limits.{IsNumber, most_of, most_processes, most_descriptions};
+ghost use Rattle.model.specs.Descriptors.{Processes as ProcessTable};
+ghost use Rattle.model.specs.Table.{descriptor, closed_if, exited};
+ghost use Rattle.descriptors.specs.Rows.{processes as processes_of};
+ghost use Rattle.fcntl_table.specs.Hosts.{Closes, process_at, shown};
+
+use descriptors::processes::Processes;
+use lock_table::lock_table::LockTable;
+use model::host::Host;
+use model::limits::MOST_DESCRIPTORS;
+use model::opened::Opened;
+use model::owner::{Kind, Owner};
+
+// The owner of that kind and number on the host.
+fn owner(host: Host, kind: Kind, number: u16) -> Owner
+    requires { IsNumber (most_of kind) number }
+    ensures { result ≡ record { node = host.node; incarnation = host.incarnation; kind = kind; number = number } }
+{
+    Owner {
+        node: host.node,
+        incarnation: host.incarnation,
+        kind,
+        number,
+    }
+}
+
+// The descriptor is closed. What it referred to, and whether the description went.
+fn close_in(node: &mut Processes, pid: u16, fd: u8) -> Option<(Opened, bool)>
+    ensures closes { Closes (processes_of node.old) pid fd result (processes_of node.new) }
+    ensures number { IfSome result (λ closed. IsNumber most_descriptions closed.0.description) }
+{
+    let opened = node.resolve(pid, fd).ok()?;
+    let went = node.close(pid, fd).ok()?;
+    Some((opened, went))
+}
+
+/// The descriptor of the host's process is closed, if there is one: it refers to nothing from now on; the
+/// locks of the process in that file go, and those of the description if no descriptor of the host refers
+/// to it any more (POSIX.1-2017 `close()`, `fcntl()`; Linux `fcntl(2)`). The number of the process is from
+/// 1 to 256. Takes no memory.
+pub fn close_at(processes: &mut Processes, locks: &mut LockTable, host: Host, pid: u16, fd: u8)
+    requires number { IsNumber most_processes pid }
+    requires runs { (processes_of processes.old).runs pid ≡ true }
+    ensures { (on : ℕ → ℕ → ProcessTable) → shown on host processes.new locks.new ≡ closed_if (shown on host processes.old locks.old) (process_at host pid) fd (descriptor (shown on host processes.old locks.old) (process_at host pid) fd) }
+{
+    let Some((opened, went)) = close_in(processes, pid, fd) else {
+        return;
+    };
+    locks.drop_owner(owner(host, Kind::OfProcess, pid), opened.file);
+    if went {
+        locks.drop_owner_anywhere(owner(host, Kind::OfDescription, opened.description));
+    }
+}
+
+/// The process of the host exits: each of its descriptors is closed, and it runs no longer (POSIX.1-2017
+/// `_Exit()`). Its number is from 1 to 256. Takes no memory.
+pub fn exit_at(processes: &mut Processes, locks: &mut LockTable, host: Host, pid: u16)
+    requires number { IsNumber most_processes pid }
+    requires runs { (processes_of processes.old).runs pid ≡ true }
+    ensures { (on : ℕ → ℕ → ProcessTable) → shown on host processes.new locks.new ≡ exited (shown on host processes.old locks.old) (process_at host pid) }
+{
+    for fd in 0..MOST_DESCRIPTORS {
+        close_at(processes, locks, host, pid, fd);
+    }
+    processes.end(pid);
+}

@@ -1,0 +1,33 @@
+use Rattle.std.specs.Prelude.{◌≡◌, ℕ, ◌<◌, ◌+◌, List, All}
+use Rattle.std.proofs.Common.{arith, ap, sym, subst, ◌∙◌}
+use Rattle.std.proofs.lemmas.List.Elements.{All-nil}
+use Rattle.model.specs.Descriptors.{has_open}
+use Rattle.descriptors.specs.Rows.{processes}
+use Rattle.node_core.specs.Try.{with_freed_of}
+use Rattle.node_core.specs.Parts.{node_state}
+use Rattle.node_core.specs.Plans.{effect_of}
+use Rattle.node_core.proofs.ShutLaws.{freed-zero, freed-more, next-file, last-file}
+use Rattle.node_core.proofs.node.Node.tell_open.Goals as goal
+
+pub loop-before-init : goal.loop-before-init
+loop-before-init c = record {
+  value = freed-zero (has_open (processes c.args.self.now.processes) c.args.pid) (effect_of c.args.self.now c.args.effect);
+  fits = c.requires.fits;
+  rises = subst (λ (files : List ℕ). All (λ f. f < 0 + 1) files) (sym c.requires.first) (All-nil (λ f. f < 0 + 1));
+}
+
+pub tell_if_open-requires-clause-file : goal.tell_if_open-requires-clause-file
+tell_if_open-requires-clause-file c = rw (← c.self.view_is) (next-file _ c.loop-before.before _ c.files-before-end.ensures.value (omega (arith, c.loop-before-test.true)))
+
+pub loop-before-preserved : goal.loop-before-preserved
+loop-before-preserved c = record {
+  value = freed-more (has_open (processes c.args.self.now.processes) c.args.pid) c.loop-before.before (effect_of c.args.self.now c.args.effect) (effect_of c.args.self.now c.loop-before.told) c.loop-before.invariant.value ∙ c.in_ok-told.ensures.value;
+  fits = c.in_ok-told.ensures.fits;
+  rises = c.in_ok-told.ensures.rises;
+}
+
+pub returns-clause-value : goal.returns-clause-value
+returns-clause-value c =
+    let last : (node_state c.args.self.now).shape.files ≡ c.loop-before.before = rw (← c.self.view_is) (last-file _ c.loop-before.before _ c.files-before-end.ensures.value (omega (arith, c.loop-before-test.false))) in
+    ap (λ (n : ℕ). with_freed_of (has_open (processes c.args.self.now.processes) c.args.pid) n (effect_of c.args.self.now c.args.effect)) last
+    ∙ c.loop-before.invariant.value

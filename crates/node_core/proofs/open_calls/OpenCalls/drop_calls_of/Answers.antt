@@ -1,0 +1,9 @@
+use Rattle.std.specs.Prelude.{◌==◌, not, filter}
+use Rattle.std.proofs.Common.{ap, ◌∙◌, rules, tests}
+use Rattle.std.proofs.lemmas.Fn.{filter_same}
+use Rattle.node_core.proofs.open_calls.OpenCalls.drop_calls_of.Goals as goal
+
+pub returns : goal.returns
+returns c =
+    filter_same _ (λ d. not (d.pid == c.args.pid)) _ (λ x b q k. search (rules, tests)) _ _ c.retain.ensures.filtered
+    ∙ ap (filter (λ d. not (d.pid == c.args.pid))) c.self.view_is
