@@ -1,11 +1,49 @@
--- The set of the messages that were sent.
-use Rattle.std.specs.Prelude.{◌≡◌, List}
+-- An index of the messages that were sent.
+use Rattle.std.specs.Prelude.{◌≡◌, ◌<◌, ℕ, ◌%◌, Bool, false, ◌||◌, nat_eq, List, length, take, slice_get, Option, Some, None}
+use Rattle.std.specs.List.{fold}
+use Rattle.std.specs.Hash.FoldHasher.{initial, write, finish}
 use Rattle.std.specs.declared.hash.FoldHasher.{FoldHasher}
 use Rattle.std.specs.declared.hash.BuildHasherDefault.{BuildHasherDefault}
+use Rattle.std.specs.HashMap.{HashMap, get}
 use Rattle.std.specs.HashSet.{HashSet, contains}
 use Rattle.messages.specs.declared.message.Message.{Message}
 use Rattle.messages.specs.Messages.{same_message, is_among}
+use Rattle.messages.specs.contracts.message.MessageHash.TheImpl as hashed
 
--- the set has the messages of the list, and no others
-abbrev pub Knows : HashSet Message (BuildHasherDefault FoldHasher) → List Message → Type 0
-Knows known messages = (m : Message) → contains same_message known m ≡ is_among messages m
+-- 32 bits of the message's hash
+abbrev pub fingerprint : Message → ℕ
+fingerprint m = finish (fold write initial (hashed.ghosts.hash_input m)) % 4294967296
+
+-- by its fingerprint the place of a message in the order of sending
+abbrev pub Places : Type 0
+Places = HashMap ℕ ℕ (BuildHasherDefault FoldHasher)
+
+abbrev pub Others : Type 0
+Others = HashSet Message (BuildHasherDefault FoldHasher)
+
+abbrev pub is_this : Message → Option Message → Bool
+is_this m None = false
+is_this m (Some other) = same_message m other
+
+-- the message stands at that place
+abbrev pub stands_at : List Message → Message → Option ℕ → Bool
+stands_at sent m None = false
+stands_at sent m (Some k) = is_this m (slice_get sent k)
+
+-- the index has the message: at the place of its fingerprint, or among the others
+abbrev pub has : Places → Others → List Message → Message → Bool
+has places others sent m = stands_at sent m (get nat_eq places (fingerprint m)) || contains same_message others m
+
+-- the index has the first n messages, and no others
+pub record KnowsFirst (places : Places) (others : Others) (sent : List Message) (n : ℕ) : Type 0 where
+  pub finds : (m : Message) → has places others sent m ≡ is_among (take n sent) m
+  pub before : (f k : ℕ) → get nat_eq places f ≡ Some k → k < n
+
+-- the index has the messages, and no others
+abbrev pub Knows : Places → Others → List Message → Type 0
+Knows places others sent = KnowsFirst places others sent (length sent)
+
+-- the index says the same as the old one
+pub record SaysTheSame (old_places : Places) (old_others : Others) (places : Places) (others : Others) : Type 0 where
+  pub at_places : (f : ℕ) → get nat_eq places f ≡ get nat_eq old_places f
+  pub of_others : (m : Message) → contains same_message others m ≡ contains same_message old_others m

@@ -4,6 +4,7 @@
 pub mod held_lock;
 pub mod item;
 pub mod journal;
+mod known;
 pub mod laws;
 pub mod run;
 pub mod sent;

@@ -1,19 +1,17 @@
 //! Messages that were sent.
-ghost use Rattle.std.specs.Prelude.{◌≡◌, ◌≤◌, ◌||◌, [], ◌++◌, OnOk, OnErr, length};
-ghost use Rattle.std.specs.HashSet.{contains, spare};
-ghost use Rattle.messages.specs.declared.message.Message.{Message};
-ghost use Rattle.messages.specs.Messages.{same_message, is_among};
+ghost use Rattle.std.specs.Prelude.{◌≡◌, [], ◌++◌, OnOk, OnErr};
+ghost use Rattle.messages.specs.Messages.{is_among};
 
+use crate::known::Known;
 use messages::message::Message;
 use std::alloc::{AllocError, Global};
-use std::collections::HashSet;
 use std::marker::Model;
 
 /// Every message that was sent so far, in order of sending; equal messages stand there each.
 #[derive(Drop)]
 pub struct Sent {
     messages: Vec<Message>,
-    known: HashSet<Message>,
+    known: Known,
 }
 
 impl Model for Sent {
@@ -25,7 +23,7 @@ impl Model for Sent {
 
     ghost view = { λ s. s.messages.items };
 
-    ghost invariant = { λ s. Knows s.known s.messages.items };
+    ghost invariant = { λ s. Knows s.known.places s.known.others s.messages.items };
 }
 
 impl Sent {
@@ -35,7 +33,7 @@ impl Sent {
     {
         Sent {
             messages: Vec::new(alloc),
-            known: HashSet::new(alloc),
+            known: Known::new(alloc),
         }
     }
 
@@ -43,7 +41,7 @@ impl Sent {
     pub fn contains(&self, message: &Message) -> bool
         ensures { result ≡ is_among self.now message.now }
     {
-        self.known.contains(message)
+        self.known.has(self.messages.as_slice(), message)
     }
 
     /// The messages in order of sending.
@@ -62,20 +60,9 @@ impl Sent {
         ensures err { OnErr result (self.new ≡ self.old) }
     {
         self.known.reserve(messages.len())?;
+        let start = self.messages.len();
         self.messages.extend_from_slice(messages)?;
-        insert_all(&mut self.known, messages);
+        self.known.note_from(self.messages.as_slice(), start);
         Ok(())
-    }
-}
-
-// The set has these messages too, for which it has room.
-fn insert_all(known: &mut HashSet<Message>, messages: &[Message])
-    requires room { length messages.now ≤ spare known.old }
-    ensures { (m : Message) → contains same_message known.new m ≡ (contains same_message known.old m || is_among messages.now m) }
-{
-    for message in messages {
-        let Ok(_) = known.insert(*message) else {
-            unreachable!()
-        };
     }
 }
