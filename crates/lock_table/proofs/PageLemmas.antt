@@ -1,11 +1,20 @@
 -- What sets of owners and indexes of pages keep.
-use Rattle.std.proofs.Common.{◌≡◌, ℕ, zero, suc, ◌+◌, ◌*◌, ◌/◌, ◌%◌, ◌^◌, ◌-◌, ◌<◌, ◌≤◌, ◌⊎◌, max, length, get_or, set, List, [], ◌∷◌, refl, ap, sym, ◌∙◌, inl, inr, arith}
+use Rattle.std.proofs.Common.{◌≡◌, ℕ, zero, suc, ◌+◌, ◌*◌, ◌/◌, ◌%◌, ◌^◌, ◌-◌, ◌<◌, ◌≤◌, ◌⊎◌, max, nat_le, length, get_or, set, drop, List, [], ◌∷◌, Option, Some, None, refl, ap, sym, ◌∙◌, inl, inr, arith}
 use Rattle.std.specs.Prelude.{bit_or}
 use Rattle.std.specs.Int.{bit_at, w64}
 use Rattle.std.proofs.lemmas.Nat.Bits.{bit_at_ones, bit_at_or, bit_at-lt, bit_at_set_same}
-use Rattle.std.proofs.lemmas.Bool.{cases_order}
-use Rattle.std.proofs.lemmas.List.{get_or-set_same}
+use Rattle.std.proofs.lemmas.Bool.{cases_order, cases_lt, cases_Bool, and_parts}
+use Rattle.std.proofs.lemmas.Bool.Decides.{nat_tests}
+use Rattle.std.proofs.lemmas.List.{get_or-set_same, get_or-set_other, get_or_default, drop_all}
+use Rattle.intervals.specs.declared.run.Run.{Run}
+use Rattle.intervals.specs.Bytes.{greatest, is_in}
+use Rattle.intervals.specs.Runs.{bytes_of, value_at}
+use Rattle.model.specs.declared.mode.Mode.{Mode}
 use Rattle.model.specs.declared.owner.Owner.{Owner}
+use Rattle.lock_table.specs.declared.row.Row.{Row}
+use Rattle.lock_table.specs.Rows.{held, IsBounded}
+use Rattle.lock_table.proofs.RowLemmas.{is_of, row_place}
+use Rattle.lock_table.proofs.SameRows.{drop_read}
 use Rattle.lock_table.specs.declared.owner_set.OwnerSet.{OwnerSet}
 use Rattle.lock_table.specs.Pages.{flag_of, Has}
 
@@ -56,3 +65,35 @@ has-more w u i lt before o more h = elim (cases_order (flag_of o / 64) i) [
   | inr (inl below) ↦ has-kept w i (get_or u i 0) o (before o below h)
   | inr (inr above) ↦ absurd (omega arith)
 ]
+
+-- a byte of the runs that are left is one of the first of them, or of the others
+pub run-step : (runs : List (Run Mode)) (i : ℕ) (d : Run Mode) (b : ℕ) (m : Mode) → i < length runs → value_at (drop i runs) b ≡ Some m → (((get_or runs i d).lo ≤ b) × (b ≤ (get_or runs i d).hi)) ⊎ (value_at (drop (i + 1) runs) b ≡ Some m)
+unfolding value_at
+run-step runs i d b m lt at =
+    let split : value_at (get_or runs i d ∷ drop (i + 1) runs) b ≡ Some m = rw (drop_read runs i (get_or runs i d) lt (get_or_default runs i d (get_or runs i d) lt)) at at in
+    elim (cases_Bool (is_in (bytes_of (get_or runs i d)) b)) [
+      | inl within ↦ let parts = and_parts (nat_le (get_or runs i d).lo b) (nat_le b (get_or runs i d).hi) within in inl (grind (arith, nat_tests, parts.0), grind (arith, nat_tests, parts.1))
+      | inr out ↦ inr (rw out at split)
+    ]
+
+-- a byte of the rows that are left is one of the first of them, or of the others
+pub row-step : (rows : List Row) (i : ℕ) (r : Row) (f : ℕ) (o : Owner) (b : ℕ) (m : Mode) → i < length rows → r ≡ get_or rows i r → held (drop i rows) f o b ≡ Some m → ((r.file ≡ f) × (r.owner ≡ o) × (value_at r.spans b ≡ Some m)) ⊎ (held (drop (i + 1) rows) f o b ≡ Some m)
+unfolding held
+row-step rows i r f o b m lt is at =
+    let split : held (r ∷ drop (i + 1) rows) f o b ≡ Some m = rw (drop_read rows i r lt is) at at in
+    elim (cases_Bool (is_of r f o)) [
+      | inl this ↦ let place = row_place r f o this in inl (place.0, place.1, rw this at split)
+      | inr differ ↦ inr (rw differ at split)
+    ]
+
+pub runs-end : (runs : List (Run Mode)) (i b : ℕ) (m : Mode) → length runs ≤ i → value_at (drop i runs) b ≡ Some m → ⊥
+unfolding value_at
+runs-end runs i b m le at = let none : None ≡ Some m = rw (drop_all i runs le) at at in absurd cc
+
+pub rows-end : (rows : List Row) (i f : ℕ) (o : Owner) (b : ℕ) (m : Mode) → length rows ≤ i → held (drop i rows) f o b ≡ Some m → ⊥
+unfolding held
+rows-end rows i f o b m le at = let none : None ≡ Some m = rw (drop_all i rows le) at at in absurd cc
+
+-- no byte past the greatest offset is held
+pub bounded-below : (g : ℕ → Option Mode) (b : ℕ) (m : Mode) → IsBounded g → g b ≡ Some m → b ≤ greatest
+bounded-below g b m bounded at = elim (cases_lt greatest b) [ inl past ↦ let none = bounded b past in absurd cc | inr le ↦ le ]

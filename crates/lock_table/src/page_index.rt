@@ -1,9 +1,9 @@
 //! Which owners may hold bytes of which pages.
-ghost use Rattle.std.specs.Prelude.{◌≡◌, ℕ, ◌<◌, ◌≤◌, ◌⊎◌, Some, None, IfOk, length, IsTrue, ◌↔◌};
+ghost use Rattle.std.specs.Prelude.{◌≡◌, ℕ, ◌<◌, ◌≤◌, ◌^◌, ◌⊎◌, Some, IfOk, IsTrue, ◌↔◌};
 ghost use Rattle.intervals.specs.Runs.{value_at};
 ghost use Rattle.model.specs.declared.mode.Mode.{Mode as SomeMode};
 ghost use Rattle.model.specs.declared.owner.Owner.{Owner as SomeOwner};
-ghost use Rattle.lock_table.specs.Rows.{held};
+ghost use Rattle.lock_table.specs.Rows.{held, AreRows, IsBounded};
 ghost use Rattle.lock_table.specs.Pages.{Has, MayHold, HasPage, IsKept, Covers, slot_of};
 
 use crate::owner_set::OwnerSet;
@@ -166,6 +166,7 @@ impl PageIndex {
     // Notes what a row holds.
     fn note_row(&mut self, row: &Row)
         requires kept { IsKept self.old }
+        requires bounded { IsBounded (value_at row.now.spans) }
         ensures kept { IsKept self.new }
         ensures keeps { (f : ℕ) (o : SomeOwner) (b : ℕ) → MayHold self.old f o b → MayHold self.new f o b }
         ensures noted { (b : ℕ) (m : SomeMode) → value_at row.now.spans b ≡ Some m → MayHold self.new row.now.file row.now.owner b }
@@ -179,6 +180,7 @@ impl PageIndex {
 
     /// Forgets all, and notes what the rows hold.
     pub(crate) fn renew(&mut self, rows: &[Row])
+        requires { AreRows rows.now }
         ensures { Covers self.new (held rows.now) }
     {
         if !self.is_kept() {
