@@ -1,4 +1,4 @@
-use Rattle.std.proofs.Common.{rules, arith}
+use Rattle.std.proofs.Common.{rules}
 use Rattle.lock_table.proofs.PageLemmas.{has-kept, has-more}
 use Rattle.lock_table.proofs.owner_set.OwnerSet.join.Goals as goal
 

@@ -1,4 +1,4 @@
-use Rattle.std.proofs.Common.{arith, sym}
+use Rattle.std.proofs.Common.{arith}
 use Rattle.lock_table.proofs.PageLemmas.{bounded-below}
 use Rattle.lock_table.proofs.page_index.PageIndex.note_row.Goals as goal
 
