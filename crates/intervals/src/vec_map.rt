@@ -75,6 +75,13 @@ impl<V: Exact> VecMap<V> {
         self.runs.len() <= edit.runs
     }
 
+    /// The longest runs of one value, from the lowest on.
+    pub fn runs(&self) -> &[Run<V>]
+        ensures { result.now ≡ self.now }
+    {
+        &self.runs
+    }
+
     // The run that has the byte.
     fn run_of(&self, byte: u64) -> Option<Run<V>>
         ensures { MatchOption result (value_at self.now byte ≡ None) (λ run. IsRun (value_at self.now) (bytes_of run) run.value × (run.lo ≤ byte) × (byte ≤ run.hi) × (run.hi ≤ greatest)) }

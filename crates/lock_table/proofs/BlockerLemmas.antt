@@ -305,3 +305,20 @@ rows_step l i r f rows files lt is =
     let order : AreRows (take i l ++ r ∷ []) = subst AreRows next (rows-take l (i + 1) rows) in
     let file : r.file ≡ f = rw (← is) at (files i r lt) in
     subst (λ (m : List Row). IsJoin (held (take i l) f) (locks_of r) (held m f)) (sym next) (rows_join (take i l) r f order file)
+
+-- a row that holds no byte of the span has no lock that blocks
+pub row_away : (r : Row) (owner : Owner) (s : Range) (mode : Mode) → ((b : ℕ) (m : Mode) → s.lo ≤ b → b ≤ s.hi → value_at r.spans b ≡ Some m → ⊥) → IsFree (locks_of r) owner s mode
+row_away r owner s mode none other byte differ lo hi = elim (cases_Bool (same_owner r.owner other)) [
+  | inl same ↦
+      let here : locks_of r other byte ≡ value_at r.spans byte = ap (λ (o : Owner). locks_of r o byte) (sym (owner_exact r.owner other same)) ∙ ap (λ (f : ℕ → Option Mode). f byte) (locks_own r) in
+      rw here (bars_none mode (value_at r.spans byte) (λ m is. absurd (none byte m lo hi is)))
+  | inr apart ↦ rw (ap (λ (f : ℕ → Option Mode). f byte) (locks_other r other apart)) refl
+]
+
+not_after-itself : (a : Option LockInfo) → IfSome a (λ x. IsSomeAnd a (λ z. IsNotAfter z x))
+not_after-itself None = tt
+not_after-itself (Some x) = inr (refl, owner_not_greater x.owner)
+
+-- the lowest that blocks is so with a row more that has none
+pub blocker_past : (g h k : FileLocks) → IsJoin g h k → (owner : Owner) (s : Range) (mode : Mode) (a : Option LockInfo) → IsBlockerOf g owner s mode a → IsFree h owner s mode → IsBlockerOf k owner s mode a
+blocker_past g h k join owner s mode a p free = blocker_join g h k join owner s mode a None a p (record { answer = free; ordered = λ some. absurd cc }) (inl refl) (not_after-itself a) tt

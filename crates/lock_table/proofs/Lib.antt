@@ -5,3 +5,4 @@ pub mod SameRows
 pub mod BlockerLemmas
 pub mod ListingLemmas
 pub mod ListingParts
+pub mod PageLemmas

@@ -2,3 +2,4 @@ pub mod Regions
 pub mod Rows
 pub mod Blockers
 pub mod Listing
+pub mod Pages

@@ -5,6 +5,8 @@ pub mod error;
 pub mod laws;
 pub mod lock_table;
 pub mod order;
+pub mod owner_set;
+pub mod page_index;
 pub mod row;
 
 pub use model::lock_info::LockInfo;

@@ -12,6 +12,7 @@ ghost use Rattle.lock_table.specs.Listing.{IsListing};
 
 use crate::error::LockError;
 use crate::order::{cmp_regions, lowest_of};
+use crate::page_index::PageIndex;
 use crate::row::{Row, Spans};
 use intervals::span::Span;
 use intervals::span_map::{NoMemory, SpanMap};
@@ -22,24 +23,29 @@ use model::owner::Owner;
 use std::alloc::Global;
 use std::marker::Model;
 
+// A table of fewer rows keeps no index.
+const LEAST_ROWS: usize = 64;
+
 /// The record locks of one node: what each owner holds at each byte of each file, by mode. An owner
 /// has at most 1,024 regions in a file, a region being a longest run of bytes in one mode. A call
 /// that answers an error leaves the locks as they were.
 #[derive(Drop)]
 pub struct LockTable {
     rows: Vec<Row>,
+    index: PageIndex,
 }
 
 impl Model for LockTable {
     ghost use Rattle.std.specs.Prelude.{List};
     ghost use Rattle.lock_table.specs.declared.row.Row.{Row};
-    ghost use Rattle.lock_table.specs.Rows.{AreRows};
+    ghost use Rattle.lock_table.specs.Rows.{AreRows, held};
+    ghost use Rattle.lock_table.specs.Pages.{Covers};
 
     ghost Value = { List Row };
 
     ghost view = { λ t. t.rows.items };
 
-    ghost invariant = { λ t. AreRows t.rows.items };
+    ghost invariant = { λ t. AreRows t.rows.items × Covers t.index (held t.rows.items) };
 }
 
 // The place of the row of an owner in a file, or where one belongs.
@@ -78,13 +84,15 @@ fn same_rows(rows: &[Row], others: &[Row]) -> bool
 }
 
 /// What an owner will hold in a file, in a planned change. Where it has no row yet, `room` is an empty
-/// list with room for all rows and that one.
+/// list with room for all rows and that one. Where the table is to keep an index and has none, `index`
+/// has the memory for it.
 #[derive(Drop)]
 pub struct LockEdit {
     pub file: u16,
     pub owner: Owner,
     pub spans: Spans,
     pub room: Vec<Row>,
+    pub index: PageIndex,
 }
 
 // Moves the rows to the list that has room for them.
@@ -118,6 +126,7 @@ impl LockTable {
     {
         LockTable {
             rows: Vec::new(alloc),
+            index: PageIndex::none(alloc),
         }
     }
 
@@ -128,11 +137,15 @@ impl LockTable {
     pub fn copy(&self) -> Result<Self, NoMemory>
         ensures { IfOk result (λ copy. copy ≡ self.now) }
     {
-        let mut rows = Vec::new(*self.rows.allocator());
+        let alloc = *self.rows.allocator();
+        let mut rows = Vec::new(alloc);
         for row in &self.rows {
             rows.push(row.copy()?)?;
         }
-        Ok(LockTable { rows })
+        Ok(LockTable {
+            rows,
+            index: PageIndex::none(alloc),
+        })
     }
 
     /// Whether both have the same locks.
@@ -198,6 +211,15 @@ impl LockTable {
         }
     }
 
+    // Memory for an index, where the table is to keep one and has none.
+    fn index_for(&self) -> Result<PageIndex, NoMemory> {
+        let alloc = *self.rows.allocator();
+        if self.rows.len() < LEAST_ROWS || self.index.is_kept() {
+            return Ok(PageIndex::none(alloc));
+        }
+        PageIndex::with_memory(alloc)
+    }
+
     /// What `set` (with a mode) or `unlock` (with none) would change: a copy of what the owner holds in
     /// the file, and of no other row.
     ///
@@ -226,12 +248,27 @@ impl LockTable {
             return Err(LockError::NoLocks);
         }
         let room = self.room_for(file, owner)?;
+        let index = self.index_for()?;
         Ok(LockEdit {
             file,
             owner,
             spans,
             room,
+            index,
         })
+    }
+
+    // Begins an index in the memory, where there is none yet, and makes one anew that is due. Takes no
+    // memory.
+    fn refresh(&mut self, index: PageIndex)
+        ensures { self.new ≡ self.old }
+    {
+        if index.is_kept() && !self.index.is_kept() {
+            self.index = index;
+            self.index.renew(&self.rows);
+        } else if self.index.is_stale() {
+            self.index.renew(&self.rows);
+        }
     }
 
     // Puts spans that hold some byte in place of what an owner holds in a file. Takes no memory.
@@ -243,10 +280,14 @@ impl LockTable {
     {
         match position(&self.rows, file, owner) {
             Ok(i) => {
+                self.index
+                    .note_change(file, owner, &self.rows[i].spans, &spans);
                 let row = &mut self.rows[i];
                 row.spans = spans;
             }
             Err(i) => {
+                let nothing = Spans::new(*self.rows.allocator());
+                self.index.note_change(file, owner, &nothing, &spans);
                 move_rows(&mut self.rows, room);
                 insert_row(&mut self.rows, i, Row { file, owner, spans });
             }
@@ -264,7 +305,9 @@ impl LockTable {
             owner,
             spans,
             room,
+            index,
         } = edit;
+        self.refresh(index);
         if spans.is_empty() {
             self.drop_owner(owner, file);
         } else {
@@ -295,9 +338,12 @@ impl LockTable {
     pub fn blocker(&self, owner: Owner, file: u16, span: Span, mode: Mode) -> Option<LockInfo>
         ensures { MatchOption result (IsFree (held self.now file) owner span mode) (λ lock. IsLowestBlocker (held self.now file) owner span mode lock) }
     {
+        let near = self.index.near(file, span);
         let mut lowest = None;
         for row in rows_of(&self.rows, file) {
-            lowest = lowest_of(lowest, row.blocker(owner, span, mode));
+            if near.has(row.owner) {
+                lowest = lowest_of(lowest, row.blocker(owner, span, mode));
+            }
         }
         lowest
     }

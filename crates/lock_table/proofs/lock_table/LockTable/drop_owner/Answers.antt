@@ -1,18 +1,23 @@
 use Rattle.std.proofs.Common.{arith}
-use Rattle.lock_table.specs.Rows.{IsRowAt, IsGap}
+use Rattle.std.specs.List.{remove}
+use Rattle.lock_table.specs.Rows.{held, IsRowAt, IsGap}
 use Rattle.lock_table.proofs.RowLemmas.{held-remove, held-same, rows-remove, place_below}
+use Rattle.lock_table.proofs.PageLemmas.{covers-without}
 use Rattle.lock_table.proofs.lock_table.LockTable.drop_owner.Goals as goal
 
 pub remove-requires : goal.remove-requires
 remove-requires c = let lt = place_below _ _ _ _ c.in-Ok.ensures in omega arith
 
 pub invariant_of-self : goal.invariant_of-self
-invariant_of-self c = rw c.remove.ensures.items (rows-remove _ _ c.self.invariant)
+invariant_of-self c =
+    let rows = c.self.inside.rows.items in
+    let at : IsRowAt c.self.inside.rows.items c.in-Ok.i c.args.file c.args.owner = rw (← c.deref.ensures.value) c.in-Ok.ensures in
+    rw c.remove.ensures.items (rows-remove rows c.in-Ok.i c.self.invariant.0, covers-without c.self.inside.index (held rows) (held (remove rows c.in-Ok.i)) c.args.file c.args.owner (held-remove rows c.in-Ok.i c.args.file c.args.owner c.self.invariant.0 at) c.self.invariant.1)
 
 pub returns-in-Ok : goal.returns-in-Ok
 returns-in-Ok c =
     let at : IsRowAt c.self.inside.rows.items c.in-Ok.i c.args.file c.args.owner = rw (← c.deref.ensures.value) c.in-Ok.ensures in
-    rw (c.remove.ensures.items, ← c.self.view_is) (λ j f o. held-remove _ _ _ _ c.self.invariant at f o j)
+    rw (c.remove.ensures.items, ← c.self.view_is) (λ j f o. held-remove _ _ _ _ c.self.invariant.0 at f o j)
 
 pub returns-in_default : goal.returns-in_default
 returns-in_default c =

@@ -1,12 +1,16 @@
 use Rattle.std.proofs.Common.{rules}
 use Rattle.std.proofs.lemmas.Fn.{filter_same}
+use Rattle.std.specs.List.{filter}
+use Rattle.lock_table.specs.Rows.{held}
 use Rattle.lock_table.proofs.RowLemmas.{is_of_other, held-filter, rows-filter}
+use Rattle.lock_table.proofs.PageLemmas.{covers-without_anywhere}
 use Rattle.lock_table.proofs.lock_table.LockTable.drop_owner_anywhere.Goals as goal
 
 pub invariant_of-self : goal.invariant_of-self
 invariant_of-self c =
     let kept = filter_same _ (is_of_other c.args.owner) _ (λ r b f k. search rules) _ _ c.retain.ensures.filtered in
-    rw kept (rows-filter _ _ c.self.invariant)
+    let rows = c.self.inside.rows.items in
+    rw kept (rows-filter (is_of_other c.args.owner) rows c.self.invariant.0, covers-without_anywhere c.self.inside.index (held rows) (held (filter (is_of_other c.args.owner) rows)) c.args.owner (held-filter rows c.args.owner) c.self.invariant.1)
 
 pub returns : goal.returns
 returns c =

@@ -1,0 +1,146 @@
+-- What sets of owners and indexes of pages keep.
+use Rattle.std.proofs.Common.{◌≡◌, ℕ, zero, suc, ◌+◌, ◌*◌, ◌/◌, ◌%◌, ◌^◌, ◌<◌, ◌≤◌, ◌⊎◌, nat_le, eqb, ◌&&◌, length, get_or, set, drop, List, [], ◌∷◌, Option, Some, None, refl, ap, sym, ◌∙◌, inl, inr, arith}
+use Rattle.std.specs.Prelude.{bit_or}
+use Rattle.std.specs.Int.{bit_at, w64}
+use Rattle.std.proofs.lemmas.Nat.Bits.{bit_at_ones, bit_at_or, bit_at-lt, bit_at_set_same}
+use Rattle.std.specs.List.{All}
+use Rattle.std.proofs.lemmas.Bool.{cases_order, cases_lt, cases_Bool, and_parts, eqb-true}
+use Rattle.std.proofs.lemmas.Bool.Decides.{nat_tests}
+use Rattle.std.proofs.lemmas.List.{get_or-set_same, get_or_default, drop_all}
+use Rattle.intervals.specs.declared.run.Run.{Run}
+use Rattle.intervals.specs.Bytes.{Range, greatest, nothing, is_in}
+use Rattle.intervals.specs.Runs.{bytes_of, value_at}
+use Rattle.model.specs.declared.mode.Mode.{Mode}
+use Rattle.model.specs.declared.owner.Owner.{Owner}
+use Rattle.model.specs.Locks.{FileLocks, Locks, replace, without_owner_anywhere}
+use Rattle.model.specs.Owners.{same_owner}
+use Rattle.lock_table.specs.declared.row.Row.{Row}
+use Rattle.lock_table.specs.declared.page_index.PageIndex.{PageIndex}
+use Rattle.lock_table.specs.Rows.{held, AreRows, IsBounded}
+use Rattle.lock_table.proofs.RowLemmas.{is_of, row_place, row_at_from, held-at}
+use Rattle.lock_table.proofs.Orders.{owner_exact, place_itself}
+use Rattle.lock_table.proofs.SameRows.{drop_read}
+use Rattle.lock_table.specs.declared.owner_set.OwnerSet.{OwnerSet}
+use Rattle.lock_table.specs.Pages.{flag_of, Has, MayHold, Covers}
+
+four_words : (w q : ℕ) → q < 4 → get_or (w ∷ w ∷ w ∷ w ∷ []) q 0 ≡ w
+four_words w zero lt = refl
+four_words w (suc zero) lt = refl
+four_words w (suc (suc zero)) lt = refl
+four_words w (suc (suc (suc zero))) lt = refl
+four_words w (suc (suc (suc (suc q)))) lt = absurd (omega arith)
+
+-- a set with each flag has each owner
+pub has_all : (o : Owner) → Has (record { words = 18446744073709551615 ∷ 18446744073709551615 ∷ 18446744073709551615 ∷ 18446744073709551615 ∷ [] }) o
+has_all o = record { set = rw (four_words 18446744073709551615 (flag_of o / 64) (omega arith)) (bit_at_ones 64 (flag_of o % 64) (omega arith)) }
+
+or_left : (a v k : ℕ) → bit_at a k ≡ 1 → bit_at (bit_or a v) k ≡ 1
+or_left a v k h = let below = bit_at-lt v k in bit_at_or a v k ∙ omega (arith, h, below)
+
+or_right : (a v k : ℕ) → bit_at v k ≡ 1 → bit_at (bit_or a v) k ≡ 1
+or_right a v k h = let below = bit_at-lt a k in bit_at_or a v k ∙ omega (arith, h, below)
+
+-- flags that are put in leave the others
+word_kept : (w : List ℕ) (i q k v : ℕ) → bit_at (get_or w q 0) k ≡ 1 → bit_at (get_or (set w i (bit_or (get_or w i 0) v)) q 0) k ≡ 1
+word_kept [] zero q k v h = h
+word_kept [] (suc i) q k v h = h
+word_kept (x ∷ w) zero zero k v h = or_left x v k h
+word_kept (x ∷ w) zero (suc q) k v h = h
+word_kept (x ∷ w) (suc i) zero k v h = h
+word_kept (x ∷ w) (suc i) (suc q) k v h = word_kept w i q k v h
+
+pub has-kept : (w : List ℕ) (i v : ℕ) (o : Owner) → Has (record { words = w }) o → Has (record { words = set w i (bit_or (get_or w i 0) v) }) o
+has-kept w i v o h = record { set = word_kept w i (flag_of o / 64) (flag_of o % 64) v h.set }
+
+-- the flags of the word that is put in
+pub has-joined : (w u : List ℕ) (i : ℕ) (o : Owner) → i < length w → flag_of o / 64 ≡ i → Has (record { words = u }) o → Has (record { words = set w i (bit_or (get_or w i 0) (get_or u i 0)) }) o
+has-joined w u i o lt here h =
+    let flag : bit_at (get_or u i 0) (flag_of o % 64) ≡ 1 = rw (← here) h.set in
+    record { set = rw (here, get_or-set_same w i (bit_or (get_or w i 0) (get_or u i 0)) 0 lt) (or_right (get_or w i 0) (get_or u i 0) (flag_of o % 64) flag) }
+
+-- the owner that is put in
+pub has-added : (w : List ℕ) (o : Owner) → flag_of o / 64 < length w → Has (record { words = set w (flag_of o / 64) (bit_or (get_or w (flag_of o / 64) 0) (1 * 2 ^ (flag_of o % 64) % 2 ^ 64)) }) o
+has-added w o lt = record { set = rw (get_or-set_same w (flag_of o / 64) (bit_or (get_or w (flag_of o / 64) 0) (1 * 2 ^ (flag_of o % 64) % 2 ^ 64)) 0 lt) (bit_at_set_same w64 (get_or w (flag_of o / 64) 0) (flag_of o % 64) (omega arith)) }
+
+-- a word more
+pub has-more : (w u : List ℕ) (i : ℕ) → i < length w → ((o : Owner) → flag_of o / 64 < i → Has (record { words = u }) o → Has (record { words = w }) o) → (o : Owner) → flag_of o / 64 < i + 1 → Has (record { words = u }) o → Has (record { words = set w i (bit_or (get_or w i 0) (get_or u i 0)) }) o
+has-more w u i lt before o more h = elim (cases_order (flag_of o / 64) i) [
+  | inl same ↦ has-joined w u i o lt same h
+  | inr (inl below) ↦ has-kept w i (get_or u i 0) o (before o below h)
+  | inr (inr above) ↦ absurd (omega arith)
+]
+
+-- a byte of the runs that are left is one of the first of them, or of the others
+pub run-step : (runs : List (Run Mode)) (i : ℕ) (d : Run Mode) (b : ℕ) (m : Mode) → i < length runs → value_at (drop i runs) b ≡ Some m → (((get_or runs i d).lo ≤ b) × (b ≤ (get_or runs i d).hi)) ⊎ (value_at (drop (i + 1) runs) b ≡ Some m)
+unfolding value_at
+run-step runs i d b m lt at =
+    let split : value_at (get_or runs i d ∷ drop (i + 1) runs) b ≡ Some m = rw (drop_read runs i (get_or runs i d) lt (get_or_default runs i d (get_or runs i d) lt)) at at in
+    elim (cases_Bool (is_in (bytes_of (get_or runs i d)) b)) [
+      | inl within ↦ let parts = and_parts (nat_le (get_or runs i d).lo b) (nat_le b (get_or runs i d).hi) within in inl (grind (arith, nat_tests, parts.0), grind (arith, nat_tests, parts.1))
+      | inr out ↦ inr (rw out at split)
+    ]
+
+-- a byte of the rows that are left is one of the first of them, or of the others
+pub row-step : (rows : List Row) (i : ℕ) (r : Row) (f : ℕ) (o : Owner) (b : ℕ) (m : Mode) → i < length rows → r ≡ get_or rows i r → held (drop i rows) f o b ≡ Some m → ((r.file ≡ f) × (r.owner ≡ o) × (value_at r.spans b ≡ Some m)) ⊎ (held (drop (i + 1) rows) f o b ≡ Some m)
+unfolding held
+row-step rows i r f o b m lt is at =
+    let split : held (r ∷ drop (i + 1) rows) f o b ≡ Some m = rw (drop_read rows i r lt is) at at in
+    elim (cases_Bool (is_of r f o)) [
+      | inl this ↦ let place = row_place r f o this in inl (place.0, place.1, rw this at split)
+      | inr differ ↦ inr (rw differ at split)
+    ]
+
+pub runs-end : (runs : List (Run Mode)) (i b : ℕ) (m : Mode) → length runs ≤ i → value_at (drop i runs) b ≡ Some m → ⊥
+unfolding value_at
+runs-end runs i b m le at = let none : None ≡ Some m = rw (drop_all i runs le) at at in absurd cc
+
+pub rows-end : (rows : List Row) (i f : ℕ) (o : Owner) (b : ℕ) (m : Mode) → length rows ≤ i → held (drop i rows) f o b ≡ Some m → ⊥
+unfolding held
+rows-end rows i f o b m le at = let none : None ≡ Some m = rw (drop_all i rows le) at at in absurd cc
+
+-- no byte past the greatest offset is held
+pub bounded-below : (g : ℕ → Option Mode) (b : ℕ) (m : Mode) → IsBounded g → g b ≡ Some m → b ≤ greatest
+bounded-below g b m bounded at = elim (cases_lt greatest b) [ inl past ↦ let none = bounded b past in absurd cc | inr le ↦ le ]
+
+-- what is covered still where an owner holds less
+pub covers-without : (x : PageIndex) (h g : Locks) (file : ℕ) (owner : Owner) → ((f : ℕ) (o : Owner) → g f o ≡ replace h file owner nothing f o) → Covers x h → Covers x g
+covers-without x h g file owner is covers f o b m at =
+    let held_still : replace h file owner nothing f o b ≡ Some m = sym (ap (λ (k : ℕ → Option Mode). k b) (is f o)) ∙ at in
+    elim (cases_Bool ((eqb file f) && same_owner owner o)) [
+      | inl same ↦ absurd (let none : None ≡ Some m = rw same at held_still in cc)
+      | inr differ ↦ covers f o b m (rw differ at held_still)
+    ]
+
+pub covers-without_anywhere : (x : PageIndex) (h g : Locks) (owner : Owner) → ((f : ℕ) (o : Owner) → g f o ≡ without_owner_anywhere h owner f o) → Covers x h → Covers x g
+covers-without_anywhere x h g owner is covers f o b m at =
+    let held_still : without_owner_anywhere h owner f o b ≡ Some m = sym (ap (λ (k : ℕ → Option Mode). k b) (is f o)) ∙ at in
+    elim (cases_Bool (same_owner owner o)) [
+      | inl same ↦ absurd (let none : None ≡ Some m = rw same at held_still in cc)
+      | inr differ ↦ covers f o b m (rw differ at held_still)
+    ]
+
+-- what is covered where an owner holds other bytes, once those are noted
+pub covers-changed : (x y : PageIndex) (h g : Locks) (file : ℕ) (owner : Owner) (old new : ℕ → Option Mode) → ((f : ℕ) (o : Owner) → g f o ≡ replace h file owner new f o) → Covers x h → ((f : ℕ) (o : Owner) (b : ℕ) → MayHold x f o b → MayHold y f o b) → ((b : ℕ) (m : Mode) → old b ≡ Some m → h file owner b ≡ Some m) → ((b : ℕ) (m : Mode) → new b ≡ Some m → (old b ≡ Some m) ⊎ MayHold y file owner b) → Covers y g
+covers-changed x y h g file owner old new is covers keeps before noted f o b m at =
+    let held_now : replace h file owner new f o b ≡ Some m = sym (ap (λ (k : ℕ → Option Mode). k b) (is f o)) ∙ at in
+    elim (cases_Bool ((eqb file f) && same_owner owner o)) [
+      | inl same ↦
+          let parts = and_parts (eqb file f) (same_owner owner o) same in
+          let files : file ≡ f = eqb-true file f parts.0 in
+          let owners : owner ≡ o = owner_exact owner o parts.1 in
+          let may : MayHold y file owner b = elim (noted b m (rw same at held_now)) [ inl was ↦ keeps file owner b (covers file owner b m (before b m was)) | inr may ↦ may ] in
+          rw (← files, ← owners) may
+      | inr differ ↦ keeps f o b (covers f o b m (rw differ at held_now))
+    ]
+
+-- a row holds what the rows hold at its place
+pub row_held : (l : List Row) (i : ℕ) (r : Row) → AreRows l → i < length l → r ≡ get_or l i r → held l r.file r.owner ≡ value_at r.spans
+row_held l i r rows lt is = held-at l i r.file r.owner r (row_at_from l i r.file r.owner rows lt (λ d. rw (get_or_default l i d r lt, ← is) (place_itself r.file r.owner))) is
+
+-- an owner that is not near holds no byte of the span
+pub none_near : (x : PageIndex) (near : OwnerSet) (rows part : List Row) (file i : ℕ) (r : Row) (s : Range) → Covers x (held rows) → ((o : Owner) (b : ℕ) → s.lo ≤ b → b ≤ s.hi → MayHold x file o b → Has near o) → held part file ≡ held rows file → AreRows part → All (λ (t : Row). t.file ≡ file) part → i < length part → r ≡ get_or part i r → (Has near r.owner → ⊥) → (b : ℕ) (m : Mode) → s.lo ≤ b → b ≤ s.hi → value_at r.spans b ≡ Some m → ⊥
+none_near x near rows part file i r s covers nearby same order files lt is away b m low high at =
+    let of_file : r.file ≡ file = rw (← is) at (files i r lt) in
+    let own : held part file r.owner ≡ value_at r.spans = rw (← of_file) (row_held part i r order lt is) in
+    let here : held rows file r.owner b ≡ Some m = sym (ap (λ (h : FileLocks). h r.owner b) same) ∙ ap (λ (h : ℕ → Option Mode). h b) own ∙ at in
+    away (nearby r.owner b low high (covers file r.owner b m here))

@@ -1,0 +1,25 @@
+use Rattle.std.proofs.Common.{inl, inr}
+use Rattle.lock_table.proofs.RowLemmas.{row_holds}
+use Rattle.lock_table.proofs.PageLemmas.{row-step, rows-end}
+use Rattle.lock_table.proofs.page_index.PageIndex.renew.Goals as goal
+
+pub note_row-requires-clause-bounded : goal.note_row-requires-clause-bounded
+note_row-requires-clause-bounded c = (row_holds _ _ c.row-item.result c.requires c.loop-row-test.true c.row-item.is).bounded
+
+pub loop-row-preserved : goal.loop-row-preserved
+loop-row-preserved c = record {
+  kept = c.note_row.ensures.kept;
+  covers = λ f o b m at. elim (c.loop-row.invariant.covers f o b m at) [
+    | inl may ↦ inl (c.note_row.ensures.keeps f o b may)
+    | inr left ↦ elim (row-step c.args.rows.now c.loop-row.row-index c.row-item.result f o b m c.loop-row-test.true c.row-item.is left) [
+      | inl this ↦ inl (rw (← this.0, ← this.1) (c.note_row.ensures.noted b m this.2))
+      | inr more ↦ inr more
+    ]
+  ];
+}
+
+pub returns : goal.returns
+returns c = λ f o b m at. elim (c.loop-row.invariant.covers f o b m at) [
+  | inl may ↦ may
+  | inr left ↦ absurd (rows-end c.args.rows.now c.loop-row.row-index f o b m c.loop-row-test.false left)
+]

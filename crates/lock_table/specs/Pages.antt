@@ -1,0 +1,36 @@
+-- Which owners may hold bytes of which pages, as an index has it.
+use Rattle.std.specs.Prelude.{◌≡◌, ℕ, ◌+◌, ◌*◌, ◌/◌, ◌%◌, ◌⊎◌, Some, length, get_or}
+use Rattle.std.specs.Int.{bit_at}
+use Rattle.model.specs.Locks.{Locks}
+use Rattle.model.specs.declared.mode.Mode.{Mode}
+use Rattle.model.specs.declared.owner.Owner.{Owner}
+use Rattle.lock_table.specs.declared.owner_set.OwnerSet.{OwnerSet}
+use Rattle.lock_table.specs.declared.page_index.PageIndex.{PageIndex}
+
+-- the flag of an owner, which it shares with others
+abbrev pub flag_of : Owner → ℕ
+flag_of o = (o.node * 32 + o.number) % 256
+
+-- the set has the owner's flag
+pub record Has (s : OwnerSet) (o : Owner) : Type 0 where
+  pub set : bit_at (get_or s.words (flag_of o / 64) 0) (flag_of o % 64) ≡ 1
+
+-- the place of a page's set, which the page shares with others
+abbrev pub slot_of : ℕ → ℕ → ℕ
+slot_of file page = (page + file * 1031) % 8192
+
+-- the index has memory
+abbrev pub IsKept : PageIndex → Type 0
+IsKept x = length x.sets.items ≡ 8192
+
+-- the set of the page has the owner
+abbrev pub HasPage : PageIndex → ℕ → Owner → ℕ → Type 0
+HasPage x file o page = Has (get_or x.sets.items (slot_of file page) x.long) o
+
+-- where the index is kept, it has the owner among those of long runs or of the byte's page
+pub record MayHold (x : PageIndex) (file : ℕ) (o : Owner) (b : ℕ) : Type 0 where
+  pub noted : IsKept x → Has x.long o ⊎ HasPage x file o (b / 8192)
+
+-- each owner that holds a byte may do so by the index
+abbrev pub Covers : PageIndex → Locks → Type 0
+Covers x h = (f : ℕ) (o : Owner) (b : ℕ) (m : Mode) → h f o b ≡ Some m → MayHold x f o b

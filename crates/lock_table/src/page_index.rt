@@ -1,0 +1,196 @@
+//! Which owners may hold bytes of which pages.
+ghost use Rattle.std.specs.Prelude.{◌≡◌, ℕ, ◌<◌, ◌≤◌, ◌^◌, ◌⊎◌, Some, IfOk, IsTrue, ◌↔◌};
+ghost use Rattle.intervals.specs.Runs.{value_at};
+ghost use Rattle.model.specs.declared.mode.Mode.{Mode as SomeMode};
+ghost use Rattle.model.specs.declared.owner.Owner.{Owner as SomeOwner};
+ghost use Rattle.lock_table.specs.Rows.{held, AreRows, IsBounded};
+ghost use Rattle.lock_table.specs.Pages.{Has, MayHold, HasPage, IsKept, Covers, slot_of};
+
+use crate::owner_set::OwnerSet;
+use crate::row::{Row, Spans};
+use intervals::run::Run;
+use intervals::span::{GREATEST, Span};
+use intervals::span_map::NoMemory;
+use model::mode::Mode;
+use model::owner::Owner;
+use std::alloc::Global;
+
+// How many bytes a page has.
+const PAGE: u64 = 8192;
+
+// How many sets an index has, where it is kept.
+const SETS: usize = 8192;
+
+// A run of more pages is noted as a long one, and a span of more is not looked up.
+const MOST_PAGES: u64 = 32;
+
+// After so many notes an index is due to be made anew, since it doesn't lose what rows give up.
+const MOST_NOTES: u32 = 4096;
+
+/// Which owners may hold bytes of which pages. Each page of each file has a set of owners, which it
+/// shares with others; the owners of long runs have a set of their own. An index without memory is not
+/// kept, and says that each owner may hold each byte. A wrong hint costs time alone.
+#[derive(Drop)]
+pub struct PageIndex {
+    sets: Vec<OwnerSet>,
+    long: OwnerSet,
+    notes: u32,
+}
+
+// The place of a page's set.
+fn slot_of(file: u16, page: u64) -> usize
+    requires { page < 2 ^ 60 }
+    ensures result { result ≡ slot_of file page }
+    ensures within { result < 8192 }
+{
+    ((page + file as u64 * 1031) % SETS as u64) as usize
+}
+
+impl PageIndex {
+    /// An index that is not kept.
+    pub(crate) fn none(alloc: Global) -> Self
+        ensures { (f : ℕ) (o : SomeOwner) (b : ℕ) → MayHold result f o b }
+    {
+        PageIndex {
+            sets: Vec::new(alloc),
+            long: OwnerSet::none(),
+            notes: 0,
+        }
+    }
+
+    /// An index that is kept, with no owner in its sets.
+    ///
+    /// # Errors
+    /// `NoMemory`.
+    pub(crate) fn with_memory(alloc: Global) -> Result<Self, NoMemory>
+        ensures { IfOk result IsKept }
+    {
+        let mut sets = Vec::with_capacity(alloc, SETS)?;
+        sets.resize(SETS, OwnerSet::none())?;
+        Ok(PageIndex {
+            sets,
+            long: OwnerSet::none(),
+            notes: 0,
+        })
+    }
+
+    /// Whether the index is kept.
+    pub(crate) fn is_kept(&self) -> bool
+        ensures { IsTrue result ↔ IsKept self.now }
+    {
+        self.sets.len() == SETS
+    }
+
+    /// Whether it is due to be made anew.
+    pub(crate) fn is_stale(&self) -> bool {
+        self.notes >= MOST_NOTES
+    }
+
+    /// The owners that may hold a byte of the span in the file.
+    pub(crate) fn near(&self, file: u16, span: Span) -> OwnerSet
+        ensures { (o : SomeOwner) (b : ℕ) → span.lo ≤ b → b ≤ span.hi → MayHold self.now file o b → Has result o }
+    {
+        let first = span.lo / PAGE;
+        let last = span.hi / PAGE;
+        if !self.is_kept() || last - first > MOST_PAGES {
+            return OwnerSet::all();
+        }
+        let mut near = self.long;
+        for page in first..last + 1 {
+            near.join(&self.sets[slot_of(file, page)]);
+        }
+        near
+    }
+
+    // Notes that the owner may hold bytes of the page.
+    fn note_page(&mut self, file: u16, owner: Owner, page: u64)
+        requires kept { IsKept self.old }
+        requires page { page < 2 ^ 60 }
+        ensures kept { IsKept self.new }
+        ensures keeps { (f : ℕ) (o : SomeOwner) (b : ℕ) → MayHold self.old f o b → MayHold self.new f o b }
+        ensures pages { (p : ℕ) → HasPage self.old file owner p → HasPage self.new file owner p }
+        ensures noted { HasPage self.new file owner page }
+    {
+        let slot = slot_of(file, page);
+        let mut set = self.sets[slot];
+        set.add(owner);
+        self.sets[slot] = set;
+    }
+
+    // Notes that the owner may hold bytes of the run.
+    fn note_run(&mut self, file: u16, owner: Owner, run: &Run<Mode>)
+        requires kept { IsKept self.old }
+        ensures kept { IsKept self.new }
+        ensures keeps { (f : ℕ) (o : SomeOwner) (b : ℕ) → MayHold self.old f o b → MayHold self.new f o b }
+        ensures noted { (b : ℕ) → run.now.lo ≤ b → b ≤ run.now.hi → MayHold self.new file owner b }
+    {
+        let first = run.lo / PAGE;
+        let last = run.hi / PAGE;
+        if last.saturating_sub(first) > MOST_PAGES {
+            self.long.add(owner);
+            return;
+        }
+        for page in first..last + 1 {
+            self.note_page(file, owner, page);
+        }
+    }
+
+    // Notes that the owner may hold the bytes of the runs that lie in the span or reach into it.
+    fn note_runs(&mut self, file: u16, owner: Owner, runs: &[Run<Mode>], within: Span)
+        requires kept { IsKept self.old }
+        ensures kept { IsKept self.new }
+        ensures keeps { (f : ℕ) (o : SomeOwner) (b : ℕ) → MayHold self.old f o b → MayHold self.new f o b }
+        ensures noted { (b : ℕ) (m : SomeMode) → value_at runs.now b ≡ Some m → within.lo ≤ b → b ≤ within.hi → MayHold self.new file owner b }
+    {
+        for run in runs {
+            if run.lo <= within.hi && within.lo <= run.hi {
+                self.note_run(file, owner, run);
+            }
+        }
+    }
+
+    /// Notes what an owner holds anew in a file.
+    pub(crate) fn note_change(&mut self, file: u16, owner: Owner, old: &Spans, new: &Spans)
+        ensures keeps { (f : ℕ) (o : SomeOwner) (b : ℕ) → MayHold self.old f o b → MayHold self.new f o b }
+        ensures noted { (b : ℕ) (m : SomeMode) → value_at new.now b ≡ Some m → (value_at old.now b ≡ Some m) ⊎ MayHold self.new file owner b }
+    {
+        if !self.is_kept() {
+            return;
+        }
+        self.notes = self.notes.saturating_add(1);
+        if let Some(span) = old.difference(new) {
+            self.note_runs(file, owner, new.runs(), span);
+        }
+    }
+
+    // Notes what a row holds.
+    fn note_row(&mut self, row: &Row)
+        requires kept { IsKept self.old }
+        requires bounded { IsBounded (value_at row.now.spans) }
+        ensures kept { IsKept self.new }
+        ensures keeps { (f : ℕ) (o : SomeOwner) (b : ℕ) → MayHold self.old f o b → MayHold self.new f o b }
+        ensures noted { (b : ℕ) (m : SomeMode) → value_at row.now.spans b ≡ Some m → MayHold self.new row.now.file row.now.owner b }
+    {
+        let whole = Span {
+            lo: 0,
+            hi: GREATEST,
+        };
+        self.note_runs(row.file, row.owner, row.spans.runs(), whole);
+    }
+
+    /// Forgets all, and notes what the rows hold.
+    pub(crate) fn renew(&mut self, rows: &[Row])
+        requires { AreRows rows.now }
+        ensures { Covers self.new (held rows.now) }
+    {
+        if !self.is_kept() {
+            return;
+        }
+        self.sets.fill(OwnerSet::none());
+        self.long = OwnerSet::none();
+        self.notes = 0;
+        for row in rows {
+            self.note_row(row);
+        }
+    }
+}
