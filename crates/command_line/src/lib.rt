@@ -5,5 +5,3 @@ pub mod laws;
 pub mod line;
 mod notes;
 pub mod refusal;
-#[cfg(test)]
-mod tests;

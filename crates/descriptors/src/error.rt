@@ -91,23 +91,3 @@ impl FdError {
         }
     }
 }
-
-#[cfg(test)]
-mod tests {
-    use super::*;
-
-    #[test]
-    fn each_refusal_has_its_reply(rt: HostRuntime) {
-        for (error, reply) in [
-            (ProcessError::NoProcess, Ok(Reply::NoProcess)),
-            (ProcessError::Exists, Ok(Reply::Exists)),
-            (ProcessError::BadFd, Ok(Reply::BadFd)),
-            (ProcessError::TooManyFiles, Ok(Reply::TooManyFiles)),
-            (ProcessError::NoMemory, Err(AllocError)),
-        ] {
-            assert!(rt; error.reply() == reply);
-        }
-        assert!(rt; FdError::NoProcess.reply() == Reply::NoProcess);
-        assert!(rt; FdError::BadFd.reply() == Reply::BadFd);
-    }
-}

@@ -363,6 +363,3 @@ impl Processes {
         same_rows(&self.rows, &other.rows)
     }
 }
-
-#[cfg(test)]
-mod tests;

@@ -17,14 +17,3 @@ pub fn lock_reply(error: LockError) -> Result<Reply, AllocError>
         LockError::NoMemory => Err(AllocError),
     }
 }
-
-#[cfg(test)]
-mod tests {
-    use super::*;
-
-    #[test]
-    fn each_refusal_has_its_reply(rt: HostRuntime) {
-        assert!(rt; lock_reply(LockError::NoLocks) == Ok(Reply::NoLocks));
-        assert!(rt; lock_reply(LockError::NoMemory) == Err(AllocError));
-    }
-}

@@ -289,6 +289,4 @@ mod calls;
 mod commands;
 mod readers;
 mod shuts;
-#[cfg(test)]
-mod tests;
 mod tries;

@@ -152,6 +152,3 @@ impl OpenCalls {
         true
     }
 }
-
-#[cfg(test)]
-mod tests;

@@ -142,6 +142,3 @@ impl Requests {
         self.requests.values().as_slice() == other.requests.values().as_slice()
     }
 }
-
-#[cfg(test)]
-mod tests;

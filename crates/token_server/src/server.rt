@@ -711,6 +711,3 @@ fn denial(
         _ => Ok(Items::new(alloc)),
     }
 }
-
-#[cfg(test)]
-mod tests;

@@ -47,6 +47,3 @@ impl Node {
         self.locks.locks(file)
     }
 }
-
-#[cfg(test)]
-mod tests;

@@ -510,6 +510,126 @@ fn tells_once_that_locks_may_be_gone(rt: HostRuntime) -> Result<(), Fail> {
     Ok(())
 }
 
+#[test]
+fn an_exit_answers_no_call_that_is_open(rt: HostRuntime) -> Result<(), Fail> {
+    let alloc = rt.alloc();
+    let asked = request(3, Wanted::new(HUNDRED, HUNDRED));
+    let moves = [
+        opened(lock_hundred(1), 3, asked),
+        answered(call(1, Op::Exit), 4, Reply::Done),
+        quiet(deny(3, lock_of(2, 1)), None),
+        quiet(NodeEvent::Retry { pid: 1 }, None),
+        answered(unlock_middle(1), 5, Reply::NoProcess),
+        answered(call(1, Op::Exit), 6, Reply::NoProcess),
+    ];
+    let mut node = opens(alloc, Policy::Exact, 1)?;
+    assert_eq!(rt; first_wrong(alloc, &mut node, &moves)?, None);
+    Ok(())
+}
+
+#[test]
+fn a_close_frees_all_locks_of_the_process_in_the_file(rt: HostRuntime) -> Result<(), Fail> {
+    let alloc = rt.alloc();
+    let byte = Span { lo: 99, hi: 99 };
+    let moves = [
+        sends(revoke(2, 1, byte), conflict(2, lock_of(1, 1))),
+        answered(call(1, OPEN), 4, Reply::Fd(1)),
+        freed(call(1, Op::Close { fd: 1 }), 5),
+        sends(revoke(3, 1, byte), released(3, WHOLE)),
+        answered(call(1, Op::Close { fd: 1 }), 6, Reply::BadFd),
+        answered(call(1, OPEN), 7, Reply::Fd(1)),
+    ];
+    let mut node = locks(alloc, Policy::Wide, WHOLE)?;
+    assert_eq!(rt; first_wrong(alloc, &mut node, &moves)?, None);
+    Ok(())
+}
+
+// The same command of the server of file 2.
+fn of_second(event: NodeEvent) -> NodeEvent {
+    let file = 2;
+    match event {
+        NodeEvent::Deliver(
+            Message::Grant {
+                number,
+                call,
+                mode,
+                span,
+                ..
+            },
+        ) => NodeEvent::Deliver(Message::Grant {
+            file,
+            number,
+            call,
+            mode,
+            span,
+        }),
+        NodeEvent::Deliver(
+            Message::Revoke {
+                number,
+                holder,
+                call,
+                mode,
+                wanted,
+                ..
+            },
+        ) => NodeEvent::Deliver(Message::Revoke {
+            file,
+            number,
+            holder,
+            call,
+            mode,
+            wanted,
+        }),
+        other => other,
+    }
+}
+
+// A node whose process 1 has the hundred bytes of file 2 locked by descriptor 0, and those of file 1 by
+// descriptor 1; both servers were named a lock in their way. It took five calls.
+fn locks_two(alloc: Global) -> Result<Box<Node>, Fail> {
+    let mut node = begins(alloc, Policy::Wide)?;
+    let access = Access::ReadWrite;
+    let second = Op::Set {
+        fd: 1,
+        kind: Kind::OfProcess,
+        mode: Mode::Write,
+        start: 0,
+        len: 100,
+    };
+    let events = [
+        call(1, Op::Spawn),
+        call(1, Op::Open { file: 2, access }),
+        call(1, OPEN),
+        lock_hundred(1),
+        of_second(grant(1, 4, WHOLE)),
+        call(1, second),
+        grant(1, 5, WHOLE),
+        of_second(revoke(2, 1, HUNDRED)),
+        revoke(2, 1, HUNDRED),
+    ];
+    goes_on(alloc, &mut node, &events)?;
+    Ok(node)
+}
+
+// Whether the exit of process 1 is answered, and tells the servers of both files, of file 1 first.
+fn exit_tells_both(alloc: Global, node: &Node) -> Result<bool, StepError> {
+    let (_, outcome) = stepped(alloc, node, call(1, Op::Exit))?;
+    let second = Message::Freed {
+        file: 2,
+        holder: HERE,
+    };
+    let told = outcome.sends.as_slice() == [FREED, second].as_slice();
+    Ok(told && outcome.reply == Some((id(6), Reply::Done)))
+}
+
+#[test]
+fn an_exit_tells_the_servers_of_its_files(rt: HostRuntime) -> Result<(), Fail> {
+    let alloc = rt.alloc();
+    let node = locks_two(alloc)?;
+    assert!(rt; exit_tells_both(alloc, &node)?);
+    Ok(())
+}
+
 // Why the event is refused, if it is.
 fn refusal(node: &Node, alloc: Global, event: NodeEvent) -> Option<StepError> {
     node.step(alloc, &event).err()
