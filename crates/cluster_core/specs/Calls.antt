@@ -1,11 +1,14 @@
--- The calls of a run by their names.
+-- The calls of a run by their names, and the items that they come to.
 use Rattle.std.specs.Prelude.{ℕ, Bool, false, if◌then◌else◌, List, [], ◌∷◌, Option, Some, None}
 use Rattle.model.specs.declared.call.CallId.{CallId}
 use Rattle.model.specs.declared.op.Op.{Op}
+use Rattle.model.specs.declared.reply.Reply.{Reply}
 use Rattle.messages.specs.declared.event.Event.{Event}
-use Rattle.messages.specs.declared.event.Event.TheVariants.{Call}
+use Rattle.messages.specs.declared.event.Event.TheVariants.{Call, Declare}
 use Rattle.messages.specs.declared.entry.Entry.{Entry}
 use Rattle.messages.specs.Messages.{same_call}
+use Rattle.cluster_core.specs.declared.item.Item.{Item}
+use Rattle.cluster_core.specs.declared.item.Item.TheVariants.{Answered, Gone}
 
 -- the name is this one
 abbrev pub is_named : CallId → Option CallId → Bool
@@ -21,3 +24,13 @@ called_by _ otherwise = otherwise
 abbrev pub find_call : List Entry → CallId → Option (ℕ × Op)
 find_call [] id = None
 find_call (e ∷ es) id = if is_named id e.call then called_by e.event (find_call es id) else find_call es id
+
+-- the item at that position of a call that is answered so
+abbrev pub item_of : ℕ → CallId → Reply → Option (ℕ × Op) → Option Item
+item_of at id reply None = None
+item_of at id reply (Some c) = Some (Answered at id c.0 c.1 reply)
+
+-- the failure of a node that the event declares
+abbrev pub gone_at : ℕ → ℕ → Event → Option Item
+gone_at at incarnation (Declare node) = Some (Gone at node incarnation)
+gone_at at incarnation _ = None

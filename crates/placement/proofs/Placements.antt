@@ -5,8 +5,8 @@ use Rattle.messages.specs.declared.entry.Entry.{Entry}
 use Rattle.cluster_core.specs.declared.item.Item.{Item}
 use Rattle.cluster_core.specs.Runs.{IsRun}
 use Rattle.cluster_core.specs.Histories.{HasHistory, EachAtItsPlace}
-use Rattle.cluster_core.proofs.Placement.{history_of}
-use Rattle.cluster_core.proofs.Runs.{has_history}
+use Rattle.cluster_core.proofs.history.Placement.{history_of}
+use Rattle.cluster_core.proofs.runs.Runs.{has_history}
 
 -- where a run's items were placed
 pub record IsPlaced (shape : ShapeFields) (es : List Entry) (h : List Item) : Type 0 where

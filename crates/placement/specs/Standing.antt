@@ -5,8 +5,7 @@ use Rattle.model.specs.declared.op.Op.{Op}
 use Rattle.model.specs.declared.reply.Reply.{Reply}
 use Rattle.messages.specs.declared.entry.Entry.{Entry}
 use Rattle.cluster_core.specs.declared.item.Item.{Item}
-use Rattle.cluster_core.specs.Calls.{called_by}
-use Rattle.cluster_core.proofs.Placement.{item_of, gone_at}
+use Rattle.cluster_core.specs.Calls.{called_by, item_of, gone_at}
 use Rattle.placement.specs.declared.slot.Slot.{Slot}
 use Rattle.placement.specs.declared.slot.Slot.TheVariants.{Empty, Declared, Answered}
 

@@ -14,7 +14,7 @@ use Rattle.messages.specs.Shapes.{ShapeFields}
 use Rattle.cluster_core.specs.World.{WorldState, first_world}
 use Rattle.cluster_core.specs.Next.{next}
 use Rattle.cluster_core.specs.Runs.{Leads}
-use Rattle.cluster_core.proofs.JournalRuns.{leads_push, entry_event}
+use Rattle.cluster_core.proofs.runs.JournalRuns.{leads_push, entry_event}
 use Rattle.lockscript.specs.declared.script_line.Command.{Command}
 use Rattle.lockscript.specs.declared.script_line.Command.TheVariants.{Call, Deliver, Lose, Settle, Retry, Resend, Declare, Restart, Learn}
 use Rattle.lockscript.specs.Scripts.{LineFields}

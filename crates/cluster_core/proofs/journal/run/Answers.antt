@@ -11,7 +11,7 @@ use Rattle.cluster_core.specs.Plain.{HasPlainHistory}
 use Rattle.cluster_core.specs.Runs.{IsRun}
 use Rattle.cluster_core.specs.Safe.{LeadsToSafe}
 use Rattle.cluster_core.specs.World.{first_world}
-use Rattle.cluster_core.proofs.JournalRuns.{Ran, ran_empty, ran_more, ran_all, first_refusal, leads_shape}
+use Rattle.cluster_core.proofs.runs.JournalRuns.{Ran, ran_empty, ran_more, ran_all, first_refusal, leads_shape}
 use Rattle.cluster_core.proofs.journal.run.Goals as goal
 
 pub loop-event-init : goal.loop-event-init

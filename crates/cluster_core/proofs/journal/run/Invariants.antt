@@ -1,5 +1,5 @@
 use Rattle.cluster_core.specs.Parts.{world_state}
-use Rattle.cluster_core.proofs.JournalRuns.{Ran}
+use Rattle.cluster_core.proofs.runs.JournalRuns.{Ran}
 use Rattle.cluster_core.proofs.journal.run.Given as goal
 
 abbrev pub invariant-loop-event : goal.invariant-loop-event

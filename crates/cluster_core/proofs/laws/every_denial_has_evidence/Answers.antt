@@ -1,4 +1,4 @@
-use Rattle.cluster_core.proofs.Runs.{every_denial}
+use Rattle.cluster_core.proofs.runs.Runs.{every_denial}
 use Rattle.cluster_core.proofs.laws.every_denial_has_evidence.Goals as goal
 
 pub returns : goal.returns

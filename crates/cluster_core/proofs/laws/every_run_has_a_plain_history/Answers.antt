@@ -1,4 +1,4 @@
-use Rattle.cluster_core.proofs.Runs.{every_plain}
+use Rattle.cluster_core.proofs.runs.Runs.{every_plain}
 use Rattle.cluster_core.proofs.laws.every_run_has_a_plain_history.Goals as goal
 
 pub returns : goal.returns

@@ -1,4 +1,4 @@
-use Rattle.cluster_core.proofs.Runs.{safe_run}
+use Rattle.cluster_core.proofs.runs.Runs.{safe_run}
 use Rattle.cluster_core.proofs.laws.every_run_is_safe.Goals as goal
 
 pub returns : goal.returns

@@ -1,5 +1,5 @@
 use Rattle.std.proofs.Common.{true, refl}
-use Rattle.cluster_core.proofs.Numbered.{begun_empty, begun_more}
+use Rattle.cluster_core.proofs.common.Numbered.{begun_empty, begun_more}
 use Rattle.cluster_core.proofs.world.first_alive.Goals as goal
 
 pub loop-index-init : goal.loop-index-init

@@ -1,5 +1,5 @@
 use Rattle.std.proofs.Common.{true}
-use Rattle.cluster_core.proofs.Numbered.{Begun}
+use Rattle.cluster_core.proofs.common.Numbered.{Begun}
 use Rattle.cluster_core.proofs.world.first_alive.Given as goal
 
 abbrev pub invariant-loop-index : goal.invariant-loop-index

@@ -1,6 +1,6 @@
 use Rattle.node_core.specs.Parts.{node_state}
 use Rattle.node_core.specs.State.{first_node}
-use Rattle.cluster_core.proofs.Numbered.{begun_empty, begun_more}
+use Rattle.cluster_core.proofs.common.Numbered.{begun_empty, begun_more}
 use Rattle.cluster_core.proofs.world.first_nodes.Goals as goal
 
 pub loop-index-init : goal.loop-index-init

@@ -1,6 +1,6 @@
 use Rattle.node_core.specs.Parts.{node_state}
 use Rattle.node_core.specs.State.{first_node}
-use Rattle.cluster_core.proofs.Numbered.{Begun}
+use Rattle.cluster_core.proofs.common.Numbered.{Begun}
 use Rattle.cluster_core.proofs.world.first_nodes.Given as goal
 
 abbrev pub invariant-loop-index : goal.invariant-loop-index

@@ -1,6 +1,6 @@
 use Rattle.token_server.specs.Parts.{server_state}
 use Rattle.token_server.specs.State.{first_server}
-use Rattle.cluster_core.proofs.Numbered.{Begun}
+use Rattle.cluster_core.proofs.common.Numbered.{Begun}
 use Rattle.cluster_core.proofs.world.first_servers.Given as goal
 
 abbrev pub invariant-loop-index : goal.invariant-loop-index

@@ -2,7 +2,7 @@ use Rattle.std.proofs.Common.{◌≤◌, List, length, sym, ◌∙◌, subst}
 use Rattle.messages.specs.Shapes.{IsShape}
 use Rattle.messages.specs.declared.entry.Entry.{Entry}
 use Rattle.cluster_core.specs.World.{journal_limit}
-use Rattle.cluster_core.proofs.Lengths.{run-length}
+use Rattle.cluster_core.proofs.common.Lengths.{run-length}
 use Rattle.placement.proofs.Placements.{is_placed}
 use Rattle.placement.proofs.placed.placed.Goals as goal
 

@@ -1,7 +1,7 @@
 use Rattle.std.proofs.Common.{Bool, ◌||◌, sym, ap, ◌∙◌}
 use Rattle.std.specs.HashSet.{contains}
 use Rattle.messages.specs.Messages.{same_message}
-use Rattle.cluster_core.proofs.KnownMessages.{contains-same_message}
+use Rattle.cluster_core.proofs.steps.KnownMessages.{contains-same_message}
 use Rattle.cluster_core.proofs.known.Known.has.Goals as goal
 
 pub returns-else-is_placed : goal.returns-else-is_placed

@@ -1,6 +1,6 @@
 use Rattle.std.proofs.Common.{nat_eq, sym, ap, ◌∙◌}
 use Rattle.std.specs.HashMap.{get}
-use Rattle.cluster_core.proofs.KnownMessages.{read_there, stands_there, stands_nowhere}
+use Rattle.cluster_core.proofs.steps.KnownMessages.{read_there, stands_there, stands_nowhere}
 use Rattle.cluster_core.proofs.known.Known.is_placed.Goals as goal
 
 pub returns-in-Some-get : goal.returns-in-Some-get

@@ -1,5 +1,5 @@
 use Rattle.std.proofs.Common.{sym, ◌∙◌}
-use Rattle.cluster_core.proofs.KnownMessages.{knows_known, knows_placed, knows_other, read_there}
+use Rattle.cluster_core.proofs.steps.KnownMessages.{knows_known, knows_placed, knows_other, read_there}
 use Rattle.cluster_core.proofs.known.Known.note.Goals as goal
 
 pub returns-then-has-clause-knows : goal.returns-then-has-clause-knows

@@ -1,5 +1,5 @@
 use Rattle.std.proofs.Common.{sym, ◌∙◌}
-use Rattle.cluster_core.proofs.KnownMessages.{contains-same_message}
+use Rattle.cluster_core.proofs.steps.KnownMessages.{contains-same_message}
 use Rattle.cluster_core.proofs.known.Known.reserve.Goals as goal
 
 pub returns-clause-same : goal.returns-clause-same

@@ -6,8 +6,8 @@ use Rattle.cluster_core.specs.Plain.{HasPlainHistory}
 use Rattle.cluster_core.specs.Safe.{LeadsToSafe}
 use Rattle.cluster_core.specs.Numbers.{LeadsToNumbers}
 use Rattle.cluster_core.specs.Evidence.{DenialsHaveEvidence}
-use Rattle.cluster_core.proofs.Apart.{numbers_after}
-use Rattle.cluster_core.proofs.Runs.{every_run, every_plain, safe_run, every_denial}
+use Rattle.cluster_core.proofs.tokens.Apart.{numbers_after}
+use Rattle.cluster_core.proofs.runs.Runs.{every_run, every_plain, safe_run, every_denial}
 use Rattle.cluster_core.proofs.run.Run.into_journal.Goals as goal
 
 pub returns-clause-one_table : goal.returns-clause-one_table

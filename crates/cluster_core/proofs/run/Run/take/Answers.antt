@@ -1,7 +1,7 @@
 use Rattle.std.proofs.Common.{◌∙◌, ap, List, ◌++◌, ◌∷◌, []}
 use Rattle.messages.specs.declared.entry.Entry.{Entry}
 use Rattle.cluster_core.specs.Journals.{RunFields}
-use Rattle.cluster_core.proofs.JournalRuns.{goes_on}
+use Rattle.cluster_core.proofs.runs.JournalRuns.{goes_on}
 use Rattle.cluster_core.proofs.run.Run.take.Goals as goal
 
 pub invariant_of-self-2 : goal.invariant_of-self-2

@@ -2,7 +2,7 @@ use Rattle.std.proofs.Common.{List, ap, ◌∙◌}
 use Rattle.messages.specs.declared.message.Message.{Message}
 use Rattle.messages.specs.Messages.{is_among}
 use Rattle.cluster_core.specs.Known.{has}
-use Rattle.cluster_core.proofs.KnownMessages.{knows_all}
+use Rattle.cluster_core.proofs.steps.KnownMessages.{knows_all}
 use Rattle.cluster_core.proofs.sent.Sent.contains.Goals as goal
 
 pub returns : goal.returns

@@ -1,5 +1,5 @@
 use Rattle.std.proofs.Common.{◌∙◌}
-use Rattle.cluster_core.proofs.KnownMessages.{knows_more}
+use Rattle.cluster_core.proofs.steps.KnownMessages.{knows_more}
 use Rattle.cluster_core.proofs.sent.Sent.extend.Goals as goal
 
 pub invariant_of-self-2 : goal.invariant_of-self-2

@@ -2,7 +2,7 @@ use Rattle.std.proofs.Common.{◌≡◌, ◌∙◌, ◌<◌, ◌≤◌, List, le
 use Rattle.messages.specs.declared.entry.Entry.{Entry}
 use Rattle.cluster_core.specs.World.{first_world}
 use Rattle.cluster_core.specs.Parts.{world_state}
-use Rattle.cluster_core.proofs.Replayed.{replayed_none, replayed_next, replayed_more, replayed_all}
+use Rattle.cluster_core.proofs.runs.Replayed.{replayed_none, replayed_next, replayed_more, replayed_all}
 use Rattle.cluster_core.proofs.world.World.after.Goals as goal
 
 pub loop-entry-init : goal.loop-entry-init

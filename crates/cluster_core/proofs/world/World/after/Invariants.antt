@@ -1,5 +1,5 @@
 use Rattle.cluster_core.specs.Parts.{world_state}
-use Rattle.cluster_core.proofs.Replayed.{Replayed}
+use Rattle.cluster_core.proofs.runs.Replayed.{Replayed}
 use Rattle.cluster_core.proofs.world.World.after.Given as goal
 
 abbrev pub invariant-loop-entry : goal.invariant-loop-entry

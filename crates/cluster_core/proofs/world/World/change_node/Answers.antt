@@ -4,8 +4,8 @@ use Rattle.std.proofs.lemmas.Result.{err_from_is_err_and}
 use Rattle.node_core.specs.Parts.{NodeParts, node_state}
 use Rattle.node_core.specs.Node.{node_rule}
 use Rattle.cluster_core.specs.Parts.{WorldParts, world_state}
-use Rattle.cluster_core.proofs.CertainRefusals.{node_goes}
-use Rattle.cluster_core.proofs.WorldSteps.{node_settled, node_named, node_returns}
+use Rattle.cluster_core.proofs.steps.CertainRefusals.{node_goes}
+use Rattle.cluster_core.proofs.steps.WorldSteps.{node_settled, node_named, node_returns}
 use Rattle.cluster_core.proofs.world.World.change_node.Goals as goal
 
 pub at_node-requires-clause-named : goal.at_node-requires-clause-named

@@ -4,8 +4,8 @@ use Rattle.std.proofs.lemmas.Result.{err_from_is_err_and}
 use Rattle.token_server.specs.Parts.{ServerParts, server_state}
 use Rattle.token_server.specs.Server.{server_rule}
 use Rattle.cluster_core.specs.Parts.{WorldParts, world_state}
-use Rattle.cluster_core.proofs.CertainRefusals.{server_goes}
-use Rattle.cluster_core.proofs.WorldSteps.{server_names, server_returns}
+use Rattle.cluster_core.proofs.steps.CertainRefusals.{server_goes}
+use Rattle.cluster_core.proofs.steps.WorldSteps.{server_names, server_returns}
 use Rattle.cluster_core.proofs.world.World.change_server.Goals as goal
 
 pub new-requires-clause-named : goal.new-requires-clause-named

@@ -1,6 +1,6 @@
 use Rattle.std.proofs.Common.{ap, ◌∙◌}
 use Rattle.node_core.specs.State.{NodeState}
-use Rattle.cluster_core.proofs.MemberSteps.{declared_settled, declared_returns}
+use Rattle.cluster_core.proofs.steps.MemberSteps.{declared_settled, declared_returns}
 use Rattle.cluster_core.proofs.world.World.declare.Goals as goal
 
 pub invariant_of-self : goal.invariant_of-self

@@ -7,8 +7,8 @@ use Rattle.lock_table.proofs.ListingLemmas.{listing_from, locks_weak}
 use Rattle.node_core.specs.Parts.{node_state}
 use Rattle.cluster_core.specs.Parts.{WorldParts, world_state}
 use Rattle.cluster_core.specs.Union.{union}
-use Rattle.cluster_core.proofs.TokenLists.{is_number}
-use Rattle.cluster_core.proofs.LockLists.{no_regions, more_regions, all_regions}
+use Rattle.cluster_core.proofs.listings.TokenLists.{is_number}
+use Rattle.cluster_core.proofs.listings.LockLists.{no_regions, more_regions, all_regions}
 use Rattle.cluster_core.proofs.world.World.file_locks.Goals as goal
 
 pub loop-index-init : goal.loop-index-init

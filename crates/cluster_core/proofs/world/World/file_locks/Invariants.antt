@@ -1,6 +1,6 @@
 use Rattle.lock_table.specs.Listing.{ListsRegions}
 use Rattle.cluster_core.specs.Parts.{world_state}
-use Rattle.cluster_core.proofs.LockLists.{first_locks}
+use Rattle.cluster_core.proofs.listings.LockLists.{first_locks}
 use Rattle.cluster_core.proofs.world.World.file_locks.Given as goal
 
 abbrev pub invariant-loop-index : goal.invariant-loop-index

@@ -1,7 +1,7 @@
 use Rattle.std.proofs.Common.{◌≡◌, true, sym, subst}
 use Rattle.messages.specs.Messages.{is_within}
 use Rattle.cluster_core.specs.Parts.{WorldParts, alive_at}
-use Rattle.cluster_core.proofs.WorldSteps.{read_alive}
+use Rattle.cluster_core.proofs.steps.WorldSteps.{read_alive}
 use Rattle.cluster_core.proofs.world.World.is_alive.Goals as goal
 
 pub returns : goal.returns

@@ -4,8 +4,8 @@ use Rattle.cluster_core.specs.declared.held_lock.HeldLock.{HeldLock}
 use Rattle.model.specs.declared.lock_info.LockInfo.{LockInfo}
 use Rattle.cluster_core.specs.Parts.{WorldParts, world_state}
 use Rattle.cluster_core.specs.Listings.{Adds, IsHeldBefore, held_lock}
-use Rattle.cluster_core.proofs.TokenLists.{is_number}
-use Rattle.cluster_core.proofs.LockLists.{IsHeldInFirst, adds_locks, held_none, held_next, held_all}
+use Rattle.cluster_core.proofs.listings.TokenLists.{is_number}
+use Rattle.cluster_core.proofs.listings.LockLists.{IsHeldInFirst, adds_locks, held_none, held_next, held_all}
 use Rattle.cluster_core.proofs.world.World.locks.Goals as goal
 
 pub loop-index-init : goal.loop-index-init

@@ -1,7 +1,7 @@
 use Rattle.std.proofs.Common.{[]}
 use Rattle.cluster_core.specs.Parts.{world_state}
 use Rattle.cluster_core.specs.Listings.{Adds, IsHeldBefore}
-use Rattle.cluster_core.proofs.LockLists.{IsHeldInFirst}
+use Rattle.cluster_core.proofs.listings.LockLists.{IsHeldInFirst}
 use Rattle.cluster_core.proofs.world.World.locks.Given as goal
 
 abbrev pub invariant-loop-index : goal.invariant-loop-index

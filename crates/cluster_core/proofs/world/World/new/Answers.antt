@@ -1,5 +1,5 @@
 use Rattle.std.proofs.Common.{arith}
-use Rattle.cluster_core.proofs.WorldSteps.{first_is_world, first_is_first}
+use Rattle.cluster_core.proofs.steps.WorldSteps.{first_is_world, first_is_first}
 use Rattle.cluster_core.proofs.world.World.new.Goals as goal
 
 pub invariant_of-result : goal.invariant_of-result

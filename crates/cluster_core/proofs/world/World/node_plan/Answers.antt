@@ -9,7 +9,7 @@ use Rattle.node_core.specs.Node.{node_rule}
 use Rattle.node_core.specs.State.{NodeState}
 use Rattle.node_core.specs.Parts.{NodeParts}
 use Rattle.node_core.specs.Plans.{Fits, planned}
-use Rattle.cluster_core.proofs.WorldSteps.{read_node, plan_found}
+use Rattle.cluster_core.proofs.steps.WorldSteps.{read_node, plan_found}
 use Rattle.cluster_core.proofs.world.World.node_plan.Goals as goal
 
 pub returns-clause-ok : goal.returns-clause-ok

@@ -3,7 +3,7 @@ use Rattle.std.proofs.lemmas.Result.{err_from_is_err_and}
 use Rattle.messages.specs.Refusals.{refused_by}
 use Rattle.messages.specs.declared.refusal.Refused.{Refused}
 use Rattle.cluster_core.specs.Parts.{world_state}
-use Rattle.cluster_core.proofs.CertainRefusals.{err_is, node_refused}
+use Rattle.cluster_core.proofs.steps.CertainRefusals.{err_is, node_refused}
 use Rattle.cluster_core.proofs.world.World.plan_node.Goals as goal
 
 pub returns-in_err-change-clause-refused : goal.returns-in_err-change-clause-refused

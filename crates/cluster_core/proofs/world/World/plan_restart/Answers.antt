@@ -1,5 +1,5 @@
 use Rattle.std.proofs.Common.{◌≡◌, ◌<◌, false, rules, refl, sym, ◌∙◌}
-use Rattle.cluster_core.proofs.MemberSteps.{none_left, may_restart, not_refused}
+use Rattle.cluster_core.proofs.steps.MemberSteps.{none_left, may_restart, not_refused}
 use Rattle.cluster_core.proofs.world.World.plan_restart.Goals as goal
 
 pub returns-then-last-clause-err : goal.returns-then-last-clause-err

@@ -5,7 +5,7 @@ use Rattle.model.specs.declared.level.Level.{Level}
 use Rattle.node_core.specs.Parts.{node_state}
 use Rattle.cluster_core.specs.Parts.{world_state}
 use Rattle.cluster_core.specs.Listings.{token_run}
-use Rattle.cluster_core.proofs.TokenLists.{adds_file}
+use Rattle.cluster_core.proofs.listings.TokenLists.{adds_file}
 use Rattle.cluster_core.proofs.world.World.push_file_tokens.Goals as goal
 
 pub returns : goal.returns

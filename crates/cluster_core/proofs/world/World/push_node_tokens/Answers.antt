@@ -1,10 +1,10 @@
 use Rattle.std.proofs.Common.{◌≡◌, ◌∙◌, ap, arith, false, rules, sym}
 use Rattle.std.proofs.lemmas.Result.{IfOk-from_err}
 use Rattle.cluster_core.specs.Parts.{WorldParts, world_state}
-use Rattle.cluster_core.proofs.TokenLists.{no_files, next_file, all_files}
+use Rattle.cluster_core.proofs.listings.TokenLists.{no_files, next_file, all_files}
 use Rattle.cluster_core.specs.Listings.{IsTokenOf, IsTokenBefore}
-use Rattle.cluster_core.proofs.Lists.{adds_none}
-use Rattle.cluster_core.proofs.MemberSteps.{dead_token}
+use Rattle.cluster_core.proofs.common.Lists.{adds_none}
+use Rattle.cluster_core.proofs.steps.MemberSteps.{dead_token}
 use Rattle.cluster_core.proofs.world.World.push_node_tokens.Goals as goal
 
 pub loop-index-init : goal.loop-index-init

@@ -1,6 +1,6 @@
 use Rattle.cluster_core.specs.Parts.{world_state}
 use Rattle.cluster_core.specs.Listings.{Adds, IsTokenBefore}
-use Rattle.cluster_core.proofs.TokenLists.{IsOfFirstFiles}
+use Rattle.cluster_core.proofs.listings.TokenLists.{IsOfFirstFiles}
 use Rattle.cluster_core.proofs.world.World.push_node_tokens.Given as goal
 
 abbrev pub invariant-loop-index : goal.invariant-loop-index

@@ -1,5 +1,5 @@
 use Rattle.cluster_core.specs.Parts.{world_state}
-use Rattle.cluster_core.proofs.Replayed.{made_again, not_refused}
+use Rattle.cluster_core.proofs.runs.Replayed.{made_again, not_refused}
 use Rattle.cluster_core.proofs.world.World.repeat.Goals as goal
 
 pub returns-in_default : goal.returns-in_default

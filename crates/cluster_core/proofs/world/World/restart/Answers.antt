@@ -1,4 +1,4 @@
-use Rattle.cluster_core.proofs.MemberSteps.{restarted_settled, restarted_returns}
+use Rattle.cluster_core.proofs.steps.MemberSteps.{restarted_settled, restarted_returns}
 use Rattle.cluster_core.proofs.world.World.restart.Goals as goal
 
 pub invariant_of-self : goal.invariant_of-self

@@ -10,7 +10,7 @@ use Rattle.token_server.specs.Server.{server_rule}
 use Rattle.token_server.specs.State.{ServerState}
 use Rattle.token_server.specs.Parts.{ServerParts, server_state}
 use Rattle.token_server.specs.Edits.{planned}
-use Rattle.cluster_core.proofs.WorldSteps.{read_server}
+use Rattle.cluster_core.proofs.steps.WorldSteps.{read_server}
 use Rattle.cluster_core.proofs.world.World.server_plan.Goals as goal
 
 pub returns-clause-ok : goal.returns-clause-ok

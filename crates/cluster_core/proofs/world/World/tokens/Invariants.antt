@@ -1,7 +1,7 @@
 use Rattle.std.proofs.Common.{[]}
 use Rattle.cluster_core.specs.Parts.{world_state}
 use Rattle.cluster_core.specs.Listings.{Adds, IsTokenBefore}
-use Rattle.cluster_core.proofs.TokenLists.{IsOfFirstNodes}
+use Rattle.cluster_core.proofs.listings.TokenLists.{IsOfFirstNodes}
 use Rattle.cluster_core.proofs.world.World.tokens.Given as goal
 
 abbrev pub invariant-loop-index : goal.invariant-loop-index

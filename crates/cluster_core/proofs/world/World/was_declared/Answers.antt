@@ -1,6 +1,6 @@
 use Rattle.std.proofs.Common.{◌≡◌, ℕ, ◌+◌, Bool, true, false, ◌&&◌, nat_le, nat_lt, rules, arith, ap, sym, ◌∙◌}
 use Rattle.std.proofs.lemmas.Bool.Decides.{nat_tests}
-use Rattle.cluster_core.proofs.MemberSteps.{declared_either}
+use Rattle.cluster_core.proofs.steps.MemberSteps.{declared_either}
 use Rattle.cluster_core.proofs.world.World.was_declared.Goals as goal
 
 pub returns-then-incarnation-ge1 : goal.returns-then-incarnation-ge1

@@ -6,7 +6,7 @@ use Rattle.cluster_core.specs.Parts.{world_state}
 use Rattle.cluster_core.specs.Runs.{Leads}
 use Rattle.cluster_core.specs.Safe.{IsSafe}
 use Rattle.cluster_core.specs.World.{first_world}
-use Rattle.cluster_core.proofs.JournalRuns.{leads_shape}
+use Rattle.cluster_core.proofs.runs.JournalRuns.{leads_shape}
 use Rattle.replay.specs.Parts.{PlayerParts, PlayedParts, progress, state_of}
 use Rattle.replay.specs.Played.{PlayedState, played_of}
 use Rattle.replay.proofs.player.Player.finish.Goals as goal

@@ -1,0 +1,91 @@
+-- How many entries a run has.
+use Rattle.std.proofs.Common.{◌≡◌, ℕ, ◌+◌, ◌<◌, ◌≤◌, Bool, true, false, not, if◌then◌else◌, refl, sym, ◌∙◌, ap, arith, nat_le, List, [], ◌∷◌, length, Result, Ok, Err}
+use Rattle.std.proofs.lemmas.Bool.Decides.{nat_tests}
+use Rattle.messages.specs.Shapes.{ShapeFields}
+use Rattle.messages.specs.Messages.{addressee}
+use Rattle.messages.specs.declared.actor.Actor.{Actor}
+use Rattle.messages.specs.declared.actor.Actor.TheVariants.{Node as ANode, Server as AServer}
+use Rattle.messages.specs.declared.message.Message.{Message}
+use Rattle.messages.specs.declared.outcome.Outcome.{Outcome}
+use Rattle.messages.specs.declared.refusal.StepError.{StepError}
+use Rattle.messages.specs.declared.refusal.Refused.{Refused}
+use Rattle.messages.specs.declared.refusal.Refused.TheVariants.{Stranger, JournalFull, NotAlive, NotDead, TooManyRestarts, Fenced}
+use Rattle.messages.specs.Refusals.{refused_by}
+use Rattle.messages.specs.declared.event.Event.{Event}
+use Rattle.messages.specs.declared.event.Event.TheVariants.{Call, Deliver, Retry, Resend, Declare, Restart, Learn}
+use Rattle.messages.specs.declared.entry.Entry.{Entry}
+use Rattle.node_core.specs.declared.event.NodeEvent.TheVariants as node
+use Rattle.node_core.specs.State.{NodeState}
+use Rattle.node_core.specs.Node.{node_rule}
+use Rattle.token_server.specs.declared.event.ServerEvent.TheVariants as server
+use Rattle.token_server.specs.State.{ServerState}
+use Rattle.token_server.specs.Server.{server_rule}
+use Rattle.cluster_core.specs.World.{WorldState, first_world, journal_limit, most_incarnations}
+use Rattle.cluster_core.specs.Next.{next, is_known, taken, delivered, after_node, after_server, recorded, named_incarnation, with_node, with_server, is_fenced, declared, restarted, silent}
+use Rattle.cluster_core.specs.Runs.{Leads, IsRun}
+use Rattle.cluster_core.proofs.common.Choices.{if_either}
+
+-- a step that is not refused makes one entry more
+abbrev GrowsBy : ℕ → Result (WorldState × Entry) Refused → Type 0
+GrowsBy n r = (made : WorldState × Entry) → r ≡ Ok made → made.0.length ≡ n + 1
+
+refused-grows : (n : ℕ) (refusal : Refused) → GrowsBy n (Err refusal)
+refused-grows n refusal made is = cc
+
+made_is : {A E : Type 0} (a b : A) → ◌≡◌ {A = Result A E} (Ok a) (Ok b) → a ≡ b
+made_is a b is = cc
+
+made-grows : (n : ℕ) (made : WorldState × Entry) → made.0.length ≡ n + 1 → GrowsBy n (Ok made)
+made-grows n made of other is = ap (λ (m : WorldState × Entry). m.0.length) (sym (made_is made other is)) ∙ of
+
+after_node-grows : (w : WorldState) (event : Event) (n : ℕ) (r : Result (NodeState × Outcome) StepError) → GrowsBy w.length (after_node w event n r)
+after_node-grows w event n (Ok done) = made-grows w.length (recorded (with_node w n done.0) event (named_incarnation (w.nodes n) event) done.1) refl
+after_node-grows w event n (Err e) = refused-grows w.length (refused_by e)
+
+after_server-grows : (w : WorldState) (event : Event) (file : ℕ) (r : Result (ServerState × Outcome) StepError) → GrowsBy w.length (after_server w event file r)
+after_server-grows w event file (Ok done) = made-grows w.length (recorded (with_server w file done.0) event 0 done.1) refl
+after_server-grows w event file (Err e) = refused-grows w.length (refused_by e)
+
+delivered-grows : (w : WorldState) (m : Message) (actor : Actor) → GrowsBy w.length (delivered w m actor)
+delivered-grows w m (ANode n) = after_node-grows w (Deliver m) n (node_rule (w.nodes n) (node.Deliver m))
+delivered-grows w m (AServer file) = after_server-grows w (Deliver m) file (server_rule (w.servers file) (server.Deliver m))
+
+taken-grows : (w : WorldState) (event : Event) → GrowsBy w.length (taken w event)
+taken-grows w (Call n pid op) = after_node-grows w (Call n pid op) n (node_rule (w.nodes n) (node.Call pid op))
+taken-grows w (Deliver m) = delivered-grows w m (addressee m)
+taken-grows w (Retry n pid) = after_node-grows w (Retry n pid) n (node_rule (w.nodes n) (node.Retry pid))
+taken-grows w (Resend file) = after_server-grows w (Resend file) file (server_rule (w.servers file) server.Resend)
+taken-grows w (Learn file n i) = after_server-grows w (Learn file n i) file (server_rule (w.servers file) (server.Learn n i))
+taken-grows w (Declare n) =
+    if_either (GrowsBy w.length) (w.alive n) _ _ (made-grows w.length (silent (declared w n) (Declare n) (w.nodes n).incarnation) refl) (refused-grows w.length NotAlive)
+taken-grows w (Restart n) =
+    if_either (GrowsBy w.length) (w.alive n) _ _ (refused-grows w.length NotDead)
+    (if_either (GrowsBy w.length) (nat_le (w.nodes n).incarnation most_incarnations) _ _ (made-grows w.length (silent (restarted w n) (Restart n) (w.nodes n).incarnation) refl) (refused-grows w.length TooManyRestarts))
+
+-- and comes only where there is room
+let_through : {A E : Type 0} (full known fenced : Bool) (x : Result A E) (p : A) (a b c : E) → ◌≡◌ {A = Result A E} (if full then Err a else (if not known then Err b else (if fenced then Err c else x))) (Ok p) → (full ≡ false) × (x ≡ Ok p)
+let_through true known fenced x p a b c h = absurd (cc)
+let_through false true false x p a b c h = (refl, h)
+let_through false true true x p a b c h = absurd (cc)
+let_through false false fenced x p a b c h = absurd (cc)
+
+grows : (w v : WorldState) (event : Event) (e : Entry) → next w event ≡ Ok (v, e) → (w.length < journal_limit) × (v.length ≡ w.length + 1)
+grows w v event e step =
+    let through = let_through (nat_le journal_limit w.length) (is_known w event) (is_fenced w event) (taken w event) (v, e) JournalFull Stranger Fenced step in
+    (room w.length through.0, taken-grows w event (v, e) through.1)
+  where
+    room : (n : ℕ) → nat_le journal_limit n ≡ false → n < journal_limit
+    room n h = grind (arith, nat_tests, h)
+
+leads-length : (w v : WorldState) (es : List Entry) → w.length ≤ journal_limit → Leads w es v → w.length + length es ≤ journal_limit
+leads-length w v [] within leads = omega arith
+leads-length w v (e ∷ es) within leads =
+    let one = grows w leads.0 e.event e leads.1 in
+    let room = one.0 in
+    let more = one.1 in
+    let rest = leads-length leads.0 v es (omega arith) leads.2 in
+    omega arith
+
+-- a run has no more entries than a journal may have
+pub run-length : (shape : ShapeFields) (es : List Entry) → IsRun shape es → length es ≤ journal_limit
+run-length shape es run = let all = leads-length (first_world shape) run.0 es (omega arith) run.1 in omega arith

@@ -1,0 +1,20 @@
+-- The one history of a run: what stands at each entry, and that it is legal.
+pub mod Placement
+pub mod Entries
+pub mod Fitting
+pub mod Prefixes
+pub mod Slots
+pub mod Nodes
+pub mod Unions
+pub mod Joined
+pub mod Lifting
+pub mod Witnesses
+pub mod Denials
+pub mod Quiet
+pub mod Placing
+pub mod Plain
+pub mod Worlds
+pub mod Pasts
+pub mod Failures
+pub mod Resting
+pub mod Fences

@@ -1,0 +1,495 @@
+-- Each step of the cluster keeps what holds of it and of its past, where tokens are apart and answers are known.
+use Rattle.std.proofs.Common.{◌≡◌, ℕ, ◌+◌, ◌≤◌, Bool, true, false, not, if◌then◌else◌, ◌&&◌, ◌||◌, ◌==◌, inl, inr, refl, sym, ◌∙◌, ap, subst, arith, nat_le, List, [], ◌∷◌, ◌++◌, append-nil, append_assoc, All, Option, Some, None, Result, Ok}
+use Rattle.std.specs.List.{list_any}
+use Rattle.std.proofs.lemmas.Bool.{and_parts, both_ways, cases_Bool, eqb-true, eq-eqb, false≢true, or_right}
+use Rattle.std.proofs.lemmas.Bool.Decides.{nat_tests}
+use Rattle.std.proofs.lemmas.Option.{none-some, same_Some}
+use Rattle.std.proofs.lemmas.List.Elements.{All-nil, All-head, All-tail}
+use Rattle.intervals.specs.Bytes.{Range}
+use Rattle.model.specs.declared.call.CallId.{CallId}
+use Rattle.model.specs.declared.host.Host.{Host}
+use Rattle.model.specs.declared.lock_info.LockInfo.{LockInfo}
+use Rattle.model.specs.declared.mode.Mode.{Mode}
+use Rattle.model.specs.declared.op.Op.{Op}
+use Rattle.model.specs.Limits.{IsNumber, IsProcess, most_nodes, most_processes}
+use Rattle.model.specs.Locks.{lowest_in_way}
+use Rattle.token_set.specs.Releases.{given_up_span, answer_of}
+use Rattle.messages.specs.Shapes.{ShapeFields, IsShape}
+use Rattle.messages.specs.Wants.{Wants}
+use Rattle.messages.specs.Messages.{addressee, is_among, is_conflict, is_within, same_host, same_message}
+use Rattle.messages.proofs.SameMessages.{host_exact, same_message-is-equality}
+use Rattle.messages.specs.declared.refusal.StepError.{StepError}
+use Rattle.messages.specs.declared.message.Message.{Message}
+use Rattle.messages.specs.declared.message.Message.TheVariants.{Request, Grant, Revoke, Taken, Released, Conflict, Deny, Freed}
+use Rattle.messages.specs.declared.event.Event.{Event}
+use Rattle.messages.specs.declared.event.Event.TheVariants.{Call, Deliver, Retry, Resend, Declare, Restart, Learn}
+use Rattle.messages.specs.declared.entry.Entry.{Entry}
+use Rattle.messages.specs.declared.outcome.Outcome.{Outcome}
+use Rattle.node_core.specs.declared.event.NodeEvent.TheVariants as node
+use Rattle.node_core.specs.declared.open_call.OpenCall.{OpenCall}
+use Rattle.node_core.specs.State.{NodeState, Effect, quiet, host, outcome, process, open_call_of}
+use Rattle.node_core.specs.Try.{tried_if}
+use Rattle.node_core.specs.Calls.{is_pid, is_in_shape, is_busy, after_call}
+use Rattle.node_core.specs.Commands.{remembered, answer_to, revoked, delivered, deliver_rule}
+use Rattle.node_core.specs.Retries.{retry_rule}
+use Rattle.node_core.specs.Node.{node_rule}
+use Rattle.token_server.specs.declared.event.ServerEvent.TheVariants as server
+use Rattle.token_server.specs.State.{ServerState}
+use Rattle.token_server.specs.Server.{server_rule}
+use Rattle.cluster_core.specs.World.{WorldState, first_world, most_incarnations, has_node}
+use Rattle.cluster_core.specs.Next.{has_actor, is_known, entry, recorded, with_node, after_node, after_server, declared, restarted, silent, taken, next}
+use Rattle.cluster_core.specs.Runs.{Leads}
+use Rattle.cluster_core.specs.Safe.{IsSafe}
+use Rattle.cluster_core.proofs.tokens.Heard.{IsHeard}
+use Rattle.cluster_core.specs.Histories.{EntryAt, names_conflict, HasHistory, EachAtItsPlace}
+use Rattle.cluster_core.specs.Evidence.{IsTold, HasEvidence}
+use Rattle.cluster_core.proofs.history.Placement.{slots_of, items_in, history_of}
+use Rattle.cluster_core.specs.Plain.{IsPlainHistory}
+use Rattle.cluster_core.proofs.history.Entries.{none_named, none_called, none_replied}
+use Rattle.cluster_core.proofs.steps.NodeSteps.{IsTo, call_done, call_free, deliver_done, retry_done}
+use Rattle.cluster_core.proofs.steps.Steps.{next_taken, next_unfenced, node_step, server_step, declare_step, restart_step}
+use Rattle.cluster_core.proofs.steps.ServerSteps.{IsSending, server_rule-sending}
+use Rattle.model.specs.Anchors.{IsOwn}
+use Rattle.model.proofs.NodeTables.{own_empty}
+use Rattle.cluster_core.proofs.steps.Tries.{IsSilent, not_busy}
+use Rattle.cluster_core.proofs.history.Nodes.{IsOpen, IsExplained, IsDenied, IsNoDeclaration, Moves, found_open}
+use Rattle.cluster_core.proofs.steps.Moves.{delivered_receives, quiet_receives, retried_receives, call_moves}
+use Rattle.cluster_core.proofs.history.Lifting.{IsFreeElsewhere}
+use Rattle.cluster_core.proofs.tokens.Unbarred.{safe_free}
+use Rattle.cluster_core.proofs.steps.Requested.{Comes, Makes, Tells, delivered-steps, resend-steps, learn-steps}
+use Rattle.cluster_core.proofs.steps.Sends.{IsFreely, AsksFor, Conflicts, called-sends, tried_if-sends, delivered-sends}
+use Rattle.cluster_core.proofs.history.Slots.{slotted_first, all_slotted_first, slots_fit, slots_legal, slots_at_their_places}
+use Rattle.cluster_core.proofs.history.Plain.{plain_slots, plain_legal, plain_items}
+use Rattle.cluster_core.proofs.history.Placing.{declared_node}
+use Rattle.cluster_core.proofs.history.Witnesses.{IsAskedBy, Denies, Backed, HeldFor, StaysOpen, backed-keeps}
+use Rattle.cluster_core.proofs.history.Denials.{denies_now}
+use Rattle.cluster_core.proofs.history.Worlds.{Good, replied_named, server_good, node_good, declared_good, restarted_good, stays, asks, leads_on, union_stays, others_stay}
+
+-- the message that is delivered
+message_in : Event → Option Message
+message_in (Deliver m) = Some m
+message_in _ = None
+
+same_message_of : (m k : Message) → Deliver m ≡ Deliver k → m ≡ k
+unfolding message_in
+same_message_of m k h = same_Some m k (ap message_in h)
+
+-- the node that is restarted
+node_in : Event → ℕ
+node_in (Restart n) = n
+node_in _ = 0
+
+restarted_node : {m n : ℕ} → Restart m ≡ Restart n → m ≡ n
+unfolding node_in
+restarted_node h = ap node_in h
+
+-- a message that was sent is backed
+among_backed : (P : Message → Type 0) (ms : List Message) (m : Message) → All P ms → is_among ms m ≡ true → P m
+among_backed P [] m all h = absurd (false≢true h)
+among_backed P (x ∷ xs) m all h =
+    elim (same_message m x) as (λ b. same_message m x ≡ b → (b || list_any (same_message m) xs) ≡ true → P m) [
+      | true ↦ λ same here. subst P (sym ((same_message-is-equality m x).0 same)) (All-head P x xs all)
+      | false ↦ λ other here. among_backed P xs m (All-tail P x xs all) here
+    ] refl h
+
+-- one that passes a test is among them
+passing : (test : Message → Bool) (ms : List Message) → list_any test ms ≡ true → (m : Message) × (is_among ms m ≡ true) × (test m ≡ true)
+passing test [] h = absurd (false≢true h)
+passing test (x ∷ xs) h =
+    elim (test x) as (λ b. test x ≡ b → (b || list_any test xs) ≡ true → (m : Message) × (is_among (x ∷ xs) m ≡ true) × (test m ≡ true)) [
+      | true ↦ λ passes here. (x, ap (λ (b : Bool). b || list_any (same_message x) xs) ((same_message-is-equality x x).1 refl), passes)
+      | false ↦ λ fails here.
+          let later = passing test xs here in
+          (later.0, or_right (same_message later.0 x) (list_any (same_message later.0) xs) later.1, later.2)
+    ] refl h
+
+-- the conflict of that number
+conflict_is : (file : ℕ) (holder : Host) (number : ℕ) (m : Message) → is_conflict file holder number m ≡ true → (call : CallId) × (lock : LockInfo) × (m ≡ Conflict file number holder call lock)
+conflict_is file holder number (Conflict f k h call lock) is =
+    let first = and_parts (f == file) ((k == number) && same_host h holder) is in
+    let second = and_parts (k == number) (same_host h holder) first.1 in
+    let files = eqb-true f file first.0 in
+    let numbers = eqb-true k number second.0 in
+    let holders = host_exact h holder second.1 in
+    (call, lock, λ i. Conflict (files i) (numbers i) (holders i) call lock)
+conflict_is file holder number (Request f call urgency mode wanted) is = absurd (false≢true is)
+conflict_is file holder number (Grant f k call mode span) is = absurd (false≢true is)
+conflict_is file holder number (Revoke f k h call mode wanted) is = absurd (false≢true is)
+conflict_is file holder number (Taken f k call) is = absurd (false≢true is)
+conflict_is file holder number (Released f k h call span) is = absurd (false≢true is)
+conflict_is file holder number (Deny f call h k lock) is = absurd (false≢true is)
+conflict_is file holder number (Freed f h) is = absurd (false≢true is)
+
+-- a node that first does a revoke in whose way a lock is names it, and does nothing else that others see
+pub record Names (s : NodeState) (file number : ℕ) (call : CallId) (lock : LockInfo) (e : Effect) : Type 0 where
+  pub answer : e.sends ≡ Conflict file number (host s) call lock ∷ []
+  pub no_reply : e.reply ≡ None
+  pub table : e.state.table ≡ s.table
+
+names_first : (s : NodeState) (file number : ℕ) (holder : Host) (call : CallId) (mode : Mode) (wanted : Wants) (lock : LockInfo) → number ≡ (s.files file).last + 1 → lowest_in_way (s.table.locks file) s.node s.incarnation wanted.required mode ≡ Some lock → Names s file number call lock (delivered s (Revoke file number holder call mode wanted))
+names_first s file number holder call mode wanted lock is here =
+    let e = revoked s file number call mode wanted in
+    let again = if (number == (s.files file).last) && nat_le 1 number then remembered s (s.files file).answer else quiet s in
+    let span : Range = given_up_span (s.table.locks file) s.node s.incarnation mode wanted.required wanted.desired in
+    let first = eq-eqb number ((s.files file).last + 1) is in
+    record {
+      answer = ap (λ (b : Bool). (if b then e else again).sends) first ∙ ap (λ (o : Option LockInfo). answer_to file number (host s) call (answer_of o span) ∷ []) here;
+      no_reply = ap (λ (b : Bool). (if b then e else again).reply) first;
+      table = ap (λ (b : Bool). (if b then e else again).state.table) first;
+    }
+
+module _ (shape : ShapeFields) (past : List Entry) (w : WorldState) (few : IsNumber most_nodes w.shape.nodes) (g : Good shape past w) (heard : IsHeard w) where
+  -- the world and the entry after a step that leaves tokens apart
+  abbrev After : Event → WorldState × Entry → Type 0
+  After event p = next w event ≡ Ok p → IsSafe p.0 → IsNumber most_nodes p.0.shape.nodes × Good shape (past ++ p.1 ∷ []) p.0
+
+  known_backed : (m : Message) → is_among w.sent m ≡ true → Backed shape past w m
+  known_backed m known = among_backed (Backed shape past w) w.sent m g.backed known
+
+  freely : (run : List Entry) (v : WorldState) → IsFreely (Backed shape run v)
+  freely run v = record { taken = λ file number call. tt; released = λ file number holder call span. tt; freed = λ file holder. tt }
+
+  not-true-false : (b : Bool) → not b ≡ false → b ≡ true
+  not-true-false true h = refl
+  not-true-false false h = absurd (cc)
+
+  -- a process that may call
+  process_in : (n pid : ℕ) (op : Op) → is_known w (Call n pid op) ≡ true → w.alive n ≡ true → IsProcess (process (w.nodes n) pid)
+  process_in n pid op known alive =
+      let parts = and_parts (has_node w n) (is_pid pid && is_in_shape w.shape op) known in
+      let node : IsNumber most_nodes n = within (w.shape.nodes) n few parts.0 in
+      record {
+        host = record { node_in = subst (IsNumber most_nodes) (sym (g.named n)) node; incarnation_in = let given = g.incarnations n in (given.0, given.1 alive) };
+        pid_in = number most_processes pid (and_parts (is_pid pid) (is_in_shape w.shape op) parts.1).0;
+      }
+    where
+      number : (most k : ℕ) → is_within most k ≡ true → IsNumber most k
+      number most k h =
+          let tests = and_parts (nat_le 1 k) (nat_le k most) h in
+          (grind (arith, nat_tests, tests.0), grind (arith, nat_tests, tests.1))
+
+      within : (nodes k : ℕ) → IsNumber most_nodes nodes → is_within nodes k ≡ true → IsNumber most_nodes k
+      within nodes k few h =
+          let most = few.1 in
+          let is = number nodes k h in
+          let above = is.1 in
+          (is.0, omega arith)
+
+  -- a step of a node, whatever the event
+  module _ (n : ℕ) (u : NodeState) (event : Event) (incarnation : ℕ) (o : Outcome) (there : has_node w n ≡ true) (moves : Moves past (w.nodes n) u (entry event incarnation o)) (known : (m : Message) → event ≡ Deliver m → is_among w.sent m ≡ true) (undeclared : IsNoDeclaration event) where
+    abbrev made : Entry
+    made = entry event incarnation o
+
+    abbrev later : WorldState
+    later = (recorded (with_node w n u) event incarnation o).0
+
+    here : later.nodes n ≡ u
+    here = rw (eq-eqb n n refl) refl
+
+    not_strange : has_node w n ≡ false → (u.pending ≡ []) × IsSilent (w.nodes n) u o.reply
+    not_strange strange = absurd (both_ways (has_node w n) strange there)
+
+    module _ (made_so : next w event ≡ Ok (recorded (with_node w n u) event incarnation o)) where
+      free : IsSafe later → (x : IsExplained past (w.nodes n) u made) → has_node w n ≡ true → IsFreeElsewhere w n x.pid x.op x.reply
+      free safe x there_now = safe_free w later n u x.pid x.op x.reply refl here (others_stay shape past w n u event incarnation o g made_so moves not_strange) safe there x.served (λ m h. h)
+
+      denied : (d : IsDenied (w.nodes n) u made) → Denies shape past w d.file d.call d.holder d.number d.lock
+      denied d = known_backed (Deny d.file d.call d.holder d.number d.lock) (known (Deny d.file d.call d.holder d.number d.lock) d.is_deny)
+
+      pub keeps : ((asks : AsksFor (Backed shape (past ++ made ∷ []) later) u) → All (Backed shape (past ++ made ∷ []) later) o.sends) → IsSafe later → IsNumber most_nodes w.shape.nodes × Good shape (past ++ made ∷ []) later
+      keeps sends safe = (few, node_good shape past w n u event incarnation o g made_so moves not_strange (free safe) denied (sends (asks shape past w n u event incarnation o g made_so moves not_strange)) undeclared)
+
+  call_good : (n pid : ℕ) (op : Op) → is_known w (Call n pid op) ≡ true → (is_in_shape (w.nodes n).shape op ≡ true) × (is_busy (w.nodes n) pid op ≡ false) → After (Call n pid op) (recorded (with_node w n (after_call (w.nodes n) pid op).0) (Call n pid op) 0 (after_call (w.nodes n) pid op).1)
+  call_good n pid op known free made_so safe =
+      let s = w.nodes n in
+      let r = after_call s pid op in
+      let event = Call n pid op in
+      let moves = call_moves past s n pid op (g.holds n) (g.named n) (process_in n pid op known (not-true-false (w.alive n) (next_unfenced w event _ made_so))) (replied_named shape past w g) free.0 (not_busy s pid op free.1) in
+      let there = (and_parts (has_node w n) (is_pid pid && is_in_shape w.shape op) known).0 in
+      let run = past ++ entry event 0 r.1 ∷ [] in
+      let v = (recorded (with_node w n r.0) event 0 r.1).0 in
+      keeps n r.0 event 0 r.1 there moves (λ m h. absurd (cc)) tt made_so (called-sends (Backed shape run v) (freely run v) (record s { calls = s.calls + 1 }) (s.calls + 1) pid op) safe
+
+  retry_good : (n pid : ℕ) (done : NodeState × Outcome) → has_node w n ≡ true → retry_rule (w.nodes n) pid ≡ Ok done → After (Retry n pid) (recorded (with_node w n done.0) (Retry n pid) (w.nodes n).incarnation done.1)
+  retry_good n pid done there h =
+      let s = w.nodes n in
+      let event = Retry n pid in
+      let effect = tried_if s (open_call_of s pid) in
+      let P : NodeState × Outcome → Type 0 = λ d. After event (recorded (with_node w n d.0) event s.incarnation d.1) in
+      let received = retried_receives past s (g.holds n) event s.incarnation pid tt in
+      let is = retry_done s pid done h in
+      let o = (outcome None effect).1 in
+      let run = past ++ entry event s.incarnation o ∷ [] in
+      let v = (recorded (with_node w n effect.state) event s.incarnation o).0 in
+      let test : OpenCall → Bool = λ c. c.pid == pid in
+      subst P is (λ made_so safe. keeps n effect.state event s.incarnation o there received.moves (λ m h. absurd (cc)) tt made_so (tried_if-sends (Backed shape run v) (freely run v) s (open_call_of s pid) (λ c f. (found_open test s.pending c f).0)) safe)
+
+  -- a message for another incarnation does nothing
+  idle_good : (n : ℕ) (m : Message) → has_node w n ≡ true → is_among w.sent m ≡ true → After (Deliver m) (recorded (with_node w n (w.nodes n)) (Deliver m) 0 (outcome None (quiet (w.nodes n))).1)
+  idle_good n m there known made_so safe =
+      let s = w.nodes n in
+      let event = Deliver m in
+      let o = (outcome None (quiet s)).1 in
+      let run = past ++ entry event 0 o ∷ [] in
+      let v = (recorded (with_node w n s) event 0 o).0 in
+      let received = quiet_receives past s (g.holds n) event (quiet s) refl refl in
+      keeps n s event 0 o there received.moves (λ k h. subst (λ (x : Message). is_among w.sent x ≡ true) (same_message_of m k h) known) tt made_so (λ all. All-nil (Backed shape run v)) safe
+
+  -- a message for the node in its incarnation
+  module _ (n : ℕ) (m : Message) (there : has_node w n ≡ true) (known : is_among w.sent m ≡ true) (to : IsTo (w.nodes n) m) where
+    abbrev s : NodeState
+    s = w.nodes n
+
+    abbrev effect : Effect
+    effect = delivered s m
+
+    abbrev told : Outcome
+    told = (outcome None effect).1
+
+    abbrev run : List Entry
+    run = past ++ entry (Deliver m) 0 told ∷ []
+
+    abbrev v : WorldState
+    v = (recorded (with_node w n effect.state) (Deliver m) 0 told).0
+
+    its_moves : Moves past s effect.state (entry (Deliver m) 0 told)
+    its_moves = (delivered_receives past s (g.holds n) m to).moves
+
+    not_strange_too : has_node w n ≡ false → (effect.state.pending ≡ []) × IsSilent s effect.state told.reply
+    not_strange_too strange = absurd (both_ways (has_node w n) strange there)
+
+    module _ (made_so : next w (Deliver m) ≡ Ok (recorded (with_node w n effect.state) (Deliver m) 0 told)) where
+      its_stays : (k : ℕ) → StaysOpen past (w.nodes k) (v.nodes k)
+      its_stays = stays shape past w n effect.state (Deliver m) 0 told g made_so its_moves not_strange_too
+
+      remembers : (file : ℕ) (k : Message) → (s.files file).answer ≡ Some k → Backed shape run v k
+      remembers file k h = backed-keeps shape past (entry (Deliver m) 0 told) w v its_stays k (known_backed k (heard.answers n file k there h))
+
+      -- no conflict of that number was sent before
+      unsaid : (file number : ℕ) → number ≡ (s.files file).last + 1 → (k : ℕ) (e : Entry) → EntryAt past k e → names_conflict file (host s) number e ≡ false
+      unsaid file number is k e at = g.told k e (is_conflict file (host s) number) at (elim (cases_Bool (list_any (is_conflict file (host s) number) w.sent)) [
+        | inl some ↦
+            let found = passing (is_conflict file (host s) number) w.sent some in
+            let named = conflict_is file (host s) number found.0 found.2 in
+            let sent_before = subst (λ (x : Message). is_among w.sent x ≡ true) named.2 found.1 in
+            let below = heard.counted n file number named.0 named.1 there sent_before in
+            absurd (omega arith)
+        | inr none ↦ none
+      ])
+
+    conflict_there : (file number : ℕ) (holder : Host) (call : CallId) (mode : Mode) (wanted : Wants) → m ≡ Revoke file number holder call mode wanted → (made_so : next w (Deliver m) ≡ Ok (recorded (with_node w n effect.state) (Deliver m) 0 told)) (lock : LockInfo) → number ≡ (s.files file).last + 1 → lowest_in_way (s.table.locks file) s.node s.incarnation wanted.required mode ≡ Some lock → Denies shape run v file call (host s) number lock
+    conflict_there file number holder call mode wanted is made_so lock next_one in_way =
+        let names : Names s file number call lock effect = subst (λ (x : Message). Names s file number call lock (delivered s x)) (sym is) (names_first s file number holder call mode wanted lock next_one in_way) in
+        let behind : Backed shape past w (Revoke file number holder call mode wanted) = known_backed (Revoke file number holder call mode wanted) (subst (λ (x : Message). is_among w.sent x ≡ true) is known) in
+        let addressed : IsTo s (Revoke file number holder call mode wanted) = subst (IsTo s) is to in
+        let node_is = eqb-true holder.node s.node addressed.node in
+        let incarnation_is = addressed.incarnation in
+        let holder_is : holder ≡ host s = λ i. record { node = node_is i; incarnation = incarnation_is i } in
+        denies_now shape past w v (entry (Deliver m) 0 told) n file number call mode wanted lock (record {
+          there = there;
+          leads = g.leads;
+          named = g.named;
+          own = (g.holds n).own;
+          asked = behind.0;
+          other = λ same. behind.1 (node_is ∙ same);
+          next_one = next_one;
+          does = ap Deliver is ∙ ap (λ (h : Host). Deliver (Revoke file number h call mode wanted)) holder_is;
+          no_reply = names.no_reply;
+          answer = names.answer;
+          unsaid = unsaid made_so file number next_one;
+          here = in_way;
+          leads_on = leads_on shape past w n effect.state (Deliver m) 0 told g made_so its_moves not_strange_too;
+          same = union_stays shape past w n effect.state (Deliver m) 0 told g made_so its_moves not_strange_too names.table;
+          others_stay = others_stay shape past w n effect.state (Deliver m) 0 told g made_so its_moves not_strange_too;
+          one_call = g.one_call;
+          waiting = λ k. (g.holds k).waiting;
+          about = g.asked;
+          strangers = g.strangers;
+        })
+
+    conflicts : (made_so : next w (Deliver m) ≡ Ok (recorded (with_node w n effect.state) (Deliver m) 0 told)) (x : Message) → m ≡ x → Conflicts (Backed shape run v) (freely run v) s x
+    conflicts made_so (Revoke file number holder call mode wanted) is = λ lock next_one in_way. conflict_there file number holder call mode wanted is made_so lock next_one in_way
+    conflicts made_so (Request f call urgency mode wanted) is = tt
+    conflicts made_so (Grant f number call mode span) is = tt
+    conflicts made_so (Taken f number call) is = tt
+    conflicts made_so (Released f number holder call span) is = tt
+    conflicts made_so (Conflict f number holder call lock) is = tt
+    conflicts made_so (Deny f call holder number lock) is = tt
+    conflicts made_so (Freed f holder) is = tt
+
+    pub delivered_good : After (Deliver m) (recorded (with_node w n effect.state) (Deliver m) 0 told)
+    delivered_good made_so safe =
+        keeps n effect.state (Deliver m) 0 told there its_moves (λ k h. subst (λ (x : Message). is_among w.sent x ≡ true) (same_message_of m k h) known) tt made_so
+        (delivered-sends (Backed shape run v) (freely run v) s m (remembers made_so) (conflicts made_so m refl)) safe
+
+  message_good : (n : ℕ) (m : Message) (done : NodeState × Outcome) → has_node w n ≡ true → is_among w.sent m ≡ true → deliver_rule (w.nodes n) m ≡ Ok done → After (Deliver m) (recorded (with_node w n done.0) (Deliver m) 0 done.1)
+  message_good n m done there known h =
+      let s = w.nodes n in
+      let P : NodeState × Outcome → Type 0 = λ d. After (Deliver m) (recorded (with_node w n d.0) (Deliver m) 0 d.1) in
+      elim (deliver_done s m done h) [ inl taken ↦ subst P taken.1 (delivered_good n m there known taken.0) | inr passed ↦ subst P passed (idle_good n m there known) ]
+
+  -- a step of a server
+  makes : (file : ℕ) → Makes file (HeldFor shape past file) (Backed shape past w)
+  makes file = record { grants = λ number call mode span. tt; revokes = λ number holder r held other. (held, other) }
+
+  abbrev Serves : ℕ → Result (ServerState × Outcome) StepError → Type 0
+  Serves file r = (done : ServerState × Outcome) → r ≡ Ok done → Comes file (HeldFor shape past file) (Backed shape past w) done.0 × All (Backed shape past w) done.1.sends
+
+  server_next : (event : Event) (file : ℕ) (r : Result (ServerState × Outcome) StepError) (p : WorldState × Entry) → ((done : ServerState × Outcome) → r ≡ Ok done → IsSending done) → IsNoDeclaration event → Serves file r → after_server w event file r ≡ Ok p → After event p
+  server_next event file r p sends undeclared serves h = server_step w (After event) event file r p (λ done is.
+      let both = sends done is in
+      let kept = serves done is in
+      λ made_so safe. (few, server_good shape past w file done.0 event done.1 both.0 both.1 undeclared g made_so kept.0 kept.1)) h
+
+  told_good : (m : Message) (file : ℕ) (p : WorldState × Entry) → Tells file (HeldFor shape past file) (Backed shape past w) m → after_server w (Deliver m) file (server_rule (w.servers file) (server.Deliver m)) ≡ Ok p → After (Deliver m) p
+  told_good m file p tells h =
+      let t = w.servers file in
+      server_next (Deliver m) file (server_rule t (server.Deliver m)) p (λ done is. server_rule-sending t (server.Deliver m) done is) tt (delivered-steps file (HeldFor shape past file) (Backed shape past w) (makes file) t m tells (g.comes file)) h
+
+  resend_good : (file : ℕ) (p : WorldState × Entry) → after_server w (Resend file) file (server_rule (w.servers file) server.Resend) ≡ Ok p → After (Resend file) p
+  resend_good file p h =
+      let t = w.servers file in
+      server_next (Resend file) file (server_rule t server.Resend) p (λ done is. server_rule-sending t server.Resend done is) tt (resend-steps file (HeldFor shape past file) (Backed shape past w) (makes file) t (g.comes file)) h
+
+  learn_good : (file n i : ℕ) (p : WorldState × Entry) → after_server w (Learn file n i) file (server_rule (w.servers file) (server.Learn n i)) ≡ Ok p → After (Learn file n i) p
+  learn_good file n i p h =
+      let t = w.servers file in
+      server_next (Learn file n i) file (server_rule t (server.Learn n i)) p (λ done is. server_rule-sending t (server.Learn n i) done is) tt (learn-steps file (HeldFor shape past file) (Backed shape past w) (makes file) t n i (g.comes file)) h
+
+  node_told : (n : ℕ) (m : Message) (p : WorldState × Entry) → has_node w n ≡ true → is_among w.sent m ≡ true → after_node w (Deliver m) n (node_rule (w.nodes n) (node.Deliver m)) ≡ Ok p → After (Deliver m) p
+  node_told n m p there known h = node_step w (After (Deliver m)) (Deliver m) n (node_rule (w.nodes n) (node.Deliver m)) p (λ done is. message_good n m done there known is) h
+
+  declare_good : (n k : ℕ) → is_known w (Declare n) ≡ true → Declare n ≡ Declare k → After (Declare n) (silent (declared w k) (Declare n) (w.nodes k).incarnation)
+  declare_good n k known is = subst (λ (j : ℕ). After (Declare n) (silent (declared w j) (Declare n) (w.nodes j).incarnation)) (declared_node is) (λ made_so safe. (few, declared_good shape past w n known g made_so))
+
+  restart_good : (n k : ℕ) → Restart n ≡ Restart k → (w.nodes k).incarnation ≤ most_incarnations → After (Restart n) (silent (restarted w k) (Restart n) (w.nodes k).incarnation)
+  restart_good n k is = subst (λ (j : ℕ). (w.nodes j).incarnation ≤ most_incarnations → After (Restart n) (silent (restarted w j) (Restart n) (w.nodes j).incarnation)) (restarted_node is) (λ small made_so safe. (few, restarted_good shape past w n small g made_so))
+
+  taken_good : (event : Event) (p : WorldState × Entry) → is_known w event ≡ true → taken w event ≡ Ok p → After event p
+  taken_good (Call n pid op) p known h =
+      let s = w.nodes n in
+      let P : NodeState × Outcome → Type 0 = λ d. After (Call n pid op) (recorded (with_node w n d.0) (Call n pid op) 0 d.1) in
+      node_step w (After (Call n pid op)) (Call n pid op) n (node_rule s (node.Call pid op)) p
+      (λ done is. subst P (call_done s pid op done is) (call_good n pid op known (call_free s pid op done is))) h
+  taken_good (Deliver (Grant file number call mode span)) p known h =
+      let m = Grant file number call mode span in
+      let both = and_parts (has_node w call.node) (is_among w.sent m) known in
+      node_told call.node m p both.0 both.1 h
+  taken_good (Deliver (Revoke file number holder call mode wanted)) p known h =
+      let m = Revoke file number holder call mode wanted in
+      let both = and_parts (has_node w holder.node) (is_among w.sent m) known in
+      node_told holder.node m p both.0 both.1 h
+  taken_good (Deliver (Deny file call holder number lock)) p known h =
+      let m = Deny file call holder number lock in
+      let both = and_parts (has_node w call.node) (is_among w.sent m) known in
+      node_told call.node m p both.0 both.1 h
+  taken_good (Deliver (Request file call urgency mode wanted)) p known h =
+      let m = Request file call urgency mode wanted in
+      told_good m file p (known_backed m (and_parts (has_actor w (addressee m)) (is_among w.sent m) known).1) h
+  taken_good (Deliver (Conflict file number holder call lock)) p known h =
+      let m = Conflict file number holder call lock in
+      told_good m file p (known_backed m (and_parts (has_actor w (addressee m)) (is_among w.sent m) known).1) h
+  taken_good (Deliver (Taken file number call)) p known h = told_good (Taken file number call) file p tt h
+  taken_good (Deliver (Released file number holder call span)) p known h = told_good (Released file number holder call span) file p tt h
+  taken_good (Deliver (Freed file holder)) p known h = told_good (Freed file holder) file p tt h
+  taken_good (Retry n pid) p known h = node_step w (After (Retry n pid)) (Retry n pid) n (node_rule (w.nodes n) (node.Retry pid)) p (λ done is. retry_good n pid done (and_parts (has_node w n) (is_pid pid) known).0 is) h
+  taken_good (Resend file) p known h = resend_good file p h
+  taken_good (Learn file n i) p known h = learn_good file n i p h
+  taken_good (Declare n) p known h = declare_step w (After (Declare n)) n p (λ k is alive. declare_good n k known is) h
+  taken_good (Restart n) p known h = restart_step w (After (Restart n)) n p (λ k is dead small. restart_good n k is small) h
+
+  pub next_good : (event : Event) (p : WorldState × Entry) → next w event ≡ Ok p → IsSafe p.0 → IsNumber most_nodes p.0.shape.nodes × Good shape (past ++ p.1 ∷ []) p.0
+  next_good event p h safe =
+      let x = next_taken w event p h in
+      taken_good event p x.0 x.1 h safe
+
+-- before the first entry
+good_first : (shape : ShapeFields) → Good shape [] (first_world shape)
+good_first shape = record {
+  leads = refl;
+  named = λ n. refl;
+  incarnations = λ n. (omega arith, λ h. omega arith);
+  young = λ id named. absurd (none_named id named);
+  holds = λ n. record {
+    own = own_empty n 1;
+    waiting = All-nil (IsOpen [] ((first_world shape).nodes n));
+    numbers = λ id named node incarnation. absurd (none_named id named);
+  };
+  strangers = λ n h. refl;
+  one_call = λ id p q o u j k a b. absurd (none_called id p o j a);
+  one_reply = λ id r q j k a b. absurd (none_replied id r j a);
+  told = λ k e test at none. absurd (none-some e at.2);
+  asked = λ n. All-nil (IsAskedBy shape [] ((first_world shape).nodes n));
+  backed = All-nil (Backed shape [] (first_world shape));
+  comes = λ file. record {
+    file_is = refl;
+    queued = All-nil (HeldFor shape [] file);
+    active = λ r h. absurd (none-some r h);
+    outstanding = λ n row m there h. absurd (none-some row there);
+  };
+  slotted = slotted_first shape;
+  all = all_slotted_first;
+}
+
+-- the tables of the nodes are their own
+abbrev pub AllOwn : WorldState → Type 0
+AllOwn w = (n : ℕ) → IsOwn (w.nodes n).table (w.nodes n).node (w.nodes n).incarnation
+
+-- together with what holds of tokens and answers it holds after each run
+module _ (shape : ShapeFields) (is_shape : IsShape shape) (Q : WorldState → Type 0) (begins : Q (first_world shape)) (goes_on : (w : WorldState) → AllOwn w → Q w → (event : Event) (p : WorldState × Entry) → next w event ≡ Ok p → Q p.0) (heard : (w : WorldState) → Q w → IsHeard w) where
+  pub record Both (past : List Entry) (w : WorldState) : Type 0 where
+    pub present : Q w
+    pub good : Good shape past w
+
+  both_run : (past es : List Entry) (w v : WorldState) → IsNumber most_nodes w.shape.nodes → Both past w → Leads w es v → Both (past ++ es) v
+  both_run past [] w v few b l =
+      let P : List Entry → Type 0 = λ xs. Both xs v in
+      subst P (sym (append-nil past)) (subst (Both past) l b)
+  both_run past (e ∷ es) w v few b l =
+      let P : List Entry → Type 0 = λ xs. Both xs v in
+      let present = goes_on w (λ n. (b.good.holds n).own) b.present e.event (l.0, e) l.1 in
+      let after = next_good shape past w few b.good (heard w b.present) e.event (l.0, e) l.1 (heard l.0 present).safe in
+      subst P (append_assoc past (e ∷ []) es) (both_run (past ++ e ∷ []) es l.0 v after.0 (record { present = present; good = after.1 }) l.2)
+
+  both_after : (es : List Entry) (w : WorldState) → Leads (first_world shape) es w → Both es w
+  both_after es w l = both_run [] es (first_world shape) w is_shape.nodes_in (record { present = begins; good = good_first shape }) l
+
+  pub safe_after : (es : List Entry) (w : WorldState) → Leads (first_world shape) es w → IsSafe w
+  safe_after es w l = (heard w (both_after es w l).present).safe
+
+  -- its history has each call at its place
+  pub history_after : (es : List Entry) (w : WorldState) → Leads (first_world shape) es w → HasHistory shape es (history_of es) × EachAtItsPlace es (history_of es)
+  history_after es w l =
+      let g = (both_after es w l).good in
+      let slots = slots_of es in (
+        record {
+          world = w;
+          leads = l;
+          one_call = g.one_call;
+          one_reply = g.one_reply;
+          fits = slots_fit shape es slots g.slotted g.one_reply g.all;
+          legal = slots_legal shape es slots g.slotted w l;
+        },
+        slots_at_their_places shape es slots g.slotted,
+      )
+
+  -- and the calls that name no lock are a plain history
+  pub plain_after : (es : List Entry) (w : WorldState) → Leads (first_world shape) es w → IsPlainHistory shape es (items_in (plain_slots (slots_of es)))
+  plain_after es w l =
+      let g = (both_after es w l).good in
+      let slots = slots_of es in
+      record { world = w; leads = l; plain = plain_items shape es slots g.slotted g.one_reply g.all; legal = plain_legal shape es slots g.slotted w l }
+
+  -- and each denial its evidence
+  pub evidence_after : (es : List Entry) (w : WorldState) (file : ℕ) (call : CallId) (holder : Host) (number : ℕ) (lock : LockInfo) → Leads (first_world shape) es w → IsTold w file call holder number lock → HasEvidence shape es file call holder number lock
+  evidence_after es w file call holder number lock l told =
+      let both = both_after es w l in
+      let g = both.good in
+      let backed : (m : Message) → is_among w.sent m ≡ true → Backed shape es w m = λ m known. among_backed (Backed shape es w) w.sent m g.backed known in
+      elim told [
+        | inl conflict ↦ (backed (Conflict file number holder call lock) conflict).evidence
+        | inr rest ↦ elim rest [
+          | inl deny ↦ (backed (Deny file call holder number lock) deny).evidence
+          | inr kept ↦ (backed (Conflict file number holder call lock) ((heard w both.present).answers kept.0 kept.1 (Conflict file number holder call lock) kept.2 kept.3)).evidence
+        ]
+      ]

@@ -1,0 +1,190 @@
+-- What stands behind each message, and goes on standing behind it.
+use Rattle.std.proofs.Common.{◌≡◌, ℕ, ◌≤◌, true, ◌==◌, ◌⊎◌, inl, inr, sym, ◌∙◌, ap, subst, arith, List, [], ◌∷◌, ◌++◌, length, take, All, Contains}
+use Rattle.std.proofs.lemmas.Bool.{and_parts, eqb-true}
+use Rattle.std.proofs.lemmas.List.Elements.{All-contains, All-weaker}
+use Rattle.intervals.specs.Bytes.{Range}
+use Rattle.model.specs.declared.call.CallId.{CallId}
+use Rattle.model.specs.declared.host.Host.{Host}
+use Rattle.model.specs.declared.lock_info.LockInfo.{LockInfo}
+use Rattle.model.specs.declared.mode.Mode.{Mode}
+use Rattle.model.specs.declared.op.Op.{Op}
+use Rattle.model.specs.declared.op.Op.TheVariants.{Spawn}
+use Rattle.model.specs.declared.process.Process.{Process}
+use Rattle.model.specs.Table.{Table, Target}
+use Rattle.model.specs.Step.{Step}
+use Rattle.messages.specs.Shapes.{ShapeFields}
+use Rattle.messages.specs.declared.message.Message.{Message}
+use Rattle.messages.specs.declared.message.Message.TheVariants.{Request, Grant, Revoke, Taken, Released, Conflict, Deny, Freed}
+use Rattle.messages.specs.declared.event.Event.{Event}
+use Rattle.messages.specs.declared.event.Event.TheVariants.{Call}
+use Rattle.messages.specs.declared.entry.Entry.{Entry}
+use Rattle.node_core.specs.declared.open_call.OpenCall.{OpenCall}
+use Rattle.node_core.specs.State.{NodeState, id_of}
+use Rattle.node_core.specs.Try.{refusal_of}
+use Rattle.token_server.specs.declared.held.Held.{Held}
+use Rattle.cluster_core.specs.World.{WorldState, first_world}
+use Rattle.cluster_core.specs.Union.{union}
+use Rattle.cluster_core.specs.Histories.{caller, EntryAt, IsCalledAt, OneCall}
+use Rattle.cluster_core.specs.Evidence.{IsAbout, IsAsked, IsWorldAfter, IsFirstDone, HasEvidence}
+use Rattle.model.proofs.Targets.{IsSpan, target_span}
+use Rattle.cluster_core.proofs.history.Entries.{IsNamed, named_called, entry_at-within, called_at-keeps}
+use Rattle.cluster_core.proofs.steps.Tries.{about_finds, about_one}
+use Rattle.cluster_core.proofs.history.Joined.{is_of_host, target_of_host}
+use Rattle.cluster_core.proofs.history.Prefixes.{leads_one, after-keeps}
+use Rattle.cluster_core.proofs.history.Slots.{entry_at-one, revoked-keeps}
+
+-- what a call is about: bytes of a file, and an owner of the caller's node
+pub about_span : (t : Table) (p : Process) (op : Op) (mode : Mode) (c : Target) → IsAbout t p op mode c → IsSpan c.span
+about_span t p op mode c a =
+    let f = about_finds t p op mode c a in
+    target_span t p f.need f.fd f.kind f.start f.len c f.found
+
+pub about_host : (t : Table) (p : Process) (op : Op) (mode : Mode) (c : Target) → IsAbout t p op mode c → is_of_host p.node p.incarnation c.owner ≡ true
+about_host t p op mode c a =
+    let f = about_finds t p op mode c a in
+    target_of_host t p f.need f.fd f.kind f.start f.len c f.found
+
+pub about_node : (t : Table) (p : Process) (op : Op) (mode : Mode) (c : Target) → IsAbout t p op mode c → c.owner.node ≡ p.node
+about_node t p op mode c a = eqb-true c.owner.node p.node (and_parts (c.owner.node == p.node) (c.owner.incarnation == p.incarnation) (about_host t p op mode c a)).0
+
+-- a call is made at one entry
+pub record SameCall (at to pid qid : ℕ) (op oq : Op) : Type 0 where
+  pub at_is : at ≡ to
+  pub pid_is : pid ≡ qid
+  pub op_is : op ≡ oq
+
+-- the process that an event names, and what it asks for
+abbrev pid_in : Event → ℕ
+pid_in (Call node pid op) = pid
+pid_in _ = 0
+
+abbrev op_in : Event → Op
+op_in (Call node pid op) = op
+op_in _ = Spawn
+
+pub called_one : (es : List Entry) (id : CallId) (pid qid : ℕ) (op oq : Op) (at to : ℕ) → OneCall es → IsCalledAt es id pid op at → IsCalledAt es id qid oq to → SameCall at to pid qid op oq
+called_one es id pid qid op oq at to one a b =
+    let same = one id pid qid op oq at to a b in
+    let entries : a.calling ≡ b.calling = entry_at-one es to a.calling b.calling (subst (λ (k : ℕ). EntryAt es k a.calling) same a.there) b.there in
+    let events : Call id.node pid op ≡ Call id.node qid oq = sym a.is_call ∙ (ap (λ (e : Entry). e.event) entries ∙ b.is_call) in
+    record { at_is = same; pid_is = ap pid_in events; op_is = ap op_in events }
+
+-- what was asked for a call is one thing
+pub record SameAsked (file other : ℕ) (mode another : Mode) (span also : Range) : Type 0 where
+  pub file_is : file ≡ other
+  pub mode_is : mode ≡ another
+  pub span_is : span ≡ also
+
+pub asked_one : (shape : ShapeFields) (es : List Entry) (call : CallId) (file other : ℕ) (mode another : Mode) (span also : Range) → OneCall es → IsAsked shape es file call mode span → IsAsked shape es other call another also → SameAsked file other mode another span also
+asked_one shape es call file other mode another span also one a b =
+    let c = called_one es call a.pid b.pid a.op b.op a.at b.at one a.called b.called in
+    let world : a.world ≡ b.world = leads_one (first_world shape) a.world b.world (take b.at es) (subst (λ (k : ℕ). IsWorldAfter shape es k a.world) c.at_is a.after) b.after in
+    let P : WorldState → Type 0 = λ w. IsAbout (union w) (caller call a.pid) a.op mode a.about in
+    let Q : ℕ → Type 0 = λ k. IsAbout (union b.world) (caller call k) a.op mode a.about in
+    let R : Op → Type 0 = λ o. IsAbout (union b.world) (caller call b.pid) o mode a.about in
+    let same = about_one (union b.world) (caller call b.pid) b.op mode another a.about b.about (subst R c.op_is (subst Q c.pid_is (subst P world a.asks))) b.asks in
+    record {
+      file_is = sym a.file_is ∙ (ap (λ (t : Target). t.file) same.1 ∙ b.file_is);
+      mode_is = same.0;
+      span_is = sym a.span_is ∙ (ap (λ (t : Target). t.span) same.1 ∙ b.span_is);
+    }
+
+-- the run goes on
+abbrev pub asked-keeps : (shape : ShapeFields) (es : List Entry) (e : Entry) (file : ℕ) (call : CallId) (mode : Mode) (span : Range) → IsAsked shape es file call mode span → IsAsked shape (es ++ e ∷ []) file call mode span
+asked-keeps shape es e file call mode span a = record {
+  at = a.at;
+  pid = a.pid;
+  op = a.op;
+  called = called_at-keeps es (e ∷ []) call a.pid a.op a.at a.called;
+  world = a.world;
+  after = after-keeps shape es (e ∷ []) a.at a.world (entry_at-within es a.at a.called.calling a.called.there) a.after;
+  about = a.about;
+  asks = a.asks;
+  file_is = a.file_is;
+  span_is = a.span_is;
+}
+
+pub first_done-keeps : (shape : ShapeFields) (es : List Entry) (e : Entry) (file : ℕ) (holder : Host) (number at : ℕ) → at ≤ length es → IsFirstDone shape es file holder number at → IsFirstDone shape (es ++ e ∷ []) file holder number at
+first_done-keeps shape es e file holder number at within f = record {
+  place = f.place;
+  at_is = f.at_is;
+  before = f.before;
+  up_to = after-keeps shape es (e ∷ []) f.place f.before (let is = f.at_is in omega arith) f.up_to;
+  there = f.there;
+  holder_is = f.holder_is;
+  is_next = f.is_next;
+}
+
+abbrev pub evidence-keeps : (shape : ShapeFields) (es : List Entry) (e : Entry) (file : ℕ) (call : CallId) (holder : Host) (number : ℕ) (lock : LockInfo) → HasEvidence shape es file call holder number lock → HasEvidence shape (es ++ e ∷ []) file call holder number lock
+evidence-keeps shape es e file call holder number lock h = record {
+  mode = h.mode;
+  wanted = h.wanted;
+  asked = asked-keeps shape es e file call h.mode h.wanted.required h.asked;
+  at = h.at;
+  later = h.later;
+  revoked = revoked-keeps es e file holder number h.at h.revoked;
+  first_done = first_done-keeps shape es e file holder number h.at (entry_at-within es h.at h.revoked.revoking h.revoked.there) h.first_done;
+  does = h.does;
+  answer = h.answer;
+  no_reply = h.no_reply;
+  world = h.world;
+  after = after-keeps shape es (e ∷ []) h.at h.world (entry_at-within es h.at h.revoked.revoking h.revoked.there) h.after;
+  of_node = h.of_node;
+  of_incarnation = h.of_incarnation;
+  blocks = h.blocks;
+}
+
+-- an open call is about what it was asked for
+abbrev pub IsAskedBy : ShapeFields → List Entry → NodeState → OpenCall → Type 0
+IsAskedBy shape past s c = IsAsked shape past c.file (id_of s c.number) c.mode c.span
+
+-- a conflict has its evidence; and while the call is open the one table may have refused it there
+pub record Denies (shape : ShapeFields) (past : List Entry) (w : WorldState) (file : ℕ) (call : CallId) (holder : Host) (number : ℕ) (lock : LockInfo) : Type 0 where
+  pub evidence : HasEvidence shape past file call holder number lock
+  pub allows : All (λ c. id_of (w.nodes call.node) c.number ≡ call → Step (union evidence.world) (caller call evidence.asked.pid) evidence.asked.op (refusal_of c.intent lock) (union evidence.world)) (w.nodes call.node).pending
+
+-- what stands behind a message
+abbrev pub Backed : ShapeFields → List Entry → WorldState → Message → Type 0
+Backed shape past w (Request file call urgency mode wanted) = IsAsked shape past file call mode wanted.required
+Backed shape past w (Revoke file number holder call mode wanted) = IsAsked shape past file call mode wanted.required × (holder.node ≡ call.node → ⊥)
+Backed shape past w (Conflict file number holder call lock) = Denies shape past w file call holder number lock
+Backed shape past w (Deny file call holder number lock) = Denies shape past w file call holder number lock
+Backed shape past w (Grant file number call mode span) = Unit {0}
+Backed shape past w (Taken file number call) = Unit {0}
+Backed shape past w (Released file number holder call span) = Unit {0}
+Backed shape past w (Freed file holder) = Unit {0}
+
+-- and behind a request that a server keeps
+abbrev pub HeldFor : ShapeFields → List Entry → ℕ → Held → Type 0
+HeldFor shape past file r = IsAsked shape past file r.call r.mode r.wanted.required
+
+-- each open call was open before under its name, or is new
+abbrev pub StaysOpen : List Entry → NodeState → NodeState → Type 0
+StaysOpen past s u = All (λ c. (Contains s.pending c × (id_of s c.number ≡ id_of u c.number)) ⊎ (IsNamed past (id_of u c.number) → ⊥)) u.pending
+
+module _ (shape : ShapeFields) (past : List Entry) (e : Entry) (w v : WorldState) (stays : (n : ℕ) → StaysOpen past (w.nodes n) (v.nodes n)) where
+  pub denies-keeps : (file : ℕ) (call : CallId) (holder : Host) (number : ℕ) (lock : LockInfo) → Denies shape past w file call holder number lock → Denies shape (past ++ e ∷ []) v file call holder number lock
+  denies-keeps file call holder number lock d =
+      let h = d.evidence in
+      let s = w.nodes call.node in
+      let u = v.nodes call.node in
+      let A : OpenCall → Type 0 = λ c. id_of s c.number ≡ call → Step (union h.world) (caller call h.asked.pid) h.asked.op (refusal_of c.intent lock) (union h.world) in
+      let B : OpenCall → Type 0 = λ c. id_of u c.number ≡ call → Step (union h.world) (caller call h.asked.pid) h.asked.op (refusal_of c.intent lock) (union h.world) in
+      let S : OpenCall → Type 0 = λ c. (Contains s.pending c × (id_of s c.number ≡ id_of u c.number)) ⊎ (IsNamed past (id_of u c.number) → ⊥) in
+      record {
+        evidence = evidence-keeps shape past e file call holder number lock h;
+        allows = All-weaker S B (λ c stay named. elim stay [
+          | inl old ↦ All-contains A s.pending c d.allows old.0 (old.1 ∙ named)
+          | inr new ↦ absurd (new (subst (IsNamed past) (sym named) (named_called past call h.asked.pid h.asked.op h.asked.at h.asked.called)))
+        ]) u.pending (stays call.node);
+      }
+
+  pub backed-keeps : (m : Message) → Backed shape past w m → Backed shape (past ++ e ∷ []) v m
+  backed-keeps (Request file call urgency mode wanted) b = asked-keeps shape past e file call mode wanted.required b
+  backed-keeps (Revoke file number holder call mode wanted) b = (asked-keeps shape past e file call mode wanted.required b.0, b.1)
+  backed-keeps (Conflict file number holder call lock) b = denies-keeps file call holder number lock b
+  backed-keeps (Deny file call holder number lock) b = denies-keeps file call holder number lock b
+  backed-keeps (Grant file number call mode span) b = b
+  backed-keeps (Taken file number call) b = b
+  backed-keeps (Released file number holder call span) b = b
+  backed-keeps (Freed file holder) b = b

@@ -1,0 +1,3 @@
+-- Lists of locks and of tokens.
+pub mod TokenLists
+pub mod LockLists

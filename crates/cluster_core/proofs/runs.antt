@@ -1,0 +1,4 @@
+-- Runs, entry by entry, and what holds of each.
+pub mod JournalRuns
+pub mod Runs
+pub mod Replayed

@@ -1,0 +1,59 @@
+-- Every run is safe and has a history and a plain one, and each denial its evidence.
+use Rattle.std.proofs.Common.{◌≡◌, ℕ, refl, List, take, Ok}
+use Rattle.messages.specs.Shapes.{ShapeFields, IsShape}
+use Rattle.messages.specs.declared.message.Message.TheVariants.{Conflict}
+use Rattle.messages.specs.declared.event.Event.{Event}
+use Rattle.messages.specs.declared.entry.Entry.{Entry}
+use Rattle.node_core.specs.State.{host}
+use Rattle.cluster_core.specs.World.{WorldState, first_world}
+use Rattle.cluster_core.specs.Next.{next}
+use Rattle.cluster_core.specs.Runs.{Leads}
+use Rattle.cluster_core.specs.Safe.{IsSafe}
+use Rattle.cluster_core.specs.Histories.{HasHistory, EachAtItsPlace, EveryRunHasAHistory}
+use Rattle.cluster_core.specs.Evidence.{EveryDenialHasEvidence}
+use Rattle.cluster_core.proofs.history.Placement.{slots_of, items_in, history_of}
+use Rattle.cluster_core.specs.Plain.{EveryRunHasAPlainHistory}
+use Rattle.cluster_core.proofs.tokens.Covering.{Covered, first_covered}
+use Rattle.cluster_core.proofs.tokens.Served.{all_covered, next_covered}
+use Rattle.cluster_core.proofs.tokens.Unbarred.{safe_of}
+use Rattle.cluster_core.proofs.tokens.Present.{Present}
+use Rattle.cluster_core.proofs.tokens.Apart.{next_present, present_first, present_apart, answers_counted, remembered_sent}
+use Rattle.cluster_core.proofs.tokens.Heard.{IsHeard}
+use Rattle.cluster_core.proofs.history.Plain.{plain_slots}
+use Rattle.cluster_core.proofs.history.Pasts.{AllOwn, safe_after, history_after, plain_after, evidence_after}
+
+-- tokens, rows and messages fit, and locks are covered
+pub record IsCovered (w : WorldState) : Type 0 where
+  pub present : Present w
+  pub covered : (n : ℕ) → Covered (w.nodes n)
+
+covered_first : (shape : ShapeFields) → IsCovered (first_world shape)
+covered_first shape = record { present = present_first shape; covered = λ n. first_covered shape n 1 }
+
+covered_next : (w : WorldState) → AllOwn w → IsCovered w → (event : Event) (p : WorldState × Entry) → next w event ≡ Ok p → IsCovered p.0
+covered_next w own c event p h = record { present = next_present w c.present event p h; covered = next_covered w event p (λ n. (own n).locks) c.covered h }
+
+covered_heard : (w : WorldState) → IsCovered w → IsHeard w
+covered_heard w c = record {
+  safe = safe_of w (present_apart w c.present) (all_covered w c.covered);
+  answers = λ n file m there h. (remembered_sent w c.present file n m h).0;
+  counted = λ n file number call lock there sent. (answers_counted w c.present file n number (Conflict file number (host (w.nodes n)) call lock) sent (refl, refl, c.present.named n, refl)).0;
+}
+
+pub safe_run : (shape : ShapeFields) (es : List Entry) (w : WorldState) → IsShape shape → Leads (first_world shape) es w → IsSafe w
+safe_run shape es w is l = safe_after shape is IsCovered (covered_first shape) covered_next covered_heard es w l
+
+-- its history has each call at its place
+pub has_history : (shape : ShapeFields) (es : List Entry) (w : WorldState) → IsShape shape → Leads (first_world shape) es w → HasHistory shape es (history_of es) × EachAtItsPlace es (history_of es)
+has_history shape es w is l = history_after shape is IsCovered (covered_first shape) covered_next covered_heard es w l
+
+pub every_run : EveryRunHasAHistory
+every_run shape es w is l =
+    let h = has_history shape es w is l in
+    (history_of es, h.0, h.1)
+
+pub every_plain : EveryRunHasAPlainHistory
+every_plain shape es w is l = (items_in (plain_slots (slots_of es)), plain_after shape is IsCovered (covered_first shape) covered_next covered_heard es w l)
+
+pub every_denial : EveryDenialHasEvidence
+every_denial shape es is at w file call holder number lock l told = evidence_after shape is IsCovered (covered_first shape) covered_next covered_heard (take at es) w file call holder number lock l told

@@ -1,0 +1,289 @@
+-- What a token server keeps and sends comes of what it is told.
+use Rattle.std.specs.Prelude.{is_some, nat_le, nat_lt, ◌==◌, filter_map, option_map}
+use Rattle.std.specs.List.{list_any, range_with_len, cons_option}
+use Rattle.std.proofs.Common.{◌≡◌, ℕ, ◌+◌, ◌-◌, Bool, true, false, not, ◌&&◌, ◌||◌, if◌then◌else◌, ◌⊎◌, inl, inr, refl, sym, ◌∙◌, ap, subst, arith, List, [], ◌∷◌, ◌++◌, All, Option, Some, None, Result, Ok, Err}
+use Rattle.std.proofs.lemmas.Bool.{and_parts, both_ways, leb-true, eq-eqb, not-true}
+use Rattle.std.proofs.lemmas.Option.{none-some, same_Some}
+use Rattle.std.proofs.lemmas.List.Elements.{All-nil, All-cons, All-head, All-tail, All-push, All-append, All-filter, All-weaker}
+use Rattle.intervals.specs.Bytes.{Range}
+use Rattle.intervals.proofs.SearchLaws.{first_is_first}
+use Rattle.model.specs.declared.call.CallId.{CallId}
+use Rattle.model.specs.declared.host.Host.{Host}
+use Rattle.model.specs.declared.lock_info.LockInfo.{LockInfo}
+use Rattle.model.specs.declared.mode.Mode.{Mode}
+use Rattle.model.specs.Owners.{host_of_call}
+use Rattle.token_set.specs.Tokens.{Token, raised}
+use Rattle.token_set.specs.Releases.{lowered}
+use Rattle.messages.specs.declared.message.Urgency.TheVariants.{Now}
+use Rattle.messages.specs.declared.message.Message.{Message}
+use Rattle.messages.specs.declared.message.Message.TheVariants.{Request, Grant, Revoke, Taken, Released, Conflict, Deny, Freed}
+use Rattle.messages.specs.declared.outcome.Outcome.{Outcome}
+use Rattle.messages.specs.declared.refusal.StepError.{StepError}
+use Rattle.messages.specs.declared.refusal.StepError.TheVariants.{Stranger, Spent}
+use Rattle.messages.specs.Messages.{addressee, host_of, is_within, greatest_number, same_urgency, sending}
+use Rattle.token_server.specs.declared.held.Held.{Held}
+use Rattle.token_server.specs.declared.event.ServerEvent.TheVariants.{Deliver, Resend, Learn}
+use Rattle.token_server.specs.State.{Row, ServerState, empty_row, with_row, is_of_call, is_up_to, row_above, unless, forgotten}
+use Rattle.token_server.specs.Serve.{admitted, row_conflicts, conflicting_node, granted_span, commanded, granted_to, revoked_from, served, serve}
+use Rattle.token_server.specs.Resends.{outstanding_of, outstanding, sending_first}
+use Rattle.token_server.specs.Server.{Change, with_a_row, is_active, enqueued, asked, is_grant, revoked_mode, acknowledged, ended, denial, taken, released, in_conflict, row_of_host, delivered, is_server, change, then_serve, server_rule}
+use Rattle.cluster_core.proofs.common.Choices.{if_either}
+use Rattle.cluster_core.proofs.common.Refusals.{ok_is, if_ours}
+
+row_above_kept : (i : ℕ) (o : Option Row) (r : Row) → row_above i o ≡ Some r → o ≡ Some r
+row_above_kept i None r h = h
+row_above_kept i (Some row) r h = elim (nat_le row.incarnation i) as (λ b. (if b then None else Some row) ≡ Some r → Some row ≡ Some r) [ true ↦ λ x. absurd (none-some r x) | false ↦ λ x. x ] h
+
+-- what is left where some are dropped
+pub unless_some : (drops : Held → Bool) (o : Option Held) (r : Held) → unless drops o ≡ Some r → (o ≡ Some r) × (drops r ≡ false)
+unless_some drops None r h = absurd (none-some r h)
+unless_some drops (Some x) r h =
+    elim (drops x) as (λ b. drops x ≡ b → (if b then None else Some x) ≡ Some r → (Some x ≡ Some r) × (drops r ≡ false)) [
+      | true ↦ λ is h. absurd (none-some r h)
+      | false ↦ λ is h. (h, ap drops (sym (same_Some x r h)) ∙ is)
+    ] refl h
+
+-- a message that is not refused changes the server unless it is of a dead incarnation
+pub change_done : (t : ServerState) (m : Message) (o : Option Change) → change t m ≡ Ok o → (is_within t.shape.nodes (host_of m).node ≡ true) × ((None ≡ o) ⊎ ((nat_le (host_of m).incarnation (t.dead (host_of m).node) ≡ false) × (delivered t m ≡ o)))
+change_done t m o h =
+    let is = if_ours (is_server t.file (addressee m)) (is_within t.shape.nodes (host_of m).node) (nat_le (host_of m).incarnation (t.dead (host_of m).node)) None (delivered t m) o Stranger h in
+    (is.1, elim is.2 [ inl dead ↦ inl dead.1 | inr live ↦ inr live ])
+
+-- the node that is to give up is another than that of the call
+other_node : (s : ServerState) (r : Held) → nat_le (conflicting_node s r) s.shape.nodes ≡ true → conflicting_node s r ≡ r.call.node → ⊥
+other_node s r some same =
+    let test : ℕ → Bool = λ n. not (n == r.call.node) && row_conflicts (s.rows n) r.wanted.required r.mode in
+    let le = leb-true (conflicting_node s r) s.shape.nodes some in
+    let here = (first_is_first test 1 s.shape.nodes).here (omega arith) in
+    let other = (and_parts (not (conflicting_node s r == r.call.node)) (row_conflicts (s.rows (conflicting_node s r)) r.wanted.required r.mode) here).0 in
+    both_ways (conflicting_node s r == r.call.node) (not-true (conflicting_node s r == r.call.node) other) (eq-eqb (conflicting_node s r) r.call.node same)
+
+mapped : (C : Message → Type 0) (f : ℕ → Option Message) (ns : List ℕ) → ((n : ℕ) (m : Message) → f n ≡ Some m → C m) → All C (filter_map f ns)
+mapped C f [] each = All-nil C
+mapped C f (n ∷ ns) each =
+    let rest = mapped C f ns each in
+    elim (f n) as (λ o. f n ≡ o → All C (cons_option o (filter_map f ns))) [ None ↦ λ h. rest | Some m ↦ λ h. All-cons C m (filter_map f ns) (each n m h) rest ] refl
+
+-- the requests that a server keeps are of one kind, its commands of another
+pub record Comes (file : ℕ) (H : Held → Type 0) (C : Message → Type 0) (t : ServerState) : Type 0 where
+  pub file_is : t.file ≡ file
+  pub queued : All H t.queue
+  pub active : (r : Held) → t.active ≡ Some r → H r
+  pub outstanding : (n : ℕ) (row : Row) (m : Message) → t.rows n ≡ Some row → row.outstanding ≡ Some m → C m
+
+pub comes-weaker : (file : ℕ) (H G : Held → Type 0) (C D : Message → Type 0) (t : ServerState) → ((r : Held) → H r → G r) → ((m : Message) → C m → D m) → Comes file H C t → Comes file G D t
+comes-weaker file H G C D t to told c = record {
+  file_is = c.file_is;
+  queued = All-weaker H G to t.queue c.queued;
+  active = λ r h. to r (c.active r h);
+  outstanding = λ n row m there h. told m (c.outstanding n row m there h);
+}
+
+-- the commands that it may make of them
+pub record Makes (file : ℕ) (H : Held → Type 0) (C : Message → Type 0) : Type 0 where
+  pub grants : (number : ℕ) (call : CallId) (mode : Mode) (span : Range) → C (Grant file number call mode span)
+  pub revokes : (number : ℕ) (holder : Host) (r : Held) → H r → (holder.node ≡ r.call.node → ⊥) → C (Revoke file number holder r.call r.mode r.wanted)
+
+-- what a message tells it
+abbrev pub Tells : ℕ → (Held → Type 0) → (Message → Type 0) → Message → Type 0
+Tells file H C (Request f call urgency mode wanted) = H (record { call = call; urgency = urgency; mode = mode; wanted = wanted })
+Tells file H C (Conflict f number holder call lock) = C (Deny file call holder number lock)
+Tells file H C _ = Unit {0}
+
+module _ (file : ℕ) (H : Held → Type 0) (C : Message → Type 0) (makes : Makes file H C) where
+  with_row-comes : (t : ServerState) (n : ℕ) (row : Row) → ((m : Message) → row.outstanding ≡ Some m → C m) → Comes file H C t → Comes file H C (with_row t n (Some row))
+  with_row-comes t n row told c = record {
+    file_is = c.file_is;
+    queued = c.queued;
+    active = c.active;
+    outstanding = λ k r m there h. elim (k == n) as (λ b. (if b then Some row else t.rows k) ≡ Some r → C m) [
+      | true ↦ λ is. told m (ap (λ (x : Row). x.outstanding) (same_Some row r is) ∙ h)
+      | false ↦ λ is. c.outstanding k r m is h
+    ] there;
+  }
+
+  forgotten-comes : (t : ServerState) (node i : ℕ) → Comes file H C t → Comes file H C (forgotten t node i)
+  forgotten-comes t node i c = record {
+    file_is = c.file_is;
+    queued = All-filter (λ r. not (is_up_to node i r)) H t.queue c.queued;
+    active = λ r h. c.active r (unless_some (is_up_to node i) t.active r h).0;
+    outstanding = λ k r m there h. elim (k == node) as (λ b. (if b then row_above i (t.rows k) else t.rows k) ≡ Some r → C m) [
+      | true ↦ λ is. c.outstanding k r m (row_above_kept i (t.rows k) r is) h
+      | false ↦ λ is. c.outstanding k r m is h
+    ] there;
+  }
+
+  with_a_row-comes : (t : ServerState) (call : CallId) (o : Option Row) → Comes file H C t → Comes file H C (with_a_row t call o)
+  with_a_row-comes t call None c = with_row-comes t call.node (empty_row call.incarnation) (λ m h. absurd (none-some m h)) c
+  with_a_row-comes t call (Some row) c = c
+
+  enqueued-comes : (t : ServerState) (r : Held) → H r → Comes file H C t → Comes file H C (enqueued t r)
+  enqueued-comes t r held c = elim (is_active r.call t.active || list_any (is_of_call r.call) t.queue) as (λ b. Comes file H C (if b then t else record t { queue = t.queue ++ r ∷ [] })) [
+    | true ↦ c
+    | false ↦ record { file_is = c.file_is; queued = All-push H t.queue r c.queued held; active = c.active; outstanding = c.outstanding }
+  ]
+
+  asked-comes : (t : ServerState) (r : Held) → H r → Comes file H C t → Comes file H C (asked t r)
+  asked-comes t r held c =
+      let young = forgotten t r.call.node (r.call.incarnation - 1) in
+      enqueued-comes (with_a_row young r.call (young.rows r.call.node)) r held (with_a_row-comes young r.call (young.rows r.call.node) (forgotten-comes t r.call.node (r.call.incarnation - 1) c))
+
+  acknowledged-comes : (t : ServerState) (node : ℕ) (row : Row) (token : Token) → Comes file H C t → Comes file H C (acknowledged t node row token)
+  acknowledged-comes t node row token c = with_row-comes t node (record row { token = token; outstanding = None }) (λ m h. absurd (none-some m h)) c
+
+  ended-comes : (t : ServerState) (call : CallId) → Comes file H C t → Comes file H C (ended call t)
+  ended-comes t call c = record { file_is = c.file_is; queued = c.queued; active = λ r h. c.active r (unless_some (is_of_call call) t.active r h).0; outstanding = c.outstanding }
+
+  -- what a message changes, and what is sent for it
+  abbrev Changes : Option Change → Type 0
+  Changes o = (c : Change) → o ≡ Some c → Comes file H C c.0 × All C c.1
+
+  changes_none : Changes None
+  changes_none c h = absurd (none-some c h)
+
+  changes_one : (x : Change) → Comes file H C x.0 × All C x.1 → Changes (Some x)
+  changes_one x both c h = subst (λ (y : Change). Comes file H C y.0 × All C y.1) (same_Some x c h) both
+
+  taken-changes : (t : ServerState) (number : ℕ) (call : CallId) (o : Option Row) → Comes file H C t → Changes (taken t number call o)
+  taken-changes t number call None c = changes_none
+  taken-changes t number call (Some row) c =
+      let next = acknowledged t call.node row row.token in
+      elim (is_grant number row.outstanding) as (λ b. Changes (if b then Some (ended call next, []) else None)) [
+        | true ↦ changes_one (ended call next, []) (ended-comes next call (acknowledged-comes t call.node row row.token c), All-nil C)
+        | false ↦ changes_none
+      ]
+
+  released-changes : (t : ServerState) (number : ℕ) (holder : Host) (span : Range) (o : Option Row) → Comes file H C t → Changes (released t number holder span o)
+  released-changes t number holder span None c = changes_none
+  released-changes t number holder span (Some row) c =
+      let next : Mode → Change = λ mode. (acknowledged t holder.node row (lowered row.token span mode), []) in
+      elim (revoked_mode number row.outstanding) as (λ o. Changes (option_map next o)) [
+        | None ↦ changes_none
+        | Some mode ↦ changes_one (next mode) (acknowledged-comes t holder.node row (lowered row.token span mode) c, All-nil C)
+      ]
+
+  denial-sends : (call : CallId) (deny : Message) (o : Option Held) → C deny → All C (denial call deny o)
+  denial-sends call deny None told = All-nil C
+  denial-sends call deny (Some r) told = elim (is_of_call call r && same_urgency r.urgency Now) as (λ b. All C (if b then deny ∷ [] else [])) [ true ↦ All-cons C deny [] told (All-nil C) | false ↦ All-nil C ]
+
+  conflict-changes : (t : ServerState) (number : ℕ) (holder : Host) (call : CallId) (lock : LockInfo) (o : Option Row) → C (Deny file call holder number lock) → Comes file H C t → Changes (in_conflict t number holder call lock o)
+  conflict-changes t number holder call lock None told c = changes_none
+  conflict-changes t number holder call lock (Some row) told c =
+      let next = acknowledged t holder.node row row.token in
+      let deny = Deny t.file call holder number lock in
+      let here : C deny = subst (λ (f : ℕ). C (Deny f call holder number lock)) (sym c.file_is) told in
+      let made : Mode → Change = λ mode. (ended call next, denial call deny t.active) in
+      elim (revoked_mode number row.outstanding) as (λ o. Changes (option_map made o)) [
+        | None ↦ changes_none
+        | Some mode ↦ changes_one (made mode) (ended-comes next call (acknowledged-comes t holder.node row row.token c), denial-sends call deny t.active here)
+      ]
+
+  delivered-changes : (t : ServerState) (m : Message) → Tells file H C m → Comes file H C t → Changes (delivered t m)
+  delivered-changes t (Request f call urgency mode wanted) told c =
+      let r : Held = record { call = call; urgency = urgency; mode = mode; wanted = wanted } in
+      changes_one (asked t r, []) (asked-comes t r told c, All-nil C)
+  delivered-changes t (Taken f number call) told c = taken-changes t number call (row_of_host t (host_of_call call)) c
+  delivered-changes t (Released f number holder call span) told c = released-changes t number holder span (row_of_host t holder) c
+  delivered-changes t (Conflict f number holder call lock) told c = conflict-changes t number holder call lock (row_of_host t holder) told c
+  delivered-changes t (Freed f holder) told c = changes_one (t, []) (c, All-nil C)
+  delivered-changes t (Grant f number call mode span) told c = changes_none
+  delivered-changes t (Revoke f number holder call mode wanted) told c = changes_none
+  delivered-changes t (Deny f call holder number lock) told c = changes_none
+
+  -- serving
+  abbrev Serves : Result (ServerState × List Message) StepError → Type 0
+  Serves r = (done : ServerState × List Message) → r ≡ Ok done → Comes file H C done.0 × All C done.1
+
+  serves_one : (x : ServerState × List Message) → Comes file H C x.0 × All C x.1 → Serves (Ok x)
+  serves_one x both done h = subst (λ (y : ServerState × List Message). Comes file H C y.0 × All C y.1) (ok_is x done h) both
+
+  serves_none : (e : StepError) → Serves (Err e)
+  serves_none e done h = absurd (cc)
+
+  commanded-serves : (t : ServerState) (node : ℕ) (row : Row) (token : Token) (command : Message) → C command → Comes file H C t → Serves (commanded t node row token command)
+  commanded-serves t node row token command told c =
+      let next = record row { token = token; number = row.number + 1; outstanding = Some command } in
+      if_either Serves (is_some row.outstanding) _ _ (serves_one (t, []) (c, All-nil C))
+      (if_either Serves (nat_lt row.number greatest_number) _ _ (serves_one (with_row t node (Some next), command ∷ []) (with_row-comes t node next (λ m h. subst C (same_Some command m h) told) c, All-cons C command [] told (All-nil C))) (serves_none Spent))
+
+  granted-serves : (t : ServerState) (r : Held) (o : Option Row) → Comes file H C t → Serves (granted_to t r o)
+  granted-serves t r None c = serves_one (t, []) (c, All-nil C)
+  granted-serves t r (Some row) c =
+      let span = granted_span t r in
+      commanded-serves t r.call.node row (raised row.token span r.mode) (Grant t.file (row.number + 1) r.call r.mode span) (subst (λ (f : ℕ). C (Grant f (row.number + 1) r.call r.mode span)) (sym c.file_is) (makes.grants (row.number + 1) r.call r.mode span)) c
+
+  revoked-serves : (t : ServerState) (r : Held) (node : ℕ) (o : Option Row) → H r → (node ≡ r.call.node → ⊥) → Comes file H C t → Serves (revoked_from t r node o)
+  revoked-serves t r node None held other c = serves_one (t, []) (c, All-nil C)
+  revoked-serves t r node (Some row) held other c =
+      let holder : Host = record { node = node; incarnation = row.incarnation } in
+      commanded-serves t node row row.token (Revoke t.file (row.number + 1) holder r.call r.mode r.wanted) (subst (λ (f : ℕ). C (Revoke f (row.number + 1) holder r.call r.mode r.wanted)) (sym c.file_is) (makes.revokes (row.number + 1) holder r held other)) c
+
+  served-serves : (t : ServerState) (o : Option Held) → t.active ≡ o → Comes file H C t → Serves (served t o)
+  served-serves t None is c = serves_one (t, []) (c, All-nil C)
+  served-serves t (Some r) is c =
+      let node = conflicting_node t r in
+      elim (nat_le node t.shape.nodes) as (λ b. nat_le node t.shape.nodes ≡ b → Serves (if b then revoked_from t r node (t.rows node) else granted_to t r (t.rows r.call.node))) [
+        | true ↦ λ h. revoked-serves t r node (t.rows node) (c.active r is) (other_node t r h) c
+        | false ↦ λ h. granted-serves t r (t.rows r.call.node) c
+      ] refl
+
+  admitted-comes : (t : ServerState) (active : Option Held) (queue : List Held) → t.queue ≡ queue → Comes file H C t → Comes file H C (admitted t active queue)
+  admitted-comes t (Some r) queue is c = c
+  admitted-comes t None [] is c = c
+  admitted-comes t None (r ∷ rest) is c =
+      let all = subst (All H) is c.queued in
+      record {
+        file_is = c.file_is;
+        queued = All-tail H r rest all;
+        active = λ x h. subst H (same_Some r x h) (All-head H r rest all);
+        outstanding = c.outstanding;
+      }
+
+  serve-serves : (t : ServerState) → Comes file H C t → Serves (serve t)
+  serve-serves t c =
+      let next = admitted t t.active t.queue in
+      served-serves next next.active refl (admitted-comes t t.active t.queue refl c)
+
+  -- a step of the server
+  abbrev pub Steps : Result (ServerState × Outcome) StepError → Type 0
+  Steps r = (done : ServerState × Outcome) → r ≡ Ok done → Comes file H C done.0 × All C done.1.sends
+
+  steps_one : (x : ServerState × Outcome) → Comes file H C x.0 × All C x.1.sends → Steps (Ok x)
+  steps_one x both done h = subst (λ (y : ServerState × Outcome). Comes file H C y.0 × All C y.1.sends) (ok_is x done h) both
+
+  steps_none : (e : StepError) → Steps (Err e)
+  steps_none e done h = absurd (cc)
+
+  sending_first-steps : (first : List Message) (r : Result (ServerState × List Message) StepError) → All C first → Serves r → Steps (sending_first first r)
+  sending_first-steps first (Err e) told serves = steps_none e
+  sending_first-steps first (Ok done) told serves =
+      let both = serves done refl in
+      steps_one (done.0, sending (first ++ done.1)) (both.0, All-append C first done.1 told both.1)
+
+  then_serve-steps : (t : ServerState) (r : Result (Option Change) StepError) → Comes file H C t → ((o : Option Change) → r ≡ Ok o → Changes o) → Steps (then_serve t r)
+  then_serve-steps t (Err e) c changes = steps_none e
+  then_serve-steps t (Ok None) c changes = steps_one (t, sending []) (c, All-nil C)
+  then_serve-steps t (Ok (Some x)) c changes =
+      let both = changes (Some x) refl x refl in
+      sending_first-steps x.1 (serve x.0) both.1 (serve-serves x.0 both.0)
+
+  change-changes : (t : ServerState) (m : Message) → Tells file H C m → Comes file H C t → (o : Option Change) → change t m ≡ Ok o → Changes o
+  change-changes t m told c o h = elim (change_done t m o h).1 [ inl none ↦ subst Changes none changes_none | inr live ↦ subst Changes live.1 (delivered-changes t m told c) ]
+
+  pub delivered-steps : (t : ServerState) (m : Message) → Tells file H C m → Comes file H C t → Steps (server_rule t (Deliver m))
+  delivered-steps t m told c = then_serve-steps t (change t m) c (change-changes t m told c)
+
+  pub resend-steps : (t : ServerState) → Comes file H C t → Steps (server_rule t Resend)
+  resend-steps t c = sending_first-steps (outstanding t) (serve t) (mapped C (λ node. outstanding_of (t.rows node)) (range_with_len 1 t.shape.nodes) each) (serve-serves t c)
+    where
+      kept : (n : ℕ) (m : Message) (o : Option Row) → t.rows n ≡ o → outstanding_of o ≡ Some m → C m
+      kept n m None there h = absurd (none-some m h)
+      kept n m (Some row) there h = c.outstanding n row m there h
+
+      each : (n : ℕ) (m : Message) → outstanding_of (t.rows n) ≡ Some m → C m
+      each n m h = kept n m (t.rows n) refl h
+
+  pub learn-steps : (t : ServerState) (n i : ℕ) → Comes file H C t → Steps (server_rule t (Learn n i))
+  learn-steps t n i c =
+      let young = forgotten t n i in
+      if_either Steps (not (is_within t.shape.nodes n)) _ _ (steps_none Stranger) (sending_first-steps [] (serve young) (All-nil C) (serve-serves young (forgotten-comes t n i c)))

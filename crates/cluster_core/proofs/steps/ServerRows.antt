@@ -1,0 +1,519 @@
+-- What a token server's step does to its rows, and what it sends.
+use Rattle.std.specs.Prelude.{max, nat_le, nat_lt, ◌==◌, not, is_some, option_map}
+use Rattle.std.specs.List.{list_any, All}
+use Rattle.std.proofs.Common.{◌≡◌, ℕ, ◌+◌, ◌-◌, ◌<◌, ◌≤◌, Bool, true, false, if◌then◌else◌, ◌&&◌, ◌||◌, ◌⊎◌, inl, inr, refl, sym, ◌∙◌, ap, subst, arith, List, [], ◌∷◌, ◌++◌, filter, Option, Some, None, Result, Ok, Err}
+use Rattle.std.proofs.lemmas.Bool.{both_ways, cases_Bool, cases_lt, and_parts, and_from, eqb-true, eq-eqb, ne_eqb, leb-true, leb-false, le-leb, lt-leb, not-true, not_from_false, false_from_ne_true}
+use Rattle.std.proofs.lemmas.Option.{same_Some, none-some}
+use Rattle.std.proofs.lemmas.List.Elements.{All-weaker, All-push, All-head, All-tail, All-filter, filter_passes}
+use Rattle.intervals.specs.Search.{first}
+use Rattle.intervals.specs.Bytes.{Range, is_in, NoneIn}
+use Rattle.intervals.proofs.SearchLaws.{first_is_first}
+use Rattle.model.specs.declared.mode.Mode.{Mode}
+use Rattle.model.specs.declared.call.CallId.{CallId}
+use Rattle.model.specs.declared.host.Host.{Host}
+use Rattle.model.specs.declared.lock_info.LockInfo.{LockInfo}
+use Rattle.model.specs.Owners.{host_of_call}
+use Rattle.token_set.specs.Tokens.{Token}
+use Rattle.token_set.specs.Releases.{lowered}
+use Rattle.token_set.proofs.SearchLaws.{some_passes-first, some_passes-none}
+use Rattle.messages.specs.declared.message.Message.{Message}
+use Rattle.messages.specs.declared.message.Message.TheVariants.{Request, Grant, Revoke, Taken, Released, Conflict, Deny, Freed}
+use Rattle.messages.specs.declared.refusal.StepError.{StepError}
+use Rattle.messages.specs.declared.message.Urgency.TheVariants.{Now}
+use Rattle.messages.specs.declared.actor.Actor.TheVariants.{Server as AServer}
+use Rattle.messages.specs.declared.refusal.StepError.TheVariants.{Spent}
+use Rattle.messages.specs.declared.outcome.Outcome.{Outcome}
+use Rattle.messages.specs.Messages.{addressee, host_of, same_urgency, greatest_number, is_within, sending}
+use Rattle.messages.specs.Shapes.{ShapeFields}
+use Rattle.node_core.specs.State.{NodeState}
+use Rattle.token_server.specs.declared.held.Held.{Held}
+use Rattle.token_server.specs.declared.event.ServerEvent.TheVariants.{Deliver}
+use Rattle.token_server.specs.State.{Row, ServerState, empty_row, with_row, is_of_call, is_up_to, row_above, forgotten}
+use Rattle.token_server.specs.Serve.{admitted, row_conflicts, row_conflicts_at, is_taken, granted_span, conflicting_node, commanded, granted_to, revoked_from, served, serve}
+use Rattle.token_server.specs.Resends.{sending_first}
+use Rattle.token_server.specs.Server.{Change, with_a_row, enqueued, is_active, is_grant, revoked_mode, asked, acknowledged, ended, denial, row_of_incarnation, row_of_host, taken, released, in_conflict, delivered, change, then_serve, server_rule}
+use Rattle.token_server.proofs.GrantLaws.{conflicts_at, conflicts_at_byte, row_free}
+use Rattle.cluster_core.proofs.common.Choices.{at_number}
+use Rattle.cluster_core.proofs.common.Refusals.{ok_is}
+use Rattle.cluster_core.proofs.common.Lists.{All-both}
+use Rattle.cluster_core.proofs.steps.Requested.{unless_some, change_done}
+use Rattle.cluster_core.proofs.tokens.Clearing.{around_free}
+use Rattle.cluster_core.proofs.tokens.Talks.{Sent, IsCommandTo, IsAnswerOf, promised, settled, unasked, Talk}
+use Rattle.cluster_core.proofs.tokens.TalkMoves.{talk-forgets, talk-row, talk-answered, answered_row, commanded_row}
+use Rattle.cluster_core.proofs.steps.NodeTokens.{Only, only_none, only_one}
+
+-- what a server and the nodes know of each other
+abbrev pub TalkOf : Sent → (ℕ → NodeState) → ℕ → ServerState → ℕ → Type 0
+TalkOf was nodes file t n = Talk was file n (nodes n).incarnation (unasked ((nodes n).files file)) (t.rows n) (t.dead n)
+
+-- the request is of the incarnation after those that are known as dead, of a node of the shape that has a row
+pub record IsCurrent (t : ServerState) (r : Held) : Type 0 where
+  pub of : r.call.incarnation ≡ t.dead r.call.node + 1
+  pub within : is_within t.shape.nodes r.call.node ≡ true
+  pub has_row : is_some (t.rows r.call.node) ≡ true
+
+pub record Serves (was : Sent) (nodes : ℕ → NodeState) (shape : ShapeFields) (file : ℕ) (t : ServerState) : Type 0 where
+  pub file_is : t.file ≡ file
+  pub shape_is : t.shape ≡ shape
+  pub talks : (n : ℕ) → TalkOf was nodes file t n
+  pub queued : All (IsCurrent t) t.queue
+  pub active : (r : Held) → t.active ≡ Some r → IsCurrent t r
+
+-- a command that has no answer was sent
+pub outstanding_sent : (was : Sent) (nodes : ℕ → NodeState) (shape : ShapeFields) (file : ℕ) (t : ServerState) → Serves was nodes shape file t → (n : ℕ) (row : Row) (m : Message) → t.rows n ≡ Some row → row.outstanding ≡ Some m → was m
+outstanding_sent was nodes shape file t serves n row m there is = ((serves.talks n).waits row m there is).0
+
+-- the row waits for this answer, of that number, to what is outstanding, and has the other token then
+pub record Awaits (k : ℕ) (outstanding : Option Message) (old : Token) (answer : Message) (new : Token) : Type 0 where
+  pub command : Message
+  pub waiting : outstanding ≡ Some command
+  pub number : (file n i l : ℕ) → IsCommandTo file n i l command → k ≡ l
+  pub token : settled old command answer ≡ new
+
+awaits_taken : (k : ℕ) (o : Option Message) (t : Token) (answer : Message) → is_grant k o ≡ true → Awaits k o t answer t
+awaits_taken k (Some (Grant f l call mode span)) t answer h = record { command = Grant f l call mode span; waiting = refl; number = λ file n i j to. sym (eqb-true l k h) ∙ to.1; token = refl }
+awaits_taken k None t answer h = absurd (cc)
+awaits_taken k (Some m) t answer h = absurd (cc)
+
+-- the command is a Revoke of that number and mode
+pub record Revokes (k : ℕ) (mode : Mode) (o : Option Message) : Type 0 where
+  pub command : Message
+  pub waiting : o ≡ Some command
+  pub number : (file n i l : ℕ) → IsCommandTo file n i l command → k ≡ l
+  pub lowers : (t : Token) (f l : ℕ) (h : Host) (c : CallId) (span : Range) → settled t command (Released f l h c span) ≡ lowered t span mode
+  pub keeps : (t : Token) (f l : ℕ) (h : Host) (c : CallId) (lock : LockInfo) → settled t command (Conflict f l h c lock) ≡ t
+
+revokes : (k : ℕ) (mode : Mode) (o : Option Message) → revoked_mode k o ≡ Some mode → Revokes k mode o
+revokes k mode (Some (Revoke f l holder call m wanted)) h =
+    elim (l == k) as (λ b. (l == k) ≡ b → (if b then Some m else None) ≡ Some mode → Revokes k mode (Some (Revoke f l holder call m wanted))) [
+      | true ↦ λ is h. record {
+        command = Revoke f l holder call m wanted;
+        waiting = refl;
+        number = λ file n i j to. sym (eqb-true l k is) ∙ to.1;
+        lowers = λ t g j x c span. ap (λ (y : Mode). lowered t span y) (same_Some m mode h);
+        keeps = λ t g j x c lock. refl;
+      }
+      | false ↦ λ is h. absurd (none-some mode h)
+    ] refl h
+revokes k mode None h = absurd (cc)
+revokes k mode (Some m) h = absurd (cc)
+
+-- the message denies a call of the live incarnation of its node, or of an older one
+abbrev pub IsDenial : (ℕ → NodeState) → Message → Type 0
+IsDenial nodes (Deny file call holder number lock) = call.incarnation ≤ (nodes call.node).incarnation
+IsDenial nodes _ = ⊥
+
+pub denial_command : (nodes : ℕ → NodeState) (file n i k : ℕ) (m : Message) → IsDenial nodes m → IsCommandTo file n i k m → ⊥
+denial_command nodes file n i k (Deny f call holder number lock) is to = to
+denial_command nodes file n i k m is to = is
+
+pub denial_answer : (nodes : ℕ → NodeState) (file n i k : ℕ) (m : Message) → IsDenial nodes m → IsAnswerOf file n i k m → ⊥
+denial_answer nodes file n i k (Deny f call holder number lock) is of = of
+denial_answer nodes file n i k m is of = is
+
+pub denial_known : (nodes : ℕ → NodeState) (m : Message) → IsDenial nodes m → (host_of m).incarnation ≤ (nodes (host_of m).node).incarnation
+denial_known nodes (Deny f call holder number lock) is = is
+denial_known nodes m is = absurd is
+
+has_some : {A : Type 0} (o : Option A) → is_some o ≡ true → (x : A) × (o ≡ Some x)
+has_some None h = absurd (cc)
+has_some (Some x) h = (x, refl)
+
+-- a row that is above stays
+above_stays : (j : ℕ) (o : Option Row) (r : Row) → o ≡ Some r → j < r.incarnation → is_some (row_above j o) ≡ true
+above_stays j None r h above = absurd (none-some r h)
+above_stays j (Some x) r h above =
+    let of : x.incarnation ≡ r.incarnation = ap (λ (y : Row). y.incarnation) (same_Some x r h) in
+    ap (λ (b : Bool). is_some (if b then None else Some x)) (lt-leb x.incarnation j (omega arith))
+
+module _ (was : Sent) (nodes : ℕ → NodeState) (shape : ShapeFields) (file : ℕ) (t : ServerState) (serves : Serves was nodes shape file t) where
+  module _ (n j : ℕ) (older : j < (nodes n).incarnation) where
+    -- a request that is not forgotten is still of the incarnation after the dead ones
+    current_forgets : (r : Held) → IsCurrent t r → is_up_to n j r ≡ false → IsCurrent (forgotten t n j) r
+    current_forgets r c young = record {
+      of = at_number r.call.node n (λ b. r.call.incarnation ≡ (if b then max (t.dead r.call.node) j else t.dead r.call.node) + 1)
+          (λ same. let above = kept same in let of = c.of in omega arith)
+          (λ other. c.of);
+      within = c.within;
+      has_row = at_number r.call.node n (λ b. is_some (if b then row_above j (t.rows r.call.node) else t.rows r.call.node) ≡ true)
+          (λ same.
+          let row = has_some (t.rows r.call.node) c.has_row in
+          let aged = (serves.talks r.call.node).aged row.0 row.1 in
+          let above = kept same in
+          let of = c.of in
+          above_stays j (t.rows r.call.node) row.0 row.1 (omega arith))
+          (λ other. c.has_row);
+    }
+      where
+        kept : r.call.node ≡ n → j < r.call.incarnation
+        kept same = elim (cases_lt j r.call.incarnation) [
+          | inl above ↦ above
+          | inr old ↦ absurd (both_ways (is_up_to n j r) young (and_from (r.call.node == n) (nat_le r.call.incarnation j) (eq-eqb r.call.node n same) (le-leb r.call.incarnation j old)))
+        ]
+
+    pub forgets : Serves was nodes shape file (forgotten t n j)
+    forgets = record {
+      file_is = serves.file_is;
+      shape_is = serves.shape_is;
+      talks = λ m. at_number m n (λ b. Talk was file m (nodes m).incarnation (unasked ((nodes m).files file)) (if b then row_above j (t.rows m) else t.rows m) (if b then max (t.dead m) j else t.dead m))
+          (λ same.
+          let before : j < (nodes m).incarnation = subst (λ (k : ℕ). j < (nodes k).incarnation) (sym same) older in
+          talk-forgets was file m (nodes m).incarnation (unasked ((nodes m).files file)) (t.dead m) j before (t.rows m) (serves.talks m))
+          (λ other. serves.talks m);
+      queued =
+          let test : Held → Bool = λ r. not (is_up_to n j r) in
+          All-both (IsCurrent t) (λ r. test r ≡ true) (IsCurrent (forgotten t n j)) (λ r c young. current_forgets r c (not-true (is_up_to n j r) young)) (filter test t.queue) (All-filter test (IsCurrent t) t.queue serves.queued) (filter_passes test t.queue);
+      active = λ r h. let kept = unless_some (is_up_to n j) t.active r h in current_forgets r (serves.active r kept.0) kept.1;
+    }
+
+  -- another row of a node keeps its requests
+  pub current_row : (n : ℕ) (row : Row) (r : Held) → IsCurrent t r → IsCurrent (with_row t n (Some row)) r
+  current_row n row r c = record {
+    of = c.of;
+    within = c.within;
+    has_row = at_number r.call.node n (λ b. is_some (if b then Some row else t.rows r.call.node) ≡ true) (λ same. refl) (λ other. c.has_row);
+  }
+
+  put_row : (n : ℕ) (row : Row) → Talk was file n (nodes n).incarnation (unasked ((nodes n).files file)) (Some row) (t.dead n) → Serves was nodes shape file (with_row t n (Some row))
+  put_row n row talk = record {
+    file_is = serves.file_is;
+    shape_is = serves.shape_is;
+    talks = λ m. at_number m n (λ b. Talk was file m (nodes m).incarnation (unasked ((nodes m).files file)) (if b then Some row else t.rows m) (t.dead m))
+        (λ same. subst (λ (k : ℕ). Talk was file k (nodes k).incarnation (unasked ((nodes k).files file)) (Some row) (t.dead k)) (sym same) talk)
+        (λ other. serves.talks m);
+    queued = All-weaker (IsCurrent t) (IsCurrent (with_row t n (Some row))) (current_row n row) t.queue serves.queued;
+    active = λ r h. current_row n row r (serves.active r h);
+  }
+
+  talk_with : (n : ℕ) (row : Option Row) → t.rows n ≡ row → Talk was file n (nodes n).incarnation (unasked ((nodes n).files file)) row (t.dead n)
+  talk_with n row is = subst (λ (o : Option Row). Talk was file n (nodes n).incarnation (unasked ((nodes n).files file)) o (t.dead n)) is (serves.talks n)
+
+  -- a row for a node that has none
+  pub makes_row : (call : CallId) (row : Option Row) → t.rows call.node ≡ row → call.incarnation ≡ t.dead call.node + 1 → Serves was nodes shape file (with_a_row t call row)
+  makes_row call None is of = put_row call.node (empty_row call.incarnation) (talk-row was file call.node (nodes call.node).incarnation (unasked ((nodes call.node).files file)) (t.dead call.node) call.incarnation of (talk_with call.node None is))
+  makes_row call (Some row) is of = serves
+
+  -- a request of the incarnation after the dead ones
+  pub queues : (r : Held) → IsCurrent t r → Serves was nodes shape file (enqueued t r)
+  queues r current = if_serves (is_active r.call t.active || list_any (is_of_call r.call) t.queue)
+    where
+      added : Serves was nodes shape file (record t { queue = t.queue ++ r ∷ [] })
+      added = record {
+        file_is = serves.file_is;
+        shape_is = serves.shape_is;
+        talks = serves.talks;
+        queued = All-weaker (IsCurrent t) (IsCurrent (record t { queue = t.queue ++ r ∷ [] })) (λ x c. record { of = c.of; within = c.within; has_row = c.has_row }) (t.queue ++ r ∷ []) (All-push (IsCurrent t) t.queue r serves.queued current);
+        active = λ x h. let c = serves.active x h in record { of = c.of; within = c.within; has_row = c.has_row };
+      }
+
+      if_serves : (b : Bool) → Serves was nodes shape file (if b then t else record t { queue = t.queue ++ r ∷ [] })
+      if_serves true = serves
+      if_serves false = added
+
+  -- the answer that a row waits for
+  pub acknowledges : (n k : ℕ) (row : Row) (answer : Message) (token : Token) → was answer → IsAnswerOf file n row.incarnation k answer → t.rows n ≡ Some row → Awaits k row.outstanding row.token answer token → Serves was nodes shape file (acknowledged t n row token)
+  acknowledges n k row answer token told of there w =
+      let P : Token → Type 0 = λ x. Serves was nodes shape file (acknowledged t n row x) in
+      let sent = ((serves.talks n).waits row w.command there w.waiting).1 in
+      subst P w.token (put_row n (answered_row row w.command answer)
+      (talk-answered was file n (nodes n).incarnation (unasked ((nodes n).files file)) row (t.dead n) k w.command answer told of w.waiting (w.number file n row.incarnation row.number sent) (talk_with n (Some row) there)))
+
+  -- a request is served no longer
+  pub ends : (call : CallId) → Serves was nodes shape file (ended call t)
+  ends call = record {
+    file_is = serves.file_is;
+    shape_is = serves.shape_is;
+    talks = serves.talks;
+    queued = All-weaker (IsCurrent t) (IsCurrent (ended call t)) (λ x c. record { of = c.of; within = c.within; has_row = c.has_row }) t.queue serves.queued;
+    active = λ r h. let c = serves.active r (unless_some (is_of_call call) t.active r h).0 in record { of = c.of; within = c.within; has_row = c.has_row };
+  }
+
+  -- a denial is of a call of a live incarnation
+  denies : (call : CallId) (holder : Host) (number : ℕ) (lock : LockInfo) (active : Option Held) → t.active ≡ active → Only (IsDenial nodes) (denial call (Deny t.file call holder number lock) active)
+  denies call holder number lock None is = only_none (IsDenial nodes)
+  denies call holder number lock (Some r) is =
+      let deny = Deny t.file call holder number lock in
+      elim (is_of_call call r && same_urgency r.urgency Now) as (λ b. (is_of_call call r && same_urgency r.urgency Now) ≡ b → Only (IsDenial nodes) (if b then deny ∷ [] else [])) [
+        | true ↦ λ h.
+            let same = and_parts (r.call.node == call.node) _ (and_parts (is_of_call call r) (same_urgency r.urgency Now) h).0 in
+            let node : r.call.node ≡ call.node = eqb-true r.call.node call.node same.0 in
+            let incarnation : r.call.incarnation ≡ call.incarnation = eqb-true r.call.incarnation call.incarnation (and_parts (r.call.incarnation == call.incarnation) _ same.1).0 in
+            let of = (serves.active r is).of in
+            let lives = (serves.talks r.call.node).lives in
+            let live : call.incarnation ≤ (nodes r.call.node).incarnation = omega arith in
+            only_one (IsDenial nodes) deny (subst (λ (k : ℕ). call.incarnation ≤ (nodes k).incarnation) node live)
+        | false ↦ λ h. only_none (IsDenial nodes)
+      ] refl
+
+-- a row is there once it was made
+row_made : (t : ServerState) (call : CallId) (row : Option Row) → t.rows call.node ≡ row → is_some ((with_a_row t call row).rows call.node) ≡ true
+row_made t call None is = at_number call.node call.node (λ b. is_some (if b then Some (empty_row call.incarnation) else t.rows call.node) ≡ true) (λ same. refl) (λ other. absurd (other refl))
+row_made t call (Some row) is = ap (λ (o : Option Row). is_some o) is
+
+same_shape : (t : ServerState) (call : CallId) (row : Option Row) → (with_a_row t call row).shape ≡ t.shape
+same_shape t call None = refl
+same_shape t call (Some row) = refl
+
+-- the row of an incarnation is a row of it
+row_found : (i : ℕ) (o : Option Row) (row : Row) → row_of_incarnation i o ≡ Some row → (o ≡ Some row) × (row.incarnation ≡ i)
+row_found i None row h = absurd (none-some row h)
+row_found i (Some x) row h =
+    elim (x.incarnation == i) as (λ b. (x.incarnation == i) ≡ b → (if b then Some x else None) ≡ Some row → (Some x ≡ Some row) × (row.incarnation ≡ i)) [
+      | true ↦ λ is h. (h, ap (λ (y : Row). y.incarnation) (sym (same_Some x row h)) ∙ eqb-true x.incarnation i is)
+      | false ↦ λ is h. absurd (none-some row h)
+    ] refl h
+
+same_dead : (t : ServerState) (call : CallId) (row : Option Row) → (with_a_row t call row).dead ≡ t.dead
+same_dead t call None = refl
+same_dead t call (Some row) = refl
+
+-- a change after which the server serves on, and that denies calls at most
+abbrev pub IsServing : Sent → (ℕ → NodeState) → ShapeFields → ℕ → Change → Type 0
+IsServing was nodes shape file x = Serves was nodes shape file x.0 × Only (IsDenial nodes) x.1
+
+module _ (was : Sent) (nodes : ℕ → NodeState) (shape : ShapeFields) (file : ℕ) (t : ServerState) (serves : Serves was nodes shape file t) where
+  -- a Request of an incarnation that is not known as dead
+  pub asks : (r : Held) → is_within t.shape.nodes r.call.node ≡ true → t.dead r.call.node < r.call.incarnation → r.call.incarnation ≤ (nodes r.call.node).incarnation → Serves was nodes shape file (asked t r)
+  asks r within alive known =
+      let young = forgotten t r.call.node (r.call.incarnation - 1) in
+      let first : Serves was nodes shape file young = forgets was nodes shape file t serves r.call.node (r.call.incarnation - 1) (omega arith) in
+      let row = young.rows r.call.node in
+      let of : r.call.incarnation ≡ young.dead r.call.node + 1 =
+      at_number r.call.node r.call.node (λ b. r.call.incarnation ≡ (if b then max (t.dead r.call.node) (r.call.incarnation - 1) else t.dead r.call.node) + 1) (λ same. omega arith) (λ other. absurd (other refl)) in
+      let second : Serves was nodes shape file (with_a_row young r.call row) = makes_row was nodes shape file young first r.call row refl of in
+      queues was nodes shape file (with_a_row young r.call row) second r (record {
+        of = of ∙ ap (λ (d : ℕ → ℕ). d r.call.node + 1) (sym (same_dead young r.call row));
+        within = ap (λ (x : ShapeFields). is_within x.nodes r.call.node) (same_shape young r.call row) ∙ within;
+        has_row = row_made young r.call row refl;
+      })
+
+  -- answers, where they fit
+  answers_taken : (number : ℕ) (call : CallId) (row : Option Row) (x : Change) → was (Taken file number call) → row_of_host t (host_of_call call) ≡ row → taken t number call row ≡ Some x → IsServing was nodes shape file x
+  answers_taken number call None x told there h = absurd (none-some x h)
+  answers_taken number call (Some row) x told there h =
+      let found = row_found call.incarnation (t.rows call.node) row there in
+      let next = acknowledged t call.node row row.token in
+      elim (is_grant number row.outstanding) as (λ b. is_grant number row.outstanding ≡ b → (if b then Some (ended call next, []) else None) ≡ Some x → IsServing was nodes shape file x) [
+        | true ↦ λ fits h.
+            let after : Serves was nodes shape file next = acknowledges was nodes shape file t serves call.node number row (Taken file number call) row.token told (refl, refl, refl, sym found.1) found.0 (awaits_taken number row.outstanding row.token (Taken file number call) fits) in
+            subst (IsServing was nodes shape file) (same_Some (ended call next, []) x h) (ends was nodes shape file next after call, only_none (IsDenial nodes))
+        | false ↦ λ fits h. absurd (none-some x h)
+      ] refl h
+
+  answers_released : (number : ℕ) (holder : Host) (call : CallId) (span : Range) (row : Option Row) (x : Change) → was (Released file number holder call span) → row_of_host t holder ≡ row → released t number holder span row ≡ Some x → IsServing was nodes shape file x
+  answers_released number holder call span None x told there h = absurd (none-some x h)
+  answers_released number holder call span (Some row) x told there h =
+      let found = row_found holder.incarnation (t.rows holder.node) row there in
+      let answer = Released file number holder call span in
+      let next : Mode → ServerState = λ mode. acknowledged t holder.node row (lowered row.token span mode) in
+      elim (revoked_mode number row.outstanding) as (λ o. revoked_mode number row.outstanding ≡ o → option_map (λ (mode : Mode). let c : Change = (next mode, []) in c) o ≡ Some x → IsServing was nodes shape file x) [
+        | Some mode ↦ λ fits h.
+            let r = revokes number mode row.outstanding fits in
+            let w : Awaits number row.outstanding row.token answer (lowered row.token span mode) = record { command = r.command; waiting = r.waiting; number = r.number; token = r.lowers row.token file number holder call span } in
+            let after : Serves was nodes shape file (next mode) = acknowledges was nodes shape file t serves holder.node number row answer (lowered row.token span mode) told (refl, refl, refl, sym found.1) found.0 w in
+            subst (IsServing was nodes shape file) (same_Some (next mode, []) x h) (after, only_none (IsDenial nodes))
+        | None ↦ λ fits h. absurd (none-some x h)
+      ] refl h
+
+  answers_conflict : (number : ℕ) (holder : Host) (call : CallId) (lock : LockInfo) (row : Option Row) (x : Change) → was (Conflict file number holder call lock) → row_of_host t holder ≡ row → in_conflict t number holder call lock row ≡ Some x → IsServing was nodes shape file x
+  answers_conflict number holder call lock None x told there h = absurd (none-some x h)
+  answers_conflict number holder call lock (Some row) x told there h =
+      let found = row_found holder.incarnation (t.rows holder.node) row there in
+      let answer = Conflict file number holder call lock in
+      let next = acknowledged t holder.node row row.token in
+      let deny = denial call (Deny t.file call holder number lock) t.active in
+      elim (revoked_mode number row.outstanding) as (λ o. revoked_mode number row.outstanding ≡ o → option_map (λ (mode : Mode). let c : Change = (ended call next, deny) in c) o ≡ Some x → IsServing was nodes shape file x) [
+        | Some mode ↦ λ fits h.
+            let r = revokes number mode row.outstanding fits in
+            let w : Awaits number row.outstanding row.token answer row.token = record { command = r.command; waiting = r.waiting; number = r.number; token = r.keeps row.token file number holder call lock } in
+            let after : Serves was nodes shape file next = acknowledges was nodes shape file t serves holder.node number row answer row.token told (refl, refl, refl, sym found.1) found.0 w in
+            subst (IsServing was nodes shape file) (same_Some (ended call next, deny) x h) (ends was nodes shape file next after call, denies was nodes shape file t serves call holder number lock t.active refl)
+        | None ↦ λ fits h. absurd (none-some x h)
+      ] refl h
+
+  -- what a message changes
+  pub changes : (m : Message) → was m → addressee m ≡ AServer file → (host_of m).incarnation ≤ (nodes (host_of m).node).incarnation → is_within t.shape.nodes (host_of m).node ≡ true → t.dead (host_of m).node < (host_of m).incarnation → (x : Change) → delivered t m ≡ Some x → IsServing was nodes shape file x
+  changes (Request f call urgency mode wanted) told to known within alive x h =
+      let r : Held = record { call = call; urgency = urgency; mode = mode; wanted = wanted } in
+      subst (IsServing was nodes shape file) (same_Some (asked t r, []) x h) (asks r within alive known, only_none (IsDenial nodes))
+  changes (Taken f number call) told to known within alive x h =
+      let same : f ≡ file = cc in
+      answers_taken number call (row_of_host t (host_of_call call)) x (subst (λ (g : ℕ). was (Taken g number call)) same told) refl h
+  changes (Released f number holder call span) told to known within alive x h =
+      let same : f ≡ file = cc in
+      answers_released number holder call span (row_of_host t holder) x (subst (λ (g : ℕ). was (Released g number holder call span)) same told) refl h
+  changes (Conflict f number holder call lock) told to known within alive x h =
+      let same : f ≡ file = cc in
+      answers_conflict number holder call lock (row_of_host t holder) x (subst (λ (g : ℕ). was (Conflict g number holder call lock)) same told) refl h
+  changes (Freed f holder) told to known within alive x h = subst (IsServing was nodes shape file) (same_Some (t, []) x h) (serves, only_none (IsDenial nodes))
+  changes m told to known within alive x h = absurd (none-some x h)
+
+  -- the first of the queue is served
+  pub admits : (active : Option Held) (queue : List Held) → t.active ≡ active → t.queue ≡ queue → Serves was nodes shape file (admitted t active queue)
+  admits (Some r) queue is line = serves
+  admits None [] is line = serves
+  admits None (r ∷ rest) is line =
+      let all : All (IsCurrent t) (r ∷ rest) = subst (λ (xs : List Held). All (IsCurrent t) xs) line serves.queued in
+      let move : (x : Held) → IsCurrent t x → IsCurrent (record t { active = Some r; queue = rest }) x = λ x c. record { of = c.of; within = c.within; has_row = c.has_row } in
+      record {
+        file_is = serves.file_is;
+        shape_is = serves.shape_is;
+        talks = serves.talks;
+        queued = All-weaker (IsCurrent t) (IsCurrent (record t { active = Some r; queue = rest })) move rest (All-tail (IsCurrent t) r rest all);
+        active = λ x h. move x (subst (IsCurrent t) (same_Some r x h) (All-head (IsCurrent t) r rest all));
+      }
+
+-- no byte of the span that is granted is one on which another node's row conflicts
+module _ (t : ServerState) (r : Held) (unblocked : nat_le (conflicting_node t r) t.shape.nodes ≡ false) where
+  free_row : (n : ℕ) → 1 ≤ n → n ≤ t.shape.nodes → conflicts_at t r n ≡ false
+  free_row n least most =
+      let past = leb-false (conflicting_node t r) t.shape.nodes unblocked in
+      (first_is_first (conflicts_at t r) 1 t.shape.nodes).none_before n least (omega arith)
+
+  free_byte : (n b : ℕ) → conflicts_at t r n ≡ false → r.wanted.required.lo ≤ b → b ≤ r.wanted.required.hi → conflicts_at_byte t r n b ≡ true → ⊥
+  free_byte n b free above below here =
+      let both = and_parts (not (n == r.call.node)) (row_conflicts_at (t.rows n) b r.mode) here in
+      elim (cases_Bool (row_conflicts (t.rows n) r.wanted.required r.mode)) [
+        | inl conflicts ↦ both_ways (conflicts_at t r n) free (and_from (not (n == r.call.node)) (row_conflicts (t.rows n) r.wanted.required r.mode) both.0 conflicts)
+        | inr none ↦ row_free (t.rows n) r.wanted.required r.mode none b above below both.1
+      ]
+
+  none_taken : NoneIn (λ b. is_taken t r b ≡ true) r.wanted.required
+  none_taken b above below some =
+      let one = some_passes-first (λ n. conflicts_at_byte t r n b) 1 t.shape.nodes some in
+      let under = one.below in
+      free_byte (first (λ n. conflicts_at_byte t r n b) 1 t.shape.nodes) b (free_row (first (λ n. conflicts_at_byte t r n b) 1 t.shape.nodes) one.above (omega arith)) above below one.here
+
+  pub span_free : (n b : ℕ) → is_within t.shape.nodes n ≡ true → (n ≡ r.call.node → ⊥) → is_in (granted_span t r) b ≡ true → row_conflicts_at (t.rows n) b r.mode ≡ false
+  span_free n b within other here =
+      let bounds = and_parts (nat_le 1 n) (nat_le n t.shape.nodes) within in
+      let least = leb-true 1 n bounds.0 in
+      let most = leb-true n t.shape.nodes bounds.1 in
+      let span = granted_span t r in
+      let ends = and_parts (nat_le span.lo b) (nat_le b span.hi) here in
+      let free : is_taken t r b ≡ false = false_from_ne_true (is_taken t r b) (around_free (is_taken t r) r.wanted.required r.wanted.desired none_taken b (leb-true span.lo b ends.0) (leb-true b span.hi ends.1)) in
+      let none : conflicts_at_byte t r n b ≡ false = some_passes-none (λ k. conflicts_at_byte t r k b) 1 t.shape.nodes n free least (omega arith) in
+      false_from_ne_true (row_conflicts_at (t.rows n) b r.mode) (λ conflicts. both_ways (conflicts_at_byte t r n b) none (and_from (not (n == r.call.node)) (row_conflicts_at (t.rows n) b r.mode) (not_from_false (n == r.call.node) (ne_eqb n r.call.node other)) conflicts))
+
+-- with what a Grant to the node would raise, no other node's row conflicts
+abbrev pub IsFreeFor : ServerState → ℕ → Message → Type 0
+IsFreeFor t node (Grant f k call mode span) = (n b : ℕ) → is_within t.shape.nodes n ≡ true → (n ≡ node → ⊥) → is_in span b ≡ true → row_conflicts_at (t.rows n) b mode ≡ false
+IsFreeFor t node _ = Unit {0}
+
+-- the server sends a command to a node of which it waits for no answer
+pub record Commands (was : Sent) (nodes : ℕ → NodeState) (shape : ShapeFields) (file : ℕ) (v : ServerState) (sends : List Message) : Type 0 where
+  pub state : ServerState
+  pub serves : Serves was nodes shape file state
+  pub node : ℕ
+  pub row : Row
+  pub there : state.rows node ≡ Some row
+  pub idle : row.outstanding ≡ None
+  pub command : Message
+  pub to : IsCommandTo file node row.incarnation (row.number + 1) command
+  pub free : IsFreeFor state node command
+  pub next : v ≡ with_row state node (Some (commanded_row row command))
+  pub sent : sends ≡ command ∷ []
+
+-- what comes of serving: nothing is sent, or one command
+abbrev pub Served : Sent → (ℕ → NodeState) → ShapeFields → ℕ → ServerState → List Message → Type 0
+Served was nodes shape file v sends = (Serves was nodes shape file v × (sends ≡ [])) ⊎ Commands was nodes shape file v sends
+
+none_outstanding : (o : Option Message) → is_some o ≡ false → o ≡ None
+none_outstanding None h = refl
+none_outstanding (Some m) h = absurd (cc)
+
+module _ (was : Sent) (nodes : ℕ → NodeState) (shape : ShapeFields) (file : ℕ) (t : ServerState) (serves : Serves was nodes shape file t) (v : ServerState) (sends : List Message) where
+  still : ◌≡◌ {A = Result (ServerState × List Message) StepError} (Ok (t, [])) (Ok (v, sends)) → Served was nodes shape file v sends
+  still h =
+      let same = ok_is (t, []) (v, sends) h in
+      let P : ServerState × List Message → Type 0 = λ x. Serves was nodes shape file x.0 × (x.1 ≡ []) in
+      inl (subst P same (serves, refl))
+
+  commands : (n : ℕ) (row : Row) (command : Message) → t.rows n ≡ Some row → IsCommandTo file n row.incarnation (row.number + 1) command → IsFreeFor t n command → commanded t n row (promised row.token command) command ≡ Ok (v, sends) → Served was nodes shape file v sends
+  commands n row command there to free h =
+      let later = with_row t n (Some (commanded_row row command)) in
+      let R : Type 0 = Result (ServerState × List Message) StepError in
+      let few : Bool = nat_lt row.number greatest_number in
+      elim (is_some row.outstanding) as (λ b. is_some row.outstanding ≡ b → ◌≡◌ {A = R} (if b then Ok (t, []) else (if few then Ok (later, command ∷ []) else Err Spent)) (Ok (v, sends)) → Served was nodes shape file v sends) [
+        | true ↦ λ is h. still h
+        | false ↦ λ is h. elim few as (λ b. ◌≡◌ {A = R} (if b then Ok (later, command ∷ []) else Err Spent) (Ok (v, sends)) → Served was nodes shape file v sends) [
+          | true ↦ λ h.
+              let same = ok_is (later, command ∷ []) (v, sends) h in
+              inr (record {
+                state = t;
+                serves = serves;
+                node = n;
+                row = row;
+                there = there;
+                idle = none_outstanding row.outstanding is;
+                command = command;
+                to = to;
+                free = free;
+                next = ap (λ (x : ServerState × List Message). x.0) (sym same);
+                sent = ap (λ (x : ServerState × List Message). x.1) (sym same);
+              })
+          | false ↦ λ h. absurd (cc)
+        ] h
+      ] refl h
+
+  grants : (r : Held) → IsCurrent t r → nat_le (conflicting_node t r) t.shape.nodes ≡ false → (row : Option Row) → t.rows r.call.node ≡ row → granted_to t r row ≡ Ok (v, sends) → Served was nodes shape file v sends
+  grants r current unblocked None there h = still h
+  grants r current unblocked (Some row) there h =
+      let aged = (serves.talks r.call.node).aged row there in
+      commands r.call.node row (Grant t.file (row.number + 1) r.call r.mode (granted_span t r)) there (serves.file_is, refl, refl, current.of ∙ sym aged) (span_free t r unblocked) h
+
+  revokes_from : (r : Held) (n : ℕ) (row : Option Row) → t.rows n ≡ row → revoked_from t r n row ≡ Ok (v, sends) → Served was nodes shape file v sends
+  revokes_from r n None there h = still h
+  revokes_from r n (Some row) there h =
+      commands n row (Revoke t.file (row.number + 1) (record { node = n; incarnation = row.incarnation }) r.call r.mode r.wanted) there (serves.file_is, refl, refl, refl) tt h
+
+  serves_one : (o : Option Held) → t.active ≡ o → served t o ≡ Ok (v, sends) → Served was nodes shape file v sends
+  serves_one None is h = still h
+  serves_one (Some r) is h =
+      let R : Type 0 = Result (ServerState × List Message) StepError in
+      let n = conflicting_node t r in
+      elim (nat_le n t.shape.nodes) as (λ b. nat_le n t.shape.nodes ≡ b → ◌≡◌ {A = R} (if b then revoked_from t r n (t.rows n) else granted_to t r (t.rows r.call.node)) (Ok (v, sends)) → Served was nodes shape file v sends) [
+        | true ↦ λ blocked h. revokes_from r n (t.rows n) refl h
+        | false ↦ λ unblocked h. grants r (serves.active r is) unblocked (t.rows r.call.node) refl h
+      ] refl h
+
+-- the server serves
+pub serve_serves : (was : Sent) (nodes : ℕ → NodeState) (shape : ShapeFields) (file : ℕ) (t : ServerState) → Serves was nodes shape file t → (v : ServerState) (sends : List Message) → serve t ≡ Ok (v, sends) → Served was nodes shape file v sends
+serve_serves was nodes shape file t serves v sends h =
+    let next = admitted t t.active t.queue in
+    serves_one was nodes shape file next (admits was nodes shape file t serves t.active t.queue refl refl) v sends next.active refl h
+
+-- what comes of a message: denials, and what is sent by serving
+pub record Answered (was : Sent) (nodes : ℕ → NodeState) (shape : ShapeFields) (file : ℕ) (v : ServerState) (sends : List Message) : Type 0 where
+  pub denied : List Message
+  pub fresh : List Message
+  pub sent : sends ≡ denied ++ fresh
+  pub denials : Only (IsDenial nodes) denied
+  pub served : Served was nodes shape file v fresh
+
+module _ (was : Sent) (nodes : ℕ → NodeState) (shape : ShapeFields) (file : ℕ) (t : ServerState) (serves : Serves was nodes shape file t) (v : ServerState) (o : Outcome) where
+  outcome_is : (c : ServerState) (before fresh : List Message) → ◌≡◌ {A = Result (ServerState × Outcome) StepError} (Ok (c, sending (before ++ fresh))) (Ok (v, o)) → Only (IsDenial nodes) before → Served was nodes shape file c fresh → Answered was nodes shape file v o.sends
+  outcome_is c before fresh h denials served =
+      let P : ServerState × Outcome → Type 0 = λ x. Answered was nodes shape file x.0 x.1.sends in
+      subst P (ok_is (c, sending (before ++ fresh)) (v, o) h) (record { denied = before; fresh = fresh; sent = refl; denials = denials; served = served })
+
+  serves_changed : (x : Change) → IsServing was nodes shape file x → (r : Result (ServerState × List Message) StepError) → serve x.0 ≡ r → sending_first x.1 r ≡ Ok (v, o) → Answered was nodes shape file v o.sends
+  serves_changed x after (Err e) is h = absurd (cc)
+  serves_changed x after (Ok done) is h = outcome_is done.0 x.1 done.1 h after.1 (serve_serves was nodes shape file x.0 after.0 done.0 done.1 is)
+
+  serves_if : (c : Option Change) → ((x : Change) → c ≡ Some x → IsServing was nodes shape file x) → then_serve t (Ok c) ≡ Ok (v, o) → Answered was nodes shape file v o.sends
+  serves_if None after h = outcome_is t [] [] h (only_none (IsDenial nodes)) (inl (serves, refl))
+  serves_if (Some x) after h = serves_changed x (after x refl) (serve x.0) refl h
+
+  serves_unless : (r : Result (Option Change) StepError) → ((c : Option Change) → r ≡ Ok c → (x : Change) → c ≡ Some x → IsServing was nodes shape file x) → then_serve t r ≡ Ok (v, o) → Answered was nodes shape file v o.sends
+  serves_unless (Err e) after h = absurd (cc)
+  serves_unless (Ok c) after h = serves_if c (after c refl) h
+
+  -- a message changes the server only where its incarnation is not known as dead
+  pub receives : (m : Message) → was m → addressee m ≡ AServer file → (host_of m).incarnation ≤ (nodes (host_of m).node).incarnation → server_rule t (Deliver m) ≡ Ok (v, o) → Answered was nodes shape file v o.sends
+  receives m told to known h = serves_unless (change t m) (λ c is x made.
+      let done = change_done t m c is in
+      elim done.1 [
+        | inl none ↦ absurd (none-some x (none ∙ made))
+        | inr live ↦ changes was nodes shape file t serves m told to known done.0 (leb-false (host_of m).incarnation (t.dead (host_of m).node) live.0) x (live.1 ∙ made)
+      ]) h

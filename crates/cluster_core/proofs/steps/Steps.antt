@@ -1,0 +1,90 @@
+-- A step of the cluster is a step of one of its nodes or servers.
+use Rattle.std.proofs.Common.{◌≡◌, ℕ, ◌≤◌, true, false, not, nat_le, refl, subst, Result, Ok, Err}
+use Rattle.std.proofs.lemmas.Bool.{not-false, leb-true}
+use Rattle.messages.specs.Messages.{addressee}
+use Rattle.messages.specs.declared.actor.Actor.{Actor}
+use Rattle.messages.specs.declared.actor.Actor.TheVariants.{Node as ANode, Server as AServer}
+use Rattle.messages.specs.declared.message.Message.{Message}
+use Rattle.messages.specs.declared.event.Event.{Event}
+use Rattle.messages.specs.declared.event.Event.TheVariants.{Call, Deliver, Retry, Resend, Declare, Restart, Learn}
+use Rattle.messages.specs.declared.entry.Entry.{Entry}
+use Rattle.messages.specs.declared.outcome.Outcome.{Outcome}
+use Rattle.messages.specs.declared.refusal.Refused.TheVariants.{Stranger, JournalFull, NotAlive, NotDead, TooManyRestarts, Fenced}
+use Rattle.messages.specs.declared.refusal.StepError.{StepError}
+use Rattle.node_core.specs.declared.event.NodeEvent.{NodeEvent}
+use Rattle.node_core.specs.declared.event.NodeEvent.TheVariants as node
+use Rattle.node_core.specs.State.{NodeState}
+use Rattle.node_core.specs.Node.{node_rule}
+use Rattle.token_server.specs.declared.event.ServerEvent.{ServerEvent}
+use Rattle.token_server.specs.declared.event.ServerEvent.TheVariants as server
+use Rattle.token_server.specs.State.{ServerState}
+use Rattle.token_server.specs.Server.{server_rule}
+use Rattle.cluster_core.specs.World.{WorldState, journal_limit, most_incarnations}
+use Rattle.cluster_core.specs.Next.{is_known, is_fenced, recorded, named_incarnation, with_node, with_server, after_node, after_server, declared, restarted, silent, delivered, taken, next}
+use Rattle.cluster_core.proofs.common.Refusals.{ok_is, if_ok, unless_refused}
+
+-- a step that is not refused is of actors, processes and messages that the world knows
+pub next_taken : (w : WorldState) (event : Event) (q : WorldState × Entry) → next w event ≡ Ok q → (is_known w event ≡ true) × (taken w event ≡ Ok q)
+next_taken w event q h =
+    let room = unless_refused (nat_le journal_limit w.length) _ q JournalFull h in
+    let known = unless_refused (not (is_known w event)) _ q Stranger room.1 in
+    let free = unless_refused (is_fenced w event) (taken w event) q Fenced known.1 in
+    (not-false (is_known w event) known.0, free.1)
+
+-- nor is it one of a node that was declared failed
+pub next_unfenced : (w : WorldState) (event : Event) (q : WorldState × Entry) → next w event ≡ Ok q → is_fenced w event ≡ false
+next_unfenced w event q h =
+    let room = unless_refused (nat_le journal_limit w.length) _ q JournalFull h in
+    let known = unless_refused (not (is_known w event)) _ q Stranger room.1 in
+    (unless_refused (is_fenced w event) (taken w event) q Fenced known.1).0
+
+-- what holds after a step of its actor holds after the step
+module _ (w : WorldState) (P : WorldState × Entry → Type 0) where
+  pub node_step : (event : Event) (n : ℕ) (r : Result (NodeState × Outcome) StepError) (q : WorldState × Entry) → ((done : NodeState × Outcome) → r ≡ Ok done → P (recorded (with_node w n done.0) event (named_incarnation (w.nodes n) event) done.1)) → after_node w event n r ≡ Ok q → P q
+  node_step event n (Ok done) q good h = subst P (ok_is _ q h) (good done refl)
+  node_step event n (Err e) q good h = absurd (cc)
+
+  pub server_step : (event : Event) (file : ℕ) (r : Result (ServerState × Outcome) StepError) (q : WorldState × Entry) → ((done : ServerState × Outcome) → r ≡ Ok done → P (recorded (with_server w file done.0) event 0 done.1)) → after_server w event file r ≡ Ok q → P q
+  server_step event file (Ok done) q good h = subst P (ok_is _ q h) (good done refl)
+  server_step event file (Err e) q good h = absurd (cc)
+
+  -- whichever actor takes the event
+  abbrev pub OnNode : Event → Type 0
+  OnNode event = (n : ℕ) (step : NodeEvent) (done : NodeState × Outcome) → node_rule (w.nodes n) step ≡ Ok done → P (recorded (with_node w n done.0) event (named_incarnation (w.nodes n) event) done.1)
+
+  abbrev pub OnServer : Event → Type 0
+  OnServer event = (file : ℕ) (step : ServerEvent) (done : ServerState × Outcome) → server_rule (w.servers file) step ≡ Ok done → P (recorded (with_server w file done.0) event 0 done.1)
+
+  -- or a node is declared, or restarts
+  abbrev pub OnDeclare : Event → Type 0
+  OnDeclare event = (n : ℕ) → event ≡ Declare n → w.alive n ≡ true → P (silent (declared w n) event (w.nodes n).incarnation)
+
+  abbrev pub OnRestart : Event → Type 0
+  OnRestart event = (n : ℕ) → event ≡ Restart n → w.alive n ≡ false → (w.nodes n).incarnation ≤ most_incarnations → P (silent (restarted w n) event (w.nodes n).incarnation)
+
+  pub declare_step : (n : ℕ) (q : WorldState × Entry) → OnDeclare (Declare n) → taken w (Declare n) ≡ Ok q → P q
+  declare_step n q on_declare h =
+      let done = if_ok (w.alive n) _ q NotAlive h in
+      subst P done.1 (on_declare n refl done.0)
+
+  pub restart_step : (n : ℕ) (q : WorldState × Entry) → OnRestart (Restart n) → taken w (Restart n) ≡ Ok q → P q
+  restart_step n q on_restart h =
+      let dead = unless_refused (w.alive n) _ q NotDead h in
+      let done = if_ok (nat_le (w.nodes n).incarnation most_incarnations) _ q TooManyRestarts dead.1 in
+      subst P done.1 (on_restart n refl dead.0 (leb-true (w.nodes n).incarnation most_incarnations done.0))
+
+  message_step : (m : Message) (to : Actor) (q : WorldState × Entry) → OnNode (Deliver m) → OnServer (Deliver m) → delivered w m to ≡ Ok q → P q
+  message_step m (ANode n) q on_node on_server h = node_step (Deliver m) n (node_rule (w.nodes n) (node.Deliver m)) q (on_node n (node.Deliver m)) h
+  message_step m (AServer file) q on_node on_server h = server_step (Deliver m) file (server_rule (w.servers file) (server.Deliver m)) q (on_server file (server.Deliver m)) h
+
+  taken_step : (event : Event) (q : WorldState × Entry) → OnNode event → OnServer event → OnDeclare event → OnRestart event → taken w event ≡ Ok q → P q
+  taken_step (Call n pid op) q on_node on_server on_declare on_restart h = node_step (Call n pid op) n (node_rule (w.nodes n) (node.Call pid op)) q (on_node n (node.Call pid op)) h
+  taken_step (Deliver m) q on_node on_server on_declare on_restart h = message_step m (addressee m) q on_node on_server h
+  taken_step (Retry n pid) q on_node on_server on_declare on_restart h = node_step (Retry n pid) n (node_rule (w.nodes n) (node.Retry pid)) q (on_node n (node.Retry pid)) h
+  taken_step (Resend file) q on_node on_server on_declare on_restart h = server_step (Resend file) file (server_rule (w.servers file) server.Resend) q (on_server file server.Resend) h
+  taken_step (Declare n) q on_node on_server on_declare on_restart h = declare_step n q on_declare h
+  taken_step (Restart n) q on_node on_server on_declare on_restart h = restart_step n q on_restart h
+  taken_step (Learn file n incarnation) q on_node on_server on_declare on_restart h = server_step (Learn file n incarnation) file (server_rule (w.servers file) (server.Learn n incarnation)) q (on_server file (server.Learn n incarnation)) h
+
+  pub next_step : (event : Event) (q : WorldState × Entry) → OnNode event → OnServer event → OnDeclare event → OnRestart event → next w event ≡ Ok q → P q
+  next_step event q on_node on_server on_declare on_restart h = taken_step event q on_node on_server on_declare on_restart (next_taken w event q h).1

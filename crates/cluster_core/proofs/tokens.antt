@@ -1,0 +1,12 @@
+-- What holds of tokens and of locks under them, after every run.
+pub mod Covering
+pub mod Served
+pub mod Heard
+pub mod Unbarred
+pub mod Lowering
+pub mod Clearing
+pub mod Talks
+pub mod TalkMoves
+pub mod Present
+pub mod Members
+pub mod Apart

@@ -1,0 +1,524 @@
+-- The tokens of two nodes never conflict, after any run.
+use Rattle.std.proofs.Common.{◌≡◌, ℕ, ◌+◌, ◌<◌, ◌≤◌, true, not, nat_le, nat_lt, ◌&&◌, if◌then◌else◌, ◌⊎◌, inl, inr, refl, sym, ◌∙◌, ap, subst, arith, List, [], ◌∷◌, ◌++◌, Option, Some, None, Result, Ok, Err}
+use Rattle.std.proofs.lemmas.Bool.{and_parts, cases_eq}
+use Rattle.std.specs.List.{range_with_len}
+use Rattle.std.proofs.lemmas.Bool.Decides.{nat_tests}
+use Rattle.std.proofs.lemmas.List.Elements.{All-nil}
+use Rattle.std.proofs.lemmas.Option.{none-some}
+use Rattle.model.specs.declared.call.CallId.{CallId}
+use Rattle.model.specs.declared.host.Host.{Host}
+use Rattle.model.specs.declared.op.Op.{Op}
+use Rattle.token_set.specs.Tokens.{Token, no_token}
+use Rattle.messages.specs.Shapes.{ShapeFields}
+use Rattle.messages.specs.Messages.{addressee, host_of, file_of, is_among, is_within, sending}
+use Rattle.messages.specs.declared.actor.Actor.{Actor}
+use Rattle.messages.specs.declared.actor.Actor.TheVariants.{Node as ANode, Server as AServer}
+use Rattle.messages.specs.declared.message.Message.{Message}
+use Rattle.messages.specs.declared.message.Message.TheVariants.{Grant, Revoke, Deny}
+use Rattle.messages.specs.declared.event.Event.{Event}
+use Rattle.messages.specs.declared.event.Event.TheVariants.{Call, Deliver, Retry, Resend, Declare, Restart, Learn}
+use Rattle.messages.specs.declared.entry.Entry.{Entry}
+use Rattle.messages.specs.declared.outcome.Outcome.{Outcome}
+use Rattle.messages.specs.declared.refusal.StepError.{StepError}
+use Rattle.messages.specs.declared.refusal.StepError.TheVariants.{Stranger}
+use Rattle.node_core.specs.declared.event.NodeEvent.TheVariants as node
+use Rattle.node_core.specs.State.{FileState, NodeState, Effect, open_call, open_call_of, outcome, quiet}
+use Rattle.node_core.specs.declared.open_call.OpenCall.{OpenCall}
+use Rattle.node_core.specs.Try.{tried_if}
+use Rattle.node_core.specs.Calls.{after_call, called}
+use Rattle.node_core.specs.Commands.{delivered, deliver_rule}
+use Rattle.node_core.specs.Node.{node_rule}
+use Rattle.token_server.specs.declared.event.ServerEvent.TheVariants as server
+use Rattle.token_server.specs.State.{ServerState, forgotten}
+use Rattle.token_server.specs.Serve.{serve}
+use Rattle.token_server.specs.Resends.{outstanding_of, outstanding, sending_first}
+use Rattle.token_server.specs.Server.{server_rule}
+use Rattle.cluster_core.specs.World.{WorldState, first_world, has_node, has_file, was_declared}
+use Rattle.cluster_core.specs.Next.{is_known, has_actor, recorded, with_node, with_server, declared, restarted, delivered as routed, taken, next}
+use Rattle.cluster_core.specs.Runs.{Leads}
+use Rattle.cluster_core.specs.Safe.{Excludes, AreApart}
+use Rattle.cluster_core.specs.Numbers.{is_command, number_of, NumbersTellCommands, NoNumberIsUsedTwice}
+use Rattle.cluster_core.proofs.common.Choices.{at_number}
+use Rattle.cluster_core.proofs.common.Refusals.{ok_is, unless_refused}
+use Rattle.cluster_core.proofs.steps.KnownMessages.{sent_before, sent_now, sent_either}
+use Rattle.cluster_core.proofs.steps.NodeSteps.{call_done, deliver_done, retry_done}
+use Rattle.cluster_core.proofs.steps.Steps.{next_taken, node_step, server_step, declare_step, restart_step}
+use Rattle.cluster_core.proofs.tokens.Lowering.{IsWithin, within_itself, within_excludes}
+use Rattle.cluster_core.proofs.tokens.Talks.{Sent, IsHostOf, IsCommandTo, IsAnswerOf, same_answer_of, no_answer, command_host, answer_host, unasked, Talk, MayHold}
+use Rattle.cluster_core.proofs.tokens.TalkMoves.{NoNews, talk-no_news, may_hold-no_news, IsDoing, done_file, talk-does, may_hold-does, IsCommanding}
+use Rattle.cluster_core.proofs.steps.NodeTokens.{Only, IsAsking, asking_host, asking_command, asking_answer, AsksFrom, Does, Receives, called_asks, quiet_asks, tried_if_asks, denied_asks, grant_receives, revoke_receives, first_among, only_none, only_one, only_mapped}
+use Rattle.cluster_core.proofs.steps.ServerRows.{IsCurrent, Serves, forgets, IsDenial, denial_command, denial_answer, denial_known, Commands, Served, receives, outstanding_sent, serve_serves}
+use Rattle.cluster_core.proofs.tokens.Members.{declared_present, restarted_present, silent_present}
+use Rattle.cluster_core.proofs.tokens.Present.{Was, Holding, StayApart, Present, serves-no_news, apart-no_news, nothing_new, files_no_news, commanded_serves, commanded_apart}
+
+-- a host of an incarnation that its node has come to
+known_host : (w : WorldState) (h : Host) (n i : ℕ) → IsHostOf n i h → i ≤ (w.nodes n).incarnation → h.incarnation ≤ (w.nodes h.node).incarnation
+known_host w h n i is known =
+    let of = is.1 in
+    let live : h.incarnation ≤ (w.nodes n).incarnation = omega arith in
+    subst (λ (k : ℕ). h.incarnation ≤ (w.nodes k).incarnation) (sym is.0) live
+
+-- the token is within one that the node may hold
+abbrev IsHeldWithin : Sent → (ℕ → NodeState) → ℕ → ℕ → Token → Type 0
+IsHeldWithin was nodes file n t = (x : Token) × Holding was nodes file n x × IsWithin t x
+
+-- a server's step: it sends what comes of serving, may send again what was sent before, and may deny calls
+module _ (w : WorldState) (p : Present w) (file : ℕ) (v : ServerState) (event : Event) (o : Outcome) (fresh : List Message) (again : Only (λ m. (Was w m ⊎ IsDenial w.nodes m) ⊎ (is_among fresh m ≡ true)) o.sends) (said : Only (λ m. is_among o.sends m ≡ true) fresh) where
+  abbrev later : WorldState
+  later = (recorded (with_server w file v) event 0 o).0
+
+  kept : (m : Message) → Was w m → Was later m
+  kept = sent_before w.sent o.sends
+
+  either : (m : Message) → Was later m → (Was w m ⊎ IsDenial w.nodes m) ⊎ (is_among fresh m ≡ true)
+  either m h = elim (sent_either w.sent o.sends m h) [ inl before ↦ inl (inl before) | inr new ↦ again m new ]
+
+  -- a message of a kind of which no denial is
+  unless_denial : (Q : Message → Type 0) → ((m : Message) → IsDenial w.nodes m → Q m → ⊥) → (m : Message) → Was later m → Q m → Was w m ⊎ (is_among fresh m ≡ true)
+  unless_denial Q none m h is = elim (either m h) [
+    | inl told ↦ elim told [ inl before ↦ inl before | inr denial ↦ absurd (none m denial is) ]
+    | inr new ↦ inr new
+  ]
+
+  command_either : (f n i k : ℕ) (m : Message) → Was later m → IsCommandTo f n i k m → Was w m ⊎ (is_among fresh m ≡ true)
+  command_either f n i k = unless_denial (IsCommandTo f n i k) (denial_command w.nodes f n i k)
+
+  answer_either : (f n i k : ℕ) (m : Message) → Was later m → IsAnswerOf f n i k m → Was w m ⊎ (is_among fresh m ≡ true)
+  answer_either f n i k = unless_denial (IsAnswerOf f n i k) (denial_answer w.nodes f n i k)
+
+  known_either : ((m : Message) → is_among fresh m ≡ true → (host_of m).incarnation ≤ (w.nodes (host_of m).node).incarnation) → (m : Message) → Was later m → (host_of m).incarnation ≤ (w.nodes (host_of m).node).incarnation
+  known_either new_known m h = elim (either m h) [
+    | inl told ↦ elim told [ inl before ↦ p.no_future m before | inr denial ↦ denial_known w.nodes m denial ]
+    | inr new ↦ new_known m new
+  ]
+
+  put : Serves (Was later) w.nodes w.shape file v → ((f n : ℕ) → (f ≡ file → ⊥) → NoNews (Was w) (Was later) f n (w.nodes n).incarnation) → (f : ℕ) → Serves (Was later) w.nodes w.shape f (later.servers f)
+  put here news f = at_number f file (λ b. Serves (Was later) w.nodes w.shape f (if b then v else w.servers f))
+      (λ same. subst (λ (k : ℕ). Serves (Was later) w.nodes w.shape k v) (sym same) here)
+      (λ other. serves-no_news (Was w) (Was later) w.nodes w.shape f (w.servers f) (λ n. news f n other) (p.serves f))
+
+  still : Serves (Was w) w.nodes w.shape file v → fresh ≡ [] → Present later
+  still serves none =
+      let nowhere : Only (λ m. ⊥) fresh = subst (Only (λ m. ⊥)) (sym none) (only_none (λ m. ⊥)) in
+      let news : (f n : ℕ) → NoNews (Was w) (Was later) f n (w.nodes n).incarnation = λ f n. record {
+        kept = kept;
+        commands = λ i k m h to. elim (command_either f n i k m h to) [ inl before ↦ before | inr new ↦ absurd (nowhere m new) ];
+        answers = λ k m h of. elim (answer_either f n (w.nodes n).incarnation k m h of) [ inl before ↦ before | inr new ↦ absurd (nowhere m new) ];
+      } in
+      record {
+        named = p.named;
+        no_future = known_either (λ m new. absurd (nowhere m new));
+        serves = put (serves-no_news (Was w) (Was later) w.nodes w.shape file v (news file) serves) (λ f n other. news f n);
+        apart = λ f. apart-no_news (Was w) (Was later) w.nodes w.shape f (news f) (p.apart f);
+      }
+
+  commands : Commands (Was w) w.nodes w.shape file v fresh → Present later
+  commands g =
+      let now_all : Only (λ m. m ≡ g.command) fresh = subst (Only (λ m. m ≡ g.command)) (sym g.sent) (only_one (λ m. m ≡ g.command) g.command refl) in
+      let there : is_among fresh g.command ≡ true = subst (λ (xs : List Message). is_among xs g.command ≡ true) (sym g.sent) (first_among g.command []) in
+      let news : IsCommanding (Was w) (Was later) g.command = record {
+        kept = kept;
+        commands = λ f n i k m h to. elim (command_either f n i k m h to) [ inl before ↦ inl before | inr new ↦ inr (now_all m new) ];
+        answers = λ f n i k m h of. elim (answer_either f n i k m h of) [
+          | inl before ↦ before
+          | inr new ↦ absurd (no_answer file g.node g.row.incarnation (g.row.number + 1) f n i k g.command g.to (subst (IsAnswerOf f n i k) (now_all m new) of))
+        ];
+        sent = sent_now w.sent o.sends g.command (said g.command there);
+      } in
+      let talk = g.serves.talks g.node in
+      let lives = talk.lives in
+      let aged = talk.aged g.row g.there in
+      let host = command_host file g.node g.row.incarnation (g.row.number + 1) g.command g.to in
+      let live : (host_of g.command).incarnation ≤ (w.nodes (host_of g.command).node).incarnation = known_host w (host_of g.command) g.node g.row.incarnation host (omega arith) in
+      record {
+        named = p.named;
+        no_future = known_either (λ m new. subst (λ (x : Message). (host_of x).incarnation ≤ (w.nodes (host_of x).node).incarnation) (sym (now_all m new)) live);
+        serves = put (commanded_serves (Was w) (Was later) w.nodes w.shape file v fresh g news) (files_no_news (Was w) (Was later) w.nodes w.shape file v fresh g news);
+        apart = λ f. elim (cases_eq f file) [
+          | inl same ↦ subst (λ (k : ℕ). StayApart (Was later) w.nodes w.shape k) (sym same) (commanded_apart (Was w) (Was later) w.nodes w.shape file v fresh g news (p.apart file))
+          | inr other ↦ apart-no_news (Was w) (Was later) w.nodes w.shape f (λ n. files_no_news (Was w) (Was later) w.nodes w.shape file v fresh g news f n other) (p.apart f)
+        ];
+      }
+
+  pub server_present : Served (Was w) w.nodes w.shape file v fresh → Present later
+  server_present (inl s) = still s.0 s.1
+  server_present (inr g) = commands g
+
+-- a server's step that first sends again what was sent before, or denies calls
+pub again_present : (w : WorldState) (p : Present w) (file : ℕ) (v : ServerState) (event : Event) (o : Outcome) (before fresh : List Message) → o.sends ≡ before ++ fresh → Only (λ m. Was w m ⊎ IsDenial w.nodes m) before → Served (Was w) w.nodes w.shape file v fresh → Present (recorded (with_server w file v) event 0 o).0
+again_present w p file v event o before fresh is old =
+    let again : Only (λ m. (Was w m ⊎ IsDenial w.nodes m) ⊎ (is_among fresh m ≡ true)) o.sends = λ m there.
+    elim (sent_either before fresh m (subst (λ (xs : List Message). is_among xs m ≡ true) is there)) [ inl first ↦ inl (old m first) | inr later ↦ inr later ] in
+    let said : Only (λ m. is_among o.sends m ≡ true) fresh = λ m there. subst (λ (xs : List Message). is_among xs m ≡ true) (sym is) (sent_now before fresh m there) in
+    server_present w p file v event o fresh again said
+
+-- a node's step
+module _ (w : WorldState) (p : Present w) (n : ℕ) (u : NodeState) (event : Event) (o : Outcome) (node_is : u.node ≡ (w.nodes n).node) (incarnation_is : u.incarnation ≡ (w.nodes n).incarnation) where
+  abbrev after : WorldState
+  after = (recorded (with_node w n u) event 0 o).0
+
+  abbrev known : ℕ → ℕ → FileState
+  known m file = unasked ((w.nodes m).files file)
+
+  -- what is to be shown of it, for each file
+  pub record Goes : Type 0 where
+    pub young : (m : Message) → is_among o.sends m ≡ true → (host_of m).incarnation ≤ (w.nodes (host_of m).node).incarnation
+    pub talk : (file : ℕ) → Talk (Was after) file n (w.nodes n).incarnation (unasked (u.files file)) ((w.servers file).rows n) ((w.servers file).dead n)
+    pub no_more : (file : ℕ) (t : Token) → MayHold (Was after) file n (w.nodes n).incarnation (unasked (u.files file)) t → IsHeldWithin (Was w) w.nodes file n t
+    pub others : (file m : ℕ) → (m ≡ n → ⊥) → NoNews (Was w) (Was after) file m (w.nodes m).incarnation
+
+  same_incarnation : (m : ℕ) → (after.nodes m).incarnation ≡ (w.nodes m).incarnation
+  same_incarnation m = at_number m n (λ b. (if b then u else w.nodes m).incarnation ≡ (w.nodes m).incarnation)
+      (λ same. incarnation_is ∙ ap (λ (k : ℕ). (w.nodes k).incarnation) (sym same))
+      (λ other. refl)
+
+  pub node_present : Goes → Present after
+  node_present g = record {
+    named = λ m. at_number m n (λ b. (if b then u else w.nodes m).node ≡ m) (λ same. node_is ∙ p.named n ∙ sym same) (λ other. p.named m);
+    no_future = λ m h.
+        let k = (host_of m).node in
+        let there : (host_of m).incarnation ≤ (w.nodes k).incarnation = elim (sent_either w.sent o.sends m h) [ inl before ↦ p.no_future m before | inr new ↦ g.young m new ] in
+        subst (λ (i : ℕ). (host_of m).incarnation ≤ i) (sym (same_incarnation k)) there;
+    serves = λ file.
+        let s = p.serves file in
+        record {
+          file_is = s.file_is;
+          shape_is = s.shape_is;
+          talks = λ m. at_number m n (λ b. Talk (Was after) file m (if b then u else w.nodes m).incarnation (unasked ((if b then u else w.nodes m).files file)) ((w.servers file).rows m) ((w.servers file).dead m))
+              (λ same. subst (λ (k : ℕ). Talk (Was after) file k u.incarnation (unasked (u.files file)) ((w.servers file).rows k) ((w.servers file).dead k)) (sym same)
+              (subst (λ (i : ℕ). Talk (Was after) file n i (unasked (u.files file)) ((w.servers file).rows n) ((w.servers file).dead n)) (sym incarnation_is) (g.talk file)))
+              (λ other. talk-no_news (Was w) (Was after) file m (w.nodes m).incarnation (known m file) ((w.servers file).rows m) ((w.servers file).dead m) (g.others file m other) (s.talks m));
+          queued = s.queued;
+          active = s.active;
+        };
+    apart = λ file l m t x l_in m_in other a b.
+        let y = before file l t a in
+        let z = before file m x b in
+        within_excludes t x y.0 z.0 y.2 z.2 (p.apart file l m y.0 z.0 l_in m_in other y.1 z.1);
+  }
+    where
+      before : (file m : ℕ) (t : Token) → Holding (Was after) after.nodes file m t → IsHeldWithin (Was w) w.nodes file m t
+      before file m t = at_number m n (λ b. MayHold (Was after) file m (if b then u else w.nodes m).incarnation (unasked ((if b then u else w.nodes m).files file)) t → IsHeldWithin (Was w) w.nodes file m t)
+          (λ same. subst (λ (k : ℕ). MayHold (Was after) file k u.incarnation (unasked (u.files file)) t → IsHeldWithin (Was w) w.nodes file k t) (sym same)
+          (subst (λ (i : ℕ). MayHold (Was after) file n i (unasked (u.files file)) t → IsHeldWithin (Was w) w.nodes file n t) (sym incarnation_is) (g.no_more file t)))
+          (λ other h. (t, may_hold-no_news (Was w) (Was after) file m (w.nodes m).incarnation (known m file) t (g.others file m other) h, within_itself t))
+
+  -- its tokens stay, and nothing new is said of tokens
+  keeps : ((file : ℕ) → unasked (u.files file) ≡ known n file) → ((m : Message) → is_among o.sends m ≡ true → (host_of m).incarnation ≤ (w.nodes (host_of m).node).incarnation) → ((file m : ℕ) → NoNews (Was w) (Was after) file m (w.nodes m).incarnation) → Goes
+  keeps files young news =
+      let i = (w.nodes n).incarnation in
+      record {
+        young = young;
+        talk = λ file.
+            let P : FileState → Type 0 = λ x. Talk (Was after) file n i x ((w.servers file).rows n) ((w.servers file).dead n) in
+            subst P (sym (files file)) (talk-no_news (Was w) (Was after) file n i (known n file) ((w.servers file).rows n) ((w.servers file).dead n) (news file n) ((p.serves file).talks n));
+        no_more = λ file t.
+            let P : FileState → Type 0 = λ x. MayHold (Was after) file n i x t → IsHeldWithin (Was w) w.nodes file n t in
+            subst P (sym (files file)) (λ h. (t, may_hold-no_news (Was w) (Was after) file n i (known n file) t (news file n) h, within_itself t));
+        others = λ file m other. news file m;
+      }
+
+  -- what it sends is of its own incarnation
+  own_young : (m : Message) → IsHostOf (w.nodes n).node (w.nodes n).incarnation (host_of m) → (host_of m).incarnation ≤ (w.nodes (host_of m).node).incarnation
+  own_young m is = known_host w (host_of m) n (w.nodes n).incarnation (is.0 ∙ p.named n, is.1) (omega arith)
+
+  asked_young : (m : Message) → IsAsking (w.nodes n).node (w.nodes n).incarnation m → (host_of m).incarnation ≤ (w.nodes (host_of m).node).incarnation
+  asked_young m is = own_young m (asking_host (w.nodes n).node (w.nodes n).incarnation m is)
+
+  -- it asks
+  pub asks_goes : ((file : ℕ) → unasked (u.files file) ≡ known n file) → Only (IsAsking (w.nodes n).node (w.nodes n).incarnation) o.sends → Goes
+  asks_goes files asks = keeps files (λ m new. asked_young m (asks m new)) (λ file m. record {
+    kept = sent_before w.sent o.sends;
+    commands = λ i k x h to. elim (sent_either w.sent o.sends x h) [ inl old ↦ old | inr new ↦ absurd (asking_command (w.nodes n).node (w.nodes n).incarnation file m i k x (asks x new) to) ];
+    answers = λ k x h of. elim (sent_either w.sent o.sends x h) [ inl old ↦ old | inr new ↦ absurd (asking_answer (w.nodes n).node (w.nodes n).incarnation file m (w.nodes m).incarnation k x (asks x new) of) ];
+  })
+
+  -- it answers again
+  pub repeats_goes : (file : ℕ) (answer : Message) → ((w.nodes n).files file).answer ≡ Some answer → ((f : ℕ) → unasked (u.files f) ≡ known n f) → Only (λ m. m ≡ answer) o.sends → Goes
+  repeats_goes file answer there files again =
+      let told : Was w answer = (((p.serves file).talks n).remembered answer there).0 in
+      let old : (m : Message) → is_among o.sends m ≡ true → Was w m = λ m new. subst (Was w) (sym (again m new)) told in
+      keeps files (λ m new. p.no_future m (old m new)) (λ f m. nothing_new (Was w) (Was after) f m (w.nodes m).incarnation (sent_before w.sent o.sends) (λ x h. elim (sent_either w.sent o.sends x h) [ inl before ↦ before | inr new ↦ old x new ]))
+
+-- a node does the next command about a file, and answers it
+module _ (w : WorldState) (p : Present w) (n : ℕ) (e : Effect) (event : Event) (o : Outcome) (sends_are : o.sends ≡ e.sends) (file number : ℕ) (command : Message) (sent : Was w command) (to : IsCommandTo file n (w.nodes n).incarnation number command) (d : Does (w.nodes n) file number command e) where
+  abbrev s : NodeState
+  s = w.nodes n
+
+  abbrev i : ℕ
+  i = s.incarnation
+
+  abbrev done : FileState
+  done = done_file (s.files file) number command d.answer
+
+  abbrev next_world : WorldState
+  next_world = (recorded (with_node w n e.state) event 0 o).0
+
+  of_node : IsAnswerOf file n i number d.answer
+  of_node = subst (λ (k : ℕ). IsAnswerOf file k i number d.answer) (p.named n) d.of
+
+  new_is : (m : Message) → is_among o.sends m ≡ true → (m ≡ d.answer) ⊎ IsAsking s.node i m
+  new_is m new = d.sends m (subst (λ (xs : List Message). is_among xs m ≡ true) sends_are new)
+
+  no_command : (f l j k : ℕ) (m : Message) → Was next_world m → IsCommandTo f l j k m → Was w m
+  no_command f l j k m h m_to = elim (sent_either w.sent o.sends m h) [
+    | inl old ↦ old
+    | inr new ↦ elim (new_is m new) [
+      | inl is ↦ absurd (no_answer f l j k file n i number d.answer (subst (IsCommandTo f l j k) is m_to) of_node)
+      | inr asks ↦ absurd (asking_command s.node i f l j k m asks m_to)
+    ]
+  ]
+
+  one_answer : (f l j k : ℕ) (m : Message) → Was next_world m → IsAnswerOf f l j k m → Was w m ⊎ (m ≡ d.answer)
+  one_answer f l j k m h m_of = elim (sent_either w.sent o.sends m h) [
+    | inl old ↦ inl old
+    | inr new ↦ elim (new_is m new) [ inl is ↦ inr is | inr asks ↦ absurd (asking_answer s.node i f l j k m asks m_of) ]
+  ]
+
+  doing : IsDoing (Was w) (Was next_world) file n i d.answer
+  doing = record {
+    kept = sent_before w.sent o.sends;
+    commands = λ j k m h m_to. no_command file n j k m h m_to;
+    answers = λ k m h m_of. one_answer file n i k m h m_of;
+    told = sent_now w.sent o.sends d.answer (subst (λ (xs : List Message). is_among xs d.answer ≡ true) (sym sends_are) d.told);
+  }
+
+  -- of another file, or at another node
+  elsewhere : (f m : ℕ) → (f ≡ file → m ≡ n → ⊥) → NoNews (Was w) (Was next_world) f m (w.nodes m).incarnation
+  elsewhere f m other = record {
+    kept = sent_before w.sent o.sends;
+    commands = λ j k x h x_to. no_command f m j k x h x_to;
+    answers = λ k x h x_of. elim (one_answer f m (w.nodes m).incarnation k x h x_of) [
+      | inl old ↦ old
+      | inr is ↦
+          let same = same_answer_of f m (w.nodes m).incarnation k file n i number d.answer (subst (IsAnswerOf f m (w.nodes m).incarnation k) is x_of) of_node in
+          absurd (other same.file_is same.node_is)
+    ];
+  }
+
+  does_goes : Goes w p n e.state event o d.node_is d.incarnation_is
+  does_goes = record {
+    young = λ m new. elim (new_is m new) [
+      | inl is ↦ subst (λ (x : Message). (host_of x).incarnation ≤ (w.nodes (host_of x).node).incarnation) (sym is) (own_young w p n e.state event o d.node_is d.incarnation_is d.answer (answer_host file s.node i number d.answer d.of))
+      | inr asks ↦ asked_young w p n e.state event o d.node_is d.incarnation_is m asks
+    ];
+    talk = λ f.
+        let P : FileState → Type 0 = λ x. Talk (Was next_world) f n i x ((w.servers f).rows n) ((w.servers f).dead n) in
+        subst P (sym (d.files_are f)) (at_number f file (λ b. P (if b then done else unasked (s.files f)))
+        (λ same. subst (λ (k : ℕ). Talk (Was next_world) k n i done ((w.servers k).rows n) ((w.servers k).dead n)) (sym same)
+        (talk-does (Was w) (Was next_world) file n i (unasked (s.files file)) ((w.servers file).rows n) ((w.servers file).dead n) ((p.serves file).talks n) number command d.answer sent to of_node d.is_next doing))
+        (λ other. talk-no_news (Was w) (Was next_world) f n i (unasked (s.files f)) ((w.servers f).rows n) ((w.servers f).dead n) (elsewhere f n (λ x y. other x)) ((p.serves f).talks n)));
+    no_more = λ f t.
+        let P : FileState → Type 0 = λ x. MayHold (Was next_world) f n i x t → IsHeldWithin (Was w) w.nodes f n t in
+        subst P (sym (d.files_are f)) (at_number f file (λ b. P (if b then done else unasked (s.files f)))
+        (λ same. subst (λ (k : ℕ). MayHold (Was next_world) k n i done t → IsHeldWithin (Was w) w.nodes k n t) (sym same)
+        (may_hold-does (Was w) (Was next_world) file n i (unasked (s.files file)) ((w.servers file).rows n) ((w.servers file).dead n) ((p.serves file).talks n) number command d.answer sent to of_node d.is_next doing t))
+        (λ other h. (t, may_hold-no_news (Was w) (Was next_world) f n i (unasked (s.files f)) t (elsewhere f n (λ x y. other x)) h, within_itself t)));
+    others = λ f m other. elsewhere f m (λ x y. other y);
+  }
+
+  pub does_present : Present (recorded (with_node w n e.state) event 0 o).0
+  does_present = node_present w p n e.state event o d.node_is d.incarnation_is does_goes
+
+module _ (w : WorldState) (p : Present w) where
+  -- an effect by which the node only asks
+  pub asking_present : (n : ℕ) (event : Event) (call : Option CallId) (e : Effect) → AsksFrom (w.nodes n) e → Present (recorded (with_node w n e.state) event 0 (outcome call e).1).0
+  asking_present n event call e a = node_present w p n e.state event (outcome call e).1 a.node_is a.incarnation_is (asks_goes w p n e.state event (outcome call e).1 a.node_is a.incarnation_is a.files_are a.sends)
+
+  -- a try of an open call
+  pub try_present : (n : ℕ) (event : Event) (c : Option OpenCall) → Present (recorded (with_node w n (tried_if (w.nodes n) c).state) event 0 (outcome None (tried_if (w.nodes n) c)).1).0
+  try_present n event c = asking_present n event None (tried_if (w.nodes n) c) (tried_if_asks (w.nodes n) c)
+
+  call_present : (n pid : ℕ) (op : Op) → Present (recorded (with_node w n (after_call (w.nodes n) pid op).0) (Call n pid op) 0 (after_call (w.nodes n) pid op).1).0
+  call_present n pid op =
+      let s = w.nodes n in
+      let number = s.calls + 1 in
+      asking_present n (Call n pid op) (after_call s pid op).1.call (called (record s { calls = number }) number pid op) (called_asks (record s { calls = number }) number pid op)
+
+  -- what a command comes to
+  command_present : (n file number : ℕ) (command : Message) → Was w command → IsCommandTo file n (w.nodes n).incarnation number command → (event : Event) (e : Effect) → Receives (w.nodes n) file number command e → Present (recorded (with_node w n e.state) event 0 (outcome None e).1).0
+  command_present n file number command sent to event e (inl d) = does_present w p n e event (outcome None e).1 refl file number command sent to d
+  command_present n file number command sent to event e (inr (inl r)) =
+      let node_is = ap (λ (x : NodeState). x.node) r.state in
+      let incarnation_is = ap (λ (x : NodeState). x.incarnation) r.state in
+      node_present w p n e.state event (outcome None e).1 node_is incarnation_is
+      (repeats_goes w p n e.state event (outcome None e).1 node_is incarnation_is r.file r.answer r.there (λ f. ap (λ (x : NodeState). unasked (x.files f)) r.state) r.sends)
+  command_present n file number command sent to event e (inr (inr a)) = asking_present n event None e a
+
+  abbrev Delivered : ℕ → Message → NodeState × Outcome → Type 0
+  Delivered n m d = Present (recorded (with_node w n d.0) (Deliver m) 0 d.1).0
+
+  -- what a message of the live incarnation comes to
+  received_present : (n : ℕ) (m : Message) → Was w m → addressee m ≡ ANode n → (host_of m).incarnation ≡ (w.nodes n).incarnation → Delivered n m (outcome None (delivered (w.nodes n) m))
+  received_present n (Grant file number call mode span) sent to live =
+      let m = Grant file number call mode span in
+      let here : call.node ≡ n = cc in
+      let s = w.nodes n in
+      command_present n file number m sent (refl, refl, here, live) (Deliver m) (delivered s m) (grant_receives s file number call mode span (here ∙ sym (p.named n)) live)
+  received_present n (Revoke file number holder call mode wanted) sent to live =
+      let m = Revoke file number holder call mode wanted in
+      let here : holder.node ≡ n = cc in
+      let s = w.nodes n in
+      command_present n file number m sent (refl, refl, here, live) (Deliver m) (delivered s m) (revoke_receives s file number holder call mode wanted)
+  received_present n (Deny file call holder number lock) sent to live =
+      let m = Deny file call holder number lock in
+      let s = w.nodes n in
+      asking_present n (Deliver m) None (delivered s m) (denied_asks s lock (open_call s call.number))
+  received_present n m sent to live = asking_present n (Deliver m) None (quiet (w.nodes n)) (quiet_asks (w.nodes n))
+
+  deliver_present : (n : ℕ) (m : Message) (done : NodeState × Outcome) → Was w m → addressee m ≡ ANode n → deliver_rule (w.nodes n) m ≡ Ok done → Delivered n m done
+  deliver_present n m done sent to h =
+      let s = w.nodes n in
+      elim (deliver_done s m done h) [
+        | inl taken ↦ subst (Delivered n m) taken.1 (received_present n m sent to taken.0.incarnation)
+        | inr passed ↦ subst (Delivered n m) passed (asking_present n (Deliver m) None (quiet s) (quiet_asks s))
+      ]
+
+  -- a server sends its commands again
+  resend_present : (file : ℕ) (r : Result (ServerState × List Message) StepError) (done : ServerState × Outcome) → serve (w.servers file) ≡ r → sending_first (outstanding (w.servers file)) r ≡ Ok done → Present (recorded (with_server w file done.0) (Resend file) 0 done.1).0
+  resend_present file (Err e) done served is = absurd (cc)
+  resend_present file (Ok made) done served is =
+      let t = w.servers file in
+      let P : ServerState × Outcome → Type 0 = λ d. Present (recorded (with_server w file d.0) (Resend file) 0 d.1).0 in
+      let sent : (n : ℕ) (m : Message) → outstanding_of (t.rows n) ≡ Some m → Was w m = λ n m there. elim (t.rows n) as (λ x. t.rows n ≡ x → outstanding_of x ≡ Some m → Was w m) [
+        | None ↦ λ row none. absurd (none-some m none)
+        | Some row ↦ λ found waiting. outstanding_sent (Was w) w.nodes w.shape file t (p.serves file) n row m found waiting
+      ] refl there in
+      let old : Only (λ m. Was w m ⊎ IsDenial w.nodes m) (outstanding t) = only_mapped (λ m. Was w m ⊎ IsDenial w.nodes m) (λ n. outstanding_of (t.rows n)) (range_with_len 1 t.shape.nodes) (λ n m there. inl (sent n m there)) in
+      subst P (ok_is _ done is) (again_present w p file made.0 (Resend file) (sending (outstanding t ++ made.1)) (outstanding t) made.1 refl old (serve_serves (Was w) w.nodes w.shape file t (p.serves file) made.0 made.1 served))
+
+  below : (a b : ℕ) → nat_lt a b ≡ true → a < b
+  below a b h = grind (arith, nat_tests, h)
+
+  -- a server learns of an incarnation that was declared: it is not the live one
+  learn_present : (file n i : ℕ) (r : Result (ServerState × List Message) StepError) (done : ServerState × Outcome) → i < (w.nodes n).incarnation → serve (forgotten (w.servers file) n i) ≡ r → sending_first [] r ≡ Ok done → Present (recorded (with_server w file done.0) (Learn file n i) 0 done.1).0
+  learn_present file n i (Err e) done older served is = absurd (cc)
+  learn_present file n i (Ok made) done older served is =
+      let t = w.servers file in
+      let P : ServerState × Outcome → Type 0 = λ d. Present (recorded (with_server w file d.0) (Learn file n i) 0 d.1).0 in
+      let young : Serves (Was w) w.nodes w.shape file (forgotten t n i) = forgets (Was w) w.nodes w.shape file t (p.serves file) n i older in
+      subst P (ok_is _ done is) (again_present w p file made.0 (Learn file n i) (sending made.1) [] made.1 refl (only_none (λ m. Was w m ⊎ IsDenial w.nodes m)) (serve_serves (Was w) w.nodes w.shape file (forgotten t n i) young made.0 made.1 served))
+
+  -- a message goes to the actor that takes it
+  message_present : (m : Message) (to : Actor) (q : WorldState × Entry) → Was w m → addressee m ≡ to → routed w m to ≡ Ok q → Present q.0
+  message_present m (ANode n) q sent to h = node_step w (λ x. Present x.0) (Deliver m) n (node_rule (w.nodes n) (node.Deliver m)) q (λ done is. deliver_present n m done sent to is) h
+  message_present m (AServer file) q sent to h =
+      let t = w.servers file in
+      server_step w (λ x. Present x.0) (Deliver m) file (server_rule t (server.Deliver m)) q
+      (λ done is.
+      let a = receives (Was w) w.nodes w.shape file t (p.serves file) done.0 done.1 m sent to (p.no_future m sent) is in
+      again_present w p file done.0 (Deliver m) done.1 a.denied a.fresh a.sent (λ x there. inr (a.denials x there)) a.served) h
+
+  taken_present : (event : Event) (q : WorldState × Entry) → is_known w event ≡ true → taken w event ≡ Ok q → Present q.0
+  taken_present (Call n pid op) q known h =
+      let s = w.nodes n in
+      let P : NodeState × Outcome → Type 0 = λ d. Present (recorded (with_node w n d.0) (Call n pid op) 0 d.1).0 in
+      node_step w (λ x. Present x.0) (Call n pid op) n (node_rule s (node.Call pid op)) q
+      (λ done is. subst P (call_done s pid op done is) (call_present n pid op)) h
+  taken_present (Deliver m) q known h = message_present m (addressee m) q (and_parts (has_actor w (addressee m)) (is_among w.sent m) known).1 refl h
+  taken_present (Retry n pid) q known h =
+      let s = w.nodes n in
+      let P : NodeState × Outcome → Type 0 = λ d. Present (recorded (with_node w n d.0) (Retry n pid) 0 d.1).0 in
+      node_step w (λ x. Present x.0) (Retry n pid) n (node_rule s (node.Retry pid)) q
+      (λ done is. subst P (retry_done s pid done is) (try_present n (Retry n pid) (open_call_of s pid))) h
+  taken_present (Resend file) q known h =
+      let t = w.servers file in
+      server_step w (λ x. Present x.0) (Resend file) file (server_rule t server.Resend) q (λ done is. resend_present file (serve t) done refl is) h
+  taken_present (Declare n) q known h = declare_step w (λ x. Present x.0) n q (λ k is alive. silent_present (declared w k) (declared_present w p k) (Declare n) (w.nodes k).incarnation) h
+  taken_present (Restart n) q known h = restart_step w (λ x. Present x.0) n q (λ k is dead few. silent_present (restarted w k) (restarted_present w p k) (Restart n) (w.nodes k).incarnation) h
+  taken_present (Learn file n i) q known h =
+      let t = w.servers file in
+      let parts = and_parts (has_node w n) (was_declared w n i) (and_parts (has_file w file) (has_node w n && was_declared w n i) known).1 in
+      let older : i < (w.nodes n).incarnation = below i (w.nodes n).incarnation (and_parts (nat_le 1 i) (nat_lt i (w.nodes n).incarnation) parts.1).1 in
+      server_step w (λ x. Present x.0) (Learn file n i) file (server_rule t (server.Learn n i)) q
+      (λ done is. learn_present file n i (serve (forgotten t n i)) done older refl (unless_refused (not (is_within t.shape.nodes n)) _ done Stranger is).1) h
+
+  -- each step keeps it
+  pub next_present : (event : Event) (q : WorldState × Entry) → next w event ≡ Ok q → Present q.0
+  next_present event q h =
+      let x = next_taken w event q h in
+      taken_present event q x.0 x.1
+
+-- before the first entry
+module _ (shape : ShapeFields) where
+  abbrev begun : WorldState
+  begun = first_world shape
+
+  not_sent : (m : Message) → Was begun m → ⊥
+  not_sent m h = cc
+
+  first_talk : (file n : ℕ) → Talk (Was begun) file n 1 (unasked ((begun.nodes n).files file)) None 0
+  first_talk file n = record {
+    lives = omega arith;
+    aged = λ r h. absurd (none-some r h);
+    waits = λ r m h. absurd (none-some r h);
+    counted = λ i k m sent. absurd (not_sent m sent);
+    one_number = λ i k m other sent. absurd (not_sent m sent);
+    in_step = inl (record { last = refl; token = refl; none = λ r h. absurd (none-some r h) });
+    answers = λ k m sent. absurd (not_sent m sent);
+    remembered = λ m h. absurd (none-some m h);
+    answered = λ h. absurd (omega arith);
+  }
+
+  pub present_first : Present begun
+  present_first = record {
+    named = λ n. refl;
+    no_future = λ m sent. absurd (not_sent m sent);
+    serves = λ file. record {
+      file_is = refl;
+      shape_is = refl;
+      talks = λ n. first_talk file n;
+      queued = All-nil (IsCurrent (begun.servers file));
+      active = λ r h. absurd (none-some r h);
+    };
+    apart = λ file m n t u m_in n_in other a b. first_apart file m n t u a b;
+  }
+    where
+      nothing_held : (file n : ℕ) (t : Token) → Holding (Was begun) begun.nodes file n t → t ≡ no_token
+      nothing_held file n t (inl same) = same
+      nothing_held file n t (inr promised) = absurd (not_sent promised.command promised.ahead.sent)
+
+      first_apart : (file m n : ℕ) (t u : Token) → Holding (Was begun) begun.nodes file m t → Holding (Was begun) begun.nodes file n u → Excludes t u
+      first_apart file m n t u a b byte exclusive = ap (λ (x : Token). x byte) (nothing_held file n u b)
+
+-- each run keeps it
+pub present_run : (es : List Entry) (w v : WorldState) → Present w → Leads w es v → Present v
+present_run [] w v p l = subst Present l p
+present_run (e ∷ es) w v p l = present_run es l.0 v (next_present w p e.event (l.0, e) l.1) l.2
+
+pub present_after : (shape : ShapeFields) (es : List Entry) (w : WorldState) → Leads (first_world shape) es w → Present w
+present_after shape es w l = present_run es (first_world shape) w (present_first shape) l
+
+-- the tokens of two nodes are apart where all that they may hold is
+pub present_apart : (w : WorldState) → Present w → AreApart w
+present_apart w p m n file m_in n_in other = p.apart file m n ((w.nodes m).files file).token ((w.nodes n).files file).token m_in n_in other (inl refl) (inl refl)
+
+-- a command is one of its file, host and number
+named_command : (m : Message) → is_command m ≡ true → IsCommandTo (file_of m) (host_of m).node (host_of m).incarnation (number_of m) m
+named_command (Grant file number call mode span) is = (refl, refl, refl, refl)
+named_command (Revoke file number holder call mode wanted) is = (refl, refl, refl, refl)
+named_command m is = absurd (cc)
+
+-- no number is used for two commands about one file to one incarnation of a node
+pub numbers_tell : (w : WorldState) → Present w → NumbersTellCommands w
+numbers_tell w p m other sent also is_first is_other file_is host_is number_is =
+    let h = host_of m in
+    let P : ℕ → Type 0 = λ file. IsCommandTo file (host_of other).node (host_of other).incarnation (number_of other) other in
+    let Q : Host → Type 0 = λ x. IsCommandTo (file_of m) x.node x.incarnation (number_of other) other in
+    let R : ℕ → Type 0 = λ number. IsCommandTo (file_of m) h.node h.incarnation number other in
+    let to = subst R (sym number_is) (subst Q (sym host_is) (subst P (sym file_is) (named_command other is_other))) in
+    ((p.serves (file_of m)).talks h.node).one_number h.incarnation (number_of m) m other sent also (named_command m is_first) to
+
+pub numbers_after : NoNumberIsUsedTwice
+numbers_after shape es w l = numbers_tell w (present_after shape es w l)
+
+-- what a live incarnation of a node answers: no number is above the last command done, and the answer to that is remembered
+module _ (w : WorldState) (p : Present w) (file n : ℕ) where
+  abbrev its_file : FileState
+  its_file = (w.nodes n).files file
+
+  pub answers_counted : (number : ℕ) (m : Message) → Was w m → IsAnswerOf file n (w.nodes n).incarnation number m → (number ≤ its_file.last) × (number ≡ its_file.last → its_file.answer ≡ Some m)
+  answers_counted number m = ((p.serves file).talks n).answers number m
+
+  pub remembered_sent : (m : Message) → its_file.answer ≡ Some m → Was w m × (1 ≤ its_file.last) × IsAnswerOf file n (w.nodes n).incarnation its_file.last m
+  remembered_sent m = ((p.serves file).talks n).remembered m

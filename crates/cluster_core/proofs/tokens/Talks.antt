@@ -1,0 +1,254 @@
+-- What a token server and a node know of each other, for one file: the invariant of their conversation.
+use Rattle.std.specs.Prelude.{is_some}
+use Rattle.std.proofs.Common.{◌≡◌, ℕ, ◌+◌, ◌<◌, ◌≤◌, true, false, ◌⊎◌, inl, inr, sym, ◌∙◌, ap, subst, arith, Option, Some, None}
+use Rattle.std.proofs.lemmas.Option.{same_Some}
+use Rattle.model.specs.declared.mode.Mode.{Mode}
+use Rattle.model.specs.declared.host.Host.{Host}
+use Rattle.token_set.specs.Tokens.{Token, no_token, raised, level_conflicts}
+use Rattle.token_set.specs.Releases.{lowered}
+use Rattle.token_set.proofs.ReleaseLaws.{lowering_lowers}
+use Rattle.messages.specs.Messages.{host_of}
+use Rattle.messages.specs.declared.message.Message.{Message}
+use Rattle.messages.specs.declared.message.Message.TheVariants.{Grant, Revoke, Taken, Released, Conflict}
+use Rattle.node_core.specs.State.{FileState}
+use Rattle.token_server.specs.State.{Row}
+use Rattle.token_server.specs.Serve.{row_conflicts_at}
+use Rattle.cluster_core.proofs.tokens.Lowering.{IsWithin, within_itself, within_same, within_raised, within_conflicts}
+
+-- messages that were sent
+abbrev pub Sent : Type 1
+Sent = Message → Type 0
+
+-- the host is the node in that incarnation
+abbrev pub IsHostOf : ℕ → ℕ → Host → Type 0
+IsHostOf n incarnation h = (h.node ≡ n) × (h.incarnation ≡ incarnation)
+
+-- the message is a command about the file, of that number, to that incarnation of the node
+abbrev pub IsCommandTo : ℕ → ℕ → ℕ → ℕ → Message → Type 0
+IsCommandTo file n incarnation number (Grant f k call mode span) = (f ≡ file) × (k ≡ number) × (call.node ≡ n) × (call.incarnation ≡ incarnation)
+IsCommandTo file n incarnation number (Revoke f k holder call mode wanted) = (f ≡ file) × (k ≡ number) × (holder.node ≡ n) × (holder.incarnation ≡ incarnation)
+IsCommandTo file n incarnation number _ = ⊥
+
+-- the message is the answer of that incarnation of the node to a command about the file, of that number
+abbrev pub IsAnswerOf : ℕ → ℕ → ℕ → ℕ → Message → Type 0
+IsAnswerOf file n incarnation number (Taken f k call) = (f ≡ file) × (k ≡ number) × (call.node ≡ n) × (call.incarnation ≡ incarnation)
+IsAnswerOf file n incarnation number (Released f k holder call span) = (f ≡ file) × (k ≡ number) × (holder.node ≡ n) × (holder.incarnation ≡ incarnation)
+IsAnswerOf file n incarnation number (Conflict f k holder call lock) = (f ≡ file) × (k ≡ number) × (holder.node ≡ n) × (holder.incarnation ≡ incarnation)
+IsAnswerOf file n incarnation number _ = ⊥
+
+-- a command is of one file, to one incarnation of a node, and of one number
+pub record AreSame (file n i k g m j l : ℕ) : Type 0 where
+  pub file_is : file ≡ g
+  pub node_is : n ≡ m
+  pub incarnation_is : i ≡ j
+  pub number_is : k ≡ l
+
+pub same_command : (file n i k g m j l : ℕ) (x : Message) → IsCommandTo file n i k x → IsCommandTo g m j l x → AreSame file n i k g m j l
+same_command file n i k g m j l (Grant f number call mode span) a b = record { file_is = sym a.0 ∙ b.0; node_is = sym a.2 ∙ b.2; incarnation_is = sym a.3 ∙ b.3; number_is = sym a.1 ∙ b.1 }
+same_command file n i k g m j l (Revoke f number holder call mode wanted) a b = record { file_is = sym a.0 ∙ b.0; node_is = sym a.2 ∙ b.2; incarnation_is = sym a.3 ∙ b.3; number_is = sym a.1 ∙ b.1 }
+same_command file n i k g m j l x a b = absurd a
+
+pub same_answer_of : (file n i k g m j l : ℕ) (x : Message) → IsAnswerOf file n i k x → IsAnswerOf g m j l x → AreSame file n i k g m j l
+same_answer_of file n i k g m j l (Taken f number call) a b = record { file_is = sym a.0 ∙ b.0; node_is = sym a.2 ∙ b.2; incarnation_is = sym a.3 ∙ b.3; number_is = sym a.1 ∙ b.1 }
+same_answer_of file n i k g m j l (Released f number holder call span) a b = record { file_is = sym a.0 ∙ b.0; node_is = sym a.2 ∙ b.2; incarnation_is = sym a.3 ∙ b.3; number_is = sym a.1 ∙ b.1 }
+same_answer_of file n i k g m j l (Conflict f number holder call lock) a b = record { file_is = sym a.0 ∙ b.0; node_is = sym a.2 ∙ b.2; incarnation_is = sym a.3 ∙ b.3; number_is = sym a.1 ∙ b.1 }
+same_answer_of file n i k g m j l x a b = absurd a
+
+-- no command is an answer
+pub no_answer : (file n i k g m j l : ℕ) (x : Message) → IsCommandTo file n i k x → IsAnswerOf g m j l x → ⊥
+no_answer file n i k g m j l (Grant f number call mode span) a b = b
+no_answer file n i k g m j l (Revoke f number holder call mode wanted) a b = b
+no_answer file n i k g m j l x a b = a
+
+-- who a command is to, and whose an answer is
+pub command_host : (file n i k : ℕ) (x : Message) → IsCommandTo file n i k x → IsHostOf n i (host_of x)
+command_host file n i k (Grant f number call mode span) a = (a.2, a.3)
+command_host file n i k (Revoke f number holder call mode wanted) a = (a.2, a.3)
+command_host file n i k x a = absurd a
+
+pub answer_host : (file n i k : ℕ) (x : Message) → IsAnswerOf file n i k x → IsHostOf n i (host_of x)
+answer_host file n i k (Taken f number call) a = (a.2, a.3)
+answer_host file n i k (Released f number holder call span) a = (a.2, a.3)
+answer_host file n i k (Conflict f number holder call lock) a = (a.2, a.3)
+answer_host file n i k x a = absurd a
+
+-- what the node's token is with a command: a Grant raises it
+abbrev pub promised : Token → Message → Token
+promised t (Grant file number call mode span) = raised t span mode
+promised t _ = t
+
+-- and with the answer to that: where a span is released for a Revoke it is lowered
+abbrev pub settled : Token → Message → Message → Token
+settled t (Revoke file number holder call mode wanted) (Released f k h c span) = lowered t span mode
+settled t _ _ = t
+
+-- what a server and a node speak of: all that the node knows of the file, but whether it is asked to tell of freed locks
+abbrev pub unasked : FileState → FileState
+unasked f = record f { asked = false }
+
+-- the server has a row of that incarnation, with a number that is as great
+pub record IsCountedIn (row : Option Row) (incarnation number : ℕ) : Type 0 where
+  pub counting : Row
+  pub there : row ≡ Some counting
+  pub of : counting.incarnation ≡ incarnation
+  pub up_to : number ≤ counting.number
+
+-- nothing is under way between the row and the node
+pub record IsIdle (f : FileState) (r : Row) : Type 0 where
+  pub outstanding : r.outstanding ≡ None
+  pub number : r.number ≡ f.last
+  pub token : r.token ≡ f.token
+
+-- a command is under way: the row has what the command promises
+pub record IsOnTheWay (f : FileState) (r : Row) : Type 0 where
+  pub command : Message
+  pub outstanding : r.outstanding ≡ Some command
+  pub number : r.number ≡ f.last + 1
+  pub token : r.token ≡ promised f.token command
+
+-- the command is done, and its answer is under way: the node has what the row will have
+pub record IsDone (f : FileState) (r : Row) : Type 0 where
+  pub command : Message
+  pub outstanding : r.outstanding ≡ Some command
+  pub number : r.number ≡ f.last
+  pub answer : Message
+  pub remembers : f.answer ≡ Some answer
+  pub token : f.token ≡ settled r.token command answer
+
+abbrev pub States : FileState → Row → Type 0
+States f r = IsIdle f r ⊎ (IsOnTheWay f r ⊎ IsDone f r)
+
+-- the server has a row of the node's incarnation
+pub record IsKnown (incarnation : ℕ) (f : FileState) (row : Option Row) : Type 0 where
+  pub known : Row
+  pub there : row ≡ Some known
+  pub of : known.incarnation ≡ incarnation
+  pub states : States f known
+
+-- it has none, and the node has nothing of the file
+pub record IsUnknown (incarnation : ℕ) (f : FileState) (row : Option Row) : Type 0 where
+  pub last : f.last ≡ 0
+  pub token : f.token ≡ no_token
+  pub none : (r : Row) → row ≡ Some r → r.incarnation ≡ incarnation → ⊥
+
+abbrev pub InStep : ℕ → FileState → Option Row → Type 0
+InStep incarnation f row = IsUnknown incarnation f row ⊎ IsKnown incarnation f row
+
+-- what holds of the messages that were sent, of node n in its incarnation and what it knows of the file, and of the server's row of n and the incarnation of n that it knows as dead
+pub record Talk (was : Sent) (file n incarnation : ℕ) (f : FileState) (row : Option Row) (dead : ℕ) : Type 0 where
+  -- the node's incarnation is not known as dead
+  pub lives : dead < incarnation
+  -- a row is of the incarnation after those that are
+  pub aged : (r : Row) → row ≡ Some r → r.incarnation ≡ dead + 1
+  -- a command without an answer was sent, with the row's number
+  pub waits : (r : Row) (m : Message) → row ≡ Some r → r.outstanding ≡ Some m → was m × IsCommandTo file n r.incarnation r.number m
+  -- no command has a number above the row's, but for incarnations known as dead
+  pub counted : (i k : ℕ) (m : Message) → was m → IsCommandTo file n i k m → (1 ≤ k) × ((i ≤ dead) ⊎ IsCountedIn row i k)
+  -- no two commands to one incarnation have one number
+  pub one_number : (i k : ℕ) (m other : Message) → was m → was other → IsCommandTo file n i k m → IsCommandTo file n i k other → m ≡ other
+  -- the row has what the node has, will have once it has done the command that is under way, or had before it answered
+  pub in_step : InStep incarnation f row
+  -- no answer has a number above the last command done, and the one with that number is remembered
+  pub answers : (k : ℕ) (m : Message) → was m → IsAnswerOf file n incarnation k m → (k ≤ f.last) × (k ≡ f.last → f.answer ≡ Some m)
+  -- what is remembered was sent, and is the answer to the last command done
+  pub remembered : (m : Message) → f.answer ≡ Some m → was m × (1 ≤ f.last) × IsAnswerOf file n incarnation f.last m
+  -- and is there once one is done
+  pub answered : 1 ≤ f.last → is_some f.answer ≡ true
+
+-- a command that the node has not done
+pub record IsAhead (was : Sent) (file n incarnation last : ℕ) (command : Message) : Type 0 where
+  pub number : ℕ
+  pub is : IsCommandTo file n incarnation number command
+  pub sent : was command
+  pub above : last < number
+
+-- the token is what a command that the node has not done promises
+pub record IsPromised (was : Sent) (file n incarnation : ℕ) (f : FileState) (t : Token) : Type 0 where
+  pub command : Message
+  pub ahead : IsAhead was file n incarnation f.last command
+  pub value : t ≡ promised f.token command
+
+-- what the node's token is, or may become by messages that were sent
+abbrev pub MayHold : Sent → ℕ → ℕ → ℕ → FileState → Token → Type 0
+MayHold was file n incarnation f t = (t ≡ f.token) ⊎ IsPromised was file n incarnation f t
+
+within_promised : (t : Token) (command : Message) → IsWithin t (promised t command)
+within_promised t (Grant file number call mode span) = within_raised t span mode
+within_promised t m = within_itself t
+
+-- an answer only lowers
+pub settled_within : (t : Token) (command answer : Message) → IsWithin (settled t command answer) t
+settled_within t (Revoke file number holder call mode wanted) (Released f k h c span) = lowering_lowers t span mode
+settled_within t command answer = within_itself t
+
+-- the row of a node to which the command is under way
+pub record IsUnderWay (incarnation : ℕ) (f : FileState) (row : Option Row) (command : Message) : Type 0 where
+  pub known : Row
+  pub there : row ≡ Some known
+  pub of : known.incarnation ≡ incarnation
+  pub outstanding : known.outstanding ≡ Some command
+  pub number : known.number ≡ f.last + 1
+  pub token : known.token ≡ promised f.token command
+
+module _ (was : Sent) (file n incarnation : ℕ) (f : FileState) (row : Option Row) (dead : ℕ) (talk : Talk was file n incarnation f row dead) where
+  -- a command to the live incarnation is counted
+  pub counted_live : (k : ℕ) (m : Message) → was m → IsCommandTo file n incarnation k m → IsCountedIn row incarnation k
+  counted_live k m sent to = elim (talk.counted incarnation k m sent to).1 [
+    | inl old ↦ let lives = talk.lives in absurd (omega arith)
+    | inr counted ↦ counted
+  ]
+
+  -- and where one is ahead, it is under way
+  pub on_the_way : (command : Message) → IsAhead was file n incarnation f.last command → IsUnderWay incarnation f row command
+  on_the_way command a = elim talk.in_step [
+    | inl u ↦ absurd (u.none c.counting c.there c.of)
+    | inr k ↦
+        let same : c.counting ≡ k.known = same_Some c.counting k.known (sym c.there ∙ k.there) in
+        let up : a.number ≤ k.known.number = subst (λ (x : Row). a.number ≤ x.number) same c.up_to in
+        let above = a.above in
+        elim k.states [
+          | inl i ↦ let number = i.number in absurd (omega arith)
+          | inr other ↦ elim other [
+            | inl w ↦
+                let number = w.number in
+                let is : k.known.number ≡ a.number = omega arith in
+                let first = talk.waits k.known w.command k.there w.outstanding in
+                let to : IsCommandTo file n incarnation a.number w.command = subst (λ (i : ℕ). IsCommandTo file n incarnation i w.command) is (subst (λ (i : ℕ). IsCommandTo file n i k.known.number w.command) k.of first.1) in
+                let one = talk.one_number incarnation a.number w.command command first.0 a.sent to a.is in
+                record {
+                  known = k.known;
+                  there = k.there;
+                  of = k.of;
+                  outstanding = w.outstanding ∙ ap (λ (m : Message). Some m) one;
+                  number = w.number;
+                  token = w.token ∙ ap (promised f.token) one;
+                }
+            | inr d ↦ let number = d.number in absurd (omega arith)
+          ]
+        ]
+  ]
+    where
+      c : IsCountedIn row incarnation a.number
+      c = counted_live a.number command a.sent a.is
+
+  own_within : (r : Row) → States f r → IsWithin f.token r.token
+  own_within r states = elim states [
+    | inl i ↦ within_same f.token r.token (sym i.token)
+    | inr other ↦ elim other [
+      | inl w ↦ subst (IsWithin f.token) (sym w.token) (within_promised f.token w.command)
+      | inr d ↦ subst (λ (t : Token). IsWithin t r.token) (sym d.token) (settled_within r.token d.command d.answer)
+    ]
+  ]
+
+  in_row : (r : Row) (t : Token) (b : ℕ) (mode : Mode) → row ≡ Some r → IsWithin t r.token → level_conflicts (t b) mode ≡ true → row_conflicts_at row b mode ≡ true
+  in_row r t b mode there low h = ap (λ (x : Option Row). row_conflicts_at x b mode) there ∙ within_conflicts t r.token b mode low h
+
+  -- what the node may hold is in its row: where it stands in the way of a mode, the row does
+  pub held : (t : Token) (b : ℕ) (mode : Mode) → MayHold was file n incarnation f t → level_conflicts (t b) mode ≡ true → row_conflicts_at row b mode ≡ true
+  held t b mode (inl same) h = elim talk.in_step [
+    | inl u ↦ let free : false ≡ true = ap (λ (x : Token). level_conflicts (x b) mode) (sym (same ∙ u.token)) ∙ h in absurd (cc)
+    | inr k ↦ in_row k.known t b mode k.there (subst (λ (x : Token). IsWithin x k.known.token) (sym same) (own_within k.known k.states)) h
+  ]
+  held t b mode (inr p) h =
+      let w = on_the_way p.command p.ahead in
+      in_row w.known t b mode w.there (within_same t w.known.token (p.value ∙ sym w.token)) h
