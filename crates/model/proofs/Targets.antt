@@ -79,7 +79,7 @@ description_is p d d_in =
       incarnation_is = refl;
     }
 
-owner_is : (p : Process) (kind : Kind) (o : Opened) → IsNumber most_processes p.pid → IsNumber most_descriptions o.description → IsOwner p.node p.incarnation (owner_of p kind o)
+pub owner_is : (p : Process) (kind : Kind) (o : Opened) → IsNumber most_processes p.pid → IsNumber most_descriptions o.description → IsOwner p.node p.incarnation (owner_of p kind o)
 owner_is p OfProcess o pid_in d_in = process_is p pid_in
 owner_is p OfDescription o pid_in d_in = description_is p o.description d_in
 

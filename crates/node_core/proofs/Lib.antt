@@ -5,3 +5,4 @@ pub mod ReaderLaws
 pub mod RuleLaws
 pub mod PlanLaws
 pub mod ShutLaws
+pub mod AnchorLaws

@@ -1,31 +1,27 @@
 -- A node's parts and its state.
-use Rattle.std.specs.Prelude.{◌≡◌, ℕ, ◌+◌, ◌-◌, ◌<◌, ◌≤◌, ◌&&◌, ◌==◌, Bool, true, false, nat_lt, if◌then◌else◌, List, [], ◌∷◌, Option, Some, None, Result, Ok, Err, All, Contains, IfOk, IfSome, MatchOption, find, length, refl}
+use Rattle.std.specs.Prelude.{◌≡◌, ℕ, ◌≤◌, ◌&&◌, ◌==◌, Bool, true, false, nat_lt, if◌then◌else◌, List, [], ◌∷◌, Option, Some, None, Result, Ok, Err, All, Contains, IfOk, IfSome, MatchOption, find, length, refl}
 use Rattle.std.proofs.Common.{arith, ap, sym, subst, ◌∙◌}
-use Rattle.std.proofs.lemmas.Bool.{and_parts, and_from, eq-eqb}
-use Rattle.std.proofs.lemmas.Bool.Decides.{nat_tests}
+use Rattle.std.proofs.lemmas.Bool.{and_from, eq-eqb}
 use Rattle.std.proofs.lemmas.List.Elements.{All-head, All-tail}
 use Rattle.intervals.specs.declared.span.SpanError.{SpanError}
 use Rattle.intervals.specs.declared.span.SpanError.TheVariants.{Invalid}
-use Rattle.intervals.specs.Bytes.{Range, greatest, whole, put, is_in}
+use Rattle.intervals.specs.Bytes.{Range, greatest, whole}
 use Rattle.model.specs.declared.mode.Mode.{Mode}
 use Rattle.model.specs.declared.access.Access.{Access}
 use Rattle.model.specs.declared.owner.Kind.{Kind}
-use Rattle.model.specs.declared.owner.Kind.TheVariants.{OfProcess, OfDescription}
-use Rattle.model.specs.declared.owner.Owner.{Owner}
+use Rattle.model.specs.declared.owner.Kind.TheVariants.{OfProcess}
 use Rattle.model.specs.declared.opened.Opened.{Opened}
 use Rattle.model.specs.declared.reply.Reply.{Reply}
 use Rattle.model.specs.declared.reply.Reply.TheVariants.{Done, Fd, NoLocks}
 use Rattle.model.specs.declared.reply.Reply.TheVariants as reply
-use Rattle.model.specs.Limits.{IsNumber, most_of, most_processes, most_descriptors}
-use Rattle.model.specs.Owners.{same_owner, owner_at, most_owners}
+use Rattle.model.specs.Limits.{IsNumber, most_descriptors}
 use Rattle.model.specs.declared.lock_info.LockInfo.{LockInfo}
 use Rattle.model.specs.declared.policy.Policy.{Policy}
 use Rattle.model.specs.declared.policy.Policy.TheVariants.{Wide, Exact}
-use Rattle.model.specs.Locks.{Locks, no_locks, with_lock, IsFree, IsLowestBlocker, lowest_blocker, IsOfNode}
+use Rattle.model.specs.Locks.{no_locks, IsFree, IsLowestBlocker, lowest_blocker, IsOfNode}
 use Rattle.model.proofs.BlockerLaws.{is_lowest_blocker}
 use Rattle.model.specs.Descriptors.{Processes, no_processes, with_descriptor, lowest_fd, lowest_description, after_open, after_spawn, with_process, after_fork, after_dup, again_on}
 use Rattle.model.specs.Table.{Target, around, beside, with_processes, target_at}
-use Rattle.model.proofs.OwnerLaws.{owner_exact}
 use Rattle.model.proofs.Refusals.{ok_is}
 use Rattle.lock_table.specs.declared.row.Row.{Row as LockRow}
 use Rattle.lock_table.specs.Rows.{held}
@@ -43,7 +39,7 @@ use Rattle.node_core.specs.State.{NodeState, first_file, first_node, process}
 use Rattle.descriptors.specs.Rows.{processes, resolved, fd_reply}
 use Rattle.fcntl_table.proofs.TargetLaws.{target_in, target-err, target-ok, resolved_ok}
 use Rattle.node_core.specs.Files.{file_state}
-use Rattle.node_core.specs.Parts.{NodeParts, node_state, IsOwn, IsOwnCall, IsNode}
+use Rattle.node_core.specs.Parts.{NodeParts, node_state, IsOwnCall, IsNode}
 use Rattle.descriptors.specs.declared.edit.ProcessEdit.{ProcessEdit}
 use Rattle.descriptors.specs.Edits.{edited, Fits as ProcessFits}
 use Rattle.node_core.specs.Plans.{table_after, ProcessesFit}
@@ -90,62 +86,6 @@ pub find-own : (P : OpenCall → Type 0) (test : OpenCall → Bool) (calls : Lis
 find-own P test [] all = tt
 find-own P test (c ∷ calls) all =
     elim (test c) as (λ b. IfSome (if b then Some c else find test calls) P) [ true ↦ All-head P c calls all | false ↦ find-own P test calls (All-tail P c calls all) ]
-
--- the owners that a node can have
-pub own_place : (node incarnation : ℕ) (o : Owner) → IsOwn node incarnation o → (k : ℕ) × (k < most_owners) × (o ≡ owner_at node incarnation k)
-own_place node incarnation o own = placed o.kind refl
-  where
-    process_at : (n : ℕ) → 1 ≤ n → n ≤ 256 → nat_lt (n - 1) 256 ≡ true
-    process_at n low high = grind (arith, nat_tests)
-
-    description_at : (n : ℕ) → nat_lt (n - 1 + 256) 256 ≡ false
-    description_at n = grind (arith, nat_tests)
-
-    process_number : (n : ℕ) → 1 ≤ n → n ≡ n - 1 + 1
-    process_number n low = omega arith
-
-    description_number : (n : ℕ) → 1 ≤ n → n ≡ n - 1 + 256 + 1 - 256
-    description_number n low = omega arith
-
-    process_below : (n : ℕ) → 1 ≤ n → n ≤ 256 → n - 1 < 16640
-    process_below n low high = omega arith
-
-    description_below : (n : ℕ) → 1 ≤ n → n ≤ 16384 → n - 1 + 256 < 16640
-    description_below n low high = omega arith
-
-    made : (kind : Kind) (number : ℕ) → o.kind ≡ kind → o.number ≡ number → o ≡ record { node = node; incarnation = incarnation; kind = kind; number = number }
-    made kind number k n = λ i. record { node = own.of_node i; incarnation = own.of_incarnation i; kind = k i; number = n i }
-
-    choose : (k : ℕ) → Bool → Owner
-    choose k b = if b then record { node = node; incarnation = incarnation; kind = OfProcess; number = k + 1 } else record { node = node; incarnation = incarnation; kind = OfDescription; number = k + 1 - most_processes }
-
-    placed : (kind : Kind) → o.kind ≡ kind → (k : ℕ) × (k < most_owners) × (o ≡ owner_at node incarnation k)
-    placed OfProcess e =
-        let in_kind = subst (λ kind. IsNumber (most_of kind) o.number) e own.number_in in
-        (o.number - 1, process_below o.number in_kind.0 in_kind.1, made OfProcess (o.number - 1 + 1) e (process_number o.number in_kind.0) ∙ ap (choose (o.number - 1)) (sym (process_at o.number in_kind.0 in_kind.1)))
-    placed OfDescription e =
-        let in_kind = subst (λ kind. IsNumber (most_of kind) o.number) e own.number_in in
-        (o.number - 1 + 256, description_below o.number in_kind.0 in_kind.1, made OfDescription (o.number - 1 + 256 + 1 - 256) e (description_number o.number in_kind.0) ∙ ap (choose (o.number - 1 + 256)) (sym (description_at o.number)))
-
--- with more locks of the node's owners it still has locks of those alone
-pub own-lock : (h : Locks) (node incarnation file : ℕ) (owner : Owner) (s : Range) (mode : Option Mode) → IsOwn node incarnation owner → s.hi ≤ greatest → ((f : ℕ) → IsOfNode (h f) node incarnation) → (f : ℕ) → IsOfNode (with_lock h file owner s mode f) node incarnation
-own-lock h node incarnation file owner s mode own within all f = record {
-  is_own = λ o b m some. owned o b m ((file == f) && same_owner owner o) refl some;
-  ends = λ o b past. ended o b ((file == f) && same_owner owner o) past;
-}
-  where
-    owned : (o : Owner) (b : ℕ) (m : Mode) (t : Bool) → ((file == f) && same_owner owner o) ≡ t → (if t then put (h file owner) s mode else h f o) b ≡ Some m → (k : ℕ) × (k < most_owners) × (o ≡ owner_at node incarnation k)
-    owned o b m true e some =
-        let same : owner ≡ o = owner_exact owner o (and_parts _ _ e).1 in
-        own_place node incarnation o (subst (IsOwn node incarnation) same own)
-    owned o b m false e some = (all f).is_own o b m some
-
-    outside : (b : ℕ) → greatest < b → is_in s b ≡ false
-    outside b past = grind (arith, nat_tests)
-
-    ended : (o : Owner) (b : ℕ) (t : Bool) → greatest < b → (if t then put (h file owner) s mode else h f o) b ≡ None
-    ended o b true past = ap (λ x. if x then mode else h file owner b) (outside b past) ∙ (all file).ends owner b past
-    ended o b false past = (all f).ends o b past
 
 -- what a process opens is of the file that it named
 opened_if : (b : Bool) (o : Option Opened) (p : Opened) (new : Opened) (P : ℕ → Type 0) → P new.file → (o ≡ Some p → P p.file) → (if b then Some new else o) ≡ Some p → P p.file
@@ -245,7 +185,7 @@ file-state p file = refl
 pub node-blocker : (p : NodeParts) (c : OpenCall) (r : Option LockInfo) → IsOwnCall (node_state p).shape.files (node_state p).node (node_state p).incarnation c → IsNode p → MatchOption r (IsFree (held p.locks c.file) c.owner c.span c.mode) (λ lock. IsLowestBlocker (held p.locks c.file) c.owner c.span c.mode lock) → r ≡ lowest_blocker ((node_state p).table.locks c.file) c.owner c.span c.mode
 unfolding node_state
 node-blocker p c r own is x =
-    let of_node : IsOfNode (held p.locks c.file) c.owner.node p.incarnation = subst (λ n. IsOfNode (held p.locks c.file) n p.incarnation) (sym own.own.of_node) (is.own c.file) in
+    let of_node : IsOfNode (held p.locks c.file) c.owner.node p.incarnation = subst (λ n. IsOfNode (held p.locks c.file) n p.incarnation) (sym own.own.of_node) (is.anchored.own.locks c.file) in
     let of_host : IsOfNode (held p.locks c.file) c.owner.node c.owner.incarnation = subst (λ n. IsOfNode (held p.locks c.file) c.owner.node n) (sym own.own.of_incarnation) of_node in
     is_lowest_blocker (held p.locks c.file) c.owner c.span c.mode r of_host own.span.ordered own.span.ends x
 
@@ -253,7 +193,7 @@ node-blocker p c r own is x =
 pub node-gives : (p : NodeParts) (file : ℕ) (locks : List LockInfo) (mode : Mode) (required desired : Range) (gives : GaveUp) → IsNode p → IsListing (held p.locks file) locks → IsRevocable required desired → IsGivenUp (Contains locks) mode required desired gives → gives ≡ gave_up ((node_state p).table.locks file) (node_state p).node (node_state p).incarnation mode required desired
 unfolding node_state
 node-gives p file locks mode required desired gives is listing revocable given =
-    list_gives_up (held p.locks file) p.node p.incarnation locks mode required desired gives (is.own file) listing.regions listing.complete revocable given
+    list_gives_up (held p.locks file) p.node p.incarnation locks mode required desired gives (is.anchored.own.locks file) listing.regions listing.complete revocable given
 
 -- what a lock call of a process is about
 pub target-refused : (p : NodeParts) (pid : ℕ) (need : Option Mode) (fd : ℕ) (kind : Kind) (segment : Result Range SpanError) (e : FdError) → resolved (processes p.processes) pid fd ≡ Err e → target_in (around (node_state p).table (process (node_state p) pid)) (process (node_state p) pid) need fd kind segment ≡ Err (fd_reply e)

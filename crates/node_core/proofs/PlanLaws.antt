@@ -14,9 +14,8 @@ use Rattle.model.specs.declared.opened.Opened.{Opened}
 use Rattle.model.specs.declared.reply.Reply.TheVariants.{Done, NoLocks}
 use Rattle.model.specs.Descriptors.{Processes, no_processes}
 use Rattle.model.specs.Limits.{IsNumber}
-use Rattle.model.specs.Locks.{Locks, replace, with_lock, regions, IsOfNode}
+use Rattle.model.specs.Locks.{Locks, replace, with_lock, regions}
 use Rattle.model.specs.Table.{Table, Target, lock_within}
-use Rattle.model.proofs.Closings.{AreFewer, fewer_of_node}
 use Rattle.fcntl_table.specs.Hosts.{shown}
 use Rattle.fcntl_table.proofs.ExitLaws.{at_node}
 use Rattle.lock_table.specs.declared.row.Row.{Row as LockRow}
@@ -24,7 +23,13 @@ use Rattle.lock_table.specs.declared.lock_table.LockEdit.{LockEdit}
 use Rattle.lock_table.specs.Rows.{held, HasRoom as HasRowRoom}
 use Rattle.messages.specs.declared.message.Message.{Message}
 use Rattle.messages.specs.declared.message.Message.TheVariants.{Freed}
+use Rattle.messages.specs.declared.refusal.StepError.{StepError}
+use Rattle.messages.specs.declared.outcome.Outcome.{Outcome}
 use Rattle.node_core.specs.declared.change.Change.{Change}
+use Rattle.node_core.specs.declared.event.NodeEvent.{NodeEvent}
+use Rattle.node_core.specs.Anchors.{IsAnchored}
+use Rattle.node_core.specs.Node.{node_rule}
+use Rattle.node_core.proofs.AnchorLaws.{rule-anchored}
 use Rattle.descriptors.specs.declared.row.Row.{Row as ProcessRow}
 use Rattle.descriptors.specs.declared.edit.ProcessEdit.{ProcessEdit}
 use Rattle.descriptors.specs.Edits.{edited, Fits as ProcessFits}
@@ -37,12 +42,12 @@ use Rattle.node_core.specs.declared.open_calls.CallsEdit.{CallsEdit}
 use Rattle.node_core.specs.declared.open_calls.CallsEdit.TheVariants.{Same, Put, Gone, Left}
 use Rattle.descriptors.specs.Rows.{processes}
 use Rattle.node_core.specs.Files.{file_state}
-use Rattle.node_core.specs.State.{FileState, Effect, host, outcome}
+use Rattle.node_core.specs.State.{FileState, NodeState, Effect, host, outcome}
 use Rattle.node_core.specs.Try.{with_freed}
-use Rattle.node_core.specs.Parts.{NodeParts, node_state, IsOwn, IsSpan, IsOwnCall, IsNode}
-use Rattle.node_core.specs.Plans.{calls_after, locks_after, processes_after, table_after, pending_after, files_after, told, files_told, shut_after, drafted, planned, effect_of, LocksFit, ProcessesFit, CallsFit, Fits}
-use Rattle.node_core.proofs.NodeLaws.{own-lock, around-own}
-use Rattle.node_core.proofs.ShutLaws.{shut-fewer, shut-open}
+use Rattle.node_core.specs.Parts.{NodeParts, node_state, IsOwnCall, IsNode}
+use Rattle.node_core.specs.Plans.{calls_after, locks_after, processes_after, table_after, pending_after, files_after, told, files_told, shut_after, drafted, planned, effect_of, LocksFit, ProcessesFit, CallsFit, PartsFit, Fits}
+use Rattle.node_core.proofs.NodeLaws.{around-own}
+use Rattle.node_core.proofs.ShutLaws.{shut-open}
 
 pub on : {A : Type 0} (b : Bool) (x y : A) → b ≡ true → (if b then x else y) ≡ x
 on b x y h = ap (λ (c : Bool). if c then x else y) h
@@ -58,15 +63,6 @@ pub lock-refused : (p : NodeParts) (c : Target) (mode : Option Mode) → 1024 < 
 unfolding node_state
 lock-refused p c mode many =
     ap (λ (b : Bool). if b then (record (node_state p).table { locks = with_lock (held p.locks) c.file c.owner c.span mode }, Done) else ((node_state p).table, NoLocks)) (lt-leb _ _ many)
-
-pub own-planned : (p : NodeParts) (e : LockEdit) (c : Target) (mode : Option Mode) → replace (held p.locks) e.file e.owner (value_at e.spans) ≡ with_lock (held p.locks) c.file c.owner c.span mode → IsOwn p.node p.incarnation c.owner → IsSpan c.span → IsNode p → (file : ℕ) → IsOfNode (replace (held p.locks) e.file e.owner (value_at e.spans) file) p.node p.incarnation
-own-planned p e c mode same own span node file =
-    subst (λ (l : Locks). IsOfNode (l file) p.node p.incarnation) (sym same) (own-lock (held p.locks) p.node p.incarnation c.file c.owner c.span mode own span.ends node.own file)
-
--- what is planned fits
-pub lock-edit-fits : (p : NodeParts) (e : LockEdit) (c : Target) (mode : Option Mode) → e.room.items ≡ [] → HasRowRoom p.locks e.file e.owner (vec_capacity e.room) → replace (held p.locks) e.file e.owner (value_at e.spans) ≡ with_lock (held p.locks) c.file c.owner c.span mode → IsOwn (node_state p).node (node_state p).incarnation c.owner → IsSpan c.span → IsNode p → LocksFit p (Some e)
-unfolding node_state
-lock-edit-fits p e c mode empty room same own span node = (empty, room, own-planned p e c mode same own span node)
 
 pub room-fits : (p : NodeParts) (edit : Option LockEdit) → LocksFit p edit → IfSome edit (λ e. HasRowRoom p.locks e.file e.owner (vec_capacity e.room))
 room-fits p None fit = tt
@@ -109,10 +105,10 @@ told-effect p e file (Ok t) rises asked made =
     ∙ sym (ap (effect_of p) made)
 
 -- so the change fits still
-pub told-fits : (p : NodeParts) (e : EffectFields) (file : ℕ) (m : Message) (r : Result EffectFields AllocError) → Fits p e.edit → IsNumber (node_state p).shape.files file → IfOk r (λ t. t ≡ record { edit = record e.edit { freed = e.edit.freed ++ file ∷ [] }; reply = e.reply; sends = e.sends ++ m ∷ [] }) → IfOk r (λ t. Fits p t.edit)
+pub told-fits : (p : NodeParts) (e : EffectFields) (file : ℕ) (m : Message) (r : Result EffectFields AllocError) → PartsFit p e.edit → IsNumber (node_state p).shape.files file → IfOk r (λ t. t ≡ record { edit = record e.edit { freed = e.edit.freed ++ file ∷ [] }; reply = e.reply; sends = e.sends ++ m ∷ [] }) → IfOk r (λ t. PartsFit p t.edit)
 told-fits p e file m (Err x) fits within made = tt
 told-fits p e file m (Ok t) fits within made =
-    subst (λ (x : EffectFields). Fits p x.edit) (sym made) (fits.0, fits.1, fits.2, fits.3, fits.4, All-push (IsNumber (node_state p).shape.files) e.edit.freed file fits.5 within)
+    subst (λ (x : EffectFields). PartsFit p x.edit) (sym made) (fits.0, fits.1, fits.2, fits.3, fits.4, All-push (IsNumber (node_state p).shape.files) e.edit.freed file fits.5 within)
 
 -- and the files that are told rise
 pub told-rises : (e : EffectFields) (file : ℕ) (m : Message) (r : Result EffectFields AllocError) → All (λ f. f < file) e.edit.freed → IfOk r (λ t. t ≡ record { edit = record e.edit { freed = e.edit.freed ++ file ∷ [] }; reply = e.reply; sends = e.sends ++ m ∷ [] }) → IfOk r (λ t. All (λ f. f < file + 1) t.edit.freed)
@@ -167,10 +163,6 @@ node-planned p e calls rows locks rows_left locks_left pending files counted ran
       files = known i;
     }
 
-own-edited : (p : NodeParts) (edit : Option LockEdit) → LocksFit p edit → IsNode p → (file : ℕ) → IsOfNode (locks_after (held p.locks) edit file) p.node p.incarnation
-own-edited p None fit h = h.own
-own-edited p (Some e) fit h = fit.2
-
 opened-edited : (p : NodeParts) (e : Option ProcessEdit) → ProcessesFit p e → IsNode p → (pid fd : ℕ) (o : Opened) → (processes_after (processes p.processes) e).opened pid fd ≡ Some o → IsNumber p.shape.files o.file
 unfolding node_state
 opened-edited p None fit h = h.opened_in
@@ -185,15 +177,6 @@ calls-edited p (Left pid number) fit h =
     let theirs : OpenCall → Bool = λ c. not (c.pid == pid) in
     All-filter (λ c. not (c.number == number)) (IsOwnCall p.shape.files p.node p.incarnation) (filter theirs p.pending) (All-filter theirs (IsOwnCall p.shape.files p.node p.incarnation) p.pending h.calls_in)
 
--- the locks that are left are the node's own
-own-left : (p : NodeParts) (edit : Option LockEdit) (rows : List ProcessRow) (locks : List LockRow) (shut : Shut) (rows_left : List ProcessRow) (locks_left : List LockRow) → held locks ≡ locks_after (held p.locks) edit → Shuts (host (node_state p)) rows locks shut rows_left locks_left → LocksFit p edit → IsNode p → (file : ℕ) → IsOfNode (held locks_left file) p.node p.incarnation
-own-left p edit rows locks shut rows_left locks_left made shuts fit h =
-    let t : Table = shown (λ n k. no_processes) (host (node_state p)) rows locks in
-    let now : held locks_left ≡ (shut_after (host (node_state p)) t shut).locks = ap (λ (x : Table). x.locks) (shuts (λ n k. no_processes)) in
-    let fewer = subst (AreFewer (held locks)) (sym now) (shut-fewer (host (node_state p)) t shut) in
-    let own = subst (λ (l : Locks). (f : ℕ) → IsOfNode (l f) p.node p.incarnation) (sym made) (own-edited p edit fit h) in
-    fewer_of_node (held locks) (held locks_left) p.node p.incarnation fewer own
-
 -- what is open still is of files of the shape
 opened-left : (p : NodeParts) (edit : Option ProcessEdit) (rows : List ProcessRow) (locks : List LockRow) (shut : Shut) (rows_left : List ProcessRow) (locks_left : List LockRow) → processes rows ≡ processes_after (processes p.processes) edit → Shuts (host (node_state p)) rows locks shut rows_left locks_left → ProcessesFit p edit → IsNode p → (pid fd : ℕ) (o : Opened) → (processes rows_left).opened pid fd ≡ Some o → IsNumber p.shape.files o.file
 opened-left p edit rows locks shut rows_left locks_left made shuts fit h pid fd o is =
@@ -206,16 +189,27 @@ opened-left p edit rows locks shut rows_left locks_left made shuts fit h pid fd 
     opened-edited p edit fit h pid fd o (was ∙ ap (λ (ps : Processes). ps.opened pid fd) (sym (at_node none me (processes rows))) ∙ there)
 
 -- the node stays one
-pub node-edited : (p : NodeParts) (e : Edit) (calls : ℕ) (rows : List ProcessRow) (locks : List LockRow) (rows_left : List ProcessRow) (locks_left : List LockRow) (pending : List OpenCall) (files : List FileRow) → processes rows ≡ processes_after (processes p.processes) e.processes → held locks ≡ locks_after (held p.locks) e.locks → Shuts (host (node_state p)) rows locks e.shut rows_left locks_left → pending ≡ pending_after p.pending e.calls → length files ≡ length p.files → Fits p e → IsNode p → IsNode (changed p calls rows_left locks_left pending files)
-node-edited p e calls rows locks rows_left locks_left pending files ran held_now shuts left count fit h = record {
+pub node-edited : (p : NodeParts) (e : Edit) (calls : ℕ) (rows : List ProcessRow) (locks : List LockRow) (rows_left : List ProcessRow) (locks_left : List LockRow) (pending : List OpenCall) (files : List FileRow) → processes rows ≡ processes_after (processes p.processes) e.processes → Shuts (host (node_state p)) rows locks e.shut rows_left locks_left → pending ≡ pending_after p.pending e.calls → length files ≡ length p.files → node_state (changed p calls rows_left locks_left pending files) ≡ planned p e → Fits p e → IsNode p → IsNode (changed p calls rows_left locks_left pending files)
+unfolding node_state
+node-edited p e calls rows locks rows_left locks_left pending files ran shuts left count is fit h = record {
   host = h.host;
-  own = own-left p e.locks rows locks e.shut rows_left locks_left held_now shuts fit.1 h;
+  anchored = subst IsAnchored (sym is) fit.1;
   files_in = count ∙ h.files_in;
-  opened_in = opened-left p e.processes rows locks e.shut rows_left locks_left ran shuts fit.2 h;
-  calls_in = subst (All (IsOwnCall p.shape.files p.node p.incarnation)) (sym left) (calls-edited p e.calls fit.4 h);
+  opened_in = opened-left p e.processes rows locks e.shut rows_left locks_left ran shuts fit.0.2 h;
+  calls_in = subst (All (IsOwnCall p.shape.files p.node p.incarnation)) (sym left) (calls-edited p e.calls fit.0.4 h);
 }
 
 -- the edit of processes fits
 pub processes-fit : (p : NodeParts) (e : Option ProcessEdit) → ProcessesFit p e → IfSome e (ProcessFits p.processes)
 processes-fit p None fit = tt
 processes-fit p (Some e) fit = fit.0
+
+-- no lock of a node outlives its descriptors
+node-is-anchored : (p : NodeParts) → IsNode p → IsAnchored (node_state p)
+unfolding node_state
+node-is-anchored p h = h.anchored
+
+-- a planned step fits the node
+pub step-fits : (p : NodeParts) (e : NodeEvent) (r : Result Change StepError) → IsNode p → IfOk r (λ c. node_rule (node_state p) e ≡ Ok (planned p c.edit, c.outcome)) → IfOk r (λ c. PartsFit p c.edit) → IfOk r (λ c. Fits p c.edit)
+step-fits p e (Err x) h is fits = tt
+step-fits p e (Ok c) h is fits = (fits, subst (λ (r : Result (NodeState × Outcome) StepError). IfOk r (λ done. IsAnchored done.0)) is (rule-anchored (node_state p) e (node-is-anchored p h)))

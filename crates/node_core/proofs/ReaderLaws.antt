@@ -8,6 +8,7 @@ use Rattle.intervals.specs.Bytes.{Range, IsRun}
 use Rattle.model.specs.declared.level.Level.{Level}
 use Rattle.model.specs.Limits.{IsNumber}
 use Rattle.model.specs.Locks.{IsOfNode}
+use Rattle.model.specs.Anchors.{IsAnchored}
 use Rattle.messages.specs.Messages.{is_within}
 use Rattle.token_set.specs.Tokens.{no_token}
 use Rattle.token_set.specs.Runs.{ListsRuns}
@@ -47,4 +48,9 @@ file_in_shape p file within = (grind (arith, nat_tests, within), grind (arith, n
 -- the node's locks are of its own
 pub node-owners : (p : NodeParts) (file : ℕ) → IsNode p → IsOfNode ((node_state p).table.locks file) (node_state p).node (node_state p).incarnation
 unfolding node_state
-node-owners p file n = n.own file
+node-owners p file n = n.anchored.own.locks file
+
+-- and no lock of it outlives its descriptors
+pub node-anchored : (p : NodeParts) → IsNode p → IsAnchored (node_state p).table (node_state p).node (node_state p).incarnation
+unfolding node_state
+node-anchored p n = n.anchored.own.anchored

@@ -9,10 +9,10 @@ use Rattle.model.specs.declared.process.Process.{Process}
 use Rattle.model.specs.declared.reply.Reply.{Reply}
 use Rattle.model.specs.declared.reply.Reply.TheVariants as reply
 use Rattle.model.specs.declared.reply.Reply.TheVariants.{Done}
-use Rattle.model.specs.Limits.{IsNumber, most_descriptors}
+use Rattle.model.specs.Limits.{IsNumber}
 use Rattle.model.specs.Descriptors.{Processes, is_of_file, has_open}
 use Rattle.model.specs.Table.{Table, around, descriptor, is_running, exited}
-use Rattle.model.proofs.Closings.{AreFewer, AreFewerOpen, fewer_if, fewer_below, open_if, open_exited}
+use Rattle.model.proofs.Closings.{AreFewerOpen, open_if, open_exited}
 use Rattle.descriptors.specs.declared.error.FdError.{FdError}
 use Rattle.descriptors.specs.declared.error.FdError.TheVariants.{NoProcess, BadFd}
 use Rattle.descriptors.specs.Rows.{processes, resolved, fd_reply}
@@ -28,12 +28,7 @@ use Rattle.node_core.specs.Parts.{NodeParts, node_state, IsNode}
 use Rattle.node_core.specs.Plans.{numbered, shut_after, shut_effect}
 use Rattle.node_core.proofs.NodeLaws.{around-own}
 
--- the locks that are left were there, and what is open was open
-pub shut-fewer : (h : Host) (t : Table) (shut : Shut) → AreFewer t.locks (shut_after h t shut).locks
-shut-fewer h t Nothing = λ file owner b mode x. x
-shut-fewer h t (Closes pid fd) = fewer_if (process_at h pid) t fd (descriptor t (process_at h pid) fd)
-shut-fewer h t (Exits pid) = fewer_below (process_at h pid) t most_descriptors
-
+-- what is open was open
 pub shut-open : (h : Host) (t : Table) (shut : Shut) → AreFewerOpen (t.on h.node h.incarnation) ((shut_after h t shut).on h.node h.incarnation)
 shut-open h t Nothing = λ pid fd o x. x
 shut-open h t (Closes pid fd) = open_if (process_at h pid) t fd (descriptor t (process_at h pid) fd)

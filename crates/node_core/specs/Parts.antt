@@ -5,7 +5,6 @@ use Rattle.model.specs.declared.access.Access.{Access}
 use Rattle.model.specs.declared.opened.Opened.{Opened}
 use Rattle.model.specs.declared.reply.Reply.{Reply}
 use Rattle.model.specs.Limits.{IsHost, IsNumber}
-use Rattle.model.specs.Locks.{IsOfNode}
 use Rattle.model.specs.Descriptors.{no_processes, after_spawn, after_fork, after_open, after_dup}
 use Rattle.model.specs.Table.{Table, around, beside}
 use Rattle.lock_table.specs.declared.row.Row.{Row as LockRow}
@@ -25,6 +24,7 @@ use Rattle.node_core.specs.declared.open_call.OpenCall.{OpenCall}
 use Rattle.descriptors.specs.Rows.{processes}
 pub use Rattle.fcntl_table.specs.Targets.{IsOwn, IsSpan}
 use Rattle.node_core.specs.Files.{file_state}
+use Rattle.node_core.specs.Anchors.{AreAnchored}
 use Rattle.node_core.specs.State.{FileState, NodeState, Effect, with_file, quiet, host, process}
 use Rattle.node_core.specs.Commands.{remembered, answer_to, is_conflict, is_node}
 
@@ -66,7 +66,7 @@ pub record IsOwnCall (files node incarnation : ℕ) (c : OpenCall) : Type 0 wher
 -- what each node keeps
 pub record IsNode (p : NodeParts) : Type 0 where
   pub host : IsHost p.node p.incarnation
-  pub own : (file : ℕ) → IsOfNode (held p.locks file) p.node p.incarnation
+  pub anchored : AreAnchored (table_of p) p.node p.incarnation p.pending
   pub files_in : length p.files ≡ p.shape.files
   pub opened_in : (pid fd : ℕ) (o : Opened) → (processes p.processes).opened pid fd ≡ Some o → IsNumber p.shape.files o.file
   pub calls_in : All (IsOwnCall p.shape.files p.node p.incarnation) p.pending

@@ -8,10 +8,10 @@ use Rattle.model.specs.declared.opened.Opened.{Opened}
 use Rattle.model.specs.declared.reply.Reply.{Reply}
 use Rattle.model.specs.Descriptors.{Processes}
 use Rattle.model.specs.Limits.{IsNumber, most_processes}
-use Rattle.model.specs.Locks.{Locks, replace, IsOfNode}
+use Rattle.model.specs.Locks.{Locks, replace}
 use Rattle.model.specs.Table.{Table, around, descriptor, with_processes, closed_if, exited}
 use Rattle.lock_table.specs.declared.lock_table.LockEdit.{LockEdit}
-use Rattle.lock_table.specs.Rows.{held, HasRoom as HasRowRoom}
+use Rattle.lock_table.specs.Rows.{HasRoom as HasRowRoom}
 use Rattle.token_set.specs.Edits.{edited as token_edited}
 use Rattle.messages.specs.Messages.{greatest_number}
 use Rattle.descriptors.specs.declared.edit.ProcessEdit.{ProcessEdit}
@@ -29,6 +29,7 @@ use Rattle.node_core.specs.declared.open_calls.CallsEdit.{CallsEdit}
 use Rattle.node_core.specs.declared.open_calls.CallsEdit.TheVariants.{Same, Put, Gone, Left}
 use Rattle.descriptors.specs.Rows.{processes}
 use Rattle.node_core.specs.State.{FileState, NodeState, Effect, first_file, host, id_of, process}
+use Rattle.node_core.specs.Anchors.{IsAnchored}
 use Rattle.node_core.specs.Parts.{NodeParts, node_state, IsCallOf}
 
 -- how many calls the node took, with this one or without
@@ -141,13 +142,11 @@ CommandFits files (Some e) = IsNumber files e.file
 abbrev pub DraftFits : NodeParts → Draft → Type 0
 DraftFits p d = NumberFits (node_state p).calls d.numbered × CommandFits (node_state p).shape.files d.command
 
--- what the edit of locks needs: room where a row is new, and all locks stay those of the node's owners
+-- what the edit of locks needs: room where a row is new
 abbrev pub LocksFit : NodeParts → Option LockEdit → Type 0
 LocksFit p None = Unit {0}
 LocksFit p (Some e) =
-    (e.room.items ≡ [])
-    × HasRowRoom p.locks e.file e.owner (vec_capacity e.room)
-    × ((file : ℕ) → IsOfNode (replace (held p.locks) e.file e.owner (value_at e.spans) file) p.node p.incarnation)
+    (e.room.items ≡ []) × HasRowRoom p.locks e.file e.owner (vec_capacity e.room)
 
 -- what the edit of processes needs: its own, and all that is open stays of files of the shape
 abbrev pub ProcessesFit : NodeParts → Option ProcessEdit → Type 0
@@ -175,12 +174,16 @@ IsPut p _ = Unit {0}
 abbrev pub CallsFit : NodeParts → CallsEdit → Type 0
 CallsFit p e = HasRoom (length p.pending) e × IsPut p e
 
--- what the change needs of the node that it was planned from
-abbrev pub Fits : NodeParts → Edit → Type 0
-Fits p e =
+-- what the edit needs of each part of the node that it was planned from
+abbrev pub PartsFit : NodeParts → Edit → Type 0
+PartsFit p e =
     DraftFits p e.draft
     × LocksFit p e.locks
     × ProcessesFit p e.processes
     × ShutFits (processes_after (processes p.processes) e.processes) e.shut
     × CallsFit p e.calls
     × All (IsNumber (node_state p).shape.files) e.freed
+
+-- what it needs of the node: its parts can be changed so, and no lock outlives its descriptors
+abbrev pub Fits : NodeParts → Edit → Type 0
+Fits p e = PartsFit p e × IsAnchored (planned p e)

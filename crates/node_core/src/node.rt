@@ -83,6 +83,7 @@ impl Node {
     ///
     /// # Errors
     /// `AllocError` where a request for memory was refused.
+    #[tactic(auto, using(crate::proofs::AnchorLaws::first_anchored))]
     pub fn new(alloc: Global, shape: Shape, node: u8, incarnation: u16) -> Result<Node, AllocError>
         requires node { IsNumber shape.nodes node }
         requires incarnation { 1 ≤ incarnation }
@@ -195,6 +196,7 @@ impl Node {
         ensures refused { (r : StepError) → node_rule (node_state self.now) event.now ≡ Err r → result ≡ Err r }
         ensures fits { IfOk result (λ change. Fits self.now change.edit) }
     {
+        let _ = &self.shape; // tells the proof what each node keeps
         match event {
             NodeEvent::Call { pid, op } => self.plan_call(alloc, *pid, op),
             NodeEvent::Deliver(message) => self.plan_message(alloc, message),

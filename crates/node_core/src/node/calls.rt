@@ -8,7 +8,7 @@ ghost use Rattle.node_core.specs.Try.{settled};
 ghost use Rattle.node_core.specs.Calls.{is_in_shape, is_exit, is_busy, lock_call, unlock_call, called, call_rule};
 ghost use Rattle.node_core.specs.Retries.{retry_rule};
 ghost use Rattle.node_core.specs.Parts.{node_state, spawned, forked, opened, dupped, IsOwn, IsSpan};
-ghost use Rattle.node_core.specs.Plans.{numbered, table_after, planned, effect_of, ProcessesFit, Fits};
+ghost use Rattle.node_core.specs.Plans.{numbered, table_after, planned, effect_of, ProcessesFit, PartsFit};
 
 use super::Node;
 use crate::change::Change;
@@ -158,7 +158,7 @@ impl Node {
         requires left { (node_state self.now).calls < greatest_number }
         requires fits { ProcessesFit self.now processes }
         ensures value { settled (numbered (node_state self.now)) ((node_state self.now).calls + 1) (table_after (node_state self.now) processes, reply) ≡ effect_of self.now result }
-        ensures fits { Fits self.now result.edit }
+        ensures fits { PartsFit self.now result.edit }
     {
         let number = self.next_number();
         let edit = Edit {
@@ -174,7 +174,7 @@ impl Node {
         requires left { (node_state self.now).calls < greatest_number }
         requires pid { IsNumber most_processes pid }
         ensures value { IfOk result (λ effect. called (numbered (node_state self.now)) ((node_state self.now).calls + 1) pid Op.Spawn ≡ effect_of self.now effect) }
-        ensures fits { IfOk result (λ effect. Fits self.now effect.edit) }
+        ensures fits { IfOk result (λ effect. PartsFit self.now effect.edit) }
     {
         let (processes, reply) = self.spawn(pid)?;
         Ok(self.answer_with(alloc, processes, reply))
@@ -185,7 +185,7 @@ impl Node {
         requires left { (node_state self.now).calls < greatest_number }
         requires child { IsNumber most_processes child }
         ensures value { IfOk result (λ effect. called (numbered (node_state self.now)) ((node_state self.now).calls + 1) pid (Op.Fork child) ≡ effect_of self.now effect) }
-        ensures fits { IfOk result (λ effect. Fits self.now effect.edit) }
+        ensures fits { IfOk result (λ effect. PartsFit self.now effect.edit) }
     {
         let (processes, reply) = self.fork(pid, child)?;
         Ok(self.answer_with(alloc, processes, reply))
@@ -195,7 +195,7 @@ impl Node {
     fn call_dup(&self, alloc: Global, pid: u16, fd: u8) -> Result<Effect, AllocError>
         requires left { (node_state self.now).calls < greatest_number }
         ensures value { IfOk result (λ effect. called (numbered (node_state self.now)) ((node_state self.now).calls + 1) pid (Op.Dup fd) ≡ effect_of self.now effect) }
-        ensures fits { IfOk result (λ effect. Fits self.now effect.edit) }
+        ensures fits { IfOk result (λ effect. PartsFit self.now effect.edit) }
     {
         let (processes, reply) = self.dup(pid, fd)?;
         Ok(self.answer_with(alloc, processes, reply))
@@ -213,7 +213,7 @@ impl Node {
         requires pid { IsNumber most_processes pid }
         requires file { IsNumber (node_state self.now).shape.files file }
         ensures value { IfOk result (λ effect. called (numbered (node_state self.now)) ((node_state self.now).calls + 1) pid (Op.Open file access) ≡ effect_of self.now effect) }
-        ensures fits { IfOk result (λ effect. Fits self.now effect.edit) }
+        ensures fits { IfOk result (λ effect. PartsFit self.now effect.edit) }
     {
         let (processes, reply) = self.open(pid, file, access)?;
         Ok(self.answer_with(alloc, processes, reply))
@@ -233,7 +233,7 @@ impl Node {
         requires file { IfOk target (λ t. IsNumber (node_state self.now).shape.files t.file) }
         requires span { IfOk target (λ t. IsSpan t.span) }
         ensures value { IfOk result (λ effect. lock_call (numbered (node_state self.now)) ((node_state self.now).calls + 1) pid intent mode target ≡ effect_of self.now effect) }
-        ensures fits { IfOk result (λ effect. Fits self.now effect.edit) }
+        ensures fits { IfOk result (λ effect. PartsFit self.now effect.edit) }
     {
         let number = self.next_number();
         match target {
@@ -264,7 +264,7 @@ impl Node {
         requires file { IfOk target (λ t. IsNumber (node_state self.now).shape.files t.file) }
         requires span { IfOk target (λ t. IsSpan t.span) }
         ensures value { IfOk result (λ effect. unlock_call (numbered (node_state self.now)) ((node_state self.now).calls + 1) target ≡ effect_of self.now effect) }
-        ensures fits { IfOk result (λ effect. Fits self.now effect.edit) }
+        ensures fits { IfOk result (λ effect. PartsFit self.now effect.edit) }
     {
         let number = self.next_number();
         match target {
@@ -279,7 +279,7 @@ impl Node {
         requires pid { IsNumber most_processes pid }
         requires file { is_in_shape (node_state self.now).shape op.now ≡ true }
         ensures value { IfOk result (λ effect. called (numbered (node_state self.now)) ((node_state self.now).calls + 1) pid op.now ≡ effect_of self.now effect) }
-        ensures fits { IfOk result (λ effect. Fits self.now effect.edit) }
+        ensures fits { IfOk result (λ effect. PartsFit self.now effect.edit) }
     {
         match *op {
             Op::Spawn => self.call_spawn(alloc, pid),
@@ -322,7 +322,7 @@ impl Node {
         ensures ok { IfOk result (λ change. call_rule (node_state self.now) pid op.now ≡ Ok (planned self.now change.edit, change.outcome)) }
         ensures err { IfErr result (λ error. error ≢ StepError.NoMemory → call_rule (node_state self.now) pid op.now ≡ Err error) }
         ensures refused { (r : StepError) → call_rule (node_state self.now) pid op.now ≡ Err r → result ≡ Err r }
-        ensures fits { IfOk result (λ change. Fits self.now change.edit) }
+        ensures fits { IfOk result (λ change. PartsFit self.now change.edit) }
     {
         if !(is_pid(pid) && self.is_in_shape(op)) {
             return Err(StepError::Stranger);
@@ -342,7 +342,7 @@ impl Node {
         ensures ok { IfOk result (λ change. retry_rule (node_state self.now) pid ≡ Ok (planned self.now change.edit, change.outcome)) }
         ensures err { IfErr result (λ error. error ≢ StepError.NoMemory → retry_rule (node_state self.now) pid ≡ Err error) }
         ensures refused { (r : StepError) → retry_rule (node_state self.now) pid ≡ Err r → result ≡ Err r }
-        ensures fits { IfOk result (λ change. Fits self.now change.edit) }
+        ensures fits { IfOk result (λ change. PartsFit self.now change.edit) }
     {
         if !is_pid(pid) {
             return Err(StepError::Stranger);

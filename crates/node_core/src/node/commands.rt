@@ -6,7 +6,7 @@ ghost use Rattle.messages.specs.Messages.{is_within, host_of, file_of};
 ghost use Rattle.node_core.specs.Commands.{remembered, in_order, granted, revoked, denied, delivered, deliver_rule};
 ghost use Rattle.node_core.specs.State.{quiet};
 ghost use Rattle.node_core.specs.Parts.{node_state, after_grant, after_revoke, out_of_order, is_for, IsCallOf};
-ghost use Rattle.node_core.specs.Plans.{drafted, planned, effect_of, DraftFits, Fits};
+ghost use Rattle.node_core.specs.Plans.{drafted, planned, effect_of, DraftFits, PartsFit};
 
 use super::Node;
 use crate::change::Change;
@@ -36,7 +36,7 @@ impl Node {
     fn remembered(&self, alloc: Global, file: u16) -> Result<Effect, AllocError>
         requires { IsNumber (node_state self.now).shape.files file }
         ensures value { IfOk result (λ effect. remembered (node_state self.now) ((node_state self.now).files file).answer ≡ effect_of self.now effect) }
-        ensures fits { IfOk result (λ effect. Fits self.now effect.edit) }
+        ensures fits { IfOk result (λ effect. PartsFit self.now effect.edit) }
     {
         match self.file(file).answer {
             None => Ok(Effect::quiet(alloc, Edit::none(alloc))),
@@ -56,7 +56,7 @@ impl Node {
     fn take_out_of_order(&self, alloc: Global, command: &Command) -> Result<Effect, AllocError>
         requires { IsNumber (node_state self.now).shape.files command.now.file }
         ensures value { IfOk result (λ effect. out_of_order (node_state self.now) command.now.file command.now.number ≡ effect_of self.now effect) }
-        ensures fits { IfOk result (λ effect. Fits self.now effect.edit) }
+        ensures fits { IfOk result (λ effect. PartsFit self.now effect.edit) }
     {
         if command.number == self.last(command.file) && command.number >= 1 {
             return self.remembered(alloc, command.file);
@@ -82,7 +82,7 @@ impl Node {
     fn grant(&self, alloc: Global, command: &Command, span: Span) -> Result<Effect, AllocError>
         requires { IsNumber (node_state self.now).shape.files command.now.file }
         ensures value { IfOk result (λ effect. granted (node_state self.now) command.now.file command.now.number command.now.call command.now.mode span ≡ effect_of self.now effect) }
-        ensures fits { IfOk result (λ effect. Fits self.now effect.edit) }
+        ensures fits { IfOk result (λ effect. PartsFit self.now effect.edit) }
     {
         let draft = self.raise(command, span)?;
         let waiting = self.open_call(command.call.number);
@@ -99,7 +99,7 @@ impl Node {
     ) -> Result<Effect, AllocError>
         requires { IsNumber (node_state self.now).shape.files command.now.file }
         ensures value { IfOk result (λ effect. in_order (node_state self.now) command.now.file command.now.number (granted (node_state self.now) command.now.file command.now.number command.now.call command.now.mode span) ≡ effect_of self.now effect) }
-        ensures fits { IfOk result (λ effect. Fits self.now effect.edit) }
+        ensures fits { IfOk result (λ effect. PartsFit self.now effect.edit) }
     {
         if !self.is_next(command) {
             return self.take_out_of_order(alloc, command);
@@ -130,7 +130,7 @@ impl Node {
     fn revoke(&self, alloc: Global, command: &Command, wanted: Wanted) -> Result<Effect, AllocError>
         requires { IsNumber (node_state self.now).shape.files command.now.file }
         ensures value { IfOk result (λ effect. revoked (node_state self.now) command.now.file command.now.number command.now.call command.now.mode wanted ≡ effect_of self.now effect) }
-        ensures fits { IfOk result (λ effect. Fits self.now effect.edit) }
+        ensures fits { IfOk result (λ effect. PartsFit self.now effect.edit) }
     {
         let (gives, draft) = self.give_up(command, wanted)?;
         Effect::sent(
@@ -149,7 +149,7 @@ impl Node {
     ) -> Result<Effect, AllocError>
         requires { IsNumber (node_state self.now).shape.files command.now.file }
         ensures value { IfOk result (λ effect. in_order (node_state self.now) command.now.file command.now.number (revoked (node_state self.now) command.now.file command.now.number command.now.call command.now.mode wanted) ≡ effect_of self.now effect) }
-        ensures fits { IfOk result (λ effect. Fits self.now effect.edit) }
+        ensures fits { IfOk result (λ effect. PartsFit self.now effect.edit) }
     {
         if !self.is_next(command) {
             return self.take_out_of_order(alloc, command);
@@ -161,7 +161,7 @@ impl Node {
     fn deny(&self, alloc: Global, call: Option<OpenCall>, lock: LockInfo) -> Effect
         requires { IfSome call (IsCallOf (node_state self.now)) }
         ensures value { denied (node_state self.now) lock call ≡ effect_of self.now result }
-        ensures fits { Fits self.now result.edit }
+        ensures fits { PartsFit self.now result.edit }
     {
         match call {
             None => Effect::quiet(alloc, Edit::none(alloc)),
@@ -195,7 +195,7 @@ impl Node {
     fn deliver(&self, alloc: Global, message: &Message) -> Result<Effect, AllocError>
         requires { is_within (node_state self.now).shape.files (file_of message.now) ≡ true }
         ensures value { IfOk result (λ effect. delivered (node_state self.now) message.now ≡ effect_of self.now effect) }
-        ensures fits { IfOk result (λ effect. Fits self.now effect.edit) }
+        ensures fits { IfOk result (λ effect. PartsFit self.now effect.edit) }
     {
         match *message {
             Message::Grant {
@@ -225,7 +225,7 @@ impl Node {
     fn take_message(&self, alloc: Global, message: &Message) -> Result<Effect, AllocError>
         requires { is_within (node_state self.now).shape.files (file_of message.now) ≡ true }
         ensures value { IfOk result (λ effect. (if (host_of message.now).incarnation == (node_state self.now).incarnation then delivered (node_state self.now) message.now else quiet (node_state self.now)) ≡ effect_of self.now effect) }
-        ensures fits { IfOk result (λ effect. Fits self.now effect.edit) }
+        ensures fits { IfOk result (λ effect. PartsFit self.now effect.edit) }
     {
         if !self.is_for_now(message) {
             return Ok(Effect::quiet(alloc, Edit::none(alloc)));
@@ -238,7 +238,7 @@ impl Node {
         ensures ok { IfOk result (λ change. deliver_rule (node_state self.now) message.now ≡ Ok (planned self.now change.edit, change.outcome)) }
         ensures err { IfErr result (λ error. error ≢ StepError.NoMemory → deliver_rule (node_state self.now) message.now ≡ Err error) }
         ensures refused { (r : StepError) → deliver_rule (node_state self.now) message.now ≡ Err r → result ≡ Err r }
-        ensures fits { IfOk result (λ change. Fits self.now change.edit) }
+        ensures fits { IfOk result (λ change. PartsFit self.now change.edit) }
     {
         if !self.is_for_me(message) {
             return Err(StepError::Stranger);

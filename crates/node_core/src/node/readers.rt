@@ -1,5 +1,6 @@
 //! What a node holds, as lists.
 ghost use Rattle.std.specs.Prelude.{◌≡◌, ◌≤◌, IfOk};
+ghost use Rattle.model.specs.Anchors.{IsAnchored};
 ghost use Rattle.model.specs.Locks.{IsOfNode};
 ghost use Rattle.lock_table.specs.Listing.{IsListing};
 ghost use Rattle.token_set.specs.Runs.{ListsRuns};
@@ -36,13 +37,15 @@ impl Node {
         self.file(file).token.runs(alloc)
     }
 
-    /// The regions of the file that the node's owners hold, by first byte and then by owner.
+    /// The regions of the file that the node's owners hold, by first byte and then by owner. No lock of
+    /// the node outlives its descriptors.
     ///
     /// # Errors
     /// `AllocError` where a request for memory was refused.
     pub fn regions(&self, file: u16) -> Result<Vec<LockInfo>, AllocError>
         ensures listing { IfOk result (λ locks. IsListing ((node_state self.now).table.locks file) locks.items) }
         ensures own { IsOfNode ((node_state self.now).table.locks file) (node_state self.now).node (node_state self.now).incarnation }
+        ensures anchored { IsAnchored (node_state self.now).table (node_state self.now).node (node_state self.now).incarnation }
     {
         self.locks.locks(file)
     }

@@ -7,7 +7,7 @@ ghost use Rattle.messages.specs.Messages.{greatest_number};
 ghost use Rattle.node_core.specs.Try.{with_freed, with_freed_of};
 ghost use Rattle.node_core.specs.Calls.{called};
 ghost use Rattle.node_core.specs.Parts.{node_state};
-ghost use Rattle.node_core.specs.Plans.{numbered, shut_effect, effect_of, ShutFits, CallsFit, Fits};
+ghost use Rattle.node_core.specs.Plans.{numbered, shut_effect, effect_of, ShutFits, CallsFit, PartsFit};
 
 use super::Node;
 use crate::edit::{Draft, Edit, Shut};
@@ -24,7 +24,7 @@ impl Node {
         requires runs { ShutFits (processes self.now.processes) shut }
         requires calls { CallsFit self.now calls }
         ensures value { shut_effect (node_state self.now) shut calls reply ≡ effect_of self.now result }
-        ensures fits { Fits self.now result.edit }
+        ensures fits { PartsFit self.now result.edit }
         ensures first { result.edit.freed ≡ [] }
     {
         let id = self.id(self.next_number());
@@ -42,7 +42,7 @@ impl Node {
         requires left { (node_state self.now).calls < greatest_number }
         requires pid { IsNumber most_processes pid }
         ensures value { IfOk result (λ effect. called (numbered (node_state self.now)) ((node_state self.now).calls + 1) pid (Op.Close fd) ≡ effect_of self.now effect) }
-        ensures fits { IfOk result (λ effect. Fits self.now effect.edit) }
+        ensures fits { IfOk result (λ effect. PartsFit self.now effect.edit) }
     {
         let calls = CallsEdit::Gone(self.next_number());
         match self.processes.resolve(pid, fd) {
@@ -59,10 +59,10 @@ impl Node {
     // named to it.
     fn tell_if_open(&self, pid: u16, file: u16, effect: Effect) -> Result<Effect, AllocError>
         requires file { IsNumber (node_state self.now).shape.files file }
-        requires fits { Fits self.now effect.edit }
+        requires fits { PartsFit self.now effect.edit }
         requires rises { All (λ f. f < file) effect.edit.freed }
         ensures value { IfOk result (λ told. (if has_open (processes self.now.processes) pid file then with_freed file (effect_of self.now effect) else effect_of self.now effect) ≡ effect_of self.now told) }
-        ensures fits { IfOk result (λ told. Fits self.now told.edit) }
+        ensures fits { IfOk result (λ told. PartsFit self.now told.edit) }
         ensures rises { IfOk result (λ told. All (λ f. f < file + 1) told.edit.freed) }
     {
         if !self.is_asked(&effect.edit.draft, file) {
@@ -76,10 +76,10 @@ impl Node {
 
     // The servers of the files that the process has open hear that locks may be gone, by rising files.
     fn tell_open(&self, pid: u16, effect: Effect) -> Result<Effect, AllocError>
-        requires fits { Fits self.now effect.edit }
+        requires fits { PartsFit self.now effect.edit }
         requires first { effect.edit.freed ≡ [] }
         ensures value { IfOk result (λ told. with_freed_of (has_open (processes self.now.processes) pid) (node_state self.now).shape.files (effect_of self.now effect) ≡ effect_of self.now told) }
-        ensures fits { IfOk result (λ told. Fits self.now told.edit) }
+        ensures fits { IfOk result (λ told. PartsFit self.now told.edit) }
     {
         let mut told = effect;
         for before in 0..self.shape.files() {
@@ -94,7 +94,7 @@ impl Node {
         requires left { (node_state self.now).calls < greatest_number }
         requires pid { IsNumber most_processes pid }
         ensures value { IfOk result (λ effect. called (numbered (node_state self.now)) ((node_state self.now).calls + 1) pid Op.Exit ≡ effect_of self.now effect) }
-        ensures fits { IfOk result (λ effect. Fits self.now effect.edit) }
+        ensures fits { IfOk result (λ effect. PartsFit self.now effect.edit) }
     {
         let number = self.next_number();
         let calls = CallsEdit::Left { pid, number };

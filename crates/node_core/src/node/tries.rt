@@ -8,7 +8,7 @@ ghost use Rattle.token_set.specs.Tokens.{covers, desired};
 ghost use Rattle.node_core.specs.State.{answered};
 ghost use Rattle.node_core.specs.Try.{requested, with_freed, locked_by, answered_here, tried, tried_if};
 ghost use Rattle.node_core.specs.Parts.{node_state, IsOwn, IsSpan, IsCallOf};
-ghost use Rattle.node_core.specs.Plans.{drafted, trying, opened_if, pending_after, locks_after, with_locks, effect_of, DraftFits, LocksFit, CallsFit, Fits};
+ghost use Rattle.node_core.specs.Plans.{drafted, trying, opened_if, pending_after, locks_after, with_locks, effect_of, DraftFits, LocksFit, CallsFit, PartsFit};
 
 use super::Node;
 use crate::edit::{Draft, Edit};
@@ -106,7 +106,7 @@ impl Node {
         requires own { IsCallOf (node_state self.now) call.now }
         requires draft { DraftFits self.now draft }
         ensures value { IfOk result (λ effect. requested (trying self.now draft call.now) call.now ≡ effect_of self.now effect) }
-        ensures fits { IfOk result (λ effect. Fits self.now effect.edit) }
+        ensures fits { IfOk result (λ effect. PartsFit self.now effect.edit) }
     {
         let request = Message::Request {
             file: call.file,
@@ -136,7 +136,7 @@ impl Node {
         requires draft { DraftFits self.now draft }
         requires locks { LocksFit self.now locks }
         ensures value { answered (with_locks (drafted self.now draft) (locks_after (node_state self.now).table.locks locks)) number reply ≡ effect_of self.now result }
-        ensures fits { Fits self.now result.edit }
+        ensures fits { PartsFit self.now result.edit }
         ensures first { result.edit.freed ≡ [] }
     {
         let edit = Edit {
@@ -172,10 +172,10 @@ impl Node {
     // where one was named to it.
     pub(super) fn tell_freed(&self, file: u16, effect: Effect) -> Result<Effect, AllocError>
         requires file { IsNumber (node_state self.now).shape.files file }
-        requires fits { Fits self.now effect.edit }
+        requires fits { PartsFit self.now effect.edit }
         requires rises { All (λ f. f < file) effect.edit.freed }
         ensures value { IfOk result (λ told. with_freed file (effect_of self.now effect) ≡ effect_of self.now told) }
-        ensures fits { IfOk result (λ told. Fits self.now told.edit) }
+        ensures fits { IfOk result (λ told. PartsFit self.now told.edit) }
         ensures rises { IfOk result (λ told. All (λ f. f < file + 1) told.edit.freed) }
     {
         if !self.is_asked(&effect.edit.draft, file) {
@@ -201,7 +201,7 @@ impl Node {
         requires own { IsOwn (node_state self.now).node (node_state self.now).incarnation target.owner }
         requires span { IsSpan target.span }
         ensures value { IfOk result (λ effect. locked_by (drafted self.now draft) number target mode ≡ effect_of self.now effect) }
-        ensures fits { IfOk result (λ effect. Fits self.now effect.edit) }
+        ensures fits { IfOk result (λ effect. PartsFit self.now effect.edit) }
     {
         let (locks, reply) = self.plan_lock(target, mode)?;
         let effect = self.answer(alloc, draft, locks, number, reply);
@@ -221,7 +221,7 @@ impl Node {
         requires own { IsCallOf (node_state self.now) call.now }
         requires draft { DraftFits self.now draft }
         ensures value { IfOk result (λ effect. answered_here (drafted self.now draft) call.now call.now.intent ≡ effect_of self.now effect) }
-        ensures fits { IfOk result (λ effect. Fits self.now effect.edit) }
+        ensures fits { IfOk result (λ effect. PartsFit self.now effect.edit) }
     {
         match call.intent {
             Intent::Set => self.lock(alloc, draft, call.number, call.target(), Some(call.mode)),
@@ -240,7 +240,7 @@ impl Node {
         requires own { IsCallOf (node_state self.now) call.now }
         requires draft { DraftFits self.now draft }
         ensures value { IfOk result (λ effect. tried (trying self.now draft call.now) call.now ≡ effect_of self.now effect) }
-        ensures fits { IfOk result (λ effect. Fits self.now effect.edit) }
+        ensures fits { IfOk result (λ effect. PartsFit self.now effect.edit) }
     {
         if let Some(lock) = self.blocker(call) {
             let refusal = call.intent.refusal(lock);
@@ -263,7 +263,7 @@ impl Node {
         requires old { draft.numbered ≡ false }
         requires draft { DraftFits self.now draft }
         ensures value { IfOk result (λ effect. tried_if (drafted self.now draft) call ≡ effect_of self.now effect) }
-        ensures fits { IfOk result (λ effect. Fits self.now effect.edit) }
+        ensures fits { IfOk result (λ effect. PartsFit self.now effect.edit) }
     {
         match call {
             None => Ok(Effect::quiet(alloc, Edit::of(alloc, draft))),

@@ -14,16 +14,16 @@ use Rattle.node_core.proofs.node.Node.apply_edit.Goals as goal
 
 pub apply_locks-requires-clause-room : goal.apply_locks-requires-clause-room
 apply_locks-requires-clause-room c =
-    subst (λ (p : NodeParts). IfSome c.args.edit.locks (λ e. HasRoom p.locks e.file e.owner (vec_capacity e.room))) (sym c.self.view_is) (room-fits c.args.self.now c.args.edit.locks c.requires.1)
+    subst (λ (p : NodeParts). IfSome c.args.edit.locks (λ e. HasRoom p.locks e.file e.owner (vec_capacity e.room))) (sym c.self.view_is) (room-fits c.args.self.now c.args.edit.locks c.requires.0.1)
 
 pub apply_processes-requires : goal.apply_processes-requires
 apply_processes-requires c =
-    subst (λ (p : NodeParts). IfSome c.args.edit.processes (ProcessFits p.processes)) (sym c.self.view_is) (processes-fit c.args.self.now c.args.edit.processes c.requires.2)
+    subst (λ (p : NodeParts). IfSome c.args.edit.processes (ProcessFits p.processes)) (sym c.self.view_is) (processes-fit c.args.self.now c.args.edit.processes c.requires.0.2)
 
 pub apply_shut-requires : goal.apply_shut-requires
 apply_shut-requires c =
     let made = c.apply_processes.ensures ∙ ap (λ (p : NodeParts). processes_after (processes p.processes) c.args.edit.processes) c.self.view_is in
-    subst (λ (ps : Processes). ShutFits ps c.args.edit.shut) (sym made) c.requires.3
+    subst (λ (ps : Processes). ShutFits ps c.args.edit.shut) (sym made) c.requires.0.3
 
 pub invariant_of-self : goal.invariant_of-self
 invariant_of-self c =
@@ -33,7 +33,9 @@ invariant_of-self c =
     let fits = subst (λ (q : NodeParts). Fits q e) (sym c.self.view_is) c.requires in
     let me = c.host-host.ensures ∙ ap (λ (q : NodeParts). host (node_state q)) (sym c.self.view_is) in
     let shuts = subst (λ (h : Host). Shuts h c.apply_processes.new.processes c.apply_locks.new.locks e.shut c.apply_shut.new.processes c.apply_shut.new.locks) me c.apply_shut.ensures in
-    node-edited p e c.calls_after-self-inside.result c.apply_processes.new.processes c.apply_locks.new.locks c.apply_shut.new.processes c.apply_shut.new.locks c.apply.new.self c.clear_asked.new.files.items c.apply_processes.ensures c.apply_locks.ensures shuts c.apply.ensures (c.clear_asked.ensures.count ∙ c.apply_command.ensures.count) fits c.self.invariant
+    let known = c.clear_asked.ensures.state ∙ (λ i. files_told (c.apply_command.ensures.state i) (c.as_slice.ensures i)) in
+    let is = node-planned p e c.calls_after-self-inside.result c.apply_processes.new.processes c.apply_locks.new.locks c.apply_shut.new.processes c.apply_shut.new.locks c.apply.new.self c.clear_asked.new.files.items c.calls_after-self-inside.ensures c.apply_processes.ensures c.apply_locks.ensures shuts c.apply.ensures known in
+    node-edited p e c.calls_after-self-inside.result c.apply_processes.new.processes c.apply_locks.new.locks c.apply_shut.new.processes c.apply_shut.new.locks c.apply.new.self c.clear_asked.new.files.items c.apply_processes.ensures shuts c.apply.ensures (c.clear_asked.ensures.count ∙ c.apply_command.ensures.count) is fits c.self.invariant
 
 pub returns : goal.returns
 returns c =

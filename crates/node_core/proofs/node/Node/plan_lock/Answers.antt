@@ -5,7 +5,7 @@ use Rattle.intervals.specs.Runs.{value_at}
 use Rattle.model.specs.Locks.{replace, with_lock, regions}
 use Rattle.model.specs.Table.{Target}
 use Rattle.lock_table.specs.Rows.{held}
-use Rattle.node_core.proofs.PlanLaws.{lock-planned, lock-refused, lock-edit-fits}
+use Rattle.node_core.proofs.PlanLaws.{lock-planned, lock-refused}
 use Rattle.node_core.proofs.node.Node.plan_lock.Goals as goal
 
 pub returns-in-Ok-clause-locked : goal.returns-in-Ok-clause-locked
@@ -17,11 +17,7 @@ returns-in-Ok-clause-locked c =
     rw (← c.self.view_is) (lock-planned _ e c.args.target c.args.mode ok few)
 
 pub returns-in-Ok-clause-fits : goal.returns-in-Ok-clause-fits
-returns-in-Ok-clause-fits c =
-    let h = held c.self.inside.locks in
-    let e = c.in-Ok.edit in
-    let ok = subst (λ (t : Target). replace h e.file e.owner (value_at e.spans) ≡ with_lock h t.file t.owner t.span c.args.mode) c.target.view_is c.in-Ok.ensures.ok in
-    rw (← c.self.view_is) (lock-edit-fits _ e c.args.target c.args.mode c.in-Ok.ensures.empty c.in-Ok.ensures.room ok (rw c.self.view_is c.requires.own) c.requires.span c.self.invariant)
+returns-in-Ok-clause-fits c = rw (← c.self.view_is) (c.in-Ok.ensures.empty, c.in-Ok.ensures.room)
 
 pub returns-in-Err-NoLocks-clause-locked : goal.returns-in-Err-NoLocks-clause-locked
 returns-in-Err-NoLocks-clause-locked c =
