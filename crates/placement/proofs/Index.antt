@@ -92,9 +92,9 @@ module _ (all es : List Entry) (e : Entry) where
       let there : is_some (find_call es id) ≡ true = sym (before.known id) ∙ (ap is_some (sym (get-same_call calls id)) ∙ known) in
       let P : CallId → Type 0 = λ x. is_some (find_call es x) ≡ true in
       same_calls all es (es ++ e ∷ []) calls (λ q.
-          stays q id (find_call es q) (called_by e.event None) (same_call q id) refl (λ same. subst P (sym same) there)
-          ∙ (ap (λ (c : Option CallId). option_or (find_call es q) (cond (is_named q c) (called_by e.event None) None)) (sym named)
-          ∙ sym (find_call-push es e q))) before
+      stays q id (find_call es q) (called_by e.event None) (same_call q id) refl (λ same. subst P (sym same) there)
+      ∙ (ap (λ (c : Option CallId). option_or (find_call es q) (cond (is_named q c) (called_by e.event None) None)) (sym named)
+      ∙ sym (find_call-push es e q))) before
 
   -- a call that the index has not is added
   adds : (q id : CallId) (x y : Option (ℕ × Op)) (b c : Bool) → same_call id q ≡ b → same_call q id ≡ c → (id ≡ q → x ≡ None) → cond b y x ≡ option_or x (cond c y None)
@@ -111,11 +111,11 @@ module _ (all es : List Entry) (e : Entry) where
       let new : Updates same_call calls next id (Some index) = subst Q eq-same_call updates in
       let makes : made_by (slice_get all index) ≡ Some (pid, op) = ap made_by there ∙ ap (λ (v : Event). called_by v None) event in
       let grown : (q : CallId) → cond (same_call id q) (Some (pid, op)) (find_call es q) ≡ find_call (es ++ e ∷ []) q =
-          λ q.
-          adds q id (find_call es q) (Some (pid, op)) (same_call id q) (same_call q id) refl refl (λ same. subst P same none)
-          ∙ (ap (λ (c : Option CallId). option_or (find_call es q) (cond (is_named q c) (called_by (Call node pid op) None) None)) (sym named)
-          ∙ (ap (λ (v : Event). option_or (find_call es q) (cond (is_named q e.call) (called_by v None) None)) (sym event)
-          ∙ sym (find_call-push es e q))) in
+      λ q.
+      adds q id (find_call es q) (Some (pid, op)) (same_call id q) (same_call q id) refl refl (λ same. subst P same none)
+      ∙ (ap (λ (c : Option CallId). option_or (find_call es q) (cond (is_named q c) (called_by (Call node pid op) None) None)) (sym named)
+      ∙ (ap (λ (v : Event). option_or (find_call es q) (cond (is_named q e.call) (called_by v None) None)) (sym event)
+      ∙ sym (find_call-push es e q))) in
       record {
         found = λ q.
             ap (call_at all) (new.0 q)

@@ -72,7 +72,9 @@ impl Played {
         ensures refused { result.1.items ≡ self.refused }
     {
         let Played {
-            journal, refused, ..
+            journal,
+            refused,
+            ..
         } = self;
         (journal, refused)
     }
