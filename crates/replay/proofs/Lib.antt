@@ -1,3 +1,4 @@
+pub mod Sections
 pub mod Faults
 pub mod Marks
 pub mod OneOutcome

@@ -17,7 +17,7 @@ use crate::played::Played;
 use crate::store::{Store, StoreError};
 use command_line::line::Line;
 use intervals::span_map::NoMemory;
-use lockscript::listing::listing;
+use lockscript::listing::{listing_start, push_history};
 use lockscript::script::Script;
 use placement::placed::placed;
 use std::alloc::Global;
@@ -97,7 +97,8 @@ fn listing_of_script<'a, S: Store>(
 {
     let script = script_of(alloc, store, path)?;
     let played = play(alloc, &script)?;
-    Ok(listing_of(alloc, &played)?)
+    drop(script);
+    Ok(listing_of(alloc, played)?)
 }
 
 // The script that a file writes.
@@ -124,21 +125,26 @@ fn script_in<'a>(alloc: Global, bytes: &[u8], path: &'a str) -> Result<Script, F
     }
 }
 
-// The listing of a run.
-fn listing_of(alloc: Global, played: &Played) -> Result<String, NoMemory>
-    ensures { IfOk result (λ text. IsListing (state_of played.now) (string_bytes text)) }
+// The listing of a run. What is no longer needed goes as soon as it can: the world once its tokens and
+// locks are listed, the journal before the history is written.
+#[tactic(auto, using(crate::proofs::Sections::whole_listing))]
+fn listing_of(alloc: Global, played: Played) -> Result<String, NoMemory>
+    ensures { IfOk result (λ text. IsListing (state_of played) (string_bytes text)) }
 {
-    let history = placed(alloc, played.journal())?;
     let tokens = played.world().tokens(alloc)?;
     let locks = played.world().locks(alloc)?;
-    listing(
+    let (journal, refused) = played.into_journal();
+    let history = placed(alloc, &journal)?;
+    let mut text = listing_start(
         alloc,
-        played.refused(),
-        played.journal().entries(),
+        refused.as_slice(),
+        journal.entries(),
         tokens.as_slice(),
         locks.as_slice(),
-        history.items(),
-    )
+    )?;
+    drop(journal);
+    push_history(&mut text, history.items())?;
+    Ok(text)
 }
 
 /// Writes all of the text, and sends it on.

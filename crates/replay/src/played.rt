@@ -65,4 +65,17 @@ impl Played {
     {
         self.refused.as_slice()
     }
+
+    /// What happened, and the lines that were refused, without the world.
+    pub fn into_journal(self) -> (Journal, Vec<(u32, u16)>)
+        ensures journal { result.0 ≡ self.journal }
+        ensures refused { result.1.items ≡ self.refused }
+    {
+        let Played {
+            journal,
+            refused,
+            ..
+        } = self;
+        (journal, refused)
+    }
 }
