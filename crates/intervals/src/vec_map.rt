@@ -181,10 +181,12 @@ impl<V: Exact> SpanMap<V> for VecMap<V> {
         }
     }
 
+    // It has room for the two runs more that a write can make.
     fn copy(&self) -> Result<Self, NoMemory> {
-        Ok(VecMap {
-            runs: Vec::from_slice(*self.runs.allocator(), &self.runs)?,
-        })
+        let most = self.runs.len().saturating_add(2);
+        let mut runs = Vec::with_capacity(*self.runs.allocator(), most)?;
+        runs.extend_from_slice(&self.runs)?;
+        Ok(VecMap { runs })
     }
 
     fn same(&self, other: &Self) -> bool {

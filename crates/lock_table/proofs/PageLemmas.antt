@@ -2,7 +2,7 @@
 use Rattle.std.proofs.Common.{◌≡◌, ℕ, zero, suc, ◌+◌, ◌*◌, ◌/◌, ◌%◌, ◌^◌, ◌<◌, ◌≤◌, ◌⊎◌, nat_le, eqb, ◌&&◌, length, get_or, set, drop, List, [], ◌∷◌, Option, Some, None, refl, ap, sym, ◌∙◌, inl, inr, arith}
 use Rattle.std.specs.Prelude.{bit_or}
 use Rattle.std.specs.Int.{bit_at, w64}
-use Rattle.std.proofs.lemmas.Nat.Bits.{bit_at_ones, bit_at_or, bit_at-lt, bit_at_set_same}
+use Rattle.std.proofs.lemmas.Nat.Bits.{bit_at_ones, bit_at-zero, bit_at_or, bit_at-lt, bit_at_set_same}
 use Rattle.std.specs.List.{All}
 use Rattle.std.proofs.lemmas.Bool.{cases_order, cases_lt, cases_Bool, and_parts, eqb-true}
 use Rattle.std.proofs.lemmas.Bool.Decides.{nat_tests}
@@ -33,6 +33,13 @@ four_words w (suc (suc (suc (suc q)))) lt = absurd (omega arith)
 -- a set with each flag has each owner
 pub has_all : (o : Owner) → Has (record { words = 18446744073709551615 ∷ 18446744073709551615 ∷ 18446744073709551615 ∷ 18446744073709551615 ∷ [] }) o
 has_all o = record { set = rw (four_words 18446744073709551615 (flag_of o / 64) (omega arith)) (bit_at_ones 64 (flag_of o % 64) (omega arith)) }
+
+-- a set with no flag has no owner
+pub has_none : (o : Owner) → Has (record { words = 0 ∷ 0 ∷ 0 ∷ 0 ∷ [] }) o → ⊥
+has_none o h =
+    let zero_word : bit_at (get_or (0 ∷ 0 ∷ 0 ∷ 0 ∷ []) (flag_of o / 64) 0) (flag_of o % 64) ≡ 0 = rw (four_words 0 (flag_of o / 64) (omega arith)) (bit_at-zero (flag_of o % 64)) in
+    let set = h.set in
+    omega (arith, zero_word, set)
 
 or_left : (a v k : ℕ) → bit_at a k ≡ 1 → bit_at (bit_or a v) k ≡ 1
 or_left a v k h = let below = bit_at-lt v k in bit_at_or a v k ∙ omega (arith, h, below)

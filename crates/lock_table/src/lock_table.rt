@@ -9,6 +9,7 @@ ghost use Rattle.lock_table.specs.declared.error.LockError.TheVariants.{NoLocks}
 ghost use Rattle.std.specs.Vec.{vec_capacity};
 ghost use Rattle.lock_table.specs.Rows.{held, HasRoom, AreRows, IsRowAt, IsGap, HoldsSome, IsSameRow};
 ghost use Rattle.lock_table.specs.Listing.{IsListing};
+ghost use Rattle.lock_table.specs.Pages.{IsKept};
 
 use crate::error::LockError;
 use crate::order::{cmp_regions, lowest_of};
@@ -212,7 +213,9 @@ impl LockTable {
     }
 
     // Memory for an index, where the table is to keep one and has none.
-    fn index_for(&self) -> Result<PageIndex, NoMemory> {
+    fn index_for(&self) -> Result<PageIndex, NoMemory>
+        ensures { IfOk result (λ index. IsKept index → 64 ≤ length self.now) }
+    {
         let alloc = *self.rows.allocator();
         if self.rows.len() < LEAST_ROWS || self.index.is_kept() {
             return Ok(PageIndex::none(alloc));

@@ -24,7 +24,9 @@ fn flag_of(owner: Owner) -> usize
 
 impl OwnerSet {
     /// No owner.
-    pub(crate) fn none() -> Self {
+    pub(crate) fn none() -> Self
+        ensures { (o : SomeOwner) → Has result o → ⊥ }
+    {
         OwnerSet { words: [0; 4] }
     }
 

@@ -49,7 +49,8 @@ fn slot_of(file: u16, page: u64) -> usize
 impl PageIndex {
     /// An index that is not kept.
     pub(crate) fn none(alloc: Global) -> Self
-        ensures { (f : ℕ) (o : SomeOwner) (b : ℕ) → MayHold result f o b }
+        ensures not_kept { IsKept result → ⊥ }
+        ensures may { (f : ℕ) (o : SomeOwner) (b : ℕ) → MayHold result f o b }
     {
         PageIndex {
             sets: Vec::new(alloc),
@@ -82,7 +83,9 @@ impl PageIndex {
     }
 
     /// Whether it is due to be made anew.
-    pub(crate) fn is_stale(&self) -> bool {
+    pub(crate) fn is_stale(&self) -> bool
+        ensures { IsTrue result ↔ 4096 ≤ self.now.notes }
+    {
         self.notes >= MOST_NOTES
     }
 
