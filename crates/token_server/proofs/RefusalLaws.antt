@@ -1,5 +1,5 @@
 -- A server refuses a stranger, and what it takes at most for want of a number.
-use Rattle.std.specs.Prelude.{◌≡◌, ℕ, ◌+◌, Bool, true, false, not, cond, ◌&&◌, nat_le, nat_lt, List, [], is_some, Option, Some, None, Result, Ok, Err}
+use Rattle.std.specs.Prelude.{◌≡◌, ℕ, Bool, true, false, not, cond, ◌&&◌, nat_le, nat_lt, List, [], is_some, Option, Some, None, Result, Ok, Err}
 use Rattle.std.proofs.Common.{ap, sym, ◌∙◌}
 use Rattle.messages.specs.declared.refusal.StepError.{StepError}
 use Rattle.messages.specs.declared.refusal.StepError.TheVariants.{Stranger, Spent}
