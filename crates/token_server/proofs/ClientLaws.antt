@@ -1,15 +1,12 @@
 -- What is known of the nodes after a change of one.
-use Rattle.std.specs.Prelude.{◌≡◌, ◌≢◌, ℕ, zero, suc, ◌+◌, ◌-◌, ◌<◌, Bool, true, false, ◌==◌, if◌then◌else◌, cond, ◌↔◌, IsTrue, List, [], ◌∷◌, All, length, slice_get, slice_set, slice_index_or, Option, Some, None, MatchOption}
-use Rattle.std.specs.Option.{option_copied}
-use Rattle.std.proofs.Common.{Bor, refl, sym, ap, subst, ◌∙◌, inl, inr, arith}
+use Rattle.std.specs.Prelude.{◌≡◌, ◌≢◌, ℕ, zero, suc, ◌+◌, ◌-◌, ◌<◌, Bool, true, false, ◌==◌, if◌then◌else◌, cond, ◌↔◌, IsTrue, List, [], ◌∷◌, All, length, slice_get, slice_set, slice_index_or, Option, Some, None}
+use Rattle.std.proofs.Common.{refl, sym, ap, subst, ◌∙◌, inl, inr, arith}
 use Rattle.std.proofs.lemmas.Bool.Decides.{eqb_tells}
 use Rattle.std.proofs.lemmas.Bool.{cases_lt}
 use Rattle.std.proofs.lemmas.Option.{slice_get_read, slice_get_past, slice_get-get_or}
 use Rattle.model.specs.Limits.{IsNumber}
-use Rattle.token_server.specs.declared.row.Row.{Row as KeptRow}
 use Rattle.token_server.specs.declared.client.Client.{Client}
-use Rattle.token_server.specs.State.{Row}
-use Rattle.token_server.specs.Parts.{row_seen, row_of, dead_of, row_state, client_at, rows_of, deaths_of, with_change, SameKnown, SameClients}
+use Rattle.token_server.specs.Parts.{row_of, dead_of, client_at, rows_of, deaths_of, SameKnown, SameClients}
 
 -- a write is read where it was made
 slice_get-set_same : {X : Type 0} (xs : List X) (i : ℕ) (x : X) → i < length xs → slice_get (slice_set xs i x) i ≡ Some x

@@ -1,8 +1,7 @@
 -- What is known of the nodes after planned edits.
 use Rattle.std.specs.List.{list_any}
 use Rattle.std.proofs.lemmas.Bool.Decides.{eqb_tells}
-use Rattle.token_server.specs.State.{row_above}
-use Rattle.std.specs.Prelude.{max, Bool, true, false, not, cond, filter, ◌||◌, ◌≡◌, ◌≢◌, ℕ, zero, suc, ◌+◌, ◌-◌, ◌<◌, ◌≤◌, ◌==◌, if◌then◌else◌, List, [], ◌∷◌, ◌++◌, length, slice_get, slice_set, slice_index_or, Option, Some, None}
+use Rattle.std.specs.Prelude.{Bool, true, false, not, cond, filter, ◌||◌, ◌≡◌, ◌≢◌, ℕ, zero, suc, ◌+◌, ◌-◌, ◌<◌, ◌≤◌, ◌==◌, if◌then◌else◌, List, [], ◌∷◌, ◌++◌, length, slice_get, slice_set, slice_index_or, Option, Some, None}
 use Rattle.std.proofs.Common.{inl, inr, sym, refl, ap, ◌∙◌, arith}
 use Rattle.std.proofs.lemmas.List.{length-set}
 use Rattle.std.proofs.lemmas.Option.{slice_get_past}
@@ -11,9 +10,8 @@ use Rattle.token_server.specs.declared.client.Client.{Client}
 use Rattle.token_server.specs.declared.row_edits.RowEdit.{RowEdit}
 use Rattle.token_server.specs.State.{Row}
 use Rattle.token_server.specs.Parts.{row_seen, row_of, dead_of, client_at, rows_of, deaths_of, with_change}
-use Rattle.token_server.specs.declared.row.Row.{Row as KeptRow}
 use Rattle.token_server.specs.declared.change.Given.{Given}
-use Rattle.token_server.specs.Edits.{Changes, row_kept, client_after, with_client, overlaid, given_row, given_to_row, given_to_client, with_given_row}
+use Rattle.token_server.specs.Edits.{Changes, client_after, with_client, overlaid, given_to_row, given_to_client, with_given_row}
 use Rattle.token_server.proofs.ClientLaws.{client_at-read, client_at-place, client_at-set_same, slice_get-set_other, changed_at, same_either}
 
 -- the last edit is made last

@@ -1,5 +1,5 @@
 -- A server refuses a stranger, and what it takes at most for want of a number.
-use Rattle.std.specs.Prelude.{◌≡◌, ℕ, ◌+◌, Bool, true, false, not, cond, ◌&&◌, nat_le, nat_lt, List, [], is_some, Option, Some, None, Result, Ok, Err}
+use Rattle.std.specs.Prelude.{◌≡◌, ℕ, Bool, true, false, not, cond, ◌&&◌, nat_le, nat_lt, List, [], is_some, Option, Some, None, Result, Ok, Err}
 use Rattle.std.proofs.Common.{ap, sym, ◌∙◌}
 use Rattle.messages.specs.declared.refusal.StepError.{StepError}
 use Rattle.messages.specs.declared.refusal.StepError.TheVariants.{Stranger, Spent}
@@ -10,8 +10,8 @@ use Rattle.token_set.specs.Tokens.{Token}
 use Rattle.token_server.specs.declared.held.Held.{Held}
 use Rattle.token_server.specs.State.{Row, ServerState, forgotten}
 use Rattle.token_server.specs.Serve.{admitted, conflicting_node, commanded, granted_to, revoked_from, served, serve}
-use Rattle.token_server.specs.Resends.{outstanding, sending_first, resend_rule}
-use Rattle.token_server.specs.Server.{Change, is_server, change, delivered, then_serve, learn_rule}
+use Rattle.token_server.specs.Resends.{sending_first}
+use Rattle.token_server.specs.Server.{Change, is_server, change, delivered, then_serve}
 
 -- a refusal, if it is one, is for want of a number
 abbrev pub IsAtMostSpent : {A : Type 0} → Result A StepError → Type 0
@@ -51,9 +51,6 @@ sending-spent : (sends : List Message) (a : Result (ServerState × List Message)
 sending-spent sends (Err x) at_most e is = at_most e (let same : x ≡ e = cc in ap Err same)
 sending-spent sends (Ok result) at_most e is = absurd (cc)
 
-pub resend_spent : (s : ServerState) → IsAtMostSpent (resend_rule s)
-resend_spent s = sending-spent (outstanding s) (serve s) (serve-spent s)
-
 taken-spent : (s : ServerState) (c : Option Change) → IsAtMostSpent (then_serve s (Ok c))
 taken-spent s None = done _
 taken-spent s (Some changed) = sending-spent changed.1 (serve changed.0) (serve-spent changed.0)
@@ -72,18 +69,6 @@ message_spent s m for e is =
     let dead = nat_le (host_of m).incarnation (s.dead (host_of m).node) in
     sorted-spent s m dead e (ap (λ (b : Bool). sorted s m b dead) (sym for) ∙ is)
 
--- and one that is not
-pub message_strange : (s : ServerState) (m : Message) → (is_server s.file (addressee m) && is_within s.shape.nodes (host_of m).node) ≡ false → then_serve s (change s m) ≡ Err Stranger
-message_strange s m for = ap (λ (b : Bool). sorted s m b (nat_le (host_of m).incarnation (s.dead (host_of m).node))) for
-
 -- what becomes of a Learn, where the cluster has the node or not
 abbrev learned : ServerState → ℕ → ℕ → Bool → Result (ServerState × Outcome) StepError
 learned s node incarnation within = cond (not within) (Err Stranger) (sending_first [] (serve (forgotten s node incarnation)))
-
--- a node of the cluster
-pub learn_spent : (s : ServerState) (node incarnation : ℕ) → is_within s.shape.nodes node ≡ true → IsAtMostSpent (learn_rule s node incarnation)
-learn_spent s node incarnation within e is =
-    sending-spent [] (serve (forgotten s node incarnation)) (serve-spent (forgotten s node incarnation)) e (ap (λ (b : Bool). learned s node incarnation b) (sym within) ∙ is)
-
-pub learn_strange : (s : ServerState) (node incarnation : ℕ) → is_within s.shape.nodes node ≡ false → learn_rule s node incarnation ≡ Err Stranger
-learn_strange s node incarnation within = ap (λ (b : Bool). learned s node incarnation b) within

@@ -12,7 +12,7 @@ use Rattle.messages.specs.Messages.{greatest_number}
 use Rattle.token_set.specs.Tokens.{Token, raised}
 use Rattle.token_server.specs.declared.held.Held.{Held}
 use Rattle.token_server.specs.State.{Row, ServerState, with_row}
-use Rattle.token_server.specs.Serve.{admitted, row_conflicts, granted_span, conflicting_node, commanded, granted_to, revoked_from, served, serve}
+use Rattle.token_server.specs.Serve.{admitted, row_conflicts, granted_span, conflicting_node, commanded, granted_to, revoked_from, served}
 use Rattle.token_server.specs.Grants.{IsServed, IsUnhindered, GrantsWhatIsFree}
 use Rattle.token_server.proofs.GrantLaws.{conflicts_at, first-none, narrowed-holds}
 

@@ -1,6 +1,6 @@
 -- A node that is read through planned edits.
 use Rattle.std.specs.Prelude.{◌≡◌, ◌≢◌, ℕ, ◌+◌, ◌-◌, List, [], ◌∷◌, ◌++◌, length, Option, Some, None, MatchOption}
-use Rattle.std.proofs.Common.{refl, ap, sym, ◌∙◌}
+use Rattle.std.proofs.Common.{refl, ap, ◌∙◌}
 use Rattle.intervals.specs.declared.vec_map.VecMap.{VecMap}
 use Rattle.model.specs.declared.level.Level.{Level}
 use Rattle.model.specs.Limits.{IsNumber}
@@ -11,7 +11,7 @@ use Rattle.token_server.specs.declared.row_edits.RowEdit.{RowEdit}
 use Rattle.token_server.specs.declared.row.RowView.{RowView}
 use Rattle.token_server.specs.State.{Commands, Row}
 use Rattle.token_server.specs.Parts.{row_state, row_seen, rows_of, client_at}
-use Rattle.token_server.specs.Edits.{seen, seen_row, commands_in, token_in, token_kept, row_with, row_kept, overlaid}
+use Rattle.token_server.specs.Edits.{seen, seen_row, token_kept, row_with, row_kept, overlaid}
 use Rattle.token_server.proofs.EditLaws.{overlaid-here, overlaid-elsewhere, rows_of-there}
 
 -- a row of the two

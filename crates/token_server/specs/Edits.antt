@@ -18,7 +18,7 @@ use Rattle.token_server.specs.declared.change.Draft.{Draft}
 use Rattle.token_server.specs.declared.change.Given.{Given}
 use Rattle.token_server.specs.declared.change.Edit.{Edit}
 use Rattle.token_server.specs.State.{Commands, Row, ServerState}
-use Rattle.token_server.specs.Parts.{ServerParts, server_state, row_in, row_seen, row_of, rows_of, client_at}
+use Rattle.token_server.specs.Parts.{ServerParts, server_state, row_in, row_seen, rows_of, client_at}
 
 -- a row that is read, as a value
 abbrev pub seen : RowView → KeptRow

@@ -2,7 +2,7 @@
 use Rattle.std.specs.Prelude.{◌≡◌, ℕ, ◌+◌, ◌<◌, ◌≤◌, ◌⊎◌, true, false, List, [], ◌∷◌, ◌++◌, Contains, Option, Some, None, IfSome, IsSomeAnd, MatchOption}
 use Rattle.std.proofs.Common.{arith, length, get_or, take, ap, ◌∙◌, sym, subst, inl, inr}
 use Rattle.std.proofs.lemmas.List.{take_more}
-use Rattle.std.proofs.lemmas.Bool.{cases_lt, and_from, and_parts, both_ways, le-leb, leb-true}
+use Rattle.std.proofs.lemmas.Bool.{and_from, and_parts, both_ways, le-leb, leb-true}
 use Rattle.std.proofs.lemmas.List.Elements.{Contains-append_left, Contains-push, Contains-push_cases}
 use Rattle.intervals.specs.Bytes.{Range, is_in, IsLargest}
 use Rattle.model.specs.declared.mode.Mode.{Mode}
@@ -75,16 +75,6 @@ module _ (s : Range) (mode : Mode) where
       where
         one : {a b : LockInfo} → Some a ≡ Some b → a ≡ b
         one e = cc
-
--- a lock in no way of the bytes that are required lies below or above them
-pub lies_apart : (lock : LockInfo) (required : Range) (mode : Mode) → excludes lock.mode mode ≡ true → (IsInWay required mode lock → ⊥) → (lock.span.hi < required.lo) ⊎ (required.hi < lock.span.lo)
-lies_apart lock required mode conflicts out = elim (cases_lt lock.span.hi required.lo) [
-  | inl below ↦ inl below
-  | inr reaches ↦ elim (cases_lt required.hi lock.span.lo) [
-    | inl above ↦ inr above
-    | inr starts ↦ absurd (out (record { conflicts = conflicts; starts = starts; ends = reaches }))
-  ]
-]
 
 module _ (mode : Mode) (required desired : Range) where
   -- before any lock the span is all that is desired

@@ -1,35 +1,13 @@
 -- Lists of the longest runs of a token.
-use Rattle.std.specs.Prelude.{◌≡◌, ◌≢◌, ℕ, ◌+◌, ◌-◌, ◌<◌, ◌≤◌, Option, Some, None, IsSome, List, [], ◌∷◌, ◌++◌, All, AllPairs, Contains}
-use Rattle.std.proofs.Common.{refl, sym, ap, ◌∙◌, subst, inl, inr, arith}
+use Rattle.std.specs.Prelude.{◌≡◌, ◌≢◌, ℕ, ◌+◌, ◌-◌, ◌<◌, ◌≤◌, Some, List, [], ◌∷◌, ◌++◌, All, AllPairs, Contains}
+use Rattle.std.proofs.Common.{sym, ap, ◌∙◌, subst, inl, inr, arith}
 use Rattle.std.proofs.lemmas.Bool.{cases_lt, cases_order}
-use Rattle.std.proofs.lemmas.List.Elements.{All-nil, All-push, All-weaker, Contains-append_left, Contains-push}
+use Rattle.std.proofs.lemmas.List.Elements.{All-push, All-weaker, Contains-append_left, Contains-push}
 use Rattle.std.proofs.lemmas.List.Quantifiers.{all_pairs_push}
-use Rattle.intervals.specs.Bytes.{Range, greatest, IsRun, IsBarred, NoneIn, IsFirstIn}
+use Rattle.intervals.specs.Bytes.{Range, IsRun}
 use Rattle.model.specs.declared.level.Level.{Level}
 use Rattle.token_set.specs.Tokens.{Token}
-use Rattle.token_set.specs.Runs.{NothingFrom, IsNextRun, ListsRuns}
-
-none_from : (x : Option Level) → (IsSome x → ⊥) → x ≡ None
-none_from None h = refl
-none_from (Some level) h = absurd (h refl)
-
--- with no level in the rest of the file there is none from its first byte on
-pub nothing_from : (t : Token) (first : ℕ) → ((b : ℕ) → greatest < b → t b ≡ None) → NoneIn (IsBarred t None) (record { lo = first; hi = greatest }) → NothingFrom t first
-nothing_from t first bounded none b above = elim (cases_lt greatest b) [
-  | inl past ↦ bounded b past
-  | inr le ↦ none_from (t b) (none b above (omega arith))
-]
-
--- the run of the first byte with a level in the rest of the file is the next one
-pub next_run : (t : Token) (first byte : ℕ) (s : Range) (level : Level) → IsFirstIn (IsBarred t None) (record { lo = first; hi = greatest }) byte → IsRun t s level → s.lo ≤ byte → byte ≤ s.hi → IsNextRun t first s level
-next_run t first byte s level f run starts ends = record {
-  run = run;
-  byte = byte;
-  above = f.above;
-  starts = starts;
-  ends = ends;
-  none_before = λ b above below. none_from (t b) (f.none_before b above below);
-}
+use Rattle.token_set.specs.Runs.{IsNextRun}
 
 -- two runs that begin at one byte are one
 run_one : (t : Token) (s q : Range) (v w : Level) → IsRun t s v → IsRun t q w → s.lo ≡ q.lo → ◌≡◌ {A = Range × Level} (s, v) (q, w)
@@ -53,14 +31,6 @@ pub record Listed (t : Token) (from : ℕ) (runs : List (Range × Level)) : Type
   pub each : All (λ (r : Range × Level). IsRun t r.0 r.1 × (r.0.lo < from)) runs
   pub complete : (s : Range) (v : Level) → IsRun t s v → s.lo < from → Contains runs (s, v)
   pub rises : AllPairs (λ (r q : Range × Level). r.0.lo < q.0.lo) runs
-
-pub listed_none : (t : Token) → Listed t 0 []
-listed_none t = record {
-  edge = λ b v e is. absurd (omega arith);
-  each = All-nil (λ (r : Range × Level). IsRun t r.0 r.1 × (r.0.lo < 0));
-  complete = λ s v run lt. absurd (omega arith);
-  rises = λ i j d lt within. absurd (omega arith);
-}
 
 module _ (t : Token) (from : ℕ) (runs : List (Range × Level)) (l : Listed t from runs) (s : Range) (v : Level) (next : IsNextRun t from s v) where
   starts_late : from ≤ s.lo
@@ -110,17 +80,3 @@ module _ (t : Token) (from : ℕ) (runs : List (Range × Level)) (l : Listed t f
     ];
     rises = all_pairs_push (λ (r q : Range × Level). r.0.lo < q.0.lo) runs (s, v) l.rises (λ k d lt. let late = starts_late in omega (arith, (l.each k d lt).1));
   }
-
--- with nothing left they are all
-pub listed_all : (t : Token) (from : ℕ) (runs : List (Range × Level)) → Listed t from runs → NothingFrom t from → ListsRuns t runs
-listed_all t from runs l none = record {
-  each = All-weaker (λ (r : Range × Level). IsRun t r.0 r.1 × (r.0.lo < from)) (λ (r : Range × Level). IsRun t r.0 r.1) (λ r h. h.0) runs l.each;
-  complete = λ s v run. elim (cases_lt s.lo from) [
-    | inl lt ↦ l.complete s v run lt
-    | inr le ↦
-        let here : t s.lo ≡ Some v = run.all s.lo (omega arith) run.ordered in
-        let empty : t s.lo ≡ None = none s.lo le in
-        absurd cc
-  ];
-  rises = l.rises;
-}

@@ -1,7 +1,7 @@
 -- What `first`, `some_passes` and `all_pass` say of the numbers that they go over.
-use Rattle.std.specs.Prelude.{◌≡◌, ℕ, ◌+◌, ◌<◌, ◌≤◌, Bool, true, false, not, ◌||◌, nat_lt}
+use Rattle.std.specs.Prelude.{◌≡◌, ℕ, ◌+◌, ◌<◌, ◌≤◌, Bool, true, false, not, ◌||◌}
 use Rattle.std.specs.Cmp.{both_ways as same_tests}
-use Rattle.std.proofs.Common.{ap, ◌∙◌, inl, inr, arith}
+use Rattle.std.proofs.Common.{◌∙◌, inl, inr, arith}
 use Rattle.std.proofs.lemmas.Bool.{both_ways, cases_lt, cases_order, not-true, not-false, not_from_true, not_from_false, false_from_ne_true, ltb-true, lt-ltb, or_cases, or_left, or_right}
 use Rattle.intervals.specs.Search.{first, some_passes, all_pass, IsFirst}
 use Rattle.intervals.proofs.SearchLaws.{first_is_first}
@@ -55,16 +55,6 @@ pub all_pass-from : (passes : ℕ → Bool) (lo n : ℕ) → ((k : ℕ) → lo �
 all_pass-from passes lo n each =
     not_from_false _ (none_passes-from (λ j. not (passes j)) lo n (λ k above below. not_from_true _ (each k above below)))
 
--- one that does not pass
-pub all_pass-fails : (passes : ℕ → Bool) (lo n k : ℕ) → lo ≤ k → k < lo + n → passes k ≡ false → all_pass passes lo n ≡ false
-all_pass-fails passes lo n k above below here = false_from_ne_true _ (λ all. both_ways _ here (all_pass-each passes lo n k all above below))
-
--- where not all pass, the first that does not
-pub all_pass-first : (passes : ℕ → Bool) (lo n : ℕ) → all_pass passes lo n ≡ false → record { place : ℕ; above : lo ≤ place; below : place < lo + n; here : passes place ≡ false }
-all_pass-first passes lo n none =
-    let f = some_passes-first (λ k. not (passes k)) lo n (not-false _ none) in
-    record { place = first (λ k. not (passes k)) lo n; above = f.above; below = f.below; here = not-true _ f.here }
-
 -- the same tests have the same first number
 pub first-same : (p q : ℕ → Bool) (lo n : ℕ) → ((k : ℕ) → lo ≤ k → k < lo + n → p k ≡ q k) → first p lo n ≡ first q lo n
 first-same p q lo n same =
@@ -75,14 +65,6 @@ first-same p q lo n same =
       none_before = λ j above below. same j above (omega (arith, f.within)) ∙ f.none_before j above below;
       here = λ below. same _ f.least below ∙ f.here below;
     })
-
--- and so pass for some
-pub some_passes-same : (p q : ℕ → Bool) (lo n : ℕ) → ((k : ℕ) → lo ≤ k → k < lo + n → p k ≡ q k) → some_passes p lo n ≡ some_passes q lo n
-some_passes-same p q lo n same = ap (λ k. nat_lt k (lo + n)) (first-same p q lo n same)
-
--- and for all
-pub all_pass-same : (p q : ℕ → Bool) (lo n : ℕ) → ((k : ℕ) → lo ≤ k → k < lo + n → p k ≡ q k) → all_pass p lo n ≡ all_pass q lo n
-all_pass-same p q lo n same = ap not (some_passes-same (λ k. not (p k)) (λ k. not (q k)) lo n (λ k above below. ap not (same k above below)))
 
 -- of no numbers none passes
 pub some_passes-zero : (passes : ℕ → Bool) (lo : ℕ) → some_passes passes lo 0 ≡ false

@@ -115,14 +115,6 @@ pub raised-at : (P : Option Level → Type 0) (t : Token) (s : Range) (mode : Mo
 raised-at P t s mode b here there =
     elim (is_in s b) as (λ i. is_in s b ≡ i → P (if i then raised_level (t b) mode else t b)) [ true ↦ λ h. here h | false ↦ λ h. there ] refl
 
--- what stands in the way still does at the raised level
-pub raised_level-conflicts : (x : Option Level) (mode other : Mode) → level_conflicts x other ≡ true → level_conflicts (raised_level x mode) other ≡ true
-raised_level-conflicts None mode other h = absurd (cc)
-raised_level-conflicts (Some Shared) Read other h = h
-raised_level-conflicts (Some Shared) Write other h = refl
-raised_level-conflicts (Some Exclusive) Read other h = refl
-raised_level-conflicts (Some Exclusive) Write other h = refl
-
 -- a level that does not stand in the way of the mode has nothing where the raised one is exclusive
 pub raised_level-excludes : (x y : Option Level) (mode : Mode) → (x ≡ Some Exclusive → y ≡ None) → level_conflicts y mode ≡ false → raised_level x mode ≡ Some Exclusive → y ≡ None
 raised_level-excludes None y Read apart free h = absurd (cc)

@@ -1,11 +1,9 @@
 use Rattle.std.proofs.Common.{◌∙◌}
 use Rattle.std.proofs.lemmas.Result.{on_ok_weaker}
-use Rattle.std.specs.Prelude.{Some, max}
 use Rattle.std.specs.Option.{option_map}
-use Rattle.token_server.specs.State.{row_above, empty_row}
 use Rattle.token_server.specs.Parts.{rows_of, relieved}
 use Rattle.token_server.specs.Edits.{overlaid, answered_with}
-use Rattle.token_server.proofs.EditLaws.{rows_of-edit, deaths_of-edit, deaths_of-edit_same, with_change-at}
+use Rattle.token_server.proofs.EditLaws.{rows_of-edit, deaths_of-edit_same, with_change-at}
 use Rattle.token_server.proofs.row_edits.RowEdits.release.Goals as goal
 
 pub returns-clause-rows : goal.returns-clause-rows
