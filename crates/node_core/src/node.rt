@@ -185,8 +185,8 @@ impl Node {
     }
 
     /// What the node will do at an event, as `step` says. It costs what the parts that the event
-    /// changes hold, and no more: of the locks those of one owner in one file, of the files one, or at an
-    /// `exit` those that the process has open.
+    /// changes hold, and no more: of the locks those of one owner in one file, of the files one. An
+    /// `exit` looks at each file, whether its server was named a lock.
     ///
     /// # Errors
     /// Those of `step`.

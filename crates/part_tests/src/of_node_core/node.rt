@@ -138,8 +138,14 @@ fn request(number: u32, wanted: Wanted) -> Message
 fn grant(command: u32, number: u32, span: Span) -> NodeEvent
     requires { 1 ≤ number }
 {
+    grant_of(1, command, number, span)
+}
+
+fn grant_of(file: u16, command: u32, number: u32, span: Span) -> NodeEvent
+    requires { 1 ≤ number }
+{
     NodeEvent::Deliver(Message::Grant {
-        file: 1,
+        file,
         number: command,
         call: id(number),
         mode: Mode::Write,
@@ -161,9 +167,15 @@ fn taken(command: u32, number: u32) -> Message
 fn revoke(command: u32, incarnation: u16, required: Span) -> NodeEvent
     requires { 1 ≤ incarnation }
 {
+    revoke_of(1, command, incarnation, required)
+}
+
+fn revoke_of(file: u16, command: u32, incarnation: u16, required: Span) -> NodeEvent
+    requires { 1 ≤ incarnation }
+{
     let _ = &required.lo; // tells the proof what each span keeps
     NodeEvent::Deliver(Message::Revoke {
-        file: 1,
+        file,
         number: command,
         holder: Host {
             node: 1,
@@ -544,46 +556,6 @@ fn a_close_frees_all_locks_of_the_process_in_the_file(rt: HostRuntime) -> Result
     Ok(())
 }
 
-// The same command of the server of file 2.
-fn of_second(event: NodeEvent) -> NodeEvent {
-    let file = 2;
-    match event {
-        NodeEvent::Deliver(
-            Message::Grant {
-                number,
-                call,
-                mode,
-                span,
-                ..
-            },
-        ) => NodeEvent::Deliver(Message::Grant {
-            file,
-            number,
-            call,
-            mode,
-            span,
-        }),
-        NodeEvent::Deliver(
-            Message::Revoke {
-                number,
-                holder,
-                call,
-                mode,
-                wanted,
-                ..
-            },
-        ) => NodeEvent::Deliver(Message::Revoke {
-            file,
-            number,
-            holder,
-            call,
-            mode,
-            wanted,
-        }),
-        other => other,
-    }
-}
-
 // A node whose process 1 has the hundred bytes of file 2 locked by descriptor 0, and those of file 1 by
 // descriptor 1; both servers were named a lock in their way. It took five calls.
 fn locks_two(alloc: Global) -> Result<Box<Node>, Fail> {
@@ -601,10 +573,10 @@ fn locks_two(alloc: Global) -> Result<Box<Node>, Fail> {
         call(1, Op::Open { file: 2, access }),
         call(1, OPEN),
         lock_hundred(1),
-        of_second(grant(1, 4, WHOLE)),
+        grant_of(2, 1, 4, WHOLE),
         call(1, second),
         grant(1, 5, WHOLE),
-        of_second(revoke(2, 1, HUNDRED)),
+        revoke_of(2, 2, 1, HUNDRED),
         revoke(2, 1, HUNDRED),
     ];
     goes_on(alloc, &mut node, &events)?;
