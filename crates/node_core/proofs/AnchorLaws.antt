@@ -99,7 +99,7 @@ fewer-anchored : (t : Table) (n i : ℕ) (calls : List OpenCall) (test : OpenCal
 fewer-anchored t n i calls test h = record { own = h.own; waiting = All-filter test (Waits t n i) calls h.waiting }
 
 -- no call of the process is open
-abbrev AreOthers : List OpenCall → ℕ → Type 0
+abbrev pub AreOthers : List OpenCall → ℕ → Type 0
 AreOthers calls pid = All (λ (c : OpenCall). c.pid ≡ pid → ⊥) calls
 
 -- a call of another process
@@ -183,7 +183,7 @@ lock_call-anchored s number pid its mode (Ok t) waits h =
     tried-anchored (record s { pending = s.pending ++ c ∷ [] }) c (record { own = h.own; waiting = All-push (Waits s.table s.node s.incarnation) s.pending c h.waiting w }) w
 
 -- a process is not busy where no open call is its own
-idle-others : (calls : List OpenCall) (pid : ℕ) → is_some (find (λ (c : OpenCall). c.pid == pid) calls) ≡ false → AreOthers calls pid
+pub idle-others : (calls : List OpenCall) (pid : ℕ) → is_some (find (λ (c : OpenCall). c.pid == pid) calls) ≡ false → AreOthers calls pid
 idle-others [] pid h = All-nil (λ (c : OpenCall). c.pid ≡ pid → ⊥)
 idle-others (d ∷ ds) pid h =
     let out : Bool → Option OpenCall = λ b. if b then Some d else find (λ (c : OpenCall). c.pid == pid) ds in

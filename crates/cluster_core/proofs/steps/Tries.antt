@@ -30,6 +30,7 @@ use Rattle.node_core.specs.declared.open_call.OpenCall.{OpenCall}
 use Rattle.node_core.specs.State.{NodeState, Effect, without_call, without_call_of, with_file, host, process, id_of, target_of}
 use Rattle.node_core.specs.Try.{settled, requested, refusal_of, may_free, with_freed, locked_by, answered_here, tried, tried_against}
 use Rattle.node_core.specs.Calls.{is_in_shape, is_busy, called, lock_call, unlock_call, shut_by}
+use Rattle.node_core.proofs.AnchorLaws.{idle-others}
 use Rattle.cluster_core.specs.Evidence.{IsAbout}
 use Rattle.cluster_core.proofs.common.Choices.{at_number}
 use Rattle.cluster_core.proofs.common.Refusals.{ok_is}
@@ -188,18 +189,9 @@ pub record Taken (s : NodeState) (number pid : ℕ) (op : Op) (u : NodeState) (o
   pub ends : IsAnswered s number pid op u o ⊎ IsOpened s number pid op u o
 
 -- a process is not busy where no open call is its own
-idle_all : (calls : List OpenCall) (pid : ℕ) → is_some (find (λ (c : OpenCall). c.pid == pid) calls) ≡ false → All (λ (c : OpenCall). c.pid ≡ pid → ⊥) calls
-idle_all [] pid h = All-nil (λ (c : OpenCall). c.pid ≡ pid → ⊥)
-idle_all (d ∷ ds) pid h =
-    let out : Bool → Option OpenCall = λ b. if b then Some d else find (λ (c : OpenCall). c.pid == pid) ds in
-    elim (cases_Bool (d.pid == pid)) [
-      | inl same ↦ absurd (let found : is_some (out true) ≡ false = ap (λ b. is_some (out b)) (sym same) ∙ h in cc)
-      | inr other ↦ All-cons (λ (c : OpenCall). c.pid ≡ pid → ⊥) d ds (λ is. both_ways (d.pid == pid) other (eq-eqb d.pid pid is)) (idle_all ds pid (ap (λ b. is_some (out b)) (sym other) ∙ h))
-    ]
-
 pub not_busy : (s : NodeState) (pid : ℕ) (op : Op) → is_busy s pid op ≡ false → IsIdle s.pending pid op
 not_busy s pid Exit h = tt
-not_busy s pid _ h = idle_all s.pending pid h
+not_busy s pid _ h = idle-others s.pending pid h
 
 -- what is left of the open calls once one is closed
 pub stays_closed : (calls : List OpenCall) (number : ℕ) → All (Stays calls number) (filter (λ c. not (c.number == number)) calls)
