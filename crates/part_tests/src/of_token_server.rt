@@ -367,24 +367,6 @@ fn refuses_messages_for_others(rt: HostRuntime) -> Result<(), Fail> {
     Ok(())
 }
 
-#[test]
-fn gives_no_number_past_the_greatest(rt: HostRuntime) -> Result<(), Fail> {
-    let alloc = rt.alloc();
-    let (one, two) = (call(1, 1), call(1, 2));
-    let first = [sends(request(2, one), grant(1, one)), keeps(taken(1, one))];
-    let last = [
-        sends(request(2, two), grant(u32::MAX, two)),
-        keeps(taken(u32::MAX, two)),
-    ];
-    let mut server = new_server(alloc)?;
-    assert_eq!(rt; first_wrong(alloc, &mut server, &first)?, None);
-    server.clients.count_to(u32::MAX - 1);
-    assert_eq!(rt; first_wrong(alloc, &mut server, &last)?, None);
-    let refused = refusal(&server, alloc, request(2, one));
-    assert_eq!(rt; refused, Some(StepError::Spent));
-    Ok(())
-}
-
 // Whether a copy is the same server.
 fn is_copied(server: &Server) -> Result<bool, StepError> {
     let copy = server.copy()?;

@@ -136,13 +136,3 @@ impl Client {
         }
     }
 }
-
-#[cfg(test)]
-impl Client {
-    /// Puts another number of the last command in the row.
-    pub fn count_to(&mut self, number: u32) {
-        if let Some(row) = &mut self.row {
-            row.commands.number = number;
-        }
-    }
-}

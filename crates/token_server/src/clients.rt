@@ -175,15 +175,3 @@ impl Clients {
         same_each(&self.clients, &other.clients)
     }
 }
-
-#[cfg(test)]
-impl Clients {
-    /// Puts another number of the last command in the first node's row.
-    pub fn count_to(&mut self, number: u32)
-        ensures { length self.new ≡ length self.old }
-    {
-        if !self.clients.is_empty() {
-            self.clients[0].count_to(number);
-        }
-    }
-}

@@ -646,25 +646,6 @@ fn refuses_events_of_strangers(rt: HostRuntime) -> Result<(), Fail> {
     Ok(())
 }
 
-// A node that took as many calls as it can.
-fn spent(alloc: Global) -> Result<Node, Fail> {
-    let shape = Shape::new(1, 2, Policy::Wide)?;
-    let node = Node::new(alloc, shape, 1, 1)?;
-    Ok(Node {
-        calls: u32::MAX,
-        ..node
-    })
-}
-
-#[test]
-fn refuses_a_call_for_which_no_number_is_left(rt: HostRuntime) -> Result<(), Fail> {
-    let alloc = rt.alloc();
-    let node = boxed(alloc, spent(alloc)?)?;
-    let refused = refusal(&node, alloc, call(1, Op::Spawn));
-    assert_eq!(rt; refused, Some(StepError::Spent));
-    Ok(())
-}
-
 // Whether a copy is the same node.
 fn is_copied(alloc: Global, node: &Node) -> Result<bool, StepError> {
     let copy = boxed(alloc, node.copy(alloc)?)?;

@@ -1,4 +1,5 @@
 //! What a node holds, as lists.
+use super::node::{boxed, goes_on};
 use intervals::span::{GREATEST, Span};
 use intervals::span_map::NoMemory;
 use messages::message::Message;
