@@ -1,5 +1,5 @@
 -- One history for every run.
-use Rattle.std.specs.Prelude.{◌≡◌, ℕ, ◌+◌, ◌≤◌, ◌<◌, Bool, true, false, List, [], ◌∷◌, ◌++◌, slice_get, Option, Some, None}
+use Rattle.std.specs.Prelude.{◌≡◌, ℕ, ◌+◌, ◌≤◌, ◌<◌, Bool, true, false, ⊤, List, [], ◌∷◌, ◌++◌, slice_get, Option, Some, None}
 use Rattle.std.specs.List.{list_any}
 use Rattle.model.specs.declared.call.CallId.{CallId}
 use Rattle.model.specs.declared.host.Host.{Host}
@@ -107,10 +107,10 @@ pub record IsDeclaredAt (es : List Entry) (node incarnation at : ℕ) : Type 0 w
   pub is_declare : declaring.event ≡ Declare node
   pub of : declaring.incarnation ≡ incarnation
 
--- an item stands where it may: a call inside its open interval, the failure of a node at its declaration
-abbrev pub IsPlaced : List Entry → Item → Type 0
-IsPlaced es (Answered at id pid op reply) = IsOpenAt es id pid op reply at
-IsPlaced es (Gone at node incarnation) = IsDeclaredAt es node incarnation at
+-- an item stands where it may: a call where `Place` allows it, the failure of a node at its declaration
+abbrev pub IsPlaced : (CallId → ℕ → Op → Reply → ℕ → Type 0) → List Entry → Item → Type 0
+IsPlaced Place es (Answered at id pid op reply) = Place id pid op reply at
+IsPlaced Place es (Gone at node incarnation) = IsDeclaredAt es node incarnation at
 
 -- the history has an item for this call, with this reply
 abbrev pub HasCall : List Item → CallId → Reply → Type 0
@@ -120,13 +120,17 @@ HasCall h id reply = (k : ℕ) × (at : ℕ) × (pid : ℕ) × (op : Op) × (sli
 abbrev pub HasGone : List Item → ℕ → ℕ → ℕ → Type 0
 HasGone h node incarnation at = (k : ℕ) × (slice_get h k ≡ Some (Gone at node incarnation))
 
--- each answered call of the run stands in the history exactly once, inside its open interval, each declaration at its own position, and nothing else stands there
-pub record Fits (es : List Entry) (h : List Item) : Type 0 where
+-- each answered call of the run whose reply is kept stands in the history exactly once, where `Place` allows it, each declaration at its own position, and nothing else stands there
+pub record FitsBy (Place : CallId → ℕ → Op → Reply → ℕ → Type 0) (IsKept : Reply → Type 0) (es : List Entry) (h : List Item) : Type 0 where
   pub rising : Rising h
-  pub placed : (k : ℕ) (i : Item) → slice_get h k ≡ Some i → IsPlaced es i
-  pub answered : (id : CallId) (reply : Reply) (at : ℕ) → IsRepliedAt es id reply at → HasCall h id reply
+  pub placed : (k : ℕ) (i : Item) → slice_get h k ≡ Some i → IsPlaced Place es i
+  pub answered : (id : CallId) (reply : Reply) (at : ℕ) → IsRepliedAt es id reply at → IsKept reply → HasCall h id reply
   pub gone : (node incarnation at : ℕ) → IsDeclaredAt es node incarnation at → HasGone h node incarnation at
   pub once : (j k : ℕ) (a b : Item) (id : CallId) → slice_get h j ≡ Some a → slice_get h k ≡ Some b → call_id a ≡ Some id → call_id b ≡ Some id → j ≡ k
+
+-- each answered call stands inside its open interval
+abbrev pub Fits : List Entry → List Item → Type 0
+Fits es h = FitsBy (IsOpenAt es) (λ reply. ⊤) es h
 
 -- a call has at most one reply
 abbrev pub OneReply : List Entry → Type 0
@@ -136,14 +140,17 @@ OneReply es = (id : CallId) (r q : Reply) (j k : ℕ) → IsRepliedAt es id r j 
 abbrev pub OneCall : List Entry → Type 0
 OneCall es = (id : CallId) (p q : ℕ) (o u : Op) (j k : ℕ) → IsCalledAt es id p o j → IsCalledAt es id q u k → j ≡ k
 
--- the history fits the run, is legal, and its last table is the union of the live nodes
-pub record HasHistory (shape : ShapeFields) (es : List Entry) (h : List Item) : Type 0 where
+-- the history fits the run as `Fitting` says, is legal, and its last table is the union of the live nodes
+pub record IsHistory (Fitting : List Entry → List Item → Type 0) (shape : ShapeFields) (es : List Entry) (h : List Item) : Type 0 where
   pub world : WorldState
   pub leads : Leads (first_world shape) es world
   pub one_call : OneCall es
   pub one_reply : OneReply es
-  pub fits : Fits es h
+  pub fits : Fitting es h
   pub legal : Legal empty_table h (union world)
+
+abbrev pub HasHistory : ShapeFields → List Entry → List Item → Type 0
+HasHistory shape es h = IsHistory Fits shape es h
 
 -- the entry tells the server that a lock of the holder is in the way, as the answer to the revoke with that number
 abbrev pub names_conflict : ℕ → Host → ℕ → Entry → Bool
@@ -161,20 +168,16 @@ abbrev pub IsPlaceOf : List Entry → Event → ℕ → ℕ → Type 0
 IsPlaceOf es (Deliver (Deny file call holder number lock)) reply_at at = IsRevokedAt es file holder number at
 IsPlaceOf es _ reply_at at = at ≡ reply_at
 
-pub record StandsAtItsPlace (es : List Entry) (id : CallId) (reply : Reply) (at : ℕ) : Type 0 where
+pub record IsAtItsPlace (es : List Entry) (id : CallId) (pid : ℕ) (op : Op) (reply : Reply) (at : ℕ) : Type 0 where
   pub reply_at : ℕ
   pub replying : Entry
   pub there : EntryAt es reply_at replying
   pub is_reply : replying.reply ≡ Some (id, reply)
   pub place : IsPlaceOf es replying.event reply_at at
 
-abbrev pub IsAtItsPlace : List Entry → Item → Type 0
-IsAtItsPlace es (Answered at id pid op reply) = StandsAtItsPlace es id reply at
-IsAtItsPlace es (Gone at node incarnation) = IsDeclaredAt es node incarnation at
-
--- the history has each call at its place
+-- the history has each answered call at its place
 abbrev pub EachAtItsPlace : List Entry → List Item → Type 0
-EachAtItsPlace es h = (k : ℕ) (i : Item) → slice_get h k ≡ Some i → IsAtItsPlace es i
+EachAtItsPlace es h = FitsBy (IsAtItsPlace es) (λ reply. ⊤) es h
 
 -- one history, the same for all nodes, files and calls, with each call at its place
 abbrev pub HasOneHistory : ShapeFields → List Entry → Type 0

@@ -1,110 +1,126 @@
 -- Runs of scripts lead from world to world.
 use Rattle.std.proofs.Common.{◌≡◌, ℕ, ◌+◌, ◌<◌, Bool, true, false, if◌then◌else◌, Option, Some, None, refl, sym, ◌∙◌, ap, subst, List, [], ◌∷◌, ◌++◌, length, take, drop, get_or}
-use Rattle.std.specs.Prelude.{nat_lt, slice_get}
+use Rattle.std.specs.Prelude.{nat_le, nat_lt, slice_get, IfSome}
 use Rattle.std.specs.declared.result.Result.{Result}
 use Rattle.std.specs.declared.result.Result.TheVariants.{Ok, Err}
 use Rattle.std.proofs.lemmas.List.{take_more, drop_more, take-append-drop}
 use Rattle.messages.specs.declared.refusal.Refused.{Refused}
-use Rattle.messages.specs.declared.refusal.Refused.TheVariants.{Stranger, Fenced}
+use Rattle.messages.specs.declared.refusal.Refused.TheVariants.{NoMemory, Stranger, JournalFull, Fenced}
 use Rattle.messages.specs.declared.event.Event.{Event}
 use Rattle.messages.specs.declared.event.Event.TheVariants as event
 use Rattle.messages.specs.declared.message.Message.{Message}
 use Rattle.messages.specs.declared.entry.Entry.{Entry}
 use Rattle.messages.specs.Shapes.{ShapeFields}
-use Rattle.cluster_core.specs.World.{WorldState, first_world}
+use Rattle.cluster_core.specs.World.{WorldState, first_world, journal_limit}
 use Rattle.cluster_core.specs.Next.{next}
 use Rattle.cluster_core.specs.Runs.{Leads}
 use Rattle.cluster_core.proofs.runs.JournalRuns.{leads_push, entry_event}
 use Rattle.lockscript.specs.declared.script_line.Command.{Command}
 use Rattle.lockscript.specs.declared.script_line.Command.TheVariants.{Call, Deliver, Lose, Settle, Retry, Resend, Declare, Restart, Learn}
 use Rattle.lockscript.specs.Scripts.{LineFields}
-use Rattle.replay.specs.Progress.{Progress, first_progress, after_refusal, delivery, index_of, settling, Comes, Ends, Happens, Passes, Delivers, DeliversAll, Does, RunsTo, IsFullIn}
+use Rattle.replay.specs.Progress.{Progress, End, first_progress, after_entry, after_refusal, delivery, index_of, lost, settling, Comes, Ends, Happens, InTurn, Passes, Delivers, Does, RunsTo}
 use Rattle.replay.specs.Played.{FillsJournal}
 
 -- the entries so far lead from a world to the world so far
 abbrev pub LeadsFrom : WorldState → Progress → Type 0
 LeadsFrom w p = Leads w p.entries p.world
 
-ends_leads : (w : WorldState) (line : ℕ) (ev : Event) (p q : Progress) (r : Result (WorldState × Entry) Refused) → next p.world ev ≡ r → LeadsFrom w p → Ends line p r q → LeadsFrom w q
-ends_leads w line ev p q (Ok made) is leads ends =
+-- where a script comes to an end that is a progress, its entries lead there
+abbrev pub EndLeads : WorldState → End → Type 0
+EndLeads w end = IfSome end (LeadsFrom w)
+
+end_leads : (w : WorldState) (end its : End) → its ≡ end → EndLeads w end → EndLeads w its
+end_leads w end its is leads = subst (EndLeads w) (sym is) leads
+
+ends_leads : (w : WorldState) (line : ℕ) (ev : Event) (p : Progress) (end : End) (r : Result (WorldState × Entry) Refused) → next p.world ev ≡ r → LeadsFrom w p → Ends line p r end → EndLeads w end
+ends_leads w line ev p end (Ok made) is leads ends =
     let of = entry_event p.world made.0 ev made.1 is in
     let P : Event → Type 0 = λ x. next p.world x ≡ Ok made in
-    let Q : Progress → Type 0 = λ x. LeadsFrom w x in
-    subst Q (sym ends) (leads_push w p.world made.0 p.entries made.1 leads (subst P (sym of) is))
-ends_leads w line ev p q (Err refusal) is leads ends = let Q : Progress → Type 0 = λ x. LeadsFrom w x in subst Q (sym ends.1) leads
+    end_leads w (Some (after_entry p made)) end ends (leads_push w p.world made.0 p.entries made.1 leads (subst P (sym of) is))
+ends_leads w line ev p end (Err NoMemory) is leads ends = absurd ends
+ends_leads w line ev p end (Err JournalFull) is leads ends = end_leads w None end ends tt
+ends_leads w line ev p end (Err refusal) is leads ends = end_leads w (Some (after_refusal p line refusal)) end ends leads
 
-happens_leads : (w : WorldState) (line : ℕ) (ev : Event) (p q : Progress) → LeadsFrom w p → Happens line ev p q → LeadsFrom w q
-happens_leads w line ev p q leads happens = ends_leads w line ev p q (next p.world ev) refl leads happens
+happens_leads : (w : WorldState) (line : ℕ) (ev : Event) (p : Progress) (end : End) → LeadsFrom w p → Happens line ev p end → EndLeads w end
+happens_leads w line ev p end leads happens = ends_leads w line ev p end (next p.world ev) refl leads happens
 
-passes_leads : (w : WorldState) (line : ℕ) (ev : Event) (p q : Progress) (r : Result (WorldState × Entry) Refused) → next p.world ev ≡ r → LeadsFrom w p → Passes line p r q → LeadsFrom w q
-passes_leads w line ev p q (Err Fenced) is leads passes = let Q : Progress → Type 0 = λ x. LeadsFrom w x in subst Q (sym passes) leads
-passes_leads w line ev p q r is leads passes = ends_leads w line ev p q r is leads passes
+passes_leads : (w : WorldState) (line : ℕ) (ev : Event) (p : Progress) (end : End) (r : Result (WorldState × Entry) Refused) → next p.world ev ≡ r → LeadsFrom w p → Passes line p r end → EndLeads w end
+passes_leads w line ev p end (Err Fenced) is leads passes = end_leads w (Some p) end passes leads
+passes_leads w line ev p end r is leads passes = ends_leads w line ev p end r is leads passes
 
-delivers_leads : (w : WorldState) (line : ℕ) (m : Message) (p q : Progress) → LeadsFrom w p → Delivers line p m q → LeadsFrom w q
-delivers_leads w line m p q leads delivers = passes_leads w line (event.Deliver m) (settling delivers.0 p) q (next p.world (event.Deliver m)) refl leads delivers.2
+delivers_leads : (w : WorldState) (line : ℕ) (m : Message) (p : Progress) (end : End) → LeadsFrom w p → Delivers line m p end → EndLeads w end
+delivers_leads w line m p end leads delivers = passes_leads w line (event.Deliver m) (settling delivers.0 p) end (next p.world (event.Deliver m)) refl leads delivers.2
 
-all_leads : (w : WorldState) (line : ℕ) (p q : Progress) (ms : List Message) → LeadsFrom w p → DeliversAll line p ms q → LeadsFrom w q
-all_leads w line p q [] leads is = let Q : Progress → Type 0 = λ x. LeadsFrom w x in subst Q is leads
-all_leads w line p q (m ∷ ms) leads all = all_leads w line all.0 q ms (delivers_leads w line m p all.0 leads all.1) all.2
+-- what each keeps, all keep, one after the other
+turns_lead : {A : Type 0} (Is : A → Progress → End → Type 0) (w : WorldState) → ((x : A) (p : Progress) (end : End) → LeadsFrom w p → Is x p end → EndLeads w end) → (from : End) (xs : List A) (end : End) → EndLeads w from → InTurn Is from xs end → EndLeads w end
+turns_lead Is w each None xs end leads is = end_leads w None end is leads
+turns_lead Is w each (Some p) [] end leads is = end_leads w (Some p) end is leads
+turns_lead Is w each (Some p) (x ∷ xs) end leads turns = turns_lead Is w each turns.0 xs end (each x p turns.0 leads turns.1) turns.2
 
-deliver_leads : (w : WorldState) (line index : ℕ) (m : Message) (p q : Progress) (r : Result (WorldState × Entry) Refused) → next p.world (event.Deliver m) ≡ r → LeadsFrom w p → Comes line index p r q → LeadsFrom w q
-deliver_leads w line index m p q (Ok made) is leads comes = ends_leads w line (event.Deliver m) (settling index p) q (Ok made) is leads comes
-deliver_leads w line index m p q (Err refusal) is leads comes = ends_leads w line (event.Deliver m) p q (Err refusal) is leads comes
+deliver_leads : (w : WorldState) (line index : ℕ) (m : Message) (p : Progress) (end : End) (r : Result (WorldState × Entry) Refused) → next p.world (event.Deliver m) ≡ r → LeadsFrom w p → Comes line index p r end → EndLeads w end
+deliver_leads w line index m p end (Ok made) is leads comes = ends_leads w line (event.Deliver m) (settling index p) end (Ok made) is leads comes
+deliver_leads w line index m p end (Err refusal) is leads comes = ends_leads w line (event.Deliver m) p end (Err refusal) is leads comes
 
-comes_leads : (w : WorldState) (line index : ℕ) (p q : Progress) (o : Option Message) → LeadsFrom w p → Comes line index p (delivery p o) q → LeadsFrom w q
-comes_leads w line index p q (Some m) leads comes = deliver_leads w line index m p q (next p.world (event.Deliver m)) refl leads comes
-comes_leads w line index p q None leads comes = let Q : Progress → Type 0 = λ x. LeadsFrom w x in subst Q (sym comes.1) leads
+unsent_leads : (w : WorldState) (line : ℕ) (p : Progress) (end : End) (full : Bool) → LeadsFrom w p → Ends line p (Err (if full then JournalFull else Stranger)) end → EndLeads w end
+unsent_leads w line p end true leads ends = end_leads w None end ends tt
+unsent_leads w line p end false leads ends = end_leads w (Some (after_refusal p line Stranger)) end ends leads
 
-lost_leads : (w : WorldState) (line index : ℕ) (p q : Progress) (b : Bool) → LeadsFrom w p → q ≡ (if b then settling index p else after_refusal p line Stranger) → LeadsFrom w q
-lost_leads w line index p q true leads is = let Q : Progress → Type 0 = λ x. LeadsFrom w x in subst Q (sym is) leads
-lost_leads w line index p q false leads is = let Q : Progress → Type 0 = λ x. LeadsFrom w x in subst Q (sym is) leads
+comes_leads : (w : WorldState) (line index : ℕ) (p : Progress) (end : End) (o : Option Message) → LeadsFrom w p → Comes line index p (delivery p o) end → EndLeads w end
+comes_leads w line index p end (Some m) leads comes = deliver_leads w line index m p end (next p.world (event.Deliver m)) refl leads comes
+comes_leads w line index p end None leads comes = unsent_leads w line p end (nat_le journal_limit (length p.entries)) leads comes
 
-does_leads : (w : WorldState) (line : ℕ) (c : Command) (p q : Progress) → LeadsFrom w p → Does line c p q → LeadsFrom w q
-does_leads w line (Call node pid op) p q leads does = happens_leads w line (event.Call node pid op) p q leads does
-does_leads w line (Deliver number) p q leads does = comes_leads w line (index_of number) p q (slice_get p.world.sent (index_of number)) leads does
-does_leads w line (Lose number) p q leads does = lost_leads w line (index_of number) p q (nat_lt (index_of number) (length p.world.sent)) leads does
-does_leads w line (Retry node pid) p q leads does = happens_leads w line (event.Retry node pid) p q leads does
-does_leads w line (Resend file) p q leads does = happens_leads w line (event.Resend file) p q leads does
-does_leads w line (Declare node) p q leads does = happens_leads w line (event.Declare node) p q leads does
-does_leads w line (Restart node) p q leads does = happens_leads w line (event.Restart node) p q leads does
-does_leads w line (Learn file node incarnation) p q leads does = happens_leads w line (event.Learn file node incarnation) p q leads does
-does_leads w line Settle p q leads does = all_leads w line p q does.0 leads does.1
+lost_leads : (w : WorldState) (line index : ℕ) (p : Progress) (b : Bool) → LeadsFrom w p → LeadsFrom w (if b then settling index p else after_refusal p line Stranger)
+lost_leads w line index p true leads = leads
+lost_leads w line index p false leads = leads
 
-runs_leads : (w : WorldState) (p q : Progress) (ls : List LineFields) → LeadsFrom w p → RunsTo p ls q → LeadsFrom w q
-runs_leads w p q [] leads is = let Q : Progress → Type 0 = λ x. LeadsFrom w x in subst Q is leads
-runs_leads w p q (l ∷ ls) leads runs = runs_leads w runs.0 q ls (does_leads w l.number l.command p runs.0 leads runs.1) runs.2
+does_leads : (w : WorldState) (line : ℕ) (c : Command) (p : Progress) (end : End) → LeadsFrom w p → Does line c p end → EndLeads w end
+does_leads w line (Call node pid op) p end leads does = happens_leads w line (event.Call node pid op) p end leads does
+does_leads w line (Deliver number) p end leads does = comes_leads w line (index_of number) p end (slice_get p.world.sent (index_of number)) leads does
+does_leads w line (Lose number) p end leads does = end_leads w (Some (lost line (index_of number) p)) end does (lost_leads w line (index_of number) p (nat_lt (index_of number) (length p.world.sent)) leads)
+does_leads w line (Retry node pid) p end leads does = happens_leads w line (event.Retry node pid) p end leads does
+does_leads w line (Resend file) p end leads does = happens_leads w line (event.Resend file) p end leads does
+does_leads w line (Declare node) p end leads does = happens_leads w line (event.Declare node) p end leads does
+does_leads w line (Restart node) p end leads does = happens_leads w line (event.Restart node) p end leads does
+does_leads w line (Learn file node incarnation) p end leads does = happens_leads w line (event.Learn file node incarnation) p end leads does
+does_leads w line Settle p end leads does = turns_lead (Delivers line) w (delivers_leads w line) (Some p) does.0 end leads does.1
 
 -- the entries that lines make are a run
-pub lines_lead : (shape : ShapeFields) (ls : List LineFields) (q : Progress) → RunsTo (first_progress shape) ls q → Leads (first_world shape) q.entries q.world
-lines_lead shape ls q runs = runs_leads (first_world shape) (first_progress shape) q ls refl runs
+pub lines_lead : (shape : ShapeFields) (ls : List LineFields) (q : Progress) → RunsTo (first_progress shape) ls (Some q) → Leads (first_world shape) q.entries q.world
+lines_lead shape ls q runs = turns_lead (λ (l : LineFields). Does l.number l.command) (first_world shape) (λ l. does_leads (first_world shape) l.number l.command) (Some (first_progress shape)) ls (Some q) refl runs
+
+-- what comes in turn after others
+pub turns_append : {A : Type 0} (Is : A → Progress → End → Type 0) (from mid end : End) (xs ys : List A) → InTurn Is from xs mid → InTurn Is mid ys end → InTurn Is from (xs ++ ys) end
+turns_append Is None mid end xs ys is more = let P : End → Type 0 = λ x. InTurn Is x ys end in subst P is more
+turns_append Is (Some p) mid end [] ys is more = let P : End → Type 0 = λ x. InTurn Is x ys end in subst P is more
+turns_append Is (Some p) mid end (x ∷ xs) ys turns more = (turns.0, turns.1, turns_append Is turns.0 mid end xs ys turns.2 more)
+
+-- where nothing more comes, the end stays
+turns_none : {A : Type 0} (Is : A → Progress → End → Type 0) (end : End) → InTurn Is end [] end
+turns_none Is None = refl
+turns_none Is (Some p) = refl
+
+-- one more, at which it may end
+pub turns_push : {A : Type 0} (Is : A → Progress → End → Type 0) (from : End) (mid : Progress) (end : End) (xs : List A) (x : A) → InTurn Is from xs (Some mid) → Is x mid end → InTurn Is from (xs ++ x ∷ []) end
+turns_push Is from mid end xs x turns is = turns_append Is from (Some mid) end xs (x ∷ []) turns (end, is, turns_none Is end)
 
 -- one more message of a line is settled
-pub all_push : (line : ℕ) (p q s r : Progress) (ms : List Message) (m : Message) → DeliversAll line p ms q → s ≡ q → Delivers line s m r → DeliversAll line p (ms ++ m ∷ []) r
-all_push line p q s r [] m is same delivers = let P : Progress → Type 0 = λ x. Delivers line x m r in (r, subst P (same ∙ sym is) delivers, refl)
-all_push line p q s r (n ∷ ms) m all same delivers = (all.0, all.1, all_push line all.0 q s r ms m all.2 same delivers)
-
--- one more line is run
-pub runs_push : (p q r : Progress) (ls : List LineFields) (l : LineFields) → RunsTo p ls q → Does l.number l.command q r → RunsTo p (ls ++ l ∷ []) r
-runs_push p q r [] l is does = let P : Progress → Type 0 = λ x. Does l.number l.command x r in (r, subst P (sym is) does, refl)
-runs_push p q r (k ∷ ls) l runs does = (runs.0, runs.1, runs_push runs.0 q r ls l runs.2 does)
+pub settles_push : (line : ℕ) (p q s : Progress) (end : End) (ms : List Message) (m : Message) → InTurn (Delivers line) (Some p) ms (Some q) → s ≡ q → Delivers line m s end → InTurn (Delivers line) (Some p) (ms ++ m ∷ []) end
+settles_push line p q s end ms m turns same delivers =
+    let P : Progress → Type 0 = λ x. Delivers line m x end in
+    turns_push (Delivers line) (Some p) q end ms m turns (subst P same delivers)
 
 -- one more of these lines is run
-pub runs_more : (p q r : Progress) (ls : List LineFields) (i : ℕ) (l : LineFields) → i < length ls → l ≡ get_or ls i l → RunsTo p (take i ls) q → Does l.number l.command q r → RunsTo p (take (i + 1) ls) r
+pub runs_more : (p q r : Progress) (ls : List LineFields) (i : ℕ) (l : LineFields) → i < length ls → l ≡ get_or ls i l → RunsTo p (take i ls) (Some q) → Does l.number l.command q (Some r) → RunsTo p (take (i + 1) ls) (Some r)
 runs_more p q r ls i l lt is runs does =
-    let P : List LineFields → Type 0 = λ ks. RunsTo p ks r in
-    subst P (ap (λ (k : LineFields). take i ls ++ k ∷ []) is ∙ sym (take_more ls i l lt)) (runs_push p q r (take i ls) l runs does)
+    let P : List LineFields → Type 0 = λ ks. RunsTo p ks (Some r) in
+    subst P (ap (λ (k : LineFields). take i ls ++ k ∷ []) is ∙ sym (take_more ls i l lt)) (turns_push (λ (k : LineFields). Does k.number k.command) (Some p) q (Some r) (take i ls) l runs does)
 
 -- a line finds the journal full
-pub fills : (shape : ShapeFields) (ls : List LineFields) (i : ℕ) (l : LineFields) (p : Progress) → i < length ls → l ≡ get_or ls i l → RunsTo (first_progress shape) (take i ls) p → IsFullIn l.number l.command p → FillsJournal shape ls
-fills shape ls i l p lt is runs full = record {
-  done = take i ls;
-  line = l;
-  rest = drop (i + 1) ls;
-  in_order =
-      sym (take-append-drop i ls)
-      ∙ (ap (λ (ks : List LineFields). take i ls ++ ks) (drop_more ls i l lt)
-      ∙ ap (λ (k : LineFields). take i ls ++ k ∷ drop (i + 1) ls) (sym is));
-  progress = p;
-  ran = runs;
-  full = full;
-}
+pub fills : (shape : ShapeFields) (ls : List LineFields) (i : ℕ) (l : LineFields) (p : Progress) → i < length ls → l ≡ get_or ls i l → RunsTo (first_progress shape) (take i ls) (Some p) → Does l.number l.command p None → FillsJournal shape ls
+fills shape ls i l p lt is runs full =
+    let P : List LineFields → Type 0 = λ ks. RunsTo (first_progress shape) ks None in
+    let in_order : take i ls ++ l ∷ drop (i + 1) ls ≡ ls =
+    ap (λ (k : LineFields). take i ls ++ k ∷ drop (i + 1) ls) is
+    ∙ (ap (λ (ks : List LineFields). take i ls ++ ks) (sym (drop_more ls i l lt))
+    ∙ take-append-drop i ls) in
+    subst P in_order (turns_append (λ (k : LineFields). Does k.number k.command) (Some (first_progress shape)) (Some p) None (take i ls) (l ∷ drop (i + 1) ls) runs (None, full, refl))

@@ -1,12 +1,12 @@
 -- What came of a script.
-use Rattle.std.specs.Prelude.{◌≡◌, ℕ, List, ◌∷◌, ◌++◌}
+use Rattle.std.specs.Prelude.{◌≡◌, ℕ, List, Some, None}
 use Rattle.messages.specs.Shapes.{ShapeFields}
 use Rattle.cluster_core.specs.World.{WorldState, first_world}
 use Rattle.cluster_core.specs.Journals.{JournalFields}
 use Rattle.cluster_core.specs.Runs.{Leads}
 use Rattle.cluster_core.specs.Safe.{IsSafe}
 use Rattle.lockscript.specs.Scripts.{LineFields}
-use Rattle.replay.specs.Progress.{Progress, first_progress, RunsTo, IsFullIn}
+use Rattle.replay.specs.Progress.{Progress, first_progress, RunsTo}
 
 -- the journal of the run, the world at its end, and the refused lines, each by its number with the number of its refusal
 pub record PlayedState : Type 0 where
@@ -24,14 +24,8 @@ played_of shape p = record { journal = record { shape = shape; entries = p.entri
 
 -- a cluster of this shape that begins comes to this by these lines
 abbrev pub ComesTo : ShapeFields → List LineFields → PlayedState → Type 0
-ComesTo shape lines played = (p : Progress) × RunsTo (first_progress shape) lines p × (played ≡ played_of shape p)
+ComesTo shape lines played = (p : Progress) × RunsTo (first_progress shape) lines (Some p) × (played ≡ played_of shape p)
 
--- the lines before one are run, and that one needs an entry for which the journal has no room
-pub record FillsJournal (shape : ShapeFields) (lines : List LineFields) : Type 0 where
-  pub done : List LineFields
-  pub line : LineFields
-  pub rest : List LineFields
-  pub in_order : lines ≡ done ++ line ∷ rest
-  pub progress : Progress
-  pub ran : RunsTo (first_progress shape) done progress
-  pub full : IsFullIn line.number line.command progress
+-- a line needs an entry for which the journal has no room
+abbrev pub FillsJournal : ShapeFields → List LineFields → Type 0
+FillsJournal shape lines = RunsTo (first_progress shape) lines None

@@ -1,7 +1,7 @@
 -- How a script is run, line by line.
-use Rattle.std.specs.Prelude.{◌≡◌, ℕ, ◌-◌, ◌<◌, ◌==◌, ◌||◌, nat_le, nat_lt, Bool, true, false, if◌then◌else◌, ⊤, List, [], ◌∷◌, ◌++◌, length, slice_get, Option, Result, Ok, Err, Some, None}
+use Rattle.std.specs.Prelude.{◌≡◌, ℕ, ◌-◌, ◌<◌, ◌==◌, ◌||◌, nat_le, nat_lt, Bool, true, false, if◌then◌else◌, List, [], ◌∷◌, ◌++◌, length, slice_get, Option, Result, Ok, Err, Some, None, IfSome}
 use Rattle.messages.specs.declared.refusal.Refused.{Refused}
-use Rattle.messages.specs.declared.refusal.Refused.TheVariants.{NoMemory, Busy, Stranger, JournalFull, Spent, NotAlive, NotDead, TooManyRestarts, Fenced}
+use Rattle.messages.specs.declared.refusal.Refused.TheVariants.{NoMemory, Stranger, JournalFull, Fenced}
 use Rattle.messages.specs.declared.event.Event.{Event}
 use Rattle.messages.specs.declared.event.Event.TheVariants as event
 use Rattle.messages.specs.declared.message.Message.{Message}
@@ -24,18 +24,6 @@ pub record Progress : Type 0 where
 abbrev pub first_progress : ShapeFields → Progress
 first_progress shape = record { entries = []; world = first_world shape; settled = λ index. false; refused = [] }
 
--- a refusal that is listed; a full journal and a lack of memory end the run
-abbrev pub IsListed : Refused → Type 0
-IsListed NoMemory = ⊥
-IsListed Busy = ⊤
-IsListed Stranger = ⊤
-IsListed JournalFull = ⊥
-IsListed Spent = ⊤
-IsListed NotAlive = ⊤
-IsListed NotDead = ⊤
-IsListed TooManyRestarts = ⊤
-IsListed Fenced = ⊤
-
 -- the event made this entry and led to this world
 abbrev pub after_entry : Progress → WorldState × Entry → Progress
 after_entry p made = record p { entries = p.entries ++ made.1 ∷ []; world = made.0 }
@@ -44,14 +32,26 @@ after_entry p made = record p { entries = p.entries ++ made.1 ∷ []; world = ma
 abbrev pub after_refusal : Progress → ℕ → Refused → Progress
 after_refusal p line refusal = record p { refused = p.refused ++ (line, number_of refusal) ∷ [] }
 
--- an accepted event changes the world, and its entry comes last; a refused one leaves the world, and its line is listed
-abbrev pub Ends : ℕ → Progress → Result (WorldState × Entry) Refused → Progress → Type 0
-Ends line p (Ok made) q = q ≡ after_entry p made
-Ends line p (Err refusal) q = IsListed refusal × (q ≡ after_refusal p line refusal)
+-- how far a script comes by something that it does, and nothing where the journal has no room for an event of it
+abbrev pub End : Type 0
+End = Option Progress
+
+-- an accepted event changes the world, and its entry comes last; a refused one leaves the world, and its line is listed; a full journal ends the run, and a lack of memory is no end
+abbrev pub Ends : ℕ → Progress → Result (WorldState × Entry) Refused → End → Type 0
+Ends line p (Ok made) end = end ≡ Some (after_entry p made)
+Ends line p (Err NoMemory) end = ⊥
+Ends line p (Err JournalFull) end = end ≡ None
+Ends line p (Err refusal) end = end ≡ Some (after_refusal p line refusal)
 
 -- an event of a line
-abbrev pub Happens : ℕ → Event → Progress → Progress → Type 0
-Happens line event p q = Ends line p (next p.world event) q
+abbrev pub Happens : ℕ → Event → Progress → End → Type 0
+Happens line event p end = Ends line p (next p.world event) end
+
+-- one after the other is done, the next by what came of those before it, until the journal is full
+abbrev pub InTurn : {A : Type 0} → (A → Progress → End → Type 0) → End → List A → End → Type 0
+InTurn Is None xs end = end ≡ None
+InTurn Is (Some p) [] end = end ≡ Some p
+InTurn Is (Some p) (x ∷ xs) end = (mid : End) × Is x p mid × InTurn Is mid xs end
 
 -- one more message is settled
 abbrev pub with_settled : (ℕ → Bool) → ℕ → ℕ → Bool
@@ -71,26 +71,21 @@ pub record IsNextMessage (p : Progress) (index : ℕ) (m : Message) : Type 0 whe
   pub sent : slice_get p.world.sent index ≡ Some m
 
 -- a message that is settled ends so: where its node was declared failed it is passed over and nothing is listed, else as an event of the line
-abbrev pub Passes : ℕ → Progress → Result (WorldState × Entry) Refused → Progress → Type 0
-Passes line p (Err Fenced) q = q ≡ p
-Passes line p made q = Ends line p made q
+abbrev pub Passes : ℕ → Progress → Result (WorldState × Entry) Refused → End → Type 0
+Passes line p (Err Fenced) end = end ≡ Some p
+Passes line p made end = Ends line p made end
 
 -- that message is settled: it is delivered, or passed over where its delivery is refused
-abbrev pub Delivers : ℕ → Progress → Message → Progress → Type 0
-Delivers line p m q = (index : ℕ) × IsNextMessage p index m × Passes line (settling index p) (next p.world (event.Deliver m)) q
-
--- these messages are settled, one after the other
-abbrev pub DeliversAll : ℕ → Progress → List Message → Progress → Type 0
-DeliversAll line p [] q = p ≡ q
-DeliversAll line p (m ∷ ms) q = (mid : Progress) × Delivers line p m mid × DeliversAll line mid ms q
+abbrev pub Delivers : ℕ → Message → Progress → End → Type 0
+Delivers line m p end = (index : ℕ) × IsNextMessage p index m × Passes line (settling index p) (next p.world (event.Deliver m)) end
 
 -- every message that was sent is settled
 abbrev pub IsSettled : Progress → Type 0
 IsSettled p = (index : ℕ) → index < length p.world.sent → p.settled index ≡ true
 
--- messages are settled until none is left, also of those that are sent meanwhile
-abbrev pub Settles : ℕ → Progress → Progress → Type 0
-Settles line p q = (ms : List Message) × DeliversAll line p ms q × IsSettled q
+-- messages are settled, one after the other, until none is left, also of those that are sent meanwhile, or the journal is full
+abbrev pub Settles : ℕ → Progress → End → Type 0
+Settles line p end = (ms : List Message) × InTurn (Delivers line) (Some p) ms end × IfSome end IsSettled
 
 -- where the message of this number stands in the order of sending
 abbrev pub index_of : ℕ → ℕ
@@ -106,52 +101,25 @@ abbrev pub after_delivery : ℕ → Progress → Result (WorldState × Entry) Re
 after_delivery index p (Ok made) = settling index p
 after_delivery index p (Err refusal) = p
 
-abbrev pub Comes : ℕ → ℕ → Progress → Result (WorldState × Entry) Refused → Progress → Type 0
-Comes line index p made q = Ends line (after_delivery index p made) made q
+abbrev pub Comes : ℕ → ℕ → Progress → Result (WorldState × Entry) Refused → End → Type 0
+Comes line index p made end = Ends line (after_delivery index p made) made end
 
 -- a message that was sent is lost: it is settled, and nothing happens; else the line is listed
 abbrev pub lost : ℕ → ℕ → Progress → Progress
 lost line index p = if nat_lt index (length p.world.sent) then settling index p else after_refusal p line Stranger
 
 -- what the command of a line does
-abbrev pub Does : ℕ → Command → Progress → Progress → Type 0
-Does line (Call node pid op) p q = Happens line (event.Call node pid op) p q
-Does line (Deliver number) p q = Comes line (index_of number) p (delivery p (slice_get p.world.sent (index_of number))) q
-Does line (Lose number) p q = q ≡ lost line (index_of number) p
-Does line Settle p q = Settles line p q
-Does line (Retry node pid) p q = Happens line (event.Retry node pid) p q
-Does line (Resend file) p q = Happens line (event.Resend file) p q
-Does line (Declare node) p q = Happens line (event.Declare node) p q
-Does line (Restart node) p q = Happens line (event.Restart node) p q
-Does line (Learn file node incarnation) p q = Happens line (event.Learn file node incarnation) p q
+abbrev pub Does : ℕ → Command → Progress → End → Type 0
+Does line (Call node pid op) p end = Happens line (event.Call node pid op) p end
+Does line (Deliver number) p end = Comes line (index_of number) p (delivery p (slice_get p.world.sent (index_of number))) end
+Does line (Lose number) p end = end ≡ Some (lost line (index_of number) p)
+Does line Settle p end = Settles line p end
+Does line (Retry node pid) p end = Happens line (event.Retry node pid) p end
+Does line (Resend file) p end = Happens line (event.Resend file) p end
+Does line (Declare node) p end = Happens line (event.Declare node) p end
+Does line (Restart node) p end = Happens line (event.Restart node) p end
+Does line (Learn file node incarnation) p end = Happens line (event.Learn file node incarnation) p end
 
 -- the lines are run in order
-abbrev pub RunsTo : Progress → List LineFields → Progress → Type 0
-RunsTo p [] q = p ≡ q
-RunsTo p (l ∷ ls) q = (mid : Progress) × Does l.number l.command p mid × RunsTo mid ls q
-
--- the journal has no room for the event
-abbrev pub FindsItFull : Progress → Event → Type 0
-FindsItFull p event = next p.world event ≡ Err JournalFull
-
--- some messages are settled, and the journal has no room for the delivery of the next
-pub record SettlesToFull (line : ℕ) (p : Progress) : Type 0 where
-  pub messages : List Message
-  pub mid : Progress
-  pub settled : DeliversAll line p messages mid
-  pub message : Message
-  pub index : ℕ
-  pub next_one : IsNextMessage mid index message
-  pub full : FindsItFull mid (event.Deliver message)
-
--- the journal has no room for an event of the command
-abbrev pub IsFullIn : ℕ → Command → Progress → Type 0
-IsFullIn line (Call node pid op) p = FindsItFull p (event.Call node pid op)
-IsFullIn line (Deliver number) p = delivery p (slice_get p.world.sent (index_of number)) ≡ Err JournalFull
-IsFullIn line (Lose number) p = ⊥
-IsFullIn line Settle p = SettlesToFull line p
-IsFullIn line (Retry node pid) p = FindsItFull p (event.Retry node pid)
-IsFullIn line (Resend file) p = FindsItFull p (event.Resend file)
-IsFullIn line (Declare node) p = FindsItFull p (event.Declare node)
-IsFullIn line (Restart node) p = FindsItFull p (event.Restart node)
-IsFullIn line (Learn file node incarnation) p = FindsItFull p (event.Learn file node incarnation)
+abbrev pub RunsTo : Progress → List LineFields → End → Type 0
+RunsTo p lines end = InTurn (λ (l : LineFields). Does l.number l.command) (Some p) lines end

@@ -8,7 +8,7 @@ ghost use Rattle.cluster_core.specs.World.{first_world};
 ghost use Rattle.replay.specs.declared.play.PlayError.TheVariants.{NoMemory, JournalFull};
 ghost use Rattle.replay.specs.Parts.{progress, state_of};
 ghost use Rattle.replay.specs.Played.{played_of};
-ghost use Rattle.replay.specs.Progress.{after_refusal, delivery, first_progress, Comes, Delivers, Does, FindsItFull, Happens, IsFullIn, IsListed, IsNextMessage, IsSettled, Settles, SettlesToFull};
+ghost use Rattle.replay.specs.Progress.{delivery, first_progress, Comes, Delivers, Does, Ends, Happens, IsNextMessage, IsSettled, Settles};
 
 use crate::play::PlayError;
 use crate::played::Played;
@@ -55,8 +55,8 @@ impl Player {
 
     /// Does what the line asks for.
     pub(crate) fn take(&mut self, alloc: Global, line: &ScriptLine) -> Result<(), PlayError>
-        ensures ok { OnOk result (Does line.now.number line.now.command (progress self.old) (progress self.new)) }
-        ensures full { IfErr result (λ error. error ≡ JournalFull → IsFullIn line.now.number line.now.command (progress self.old)) }
+        ensures ok { OnOk result (Does line.now.number line.now.command (progress self.old) (Some (progress self.new))) }
+        ensures full { IfErr result (λ error. error ≡ JournalFull → Does line.now.number line.now.command (progress self.old) None) }
     {
         match line.command() {
             Command::Call { node, pid, op } => {
@@ -92,8 +92,8 @@ impl Player {
 
     // One event of a line. One that is refused leaves the world as it was, and its line is listed.
     fn step(&mut self, alloc: Global, line: u32, event: Event) -> Result<(), PlayError>
-        ensures ok { OnOk result (Happens line event (progress self.old) (progress self.new)) }
-        ensures full { IfErr result (λ error. error ≡ JournalFull → FindsItFull (progress self.old) event) }
+        ensures ok { OnOk result (Happens line event (progress self.old) (Some (progress self.new))) }
+        ensures full { IfErr result (λ error. error ≡ JournalFull → Happens line event (progress self.old) None) }
         ensures rests { OnOk result (self.new.settled ≡ self.old.settled) }
     {
         match self.run.take(alloc, event) {
@@ -104,8 +104,7 @@ impl Player {
 
     // Lists a line with its refusal, unless the refusal ends the run.
     fn refuse(&mut self, line: u32, refusal: Refused) -> Result<(), PlayError>
-        ensures listed { OnOk result (IsListed refusal) }
-        ensures ok { OnOk result (progress self.new ≡ after_refusal (progress self.old) line refusal) }
+        ensures ok { OnOk result (Ends line (progress self.old) (Err refusal) (Some (progress self.new))) }
         ensures full { IfErr result (λ error. error ≡ JournalFull → refusal ≡ Refused.JournalFull) }
         ensures rests { OnOk result (self.new.settled ≡ self.old.settled) }
     {
@@ -131,8 +130,8 @@ impl Player {
     // Delivers the message of this number, which settles it unless its delivery is refused.
     fn deliver(&mut self, alloc: Global, line: u32, number: u32) -> Result<(), PlayError>
         requires counted { 1 ≤ number }
-        ensures ok { OnOk result (Does line (Command.Deliver number) (progress self.old) (progress self.new)) }
-        ensures full { IfErr result (λ error. error ≡ JournalFull → IsFullIn line (Command.Deliver number) (progress self.old)) }
+        ensures ok { OnOk result (Does line (Command.Deliver number) (progress self.old) (Some (progress self.new))) }
+        ensures full { IfErr result (λ error. error ≡ JournalFull → Does line (Command.Deliver number) (progress self.old) None) }
     {
         let index = number as usize - 1;
         match self.run.world().sent().get(index).copied() {
@@ -149,8 +148,8 @@ impl Player {
         index: usize,
         message: Message,
     ) -> Result<(), PlayError>
-        ensures ok { OnOk result (Comes line index (progress self.old) (delivery (progress self.old) (Some message)) (progress self.new)) }
-        ensures full { IfErr result (λ error. error ≡ JournalFull → delivery (progress self.old) (Some message) ≡ Err Refused.JournalFull) }
+        ensures ok { OnOk result (Comes line index (progress self.old) (delivery (progress self.old) (Some message)) (Some (progress self.new))) }
+        ensures full { IfErr result (λ error. error ≡ JournalFull → Comes line index (progress self.old) (delivery (progress self.old) (Some message)) None) }
     {
         match self.run.take(alloc, Event::Deliver(message)) {
             Ok(()) => self.settled.settle(index)?,
@@ -162,7 +161,7 @@ impl Player {
     // Loses the message of this number: it is settled, and nothing happens.
     fn lose(&mut self, line: u32, number: u32) -> Result<(), PlayError>
         requires counted { 1 ≤ number }
-        ensures ok { OnOk result (Does line (Command.Lose number) (progress self.old) (progress self.new)) }
+        ensures ok { OnOk result (Does line (Command.Lose number) (progress self.old) (Some (progress self.new))) }
         ensures err { IfErr result (λ error. error ≡ NoMemory) }
     {
         let index = number as usize - 1;
@@ -190,8 +189,8 @@ impl Player {
     fn deliver_next(&mut self, alloc: Global, line: u32, message: Message) -> Result<(), PlayError>
         requires next_one { IsNextMessage (progress self.old) self.old.settled.cursor message }
         requires room { self.old.settled.cursor < usize.MAX }
-        ensures ok { OnOk result (Delivers line (progress self.old) message (progress self.new)) }
-        ensures full { IfErr result (λ error. error ≡ JournalFull → FindsItFull (progress self.old) (Event.Deliver message)) }
+        ensures ok { OnOk result (Delivers line message (progress self.old) (Some (progress self.new))) }
+        ensures full { IfErr result (λ error. error ≡ JournalFull → Delivers line message (progress self.old) None) }
         ensures rises { OnOk result (self.new.settled.cursor ≡ self.old.settled.cursor + 1) }
     {
         self.settled.pass();
@@ -206,8 +205,8 @@ impl Player {
     // Delivers messages in the order in which they were sent, also those that are sent meanwhile,
     // until none is left.
     fn settle(&mut self, alloc: Global, line: u32) -> Result<(), PlayError>
-        ensures ok { OnOk result (Settles line (progress self.old) (progress self.new)) }
-        ensures full { IfErr result (λ error. error ≡ JournalFull → SettlesToFull line (progress self.old)) }
+        ensures ok { OnOk result (Settles line (progress self.old) (Some (progress self.new))) }
+        ensures full { IfErr result (λ error. error ≡ JournalFull → Settles line (progress self.old) None) }
     {
         while let Some(message) = self.next_message() {
             self.deliver_next(alloc, line, message)?;

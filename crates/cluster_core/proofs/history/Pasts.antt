@@ -470,7 +470,7 @@ module _ (shape : ShapeFields) (is_shape : IsShape shape) (Q : WorldState → Ty
           fits = slots_fit shape es slots g.slotted g.one_reply g.all;
           legal = slots_legal shape es slots g.slotted w l;
         },
-        slots_at_their_places shape es slots g.slotted,
+        slots_at_their_places shape es slots g.slotted g.one_reply g.all,
       )
 
   -- and the calls that name no lock are a plain history
@@ -478,7 +478,14 @@ module _ (shape : ShapeFields) (is_shape : IsShape shape) (Q : WorldState → Ty
   plain_after es w l =
       let g = (both_after es w l).good in
       let slots = slots_of es in
-      record { world = w; leads = l; plain = plain_items shape es slots g.slotted g.one_reply g.all; legal = plain_legal shape es slots g.slotted w l }
+      record {
+        world = w;
+        leads = l;
+        one_call = g.one_call;
+        one_reply = g.one_reply;
+        fits = plain_items shape es slots g.slotted g.one_reply g.all;
+        legal = plain_legal shape es slots g.slotted w l;
+      }
 
   -- and each denial its evidence
   pub evidence_after : (es : List Entry) (w : WorldState) (file : ℕ) (call : CallId) (holder : Host) (number : ℕ) (lock : LockInfo) → Leads (first_world shape) es w → IsTold w file call holder number lock → HasEvidence shape es file call holder number lock

@@ -15,12 +15,12 @@ use Rattle.cluster_core.specs.declared.item.Item.TheVariants.{Answered, Gone}
 use Rattle.cluster_core.specs.World.{WorldState, first_world}
 use Rattle.cluster_core.specs.Runs.{Leads}
 use Rattle.cluster_core.specs.Union.{union}
-use Rattle.cluster_core.specs.Histories.{caller, Legal, OneReply}
+use Rattle.cluster_core.specs.Histories.{caller, IsPlaced, IsRepliedAt, Legal, OneReply}
 use Rattle.cluster_core.proofs.history.Placement.{Slots, items_in}
-use Rattle.cluster_core.specs.Plain.{IsPlainItem, IsPlain}
+use Rattle.cluster_core.specs.Plain.{IsPlainAnswer, IsPlain}
 use Rattle.cluster_core.proofs.history.Prefixes.{table_at}
 use Rattle.cluster_core.proofs.history.Quiet.{again_stays, blocked_stays}
-use Rattle.cluster_core.proofs.history.Slots.{SlotStep, Stands, Slotted, AllSlotted, in_slot, slot_in, rising_slots, stands_position, legal_union}
+use Rattle.cluster_core.proofs.history.Slots.{SlotStep, Stands, HasSlot, AllGone, Slotted, AllSlotted, items_fit, legal_union}
 
 -- the item of a call, unless its reply names a lock
 plain_of : Item → Reply → Option Item
@@ -81,7 +81,7 @@ slot_of (o ∷ os) zero p h = (o, refl, same_Some (plain_slot o) p h)
 slot_of (o ∷ os) (suc q) p h = slot_of os q p h
 
 -- what stands in a slot stands there plainly
-stands_plain : (es : List Entry) (q : ℕ) (i : Item) → Stands es q i → IsUnnamed i → IsPlainItem es i
+stands_plain : (es : List Entry) (q : ℕ) (i : Item) → Stands es q i → IsUnnamed i → IsPlaced (IsPlainAnswer es) es i
 stands_plain es q (Answered at id pid op reply) s none = record {
   call_at = s.1.interval.call_at;
   called = s.1.interval.called;
@@ -118,21 +118,19 @@ module _ (shape : ShapeFields) (es : List Entry) (slots : Slots) (s : Slotted sh
   unfolding plain_slots plain_slot
   gone_there q at node incarnation h = slice_get-map plain_slot slots q ∙ ap (option_map plain_slot) h
 
+  -- a call that names no lock keeps its slot
+  plain_slot_of : AllSlotted es slots → (id : CallId) (reply : Reply) (at : ℕ) → IsRepliedAt es id reply at → NamesNoLock reply → HasSlot (plain_slots slots) id reply
+  plain_slot_of all id reply at r none =
+      let slot = all id reply at r in
+      (slot.0, slot.1, slot.2, slot.3, kept_there slot.0 slot.1 id slot.2 slot.3 reply none slot.4)
+
+  plain_failures : AllGone es (plain_slots slots)
+  plain_failures node incarnation at d =
+      let there = s.failures node incarnation at d in
+      (there.0, gone_there there.0 at node incarnation there.1)
+
   pub plain_items : OneReply es → AllSlotted es slots → IsPlain es (items_in (plain_slots slots))
-  plain_items one all = record {
-    rising = λ j k a b lt x y. rising_slots 0 (plain_slots slots) (λ q i h. stands_position es q i (there q i h).stands) j k a b lt x y;
-    placed = λ k i h.
-        let at = in_slot (plain_slots slots) k i h in
-        let its = there at.0 i at.1 in
-        stands_plain es at.0 i its.stands its.unnamed;
-    answered = λ id reply at r none.
-        let slot = all id reply at r in
-        let item = Answered slot.1 id slot.2 slot.3 reply in
-        let stands : Stands es slot.0 item = s.stands slot.0 item slot.4 in
-        let same = one id reply reply slot.1 at (stands.1.plain none) r in
-        let place = slot_in (plain_slots slots) slot.0 item (kept_there slot.0 slot.1 id slot.2 slot.3 reply none slot.4) in
-        (place.0, slot.2, slot.3, subst (λ (n : ℕ). slice_get (items_in (plain_slots slots)) place.0 ≡ Some (Answered n id slot.2 slot.3 reply)) same place.1);
-    gone = λ node incarnation at d.
-        let there = s.failures node incarnation at d in
-        slot_in (plain_slots slots) there.0 (Gone at node incarnation) (gone_there there.0 at node incarnation there.1);
-  }
+  plain_items one all =
+      items_fit es (plain_slots slots) (λ q i h. (there q i h).stands) (IsPlainAnswer es) NamesNoLock
+      (λ q i h. let its = there q i h in stands_plain es q i its.stands its.unnamed)
+      (plain_slot_of all) plain_failures one

@@ -1,5 +1,6 @@
 -- What stands at each entry of a run, as the run goes on.
 use Rattle.std.proofs.Common.{◌≡◌, ℕ, zero, suc, ◌+◌, ◌<◌, ◌≤◌, Bool, true, false, not, cond, ◌⊎◌, inl, inr, refl, sym, ◌∙◌, ap, subst, arith, List, [], ◌∷◌, ◌++◌, length, length-append, append-nil, append_assoc, slice_get, slice_set, position, nat_lt, Option, Some, None}
+use Rattle.std.specs.Prelude.{⊤}
 use Rattle.std.specs.List.{position_or_len}
 use Rattle.std.proofs.lemmas.Option.{slice_get_within, none-some, same_Some}
 use Rattle.std.proofs.lemmas.List.{length-set}
@@ -19,7 +20,7 @@ use Rattle.messages.specs.declared.event.Event.TheVariants.{Deliver, Declare}
 use Rattle.messages.specs.declared.entry.Entry.{Entry}
 use Rattle.cluster_core.specs.declared.item.Item.{Item}
 use Rattle.cluster_core.specs.declared.item.Item.TheVariants.{Answered, Gone}
-use Rattle.cluster_core.specs.Histories.{position_of, call_id, ItemStep, Legal, Rising, EntryAt, IsRepliedAt, IsOpenAt, IsPlaced, Fits, OneReply, IsRevokedAt, IsPlaceOf, StandsAtItsPlace, IsAtItsPlace, EachAtItsPlace, names_conflict, IsDeclaredAt}
+use Rattle.cluster_core.specs.Histories.{position_of, call_id, ItemStep, Legal, Rising, EntryAt, IsRepliedAt, IsOpenAt, IsPlaced, Fits, FitsBy, OneReply, IsRevokedAt, IsPlaceOf, IsAtItsPlace, EachAtItsPlace, names_conflict, IsDeclaredAt}
 use Rattle.cluster_core.specs.World.{WorldState, first_world}
 use Rattle.cluster_core.specs.Runs.{Leads}
 use Rattle.cluster_core.specs.Union.{union}
@@ -129,7 +130,7 @@ IsMark e id = ((reply : Reply) × (e.reply ≡ Some (id, reply))) ⊎ ((file : �
 
 pub record IsStanding (es : List Entry) (id : CallId) (pid : ℕ) (op : Op) (reply : Reply) (at : ℕ) : Type 0 where
   pub interval : IsOpenAt es id pid op reply at
-  pub place : StandsAtItsPlace es id reply at
+  pub place : IsAtItsPlace es id pid op reply at
   pub plain : NamesNoLock reply → IsRepliedAt es id reply at
   pub marking : Entry
   pub there : EntryAt es at marking
@@ -173,8 +174,8 @@ place-keeps : (es : List Entry) (e : Entry) (event : Event) (reply_at at : ℕ) 
 place-keeps es e (Deliver (Deny file call holder number lock)) reply_at at r = revoked-keeps es e file holder number at r
 place-keeps es e event reply_at at same = same
 
-pub stands_at-keeps : (es : List Entry) (e : Entry) (id : CallId) (reply : Reply) (at : ℕ) → StandsAtItsPlace es id reply at → StandsAtItsPlace (es ++ e ∷ []) id reply at
-stands_at-keeps es e id reply at s = record {
+pub stands_at-keeps : (es : List Entry) (e : Entry) (id : CallId) (pid : ℕ) (op : Op) (reply : Reply) (at : ℕ) → IsAtItsPlace es id pid op reply at → IsAtItsPlace (es ++ e ∷ []) id pid op reply at
+stands_at-keeps es e id pid op reply at s = record {
   reply_at = s.reply_at;
   replying = s.replying;
   there = entry_at-keeps es (e ∷ []) s.reply_at s.replying s.there;
@@ -205,7 +206,7 @@ standing-keeps es e q (Answered at id pid op reply) s =
           after = o.after;
           before = o.before;
         };
-        place = stands_at-keeps es e id reply at s.1.place;
+        place = stands_at-keeps es e id pid op reply at s.1.place;
         plain = λ none. replied_at-keeps es (e ∷ []) id reply at (s.1.plain none);
         marking = s.1.marking;
         there = entry_at-keeps es (e ∷ []) at s.1.marking s.1.there;
@@ -328,8 +329,8 @@ place_one : (es : List Entry) (event : Event) (reply_at at to : ℕ) → IsPlace
 place_one es (Deliver (Deny file call holder number lock)) reply_at at to a b = revoked_one es file holder number at to a b
 place_one es event reply_at at to a b = a ∙ sym b
 
-place_of_call : (es : List Entry) (id : CallId) (r q : Reply) (at to : ℕ) → OneReply es → StandsAtItsPlace es id r at → StandsAtItsPlace es id q to → at ≡ to
-place_of_call es id r q at to one a b =
+place_of_call : (es : List Entry) (id : CallId) (n m : ℕ) (o u : Op) (r q : Reply) (at to : ℕ) → OneReply es → IsAtItsPlace es id n o r at → IsAtItsPlace es id m u q to → at ≡ to
+place_of_call es id n m o u r q at to one a b =
     let first : IsRepliedAt es id r a.reply_at = record { replying = a.replying; there = a.there; is_reply = a.is_reply } in
     let second : IsRepliedAt es id q b.reply_at = record { replying = b.replying; there = b.there; is_reply = b.is_reply } in
     let same = one id r q a.reply_at b.reply_at first second in
@@ -341,7 +342,7 @@ place_of_call es id r q at to one a b =
 one_position : (es : List Entry) (j k : ℕ) (a b : Item) (id : CallId) → OneReply es → Stands es j a → Stands es k b → call_id a ≡ Some id → call_id b ≡ Some id → position_of a ≡ position_of b
 one_position es j k (Answered at c pid op r) (Answered to d qid oq q) id one x y e f =
     let same : d ≡ c = same_Some d c (f ∙ sym e) in
-    place_of_call es c r q at to one x.1.place (subst (λ (n : CallId). StandsAtItsPlace es n q to) same y.1.place)
+    place_of_call es c pid qid op oq r q at to one x.1.place (subst (λ (n : CallId). IsAtItsPlace es n qid oq q to) same y.1.place)
 one_position es j k (Answered at c pid op r) (Gone to node incarnation) id one x y e f = absurd (none-some id f)
 one_position es j k (Gone at node incarnation) b id one x y e f = absurd (none-some id e)
 
@@ -349,35 +350,32 @@ pub stands_position : (es : List Entry) (q : ℕ) (i : Item) → Stands es q i �
 stands_position es q (Answered at id pid op reply) s = let is = s.0 in omega arith
 stands_position es q (Gone at node incarnation) s = let is = s.0 in omega arith
 
-stands_placed : (es : List Entry) (q : ℕ) (i : Item) → Stands es q i → IsPlaced es i
+stands_placed : (es : List Entry) (q : ℕ) (i : Item) → Stands es q i → IsPlaced (IsOpenAt es) es i
 stands_placed es q (Answered at id pid op reply) s = s.1.interval
 stands_placed es q (Gone at node incarnation) s = s.1
 
-stands_at_place : (es : List Entry) (q : ℕ) (i : Item) → Stands es q i → IsAtItsPlace es i
+stands_at_place : (es : List Entry) (q : ℕ) (i : Item) → Stands es q i → IsPlaced (IsAtItsPlace es) es i
 stands_at_place es q (Answered at id pid op reply) s = s.1.place
 stands_at_place es q (Gone at node incarnation) s = s.1
 
--- the items of the slots are a history that fits, is legal, and has each call at its place
-module _ (shape : ShapeFields) (es : List Entry) (slots : Slots) (s : Slotted shape es slots) where
+-- the items of slots fit the run by a place where what stands in them stands there
+module _ (es : List Entry) (slots : Slots) (stands : (q : ℕ) (i : Item) → slice_get slots q ≡ Some (Some i) → Stands es q i) where
   stands_in : (k : ℕ) (i : Item) → slice_get (items_in slots) k ≡ Some i → (q : ℕ) × Stands es q i
-  stands_in k i h = let at = in_slot slots k i h in (at.0, s.stands at.0 i at.1)
+  stands_in k i h = let at = in_slot slots k i h in (at.0, stands at.0 i at.1)
 
-  pub slots_at_their_places : EachAtItsPlace es (items_in slots)
-  slots_at_their_places k i h = let at = stands_in k i h in stands_at_place es at.0 i at.1
+  items_rise : Rising (items_in slots)
+  items_rise j k a b lt x y = rising_slots 0 slots (λ q i h. stands_position es q i (stands q i h)) j k a b lt x y
 
-  slots_rise : Rising (items_in slots)
-  slots_rise j k a b lt x y = rising_slots 0 slots (λ q i h. stands_position es q i (s.stands q i h)) j k a b lt x y
-
-  pub slots_fit : OneReply es → AllSlotted es slots → Fits es (items_in slots)
-  slots_fit one all = record {
-    rising = slots_rise;
-    placed = λ k i h. let at = stands_in k i h in stands_placed es at.0 i at.1;
-    answered = λ id reply at r.
-        let there = all id reply at r in
+  pub items_fit : (Place : CallId → ℕ → Op → Reply → ℕ → Type 0) (IsKept : Reply → Type 0) → ((q : ℕ) (i : Item) → slice_get slots q ≡ Some (Some i) → IsPlaced Place es i) → ((id : CallId) (reply : Reply) (at : ℕ) → IsRepliedAt es id reply at → IsKept reply → HasSlot slots id reply) → AllGone es slots → OneReply es → FitsBy Place IsKept es (items_in slots)
+  items_fit Place IsKept placed answered failures one = record {
+    rising = items_rise;
+    placed = λ k i h. let at = in_slot slots k i h in placed at.0 i at.1;
+    answered = λ id reply at r is_kept.
+        let there = answered id reply at r is_kept in
         let place = slot_in slots there.0 (Answered there.1 id there.2 there.3 reply) there.4 in
         (place.0, there.1, there.2, there.3, place.1);
     gone = λ node incarnation at d.
-        let there = s.failures node incarnation at d in
+        let there = failures node incarnation at d in
         slot_in slots there.0 (Gone at node incarnation) there.1;
     once = λ j k a b id x y e f.
         let first = stands_in j a x in
@@ -386,11 +384,19 @@ module _ (shape : ShapeFields) (es : List Entry) (slots : Slots) (s : Slotted sh
         elim (cases_order j k) [
           | inl equal ↦ equal
           | inr apart ↦ elim apart [
-            | inl lt ↦ absurd (let rises = slots_rise j k a b lt x y in omega arith)
-            | inr gt ↦ absurd (let rises = slots_rise k j b a gt y x in omega arith)
+            | inl lt ↦ absurd (let rises = items_rise j k a b lt x y in omega arith)
+            | inr gt ↦ absurd (let rises = items_rise k j b a gt y x in omega arith)
           ]
         ];
   }
+
+-- the items of the slots are a history that fits, is legal, and has each call at its place
+module _ (shape : ShapeFields) (es : List Entry) (slots : Slots) (s : Slotted shape es slots) where
+  pub slots_at_their_places : OneReply es → AllSlotted es slots → EachAtItsPlace es (items_in slots)
+  slots_at_their_places one all = items_fit es slots s.stands (IsAtItsPlace es) (λ reply. ⊤) (λ q i h. stands_at_place es q i (s.stands q i h)) (λ id reply at r kept. all id reply at r) s.failures one
+
+  pub slots_fit : OneReply es → AllSlotted es slots → Fits es (items_in slots)
+  slots_fit one all = items_fit es slots s.stands (IsOpenAt es) (λ reply. ⊤) (λ q i h. stands_placed es q i (s.stands q i h)) (λ id reply at r kept. all id reply at r) s.failures one
 
   pub slots_legal : (w : WorldState) → Leads (first_world shape) es w → Legal empty_table (items_in slots) (union w)
   slots_legal w l = legal_union shape es slots s.long s.steps w l
