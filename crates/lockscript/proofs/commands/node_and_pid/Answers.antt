@@ -2,7 +2,7 @@ use Rattle.std.specs.Fmt.{decimal}
 use Rattle.model.specs.Limits.{IsNumber, most_nodes, most_processes}
 use Rattle.lockscript.proofs.Pairs.{reads-pair, reads-pair_none}
 use Rattle.lockscript.proofs.SingleWords.{node_words}
-use Rattle.lockscript.proofs.commands.retry_operands.Goals as goal
+use Rattle.lockscript.proofs.commands.node_and_pid.Goals as goal
 
 pub returns-in-None : goal.returns-in-None
 returns-in-None c = reads-pair_none decimal decimal (IsNumber most_nodes) (IsNumber most_processes) c.args.text.now node_words c.in-None.ensures
