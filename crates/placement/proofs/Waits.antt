@@ -1,16 +1,17 @@
--- Replies of calls that wait.
-use Rattle.std.proofs.Common.{◌≡◌, ◌≢◌, ℕ, Bool, true, false, if◌then◌else◌, ℤ, Some, None, Result, Ok, Err, refl, sym, ◌∙◌, subst}
+-- Replies of calls that wait, and of those that do not.
+use Rattle.std.proofs.Common.{◌≡◌, ◌≢◌, ℕ, ℤ, Some, Ok, refl}
+use Rattle.model.specs.declared.lock_info.LockInfo.{LockInfo}
 use Rattle.model.specs.declared.mode.Mode.{Mode}
 use Rattle.model.specs.declared.owner.Kind.{Kind}
 use Rattle.model.specs.declared.op.Op.{Op}
 use Rattle.model.specs.declared.op.Op.TheVariants.{Spawn, Fork, Open, Dup, Close, Exit, Set, Wait, Unlock, Query}
 use Rattle.model.specs.declared.process.Process.{Process}
 use Rattle.model.specs.declared.reply.Reply.{Reply}
-use Rattle.model.specs.declared.reply.Reply.TheVariants.{Done, NoLocks, Interrupted}
-use Rattle.model.specs.Table.{Table, Target, target, lock_within}
-use Rattle.model.specs.Step.{Step}
+use Rattle.model.specs.declared.reply.Reply.TheVariants.{Blocked, Interrupted}
+use Rattle.model.specs.Table.{Table, Target, target}
+use Rattle.model.specs.Step.{BlocksCall, Step}
 use Rattle.model.specs.Replay.{NeverAnswers, NamesNoLock}
-use Rattle.model.proofs.ReplayLaws.{IsTarget, target-is, replies_are_one, close_never-interrupted, dup_never-interrupted, exit_never-interrupted, fork_never-interrupted, open_never-interrupted, query_never-interrupted, set_never-interrupted, spawn_never-interrupted, unlock_never-interrupted}
+use Rattle.model.proofs.ReplayLaws.{replies_are_one, blocked-waits, close_never-blocked, close_never-interrupted, dup_never-blocked, dup_never-interrupted, exit_never-blocked, exit_never-interrupted, fork_never-blocked, fork_never-interrupted, open_never-blocked, open_never-interrupted, query_never-interrupted, set_never-blocked, set_never-interrupted, spawn_never-blocked, spawn_never-interrupted, unlock_never-blocked, unlock_never-interrupted, wait_never-blocked}
 use Rattle.placement.specs.Waits.{GoesOn}
 
 -- a call that the table answers by an interrupt gets no other reply that names no lock
@@ -31,14 +32,19 @@ pub one_answer : (t : Table) (p : Process) (op : Op) (a b : Reply) (n m : Table)
 one_answer t p op Interrupted b n m goes none own h k = absurd (interrupted_one t p op b n m goes none own h k)
 one_answer t p op a b n m goes none own h k = replies_are_one t p op a b n m (λ e. cc) (none, own) h k
 
--- a test that fails is no interrupt
-pub refused-goes_on : (t : Table) (p : Process) (fd : ℕ) (kind : Kind) (mode : Mode) (start len : ℤ) (e : Reply) → target t p (Some mode) fd kind start len ≡ Err e → GoesOn t p (Wait fd kind mode start len) e
-refused-goes_on t p fd kind mode start len e is stuck = absurd ((subst IsTarget is (target-is t p (Some mode) fd kind start len)).1 (sym stuck))
+-- none but a query is told of a lock that would block
+pub only_queries-blocked : (t : Table) (p : Process) (op : Op) (lock : LockInfo) → ((fd : ℕ) (kind : Kind) (mode : Mode) (start len : ℤ) → op ≢ Query fd kind mode start len) → NeverAnswers t p op (Blocked lock)
+only_queries-blocked t p Spawn lock none = spawn_never-blocked t p lock
+only_queries-blocked t p (Fork child) lock none = fork_never-blocked t p child lock
+only_queries-blocked t p (Open file access) lock none = open_never-blocked t p file access lock
+only_queries-blocked t p (Dup fd) lock none = dup_never-blocked t p fd lock
+only_queries-blocked t p (Close fd) lock none = close_never-blocked t p fd lock
+only_queries-blocked t p Exit lock none = exit_never-blocked t p lock
+only_queries-blocked t p (Set fd kind mode start len) lock none = set_never-blocked t p fd kind mode start len lock
+only_queries-blocked t p (Wait fd kind mode start len) lock none = wait_never-blocked t p fd kind mode start len lock
+only_queries-blocked t p (Unlock fd kind start len) lock none = unlock_never-blocked t p fd kind start len lock
+only_queries-blocked t p (Query fd kind mode start len) lock none = absurd (none fd kind mode start len refl)
 
--- nor is what is locked
-locked_reply : (b : Bool) (t u : Table) → (if b then (t, Done) else (u, NoLocks)).1 ≢ Interrupted
-locked_reply true t u e = cc
-locked_reply false t u e = cc
-
-pub locked-goes_on : (t : Table) (p : Process) (fd : ℕ) (kind : Kind) (mode : Mode) (start len : ℤ) (c : Target) (reply : Reply) → reply ≡ (lock_within t c (Some mode)).1 → GoesOn t p (Wait fd kind mode start len) reply
-locked-goes_on t p fd kind mode start len c reply is stuck = absurd (locked_reply _ _ _ (sym is ∙ stuck))
+-- a wait that a lock blocks goes on
+pub blocked-goes_on : (t : Table) (p : Process) (fd : ℕ) (kind : Kind) (mode : Mode) (start len : ℤ) (lock : LockInfo) (c : Target) (reply : Reply) → target t p (Some mode) fd kind start len ≡ Ok c → BlocksCall t c mode lock → GoesOn t p (Wait fd kind mode start len) reply
+blocked-goes_on t p fd kind mode start len lock c reply is blocks e other none own = blocked-waits t p fd kind mode start len lock c other is blocks (none, own)
