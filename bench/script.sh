@@ -17,6 +17,8 @@
 # churn    a process of one node forks children, 64 at once: each opens one of four files, locks bytes of it for itself and
 #          for the description, closes one of its two descriptors of that, locks again and exits; the node's token
 #          covers all of it
+# turns    a process on each of 64 nodes waits for one byte: the one that has it unlocks it, the next one gets it, and it
+#          waits for it again, behind all others
 kind=${1:?usage: script.sh KIND LINES}
 lines=${2:?usage: script.sh KIND LINES}
 exec awk -v kind="$kind" -v lines="$lines" '
@@ -172,6 +174,22 @@ function churn() {
     }
 }
 
+function turns() {
+    put("cluster nodes 64 files 1 policy exact")
+    for (node = 1; node <= 64; node++) {
+        begin(node, 1)
+        put("call " node " 1 wait 0 proc write 0 1")
+    }
+    put("settle")
+    for (number = 0; written < lines; number++) {
+        caller = "call " number % 64 + 1 " 1 "
+        put(caller "unlock 0 proc 0 1")
+        put("settle")
+        put(caller "wait 0 proc write 0 1")
+        put("settle")
+    }
+}
+
 BEGIN {
     if (kind == "covered")
         covered()
@@ -189,6 +207,8 @@ BEGIN {
         walk()
     else if (kind == "churn")
         churn()
+    else if (kind == "turns")
+        turns()
     else
         exit 2
 }'
