@@ -157,7 +157,8 @@ impl Node {
         self.revoke(alloc, command, wanted)
     }
 
-    // A call that may be open no longer is answered with the lock in its way; one that waits stays open.
+    // A call that may be open no longer is answered with the lock in its way; one that waits stays
+    // open.
     fn deny(&self, alloc: Global, call: Option<OpenCall>, lock: LockInfo) -> Effect
         requires { IfSome call (IsCallOf (node_state self.now)) }
         ensures value { denied (node_state self.now) lock call ≡ effect_of self.now result }

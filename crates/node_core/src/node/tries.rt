@@ -260,7 +260,13 @@ impl Node {
         ensures fits { IfOk result (λ effect. PartsFit self.now effect.edit) }
     {
         match call.intent {
-            Intent::Set | Intent::Wait => self.lock(alloc, draft, call.number, call.target(), Some(call.mode)),
+            Intent::Set | Intent::Wait => self.lock(
+                alloc,
+                draft,
+                call.number,
+                call.target(),
+                Some(call.mode),
+            ),
             Intent::Query => Ok(self.answer(alloc, draft, None, call.number, Reply::Free)),
         }
     }
