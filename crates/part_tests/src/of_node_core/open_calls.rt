@@ -1,8 +1,11 @@
 //! Open calls, by hand-made calls.
 use intervals::span::Span;
+use messages::message::Urgency;
 use messages::refusal::StepError;
+use model::lock_info::LockInfo;
 use model::mode::Mode;
 use model::owner::{Kind, Owner};
+use model::reply::Reply;
 use node_core::open_call::{Intent, OpenCall};
 use node_core::open_calls::{CallsEdit, OpenCalls};
 use std::alloc::{AllocError, Global};
@@ -22,6 +25,30 @@ fn call(number: u32, pid: u16) -> OpenCall {
         },
         mode: Mode::Read,
         span: Span { lo: 0, hi: 9 },
+    }
+}
+
+#[test]
+fn a_wait_alone_is_not_refused_and_is_interrupted(rt: HostRuntime) {
+    let its = call(1, 1);
+    let lock = LockInfo {
+        owner: its.owner,
+        mode: its.mode,
+        span: its.span,
+    };
+    for (intent, refusal, urgency, interruption) in [
+        (Intent::Set, Some(Reply::Again(lock)), Urgency::Now, None),
+        (Intent::Wait, None, Urgency::Waits, Some(Reply::Interrupted)),
+        (
+            Intent::Query,
+            Some(Reply::Blocked(lock)),
+            Urgency::Now,
+            None,
+        ),
+    ] {
+        assert_eq!(rt; intent.refusal(lock), refusal);
+        assert_eq!(rt; intent.urgency(), urgency);
+        assert_eq!(rt; intent.interruption(), interruption);
     }
 }
 
