@@ -497,10 +497,7 @@ fn a_retry_asks_again_with_its_own_number(rt: HostRuntime) -> Result<(), Fail> {
 fn a_wait_stays_open_until_it_is_interrupted_or_locks(rt: HostRuntime) -> Result<(), Fail> {
     let alloc = rt.alloc();
     let moves = [
-        answered(call(2, Op::Spawn), 4, Reply::Done),
-        answered(call(2, OPEN), 5, Reply::Fd(0)),
         waits(wait_ten(2, 50), 6),
-        quiet(interrupt(1), None),
         denied(interrupt(2), 6, Reply::Interrupted),
         waits(wait_ten(2, 50), 7),
         quiet(NodeEvent::Retry { pid: 2 }, None),
@@ -508,6 +505,7 @@ fn a_wait_stays_open_until_it_is_interrupted_or_locks(rt: HostRuntime) -> Result
         denied(NodeEvent::Retry { pid: 2 }, 7, Reply::Done),
     ];
     let mut node = locks(alloc, Policy::Exact, HUNDRED)?;
+    goes_on(alloc, &mut node, &[call(2, Op::Spawn), call(2, OPEN)])?;
     assert_eq!(rt; first_wrong(alloc, &mut node, &moves)?, None);
     Ok(())
 }

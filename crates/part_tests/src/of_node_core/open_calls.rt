@@ -28,28 +28,38 @@ fn call(number: u32, pid: u16) -> OpenCall {
     }
 }
 
+// A lock in the way of a call.
+const LOCK: LockInfo = LockInfo {
+    owner: Owner {
+        node: 2,
+        incarnation: 1,
+        kind: Kind::OfProcess,
+        number: 1,
+    },
+    mode: Mode::Read,
+    span: Span { lo: 0, hi: 9 },
+};
+
+// Whether the lock and an interrupt are answered so, and whether a server may put the call off.
+fn is_answered(
+    intent: Intent,
+    refusal: Option<Reply>,
+    interruption: Option<Reply>,
+    urgency: Urgency,
+) -> bool {
+    intent.refusal(LOCK) == refusal
+        && intent.interruption() == interruption
+        && intent.urgency() == urgency
+}
+
 #[test]
-fn a_wait_alone_is_not_refused_and_is_interrupted(rt: HostRuntime) {
-    let its = call(1, 1);
-    let lock = LockInfo {
-        owner: its.owner,
-        mode: its.mode,
-        span: its.span,
-    };
-    for (intent, refusal, urgency, interruption) in [
-        (Intent::Set, Some(Reply::Again(lock)), Urgency::Now, None),
-        (Intent::Wait, None, Urgency::Waits, Some(Reply::Interrupted)),
-        (
-            Intent::Query,
-            Some(Reply::Blocked(lock)),
-            Urgency::Now,
-            None,
-        ),
-    ] {
-        assert_eq!(rt; intent.refusal(lock), refusal);
-        assert_eq!(rt; intent.urgency(), urgency);
-        assert_eq!(rt; intent.interruption(), interruption);
-    }
+fn a_wait_alone_stays_open_until_it_is_interrupted(rt: HostRuntime) {
+    let again = Some(Reply::Again(LOCK));
+    let blocked = Some(Reply::Blocked(LOCK));
+    let interrupted = Some(Reply::Interrupted);
+    assert!(rt; is_answered(Intent::Set, again, None, Urgency::Now));
+    assert!(rt; is_answered(Intent::Wait, None, interrupted, Urgency::Waits));
+    assert!(rt; is_answered(Intent::Query, blocked, None, Urgency::Now));
 }
 
 // No open calls, in a box: a test keeps no others, since these are dropped in fewer steps, each of
