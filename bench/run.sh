@@ -10,7 +10,7 @@ if [ -z "$folder" ]; then
     folder=$(mktemp -d) || exit 1
     trap 'rm -rf "$folder"' EXIT
 fi
-[ $# -gt 0 ] || set -- covered readers lossy fight storm crowd walk churn turns
+[ $# -gt 0 ] || set -- covered readers lossy fight storm crowd walk churn failures turns
 "$here/../lockreplay" --help >/dev/null || exit 1
 
 # Runs the program so many times. Prints the processor seconds of the fastest run, and the peak memory in kilobytes.
@@ -48,6 +48,7 @@ for kind in "$@"; do
         fight) share=38 ;;
         storm) share=75 ;;
         walk) share=25 ;;
+        failures) share=88 ;;
         turns) share=3 start=190 ;;
         *) share=100 ;;
     esac

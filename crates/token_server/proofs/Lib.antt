@@ -7,3 +7,4 @@ pub mod ServeLaws
 pub mod EditLaws
 pub mod ViewLaws
 pub mod RefusalLaws
+pub mod CareLaws
