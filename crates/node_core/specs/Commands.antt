@@ -20,7 +20,7 @@ use Rattle.messages.specs.declared.outcome.Outcome.{Outcome}
 use Rattle.messages.specs.declared.actor.Actor.{Actor}
 use Rattle.messages.specs.declared.actor.Actor.TheVariants.{Node as ANode, Server as AServer}
 use Rattle.messages.specs.Messages.{addressee, host_of, file_of, is_within}
-use Rattle.node_core.specs.State.{NodeState, Effect, with_file, quiet, sent, answered, host, outcome, open_call}
+use Rattle.node_core.specs.State.{NodeState, Effect, with_file, quiet, sent, host, outcome, open_call}
 use Rattle.node_core.specs.Try.{refusal_of, answered_if, tried_if}
 
 -- the answer to the last command is sent again

@@ -2,6 +2,7 @@
 ghost use Rattle.std.specs.Prelude.{◌≡◌, ◌↔◌, IsTrue};
 ghost use Rattle.node_core.specs.State.{target_of};
 ghost use Rattle.node_core.specs.Try.{refusal_of, urgency_of};
+ghost use Rattle.node_core.specs.Interrupts.{interruption_of};
 
 use intervals::span::Span;
 use messages::message::Urgency;
@@ -31,6 +32,16 @@ impl Intent {
             Intent::Set => Some(Reply::Again(lock)),
             Intent::Wait => None,
             Intent::Query => Some(Reply::Blocked(lock)),
+        }
+    }
+
+    /// What an interrupt answers: a wait alone (POSIX.1-2017 `fcntl()`, EINTR).
+    pub fn interruption(self) -> Option<Reply>
+        ensures { result ≡ interruption_of self }
+    {
+        match self {
+            Intent::Wait => Some(Reply::Interrupted),
+            Intent::Set | Intent::Query => None,
         }
     }
 
