@@ -18,9 +18,9 @@ use Rattle.cluster_core.specs.Histories.{caller, ItemStep, Legal, IsReadOnly, mo
 
 -- the reply to a call that is denied names a lock
 pub refusal_names : (i : Intent) (lock : LockInfo) (reply : Reply) → refusal_of i lock ≡ Some reply → NamesNoLock reply → ⊥
-refusal_names intent.Set lock reply is none = (none lock).0 (sym (same_Some (Again lock) reply is))
+refusal_names intent.Set lock reply is none = (none lock).0 (same_Some (Again lock) reply is)
 refusal_names intent.Wait lock reply is none = none-some reply is
-refusal_names intent.Query lock reply is none = (none lock).1 (sym (same_Some (Blocked lock) reply is))
+refusal_names intent.Query lock reply is none = (none lock).1 (same_Some (Blocked lock) reply is)
 
 -- a call that names a lock leaves the table as it was
 pub again_stays : (t u : Table) (p : Process) (op : Op) (lock : LockInfo) → Step t p op (Again lock) u → u ≡ t

@@ -301,7 +301,7 @@ lock_step : (t : Table) (c : Target) (mode : Mode) → Unblocked t c mode → (l
 lock_step t c mode free =
     let few = nat_le (regions_with t c (Some mode)) most_regions in
     let out : Bool → Table × Reply = λ b. if b then (locked t c (Some mode), Done) else (t, NoLocks) in
-    let made : (b : Bool) → few ≡ b → Is (out few) (out b).1 (out b).0 = λ b h. (ap (λ x. (out x).1) h, ap (λ x. (out x).0) h) in
+    let made : (b : Bool) → few ≡ b → Is (out few) (out b).1 (out b).0 = λ b h. (ap (λ x. (out x).1) (sym h), ap (λ x. (out x).0) (sym h)) in
     elim few as (λ b. few ≡ b → SetStep t mode (out b).1 (out b).0 c × WaitStep t mode (out b).1 (out b).0 c) [
       | true ↦ λ h. ((free, made true h), (free, made true h))
       | false ↦ λ h. ((free, made false h), (free, made false h))
