@@ -16,7 +16,7 @@ use Rattle.messages.specs.declared.actor.Actor.TheVariants.{Node as ANode, Serve
 use Rattle.messages.specs.declared.message.Message.{Message}
 use Rattle.messages.specs.declared.message.Message.TheVariants.{Grant, Revoke, Deny}
 use Rattle.messages.specs.declared.event.Event.{Event}
-use Rattle.messages.specs.declared.event.Event.TheVariants.{Call, Deliver, Retry, Resend, Declare, Restart, Learn}
+use Rattle.messages.specs.declared.event.Event.TheVariants.{Call, Deliver, Interrupt, Retry, Resend, Declare, Restart, Learn}
 use Rattle.messages.specs.declared.entry.Entry.{Entry}
 use Rattle.messages.specs.declared.outcome.Outcome.{Outcome}
 use Rattle.messages.specs.declared.refusal.StepError.{StepError}
@@ -27,6 +27,7 @@ use Rattle.node_core.specs.declared.open_call.OpenCall.{OpenCall}
 use Rattle.node_core.specs.Try.{tried_if}
 use Rattle.node_core.specs.Calls.{after_call, called}
 use Rattle.node_core.specs.Commands.{delivered, deliver_rule}
+use Rattle.node_core.specs.Interrupts.{interrupted}
 use Rattle.node_core.specs.Node.{node_rule}
 use Rattle.token_server.specs.declared.event.ServerEvent.TheVariants as server
 use Rattle.token_server.specs.State.{ServerState, forgotten, requeued}
@@ -41,12 +42,12 @@ use Rattle.cluster_core.specs.Numbers.{is_command, number_of, NumbersTellCommand
 use Rattle.cluster_core.proofs.common.Choices.{at_number}
 use Rattle.cluster_core.proofs.common.Refusals.{ok_is, unless_refused}
 use Rattle.cluster_core.proofs.steps.KnownMessages.{sent_before, sent_now, sent_either}
-use Rattle.cluster_core.proofs.steps.NodeSteps.{call_done, deliver_done, retry_done}
+use Rattle.cluster_core.proofs.steps.NodeSteps.{call_done, deliver_done, interrupt_done, retry_done}
 use Rattle.cluster_core.proofs.steps.Steps.{next_taken, node_step, server_step, declare_step, restart_step}
 use Rattle.cluster_core.proofs.tokens.Lowering.{IsWithin, within_itself, within_excludes}
 use Rattle.cluster_core.proofs.tokens.Talks.{Sent, IsHostOf, IsCommandTo, IsAnswerOf, same_answer_of, no_answer, command_host, answer_host, unasked, Talk, MayHold}
 use Rattle.cluster_core.proofs.tokens.TalkMoves.{NoNews, talk-no_news, may_hold-no_news, IsDoing, done_file, talk-does, may_hold-does, IsCommanding}
-use Rattle.cluster_core.proofs.steps.NodeTokens.{Only, IsAsking, asking_host, asking_command, asking_answer, AsksFrom, Does, Receives, called_asks, quiet_asks, tried_if_asks, denied_asks, grant_receives, revoke_receives, first_among, only_none, only_one, only_mapped}
+use Rattle.cluster_core.proofs.steps.NodeTokens.{Only, IsAsking, asking_host, asking_command, asking_answer, AsksFrom, Does, Receives, called_asks, quiet_asks, tried_if_asks, denied_asks, interrupted_asks, grant_receives, revoke_receives, first_among, only_none, only_one, only_mapped}
 use Rattle.cluster_core.proofs.steps.ServerRows.{IsCurrent, Serves, forgets, requeues, IsDenial, denial_command, denial_answer, denial_known, Commands, Served, receives, outstanding_sent, serve_serves}
 use Rattle.cluster_core.proofs.tokens.Members.{declared_present, restarted_present, silent_present}
 use Rattle.cluster_core.proofs.tokens.Present.{Was, Holding, StayApart, Present, serves-no_news, apart-no_news, nothing_new, files_no_news, commanded_serves, commanded_apart}
@@ -328,6 +329,10 @@ module _ (w : WorldState) (p : Present w) where
   pub try_present : (n : ℕ) (event : Event) (c : Option OpenCall) → Present (recorded (with_node w n (tried_if (w.nodes n) c).state) event 0 (outcome None (tried_if (w.nodes n) c)).1).0
   try_present n event c = asking_present n event None (tried_if (w.nodes n) c) (tried_if_asks (w.nodes n) c)
 
+  -- an interrupt of one
+  interrupt_present : (n : ℕ) (event : Event) (c : Option OpenCall) → Present (recorded (with_node w n (interrupted (w.nodes n) c).state) event 0 (outcome None (interrupted (w.nodes n) c)).1).0
+  interrupt_present n event c = asking_present n event None (interrupted (w.nodes n) c) (interrupted_asks (w.nodes n) c)
+
   call_present : (n pid : ℕ) (op : Op) → Present (recorded (with_node w n (after_call (w.nodes n) pid op).0) (Call n pid op) 0 (after_call (w.nodes n) pid op).1).0
   call_present n pid op =
       let s = w.nodes n in
@@ -417,6 +422,11 @@ module _ (w : WorldState) (p : Present w) where
       node_step w (λ x. Present x.0) (Call n pid op) n (node_rule s (node.Call pid op)) q
       (λ done is. subst P (call_done s pid op done is) (call_present n pid op)) h
   taken_present (Deliver m) q known h = message_present m (addressee m) q (and_parts (has_actor w (addressee m)) (is_among w.sent m) known).1 refl h
+  taken_present (Interrupt n pid) q known h =
+      let s = w.nodes n in
+      let P : NodeState × Outcome → Type 0 = λ d. Present (recorded (with_node w n d.0) (Interrupt n pid) 0 d.1).0 in
+      node_step w (λ x. Present x.0) (Interrupt n pid) n (node_rule s (node.Interrupt pid)) q
+      (λ done is. subst P (interrupt_done s pid done is) (interrupt_present n (Interrupt n pid) (open_call_of s pid))) h
   taken_present (Retry n pid) q known h =
       let s = w.nodes n in
       let P : NodeState × Outcome → Type 0 = λ d. Present (recorded (with_node w n d.0) (Retry n pid) 0 d.1).0 in
