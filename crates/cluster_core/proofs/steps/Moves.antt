@@ -163,12 +163,12 @@ module _ (past : List Entry) (s : NodeState) (holds : Holds past s) where
       let test : OpenCall → Bool = λ c. c.pid == pid in
       let told : Effect → Entry = λ e. entry event incarnation (outcome None e).1 in
       interrupted_either (λ e. Receives past s e.state (told e)) s (open_call_of s pid) (λ c h waits.
-          let o = All-contains (IsOpen past s) s.pending c holds.waiting (found_open test s.pending c h).0 in
-          let u = without_call s c.number in
-          record {
-            moves = answer_moves past (told (answered s c.number Interrupted)) s u c o undenied (same_continues s u.pending holds.own) refl refl (interrupted_ends s c o.op waits o.ready) holds;
-            idle = λ empty. absurd (found_none test s.pending c empty h);
-          }) (nothing_receives (told (quiet s)) refl refl)
+      let o = All-contains (IsOpen past s) s.pending c holds.waiting (found_open test s.pending c h).0 in
+      let u = without_call s c.number in
+      record {
+        moves = answer_moves past (told (answered s c.number Interrupted)) s u c o undenied (same_continues s u.pending holds.own) refl refl (interrupted_ends s c o.op waits o.ready) holds;
+        idle = λ empty. absurd (found_none test s.pending c empty h);
+      }) (nothing_receives (told (quiet s)) refl refl)
 
   -- a grant: the call that it was for is tried
   granted_receives : (event : Event) (file number : ℕ) (call : CallId) (mode : Mode) (span : Range) → IsNoDenial event → Receives past s (granted s file number call mode span).state (said event (granted s file number call mode span))
