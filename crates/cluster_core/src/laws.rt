@@ -42,8 +42,8 @@ pub fn every_denial_has_evidence()
     ensures { EveryDenialHasEvidence }
 {}
 
-/// In no run does a server deny a call that waits (POSIX.1-2017 `fcntl()`, F_SETLKW): where a lock of
-/// another node is in its way its request waits at the server.
+/// Whatever calls come, and however messages fare: no server denies a call that waits (POSIX.1-2017
+/// `fcntl()`, F_SETLKW). Nobody tells it of a lock in its way.
 pub fn no_wait_is_denied()
     ensures { NoWaitIsDenied }
 {}
