@@ -10,7 +10,7 @@ if [ -z "$folder" ]; then
     folder=$(mktemp -d) || exit 1
     trap 'rm -rf "$folder"' EXIT
 fi
-[ $# -gt 0 ] || set -- covered readers lossy fight storm crowd walk churn
+[ $# -gt 0 ] || set -- covered readers lossy fight storm crowd walk churn failures
 "$here/../lockreplay" --help >/dev/null || exit 1
 
 # Runs the program so many times. Prints the processor seconds of the fastest run, and the peak memory in kilobytes.
@@ -47,6 +47,7 @@ for kind in "$@"; do
         fight) share=38 ;;
         storm) share=75 ;;
         walk) share=25 ;;
+        failures) share=88 ;;
         *) share=100 ;;
     esac
     first=

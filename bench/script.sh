@@ -17,6 +17,8 @@
 # churn    a process of one node forks children, 64 at once: each opens one of four files, locks bytes of it for itself and
 #          for the description, closes one of its two descriptors of that, locks again and exits; the node's token
 #          covers all of it
+# failures 16 nodes lock the same bytes by turns: the one that has them is declared failed, the next one gets them once the
+#          server knows, and the failed node begins again
 kind=${1:?usage: script.sh KIND LINES}
 lines=${2:?usage: script.sh KIND LINES}
 exec awk -v kind="$kind" -v lines="$lines" '
@@ -172,6 +174,24 @@ function churn() {
     }
 }
 
+# Each node fails while the next one asks for the bytes that it has locked; the next one gets them once the server knows.
+function failures() {
+    put("cluster nodes 16 files 1 policy wide")
+    for (round = 0; written < lines; round++) {
+        node = round % 16 + 1
+        begin(node, 1)
+        put("call " node " 1 set 0 proc write 0 100")
+        if (round > 0) {
+            holder = (round - 1) % 16 + 1
+            put("declare " holder)
+            put("settle")
+            put("learn 1 " holder " " 1 + int((round - 1) / 16))
+            put("restart " holder)
+        }
+        put("settle")
+    }
+}
+
 BEGIN {
     if (kind == "covered")
         covered()
@@ -189,6 +209,8 @@ BEGIN {
         walk()
     else if (kind == "churn")
         churn()
+    else if (kind == "failures")
+        failures()
     else
         exit 2
 }'

@@ -1,7 +1,7 @@
 use Rattle.std.specs.Prelude.{All}
 use Rattle.std.proofs.Common.{sym, subst}
 use Rattle.token_server.proofs.RequestLaws.{IsAtCall, All-rest, unique-same_call}
-use Rattle.token_server.proofs.requests.Requests.take_first.Goals as goal
+use Rattle.token_server.proofs.by_call.ByCall.take_first.Goals as goal
 
 pub invariant_of-self-2 : goal.invariant_of-self-2
 invariant_of-self-2 c = record {

@@ -5,7 +5,7 @@ use Rattle.std.proofs.lemmas.List.Elements.{All-filter}
 use Rattle.indexmap.proofs.CallerLemmas.{filter-RetainsPairs}
 use Rattle.token_server.specs.State.{is_up_to}
 use Rattle.token_server.proofs.RequestLaws.{IsAtCall, filter-values, unique-same_call}
-use Rattle.token_server.proofs.requests.Requests.forget.Goals as goal
+use Rattle.token_server.proofs.by_call.ByCall.forget.Goals as goal
 
 kept : (c : goal.After-retain) → c.retain.new.self.entries ≡ filter (λ e. not (is_up_to c.args.node c.args.incarnation e.1)) c.self.inside.requests.entries
 kept c = filter-RetainsPairs _ _ _ (λ k v b w g call. search rules) _ _ c.retain.ensures.filtered
