@@ -20,7 +20,7 @@ use Rattle.token_server.specs.declared.event.ServerEvent.TheVariants.{Deliver, R
 use Rattle.token_server.specs.State.{Row, ServerState, is_of_call, is_up_to, forgotten, requests, requeued}
 use Rattle.token_server.specs.Serve.{admitted, conflicting_node, commanded, granted_to, revoked_from, served, serve}
 use Rattle.token_server.specs.Resends.{outstanding, sending_first}
-use Rattle.token_server.specs.Server.{Change, with_a_row, is_active, request_of, enqueued_with, enqueued, asked, is_grant, revoked_mode, acknowledged, ended, put_off, postponed, denial, taken, released, in_conflict, row_of_host, freed, delivered, is_server, change, then_serve, learn_rule}
+use Rattle.token_server.specs.Server.{Change, with_a_row, is_active, request_of, enqueued_with, enqueued, asked, is_grant, revoked_mode, acknowledged, ended, put_off, postponed, denial, taken, released, in_conflict, row_of_host, freed, delivered, is_server, then_serve}
 use Rattle.token_server.specs.Waiting.{KeepsWhatWaits}
 
 -- the call has one of the requests
