@@ -8,3 +8,4 @@ pub mod EditLaws
 pub mod ViewLaws
 pub mod RefusalLaws
 pub mod CareLaws
+pub mod WaitLaws

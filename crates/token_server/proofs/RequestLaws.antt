@@ -1,9 +1,9 @@
 -- Requests by their calls, and as a list.
-use Rattle.std.specs.Prelude.{◌≡◌, Bool, true, false, cond, ◌||◌, ◌&&◌, List, [], ◌∷◌, All, filter, find, drop, Option, None, Some, is_some, refl}
+use Rattle.std.specs.Prelude.{◌≡◌, Bool, true, false, cond, ◌||◌, ◌&&◌, List, [], ◌∷◌, All, filter, find, drop, Some, is_some, refl}
 use Rattle.std.specs.List.{list_any}
 use Rattle.std.specs.Map.{values_of, lookup}
 use Rattle.std.specs.Cmp.{nat_eq_equiv}
-use Rattle.std.proofs.Common.{ap, sym, subst, ◌∙◌, rules}
+use Rattle.std.proofs.Common.{ap, subst, ◌∙◌, rules}
 use Rattle.std.proofs.lemmas.List.Elements.{All-head, All-tail}
 use Rattle.model.specs.declared.call.CallId.{CallId}
 use Rattle.model.specs.contracts.call.CallIdPartialEq.TheImpl as derived
