@@ -112,6 +112,22 @@ fn query_ten(pid: u16, start: i64) -> NodeEvent {
     call(pid, op)
 }
 
+// A process waits for a lock on the ten bytes from that one on.
+fn wait_ten(pid: u16, start: i64) -> NodeEvent {
+    let op = Op::Wait {
+        fd: 0,
+        kind: Kind::OfProcess,
+        mode: Mode::Write,
+        start,
+        len: 10,
+    };
+    call(pid, op)
+}
+
+fn interrupt(pid: u16) -> NodeEvent {
+    NodeEvent::Interrupt { pid }
+}
+
 fn id(number: u32) -> CallId
     requires { 1 ≤ number }
 {
@@ -122,14 +138,20 @@ fn id(number: u32) -> CallId
     }
 }
 
-// The call asks for the hundred bytes.
+// The call asks for bytes.
 fn request(number: u32, wanted: Wanted) -> Message
+    requires { 1 ≤ number }
+{
+    request_with(number, Urgency::Now, wanted)
+}
+
+fn request_with(number: u32, urgency: Urgency, wanted: Wanted) -> Message
     requires { 1 ≤ number }
 {
     Message::Request {
         file: 1,
         call: id(number),
-        urgency: Urgency::Now,
+        urgency,
         mode: Mode::Write,
         wanted,
     }
@@ -261,6 +283,19 @@ fn opened(event: NodeEvent, number: u32, message: Message) -> Move
         call: Some(id(number)),
         reply: None,
         message: Some(message),
+        changes: true,
+    }
+}
+
+// A call that stays open and sends nothing.
+fn waits(event: NodeEvent, number: u32) -> Move
+    requires { 1 ≤ number }
+{
+    Move {
+        event,
+        call: Some(id(number)),
+        reply: None,
+        message: None,
         changes: true,
     }
 }
@@ -459,6 +494,42 @@ fn a_retry_asks_again_with_its_own_number(rt: HostRuntime) -> Result<(), Fail> {
 }
 
 #[test]
+fn a_wait_stays_open_until_it_is_interrupted_or_locks(rt: HostRuntime) -> Result<(), Fail> {
+    let alloc = rt.alloc();
+    let moves = [
+        waits(wait_ten(2, 50), 6),
+        denied(interrupt(2), 6, Reply::Interrupted),
+        waits(wait_ten(2, 50), 7),
+        quiet(NodeEvent::Retry { pid: 2 }, None),
+        answered(unlock_middle(1), 8, Reply::Done),
+        denied(NodeEvent::Retry { pid: 2 }, 7, Reply::Done),
+    ];
+    let mut node = locks(alloc, Policy::Exact, HUNDRED)?;
+    goes_on(alloc, &mut node, &[call(2, Op::Spawn), call(2, OPEN)])?;
+    assert_eq!(rt; first_wrong(alloc, &mut node, &moves)?, None);
+    Ok(())
+}
+
+#[test]
+fn a_wait_is_never_denied_and_a_set_never_interrupted(rt: HostRuntime) -> Result<(), Fail> {
+    let alloc = rt.alloc();
+    let ten = Span { lo: 200, hi: 209 };
+    let asked = request_with(4, Urgency::Waits, Wanted::new(ten, ten));
+    let wanted = request(5, Wanted::new(ten, ten));
+    let moves = [
+        opened(wait_ten(1, 200), 4, asked),
+        quiet(deny(4, lock_of(2, 1)), None),
+        denied(interrupt(1), 4, Reply::Interrupted),
+        opened(set_ten(1, Mode::Write, 200), 5, wanted),
+        quiet(interrupt(1), None),
+        denied(deny(5, lock_of(2, 1)), 5, Reply::Again(lock_of(2, 1))),
+    ];
+    let mut node = locks(alloc, Policy::Exact, HUNDRED)?;
+    assert_eq!(rt; first_wrong(alloc, &mut node, &moves)?, None);
+    Ok(())
+}
+
+#[test]
 fn a_query_names_a_lock_or_is_free_under_the_token(rt: HostRuntime) -> Result<(), Fail> {
     let alloc = rt.alloc();
     let ten = Span { lo: 200, hi: 209 };
@@ -638,6 +709,8 @@ fn refuses_events_of_strangers(rt: HostRuntime) -> Result<(), Fail> {
         call(1, Op::Open { file: 0, access }),
         NodeEvent::Retry { pid: 0 },
         NodeEvent::Retry { pid: 257 },
+        interrupt(0),
+        interrupt(257),
         NodeEvent::Deliver(taken(1, 1)),
         NodeEvent::Deliver(FREED),
     ];

@@ -1,8 +1,11 @@
 //! Open calls, by hand-made calls.
 use intervals::span::Span;
+use messages::message::Urgency;
 use messages::refusal::StepError;
+use model::lock_info::LockInfo;
 use model::mode::Mode;
 use model::owner::{Kind, Owner};
+use model::reply::Reply;
 use node_core::open_call::{Intent, OpenCall};
 use node_core::open_calls::{CallsEdit, OpenCalls};
 use std::alloc::{AllocError, Global};
@@ -23,6 +26,40 @@ fn call(number: u32, pid: u16) -> OpenCall {
         mode: Mode::Read,
         span: Span { lo: 0, hi: 9 },
     }
+}
+
+// A lock in the way of a call.
+const LOCK: LockInfo = LockInfo {
+    owner: Owner {
+        node: 2,
+        incarnation: 1,
+        kind: Kind::OfProcess,
+        number: 1,
+    },
+    mode: Mode::Read,
+    span: Span { lo: 0, hi: 9 },
+};
+
+// Whether the lock and an interrupt are answered so, and whether a server may put the call off.
+fn is_answered(
+    intent: Intent,
+    refusal: Option<Reply>,
+    interruption: Option<Reply>,
+    urgency: Urgency,
+) -> bool {
+    intent.refusal(LOCK) == refusal
+        && intent.interruption() == interruption
+        && intent.urgency() == urgency
+}
+
+#[test]
+fn a_wait_alone_stays_open_until_it_is_interrupted(rt: HostRuntime) {
+    let again = Some(Reply::Again(LOCK));
+    let blocked = Some(Reply::Blocked(LOCK));
+    let interrupted = Some(Reply::Interrupted);
+    assert!(rt; is_answered(Intent::Set, again, None, Urgency::Now));
+    assert!(rt; is_answered(Intent::Wait, None, interrupted, Urgency::Waits));
+    assert!(rt; is_answered(Intent::Query, blocked, None, Urgency::Now));
 }
 
 // No open calls, in a box: a test keeps no others, since these are dropped in fewer steps, each of
