@@ -3,7 +3,7 @@ use Rattle.std.specs.Prelude.{◌≡◌, ℕ, Bool, true, false, ◌+◌, ◌≤
 use Rattle.messages.specs.Shapes.{ShapeFields}
 use Rattle.messages.specs.declared.message.Message.{Message}
 use Rattle.messages.specs.declared.event.Event.{Event}
-use Rattle.messages.specs.declared.event.Event.TheVariants.{Call, Deliver, Retry, Resend, Learn}
+use Rattle.messages.specs.declared.event.Event.TheVariants.{Call, Deliver, Interrupt, Retry, Resend, Learn}
 use Rattle.node_core.specs.declared.event.NodeEvent.{NodeEvent}
 use Rattle.node_core.specs.declared.event.NodeEvent.TheVariants as own
 use Rattle.node_core.specs.Parts.{NodeParts, node_state}
@@ -65,6 +65,7 @@ pub record IsWorld (p : WorldParts) : Type 0 where
 abbrev pub IsTakenByNode : Event → Type 0
 IsTakenByNode (Call n pid op) = Unit {0}
 IsTakenByNode (Deliver m) = Unit {0}
+IsTakenByNode (Interrupt n pid) = Unit {0}
 IsTakenByNode (Retry n pid) = Unit {0}
 IsTakenByNode _ = ⊥
 
@@ -72,6 +73,7 @@ IsTakenByNode _ = ⊥
 abbrev pub IsStepOf : Event → ℕ → NodeEvent → Type 0
 IsStepOf (Call n pid op) node step = (n ≡ node) × (step ≡ own.Call pid op)
 IsStepOf (Deliver m) node step = step ≡ own.Deliver m
+IsStepOf (Interrupt n pid) node step = (n ≡ node) × (step ≡ own.Interrupt pid)
 IsStepOf (Retry n pid) node step = (n ≡ node) × (step ≡ own.Retry pid)
 IsStepOf _ node step = ⊥
 

@@ -1,5 +1,5 @@
 //! What holds of every run of the cluster.
-ghost use Rattle.cluster_core.specs.Evidence.{EveryDenialHasEvidence};
+ghost use Rattle.cluster_core.specs.Evidence.{EveryDenialHasEvidence, NoWaitIsDenied};
 ghost use Rattle.cluster_core.specs.Histories.{EveryRunHasAHistory, QuietItemsMayStandEarlier};
 ghost use Rattle.cluster_core.specs.Plain.{EveryRunHasAPlainHistory};
 ghost use Rattle.cluster_core.specs.Numbers.{NoNumberIsUsedTwice};
@@ -40,6 +40,12 @@ pub fn every_run_is_safe()
 /// that the lock was a region of the holder in the way of the call.
 pub fn every_denial_has_evidence()
     ensures { EveryDenialHasEvidence }
+{}
+
+/// Whatever calls come, and however messages fare: no server denies a call that waits (POSIX.1-2017
+/// `fcntl()`, F_SETLKW). Nobody tells it of a lock in its way.
+pub fn no_wait_is_denied()
+    ensures { NoWaitIsDenied }
 {}
 
 /// After every run no two commands about one file to one incarnation of a node have one number: a

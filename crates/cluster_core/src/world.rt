@@ -192,7 +192,7 @@ impl World {
             Event::Deliver(message) => {
                 self.has_actor(&message.addressee()) && self.sent.contains(message)
             }
-            Event::Retry { node, pid } => {
+            Event::Interrupt { node, pid } | Event::Retry { node, pid } => {
                 is_number(self.shape.nodes() as u16, *node as u16) && is_number(256, *pid)
             }
             Event::Resend { file } => is_number(self.shape.files(), *file),
@@ -238,6 +238,7 @@ impl World {
     {
         match event {
             Event::Call { node, .. } => !self.is_alive(*node),
+            Event::Interrupt { node, .. } => !self.is_alive(*node),
             Event::Retry { node, .. } => !self.is_alive(*node),
             Event::Deliver(message) => match message.addressee() {
                 Actor::Node(node) => !self.is_alive(node),
@@ -268,6 +269,7 @@ impl World {
         ensures incarnated { NamesItsIncarnation event.now result }
     {
         match event {
+            Event::Interrupt { .. } => self.node(node).incarnation(),
             Event::Retry { .. } => self.node(node).incarnation(),
             Event::Call { .. } => 0,
             Event::Deliver(_) => 0,
@@ -398,6 +400,9 @@ impl World {
                     self.plan_server(alloc, event, file, &ServerEvent::Deliver(*message))
                 }
             },
+            Event::Interrupt { node, pid } => {
+                self.plan_node(alloc, event, *node, &NodeEvent::Interrupt { pid: *pid })
+            }
             Event::Retry { node, pid } => {
                 self.plan_node(alloc, event, *node, &NodeEvent::Retry { pid: *pid })
             }

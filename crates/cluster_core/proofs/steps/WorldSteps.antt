@@ -13,7 +13,7 @@ use Rattle.messages.specs.Messages.{is_within}
 use Rattle.messages.specs.Entries.{NamesItsCall, NamesItsIncarnation}
 use Rattle.messages.specs.declared.message.Message.{Message}
 use Rattle.messages.specs.declared.event.Event.{Event}
-use Rattle.messages.specs.declared.event.Event.TheVariants.{Call, Deliver, Retry, Resend, Declare, Restart, Learn}
+use Rattle.messages.specs.declared.event.Event.TheVariants.{Call, Deliver, Interrupt, Retry, Resend, Declare, Restart, Learn}
 use Rattle.messages.specs.declared.outcome.Outcome.{Outcome}
 use Rattle.messages.specs.declared.entry.Entry.{Entry}
 use Rattle.messages.specs.declared.refusal.StepError.{StepError}
@@ -109,6 +109,7 @@ names : (event : Event) (node : ℕ) (step : NodeEvent) (number : ℕ) (call : O
 names (Call n pid op) node step number None is own by = let P : NodeEvent → Type 0 = λ e. NamesBy number e None in absurd (subst P is.1 by)
 names (Call n pid op) node step number (Some id) is own by = let P : NodeEvent → Type 0 = λ e. NamesBy number e (Some id) in subst P is.1 by ∙ (own ∙ sym is.0)
 names (Deliver m) node step number call is own by = let P : NodeEvent → Type 0 = λ e. NamesBy number e call in subst P is by
+names (Interrupt n pid) node step number call is own by = let P : NodeEvent → Type 0 = λ e. NamesBy number e call in subst P is.1 by
 names (Retry n pid) node step number call is own by = let P : NodeEvent → Type 0 = λ e. NamesBy number e call in subst P is.1 by
 names _ node step number call is own by = absurd is
 
@@ -116,6 +117,7 @@ names _ node step number call is own by = absurd is
 pub taken_by : (event : Event) (node : ℕ) (step : NodeEvent) → IsStepOf event node step → IsTakenByNode event
 taken_by (Call n pid op) node step is = tt
 taken_by (Deliver m) node step is = tt
+taken_by (Interrupt n pid) node step is = tt
 taken_by (Retry n pid) node step is = tt
 taken_by _ node step is = absurd is
 
@@ -128,6 +130,7 @@ node_names p event n step next o world is done =
 pub server_names : (event : Event) (step : ServerEvent) (s next : ServerState) (o : Outcome) → IsServerStepOf event step → server_rule s step ≡ Ok (next, o) → NamesItsCall event o.call × NamesItsIncarnation event 0
 server_names (Call n pid op) step s next o is done = absurd is
 server_names (Deliver m) step s next o is done = ((server_rule-sending s step (next, o) done).0, refl)
+server_names (Interrupt n pid) step s next o is done = absurd is
 server_names (Retry n pid) step s next o is done = absurd is
 server_names (Resend file) step s next o is done = ((server_rule-sending s step (next, o) done).0, refl)
 server_names (Learn file n incarnation) step s next o is done = ((server_rule-sending s step (next, o) done).0, refl)
