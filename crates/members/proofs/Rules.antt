@@ -84,18 +84,24 @@ module _ (ms now : List MemberParts) (view : ms ≡ now) (n : ℕ) (has : is_wit
     pub restarts_next : a ≡ false → last < 65535 → restarted (members_state now) n ≡ Ok (with_restarted (members_state now) n, last + 1)
     restarts_next h lt = dead h ∙ ap (λ (b : Bool). if b then Ok (with_restarted (members_state now) n, last + 1) else Err TooManyRestarts) (few last lt)
 
+-- what a declaration that is not refused comes to
+pub declaration : {A : Type 0} (a b : Bool) (t r : A) → (let x : Result A Refused = if not a then Err Stranger else (if b then Ok t else Err NotAlive) in x ≡ Ok r) → (a ≡ true) × (b ≡ true) × (t ≡ r)
+declaration true true t r h = (refl, refl, cc)
+declaration true false t r h = absurd (cc)
+declaration false b t r h = absurd (cc)
+
 -- what a restart that is not refused comes to
-pub was_right : {A : Type 0} (a b c : Bool) (t r : A) → (let x : Result A Refused = if not a then Err Stranger else (if b then Err NotDead else (if c then Ok t else Err TooManyRestarts)) in x ≡ Ok r) → (a ≡ true) × (t ≡ r)
-was_right true true c t r h = absurd (cc)
-was_right true false true t r h = (refl, cc)
-was_right true false false t r h = absurd (cc)
-was_right false b c t r h = absurd (cc)
+pub restart : {A : Type 0} (a b c : Bool) (t r : A) → (let x : Result A Refused = if not a then Err Stranger else (if b then Err NotDead else (if c then Ok t else Err TooManyRestarts)) in x ≡ Ok r) → (a ≡ true) × (b ≡ false) × (c ≡ true) × (t ≡ r)
+restart true true c t r h = absurd (cc)
+restart true false true t r h = (refl, refl, refl, cc)
+restart true false false t r h = absurd (cc)
+restart false b c t r h = absurd (cc)
 
 -- members after a restart
 pub restarts : (ms now : List MemberParts) (n k : ℕ) → ms ≡ now → restarted (members_state now) n ≡ Ok (with_restarted (members_state now) n, k) → restarted (members_state now) n ≡ Ok (members_state (slice_set ms (n - 1) (record { alive = true; last = k })), k)
 restarts ms now n k view done =
-    let right = was_right (is_within (length now) n) (alive_in now n) (nat_le (incarnation_in now n) most_incarnations) (with_restarted (members_state now) n, incarnation_in now n) (with_restarted (members_state now) n, k) done in
-    let same : incarnation_in now n ≡ k = ap (λ (r : MembersState × ℕ). r.1) right.1 in
+    let right = restart (is_within (length now) n) (alive_in now n) (nat_le (incarnation_in now n) most_incarnations) (with_restarted (members_state now) n, incarnation_in now n) (with_restarted (members_state now) n, k) done in
+    let same : incarnation_in now n ≡ k = ap (λ (r : MembersState × ℕ). r.1) right.3 in
     done ∙ (λ i. Ok (sym (made right.0 same) i, k))
   where
     stays : (m : ℕ) → incarnation_in now n ≡ k → (if m == n then k else incarnation_in now m) ≡ incarnation_in now m

@@ -1,5 +1,5 @@
 //! The members of a cluster.
-ghost use Rattle.std.specs.Prelude.{◌≡◌, ◌≤◌, true, Some, None, IfOk, IfErr, OnErr, length, ◌-◌, slice_index_or};
+ghost use Rattle.std.specs.Prelude.{◌≡◌, ◌≤◌, true, Some, None, IfSome, IfOk, IfErr, OnErr, length, ◌-◌, slice_index_or};
 ghost use Rattle.messages.specs.Messages.{is_within};
 ghost use Rattle.model.specs.Limits.{IsNumber};
 ghost use Rattle.members.specs.Members.{most_incarnations, first_members, live_incarnation, was_declared, with_restarted, declared_failed, restarted};
@@ -76,7 +76,8 @@ impl Members {
 
     /// The incarnation of the node that is alive, or none.
     pub fn alive(&self, node: u8) -> Option<u16>
-        ensures { result ≡ live_incarnation (members_state self.now) node }
+        ensures value { result ≡ live_incarnation (members_state self.now) node }
+        ensures within { IfSome result (λ incarnation. IsNumber most_incarnations incarnation) }
     {
         if !self.has(node) {
             return None;
@@ -110,6 +111,7 @@ impl Members {
     /// `Stranger` where the cluster has no such node, `NotAlive` where it is not alive. Nothing changes then.
     pub fn declare(&mut self, node: u8) -> Result<u16, Refused>
         ensures ok { IfOk result (λ incarnation. declared_failed (members_state self.old) node ≡ Ok (members_state self.new, incarnation)) }
+        ensures within { IfOk result (λ incarnation. IsNumber most_incarnations incarnation) }
         ensures err { IfErr result (λ e. declared_failed (members_state self.old) node ≡ Err e) }
         ensures unchanged { OnErr result (self.new ≡ self.old) }
     {
@@ -156,6 +158,7 @@ impl Members {
     /// where it had 65,535 incarnations. Nothing changes then.
     pub fn restart(&mut self, node: u8) -> Result<u16, Refused>
         ensures ok { IfOk result (λ incarnation. restarted (members_state self.old) node ≡ Ok (members_state self.new, incarnation)) }
+        ensures within { IfOk result (λ incarnation. IsNumber most_incarnations incarnation) }
         ensures err { IfErr result (λ e. restarted (members_state self.old) node ≡ Err e) }
         ensures unchanged { OnErr result (self.new ≡ self.old) }
     {

@@ -1,7 +1,7 @@
 -- What a node makes of a call: it answers as its own table may, or leaves the call open.
-use Rattle.std.proofs.Common.{◌≡◌, ℕ, Bool, true, false, not, if◌then◌else◌, ◌==◌, ◌⊎◌, inl, inr, refl, sym, ◌∙◌, ap, subst, ℤ, nat_le, List, [], ◌∷◌, ◌++◌, filter, find, get_or, All, Contains, is_some, Option, Some, None, MatchOption, Result, Ok, Err}
-use Rattle.std.proofs.lemmas.Bool.{eq-eqb, both_ways, cases_Bool, not-true}
-use Rattle.std.proofs.lemmas.List.Elements.{All-nil, All-cons, All-filter, All-weaker, All-same, All-contains, All-contains_itself, Contains-push_cases, filter_passes}
+use Rattle.std.proofs.Common.{◌≡◌, ℕ, Bool, true, false, not, if◌then◌else◌, ◌==◌, ◌⊎◌, inl, inr, refl, sym, ◌∙◌, ap, subst, ℤ, nat_le, List, [], ◌∷◌, ◌++◌, filter, get_or, All, Contains, Option, Some, None, MatchOption, Result, Ok, Err}
+use Rattle.std.proofs.lemmas.Bool.{eq-eqb, both_ways, not-true}
+use Rattle.std.proofs.lemmas.List.Elements.{All-filter, All-weaker, All-same, All-contains, All-contains_itself, Contains-push_cases, filter_passes}
 use Rattle.model.specs.declared.mode.Mode.{Mode}
 use Rattle.model.specs.declared.owner.Kind.{Kind}
 use Rattle.model.specs.declared.lock_info.LockInfo.{LockInfo}
@@ -36,7 +36,7 @@ use Rattle.cluster_core.proofs.common.Choices.{at_number}
 use Rattle.cluster_core.proofs.common.Refusals.{ok_is}
 use Rattle.cluster_core.proofs.common.Lists.{All-both}
 use Rattle.cluster_core.proofs.steps.NodeSteps.{shut_keeps}
-use Rattle.cluster_core.proofs.steps.WorldSteps.{within_is}
+use Rattle.cluster_core.proofs.common.Numbered.{within_is}
 
 -- what an open call asks for
 abbrev pub IsFor : Intent → Op → Type 0
