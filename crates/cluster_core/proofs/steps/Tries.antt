@@ -37,7 +37,7 @@ use Rattle.cluster_core.proofs.common.Choices.{at_number}
 use Rattle.cluster_core.proofs.common.Refusals.{ok_is}
 use Rattle.cluster_core.proofs.common.Lists.{All-both}
 use Rattle.cluster_core.proofs.steps.NodeSteps.{shut_keeps, answered_if_either}
-use Rattle.cluster_core.proofs.steps.WorldSteps.{within_is}
+use Rattle.cluster_core.proofs.common.Numbered.{within_is}
 
 -- what an open call asks for
 abbrev pub IsFor : Intent → Op → Type 0
