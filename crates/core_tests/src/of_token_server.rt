@@ -55,6 +55,11 @@ const LOCK: LockInfo = LockInfo {
     span: LOW,
 };
 
+const RESTARTED: Host = Host {
+    node: 1,
+    incarnation: 2,
+};
+
 // Calls of another node.
 const ASKS: CallId = CallId {
     node: 2,
@@ -242,6 +247,21 @@ fn asks(call: CallId, mode: Mode, required: Span) -> ServerEvent {
     })
 }
 
+// The same, where the call waits for what is in the way.
+fn waits(call: CallId, mode: Mode, required: Span) -> ServerEvent {
+    let _ = &required.lo; // tells the proof that the span ends by the greatest offset
+    ServerEvent::Deliver(Message::Request {
+        file: 2,
+        call,
+        urgency: Urgency::Waits,
+        mode,
+        wanted: Wanted {
+            required,
+            desired: WHOLE,
+        },
+    })
+}
+
 fn given(number: u32, call: CallId, mode: Mode, span: Span) -> Message {
     Message::Grant {
         file: 2,
@@ -297,11 +317,8 @@ fn deny(call: CallId, number: u32) -> Message {
     }
 }
 
-fn freed() -> ServerEvent {
-    ServerEvent::Deliver(Message::Freed {
-        file: 2,
-        holder: HOLDER,
-    })
+fn freed(holder: Host) -> ServerEvent {
+    ServerEvent::Deliver(Message::Freed { file: 2, holder })
 }
 
 #[test]
@@ -441,7 +458,7 @@ fn a_lock_in_the_way_denies_the_call(rt: HostRuntime) -> Result<(), Fail> {
             asks(NEXT, Mode::Write, LOW),
             revoke(2, NEXT, Mode::Write, LOW),
         ),
-        stays(freed(), None),
+        stays(freed(HOLDER), None),
         sends(conflict(2, NEXT), deny(NEXT, 2)),
         stays(conflict(2, NEXT), None),
     ];
@@ -462,6 +479,30 @@ fn a_conflict_denies_no_other_call(rt: HostRuntime) -> Result<(), Fail> {
         sends(conflict(3, NEXT), deny(NEXT, 3)),
     ];
     let mut server = held(alloc, Mode::Write)?;
+    assert_eq!(rt; first_wrong(alloc, &mut server, &moves)?, None);
+    Ok(())
+}
+
+// What tells the holder to give up what the waiting call needs.
+fn revokes(number: u32) -> Message {
+    revoke(number, ASKS, Mode::Write, LOW)
+}
+
+#[test]
+fn what_waits_is_asked_for_again(rt: HostRuntime) -> Result<(), Fail> {
+    let alloc = rt.alloc();
+    let moves = [
+        sends(waits(ASKS, Mode::Write, LOW), revokes(2)),
+        keeps(conflict(2, ASKS)),
+        stays(freed(RESTARTED), None),
+        sends(waits(ASKS, Mode::Write, HIGH), revokes(3)),
+        keeps(conflict(3, ASKS)),
+        sends(freed(HOLDER), revokes(4)),
+        keeps(conflict(4, ASKS)),
+        sends(ServerEvent::Resend, revokes(5)),
+        sends(released(5, ASKS, WHOLE), given(1, ASKS, Mode::Write, WHOLE)),
+    ];
+    let mut server = held(alloc, Mode::Read)?;
     assert_eq!(rt; first_wrong(alloc, &mut server, &moves)?, None);
     Ok(())
 }
