@@ -5,4 +5,6 @@ pub mod SameRows
 pub mod BlockerLemmas
 pub mod ListingLemmas
 pub mod ListingParts
+pub mod FlagLemmas
 pub mod PageLemmas
+pub mod DropLemmas
