@@ -7,4 +7,3 @@ pub mod ListingLemmas
 pub mod ListingParts
 pub mod FlagLemmas
 pub mod PageLemmas
-pub mod DropLemmas

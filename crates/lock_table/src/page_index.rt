@@ -21,6 +21,7 @@ const PAGE: u64 = 8192;
 
 // How many sets of owners an index has for pages, where it is kept, and how many of files.
 const SETS: usize = 8192;
+
 const FILE_SETS: usize = 256;
 
 // A file with a greater number has no flag.
