@@ -1,7 +1,7 @@
 -- What marks of descriptions tell.
-use Rattle.std.specs.Prelude.{◌≡◌, ◌≢◌, ℕ, ◌+◌, ◌<◌, ◌≤◌, ◌⊎◌, ◌&&◌, ◌==◌, Bool, true, false, if◌then◌else◌, List, [], Option, Some, None, Ok, Err, length, slice_index_or, slice_set, refl}
+use Rattle.std.specs.Prelude.{◌≡◌, ◌≢◌, ℕ, ◌+◌, ◌<◌, ◌≤◌, ◌⊎◌, ◌&&◌, ◌==◌, Bool, true, false, if◌then◌else◌, List, Option, Some, None, Ok, Err, length, slice_set, refl}
 use Rattle.std.proofs.Common.{arith, ap, subst, sym, ◌∙◌, inl, inr}
-use Rattle.std.proofs.lemmas.Bool.{cases_lt, cases_Bool, cases_eq, eq-eqb, eqb-true, both_ways, false≢true, and_parts, and_from}
+use Rattle.std.proofs.lemmas.Bool.{cases_Bool, cases_eq, eq-eqb, eqb-true, both_ways, false≢true, and_parts, and_from}
 use Rattle.std.proofs.lemmas.List.{get_or-set_same, get_or-set_other, get_or_past}
 use Rattle.intervals.specs.Search.{first, some_passes}
 use Rattle.model.specs.declared.opened.Opened.{Opened}
@@ -12,7 +12,7 @@ use Rattle.descriptors.specs.declared.marks.Mark.{Mark}
 use Rattle.descriptors.specs.declared.marks.Mark.TheVariants.{Unused, Alone, Unknown}
 use Rattle.descriptors.specs.declared.error.FdError.TheVariants.{NoProcess}
 use Rattle.descriptors.specs.Rows.{resolved, opened_or}
-use Rattle.descriptors.specs.Marks.{Refers, IsUnused, IsAlone, Tells, mark_of, AreMarks, IsPut, with_one_more, AreShared}
+use Rattle.descriptors.specs.Marks.{Refers, IsUnused, Tells, mark_of, AreMarks, IsPut, with_one_more, AreShared}
 
 -- a mark is put where it has a place
 pub put-within : (marks : List Mark) (d : ℕ) (mark : Mark) → d < length marks → IsPut marks (slice_set marks d mark) d mark

@@ -1,4 +1,4 @@
-use Rattle.std.proofs.Common.{◌≡◌, ◌∙◌, sym, ap, subst}
+use Rattle.std.proofs.Common.{◌≡◌, ◌∙◌, sym, ap}
 use Rattle.std.specs.Prelude.{List, Ok, None}
 use Rattle.model.specs.Descriptors.{is_open, with_descriptor}
 use Rattle.descriptors.specs.declared.row.Row.{Row}
