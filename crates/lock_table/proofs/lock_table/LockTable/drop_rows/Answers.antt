@@ -4,7 +4,7 @@ use Rattle.std.specs.List.{filter}
 use Rattle.lock_table.specs.Rows.{held}
 use Rattle.lock_table.proofs.RowLemmas.{is_of_other, held-filter, rows-filter}
 use Rattle.lock_table.proofs.PageLemmas.{covers-without_anywhere}
-use Rattle.lock_table.proofs.lock_table.LockTable.drop_owner_anywhere.Goals as goal
+use Rattle.lock_table.proofs.lock_table.LockTable.drop_rows.Goals as goal
 
 pub invariant_of-self : goal.invariant_of-self
 invariant_of-self c =
