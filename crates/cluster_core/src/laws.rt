@@ -1,6 +1,7 @@
 //! What holds of every run of the cluster.
 ghost use Rattle.cluster_core.specs.Evidence.{EveryDenialHasEvidence, NoWaitIsDenied};
 ghost use Rattle.cluster_core.specs.Histories.{EveryRunHasAHistory, QuietItemsMayStandEarlier};
+ghost use Rattle.cluster_core.specs.Journals.{NoRunHasAWrongEntry};
 ghost use Rattle.cluster_core.specs.Plain.{EveryRunHasAPlainHistory};
 ghost use Rattle.cluster_core.specs.Numbers.{NoNumberIsUsedTwice};
 ghost use Rattle.cluster_core.specs.Safe.{EveryRunIsSafe};
@@ -52,4 +53,9 @@ pub fn no_wait_is_denied()
 /// number tells the command, whatever was lost, repeated or sent again.
 pub fn no_number_is_used_twice()
     ensures { NoNumberIsUsedTwice }
+{}
+
+/// Entries that have a first wrong one, as `Journal::check` tells it, are no run.
+pub fn no_run_has_a_wrong_entry()
+    ensures { NoRunHasAWrongEntry }
 {}
