@@ -1,0 +1,5 @@
+pub mod Texts
+pub mod Served
+pub mod Parts
+pub mod Events
+pub mod Journals

@@ -1,0 +1,12 @@
+//! Journals as text.
+#![tactic(auto)]
+
+pub mod events;
+pub mod journal;
+pub mod message;
+pub mod named_event;
+mod operands;
+mod parts;
+pub mod replies;
+mod spans;
+pub mod texts;
