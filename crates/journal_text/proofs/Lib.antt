@@ -5,3 +5,4 @@ pub mod Words
 pub mod MessageKinds
 pub mod EventKinds
 pub mod ReplyKinds
+pub mod LineKinds

@@ -3,6 +3,7 @@
 
 pub mod events;
 pub mod journal;
+pub mod lines;
 pub mod message;
 pub mod named_event;
 mod operands;

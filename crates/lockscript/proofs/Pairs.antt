@@ -60,6 +60,11 @@ pub reads-pair : {A B : Type 0} (f : A → List ℕ) (g : B → List ℕ) (P : A
     → (a : Option A) (b : Option B) → Reads f P word a → Reads g Q rest b → Reads (pair_text f g) (Both P Q) bytes (option_zip a b)
 reads-pair f g P Q bytes word rest words lacks parts a b first second = reads-joined space f g P Q bytes word rest words lacks parts a b first second
 
+-- a first field that writes nothing
+pub reads-first_none : {A B : Type 0} (f : A → List ℕ) (g : B → List ℕ) (P : A → Type 0) (Q : B → Type 0) (bytes word rest : List ℕ) → AreWords f P → Lacks space word → bytes ≡ word ++ space ∷ rest
+    → Reads f P word None → Reads (pair_text f g) (Both P Q) bytes None
+reads-first_none f g P Q bytes word rest words lacks parts none p fits e = none p.0 fits.0 (same-split space word (f p.0) rest (g p.1) lacks (words p.0 fits.0) (sym parts ∙ e)).0
+
 -- behind a front that is not there nothing is written
 pub reads-after_none : {A : Type 0} (front : List ℕ) (f : A → List ℕ) (P : A → Type 0) (bytes : List ℕ) → ((rest : List ℕ) → bytes ≢ front ++ rest) → Reads (after_text front f) P bytes None
 reads-after_none front f P bytes absent x fits e = absent (f x) e
