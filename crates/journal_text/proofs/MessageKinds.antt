@@ -99,13 +99,33 @@ apart-command : AreApart decimal IsCommandNumber
 apart-command = apart-number 4294967295 (omega arith)
 
 apart-rest : (k : MessageKind) → AreApart (rest k) (Fit k)
-apart-rest requests = apart-pair decimal (pair_text call_text (pair_text urgency_text (pair_text mode_text wants_text))) IsFile (Both IsCall (Both (λ _. ⊤) (Both (λ _. ⊤) AreServedWants))) file_words apart-file (apart-pair call_text (pair_text urgency_text (pair_text mode_text wants_text)) IsCall (Both (λ _. ⊤) (Both (λ _. ⊤) AreServedWants)) call_words apart-call (apart-pair urgency_text (pair_text mode_text wants_text) (λ _. ⊤) (Both (λ _. ⊤) AreServedWants) urgency_words apart-urgency (apart-pair mode_text wants_text (λ _. ⊤) AreServedWants mode_words apart-mode apart-wants)))
-apart-rest grants = apart-pair decimal (pair_text decimal (pair_text call_text (pair_text mode_text span_text))) IsFile (Both IsCommandNumber (Both IsCall (Both (λ _. ⊤) IsServedSpan))) file_words apart-file (apart-pair decimal (pair_text call_text (pair_text mode_text span_text)) IsCommandNumber (Both IsCall (Both (λ _. ⊤) IsServedSpan)) message_words apart-command (apart-pair call_text (pair_text mode_text span_text) IsCall (Both (λ _. ⊤) IsServedSpan) call_words apart-call (apart-pair mode_text span_text (λ _. ⊤) IsServedSpan mode_words apart-mode apart-span)))
-apart-rest revokes = apart-pair decimal (pair_text decimal (pair_text holder_text (pair_text call_text (pair_text mode_text wants_text)))) IsFile (Both IsCommandNumber (Both IsHolder (Both IsCall (Both (λ _. ⊤) AreServedWants)))) file_words apart-file (apart-pair decimal (pair_text holder_text (pair_text call_text (pair_text mode_text wants_text))) IsCommandNumber (Both IsHolder (Both IsCall (Both (λ _. ⊤) AreServedWants))) message_words apart-command (apart-pair holder_text (pair_text call_text (pair_text mode_text wants_text)) IsHolder (Both IsCall (Both (λ _. ⊤) AreServedWants)) holder_words apart-holder (apart-pair call_text (pair_text mode_text wants_text) IsCall (Both (λ _. ⊤) AreServedWants) call_words apart-call (apart-pair mode_text wants_text (λ _. ⊤) AreServedWants mode_words apart-mode apart-wants))))
-apart-rest takens = apart-pair decimal (pair_text decimal call_text) IsFile (Both IsCommandNumber IsCall) file_words apart-file (apart-pair decimal call_text IsCommandNumber IsCall message_words apart-command apart-call)
-apart-rest releases = apart-pair decimal (pair_text decimal (pair_text holder_text (pair_text call_text span_text))) IsFile (Both IsCommandNumber (Both IsHolder (Both IsCall IsServedSpan))) file_words apart-file (apart-pair decimal (pair_text holder_text (pair_text call_text span_text)) IsCommandNumber (Both IsHolder (Both IsCall IsServedSpan)) message_words apart-command (apart-pair holder_text (pair_text call_text span_text) IsHolder (Both IsCall IsServedSpan) holder_words apart-holder (apart-pair call_text span_text IsCall IsServedSpan call_words apart-call apart-span)))
-apart-rest conflicts = apart-pair decimal (pair_text decimal (pair_text holder_text (pair_text call_text lock_text))) IsFile (Both IsCommandNumber (Both IsHolder (Both IsCall IsServedLock))) file_words apart-file (apart-pair decimal (pair_text holder_text (pair_text call_text lock_text)) IsCommandNumber (Both IsHolder (Both IsCall IsServedLock)) message_words apart-command (apart-pair holder_text (pair_text call_text lock_text) IsHolder (Both IsCall IsServedLock) holder_words apart-holder (apart-pair call_text lock_text IsCall IsServedLock call_words apart-call apart-lock)))
-apart-rest denials = apart-pair decimal (pair_text call_text (pair_text holder_text (pair_text decimal lock_text))) IsFile (Both IsCall (Both IsHolder (Both IsCommandNumber IsServedLock))) file_words apart-file (apart-pair call_text (pair_text holder_text (pair_text decimal lock_text)) IsCall (Both IsHolder (Both IsCommandNumber IsServedLock)) call_words apart-call (apart-pair holder_text (pair_text decimal lock_text) IsHolder (Both IsCommandNumber IsServedLock) holder_words apart-holder (apart-pair decimal lock_text IsCommandNumber IsServedLock message_words apart-command apart-lock)))
+apart-rest requests = apart-pair decimal (pair_text call_text (pair_text urgency_text (pair_text mode_text wants_text))) IsFile (Both IsCall (Both (λ _. ⊤) (Both (λ _. ⊤) AreServedWants))) file_words apart-file
+    (apart-pair call_text (pair_text urgency_text (pair_text mode_text wants_text)) IsCall (Both (λ _. ⊤) (Both (λ _. ⊤) AreServedWants)) call_words apart-call
+    (apart-pair urgency_text (pair_text mode_text wants_text) (λ _. ⊤) (Both (λ _. ⊤) AreServedWants) urgency_words apart-urgency
+    (apart-pair mode_text wants_text (λ _. ⊤) AreServedWants mode_words apart-mode apart-wants)))
+apart-rest grants = apart-pair decimal (pair_text decimal (pair_text call_text (pair_text mode_text span_text))) IsFile (Both IsCommandNumber (Both IsCall (Both (λ _. ⊤) IsServedSpan))) file_words apart-file
+    (apart-pair decimal (pair_text call_text (pair_text mode_text span_text)) IsCommandNumber (Both IsCall (Both (λ _. ⊤) IsServedSpan)) message_words apart-command
+    (apart-pair call_text (pair_text mode_text span_text) IsCall (Both (λ _. ⊤) IsServedSpan) call_words apart-call
+    (apart-pair mode_text span_text (λ _. ⊤) IsServedSpan mode_words apart-mode apart-span)))
+apart-rest revokes = apart-pair decimal (pair_text decimal (pair_text holder_text (pair_text call_text (pair_text mode_text wants_text)))) IsFile (Both IsCommandNumber (Both IsHolder (Both IsCall (Both (λ _. ⊤) AreServedWants)))) file_words apart-file
+    (apart-pair decimal (pair_text holder_text (pair_text call_text (pair_text mode_text wants_text))) IsCommandNumber (Both IsHolder (Both IsCall (Both (λ _. ⊤) AreServedWants))) message_words apart-command
+    (apart-pair holder_text (pair_text call_text (pair_text mode_text wants_text)) IsHolder (Both IsCall (Both (λ _. ⊤) AreServedWants)) holder_words apart-holder
+    (apart-pair call_text (pair_text mode_text wants_text) IsCall (Both (λ _. ⊤) AreServedWants) call_words apart-call
+    (apart-pair mode_text wants_text (λ _. ⊤) AreServedWants mode_words apart-mode apart-wants))))
+apart-rest takens = apart-pair decimal (pair_text decimal call_text) IsFile (Both IsCommandNumber IsCall) file_words apart-file
+    (apart-pair decimal call_text IsCommandNumber IsCall message_words apart-command apart-call)
+apart-rest releases = apart-pair decimal (pair_text decimal (pair_text holder_text (pair_text call_text span_text))) IsFile (Both IsCommandNumber (Both IsHolder (Both IsCall IsServedSpan))) file_words apart-file
+    (apart-pair decimal (pair_text holder_text (pair_text call_text span_text)) IsCommandNumber (Both IsHolder (Both IsCall IsServedSpan)) message_words apart-command
+    (apart-pair holder_text (pair_text call_text span_text) IsHolder (Both IsCall IsServedSpan) holder_words apart-holder
+    (apart-pair call_text span_text IsCall IsServedSpan call_words apart-call apart-span)))
+apart-rest conflicts = apart-pair decimal (pair_text decimal (pair_text holder_text (pair_text call_text lock_text))) IsFile (Both IsCommandNumber (Both IsHolder (Both IsCall IsServedLock))) file_words apart-file
+    (apart-pair decimal (pair_text holder_text (pair_text call_text lock_text)) IsCommandNumber (Both IsHolder (Both IsCall IsServedLock)) message_words apart-command
+    (apart-pair holder_text (pair_text call_text lock_text) IsHolder (Both IsCall IsServedLock) holder_words apart-holder
+    (apart-pair call_text lock_text IsCall IsServedLock call_words apart-call apart-lock)))
+apart-rest denials = apart-pair decimal (pair_text call_text (pair_text holder_text (pair_text decimal lock_text))) IsFile (Both IsCall (Both IsHolder (Both IsCommandNumber IsServedLock))) file_words apart-file
+    (apart-pair call_text (pair_text holder_text (pair_text decimal lock_text)) IsCall (Both IsHolder (Both IsCommandNumber IsServedLock)) call_words apart-call
+    (apart-pair holder_text (pair_text decimal lock_text) IsHolder (Both IsCommandNumber IsServedLock) holder_words apart-holder
+    (apart-pair decimal lock_text IsCommandNumber IsServedLock message_words apart-command apart-lock)))
 apart-rest frees = apart-pair decimal holder_text IsFile IsHolder file_words apart-file apart-holder
 
 abbrev pub make : (k : MessageKind) → Operands k → Message

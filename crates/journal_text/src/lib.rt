@@ -2,6 +2,7 @@
 #![tactic(auto)]
 
 pub mod events;
+pub mod head;
 pub mod journal;
 pub mod lines;
 pub mod message;
