@@ -1,13 +1,12 @@
 -- Names of nodes, calls and owners.
-use Rattle.std.proofs.Common.{◌≡◌, ◌≢◌, ℕ, ◌<◌, ◌≤◌, ◌^◌, List, [], ◌∷◌, ◌++◌, None, refl, ap, ◌∙◌, arith, append_assoc, codes, decimal}
-use Rattle.std.specs.Prelude.{⊤}
+use Rattle.std.proofs.Common.{◌≡◌, ◌≢◌, ℕ, ◌<◌, ◌^◌, List, [], ◌∷◌, ◌++◌, None, refl, ap, ◌∙◌, arith, append_assoc, codes, decimal}
 use Rattle.model.specs.declared.call.CallId.{CallId}
 use Rattle.model.specs.declared.host.Host.{Host}
 use Rattle.model.specs.declared.owner.Kind.{Kind}
 use Rattle.model.specs.declared.owner.Kind.TheVariants.{OfProcess, OfDescription}
 use Rattle.model.specs.declared.owner.Owner.{Owner}
 use Rattle.model.specs.Limits.{IsCall, IsNumber, IsOwner, most_nodes, most_of}
-use Rattle.lockscript.specs.Reads.{Reads, joined_text}
+use Rattle.lockscript.specs.Reads.{Reads}
 use Rattle.lockscript.specs.Texts.{call_text, host_text, owner_letter, owner_text}
 use Rattle.lockscript.proofs.FieldValues.{apart-number}
 use Rattle.lockscript.proofs.Fronts.{Kinds, apart-kinds}

@@ -1,8 +1,8 @@
 -- Spans and regions from their parts.
-use Rattle.std.proofs.Common.{◌≡◌, ℕ, ◌≤◌, List, ◌∷◌, ◌++◌, arith, append_assoc, ap, codes, decimal, refl}
+use Rattle.std.proofs.Common.{◌≡◌, ℕ, List, ◌∷◌, ◌++◌, arith, append_assoc, ap, codes, decimal, refl}
 use Rattle.std.specs.Prelude.{⊤}
 use Rattle.std.proofs.lemmas.Fmt.{decimal_injective}
-use Rattle.intervals.specs.Bytes.{Range, greatest}
+use Rattle.intervals.specs.Bytes.{Range}
 use Rattle.model.specs.declared.lock_info.LockInfo.{LockInfo}
 use Rattle.model.specs.declared.mode.Mode.{Mode}
 use Rattle.model.specs.declared.owner.Owner.{Owner}

@@ -1,5 +1,5 @@
 -- Names that are one field.
-use Rattle.std.proofs.Common.{◌≡◌, ◌≢◌, ℕ, zero, suc, List, [], ◌∷◌, ◌++◌, refl, arith, codes, decimal}
+use Rattle.std.proofs.Common.{ℕ, zero, suc, List, [], ◌∷◌, ◌++◌, refl, arith, codes, decimal}
 use Rattle.std.specs.Prelude.{⊤}
 use Rattle.model.specs.Limits.{IsCall}
 use Rattle.messages.specs.declared.message.Urgency.TheVariants.{Now, Waits}

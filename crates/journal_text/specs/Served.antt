@@ -4,14 +4,14 @@ use Rattle.intervals.specs.Bytes.{Range, greatest}
 use Rattle.model.specs.declared.host.Host.{Host}
 use Rattle.model.specs.declared.lock_info.LockInfo.{LockInfo}
 use Rattle.model.specs.declared.reply.Reply.{Reply}
-use Rattle.model.specs.declared.reply.Reply.TheVariants.{Done, Fd, Again, Free, Blocked, NoProcess, Exists, BadFd, TooManyFiles, NoLocks, Invalid, Overflow}
-use Rattle.model.specs.Limits.{IsCall, IsHost, IsNumber, IsOwner, most_processes}
+use Rattle.model.specs.declared.reply.Reply.TheVariants.{Fd, Again, Blocked}
+use Rattle.model.specs.Limits.{IsCall, IsHost, IsNumber, IsOwner}
 use Rattle.messages.specs.Messages.{greatest_number}
 use Rattle.messages.specs.Shapes.{most_files}
 use Rattle.messages.specs.Wants.{Wants}
 use Rattle.messages.specs.declared.message.Message.{Message}
 use Rattle.messages.specs.declared.message.Message.TheVariants.{Request, Grant, Revoke, Taken, Released, Conflict, Deny, Freed}
-use Rattle.lockscript.specs.Served.{IsDescriptor, IsServedOp}
+use Rattle.lockscript.specs.Served.{IsDescriptor}
 
 abbrev pub IsFile : ℕ → Type 0
 IsFile = IsNumber most_files
