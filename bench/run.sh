@@ -10,7 +10,7 @@ if [ -z "$folder" ]; then
     folder=$(mktemp -d) || exit 1
     trap 'rm -rf "$folder"' EXIT
 fi
-[ $# -gt 0 ] || set -- covered readers lossy fight storm crowd walk churn failures
+[ $# -gt 0 ] || set -- covered readers lossy fight storm crowd walk churn failures turns
 "$here/../lockreplay" --help >/dev/null || exit 1
 
 # Runs the program so many times. Prints the processor seconds of the fastest run, and the peak memory in kilobytes.
@@ -41,18 +41,20 @@ entries_of() {
 
 echo "kind     lines    entries  cpu s    entries/s  peak MB  ratio"
 for kind in "$@"; do
-    # How many lines make a hundred entries.
+    # How many lines make a hundred entries, and how many come before those.
+    start=0
     case $kind in
         lossy) share=116 ;;
         fight) share=38 ;;
         storm) share=75 ;;
         walk) share=25 ;;
         failures) share=88 ;;
+        turns) share=3 start=190 ;;
         *) share=100 ;;
     esac
     first=
     for size in 10000:9 100000:3 1000000:1; do
-        lines=$((${size%:*} / 100 * share))
+        lines=$((start + ${size%:*} / 100 * share))
         script=$folder/$kind-$lines.lock
         listing=$folder/$kind-$lines.listing
         sh "$here/script.sh" "$kind" "$lines" >"$script" || exit 1

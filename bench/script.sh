@@ -19,6 +19,8 @@
 #          covers all of it
 # failures 16 nodes lock the same bytes by turns: the one that has them is declared failed, the next one gets them once the
 #          server knows, and the failed node begins again
+# turns    a process on each of 64 nodes waits for one byte: the one that has it unlocks it, the next one gets it, and it
+#          waits for it again, behind all others
 kind=${1:?usage: script.sh KIND LINES}
 lines=${2:?usage: script.sh KIND LINES}
 exec awk -v kind="$kind" -v lines="$lines" '
@@ -192,6 +194,22 @@ function failures() {
     }
 }
 
+function turns() {
+    put("cluster nodes 64 files 1 policy exact")
+    for (node = 1; node <= 64; node++) {
+        begin(node, 1)
+        put("call " node " 1 wait 0 proc write 0 1")
+    }
+    put("settle")
+    for (number = 0; written < lines; number++) {
+        caller = "call " number % 64 + 1 " 1 "
+        put(caller "unlock 0 proc 0 1")
+        put("settle")
+        put(caller "wait 0 proc write 0 1")
+        put("settle")
+    }
+}
+
 BEGIN {
     if (kind == "covered")
         covered()
@@ -211,6 +229,8 @@ BEGIN {
         churn()
     else if (kind == "failures")
         failures()
+    else if (kind == "turns")
+        turns()
     else
         exit 2
 }'

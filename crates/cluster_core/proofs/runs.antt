@@ -2,3 +2,4 @@
 pub mod JournalRuns
 pub mod Runs
 pub mod Replayed
+pub mod Checked

@@ -6,6 +6,7 @@ pub mod ServerSteps
 pub mod WorldSteps
 pub mod Tries
 pub mod Sends
+pub mod ServerMoves
 pub mod Requested
 pub mod Moves
 pub mod Steps

@@ -1,10 +1,11 @@
 -- What an event will do to a world, as it was planned from the world's parts.
-use Rattle.std.specs.Prelude.{◌≡◌, ℕ, ◌+◌, ◌-◌, ◌<◌, true, false, Result, Ok, slice_index_or}
+use Rattle.std.specs.Prelude.{◌≡◌, ℕ, ◌-◌, ◌<◌, ◌≤◌, true, false, Result, Ok, slice_index_or}
 use Rattle.messages.specs.Messages.{is_within}
 use Rattle.messages.specs.Entries.{NamesItsIncarnation}
 use Rattle.messages.specs.declared.refusal.Refused.{Refused}
 use Rattle.messages.specs.declared.event.Event.{Event}
 use Rattle.messages.specs.declared.entry.Entry.{Entry}
+use Rattle.members.specs.Parts.{incarnation_in}
 use Rattle.node_core.specs.declared.change.Change.{Change as NodeChange}
 use Rattle.node_core.specs.declared.event.NodeEvent.{NodeEvent}
 use Rattle.node_core.specs.Node.{node_rule}
@@ -20,7 +21,7 @@ use Rattle.cluster_core.specs.declared.world.change.Change.{Change}
 use Rattle.cluster_core.specs.declared.world.change.Change.TheVariants.{OfNode, OfServer, Declared, Restarted}
 use Rattle.cluster_core.specs.World.{WorldState, journal_limit, most_incarnations}
 use Rattle.cluster_core.specs.Next.{named_incarnation, after_node, after_server, declare_rule, restart_rule, next}
-use Rattle.cluster_core.specs.Parts.{WorldParts, IsStepOf, IsServerStepOf, alive_at, listed, world_state}
+use Rattle.cluster_core.specs.Parts.{WorldParts, IsStepOf, IsServerStepOf, alive_at, world_state}
 
 -- the change is of the node's own step at the event, from which r comes
 pub record IsNodeChange (p : WorldParts) (event : Event) (n incarnation : ℕ) (change : NodeChange) (r : Result (WorldState × Entry) Refused) : Type 0 where
@@ -56,8 +57,8 @@ pub record IsDeclaration (p : WorldParts) (n : ℕ) (r : Result (WorldState × E
 pub record IsRestart (p : WorldParts) (n : ℕ) (begun : NodeParts) : Type 0 where
   pub number : is_within p.shape.nodes n ≡ true
   pub dead : alive_at p n ≡ false
-  pub few : (listed p n).incarnation < most_incarnations
-  pub begins : node_state begun ≡ first_node p.shape n ((listed p n).incarnation + 1)
+  pub few : incarnation_in p.members n ≤ most_incarnations
+  pub begins : node_state begun ≡ first_node p.shape n (incarnation_in p.members n)
 
 -- the change is what makes r of the event
 abbrev pub Makes : WorldParts → Event → Change → Result (WorldState × Entry) Refused → Type 0

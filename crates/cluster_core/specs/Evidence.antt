@@ -1,12 +1,12 @@
 -- What stands behind each denial.
-use Rattle.std.specs.Prelude.{◌≡◌, ◌⊎◌, ℕ, ◌+◌, ◌<◌, true, List, [], ◌∷◌, take, Some, None, Ok}
+use Rattle.std.specs.Prelude.{◌≡◌, ◌⊎◌, ℕ, ◌+◌, ◌<◌, Bool, true, false, List, [], ◌∷◌, take, Some, None, Ok}
 use Rattle.intervals.specs.Bytes.{Range}
 use Rattle.model.specs.declared.mode.Mode.{Mode}
 use Rattle.model.specs.declared.call.CallId.{CallId}
 use Rattle.model.specs.declared.host.Host.{Host}
 use Rattle.model.specs.declared.lock_info.LockInfo.{LockInfo}
 use Rattle.model.specs.declared.op.Op.{Op}
-use Rattle.model.specs.declared.op.Op.TheVariants.{Set, Query}
+use Rattle.model.specs.declared.op.Op.TheVariants.{Set, Wait, Query}
 use Rattle.model.specs.declared.process.Process.{Process}
 use Rattle.model.specs.Locks.{Blocks}
 use Rattle.model.specs.Table.{Table, Target, target}
@@ -25,8 +25,14 @@ use Rattle.cluster_core.specs.Histories.{caller, IsCalledAt, IsRevokedAt}
 -- the call passes its tests: it is about a lock of that mode there
 abbrev pub IsAbout : Table → Process → Op → Mode → Target → Type 0
 IsAbout t p (Set fd kind m start len) mode c = (m ≡ mode) × (target t p (Some m) fd kind start len ≡ Ok c)
+IsAbout t p (Wait fd kind m start len) mode c = (m ≡ mode) × (target t p (Some m) fd kind start len ≡ Ok c)
 IsAbout t p (Query fd kind m start len) mode c = (m ≡ mode) × (target t p None fd kind start len ≡ Ok c)
 IsAbout t p _ mode c = ⊥
+
+-- the call may wait for a lock to go
+abbrev pub is_wait : Op → Bool
+is_wait (Wait fd kind mode start len) = true
+is_wait _ = false
 
 -- the world after the entry at a position
 abbrev pub IsWorldAfter : ShapeFields → List Entry → ℕ → WorldState → Type 0
@@ -92,3 +98,13 @@ DenialsHaveEvidence shape es =
 -- so it is after every run
 abbrev pub EveryDenialHasEvidence : Type 0
 EveryDenialHasEvidence = (shape : ShapeFields) (es : List Entry) → IsShape shape → DenialsHaveEvidence shape es
+
+-- in no run does a server deny a call that waits
+abbrev pub NoWaitIsDenied : Type 0
+NoWaitIsDenied =
+    (shape : ShapeFields) (es : List Entry) (w : WorldState) (file : ℕ) (call : CallId) (holder : Host) (number : ℕ) (lock : LockInfo) (pid : ℕ) (op : Op) (at : ℕ)
+    → IsShape shape
+    → Leads (first_world shape) es w
+    → is_among w.sent (Deny file call holder number lock) ≡ true
+    → IsCalledAt es call pid op at
+    → is_wait op ≡ false

@@ -1,5 +1,5 @@
--- Journals, and what a list of events comes to.
-use Rattle.std.specs.Prelude.{◌≡◌, List, [], ◌∷◌, ◌++◌, map, Ok, Err}
+-- Journals, what a list of events comes to, and which entry is the first wrong one.
+use Rattle.std.specs.Prelude.{◌≡◌, ◌≢◌, ℕ, ◌+◌, List, [], ◌∷◌, ◌++◌, length, map, Ok, Err}
 use Rattle.messages.specs.Shapes.{ShapeFields, IsShape}
 use Rattle.messages.specs.declared.refusal.Refused.{Refused}
 use Rattle.messages.specs.declared.event.Event.{Event}
@@ -31,6 +31,21 @@ pub record IsFirstRefusal (shape : ShapeFields) (events : List Event) (refusal :
   pub rest : List Event
   pub in_order : events ≡ events_of done ++ event ∷ rest
   pub refused : next world event ≡ Err refusal
+
+-- the entries before that position, from 1, lead to a world from which the one there is not the next: its event is refused, or makes another
+pub record IsFirstWrong (shape : ShapeFields) (entries : List Entry) (position : ℕ) : Type 0 where
+  pub before : List Entry
+  pub world : WorldState
+  pub leads : Leads (first_world shape) before world
+  pub wrong : Entry
+  pub rest : List Entry
+  pub in_order : entries ≡ before ++ wrong ∷ rest
+  pub stands_there : position ≡ length before + 1
+  pub not_next : (v : WorldState) → next world wrong.event ≢ Ok (v, wrong)
+
+-- no run has a wrong entry
+abbrev pub NoRunHasAWrongEntry : Type 0
+NoRunHasAWrongEntry = (shape : ShapeFields) (entries : List Entry) (position : ℕ) → IsFirstWrong shape entries position → ¬ IsRun shape entries
 
 -- a run that goes on: the entries so far, and the world to which they lead
 pub record RunFields : Type 0 where

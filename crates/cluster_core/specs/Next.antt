@@ -6,7 +6,7 @@ use Rattle.messages.specs.declared.refusal.Refused.TheVariants.{Stranger, Journa
 use Rattle.messages.specs.Refusals.{refused_by}
 use Rattle.messages.specs.declared.message.Message.{Message}
 use Rattle.messages.specs.declared.event.Event.{Event}
-use Rattle.messages.specs.declared.event.Event.TheVariants.{Call, Deliver, Retry, Resend, Declare, Restart, Learn}
+use Rattle.messages.specs.declared.event.Event.TheVariants.{Call, Deliver, Interrupt, Retry, Resend, Declare, Restart, Learn}
 use Rattle.messages.specs.declared.outcome.Outcome.{Outcome}
 use Rattle.messages.specs.declared.entry.Entry.{Entry}
 use Rattle.messages.specs.declared.actor.Actor.{Actor}
@@ -30,6 +30,7 @@ has_actor w (AServer file) = has_file w file
 abbrev pub is_known : WorldState → Event → Bool
 is_known w (Call n pid op) = has_node w n && (is_pid pid && is_in_shape w.shape op)
 is_known w (Deliver m) = has_actor w (addressee m) && is_among w.sent m
+is_known w (Interrupt n pid) = has_node w n && is_pid pid
 is_known w (Retry n pid) = has_node w n && is_pid pid
 is_known w (Resend file) = has_file w file
 is_known w (Declare n) = has_node w n
@@ -45,11 +46,13 @@ is_stopped w (AServer file) = false
 abbrev pub is_fenced : WorldState → Event → Bool
 is_fenced w (Call n pid op) = is_stopped w (ANode n)
 is_fenced w (Deliver m) = is_stopped w (addressee m)
+is_fenced w (Interrupt n pid) = is_stopped w (ANode n)
 is_fenced w (Retry n pid) = is_stopped w (ANode n)
 is_fenced w _ = false
 
--- the incarnation that the entry of a node's event names, 0 for none: a retry is of the live one
+-- the incarnation that the entry of a node's event names, 0 for none: an interrupt and a retry are of the live one
 abbrev pub named_incarnation : NodeState → Event → ℕ
+named_incarnation s (Interrupt n pid) = s.incarnation
 named_incarnation s (Retry n pid) = s.incarnation
 named_incarnation s _ = 0
 
@@ -104,6 +107,7 @@ restart_rule w n =
 abbrev pub taken : WorldState → Event → Result (WorldState × Entry) Refused
 taken w (Call n pid op) = after_node w (Call n pid op) n (node_rule (w.nodes n) (node.Call pid op))
 taken w (Deliver m) = delivered w m (addressee m)
+taken w (Interrupt n pid) = after_node w (Interrupt n pid) n (node_rule (w.nodes n) (node.Interrupt pid))
 taken w (Retry n pid) = after_node w (Retry n pid) n (node_rule (w.nodes n) (node.Retry pid))
 taken w (Resend file) = after_server w (Resend file) file (server_rule (w.servers file) server.Resend)
 taken w (Declare n) = declare_rule w n

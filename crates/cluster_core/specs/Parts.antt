@@ -1,9 +1,11 @@
 -- A world as plain data, and what it stands for.
-use Rattle.std.specs.Prelude.{◌≡◌, ℕ, Bool, true, false, ◌+◌, ◌≤◌, ◌==◌, if◌then◌else◌, List, [], ◌∷◌, length}
+use Rattle.std.specs.Prelude.{◌≡◌, ℕ, Bool, true, false, ◌+◌, ◌≤◌, List, length}
 use Rattle.messages.specs.Shapes.{ShapeFields}
 use Rattle.messages.specs.declared.message.Message.{Message}
 use Rattle.messages.specs.declared.event.Event.{Event}
-use Rattle.messages.specs.declared.event.Event.TheVariants.{Call, Deliver, Retry, Resend, Learn}
+use Rattle.messages.specs.declared.event.Event.TheVariants.{Call, Deliver, Interrupt, Retry, Resend, Learn}
+use Rattle.members.specs.Parts.{MemberParts, alive_in, incarnation_in}
+pub use Rattle.members.specs.Numbered.{numbered, IsRest}
 use Rattle.node_core.specs.declared.event.NodeEvent.{NodeEvent}
 use Rattle.node_core.specs.declared.event.NodeEvent.TheVariants as own
 use Rattle.node_core.specs.Parts.{NodeParts, node_state}
@@ -17,19 +19,10 @@ use Rattle.cluster_core.specs.World.{WorldState, journal_limit}
 pub record WorldParts : Type 0 where
   pub shape : ShapeFields
   pub nodes : List NodeParts
-  pub alive : List Bool
+  pub members : List MemberParts
   pub servers : List ServerParts
   pub sent : List Message
   pub length : ℕ
-
--- what f makes of the item with number n, where the list has those from number `from` on; the rest is as it began
-unfoldable pub numbered : {A B : Type 0} → (A → B) → (ℕ → B) → ℕ → List A → ℕ → B
-numbered f rest from [] n = rest n
-numbered f rest from (x ∷ xs) n = if n == from then f x else numbered f rest (from + 1) xs n
-
--- the items are as they began
-abbrev pub IsRest : {A B : Type 0} → (A → B) → (ℕ → B) → List A → Type 0
-IsRest f rest xs = (n : ℕ) → numbered f rest 1 xs n ≡ rest n
 
 -- a node that is not alive is as it will begin again
 abbrev pub seated : ShapeFields → ℕ → Bool → NodeState → NodeState
@@ -41,7 +34,7 @@ abbrev pub listed : WorldParts → ℕ → NodeState
 listed p = numbered node_state (λ n. first_node p.shape n 1) 1 p.nodes
 
 abbrev pub alive_at : WorldParts → ℕ → Bool
-alive_at p = numbered (λ b. b) (λ n. true) 1 p.alive
+alive_at p = alive_in p.members
 
 abbrev pub world_state : WorldParts → WorldState
 world_state p = record {
@@ -53,18 +46,20 @@ world_state p = record {
   length = p.length;
 }
 
--- a node and a server for each number of the shape, each node by its number, and no more entries than a journal may have
+-- a node, a member and a server for each number of the shape, each node by its number and in the incarnation that it has as a member, and no more entries than a journal may have
 pub record IsWorld (p : WorldParts) : Type 0 where
   pub nodes_there : length p.nodes ≡ p.shape.nodes
-  pub alive_there : length p.alive ≡ p.shape.nodes
+  pub members_there : length p.members ≡ p.shape.nodes
   pub servers_there : length p.servers ≡ p.shape.files
   pub own_number : (n : ℕ) → ((world_state p).nodes n).node ≡ n
+  pub own_incarnation : (n : ℕ) → ((world_state p).nodes n).incarnation ≡ incarnation_in p.members n
   pub within : p.length ≤ journal_limit
 
 -- an event that a node takes
 abbrev pub IsTakenByNode : Event → Type 0
 IsTakenByNode (Call n pid op) = Unit {0}
 IsTakenByNode (Deliver m) = Unit {0}
+IsTakenByNode (Interrupt n pid) = Unit {0}
 IsTakenByNode (Retry n pid) = Unit {0}
 IsTakenByNode _ = ⊥
 
@@ -72,6 +67,7 @@ IsTakenByNode _ = ⊥
 abbrev pub IsStepOf : Event → ℕ → NodeEvent → Type 0
 IsStepOf (Call n pid op) node step = (n ≡ node) × (step ≡ own.Call pid op)
 IsStepOf (Deliver m) node step = step ≡ own.Deliver m
+IsStepOf (Interrupt n pid) node step = (n ≡ node) × (step ≡ own.Interrupt pid)
 IsStepOf (Retry n pid) node step = (n ≡ node) × (step ≡ own.Retry pid)
 IsStepOf _ node step = ⊥
 

@@ -3,6 +3,7 @@ use Rattle.std.specs.Prelude.{ℕ, Bool, true, ◌&&◌, ◌==◌, nat_le, nat_l
 use Rattle.messages.specs.Shapes.{ShapeFields}
 use Rattle.messages.specs.declared.message.Message.{Message}
 use Rattle.messages.specs.Messages.{is_within}
+pub use Rattle.members.specs.Members.{most_incarnations}
 use Rattle.node_core.specs.State.{NodeState, first_node}
 use Rattle.token_server.specs.State.{ServerState, first_server}
 
@@ -42,10 +43,6 @@ is_live w node incarnation = has_node w node && (incarnation == (w.nodes node).i
 -- the node is alive
 abbrev pub is_alive : WorldState → ℕ → Bool
 is_alive w node = has_node w node && w.alive node
-
--- how many incarnations a node may have
-abbrev pub most_incarnations : ℕ
-most_incarnations = 65535
 
 -- this incarnation of the node was declared failed
 abbrev pub was_declared : WorldState → ℕ → ℕ → Bool

@@ -1,21 +1,27 @@
 //! Journals of runs.
-ghost use Rattle.std.specs.Prelude.{◌≡◌, ◌≢◌, IfOk, IfErr};
+ghost use Rattle.std.specs.Prelude.{◌≡◌, ◌≢◌, ◌↔◌, ◌<◌, ℕ, true, false, Ok, length, IfOk, IfErr, OnOk, IsErrOf, IsOkUnless};
 ghost use Rattle.messages.specs.declared.refusal.Refused.TheVariants.{NoMemory};
 ghost use Rattle.messages.specs.Shapes.{IsShape};
 ghost use Rattle.cluster_core.specs.Runs.{IsRun};
-ghost use Rattle.cluster_core.specs.Journals.{events_of, IsFirstRefusal};
+ghost use Rattle.cluster_core.specs.World.{WorldState, journal_limit};
+ghost use Rattle.cluster_core.specs.Next.{next};
+ghost use Rattle.cluster_core.specs.Parts.{world_state};
+ghost use Rattle.cluster_core.specs.Journals.{events_of, IsFirstRefusal, IsFirstWrong};
 ghost use Rattle.cluster_core.specs.Histories.{HasOneHistory};
 ghost use Rattle.cluster_core.specs.Plain.{HasPlainHistory};
 ghost use Rattle.cluster_core.specs.Safe.{LeadsToSafe};
 ghost use Rattle.cluster_core.specs.Numbers.{LeadsToNumbers};
 ghost use Rattle.cluster_core.specs.Evidence.{DenialsHaveEvidence};
 
+use crate::check_error::CheckError;
 use crate::run::Run;
+use crate::world::{JOURNAL_LIMIT, World};
+use intervals::span_map::NoMemory as NoRoom;
 use messages::entry::Entry;
 use messages::event::Event;
 use messages::refusal::Refused;
 use messages::shape::Shape;
-use std::alloc::Global;
+use std::alloc::{AllocError, Global};
 use std::marker::Model;
 
 /// What happened in a cluster of a shape, entry by entry from its beginning: always a run.
@@ -45,6 +51,41 @@ impl Journal {
         Journal { shape, entries }
     }
 
+    /// The journal of entries that somebody hands in, where they are a run of a cluster of that shape:
+    /// each is the next step, with all that it says. Its entries are those that were handed in.
+    ///
+    /// # Errors
+    /// `JournalFull` where there are more than 1,048,576 entries, before anything else; `NotARun` with
+    /// the position, from 1, of the first entry that is not the next step; `NoMemory` where a request
+    /// for memory was refused. The entries are dropped.
+    pub fn check(alloc: Global, shape: Shape, entries: Vec<Entry>) -> Result<Journal, CheckError>
+        ensures value { IfOk result (λ journal. journal ≡ record { shape = shape; entries = entries.items }) }
+        ensures run { OnOk result (IsRun shape entries.items) }
+
+        // With all that holds of every run, as at `run`.
+        ensures one_table { OnOk result (HasOneHistory shape entries.items) }
+        ensures plain { OnOk result (HasPlainHistory shape entries.items) }
+        ensures safe { OnOk result (LeadsToSafe shape entries.items) }
+        ensures numbers { OnOk result (LeadsToNumbers shape entries.items) }
+        ensures evidence { OnOk result (DenialsHaveEvidence shape entries.items) }
+
+        // A run is refused only for want of memory.
+        ensures accepted { IsRun shape entries.items → IsOkUnless result CheckError.NoMemory }
+        ensures full { IsErrOf result CheckError.JournalFull ↔ (journal_limit < length entries.items) }
+        ensures wrong { (position : ℕ) → IsErrOf result (CheckError.NotARun position) → IsFirstWrong shape entries.items position }
+    {
+        if entries.len() > JOURNAL_LIMIT as usize {
+            return Err(CheckError::JournalFull);
+        }
+        let mut world = World::new(alloc, shape)?;
+        for index in 0..entries.len() {
+            if !comes_next(&mut world, alloc, &entries[index])? {
+                return Err(CheckError::NotARun(index as u32 + 1));
+            }
+        }
+        Ok(Journal::of_run(shape, entries))
+    }
+
     /// The shape of the cluster: one that is served.
     pub fn shape(&self) -> Shape
         ensures value { result ≡ self.now.shape }
@@ -61,6 +102,18 @@ impl Journal {
         ensures safe { LeadsToSafe self.now.shape self.now.entries }
     {
         self.entries.as_slice()
+    }
+}
+
+// Whether the event of the entry, which happens, makes this entry.
+fn comes_next(world: &mut World, alloc: Global, entry: &Entry) -> Result<bool, NoRoom>
+    ensures made { IfOk result (λ same. same ≡ true → next (world_state world.old) entry.now.event ≡ Ok (world_state world.new, entry.now)) }
+    ensures other { IfOk result (λ same. same ≡ false → (v : WorldState) → next (world_state world.old) entry.now.event ≢ Ok (v, entry.now)) }
+{
+    match world.step(alloc, entry.event()) {
+        Ok(made) => Ok(made.same(entry)),
+        Err(Refused::NoMemory) => Err(AllocError),
+        Err(_) => Ok(false),
     }
 }
 

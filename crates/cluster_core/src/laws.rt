@@ -1,6 +1,7 @@
 //! What holds of every run of the cluster.
-ghost use Rattle.cluster_core.specs.Evidence.{EveryDenialHasEvidence};
+ghost use Rattle.cluster_core.specs.Evidence.{EveryDenialHasEvidence, NoWaitIsDenied};
 ghost use Rattle.cluster_core.specs.Histories.{EveryRunHasAHistory, QuietItemsMayStandEarlier};
+ghost use Rattle.cluster_core.specs.Journals.{NoRunHasAWrongEntry};
 ghost use Rattle.cluster_core.specs.Plain.{EveryRunHasAPlainHistory};
 ghost use Rattle.cluster_core.specs.Numbers.{NoNumberIsUsedTwice};
 ghost use Rattle.cluster_core.specs.Safe.{EveryRunIsSafe};
@@ -42,8 +43,19 @@ pub fn every_denial_has_evidence()
     ensures { EveryDenialHasEvidence }
 {}
 
+/// Whatever calls come, and however messages fare: no server denies a call that waits (POSIX.1-2017
+/// `fcntl()`, F_SETLKW). Nobody tells it of a lock in its way.
+pub fn no_wait_is_denied()
+    ensures { NoWaitIsDenied }
+{}
+
 /// After every run no two commands about one file to one incarnation of a node have one number: a
 /// number tells the command, whatever was lost, repeated or sent again.
 pub fn no_number_is_used_twice()
     ensures { NoNumberIsUsedTwice }
+{}
+
+/// Entries that have a first wrong one, as `Journal::check` tells it, are no run.
+pub fn no_run_has_a_wrong_entry()
+    ensures { NoRunHasAWrongEntry }
 {}

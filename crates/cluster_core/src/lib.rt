@@ -1,6 +1,7 @@
 //! The whole cluster: the world, its runs, and their history in one table.
 #![tactic(auto)]
 
+pub mod check_error;
 pub mod held_lock;
 pub mod item;
 pub mod journal;

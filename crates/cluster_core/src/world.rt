@@ -28,6 +28,7 @@ use crate::journal::Journal;
 use crate::sent::Sent;
 use crate::world::change::Change;
 use intervals::span_map::NoMemory as NoRoom;
+use members::members::Members;
 use messages::actor::Actor;
 use messages::entry::Entry;
 use messages::event::Event;
@@ -58,7 +59,7 @@ pub const JOURNAL_LIMIT: u32 = 1_048_576;
 pub struct World {
     shape: Shape,
     nodes: Vec<Node>,
-    alive: Vec<bool>,
+    members: Members,
     servers: Vec<Server>,
     sent: Sent,
     length: u32,
@@ -69,9 +70,9 @@ impl Model for World {
 
     ghost Value = { WorldParts };
 
-    ghost view = { λ w. record { shape = w.shape; nodes = w.nodes.items; alive = w.alive.items; servers = w.servers.items; sent = w.sent; length = w.length } };
+    ghost view = { λ w. record { shape = w.shape; nodes = w.nodes.items; members = w.members; servers = w.servers.items; sent = w.sent; length = w.length } };
 
-    ghost invariant = { λ w. IsWorld (record { shape = w.shape; nodes = w.nodes.items; alive = w.alive.items; servers = w.servers.items; sent = w.sent; length = w.length }) };
+    ghost invariant = { λ w. IsWorld (record { shape = w.shape; nodes = w.nodes.items; members = w.members; servers = w.servers.items; sent = w.sent; length = w.length }) };
 }
 
 // Whether the number is one of those from 1 to the most.
@@ -106,18 +107,6 @@ fn first_nodes(alloc: Global, shape: Shape) -> Result<Vec<Node>, NoRoom>
     Ok(nodes)
 }
 
-// Every node of a cluster that begins is alive.
-fn first_alive(alloc: Global, shape: Shape) -> Result<Vec<bool>, NoRoom>
-    ensures there { IfOk result (λ alive. length alive.items ≡ shape.nodes) }
-    ensures first { IfOk result (λ alive. IsRest (λ b. b) (λ n. true) alive.items) }
-{
-    let mut alive = Vec::new(alloc);
-    for index in 0..shape.nodes() {
-        add(&mut alive, true)?;
-    }
-    Ok(alive)
-}
-
 // The servers of a cluster that begins.
 fn first_servers(alloc: Global, shape: Shape) -> Result<Vec<Server>, NoRoom>
     ensures there { IfOk result (λ servers. length servers.items ≡ shape.files) }
@@ -150,14 +139,15 @@ impl World {
         ensures within { OnOk result (IsShape shape) }
     {
         let nodes = first_nodes(alloc, shape)?;
-        let alive = first_alive(alloc, shape)?;
+        let members = Members::new(alloc, shape)?;
         let servers = first_servers(alloc, shape)?;
+        let sent = Sent::new(alloc);
         Ok(World {
             shape,
             nodes,
-            alive,
+            members,
             servers,
-            sent: Sent::new(alloc),
+            sent,
             length: 0,
         })
     }
@@ -192,7 +182,7 @@ impl World {
             Event::Deliver(message) => {
                 self.has_actor(&message.addressee()) && self.sent.contains(message)
             }
-            Event::Retry { node, pid } => {
+            Event::Interrupt { node, pid } | Event::Retry { node, pid } => {
                 is_number(self.shape.nodes() as u16, *node as u16) && is_number(256, *pid)
             }
             Event::Resend { file } => is_number(self.shape.files(), *file),
@@ -215,7 +205,7 @@ impl World {
         requires { is_within self.now.shape.nodes node ≡ true }
         ensures { result ≡ (world_state self.now).alive node }
     {
-        self.alive[node as usize - 1]
+        self.members.alive(node).is_some()
     }
 
     // Whether the incarnation of the node was declared failed.
@@ -223,12 +213,7 @@ impl World {
         requires { is_within self.now.shape.nodes node ≡ true }
         ensures { result ≡ was_declared (world_state self.now) node incarnation }
     {
-        let last = self.nodes[node as usize - 1].incarnation();
-        if self.is_alive(node) {
-            1 <= incarnation && incarnation < last
-        } else {
-            1 <= incarnation && incarnation <= last
-        }
+        self.members.declared(node, incarnation)
     }
 
     // Whether the event would be a step of a node that was declared failed.
@@ -238,6 +223,7 @@ impl World {
     {
         match event {
             Event::Call { node, .. } => !self.is_alive(*node),
+            Event::Interrupt { node, .. } => !self.is_alive(*node),
             Event::Retry { node, .. } => !self.is_alive(*node),
             Event::Deliver(message) => match message.addressee() {
                 Actor::Node(node) => !self.is_alive(node),
@@ -268,6 +254,7 @@ impl World {
         ensures incarnated { NamesItsIncarnation event.now result }
     {
         match event {
+            Event::Interrupt { .. } => self.node(node).incarnation(),
             Event::Retry { .. } => self.node(node).incarnation(),
             Event::Call { .. } => 0,
             Event::Deliver(_) => 0,
@@ -366,14 +353,8 @@ impl World {
         ensures err { IfErr result (λ e. e ≢ NoMemory → restart_rule (world_state self.now) node ≡ Err e) }
         ensures refused { (e : Refused) → restart_rule (world_state self.now) node ≡ Err e → result ≡ Err e }
     {
-        if self.is_alive(node) {
-            return Err(Refused::NotDead);
-        }
-        let last = self.nodes[node as usize - 1].incarnation();
-        if last == 65535 {
-            return Err(Refused::TooManyRestarts);
-        }
-        let begun = Node::new(alloc, self.shape, node, last + 1)?;
+        let incarnation = self.members.next(node)?;
+        let begun = Node::new(alloc, self.shape, node, incarnation)?;
         Ok(Change::Restarted { node, begun })
     }
 
@@ -398,6 +379,9 @@ impl World {
                     self.plan_server(alloc, event, file, &ServerEvent::Deliver(*message))
                 }
             },
+            Event::Interrupt { node, pid } => {
+                self.plan_node(alloc, event, *node, &NodeEvent::Interrupt { pid: *pid })
+            }
             Event::Retry { node, pid } => {
                 self.plan_node(alloc, event, *node, &NodeEvent::Retry { pid: *pid })
             }
@@ -483,8 +467,9 @@ impl World {
         requires alive { (world_state self.old).alive node ≡ true }
         ensures { declare_rule (world_state self.old) node ≡ Ok (world_state self.new, result) }
     {
-        let incarnation = self.node(node).incarnation();
-        self.alive[node as usize - 1] = false;
+        let Ok(incarnation) = self.members.declare(node) else {
+            unreachable!()
+        };
         self.length += 1;
         let outcome = Outcome::sending(Items::new(alloc));
         Entry::at_node(Event::Declare { node }, incarnation, outcome)
@@ -496,9 +481,10 @@ impl World {
         requires made { IsRestart self.old node begun }
         ensures { restart_rule (world_state self.old) node ≡ Ok (world_state self.new, result) }
     {
-        let incarnation = begun.incarnation();
+        let Ok(incarnation) = self.members.restart(node) else {
+            unreachable!()
+        };
         self.nodes[node as usize - 1] = begun;
-        self.alive[node as usize - 1] = true;
         self.length += 1;
         let outcome = Outcome::sending(Items::new(alloc));
         Entry::at_node(Event::Restart { node }, incarnation, outcome)

@@ -28,6 +28,7 @@ Every other line is one of these:
   lose K              message K is lost: settle passes over it
   settle              the earliest message that was not yet delivered, lost or
                       passed over is delivered, again and again until none is left
+  interrupt N PID     the open wait of process PID of node N is interrupted
   retry N PID         node N sends the request of the open call of PID again
   resend F            the server of file F sends again what has no answer
   declare N           node N is declared failed: its processes and locks are gone
@@ -41,6 +42,7 @@ K counts the messages in the order of sending, from 1. OP is one of these:
   close FD                           the process loses FD, and its locks on that file
   exit                               the process ends, with its descriptors and locks
   set FD KIND MODE START LEN         lock a segment, unless it is blocked
+  wait FD KIND MODE START LEN        lock a segment, as soon as it is not blocked
   unlock FD KIND START LEN           unlock a segment
   query FD KIND MODE START LEN       ask which lock blocks a segment
 ACCESS is r, w or rw, MODE read or write. KIND says whose the lock is: proc, of the
@@ -50,9 +52,9 @@ has LEN bytes from byte START on. With LEN 0 it goes on to the greatest offset,
 
 The listing has five sections: the refused lines, the replies, the tokens at the end,
 the locks at the end, and one history, in which every call has its place in one table
-of locks. What happens is an entry: a call, a delivery, a retry, a resend, a
-declaration, a restart or a learn. Replies and the calls of the history stand at
-positions of entries, counted from 1.
+of locks. What happens is an entry: a call, a delivery, an interrupt, a retry, a
+resend, a declaration, a restart or a learn. Replies and the calls of the history
+stand at positions of entries, counted from 1.
 
 A line that is refused is listed with its number and a code, and the run goes on:
   10  the node is not alive             13  the process has an open call

@@ -3,6 +3,7 @@
 
 pub mod edit;
 pub mod error;
+mod marks;
 pub mod processes;
 pub mod row;
 mod rows;

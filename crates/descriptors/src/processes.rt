@@ -2,12 +2,13 @@
 ghost use Rattle.std.specs.Prelude.{◌≡◌, ◌≢◌, ◌≤◌, ◌<◌, ◌↔◌, ℕ, true, false, None, Some, Ok, Err, IfOk, IfErr, IfSome, OnOk, OnErr, IsTrue, MatchOption, is_none};
 ghost use Rattle.model.specs.declared.reply.Reply.TheVariants.{Done, Fd};
 ghost use Rattle.model.specs.Limits.{IsNumber, most_processes, most_descriptors, most_descriptions};
-ghost use Rattle.model.specs.Descriptors.{no_processes, with_process, with_descriptor, lowest_fd, has_open, after_spawn, after_fork, after_open, after_dup};
+ghost use Rattle.model.specs.Descriptors.{no_processes, with_process, with_descriptor, lowest_fd, has_open, is_open, after_spawn, after_fork, after_open, after_dup};
 ghost use Rattle.descriptors.specs.Rows.{processes, resolved, Refuses, IsClosed};
 ghost use Rattle.descriptors.specs.Edits.{edited, Fits, HasPlace};
 
 use crate::edit::ProcessEdit;
 use crate::error::{FdError, ProcessError};
+use crate::marks::{Mark, mark_of, put_mark, share_marks};
 use crate::row::{Row, is_of_file};
 use crate::rows::{copy_row, is_idle, is_running, opened_at, refer, reset, same_rows, with_place};
 use crate::used::{is_open, lowest_description};
@@ -24,18 +25,21 @@ use std::marker::Model;
 pub struct Processes {
     // by the process's number; there is no process 0
     rows: Vec<Row>,
+    // by the description's number; nothing is known of one that has none
+    marks: [Mark; 1024],
 }
 
 impl Model for Processes {
     ghost use Rattle.std.specs.Prelude.{List};
     ghost use Rattle.descriptors.specs.declared.row.Row.{Row};
-    ghost use Rattle.descriptors.specs.Rows.{AreRows};
+    ghost use Rattle.descriptors.specs.Rows.{AreRows, processes};
+    ghost use Rattle.descriptors.specs.Marks.{AreMarks};
 
     ghost Value = { List Row };
 
     ghost view = { λ p. p.rows.items };
 
-    ghost invariant = { λ p. AreRows p.rows.items };
+    ghost invariant = { λ p. AreRows p.rows.items × AreMarks (processes p.rows.items) p.marks };
 }
 
 impl Processes {
@@ -46,6 +50,7 @@ impl Processes {
     {
         Processes {
             rows: Vec::new(alloc),
+            marks: [Mark::Unused; 1024],
         }
     }
 
@@ -180,14 +185,25 @@ impl Processes {
         None
     }
 
-    // The descriptor refers to this, or to nothing, from now on.
-    fn refer(&mut self, pid: u16, fd: u8, opened: Option<Opened>)
+    // The descriptor refers to this from now on.
+    fn refer(&mut self, pid: u16, fd: u8, opened: Opened)
         requires runs { (processes self.old).runs pid ≡ true }
         requires fd { fd < most_descriptors }
-        requires number { IfSome opened (λ o. IsNumber most_descriptions o.description) }
-        ensures { processes self.new ≡ with_descriptor (processes self.old) pid fd opened }
+        requires number { IsNumber most_descriptions opened.description }
+        ensures { processes self.new ≡ with_descriptor (processes self.old) pid fd (Some opened) }
     {
-        refer(&mut self.rows, pid as usize, fd, opened);
+        let mark = mark_of(&self.marks, opened.description).with_one_more();
+        put_mark(&mut self.marks, opened.description, mark);
+        refer(&mut self.rows, pid as usize, fd, Some(opened));
+    }
+
+    // The descriptor refers to nothing from now on.
+    fn free(&mut self, pid: u16, fd: u8)
+        requires runs { (processes self.old).runs pid ≡ true }
+        requires fd { fd < most_descriptors }
+        ensures { processes self.new ≡ with_descriptor (processes self.old) pid fd None }
+    {
+        refer(&mut self.rows, pid as usize, fd, None);
     }
 
     /// What `open` would change, and the descriptor that it would answer.
@@ -283,6 +299,7 @@ impl Processes {
         if let Some(rows) = rows {
             self.rows = rows;
         }
+        share_marks(&mut self.marks, &self.rows, pid as usize);
         copy_row(&mut self.rows, pid as usize, child as usize);
     }
 
@@ -306,8 +323,36 @@ impl Processes {
         match edit {
             ProcessEdit::Begins { pid, rows } => self.begin(pid, rows),
             ProcessEdit::Forks { pid, child, rows } => self.copy_to(pid, child, rows),
-            ProcessEdit::Opens { pid, fd, opened } => self.refer(pid, fd, Some(opened)),
+            ProcessEdit::Opens { pid, fd, opened } => self.refer(pid, fd, opened),
         }
+    }
+
+    // Whether no other descriptor refers to what this one refers to, by its mark alone.
+    fn is_alone(&self, pid: u16, fd: u8, opened: Opened) -> bool
+        requires was { resolved (processes self.now) pid fd ≡ Ok opened }
+        requires fd { fd < most_descriptors }
+        ensures { IsTrue result → is_open (with_descriptor (processes self.now) pid fd None) opened.description ≡ false }
+    {
+        match mark_of(&self.marks, opened.description) {
+            Mark::Unknown => false,
+            _ => true,
+        }
+    }
+
+    // Whether a descriptor of some process refers to the description.
+    fn is_open(&self, description: u16) -> bool
+        ensures { result ≡ is_open (processes self.now) description }
+    {
+        is_open(&self.rows, description)
+    }
+
+    // Notes that no descriptor refers to the description.
+    fn forget(&mut self, description: u16)
+        requires { is_open (processes self.old) description ≡ false }
+        ensures { self.new ≡ self.old }
+    {
+        let _ = &self.rows;
+        put_mark(&mut self.marks, description, Mark::Unused);
     }
 
     /// Closes the descriptor: it refers to nothing from now on. Answers whether the description went,
@@ -323,8 +368,13 @@ impl Processes {
         ensures unchanged { OnErr result (self.new ≡ self.old) }
     {
         let opened = self.resolve(pid, fd)?;
-        self.refer(pid, fd, None);
-        Ok(!is_open(&self.rows, opened.description))
+        let is_alone = self.is_alone(pid, fd, opened);
+        self.free(pid, fd);
+        let went = is_alone || !self.is_open(opened.description);
+        if went {
+            self.forget(opened.description);
+        }
+        Ok(went)
     }
 
     /// The process runs no longer, and has no descriptors, whether it ran before or not (POSIX.1-2017
@@ -353,6 +403,7 @@ impl Processes {
     {
         Ok(Processes {
             rows: Vec::from_slice(*self.rows.allocator(), &self.rows)?,
+            marks: self.marks,
         })
     }
 

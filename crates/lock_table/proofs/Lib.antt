@@ -5,4 +5,5 @@ pub mod SameRows
 pub mod BlockerLemmas
 pub mod ListingLemmas
 pub mod ListingParts
+pub mod FlagLemmas
 pub mod PageLemmas

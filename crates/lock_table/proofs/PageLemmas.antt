@@ -1,12 +1,9 @@
--- What sets of owners and indexes of pages keep.
-use Rattle.std.proofs.Common.{◌≡◌, ℕ, zero, suc, ◌+◌, ◌*◌, ◌/◌, ◌%◌, ◌^◌, ◌<◌, ◌≤◌, ◌⊎◌, nat_le, eqb, ◌&&◌, length, get_or, set, drop, List, [], ◌∷◌, Option, Some, None, refl, ap, sym, ◌∙◌, inl, inr, arith}
-use Rattle.std.specs.Prelude.{bit_or}
-use Rattle.std.specs.Int.{bit_at, w64}
-use Rattle.std.proofs.lemmas.Nat.Bits.{bit_at_ones, bit_at-zero, bit_at_or, bit_at-lt, bit_at_set_same}
+-- What indexes of pages keep.
+use Rattle.std.proofs.Common.{◌≡◌, ℕ, ◌+◌, ◌/◌, ◌<◌, ◌≤◌, ◌⊎◌, nat_le, eqb, ◌&&◌, length, get_or, drop, List, ◌∷◌, Option, Some, None, ap, sym, ◌∙◌, inl, inr, arith}
 use Rattle.std.specs.List.{All}
-use Rattle.std.proofs.lemmas.Bool.{cases_order, cases_lt, cases_Bool, and_parts, eqb-true}
+use Rattle.std.proofs.lemmas.Bool.{cases_lt, cases_Bool, and_parts, eqb-true}
 use Rattle.std.proofs.lemmas.Bool.Decides.{nat_tests}
-use Rattle.std.proofs.lemmas.List.{get_or-set_same, get_or_default, drop_all}
+use Rattle.std.proofs.lemmas.List.{get_or_default, drop_all}
 use Rattle.intervals.specs.declared.run.Run.{Run}
 use Rattle.intervals.specs.Bytes.{Range, greatest, nothing, is_in}
 use Rattle.intervals.specs.Runs.{bytes_of, value_at}
@@ -21,61 +18,7 @@ use Rattle.lock_table.proofs.RowLemmas.{is_of, row_place, row_at_from, held-at}
 use Rattle.lock_table.proofs.Orders.{owner_exact, place_itself}
 use Rattle.lock_table.proofs.SameRows.{drop_read}
 use Rattle.lock_table.specs.declared.owner_set.OwnerSet.{OwnerSet}
-use Rattle.lock_table.specs.Pages.{flag_of, Has, MayHold, Covers}
-
-four_words : (w q : ℕ) → q < 4 → get_or (w ∷ w ∷ w ∷ w ∷ []) q 0 ≡ w
-four_words w zero lt = refl
-four_words w (suc zero) lt = refl
-four_words w (suc (suc zero)) lt = refl
-four_words w (suc (suc (suc zero))) lt = refl
-four_words w (suc (suc (suc (suc q)))) lt = absurd (omega arith)
-
--- a set with each flag has each owner
-pub has_all : (o : Owner) → Has (record { words = 18446744073709551615 ∷ 18446744073709551615 ∷ 18446744073709551615 ∷ 18446744073709551615 ∷ [] }) o
-has_all o = record { set = rw (four_words 18446744073709551615 (flag_of o / 64) (omega arith)) (bit_at_ones 64 (flag_of o % 64) (omega arith)) }
-
--- a set with no flag has no owner
-pub has_none : (o : Owner) → Has (record { words = 0 ∷ 0 ∷ 0 ∷ 0 ∷ [] }) o → ⊥
-has_none o h =
-    let zero_word : bit_at (get_or (0 ∷ 0 ∷ 0 ∷ 0 ∷ []) (flag_of o / 64) 0) (flag_of o % 64) ≡ 0 = rw (four_words 0 (flag_of o / 64) (omega arith)) (bit_at-zero (flag_of o % 64)) in
-    let set = h.set in
-    omega (arith, zero_word, set)
-
-or_left : (a v k : ℕ) → bit_at a k ≡ 1 → bit_at (bit_or a v) k ≡ 1
-or_left a v k h = let below = bit_at-lt v k in bit_at_or a v k ∙ omega (arith, h, below)
-
-or_right : (a v k : ℕ) → bit_at v k ≡ 1 → bit_at (bit_or a v) k ≡ 1
-or_right a v k h = let below = bit_at-lt a k in bit_at_or a v k ∙ omega (arith, h, below)
-
--- flags that are put in leave the others
-word_kept : (w : List ℕ) (i q k v : ℕ) → bit_at (get_or w q 0) k ≡ 1 → bit_at (get_or (set w i (bit_or (get_or w i 0) v)) q 0) k ≡ 1
-word_kept [] zero q k v h = h
-word_kept [] (suc i) q k v h = h
-word_kept (x ∷ w) zero zero k v h = or_left x v k h
-word_kept (x ∷ w) zero (suc q) k v h = h
-word_kept (x ∷ w) (suc i) zero k v h = h
-word_kept (x ∷ w) (suc i) (suc q) k v h = word_kept w i q k v h
-
-pub has-kept : (w : List ℕ) (i v : ℕ) (o : Owner) → Has (record { words = w }) o → Has (record { words = set w i (bit_or (get_or w i 0) v) }) o
-has-kept w i v o h = record { set = word_kept w i (flag_of o / 64) (flag_of o % 64) v h.set }
-
--- the flags of the word that is put in
-pub has-joined : (w u : List ℕ) (i : ℕ) (o : Owner) → i < length w → flag_of o / 64 ≡ i → Has (record { words = u }) o → Has (record { words = set w i (bit_or (get_or w i 0) (get_or u i 0)) }) o
-has-joined w u i o lt here h =
-    let flag : bit_at (get_or u i 0) (flag_of o % 64) ≡ 1 = rw (← here) h.set in
-    record { set = rw (here, get_or-set_same w i (bit_or (get_or w i 0) (get_or u i 0)) 0 lt) (or_right (get_or w i 0) (get_or u i 0) (flag_of o % 64) flag) }
-
--- the owner that is put in
-pub has-added : (w : List ℕ) (o : Owner) → flag_of o / 64 < length w → Has (record { words = set w (flag_of o / 64) (bit_or (get_or w (flag_of o / 64) 0) (1 * 2 ^ (flag_of o % 64) % 2 ^ 64)) }) o
-has-added w o lt = record { set = rw (get_or-set_same w (flag_of o / 64) (bit_or (get_or w (flag_of o / 64) 0) (1 * 2 ^ (flag_of o % 64) % 2 ^ 64)) 0 lt) (bit_at_set_same w64 (get_or w (flag_of o / 64) 0) (flag_of o % 64) (omega arith)) }
-
--- a word more
-pub has-more : (w u : List ℕ) (i : ℕ) → i < length w → ((o : Owner) → flag_of o / 64 < i → Has (record { words = u }) o → Has (record { words = w }) o) → (o : Owner) → flag_of o / 64 < i + 1 → Has (record { words = u }) o → Has (record { words = set w i (bit_or (get_or w i 0) (get_or u i 0)) }) o
-has-more w u i lt before o more h = elim (cases_order (flag_of o / 64) i) [
-  | inl same ↦ has-joined w u i o lt same h
-  | inr (inl below) ↦ has-kept w i (get_or u i 0) o (before o below h)
-  | inr (inr above) ↦ absurd (omega arith)
-]
+use Rattle.lock_table.specs.Pages.{Has, MayHold, Covers, slot_of}
 
 -- a byte of the runs that are left is one of the first of them, or of the others
 pub run-step : (runs : List (Run Mode)) (i : ℕ) (d : Run Mode) (b : ℕ) (m : Mode) → i < length runs → value_at (drop i runs) b ≡ Some m → (((get_or runs i d).lo ≤ b) × (b ≤ (get_or runs i d).hi)) ⊎ (value_at (drop (i + 1) runs) b ≡ Some m)
@@ -151,3 +94,13 @@ none_near x near rows part file i r s covers nearby same order files lt is away 
     let own : held part file r.owner ≡ value_at r.spans = rw (← of_file) (row_held part i r order lt is) in
     let here : held rows file r.owner b ≡ Some m = sym (ap (λ (h : FileLocks). h r.owner b) same) ∙ ap (λ (h : ℕ → Option Mode). h b) own ∙ at in
     away (nearby r.owner b low high (covers file r.owner b m here))
+
+-- more owners of long runs
+pub may-long : (x : PageIndex) (long : OwnerSet) → ((o : Owner) → Has x.long o → Has long o) → (f : ℕ) (o : Owner) (b : ℕ) → MayHold x f o b → MayHold (record x { long = long }) f o b
+may-long x long keeps f o b may = record {
+  noted = λ kept. elim (may.noted (kept.0, kept.1)) [
+    | inl was ↦ inl (keeps o was)
+    | inr page ↦ inr (rw (get_or_default x.sets.items (slot_of f (b / 8192)) long x.long (omega (arith, kept.0))) page)
+  ];
+  in_file = λ kept. elim (may.in_file (kept.0, kept.1)) [ inl wide ↦ inl wide | inr file ↦ inr (record { number = file.number; set = file.set }) ];
+}

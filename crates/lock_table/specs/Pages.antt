@@ -1,9 +1,11 @@
 -- Which owners may hold bytes of which pages, as an index has it.
-use Rattle.std.specs.Prelude.{◌≡◌, ℕ, ◌+◌, ◌*◌, ◌/◌, ◌%◌, ◌⊎◌, Some, length, get_or}
+use Rattle.std.specs.Prelude.{◌≡◌, ℕ, ◌+◌, ◌-◌, ◌*◌, ◌/◌, ◌%◌, ◌⊎◌, Some, length, get_or, []}
 use Rattle.std.specs.Int.{bit_at}
+use Rattle.model.specs.Limits.{IsNumber}
 use Rattle.model.specs.Locks.{Locks}
 use Rattle.model.specs.declared.mode.Mode.{Mode}
 use Rattle.model.specs.declared.owner.Owner.{Owner}
+use Rattle.lock_table.specs.declared.flag_set.FlagSet.{FlagSet}
 use Rattle.lock_table.specs.declared.owner_set.OwnerSet.{OwnerSet}
 use Rattle.lock_table.specs.declared.page_index.PageIndex.{PageIndex}
 
@@ -11,9 +13,13 @@ use Rattle.lock_table.specs.declared.page_index.PageIndex.{PageIndex}
 abbrev pub flag_of : Owner → ℕ
 flag_of o = (o.node * 32 + o.number) % 256
 
+-- the set has the flag
+pub record HasFlag (s : FlagSet) (flag : ℕ) : Type 0 where
+  pub set : bit_at (get_or s.words (flag / 64) 0) (flag % 64) ≡ 1
+
 -- the set has the owner's flag
-pub record Has (s : OwnerSet) (o : Owner) : Type 0 where
-  pub set : bit_at (get_or s.words (flag_of o / 64) 0) (flag_of o % 64) ≡ 1
+abbrev pub Has : OwnerSet → Owner → Type 0
+Has s o = HasFlag s.flags (flag_of o)
 
 -- the place of a page's set, which the page shares with others
 abbrev pub slot_of : ℕ → ℕ → ℕ
@@ -21,15 +27,25 @@ slot_of file page = (page + file * 1031) % 8192
 
 -- the index has memory
 abbrev pub IsKept : PageIndex → Type 0
-IsKept x = length x.sets.items ≡ 8192
+IsKept x = (length x.sets.items ≡ 8192) × (length x.files.items ≡ 256)
 
 -- the set of the page has the owner
 abbrev pub HasPage : PageIndex → ℕ → Owner → ℕ → Type 0
 HasPage x file o page = Has (get_or x.sets.items (slot_of file page) x.long) o
 
--- where the index is kept, it has the owner among those of long runs or of the byte's page
+abbrev pub no_flags : FlagSet
+no_flags = record { words = [] }
+
+-- the set of the owner's flag has the file
+pub record HasFile (x : PageIndex) (file : ℕ) (o : Owner) : Type 0 where
+  pub number : IsNumber 256 file
+  pub set : HasFlag (get_or x.files.items (flag_of o) no_flags) (file - 1)
+
+-- where the index is kept, it has the owner among those of long runs or of the byte's page, and the file
+-- among the owner's, or the owner among those of other files
 pub record MayHold (x : PageIndex) (file : ℕ) (o : Owner) (b : ℕ) : Type 0 where
   pub noted : IsKept x → Has x.long o ⊎ HasPage x file o (b / 8192)
+  pub in_file : IsKept x → Has x.wide o ⊎ HasFile x file o
 
 -- each owner that holds a byte may do so by the index
 abbrev pub Covers : PageIndex → Locks → Type 0

@@ -1,12 +1,12 @@
 -- The rows of a lock table, and the locks that they hold.
-use Rattle.std.specs.Prelude.{◌≡◌, ◌≢◌, ℕ, zero, suc, ◌<◌, ◌≤◌, Option, None, length, List, [], ◌∷◌}
+use Rattle.std.specs.Prelude.{◌≡◌, ◌≢◌, ℕ, zero, suc, ◌<◌, ◌≤◌, ◌⊎◌, false, Option, None, length, List, [], ◌∷◌}
 use Rattle.std.specs.Ordering.{nat_cmp, ordering_then}
 use Rattle.std.specs.declared.cmp.Ordering.{Ordering}
 use Rattle.std.specs.declared.cmp.Ordering.TheVariants.{Less, Equal, Greater}
 use Rattle.intervals.specs.Bytes.{greatest, nothing}
 use Rattle.intervals.specs.Runs.{value_at}
 use Rattle.model.specs.Locks.{FileLocks, Locks, no_locks, replace}
-use Rattle.model.specs.Owners.{owner_cmp}
+use Rattle.model.specs.Owners.{same_owner, owner_cmp}
 use Rattle.model.specs.declared.mode.Mode.{Mode}
 use Rattle.model.specs.declared.owner.Owner.{Owner}
 use Rattle.lock_table.specs.declared.row.Row.{Row}
@@ -68,3 +68,8 @@ pub record IsSameRow (a b : Row) : Type 0 where
   pub file : a.file ≡ b.file
   pub owner : a.owner ≡ b.owner
   pub bytes : value_at a.spans ≡ value_at b.spans
+
+-- the owner holds in each file what it held, or nothing, and others hold what they held
+pub record HoldsLess (owner : Owner) (before after : Locks) : Type 0 where
+  pub own : (f : ℕ) → (after f owner ≡ nothing) ⊎ (after f owner ≡ before f owner)
+  pub others : (f : ℕ) (o : Owner) → same_owner owner o ≡ false → after f o ≡ before f o

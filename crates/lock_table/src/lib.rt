@@ -2,6 +2,7 @@
 #![tactic(auto)]
 
 pub mod error;
+pub mod flag_set;
 pub mod laws;
 pub mod lock_table;
 pub mod order;

@@ -1,17 +1,19 @@
 //! The record locks of one node.
-ghost use Rattle.std.specs.Prelude.{◌≡◌, ◌≤◌, ◌<◌, All, IfOk, length, insert, [], IsTrue, ◌↔◌, OnOk, OnErr, Err, Some, None, MatchOption, MatchResult};
+ghost use Rattle.std.specs.Prelude.{◌≡◌, ℕ, ◌≤◌, ◌<◌, ◌+◌, ◌-◌, ◌/◌, All, IfOk, IfSome, length, insert, [], IsTrue, ◌↔◌, OnOk, OnErr, Err, Some, None, MatchOption, MatchResult};
 ghost use Rattle.std.specs.List.{AllZip};
-ghost use Rattle.intervals.specs.Bytes.{put};
+ghost use Rattle.intervals.specs.Bytes.{nothing, put};
 ghost use Rattle.intervals.specs.Runs.{value_at};
 ghost use Rattle.model.specs.Limits.{most_regions};
 ghost use Rattle.model.specs.Locks.{no_locks, replace, with_lock, without_owner, without_owner_anywhere, regions, IsFree, IsRegion, IsLowestBlocker};
+ghost use Rattle.model.specs.declared.mode.Mode.{Mode as SomeMode};
 ghost use Rattle.lock_table.specs.declared.error.LockError.TheVariants.{NoLocks};
 ghost use Rattle.std.specs.Vec.{vec_capacity};
-ghost use Rattle.lock_table.specs.Rows.{held, HasRoom, AreRows, IsRowAt, IsGap, HoldsSome, IsSameRow};
+ghost use Rattle.lock_table.specs.Rows.{held, HoldsLess, HasRoom, AreRows, IsRowAt, IsGap, HoldsSome, IsSameRow};
 ghost use Rattle.lock_table.specs.Listing.{IsListing};
-ghost use Rattle.lock_table.specs.Pages.{IsKept};
+ghost use Rattle.lock_table.specs.Pages.{HasFlag, IsKept};
 
 use crate::error::LockError;
+use crate::flag_set::FlagSet;
 use crate::order::{cmp_regions, lowest_of};
 use crate::page_index::PageIndex;
 use crate::row::{Row, Spans};
@@ -327,11 +329,55 @@ impl LockTable {
         }
     }
 
+    // The files in which the owner may hold bytes, the first one by flag 0; `None` where the table doesn't
+    // know.
+    fn files_of(&self, owner: Owner) -> Option<FlagSet>
+        ensures { IfSome result (λ files. (f b : ℕ) (m : SomeMode) → held self.now f owner b ≡ Some m → (1 ≤ f) × (f ≤ 256) × HasFlag files (f - 1)) }
+    {
+        self.index.files_of(owner)
+    }
+
+    // Takes each byte of the files with those of 64 flags from an owner.
+    fn drop_in_word(&mut self, owner: Owner, files: &FlagSet, word: u16)
+        requires { word < 4 }
+        ensures less { HoldsLess owner (held self.old) (held self.new) }
+        ensures gone { (k : ℕ) → k / 64 ≡ word → HasFlag files.now k → held self.new (k + 1) owner ≡ nothing }
+    {
+        for bit in 0..64 {
+            let flag = word * 64 + bit;
+            if files.has(flag as usize) {
+                self.drop_owner(owner, flag + 1);
+            }
+        }
+    }
+
+    // Takes each byte of the files with these flags from an owner.
+    fn drop_in_files(&mut self, owner: Owner, files: &FlagSet)
+        ensures less { HoldsLess owner (held self.old) (held self.new) }
+        ensures gone { (k : ℕ) → k < 256 → HasFlag files.now k → held self.new (k + 1) owner ≡ nothing }
+    {
+        for word in 0..4 {
+            if files.has_some(word as usize) {
+                self.drop_in_word(owner, files, word);
+            }
+        }
+    }
+
+    // Takes the rows of an owner out.
+    fn drop_rows(&mut self, owner: Owner)
+        ensures { held self.new ≡ without_owner_anywhere (held self.old) owner }
+    {
+        self.rows.retain(|row| row.owner != owner);
+    }
+
     /// Takes each byte of every file from an owner. Takes no memory.
     pub fn drop_owner_anywhere(&mut self, owner: Owner)
         ensures { held self.new ≡ without_owner_anywhere (held self.old) owner }
     {
-        self.rows.retain(|row| row.owner != owner);
+        match self.files_of(owner) {
+            Some(files) => self.drop_in_files(owner, &files),
+            None => self.drop_rows(owner),
+        }
     }
 
     /// The region of another owner that blocks the mode in the span (POSIX.1-2017 `fcntl()`,

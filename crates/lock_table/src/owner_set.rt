@@ -1,23 +1,22 @@
 //! Sets of owners that may have more than was put in.
-ghost use Rattle.std.specs.Prelude.{◌≡◌, IsTrue, ◌↔◌};
+ghost use Rattle.std.specs.Prelude.{◌≡◌, ◌<◌, IsTrue, ◌↔◌};
 ghost use Rattle.model.specs.declared.owner.Owner.{Owner as SomeOwner};
 ghost use Rattle.lock_table.specs.Pages.{flag_of, Has};
 
+use crate::flag_set::FlagSet;
 use model::owner::Owner;
-
-// How many flags a word has.
-const WORD: usize = 64;
 
 /// Some owners: each has one of 256 flags, which it shares with others. So a set can have more owners
 /// than were put in.
 #[derive(Clone, Copy)]
 pub struct OwnerSet {
-    words: [u64; 4],
+    flags: FlagSet,
 }
 
-// The flag of an owner.
-fn flag_of(owner: Owner) -> usize
-    ensures { result ≡ flag_of owner }
+/// The flag of an owner.
+pub(crate) fn flag_of(owner: Owner) -> usize
+    ensures result { result ≡ flag_of owner }
+    ensures within { result < 256 }
 {
     (owner.node as usize * 32 + owner.number as usize) % 256
 }
@@ -27,7 +26,9 @@ impl OwnerSet {
     pub(crate) fn none() -> Self
         ensures { (o : SomeOwner) → Has result o → ⊥ }
     {
-        OwnerSet { words: [0; 4] }
+        OwnerSet {
+            flags: FlagSet::none(),
+        }
     }
 
     /// Each owner.
@@ -35,7 +36,7 @@ impl OwnerSet {
         ensures { (o : SomeOwner) → Has result o }
     {
         OwnerSet {
-            words: [u64::MAX; 4],
+            flags: FlagSet::all(),
         }
     }
 
@@ -43,8 +44,7 @@ impl OwnerSet {
     pub(crate) fn has(&self, owner: Owner) -> bool
         ensures { IsTrue result ↔ Has self.now owner }
     {
-        let flag = flag_of(owner);
-        (self.words[flag / WORD] >> (flag % WORD)) & 1 == 1
+        self.flags.has(flag_of(owner))
     }
 
     /// Puts an owner in.
@@ -52,8 +52,7 @@ impl OwnerSet {
         ensures kept { (o : SomeOwner) → Has self.old o → Has self.new o }
         ensures added { Has self.new owner }
     {
-        let flag = flag_of(owner);
-        self.words[flag / WORD] |= 1 << (flag % WORD);
+        self.flags.add(flag_of(owner));
     }
 
     /// Puts the owners of another set in.
@@ -61,8 +60,6 @@ impl OwnerSet {
         ensures kept { (o : SomeOwner) → Has self.old o → Has self.new o }
         ensures joined { (o : SomeOwner) → Has other.now o → Has self.new o }
     {
-        for i in 0..self.words.len() {
-            self.words[i] |= other.words[i];
-        }
+        self.flags.join(&other.flags);
     }
 }

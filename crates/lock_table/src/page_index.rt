@@ -1,12 +1,13 @@
-//! Which owners may hold bytes of which pages.
-ghost use Rattle.std.specs.Prelude.{◌≡◌, ℕ, ◌<◌, ◌≤◌, ◌^◌, ◌⊎◌, Some, IfOk, IsTrue, ◌↔◌};
+//! Which owners may hold bytes of which pages, and in which files.
+ghost use Rattle.std.specs.Prelude.{◌≡◌, ℕ, ◌-◌, ◌<◌, ◌≤◌, ◌^◌, ◌⊎◌, Some, IfOk, IfSome, IsTrue, ◌↔◌};
 ghost use Rattle.intervals.specs.Runs.{value_at};
 ghost use Rattle.model.specs.declared.mode.Mode.{Mode as SomeMode};
 ghost use Rattle.model.specs.declared.owner.Owner.{Owner as SomeOwner};
 ghost use Rattle.lock_table.specs.Rows.{held, AreRows, IsBounded};
-ghost use Rattle.lock_table.specs.Pages.{Has, MayHold, HasPage, IsKept, Covers, slot_of};
+ghost use Rattle.lock_table.specs.Pages.{Has, HasFlag, HasFile, MayHold, HasPage, IsKept, Covers, slot_of};
 
-use crate::owner_set::OwnerSet;
+use crate::flag_set::FlagSet;
+use crate::owner_set::{OwnerSet, flag_of};
 use crate::row::{Row, Spans};
 use intervals::run::Run;
 use intervals::span::{GREATEST, Span};
@@ -18,8 +19,13 @@ use std::alloc::Global;
 // How many bytes a page has.
 const PAGE: u64 = 8192;
 
-// How many sets an index has, where it is kept.
+// How many sets of owners an index has for pages, where it is kept, and how many of files.
 const SETS: usize = 8192;
+
+const FILE_SETS: usize = 256;
+
+// A file with a greater number has no flag.
+const MOST_FILES: u16 = 256;
 
 // A run of more pages is noted as a long one, and a span of more is not looked up.
 const MOST_PAGES: u64 = 32;
@@ -27,13 +33,16 @@ const MOST_PAGES: u64 = 32;
 // After so many notes an index is due to be made anew, since it doesn't lose what rows give up.
 const MOST_NOTES: u32 = 4096;
 
-/// Which owners may hold bytes of which pages. Each page of each file has a set of owners, which it
-/// shares with others; the owners of long runs have a set of their own. An index without memory is not
-/// kept, and says that each owner may hold each byte. A wrong hint costs time alone.
+/// Which owners may hold bytes of which pages, and in which files. Each page of each file has a set of
+/// owners, which it shares with others; the owners of long runs have a set of their own. Each flag of
+/// owners has a set of files; the owners in files past the 256th have a set of their own. An index without
+/// memory is not kept, and says that each owner may hold each byte. A wrong hint costs time alone.
 #[derive(Drop)]
 pub struct PageIndex {
     sets: Vec<OwnerSet>,
+    files: Vec<FlagSet>,
     long: OwnerSet,
+    wide: OwnerSet,
     notes: u32,
 }
 
@@ -54,7 +63,9 @@ impl PageIndex {
     {
         PageIndex {
             sets: Vec::new(alloc),
+            files: Vec::new(alloc),
             long: OwnerSet::none(),
+            wide: OwnerSet::none(),
             notes: 0,
         }
     }
@@ -68,9 +79,13 @@ impl PageIndex {
     {
         let mut sets = Vec::with_capacity(alloc, SETS)?;
         sets.resize(SETS, OwnerSet::none())?;
+        let mut files = Vec::with_capacity(alloc, FILE_SETS)?;
+        files.resize(FILE_SETS, FlagSet::none())?;
         Ok(PageIndex {
             sets,
+            files,
             long: OwnerSet::none(),
+            wide: OwnerSet::none(),
             notes: 0,
         })
     }
@@ -79,7 +94,7 @@ impl PageIndex {
     pub(crate) fn is_kept(&self) -> bool
         ensures { IsTrue result ↔ IsKept self.now }
     {
-        self.sets.len() == SETS
+        self.sets.len() == SETS && self.files.len() == FILE_SETS
     }
 
     /// Whether it is due to be made anew.
@@ -105,6 +120,34 @@ impl PageIndex {
         near
     }
 
+    /// The files in which the owner may hold bytes, the first one by flag 0; `None` where the index doesn't
+    /// know.
+    pub(crate) fn files_of(&self, owner: Owner) -> Option<FlagSet>
+        ensures { IfSome result (λ files. (f b : ℕ) → MayHold self.now f owner b → (1 ≤ f) × (f ≤ 256) × HasFlag files (f - 1)) }
+    {
+        if !self.is_kept() || self.wide.has(owner) {
+            return None;
+        }
+        Some(self.files[flag_of(owner)])
+    }
+
+    // Notes that the owner may hold bytes of the file.
+    fn note_file(&mut self, file: u16, owner: Owner)
+        requires kept { IsKept self.old }
+        ensures kept { IsKept self.new }
+        ensures keeps { (f : ℕ) (o : SomeOwner) (b : ℕ) → MayHold self.old f o b → MayHold self.new f o b }
+        ensures noted { Has self.new.wide owner ⊎ HasFile self.new file owner }
+    {
+        if file == 0 || file > MOST_FILES {
+            self.wide.add(owner);
+            return;
+        }
+        let flag = flag_of(owner);
+        let mut files = self.files[flag];
+        files.add(file as usize - 1);
+        self.files[flag] = files;
+    }
+
     // Notes that the owner may hold bytes of the page.
     fn note_page(&mut self, file: u16, owner: Owner, page: u64)
         requires kept { IsKept self.old }
@@ -113,6 +156,8 @@ impl PageIndex {
         ensures keeps { (f : ℕ) (o : SomeOwner) (b : ℕ) → MayHold self.old f o b → MayHold self.new f o b }
         ensures pages { (p : ℕ) → HasPage self.old file owner p → HasPage self.new file owner p }
         ensures noted { HasPage self.new file owner page }
+        ensures files { self.new.files.items ≡ self.old.files.items }
+        ensures wide { self.new.wide ≡ self.old.wide }
     {
         let slot = slot_of(file, page);
         let mut set = self.sets[slot];
@@ -127,6 +172,7 @@ impl PageIndex {
         ensures keeps { (f : ℕ) (o : SomeOwner) (b : ℕ) → MayHold self.old f o b → MayHold self.new f o b }
         ensures noted { (b : ℕ) → run.now.lo ≤ b → b ≤ run.now.hi → MayHold self.new file owner b }
     {
+        self.note_file(file, owner);
         let first = run.lo / PAGE;
         let last = run.hi / PAGE;
         if last.saturating_sub(first) > MOST_PAGES {
@@ -190,7 +236,9 @@ impl PageIndex {
             return;
         }
         self.sets.fill(OwnerSet::none());
+        self.files.fill(FlagSet::none());
         self.long = OwnerSet::none();
+        self.wide = OwnerSet::none();
         self.notes = 0;
         for row in rows {
             self.note_row(row);

@@ -6,7 +6,7 @@ use Rattle.model.specs.declared.op.Op.{Op}
 use Rattle.messages.specs.Shapes.{most_files}
 use Rattle.cluster_core.specs.World.{most_incarnations}
 use Rattle.lockscript.specs.declared.script_line.Command.{Command}
-use Rattle.lockscript.specs.declared.script_line.Command.TheVariants.{Call, Deliver, Lose, Settle, Retry, Resend, Declare, Restart, Learn}
+use Rattle.lockscript.specs.declared.script_line.Command.TheVariants.{Call, Deliver, Lose, Settle, Interrupt, Retry, Resend, Declare, Restart, Learn}
 use Rattle.lockscript.specs.Layout.{space}
 use Rattle.lockscript.specs.Reads.{Reads, Both, IsOneField, Lacks, pair_text}
 use Rattle.lockscript.specs.Scripts.{IsCommand, command_text, greatest_message}
@@ -23,6 +23,7 @@ pub data CommandKind : Type 0 where
   delivers : CommandKind
   loses : CommandKind
   settles : CommandKind
+  interrupts : CommandKind
   retries : CommandKind
   resends : CommandKind
   declares : CommandKind
@@ -34,6 +35,7 @@ Operands calls = ℕ × (ℕ × Op)
 Operands delivers = ℕ
 Operands loses = ℕ
 Operands settles = ⊤
+Operands interrupts = ℕ × ℕ
 Operands retries = ℕ × ℕ
 Operands resends = ℕ
 Operands declares = ℕ
@@ -46,6 +48,7 @@ front calls = codes "call "
 front delivers = codes "deliver "
 front loses = codes "lose "
 front settles = codes "settle"
+front interrupts = codes "interrupt "
 front retries = codes "retry "
 front resends = codes "resend "
 front declares = codes "declare "
@@ -58,6 +61,7 @@ table =
     ∷ (codes "deliver ", delivers)
     ∷ (codes "lose ", loses)
     ∷ (codes "settle", settles)
+    ∷ (codes "interrupt ", interrupts)
     ∷ (codes "retry ", retries)
     ∷ (codes "resend ", resends)
     ∷ (codes "declare ", declares)
@@ -75,6 +79,7 @@ rest calls = pair_text decimal (pair_text decimal op_text)
 rest delivers = decimal
 rest loses = decimal
 rest settles = λ _. []
+rest interrupts = pair_text decimal decimal
 rest retries = pair_text decimal decimal
 rest resends = decimal
 rest declares = decimal
@@ -86,6 +91,7 @@ Fit calls = Both (IsNumber most_nodes) (Both (IsNumber most_processes) IsServedO
 Fit delivers = IsNumber greatest_message
 Fit loses = IsNumber greatest_message
 Fit settles = λ _. ⊤
+Fit interrupts = Both (IsNumber most_nodes) (IsNumber most_processes)
 Fit retries = Both (IsNumber most_nodes) (IsNumber most_processes)
 Fit resends = IsNumber most_files
 Fit declares = IsNumber most_nodes
@@ -112,12 +118,16 @@ apart-learn : AreApart (pair_text decimal (pair_text decimal decimal)) (Both (Is
 apart-learn = apart-pair decimal (pair_text decimal decimal) (IsNumber most_files) (Both (IsNumber most_nodes) (IsNumber most_incarnations)) file_words apart-file
     (apart-pair decimal decimal (IsNumber most_nodes) (IsNumber most_incarnations) node_words apart-node (apart-number most_incarnations (omega arith)))
 
+apart-node_and_pid : AreApart (pair_text decimal decimal) (Both (IsNumber most_nodes) (IsNumber most_processes))
+apart-node_and_pid = apart-pair decimal decimal (IsNumber most_nodes) (IsNumber most_processes) node_words apart-node apart-pid
+
 apart-rest : (k : CommandKind) → AreApart (rest k) (Fit k)
 apart-rest calls = apart-call
 apart-rest delivers = apart-message
 apart-rest loses = apart-message
 apart-rest settles = λ p q p_fits q_fits e. refl
-apart-rest retries = apart-pair decimal decimal (IsNumber most_nodes) (IsNumber most_processes) node_words apart-node apart-pid
+apart-rest interrupts = apart-node_and_pid
+apart-rest retries = apart-node_and_pid
 apart-rest resends = apart-file
 apart-rest declares = apart-node
 apart-rest restarts = apart-node
@@ -128,6 +138,7 @@ make calls p = Call p.0 p.1.0 p.1.1
 make delivers message = Deliver message
 make loses message = Lose message
 make settles _ = Settle
+make interrupts p = Interrupt p.0 p.1
 make retries p = Retry p.0 p.1
 make resends file = Resend file
 make declares node = Declare node
@@ -139,6 +150,7 @@ kind_of (Call node pid op) = calls
 kind_of (Deliver message) = delivers
 kind_of (Lose message) = loses
 kind_of Settle = settles
+kind_of (Interrupt node pid) = interrupts
 kind_of (Retry node pid) = retries
 kind_of (Resend file) = resends
 kind_of (Declare node) = declares
@@ -150,6 +162,7 @@ operands_of (Call node pid op) = (node, (pid, op))
 operands_of (Deliver message) = message
 operands_of (Lose message) = message
 operands_of Settle = tt
+operands_of (Interrupt node pid) = (node, pid)
 operands_of (Retry node pid) = (node, pid)
 operands_of (Resend file) = file
 operands_of (Declare node) = node
@@ -195,6 +208,7 @@ no_command_alone word one no_settle (Call node pid op) within e = one (codes "ca
 no_command_alone word one no_settle (Deliver message) within e = one (codes "deliver") _ (one-word (codes "deliver") refl) e
 no_command_alone word one no_settle (Lose message) within e = one (codes "lose") _ (one-word (codes "lose") refl) e
 no_command_alone word one no_settle Settle within e = no_settle e
+no_command_alone word one no_settle (Interrupt node pid) within e = one (codes "interrupt") _ (one-word (codes "interrupt") refl) e
 no_command_alone word one no_settle (Retry node pid) within e = one (codes "retry") _ (one-word (codes "retry") refl) e
 no_command_alone word one no_settle (Resend file) within e = one (codes "resend") _ (one-word (codes "resend") refl) e
 no_command_alone word one no_settle (Declare node) within e = one (codes "declare") _ (one-word (codes "declare") refl) e
@@ -202,15 +216,16 @@ no_command_alone word one no_settle (Restart node) within e = one (codes "restar
 no_command_alone word one no_settle (Learn file node incarnation) within e = one (codes "learn") _ (one-word (codes "learn") refl) e
 
 -- a word of none of them is no line, whatever stands behind it
-pub no_command_with : (word operands : List ℕ) → Lacks space word → word ≢ codes "call" → word ≢ codes "deliver" → word ≢ codes "lose" → word ≢ codes "retry" → word ≢ codes "resend"
+pub no_command_with : (word operands : List ℕ) → Lacks space word → word ≢ codes "call" → word ≢ codes "deliver" → word ≢ codes "lose" → word ≢ codes "interrupt" → word ≢ codes "retry" → word ≢ codes "resend"
     → word ≢ codes "declare" → word ≢ codes "restart" → word ≢ codes "learn"
     → Reads command_text IsCommand (word ++ space ∷ operands) None
-no_command_with word operands lacks no_call no_deliver no_lose no_retry no_resend no_declare no_restart no_learn (Call node pid op) within e = no_call (first-word word (codes "call") operands _ lacks refl e)
-no_command_with word operands lacks no_call no_deliver no_lose no_retry no_resend no_declare no_restart no_learn (Deliver message) within e = no_deliver (first-word word (codes "deliver") operands _ lacks refl e)
-no_command_with word operands lacks no_call no_deliver no_lose no_retry no_resend no_declare no_restart no_learn (Lose message) within e = no_lose (first-word word (codes "lose") operands _ lacks refl e)
-no_command_with word operands lacks no_call no_deliver no_lose no_retry no_resend no_declare no_restart no_learn Settle within e = not-one word operands (codes "settle") lacks refl e
-no_command_with word operands lacks no_call no_deliver no_lose no_retry no_resend no_declare no_restart no_learn (Retry node pid) within e = no_retry (first-word word (codes "retry") operands _ lacks refl e)
-no_command_with word operands lacks no_call no_deliver no_lose no_retry no_resend no_declare no_restart no_learn (Resend file) within e = no_resend (first-word word (codes "resend") operands _ lacks refl e)
-no_command_with word operands lacks no_call no_deliver no_lose no_retry no_resend no_declare no_restart no_learn (Declare node) within e = no_declare (first-word word (codes "declare") operands _ lacks refl e)
-no_command_with word operands lacks no_call no_deliver no_lose no_retry no_resend no_declare no_restart no_learn (Restart node) within e = no_restart (first-word word (codes "restart") operands _ lacks refl e)
-no_command_with word operands lacks no_call no_deliver no_lose no_retry no_resend no_declare no_restart no_learn (Learn file node incarnation) within e = no_learn (first-word word (codes "learn") operands _ lacks refl e)
+no_command_with word operands lacks no_call no_deliver no_lose no_interrupt no_retry no_resend no_declare no_restart no_learn (Call node pid op) within e = no_call (first-word word (codes "call") operands _ lacks refl e)
+no_command_with word operands lacks no_call no_deliver no_lose no_interrupt no_retry no_resend no_declare no_restart no_learn (Deliver message) within e = no_deliver (first-word word (codes "deliver") operands _ lacks refl e)
+no_command_with word operands lacks no_call no_deliver no_lose no_interrupt no_retry no_resend no_declare no_restart no_learn (Lose message) within e = no_lose (first-word word (codes "lose") operands _ lacks refl e)
+no_command_with word operands lacks no_call no_deliver no_lose no_interrupt no_retry no_resend no_declare no_restart no_learn Settle within e = not-one word operands (codes "settle") lacks refl e
+no_command_with word operands lacks no_call no_deliver no_lose no_interrupt no_retry no_resend no_declare no_restart no_learn (Interrupt node pid) within e = no_interrupt (first-word word (codes "interrupt") operands _ lacks refl e)
+no_command_with word operands lacks no_call no_deliver no_lose no_interrupt no_retry no_resend no_declare no_restart no_learn (Retry node pid) within e = no_retry (first-word word (codes "retry") operands _ lacks refl e)
+no_command_with word operands lacks no_call no_deliver no_lose no_interrupt no_retry no_resend no_declare no_restart no_learn (Resend file) within e = no_resend (first-word word (codes "resend") operands _ lacks refl e)
+no_command_with word operands lacks no_call no_deliver no_lose no_interrupt no_retry no_resend no_declare no_restart no_learn (Declare node) within e = no_declare (first-word word (codes "declare") operands _ lacks refl e)
+no_command_with word operands lacks no_call no_deliver no_lose no_interrupt no_retry no_resend no_declare no_restart no_learn (Restart node) within e = no_restart (first-word word (codes "restart") operands _ lacks refl e)
+no_command_with word operands lacks no_call no_deliver no_lose no_interrupt no_retry no_resend no_declare no_restart no_learn (Learn file node incarnation) within e = no_learn (first-word word (codes "learn") operands _ lacks refl e)

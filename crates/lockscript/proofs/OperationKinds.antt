@@ -5,7 +5,7 @@ use Rattle.model.specs.Limits.{IsNumber, most_processes}
 use Rattle.model.specs.declared.access.Access.{Access}
 use Rattle.model.specs.declared.mode.Mode.{Mode}
 use Rattle.model.specs.declared.op.Op.{Op}
-use Rattle.model.specs.declared.op.Op.TheVariants.{Spawn, Fork, Open, Dup, Close, Exit, Set, Unlock, Query}
+use Rattle.model.specs.declared.op.Op.TheVariants.{Spawn, Fork, Open, Dup, Close, Exit, Set, Wait, Unlock, Query}
 use Rattle.model.specs.declared.owner.Kind.{Kind}
 use Rattle.messages.specs.Shapes.{most_files}
 use Rattle.lockscript.specs.Layout.{space}
@@ -25,6 +25,7 @@ pub data OpKind : Type 0 where
   closes : OpKind
   exits : OpKind
   sets : OpKind
+  waits : OpKind
   unlocks : OpKind
   queries : OpKind
 
@@ -36,6 +37,7 @@ Operands dups = ℕ
 Operands closes = ℕ
 Operands exits = ⊤
 Operands sets = ℕ × (Kind × (Mode × (ℤ × ℤ)))
+Operands waits = ℕ × (Kind × (Mode × (ℤ × ℤ)))
 Operands unlocks = ℕ × (Kind × (ℤ × ℤ))
 Operands queries = ℕ × (Kind × (Mode × (ℤ × ℤ)))
 
@@ -48,6 +50,7 @@ front dups = codes "dup "
 front closes = codes "close "
 front exits = codes "exit"
 front sets = codes "set "
+front waits = codes "wait "
 front unlocks = codes "unlock "
 front queries = codes "query "
 
@@ -60,6 +63,7 @@ table =
     ∷ (codes "close ", closes)
     ∷ (codes "exit", exits)
     ∷ (codes "set ", sets)
+    ∷ (codes "wait ", waits)
     ∷ (codes "unlock ", unlocks)
     ∷ (codes "query ", queries)
     ∷ []
@@ -78,6 +82,7 @@ rest dups = decimal
 rest closes = decimal
 rest exits = λ _. []
 rest sets = asked_lock_text
+rest waits = asked_lock_text
 rest unlocks = pair_text decimal (pair_text kind_text segment_text)
 rest queries = asked_lock_text
 
@@ -89,6 +94,7 @@ Fit dups = IsDescriptor
 Fit closes = IsDescriptor
 Fit exits = λ _. ⊤
 Fit sets = IsAskedLock
+Fit waits = IsAskedLock
 Fit unlocks = Both IsDescriptor (Both (λ _. ⊤) AreOffsets)
 Fit queries = IsAskedLock
 
@@ -100,6 +106,7 @@ apart-rest dups = apart-fd
 apart-rest closes = apart-fd
 apart-rest exits = λ p q p_fits q_fits e. refl
 apart-rest sets = apart-asked_lock
+apart-rest waits = apart-asked_lock
 apart-rest unlocks = apart-unlock
 apart-rest queries = apart-asked_lock
 
@@ -111,6 +118,7 @@ make dups p = Dup p
 make closes p = Close p
 make exits _ = Exit
 make sets p = Set p.0 p.1.0 p.1.1.0 p.1.1.1.0 p.1.1.1.1
+make waits p = Wait p.0 p.1.0 p.1.1.0 p.1.1.1.0 p.1.1.1.1
 make unlocks p = Unlock p.0 p.1.0 p.1.1.0 p.1.1.1
 make queries p = Query p.0 p.1.0 p.1.1.0 p.1.1.1.0 p.1.1.1.1
 
@@ -122,6 +130,7 @@ kind_of (Dup fd) = dups
 kind_of (Close fd) = closes
 kind_of Exit = exits
 kind_of (Set fd kind mode start len) = sets
+kind_of (Wait fd kind mode start len) = waits
 kind_of (Unlock fd kind start len) = unlocks
 kind_of (Query fd kind mode start len) = queries
 
@@ -133,6 +142,7 @@ operands_of (Dup fd) = fd
 operands_of (Close fd) = fd
 operands_of Exit = tt
 operands_of (Set fd kind mode start len) = (fd, (kind, (mode, (start, len))))
+operands_of (Wait fd kind mode start len) = (fd, (kind, (mode, (start, len))))
 operands_of (Unlock fd kind start len) = (fd, (kind, (start, len)))
 operands_of (Query fd kind mode start len) = (fd, (kind, (mode, (start, len))))
 
@@ -144,6 +154,7 @@ fit (Dup fd) served = served
 fit (Close fd) served = served
 fit Exit served = tt
 fit (Set fd kind mode start len) served = (served.0, (tt, (tt, (served.1, served.2))))
+fit (Wait fd kind mode start len) served = (served.0, (tt, (tt, (served.1, served.2))))
 fit (Unlock fd kind start len) served = (served.0, (tt, (served.1, served.2)))
 fit (Query fd kind mode start len) served = (served.0, (tt, (tt, (served.1, served.2))))
 
@@ -186,17 +197,19 @@ no_op_alone word one no_spawn no_exit (Open file access) served e = one (codes "
 no_op_alone word one no_spawn no_exit (Dup fd) served e = one (codes "dup") _ (one-word (codes "dup") refl) e
 no_op_alone word one no_spawn no_exit (Close fd) served e = one (codes "close") _ (one-word (codes "close") refl) e
 no_op_alone word one no_spawn no_exit (Set fd kind mode start len) served e = one (codes "set") _ (one-word (codes "set") refl) e
+no_op_alone word one no_spawn no_exit (Wait fd kind mode start len) served e = one (codes "wait") _ (one-word (codes "wait") refl) e
 no_op_alone word one no_spawn no_exit (Unlock fd kind start len) served e = one (codes "unlock") _ (one-word (codes "unlock") refl) e
 no_op_alone word one no_spawn no_exit (Query fd kind mode start len) served e = one (codes "query") _ (one-word (codes "query") refl) e
 
 -- a word of none of them is no operation, whatever stands behind it
-pub no_op_with : (word operands : List ℕ) → Lacks space word → word ≢ codes "fork" → word ≢ codes "open" → word ≢ codes "dup" → word ≢ codes "close" → word ≢ codes "set" → word ≢ codes "unlock" → word ≢ codes "query" → Reads op_text IsServedOp (word ++ space ∷ operands) None
-no_op_with word operands lacks no_fork no_open no_dup no_close no_set no_unlock no_query Spawn served e = not-one word operands (codes "spawn") lacks refl e
-no_op_with word operands lacks no_fork no_open no_dup no_close no_set no_unlock no_query Exit served e = not-one word operands (codes "exit") lacks refl e
-no_op_with word operands lacks no_fork no_open no_dup no_close no_set no_unlock no_query (Fork child) served e = no_fork (first-word word (codes "fork") operands _ lacks refl e)
-no_op_with word operands lacks no_fork no_open no_dup no_close no_set no_unlock no_query (Open file access) served e = no_open (first-word word (codes "open") operands _ lacks refl e)
-no_op_with word operands lacks no_fork no_open no_dup no_close no_set no_unlock no_query (Dup fd) served e = no_dup (first-word word (codes "dup") operands _ lacks refl e)
-no_op_with word operands lacks no_fork no_open no_dup no_close no_set no_unlock no_query (Close fd) served e = no_close (first-word word (codes "close") operands _ lacks refl e)
-no_op_with word operands lacks no_fork no_open no_dup no_close no_set no_unlock no_query (Set fd kind mode start len) served e = no_set (first-word word (codes "set") operands _ lacks refl e)
-no_op_with word operands lacks no_fork no_open no_dup no_close no_set no_unlock no_query (Unlock fd kind start len) served e = no_unlock (first-word word (codes "unlock") operands _ lacks refl e)
-no_op_with word operands lacks no_fork no_open no_dup no_close no_set no_unlock no_query (Query fd kind mode start len) served e = no_query (first-word word (codes "query") operands _ lacks refl e)
+pub no_op_with : (word operands : List ℕ) → Lacks space word → word ≢ codes "fork" → word ≢ codes "open" → word ≢ codes "dup" → word ≢ codes "close" → word ≢ codes "set" → word ≢ codes "wait" → word ≢ codes "unlock" → word ≢ codes "query" → Reads op_text IsServedOp (word ++ space ∷ operands) None
+no_op_with word operands lacks no_fork no_open no_dup no_close no_set no_wait no_unlock no_query Spawn served e = not-one word operands (codes "spawn") lacks refl e
+no_op_with word operands lacks no_fork no_open no_dup no_close no_set no_wait no_unlock no_query Exit served e = not-one word operands (codes "exit") lacks refl e
+no_op_with word operands lacks no_fork no_open no_dup no_close no_set no_wait no_unlock no_query (Fork child) served e = no_fork (first-word word (codes "fork") operands _ lacks refl e)
+no_op_with word operands lacks no_fork no_open no_dup no_close no_set no_wait no_unlock no_query (Open file access) served e = no_open (first-word word (codes "open") operands _ lacks refl e)
+no_op_with word operands lacks no_fork no_open no_dup no_close no_set no_wait no_unlock no_query (Dup fd) served e = no_dup (first-word word (codes "dup") operands _ lacks refl e)
+no_op_with word operands lacks no_fork no_open no_dup no_close no_set no_wait no_unlock no_query (Close fd) served e = no_close (first-word word (codes "close") operands _ lacks refl e)
+no_op_with word operands lacks no_fork no_open no_dup no_close no_set no_wait no_unlock no_query (Set fd kind mode start len) served e = no_set (first-word word (codes "set") operands _ lacks refl e)
+no_op_with word operands lacks no_fork no_open no_dup no_close no_set no_wait no_unlock no_query (Wait fd kind mode start len) served e = no_wait (first-word word (codes "wait") operands _ lacks refl e)
+no_op_with word operands lacks no_fork no_open no_dup no_close no_set no_wait no_unlock no_query (Unlock fd kind start len) served e = no_unlock (first-word word (codes "unlock") operands _ lacks refl e)
+no_op_with word operands lacks no_fork no_open no_dup no_close no_set no_wait no_unlock no_query (Query fd kind mode start len) served e = no_query (first-word word (codes "query") operands _ lacks refl e)

@@ -2,7 +2,7 @@
 use Rattle.std.specs.Prelude.{◌≡◌, ◌≢◌, ℕ, ◌+◌, ◌⊎◌, false, List, [], ◌∷◌, ◌++◌, All, map, codes, decimal, ⊤}
 use Rattle.model.specs.Limits.{IsNumber, most_nodes, most_processes}
 use Rattle.lockscript.specs.declared.script_line.Command.{Command}
-use Rattle.lockscript.specs.declared.script_line.Command.TheVariants.{Call, Deliver, Lose, Settle, Retry, Resend, Declare, Restart, Learn}
+use Rattle.lockscript.specs.declared.script_line.Command.TheVariants.{Call, Deliver, Lose, Settle, Interrupt, Retry, Resend, Declare, Restart, Learn}
 use Rattle.lockscript.specs.declared.error.ParseError.{ParseError}
 use Rattle.lockscript.specs.declared.error.ParseError.TheVariants.{NoMemory, BadLine}
 use Rattle.messages.specs.Shapes.{ShapeFields, IsShape, most_files}
@@ -22,6 +22,7 @@ command_text (Call node pid op) = codes "call " ++ pair_text decimal (pair_text 
 command_text (Deliver message) = codes "deliver " ++ decimal message
 command_text (Lose message) = codes "lose " ++ decimal message
 command_text Settle = codes "settle"
+command_text (Interrupt node pid) = codes "interrupt " ++ pair_text decimal decimal (node, pid)
 command_text (Retry node pid) = codes "retry " ++ pair_text decimal decimal (node, pid)
 command_text (Resend file) = codes "resend " ++ decimal file
 command_text (Declare node) = codes "declare " ++ decimal node
@@ -45,6 +46,7 @@ IsCommand (Call node pid op) = IsNumber most_nodes node × IsNumber most_process
 IsCommand (Deliver message) = IsNumber greatest_message message
 IsCommand (Lose message) = IsNumber greatest_message message
 IsCommand Settle = ⊤
+IsCommand (Interrupt node pid) = IsNumber most_nodes node × IsNumber most_processes pid
 IsCommand (Retry node pid) = IsNumber most_nodes node × IsNumber most_processes pid
 IsCommand (Resend file) = IsNumber most_files file
 IsCommand (Declare node) = IsNumber most_nodes node

@@ -4,7 +4,7 @@ use Rattle.std.specs.Int.{w64}
 use Rattle.model.specs.declared.owner.Kind.{Kind}
 use Rattle.model.specs.declared.mode.Mode.{Mode}
 use Rattle.model.specs.declared.op.Op.{Op}
-use Rattle.model.specs.declared.op.Op.TheVariants.{Spawn, Fork, Open, Dup, Close, Exit, Set, Unlock, Query}
+use Rattle.model.specs.declared.op.Op.TheVariants.{Spawn, Fork, Open, Dup, Close, Exit, Set, Wait, Unlock, Query}
 use Rattle.model.specs.Limits.{IsNumber, most_processes}
 use Rattle.messages.specs.Shapes.{most_files}
 use Rattle.lockscript.specs.Reads.{Both}
@@ -30,5 +30,6 @@ IsServedOp (Dup fd) = IsDescriptor fd
 IsServedOp (Close fd) = IsDescriptor fd
 IsServedOp Exit = ⊤
 IsServedOp (Set fd kind mode start len) = IsDescriptor fd × FitsSigned w64 start × FitsSigned w64 len
+IsServedOp (Wait fd kind mode start len) = IsDescriptor fd × FitsSigned w64 start × FitsSigned w64 len
 IsServedOp (Unlock fd kind start len) = IsDescriptor fd × FitsSigned w64 start × FitsSigned w64 len
 IsServedOp (Query fd kind mode start len) = IsDescriptor fd × FitsSigned w64 start × FitsSigned w64 len

@@ -15,10 +15,10 @@ use Rattle.model.specs.declared.policy.Policy.TheVariants.{Wide, Exact}
 use Rattle.model.specs.declared.call.CallId.{CallId}
 use Rattle.model.specs.declared.lock_info.LockInfo.{LockInfo}
 use Rattle.model.specs.declared.op.Op.{Op}
-use Rattle.model.specs.declared.op.Op.TheVariants.{Spawn, Fork, Open, Dup, Close, Exit, Set, Unlock, Query}
+use Rattle.model.specs.declared.op.Op.TheVariants.{Spawn, Fork, Open, Dup, Close, Exit, Set, Wait, Unlock, Query}
 use Rattle.lockscript.specs.Reads.{pair_text}
 use Rattle.model.specs.declared.reply.Reply.{Reply}
-use Rattle.model.specs.declared.reply.Reply.TheVariants.{Done, Fd, Again, Free, Blocked, NoProcess, Exists, BadFd, TooManyFiles, NoLocks, Invalid, Overflow}
+use Rattle.model.specs.declared.reply.Reply.TheVariants.{Done, Fd, Again, Free, Blocked, Interrupted, NoProcess, Exists, BadFd, TooManyFiles, NoLocks, Invalid, Overflow}
 
 abbrev pub mode_text : Mode → List ℕ
 mode_text Read = codes "read"
@@ -64,6 +64,7 @@ reply_text (Fd fd) = codes "fd " ++ decimal fd
 reply_text (Again lock) = codes "again " ++ lock_text lock
 reply_text Free = codes "free"
 reply_text (Blocked lock) = codes "blocked " ++ lock_text lock
+reply_text Interrupted = codes "interrupted"
 reply_text NoProcess = codes "no-process"
 reply_text Exists = codes "exists"
 reply_text BadFd = codes "bad-fd"
@@ -88,5 +89,6 @@ op_text (Dup fd) = codes "dup " ++ decimal fd
 op_text (Close fd) = codes "close " ++ decimal fd
 op_text Exit = codes "exit"
 op_text (Set fd kind mode start len) = codes "set " ++ asked_lock_text (fd, (kind, (mode, (start, len))))
+op_text (Wait fd kind mode start len) = codes "wait " ++ asked_lock_text (fd, (kind, (mode, (start, len))))
 op_text (Unlock fd kind start len) = codes "unlock " ++ pair_text decimal (pair_text kind_text segment_text) (fd, (kind, (start, len)))
 op_text (Query fd kind mode start len) = codes "query " ++ asked_lock_text (fd, (kind, (mode, (start, len))))

@@ -15,7 +15,7 @@ use crate::script_line::Command;
 use model::op::Op;
 
 /// What the line asks for, if it is one that is served: so far `call N PID OP`, `deliver K`, `lose K`,
-/// `settle`, `retry N PID`, `resend F`, `declare N`, `restart N` and `learn F N I`.
+/// `settle`, `interrupt N PID`, `retry N PID`, `resend F`, `declare N`, `restart N` and `learn F N I`.
 pub(crate) fn command_of(line: &str) -> Option<Command>
     ensures { Reads command_text IsCommand line.now result }
 {
@@ -34,6 +34,7 @@ fn command_with(word: &str, operands: &str) -> Option<Command>
         "call" => call_of(operands),
         "deliver" => deliver_of(operands),
         "lose" => lose_of(operands),
+        "interrupt" => interrupt_of(operands),
         "retry" => retry_of(operands),
         "resend" => resend_of(operands),
         "declare" => declare_of(operands),
@@ -78,11 +79,19 @@ fn lose_of(operand: &str) -> Option<Command>
     Some(Command::Lose { message })
 }
 
+// `interrupt` with these operands.
+fn interrupt_of(operands: &str) -> Option<Command>
+    ensures { Reads command_text IsCommand (codes "interrupt " ++ operands.now) result }
+{
+    let (node, pid) = node_and_pid(operands)?;
+    Some(Command::Interrupt { node, pid })
+}
+
 // `retry` with these operands.
 fn retry_of(operands: &str) -> Option<Command>
     ensures { Reads command_text IsCommand (codes "retry " ++ operands.now) result }
 {
-    let (node, pid) = retry_operands(operands)?;
+    let (node, pid) = node_and_pid(operands)?;
     Some(Command::Retry { node, pid })
 }
 
@@ -143,7 +152,7 @@ fn pid_and_op(text: &str) -> Option<(u16, Op)>
 }
 
 // `N PID`.
-fn retry_operands(text: &str) -> Option<(u8, u16)>
+fn node_and_pid(text: &str) -> Option<(u8, u16)>
     ensures { Reads (pair_text decimal decimal) (Both (IsNumber most_nodes) (IsNumber most_processes)) text.now result }
 {
     match split_field(text) {

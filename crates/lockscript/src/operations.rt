@@ -38,6 +38,7 @@ fn op_with(word: &str, operands: &str) -> Option<Op>
         "dup" => dup_of(operands),
         "close" => close_of(operands),
         "set" => set_of(operands),
+        "wait" => wait_of(operands),
         "unlock" => unlock_of(operands),
         "query" => query_of(operands),
         _ => None,
@@ -94,6 +95,20 @@ fn set_of(operands: &str) -> Option<Op>
 {
     let (fd, (kind, (mode, (start, len)))) = asked_lock(operands)?;
     Some(Op::Set {
+        fd,
+        kind,
+        mode,
+        start,
+        len,
+    })
+}
+
+// `wait` with these operands.
+fn wait_of(operands: &str) -> Option<Op>
+    ensures { Reads op_text IsServedOp (codes "wait " ++ operands.now) result }
+{
+    let (fd, (kind, (mode, (start, len)))) = asked_lock(operands)?;
+    Some(Op::Wait {
         fd,
         kind,
         mode,

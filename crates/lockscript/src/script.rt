@@ -31,10 +31,12 @@ impl Script {
     /// The script that the text writes. Each line ends with a line feed, the last one too; empty lines
     /// and lines that begin with `#` are skipped. The first other line is
     /// `cluster nodes N files F policy P`, and none of the others is; they are `call N PID OP`,
-    /// `deliver K`, `lose K`, `settle`, `retry N PID`, `resend F`, `declare N`, `restart N` and
-    /// `learn F N I`, in lines up to number 4294967295.
-    /// OP is `spawn`, `open F rw`, `set FD proc MODE START LEN`, `unlock FD proc START LEN` or
-    /// `query FD proc MODE START LEN`, with MODE `read` or `write`.
+    /// `deliver K`, `lose K`, `settle`, `interrupt N PID`, `retry N PID`, `resend F`, `declare N`,
+    /// `restart N` and `learn F N I`, in lines up to number 4294967295.
+    /// OP is `spawn`, `fork PID`, `open F ACCESS`, `dup FD`, `close FD`, `exit`,
+    /// `set FD KIND MODE START LEN`, `wait FD KIND MODE START LEN`, `unlock FD KIND START LEN` or
+    /// `query FD KIND MODE START LEN`, with ACCESS `r`, `w` or `rw`, KIND `proc` or `desc`, and MODE
+    /// `read` or `write`.
     /// Fields are separated by one space, and numbers are decimal, without leading zeros or a leading
     /// `+`.
     ///

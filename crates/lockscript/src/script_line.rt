@@ -21,6 +21,11 @@ pub enum Command {
     },
     /// Messages are delivered until none is left that no line has delivered, lost or passed over.
     Settle,
+    /// The wait of a process is interrupted.
+    Interrupt {
+        node: u8,
+        pid: u16,
+    },
     /// A node tries the open call of a process again.
     Retry {
         node: u8,

@@ -1,6 +1,6 @@
 //! Texts of what listings name.
 ghost use Rattle.std.specs.Prelude.{◌≡◌, ◌++◌, string_bytes, OnOk};
-ghost use Rattle.model.specs.declared.op.Op.TheVariants.{Open, Query, Set, Unlock};
+ghost use Rattle.model.specs.declared.op.Op.TheVariants.{Open, Query, Set, Unlock, Wait};
 ghost use Rattle.lockscript.specs.Texts.{access_text, asked_lock_text, call_text, host_text, kind_text, level_text, lock_text, mode_text, op_text, owner_letter, owner_text, reply_text};
 
 use model::access::Access;
@@ -115,6 +115,7 @@ pub fn push_reply(out: &mut String, reply: &Reply) -> Result<(), AllocError>
             out.push_str("blocked ")?;
             push_lock(out, lock)
         }
+        Reply::Interrupted => out.push_str("interrupted"),
         Reply::NoProcess => out.push_str("no-process"),
         Reply::Exists => out.push_str("exists"),
         Reply::BadFd => out.push_str("bad-fd"),
@@ -143,6 +144,13 @@ pub fn push_op(out: &mut String, op: &Op) -> Result<(), AllocError>
             start,
             len,
         } => push_set(out, *fd, *kind, *mode, *start, *len),
+        Op::Wait {
+            fd,
+            kind,
+            mode,
+            start,
+            len,
+        } => push_wait(out, *fd, *kind, *mode, *start, *len),
         Op::Unlock {
             fd,
             kind,
@@ -179,6 +187,21 @@ fn push_set(
     ensures { OnOk result (string_bytes out.new ≡ string_bytes out.old ++ op_text (Set fd kind mode start len)) }
 {
     out.push_str("set ")?;
+    push_asked_lock(out, fd, kind, mode, start, len)
+}
+
+// Writes `wait FD KIND MODE START LEN`.
+fn push_wait(
+    out: &mut String,
+    fd: u8,
+    kind: Kind,
+    mode: Mode,
+    start: i64,
+    len: i64,
+) -> Result<(), AllocError>
+    ensures { OnOk result (string_bytes out.new ≡ string_bytes out.old ++ op_text (Wait fd kind mode start len)) }
+{
+    out.push_str("wait ")?;
     push_asked_lock(out, fd, kind, mode, start, len)
 }
 

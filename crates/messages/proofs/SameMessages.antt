@@ -11,7 +11,7 @@ use Rattle.model.specs.declared.mode.Mode.{Mode}
 use Rattle.model.specs.declared.mode.Mode.TheVariants.{Read, Write}
 use Rattle.model.specs.declared.lock_info.LockInfo.{LockInfo}
 use Rattle.model.specs.declared.op.Op.{Op}
-use Rattle.model.specs.declared.op.Op.TheVariants.{Spawn, Fork, Open, Dup, Close, Exit, Set, Unlock, Query}
+use Rattle.model.specs.declared.op.Op.TheVariants.{Spawn, Fork, Open, Dup, Close, Exit, Set, Wait, Unlock, Query}
 use Rattle.model.specs.contracts.op.OpPartialEq.TheImpl as derived_of_ops
 use Rattle.model.specs.Owners.{same_mode}
 use Rattle.model.proofs.OwnerLaws.{owner_exact, owner_refl}
@@ -20,7 +20,7 @@ use Rattle.messages.specs.contracts.message.MessagePartialEq.TheImpl as derived
 use Rattle.messages.specs.contracts.event.EventPartialEq.TheImpl as derived_of_events
 use Rattle.messages.specs.Wants.{Wants}
 use Rattle.messages.specs.declared.event.Event.{Event}
-use Rattle.messages.specs.declared.event.Event.TheVariants.{Call, Deliver, Retry, Resend, Declare, Restart, Learn}
+use Rattle.messages.specs.declared.event.Event.TheVariants.{Call, Deliver, Interrupt, Retry, Resend, Declare, Restart, Learn}
 use Rattle.messages.specs.declared.message.Urgency.{Urgency}
 use Rattle.messages.specs.declared.message.Urgency.TheVariants.{Now, Waits}
 use Rattle.messages.specs.declared.message.Message.{Message}
@@ -214,6 +214,7 @@ op_eq-Decides (Close fd) (Close k) = grind (arith, common_steps)
 op_eq-Decides Exit Exit = (λ h. refl, λ e. refl)
 op_eq-Decides (Open file access) (Open other way) = grind (arith, common_steps)
 op_eq-Decides (Set fd kind mode start len) (Set k j m s l) = grind (arith, common_steps)
+op_eq-Decides (Wait fd kind mode start len) (Wait k j m s l) = grind (arith, common_steps)
 op_eq-Decides (Unlock fd kind start len) (Unlock k j s l) = grind (arith, common_steps)
 op_eq-Decides (Query fd kind mode start len) (Query k j m s l) = grind (arith, common_steps)
 op_eq-Decides _ _ = (λ h. absurd (false≢true h), λ e. cc)
@@ -237,6 +238,7 @@ calls_Decide node pid n p op o same d = (
 pub event_eq-Decides : (a b : Event) → Decides (derived_of_events.ghosts.eq a b) (a ≡ b)
 event_eq-Decides (Call node pid op) (Call n p o) = Decides-at _ _ (call_events node pid n p op o) (calls_Decide node pid n p op o _ (op_eq-Decides op o))
 event_eq-Decides (Deliver m) (Deliver n) = (λ h. ap Deliver ((message_eq-Decides m n).0 h), λ e. (message_eq-Decides m n).1 (cc))
+event_eq-Decides (Interrupt node pid) (Interrupt n p) = grind (arith, common_steps)
 event_eq-Decides (Retry node pid) (Retry n p) = grind (arith, common_steps)
 event_eq-Decides (Resend file) (Resend f) = grind (arith, common_steps)
 event_eq-Decides (Declare node) (Declare n) = grind (arith, common_steps)

@@ -5,7 +5,7 @@ use Rattle.model.specs.declared.reply.Reply.{Reply}
 use Rattle.messages.specs.declared.message.Message.{Message}
 use Rattle.messages.specs.declared.outcome.Outcome.{Outcome}
 use Rattle.messages.specs.declared.event.Event.{Event}
-use Rattle.messages.specs.declared.event.Event.TheVariants.{Call, Retry, Declare, Restart}
+use Rattle.messages.specs.declared.event.Event.TheVariants.{Call, Interrupt, Retry, Declare, Restart}
 
 pub record EntryFields : Type 0 where
   pub event : Event
@@ -20,8 +20,9 @@ NamesItsCall (Call node pid op) None = ⊥
 NamesItsCall (Call node pid op) (Some id) = id.node ≡ node
 NamesItsCall _ call = call ≡ None
 
--- a retry has the incarnation of its node, of which the first is 1, a declaration the one that is declared, a restart the one that begins; nothing else has one
+-- an interrupt and a retry have the incarnation of their node, of which the first is 1, a declaration the one that is declared, a restart the one that begins; nothing else has one
 abbrev pub NamesItsIncarnation : Event → ℕ → Type 0
+NamesItsIncarnation (Interrupt node pid) incarnation = 1 ≤ incarnation
 NamesItsIncarnation (Retry node pid) incarnation = 1 ≤ incarnation
 NamesItsIncarnation (Declare node) incarnation = 1 ≤ incarnation
 NamesItsIncarnation (Restart node) incarnation = 1 ≤ incarnation

@@ -15,6 +15,11 @@ pub enum Event {
     },
     /// A message that was sent comes to its addressee.
     Deliver(Message),
+    /// The wait of a process is interrupted (a signal, in POSIX's words).
+    Interrupt {
+        node: u8,
+        pid: u16,
+    },
     /// The open call of a process is tried again.
     Retry {
         node: u8,

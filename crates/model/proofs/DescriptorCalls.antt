@@ -7,16 +7,16 @@ use Rattle.model.specs.declared.opened.Opened.{Opened}
 use Rattle.model.specs.declared.owner.Kind.{Kind}
 use Rattle.model.specs.declared.process.Process.{Process}
 use Rattle.model.specs.declared.op.Op.{Op}
-use Rattle.model.specs.declared.op.Op.TheVariants.{Spawn, Fork, Open, Dup, Close, Exit, Set, Unlock, Query}
+use Rattle.model.specs.declared.op.Op.TheVariants.{Spawn, Fork, Open, Dup, Close, Exit, Set, Wait, Unlock, Query}
 use Rattle.model.specs.declared.reply.Reply.{Reply}
-use Rattle.model.specs.declared.reply.Reply.TheVariants.{Done, Again, Free, Blocked, Exists, NoProcess, NoLocks}
+use Rattle.model.specs.declared.reply.Reply.TheVariants.{Done, Again, Free, Blocked, Interrupted, Exists, NoProcess, NoLocks}
 use Rattle.model.specs.Limits.{IsNumber, most_processes}
 use Rattle.model.specs.Owners.{same_owner, process_owner, description_owner}
 use Rattle.model.specs.Locks.{without_owner, without_owner_anywhere}
 use Rattle.model.specs.Descriptors.{Processes, with_process, with_descriptor, is_open}
 use Rattle.model.specs.Table.{Table, Target, around, descriptor, is_running, beside, with_processes, target, lock_within, closed, closed_at, exited}
 use Rattle.model.specs.Anchors.{IsAnchored, IsOwn}
-use Rattle.model.specs.Step.{Step, AfterTests, SetStep, QueryStep}
+use Rattle.model.specs.Step.{Step, AfterTests, SetStep, WaitStep, QueryStep}
 use Rattle.model.specs.Laws.{ClosedFileHasNoLock, LastCloseDropsLocks, HasGone, ExitLeavesNothing, IsChild, sibling, ForkSharesDescriptions, CallsKeepAnchors}
 use Rattle.model.proofs.OwnerLaws.{owner_refl}
 use Rattle.model.proofs.Hanging.{itself, target_hangs}
@@ -146,6 +146,12 @@ set_own t u p mode reply fd kind start len c pid_in own found = by reply
     by NoLocks h = to (lock_within t c (Some mode)).0 h.1.1 after
     by _ h = absurd h
 
+wait_own : (t u : Table) (p : Process) (mode : Mode) (reply : Reply) (fd : ℕ) (kind : Kind) (start len : ℤ) (c : Target) → IsNumber most_processes p.pid → IsOwn t p.node p.incarnation → target t p (Some mode) fd kind start len ≡ Ok c → WaitStep t mode reply u c → IsOwn u p.node p.incarnation
+wait_own t u p mode Interrupted fd kind start len c pid_in own found h = subst (λ (x : Table). IsOwn x p.node p.incarnation) (sym h) own
+wait_own t u p mode Done fd kind start len c pid_in own found h = set_own t u p mode Done fd kind start len c pid_in own found h
+wait_own t u p mode NoLocks fd kind start len c pid_in own found h = set_own t u p mode NoLocks fd kind start len c pid_in own found h
+wait_own t u p mode _ fd kind start len c pid_in own found h = absurd h
+
 query_own : (t u : Table) (n i : ℕ) (mode : Mode) (reply : Reply) (c : Target) → IsOwn t n i → QueryStep t mode reply u c → IsOwn u n i
 query_own t u n i mode (Blocked lock) c own h = subst (λ (x : Table). IsOwn x n i) (sym h.1) own
 query_own t u n i mode Free c own h = subst (λ (x : Table). IsOwn x n i) (sym h.1) own
@@ -168,6 +174,9 @@ calls_keep t u p op reply pid_in own h = by op h
     by (Set fd kind mode start len) s =
         tested t u p.node p.incarnation (target t p (Some mode) fd kind start len) reply (SetStep t mode reply u) own
         (λ c found answer. set_own t u p mode reply fd kind start len c pid_in own found answer) s
+    by (Wait fd kind mode start len) s =
+        tested t u p.node p.incarnation (target t p (Some mode) fd kind start len) reply (WaitStep t mode reply u) own
+        (λ c found answer. wait_own t u p mode reply fd kind start len c pid_in own found answer) s
     by (Query fd kind mode start len) s =
         tested t u p.node p.incarnation (target t p None fd kind start len) reply (QueryStep t mode reply u) own
         (λ c found answer. query_own t u p.node p.incarnation mode reply c own answer) s

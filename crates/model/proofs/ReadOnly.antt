@@ -3,13 +3,13 @@ use Rattle.std.proofs.Common.{◌≡◌, ℕ, Bool, true, false, if◌then◌els
 use Rattle.model.specs.declared.mode.Mode.{Mode}
 use Rattle.model.specs.declared.opened.Opened.{Opened}
 use Rattle.model.specs.declared.process.Process.{Process}
-use Rattle.model.specs.declared.op.Op.TheVariants.{Spawn, Fork, Open, Dup, Close, Exit, Set, Unlock, Query}
+use Rattle.model.specs.declared.op.Op.TheVariants.{Spawn, Fork, Open, Dup, Close, Exit, Set, Wait, Unlock, Query}
 use Rattle.model.specs.declared.reply.Reply.{Reply}
-use Rattle.model.specs.declared.reply.Reply.TheVariants.{Done, Fd, Again, Free, Blocked, NoProcess, Exists, TooManyFiles, NoLocks}
+use Rattle.model.specs.declared.reply.Reply.TheVariants.{Done, Fd, Again, Free, Blocked, Interrupted, NoProcess, Exists, TooManyFiles, NoLocks}
 use Rattle.model.specs.Limits.{most_regions}
 use Rattle.model.specs.Descriptors.{Processes, again_on, after_spawn, after_fork, after_open, after_dup}
 use Rattle.model.specs.Table.{Table, Target, around, descriptor, is_running, beside, target, locked, lock_within, regions_with, after_unlock, closed_at, after_close, exited, after_exit}
-use Rattle.model.specs.Step.{Is, AfterTests, SetStep, QueryStep}
+use Rattle.model.specs.Step.{Is, AfterTests, SetStep, WaitStep, QueryStep}
 use Rattle.model.specs.Laws.{TellsNoChange, OnlyDoneCallsChange}
 
 -- an answer that tells of no change comes with the same table
@@ -58,6 +58,12 @@ set_stays t u mode Done c none h = absurd none
 set_stays t u mode NoLocks c none h = answered t u (lock_within t c (Some mode)) NoLocks (lock_keeps t (locked t c (Some mode)) (nat_le (regions_with t c (Some mode)) most_regions)) tt h.1
 set_stays t u mode _ c none h = absurd h
 
+wait_stays : (t u : Table) (mode : Mode) (reply : Reply) (c : Target) → TellsNoChange reply → WaitStep t mode reply u c → u ≡ t
+wait_stays t u mode Interrupted c none h = h
+wait_stays t u mode Done c none h = absurd none
+wait_stays t u mode NoLocks c none h = set_stays t u mode NoLocks c tt h
+wait_stays t u mode _ c none h = absurd h
+
 query_stays : (t u : Table) (mode : Mode) (reply : Reply) (c : Target) → QueryStep t mode reply u c → u ≡ t
 query_stays t u mode (Blocked lock) c h = h.1
 query_stays t u mode Free c h = h.1
@@ -78,5 +84,7 @@ only_done_change t u p (Unlock fd kind start len) reply none h =
     answered t u (after_unlock t (target t p None fd kind start len)) reply (unlock_keeps t (target t p None fd kind start len)) none h
 only_done_change t u p (Set fd kind mode start len) reply none h =
     tested t u (target t p (Some mode) fd kind start len) reply (SetStep t mode reply u) (λ c. set_stays t u mode reply c none) h
+only_done_change t u p (Wait fd kind mode start len) reply none h =
+    tested t u (target t p (Some mode) fd kind start len) reply (WaitStep t mode reply u) (λ c. wait_stays t u mode reply c none) h
 only_done_change t u p (Query fd kind mode start len) reply none h =
     tested t u (target t p None fd kind start len) reply (QueryStep t mode reply u) (λ c. query_stays t u mode reply c) h

@@ -1,18 +1,22 @@
 -- What programs may rely on: which calls change nothing, and what is left where descriptors close, and where processes fork and exit.
-use Rattle.std.specs.Prelude.{◌≡◌, ℕ, true, false, if◌then◌else◌, Some, None}
+use Rattle.std.specs.Prelude.{◌≡◌, ℕ, true, false, if◌then◌else◌, Some, None, ℤ}
 use Rattle.intervals.specs.Bytes.{nothing}
 use Rattle.model.specs.declared.op.Op.{Op}
-use Rattle.model.specs.declared.op.Op.TheVariants.{Fork, Close, Exit}
+use Rattle.model.specs.declared.op.Op.TheVariants.{Fork, Close, Exit, Wait}
+use Rattle.model.specs.declared.lock_info.LockInfo.{LockInfo}
+use Rattle.model.specs.declared.mode.Mode.{Mode}
+use Rattle.model.specs.declared.owner.Kind.{Kind}
 use Rattle.model.specs.declared.opened.Opened.{Opened}
 use Rattle.model.specs.declared.process.Process.{Process}
 use Rattle.model.specs.declared.reply.Reply.{Reply}
-use Rattle.model.specs.declared.reply.Reply.TheVariants.{Done, Fd}
+use Rattle.model.specs.declared.reply.Reply.TheVariants.{Done, Fd, Again, Interrupted}
 use Rattle.model.specs.Limits.{IsNumber, most_processes}
 use Rattle.model.specs.Owners.{process_owner, description_owner}
 use Rattle.model.specs.Descriptors.{is_open}
 use Rattle.model.specs.Table.{Table, around, descriptor, is_running}
 use Rattle.model.specs.Anchors.{IsAnchored, IsOwn}
 use Rattle.model.specs.Step.{Step}
+use Rattle.model.specs.Replay.{NeverAnswers}
 
 -- POSIX.1-2017 fcntl(): a process that closes any descriptor of a file has no lock there afterwards, whichever descriptor made it
 abbrev pub ClosedFileHasNoLock : Type 0
@@ -72,3 +76,8 @@ TellsNoChange _ = Unit {0}
 -- a call that is answered neither Done nor with a descriptor leaves the table as it was
 abbrev pub OnlyDoneCallsChange : Type 0
 OnlyDoneCallsChange = (t u : Table) (p : Process) (op : Op) (reply : Reply) → TellsNoChange reply → Step t p op reply u → u ≡ t
+
+-- POSIX.1-2017 fcntl(), F_SETLKW: a call that waits is never told of a lock in its way, and one that is interrupted has changed nothing
+pub record WaitsAreNotDenied : Type 0 where
+  pub never_again : (t : Table) (p : Process) (fd : ℕ) (kind : Kind) (mode : Mode) (start len : ℤ) (lock : LockInfo) → NeverAnswers t p (Wait fd kind mode start len) (Again lock)
+  pub unchanged : (t u : Table) (p : Process) (op : Op) → Step t p op Interrupted u → u ≡ t

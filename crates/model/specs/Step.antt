@@ -4,9 +4,9 @@ use Rattle.model.specs.declared.lock_info.LockInfo.{LockInfo}
 use Rattle.model.specs.declared.mode.Mode.{Mode}
 use Rattle.model.specs.declared.process.Process.{Process}
 use Rattle.model.specs.declared.op.Op.{Op}
-use Rattle.model.specs.declared.op.Op.TheVariants.{Spawn, Fork, Open, Dup, Close, Exit, Set, Unlock, Query}
+use Rattle.model.specs.declared.op.Op.TheVariants.{Spawn, Fork, Open, Dup, Close, Exit, Set, Wait, Unlock, Query}
 use Rattle.model.specs.declared.reply.Reply.{Reply}
-use Rattle.model.specs.declared.reply.Reply.TheVariants.{Done, Again, NoLocks, Free, Blocked}
+use Rattle.model.specs.declared.reply.Reply.TheVariants.{Done, Again, NoLocks, Free, Blocked, Interrupted}
 use Rattle.model.specs.Locks.{IsFree, Blocks}
 use Rattle.model.specs.Limits.{IsNumber, most_processes}
 use Rattle.model.specs.Descriptors.{after_spawn, after_fork, after_open, after_dup}
@@ -36,6 +36,13 @@ SetStep old mode Done new c = Unblocked old c mode × Is (lock_within old c (Som
 SetStep old mode NoLocks new c = Unblocked old c mode × Is (lock_within old c (Some mode)) NoLocks new
 SetStep old mode _ new c = ⊥
 
+-- POSIX.1-2017 fcntl(), F_SETLKW: as F_SETLK, but where a lock of another owner blocks there is no answer yet; the wait may be interrupted (EINTR) at any time, and then nothing changes
+abbrev pub WaitStep : Table → Mode → Reply → Table → Target → Type 0
+WaitStep old mode Interrupted new c = new ≡ old
+WaitStep old mode Done new c = Unblocked old c mode × Is (lock_within old c (Some mode)) Done new
+WaitStep old mode NoLocks new c = Unblocked old c mode × Is (lock_within old c (Some mode)) NoLocks new
+WaitStep old mode _ new c = ⊥
+
 -- POSIX.1-2017 fcntl(), F_GETLK: where a lock of another owner would block, one such lock is named; nothing changes
 abbrev pub QueryStep : Table → Mode → Reply → Table → Target → Type 0
 QueryStep old mode (Blocked lock) new c = Blocks (old.locks c.file) c.owner c.span mode lock × (new ≡ old)
@@ -56,5 +63,6 @@ Step old p (Dup fd) reply new = Is (beside old p (after_dup (around old p) p.pid
 Step old p (Close fd) reply new = Is (after_close old p fd) reply new
 Step old p Exit reply new = Is (after_exit old p) reply new
 Step old p (Set fd kind mode start len) reply new = AfterTests old (target old p (Some mode) fd kind start len) reply new (SetStep old mode reply new)
+Step old p (Wait fd kind mode start len) reply new = AfterTests old (target old p (Some mode) fd kind start len) reply new (WaitStep old mode reply new)
 Step old p (Unlock fd kind start len) reply new = Is (after_unlock old (target old p None fd kind start len)) reply new
 Step old p (Query fd kind mode start len) reply new = AfterTests old (target old p None fd kind start len) reply new (QueryStep old mode reply new)

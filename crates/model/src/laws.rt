@@ -1,6 +1,6 @@
 //! Laws of the definitions.
 ghost use Rattle.model.specs.Locks.{LowestIsLowest, LowestInWayIsLowest, LowestInWayIsOne};
-ghost use Rattle.model.specs.Laws.{ClosedFileHasNoLock, LastCloseDropsLocks, ExitLeavesNothing, ForkSharesDescriptions, CallsKeepAnchors, OnlyDoneCallsChange};
+ghost use Rattle.model.specs.Laws.{ClosedFileHasNoLock, LastCloseDropsLocks, ExitLeavesNothing, ForkSharesDescriptions, CallsKeepAnchors, OnlyDoneCallsChange, WaitsAreNotDenied};
 
 /// The search for the lowest lock that blocks finds it, and finds none exactly where no byte of the
 /// span is barred.
@@ -50,4 +50,10 @@ pub fn no_lock_outlives_its_descriptors()
 /// A call that is answered neither `Done` nor with a descriptor leaves the table as it was.
 pub fn only_done_calls_change()
     ensures { OnlyDoneCallsChange }
+{}
+
+/// A call that waits is never answered by a lock in its way, and a call that is interrupted has changed
+/// nothing (POSIX.1-2017 `fcntl()`, F_SETLKW and EINTR).
+pub fn waits_are_not_denied()
+    ensures { WaitsAreNotDenied }
 {}

@@ -35,6 +35,14 @@ pub enum Op {
         start: i64,
         len: i64,
     },
+    /// A lock on a segment, as soon as no lock is in the way (POSIX.1-2017 `fcntl()`, F_SETLKW).
+    Wait {
+        fd: u8,
+        kind: Kind,
+        mode: Mode,
+        start: i64,
+        len: i64,
+    },
     /// No lock on a segment (POSIX.1-2017 `fcntl()`, F_SETLK with F_UNLCK).
     Unlock {
         fd: u8,

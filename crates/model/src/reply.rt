@@ -13,6 +13,8 @@ pub enum Reply {
     Free,
     /// A lock of another owner that would block, a whole region (POSIX.1-2017 `fcntl()`, F_GETLK).
     Blocked(LockInfo),
+    /// The wait for a lock ended without it (POSIX.1-2017 `fcntl()`, EINTR).
+    Interrupted,
     /// The caller doesn't run.
     NoProcess,
     /// The process runs already.

@@ -8,7 +8,7 @@ use Rattle.intervals.specs.Segment.{seg}
 use Rattle.model.specs.declared.lock_info.LockInfo.{LockInfo}
 use Rattle.model.specs.declared.mode.Mode.{Mode}
 use Rattle.model.specs.declared.op.Op.{Op}
-use Rattle.model.specs.declared.op.Op.TheVariants.{Spawn, Fork, Open, Dup, Close, Exit, Set, Unlock, Query}
+use Rattle.model.specs.declared.op.Op.TheVariants.{Spawn, Fork, Open, Dup, Close, Exit, Set, Wait, Unlock, Query}
 use Rattle.model.specs.declared.owner.Kind.{Kind}
 use Rattle.model.specs.declared.owner.Kind.TheVariants.{OfProcess, OfDescription}
 use Rattle.model.specs.declared.owner.Owner.{Owner}
@@ -39,9 +39,10 @@ use Rattle.node_core.specs.declared.open_call.Intent.{Intent}
 use Rattle.node_core.specs.declared.open_call.Intent.TheVariants as intent
 use Rattle.node_core.specs.declared.open_call.OpenCall.{OpenCall}
 use Rattle.node_core.specs.State.{NodeState, Effect, answered, quiet, outcome, with_file, without_call_of, open_call, open_call_of, host, process, target_of}
-use Rattle.node_core.specs.Try.{settled, requested, may_free, with_freed, with_freed_of, locked_by, answered_here, tried, tried_against, tried_if}
+use Rattle.node_core.specs.Try.{settled, requested, refusal_of, answered_if, may_free, with_freed, with_freed_of, locked_by, answered_here, tried, tried_against, tried_if}
 use Rattle.node_core.specs.Calls.{is_pid, is_in_shape, is_busy, lock_call, unlock_call, shut_by, called, after_call, call_rule}
 use Rattle.node_core.specs.Commands.{remembered, in_order, granted, revoked, denied, delivered, is_node, deliver_rule}
+use Rattle.node_core.specs.Interrupts.{interruption_of, interrupted, interrupt_rule}
 use Rattle.node_core.specs.Retries.{retry_rule}
 use Rattle.node_core.specs.Node.{node_rule}
 use Rattle.node_core.specs.Anchors.{Waits, AreAnchored, IsAnchored}
@@ -112,6 +113,10 @@ follows-anchored t u n i pid calls follows others waiting = record {
 answered-anchored : (s : NodeState) (number : ℕ) (reply : Reply) → IsAnchored s → IsAnchored (answered s number reply).state
 answered-anchored s number reply h = fewer-anchored s.table s.node s.incarnation s.pending (λ c. not (c.number == number)) h
 
+answered_if-anchored : (s : NodeState) (number : ℕ) (x : Option Reply) → IsAnchored s → IsAnchored (answered_if s number x).state
+answered_if-anchored s number None h = h
+answered_if-anchored s number (Some reply) h = answered-anchored s number reply h
+
 settled-anchored : (s : NodeState) (number pid : ℕ) (answer : Table × Reply) → Follows s.table answer.0 s.node s.incarnation pid → AreOthers s.pending pid → IsAnchored s → IsAnchored (settled s number answer).state
 settled-anchored s number pid answer follows others h =
     fewer-anchored answer.0 s.node s.incarnation s.pending (λ c. not (c.number == number)) (follows-anchored s.table answer.0 s.node s.incarnation pid s.pending follows others h.waiting)
@@ -159,12 +164,13 @@ set-anchored s c h w =
 
 here-anchored : (s : NodeState) (c : OpenCall) (i : Intent) → IsAnchored s → Waits s.table s.node s.incarnation c → IsAnchored (answered_here s c i).state
 here-anchored s c intent.Set h w = locked-anchored s c.number (target_of c) (Some c.mode) (set-anchored s c h w)
+here-anchored s c intent.Wait h w = locked-anchored s c.number (target_of c) (Some c.mode) (set-anchored s c h w)
 here-anchored s c intent.Query h w = answered-anchored s c.number Free h
 
 -- an open call is tried
 tried-anchored : (s : NodeState) (c : OpenCall) → IsAnchored s → Waits s.table s.node s.incarnation c → IsAnchored (tried s c).state
 tried-anchored s c h w = elim (lowest_blocker (s.table.locks c.file) c.owner c.span c.mode) as (λ x. IsAnchored (tried_against s c x).state) [
-  | Some lock ↦ fewer-anchored s.table s.node s.incarnation s.pending (λ d. not (d.number == c.number)) h
+  | Some lock ↦ answered_if-anchored s c.number (refusal_of c.intent lock) h
   | None ↦ elim (covers (s.files c.file).token c.span c.mode) as (λ b. IsAnchored (if b then answered_here s c c.intent else requested s c).state) [
     | true ↦ here-anchored s c c.intent h w
     | false ↦ h
@@ -229,6 +235,8 @@ called-anchored s number pid Exit pid_in known others h =
     not_its c e same = both_ways (c.pid == pid) (not-true (c.pid == pid) e) (eq-eqb c.pid pid same)
 called-anchored s number pid (Set fd kind mode start len) pid_in known others h =
     lock_call-anchored s number pid intent.Set mode (target s.table (process s pid) (Some mode) fd kind start len) (λ c found. found-waits s.table s.node s.incarnation pid number intent.Set mode (Some mode) fd kind start len c pid_in found) h
+called-anchored s number pid (Wait fd kind mode start len) pid_in known others h =
+    lock_call-anchored s number pid intent.Wait mode (target s.table (process s pid) (Some mode) fd kind start len) (λ c found. found-waits s.table s.node s.incarnation pid number intent.Wait mode (Some mode) fd kind start len c pid_in found) h
 called-anchored s number pid (Unlock fd kind start len) pid_in known others h =
     let found = target s.table (process s pid) None fd kind start len in
     unlocked-anchored s number found (settled-anchored s number pid (after_unlock s.table found) (unlock_follows s.table s.node s.incarnation pid fd kind start len pid_in h.own) others h)
@@ -271,7 +279,7 @@ in_order-anchored s file number e h after =
 
 denied-anchored : (s : NodeState) (lock : LockInfo) (x : Option OpenCall) → IsAnchored s → IsAnchored (denied s lock x).state
 denied-anchored s lock None h = h
-denied-anchored s lock (Some c) h = fewer-anchored s.table s.node s.incarnation s.pending (λ d. not (d.number == c.number)) h
+denied-anchored s lock (Some c) h = answered_if-anchored s c.number (refusal_of c.intent lock) h
 
 -- a message is taken
 delivered-anchored : (s : NodeState) (m : Message) → IsAnchored s → IsAnchored (delivered s m).state
@@ -289,6 +297,14 @@ message-anchored s m h =
     let taken = elim now as (λ b. Leaves (here b)) [ true ↦ delivered-anchored s m h | false ↦ h ] in
     elim (is_node s.node (addressee m) && is_within s.shape.files (file_of m)) as (λ b. Leaves (if not b then Err Stranger else here now)) [ true ↦ taken | false ↦ tt ]
 
+interrupted-anchored : (s : NodeState) (x : Option OpenCall) → IsAnchored s → IsAnchored (interrupted s x).state
+interrupted-anchored s None h = h
+interrupted-anchored s (Some c) h = answered_if-anchored s c.number (interruption_of c.intent) h
+
+interrupt-anchored : (s : NodeState) (pid : ℕ) → IsAnchored s → Leaves (interrupt_rule s pid)
+interrupt-anchored s pid h =
+    elim (is_pid pid) as (λ b. Leaves (if b then Ok (outcome None (interrupted s (open_call_of s pid))) else Err Stranger)) [ true ↦ interrupted-anchored s (open_call_of s pid) h | false ↦ tt ]
+
 retry-anchored : (s : NodeState) (pid : ℕ) → IsAnchored s → Leaves (retry_rule s pid)
 retry-anchored s pid h =
     let waiting = find-own (Waits s.table s.node s.incarnation) (λ c. c.pid == pid) s.pending h.waiting in
@@ -298,6 +314,7 @@ retry-anchored s pid h =
 pub rule-anchored : (s : NodeState) (e : NodeEvent) → IsAnchored s → IfOk (node_rule s e) (λ done. IsAnchored done.0)
 rule-anchored s (event.Call pid op) h = call-anchored s pid op h
 rule-anchored s (event.Deliver m) h = message-anchored s m h
+rule-anchored s (event.Interrupt pid) h = interrupt-anchored s pid h
 rule-anchored s (event.Retry pid) h = retry-anchored s pid h
 
 -- so it is of a node that begins

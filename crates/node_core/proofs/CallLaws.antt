@@ -1,19 +1,22 @@
 -- Open calls.
-use Rattle.std.specs.Prelude.{◌≡◌, ℕ, Bool, true, false, cond, ◌||◌, List, [], ◌∷◌, ◌++◌, Some, find, is_some, slice_get, take, ◌+◌, refl}
-use Rattle.std.specs.List.{list_any}
-use Rattle.std.proofs.Common.{sym, ◌∙◌}
+use Rattle.std.specs.Prelude.{◌≡◌, ℕ, Bool, false, not, cond, List, [], ◌∷◌, ◌++◌, Some, None, All, filter, find, slice_get, take, ◌+◌, refl}
+use Rattle.std.proofs.Common.{ap, sym, ◌∙◌}
 use Rattle.std.proofs.lemmas.List.{take_more}
+use Rattle.std.proofs.lemmas.List.Elements.{All-head, All-tail}
 use Rattle.std.proofs.lemmas.Option.{slice_get_within, get_or_from_slice_get}
 use Rattle.node_core.specs.declared.open_call.OpenCall.{OpenCall}
 
--- whether a search finds something
-pub found-any : (test : OpenCall → Bool) (cs : List OpenCall) → list_any test cs ≡ is_some (find test cs)
-found-any test [] = refl
-found-any test (c ∷ cs) = by (test c) refl (found-any test cs)
-  where
-    by : (b : Bool) → test c ≡ b → list_any test cs ≡ is_some (find test cs) → list_any test (c ∷ cs) ≡ is_some (find test (c ∷ cs))
-    by true e rest = (λ i. e i || list_any test cs) ∙ sym (λ i. is_some (cond (e i) (Some c) (find test cs)))
-    by false e rest = (λ i. e i || list_any test cs) ∙ rest ∙ sym (λ i. is_some (cond (e i) (Some c) (find test cs)))
+-- a search for what no call is finds nothing
+pub find-absent : (P : OpenCall → Type 0) (test : OpenCall → Bool) → ((c : OpenCall) → P c → test c ≡ false) → (cs : List OpenCall) → All P cs → find test cs ≡ None
+find-absent P test fails [] all = refl
+find-absent P test fails (c ∷ cs) all = (λ i. cond (fails c (All-head P c cs all) i) (Some c) (find test cs)) ∙ find-absent P test fails cs (All-tail P c cs all)
+
+-- and leaving it out leaves all
+pub filter-absent : (P : OpenCall → Type 0) (test : OpenCall → Bool) → ((c : OpenCall) → P c → test c ≡ false) → (cs : List OpenCall) → All P cs → filter (λ c. not (test c)) cs ≡ cs
+filter-absent P test fails [] all = refl
+filter-absent P test fails (c ∷ cs) all =
+    (λ i. cond (not (fails c (All-head P c cs all) i)) (c ∷ filter (λ d. not (test d)) cs) (filter (λ d. not (test d)) cs))
+    ∙ ap (λ ds. c ∷ ds) (filter-absent P test fails cs (All-tail P c cs all))
 
 -- two lists that are the same so far, and at the next place
 pub same-next : {X : Type 0} (xs ys : List X) (i : ℕ) (x : X) → slice_get xs i ≡ Some x → slice_get ys i ≡ Some x → take i xs ≡ take i ys → take (i + 1) xs ≡ take (i + 1) ys

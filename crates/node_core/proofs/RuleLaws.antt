@@ -13,12 +13,14 @@ use Rattle.model.specs.declared.owner.Kind.{Kind}
 use Rattle.model.specs.declared.owner.Kind.TheVariants.{OfProcess, OfDescription}
 use Rattle.model.specs.declared.level.Level.{Level}
 use Rattle.model.specs.declared.lock_info.LockInfo.{LockInfo}
-use Rattle.model.specs.declared.op.Op.TheVariants.{Set}
+use Rattle.model.specs.declared.op.Op.{Op}
+use Rattle.model.specs.declared.op.Op.TheVariants.{Set, Wait}
 use Rattle.model.specs.declared.opened.Opened.{Opened}
 use Rattle.model.specs.declared.process.Process.{Process}
 use Rattle.model.specs.declared.reply.Reply.{Reply}
 use Rattle.model.specs.declared.reply.Reply.TheVariants.{Done, NoLocks, NoProcess}
-use Rattle.model.specs.Locks.{FileLocks, IsRegion, IsOfNode, IsClear}
+use Rattle.model.specs.Limits.{most_regions}
+use Rattle.model.specs.Locks.{FileLocks, IsRegion, IsFree, IsOfNode, IsClear}
 use Rattle.model.specs.Table.{Table, Target, is_running, descriptor, allows, target_at, target, regions_with, locked, lock_within}
 use Rattle.model.proofs.BlockerLaws.{is_lowest_blocker}
 use Rattle.model.proofs.WayLaws.{clear_has_none}
@@ -36,11 +38,12 @@ use Rattle.node_core.specs.declared.open_call.OpenCall.{OpenCall}
 use Rattle.node_core.specs.declared.open_call.Intent.{Intent}
 use Rattle.node_core.specs.declared.open_call.Intent.TheVariants as intent
 use Rattle.node_core.specs.State.{FileState, NodeState, Effect, host, process, id_of, open_call_of, target_of, outcome}
-use Rattle.node_core.specs.Try.{settled, requested, may_free, with_freed, locked_by, answered_here, tried_against}
-use Rattle.node_core.specs.Calls.{is_pid, lock_call, after_call}
+use Rattle.node_core.specs.Try.{settled, requested, answered_if, may_free, with_freed, locked_by, answered_here, tried_against}
+use Rattle.node_core.specs.Calls.{is_pid, is_in_shape, is_exit, is_busy, lock_call, after_call, call_rule}
 use Rattle.node_core.specs.Commands.{answer_to, is_conflict, revoked}
+use Rattle.node_core.specs.Interrupts.{interruption_of, interrupted}
 use Rattle.node_core.specs.Parts.{IsSpan}
-use Rattle.node_core.specs.Laws.{CoveredSetIsDone, GivesUp, ClearRevokeGivesUp}
+use Rattle.node_core.specs.Laws.{MayCall, CoveredSetIsDone, CoveredWaitIsDone, IsUntouched, InterruptChangesNothing, GivesUp, ClearRevokeGivesUp}
 
 -- a branch that is taken
 taken : {A : Type 0} (P : A → Type 0) (b : Bool) (x y : A) → b ≡ true → P x → P (if b then x else y)
@@ -111,31 +114,64 @@ locked_by-reply s number t mode =
 lock_within-done : (t : Table) (c : Target) (mode : Option Mode) → regions_with t c mode ≤ 1024 → (lock_within t c mode).1 ≡ Done
 lock_within-done t c mode h = taken (λ (a : Table × Reply). a.1 ≡ Done) (nat_le (regions_with t c mode) 1024) (locked t c mode, Done) (t, NoLocks) (le-leb _ _ h) refl
 
+-- what asks for a lock that the node's own table then gives
+abbrev Locks : Intent → Type 0
+Locks its = (s : NodeState) (c : OpenCall) → answered_here s c its ≡ locked_by s c.number (target_of c) (Some c.mode)
+
 -- a call within the node's token that nothing is in the way of
-tried-done : (s : NodeState) (c : OpenCall) (r : Option LockInfo) → r ≡ None → c.intent ≡ intent.Set → covers (s.files c.file).token c.span c.mode ≡ true → regions_with s.table (target_of c) (Some c.mode) ≤ 1024 → (tried_against s c r).reply ≡ Some (id_of s c.number, Done)
-tried-done s c r none set covered few =
+tried-done : (s : NodeState) (c : OpenCall) (r : Option LockInfo) → r ≡ None → Locks c.intent → covers (s.files c.file).token c.span c.mode ≡ true → regions_with s.table (target_of c) (Some c.mode) ≤ 1024 → (tried_against s c r).reply ≡ Some (id_of s c.number, Done)
+tried-done s c r none locks covered few =
     ap (λ (r : Option LockInfo). (tried_against s c r).reply) none
     ∙ taken (λ (e : Effect). e.reply ≡ Some (id_of s c.number, Done)) (covers (s.files c.file).token c.span c.mode) (answered_here s c c.intent) (requested s c) covered (
-    ap (λ (i : Intent). (answered_here s c i).reply) set
+    ap (λ (e : Effect). e.reply) (locks s c)
     ∙ locked_by-reply s c.number (target_of c) (Some c.mode)
     ∙ ap (λ (a : Reply). Some (id_of s c.number, a)) (lock_within-done s.table (target_of c) (Some c.mode) few))
 
-pub covered_set_is_done : CoveredSetIsDone
-covered_set_is_done s pid fd kind mode start len t may is own free covered few =
-    let P : NodeState × Outcome → Type 0 = λ r. r.1.reply ≡ Some (id_of s (s.calls + 1), Done) in
-    let Q : Result (NodeState × Outcome) StepError → Type 0 = λ r. IsOkAnd r P in
-    let op = Set fd kind mode start len in
+-- so such a call for a lock is answered Done
+lock_call-done : (s : NodeState) (number pid : ℕ) (its : Intent) (fd : ℕ) (kind : Kind) (mode : Mode) (start len : ℤ) (t : Target) → Locks its → target s.table (process s pid) (Some mode) fd kind start len ≡ Ok t → IsOfNode (s.table.locks t.file) s.node s.incarnation → IsFree (s.table.locks t.file) t.owner t.span mode → covers (s.files t.file).token t.span mode ≡ true → regions_with s.table t (Some mode) ≤ most_regions → (lock_call s number pid its mode (target s.table (process s pid) (Some mode) fd kind start len)).reply ≡ Some (id_of s number, Done)
+lock_call-done s number pid its fd kind mode start len t locks is own free covered few =
     let about : IsAbout (process s pid) t = subst (λ (r : Result Target Reply). IfOk r (IsAbout (process s pid))) is (target-about s.table (process s pid) (Some mode) fd kind start len) in
     let of_node : IsOfNode (s.table.locks t.file) t.owner.node s.incarnation = subst (λ (n : ℕ). IsOfNode (s.table.locks t.file) n s.incarnation) (sym about.of_node) own in
     let of_host : IsOfNode (s.table.locks t.file) t.owner.node t.owner.incarnation = subst (λ (n : ℕ). IsOfNode (s.table.locks t.file) t.owner.node n) (sym about.of_incarnation) of_node in
     let none = sym (is_lowest_blocker (s.table.locks t.file) t.owner t.span mode None of_host about.span.ordered about.span.ends free) in
-    let numbered : NodeState = record s { calls = s.calls + 1 } in
-    let c : OpenCall = record { number = s.calls + 1; pid = pid; intent = intent.Set; file = t.file; owner = t.owner; mode = mode; span = t.span } in
-    let opened : NodeState = record numbered { pending = s.pending ++ c ∷ [] } in
-    let done = ap (λ (r : Result Target Reply). (lock_call numbered (s.calls + 1) pid intent.Set mode r).reply) is ∙ tried-done opened c _ none refl covered few in
-    passed Q (is_pid pid && true) (Err Stranger) _ (and_from _ _ (and_from _ _ (le-leb _ _ may.pid_in.0) (le-leb _ _ may.pid_in.1)) refl) (
-    not_taken Q (is_some (open_call_of s pid)) (Err Busy) _ (ap is_some may.idle) (
-    taken Q (nat_lt s.calls 4294967295) (Ok (after_call s pid op)) (Err Spent) (lt-ltb _ _ may.left) done))
+    let c : OpenCall = record { number = number; pid = pid; intent = its; file = t.file; owner = t.owner; mode = mode; span = t.span } in
+    let opened : NodeState = record s { pending = s.pending ++ c ∷ [] } in
+    ap (λ (r : Result Target Reply). (lock_call s number pid its mode r).reply) is ∙ tried-done opened c _ none locks covered few
+
+-- the call of a process that may call is taken
+call-taken : (s : NodeState) (pid : ℕ) (op : Op) (P : NodeState × Outcome → Type 0) → MayCall s pid → is_in_shape s.shape op ≡ true → is_exit op ≡ false → P (after_call s pid op) → IsOkAnd (call_rule s pid op) P
+call-taken s pid op P may known stays h =
+    let Q : Result (NodeState × Outcome) StepError → Type 0 = λ r. IsOkAnd r P in
+    let busy : is_busy s pid op ≡ false = (λ i. not (stays i) && is_some (may.idle i)) in
+    passed Q (is_pid pid && is_in_shape s.shape op) (Err Stranger) _ (and_from _ _ (and_from _ _ (le-leb _ _ may.pid_in.0) (le-leb _ _ may.pid_in.1)) known) (
+    not_taken Q (is_busy s pid op) (Err Busy) _ busy (
+    taken Q (nat_lt s.calls 4294967295) (Ok (after_call s pid op)) (Err Spent) (lt-ltb _ _ may.left) h))
+
+pub covered_set_is_done : CoveredSetIsDone
+covered_set_is_done s pid fd kind mode start len t may is own free covered few =
+    let locks : Locks intent.Set = λ n c. refl in
+    let done = lock_call-done (record s { calls = s.calls + 1 }) (s.calls + 1) pid intent.Set fd kind mode start len t locks is own free covered few in
+    call-taken s pid (Set fd kind mode start len) (λ r. r.1.reply ≡ Some (id_of s (s.calls + 1), Done)) may refl refl done
+
+pub covered_wait_is_done : CoveredWaitIsDone
+covered_wait_is_done s pid fd kind mode start len t may is own free covered few =
+    let locks : Locks intent.Wait = λ n c. refl in
+    let done = lock_call-done (record s { calls = s.calls + 1 }) (s.calls + 1) pid intent.Wait fd kind mode start len t locks is own free covered few in
+    call-taken s pid (Wait fd kind mode start len) (λ r. r.1.reply ≡ Some (id_of s (s.calls + 1), Done)) may refl refl done
+
+-- a call that is answered or stays open
+answered_if-untouched : (s : NodeState) (number : ℕ) (x : Option Reply) → IsUntouched s (outcome None (answered_if s number x))
+answered_if-untouched s number None = record { table = refl; files = refl; silent = refl }
+answered_if-untouched s number (Some reply) = record { table = refl; files = refl; silent = refl }
+
+interrupted-untouched : (s : NodeState) (x : Option OpenCall) → IsUntouched s (outcome None (interrupted s x))
+interrupted-untouched s None = record { table = refl; files = refl; silent = refl }
+interrupted-untouched s (Some c) = answered_if-untouched s c.number (interruption_of c.intent)
+
+pub interrupt_changes_nothing : InterruptChangesNothing
+interrupt_changes_nothing s pid within =
+    taken (λ (r : Result (NodeState × Outcome) StepError). IsOkAnd r (IsUntouched s)) (is_pid pid) (Ok (outcome None (interrupted s (open_call_of s pid)))) (Err Stranger) (and_from _ _ (le-leb _ _ within.0) (le-leb _ _ within.1)) (
+    interrupted-untouched s (open_call_of s pid))
 
 -- a lowered level is in nobody's way
 lowered_level-apart : (x : Option Level) (mode : Mode) → level_conflicts (lowered_level x mode) mode ≡ false

@@ -2,7 +2,7 @@
 use Rattle.std.specs.Prelude.{ℕ, ◌+◌, Bool, true, false, not, ◌&&◌, nat_lt, if◌then◌else◌, [], ◌∷◌, ◌++◌, is_some, Some, None, Result, Ok, Err}
 use Rattle.model.specs.declared.mode.Mode.{Mode}
 use Rattle.model.specs.declared.op.Op.{Op}
-use Rattle.model.specs.declared.op.Op.TheVariants.{Spawn, Fork, Open, Dup, Close, Exit, Set, Unlock, Query}
+use Rattle.model.specs.declared.op.Op.TheVariants.{Spawn, Fork, Open, Dup, Close, Exit, Set, Wait, Unlock, Query}
 use Rattle.model.specs.declared.reply.Reply.{Reply}
 use Rattle.model.specs.Limits.{most_processes}
 use Rattle.model.specs.Descriptors.{is_of_file, has_open, after_spawn, after_fork, after_open, after_dup}
@@ -45,7 +45,7 @@ abbrev pub shut_by : NodeState → ℕ → (ℕ → Bool) → Table × Reply →
 shut_by s number passes answer =
     if may_free None answer.1 then with_freed_of passes s.shape.files (settled s number answer) else settled s number answer
 
--- the call with that number: all but set and query are answered in the same step
+-- the call with that number: all but set, wait and query are answered in the same step
 abbrev pub called : NodeState → ℕ → ℕ → Op → Effect
 called s number pid Spawn = settled s number (beside s.table (process s pid) (after_spawn (around s.table (process s pid)) pid))
 called s number pid (Fork child) = settled s number (beside s.table (process s pid) (after_fork (around s.table (process s pid)) pid child))
@@ -54,6 +54,7 @@ called s number pid (Dup fd) = settled s number (beside s.table (process s pid) 
 called s number pid (Close fd) = shut_by s number (λ file. is_of_file file (descriptor s.table (process s pid) fd)) (after_close s.table (process s pid) fd)
 called s number pid Exit = shut_by (without_call_of s pid) number (has_open (around s.table (process s pid)) pid) (after_exit s.table (process s pid))
 called s number pid (Set fd kind mode start len) = lock_call s number pid intent.Set mode (target s.table (process s pid) (Some mode) fd kind start len)
+called s number pid (Wait fd kind mode start len) = lock_call s number pid intent.Wait mode (target s.table (process s pid) (Some mode) fd kind start len)
 called s number pid (Unlock fd kind start len) = unlock_call s number (target s.table (process s pid) None fd kind start len)
 called s number pid (Query fd kind mode start len) = lock_call s number pid intent.Query mode (target s.table (process s pid) None fd kind start len)
 

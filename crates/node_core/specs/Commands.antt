@@ -20,8 +20,8 @@ use Rattle.messages.specs.declared.outcome.Outcome.{Outcome}
 use Rattle.messages.specs.declared.actor.Actor.{Actor}
 use Rattle.messages.specs.declared.actor.Actor.TheVariants.{Node as ANode, Server as AServer}
 use Rattle.messages.specs.Messages.{addressee, host_of, file_of, is_within}
-use Rattle.node_core.specs.State.{NodeState, Effect, with_file, quiet, sent, answered, host, outcome, open_call}
-use Rattle.node_core.specs.Try.{refusal_of, tried_if}
+use Rattle.node_core.specs.State.{NodeState, Effect, with_file, quiet, sent, host, outcome, open_call}
+use Rattle.node_core.specs.Try.{refusal_of, answered_if, tried_if}
 
 -- the answer to the last command is sent again
 abbrev pub remembered : NodeState → Option Message → Effect
@@ -65,10 +65,10 @@ revoked s file number call mode wanted =
     let answer = answer_to file number (host s) call gives in
     sent (after_command s file (after_giving_up (s.files file).token mode gives) number answer (is_conflict gives || (s.files file).asked)) answer
 
--- an open call is answered with the lock in its way
+-- an open call is answered with the lock in its way; one that waits stays open
 abbrev pub denied : NodeState → LockInfo → Option OpenCall → Effect
 denied s lock None = quiet s
-denied s lock (Some c) = answered s c.number (refusal_of c.intent lock)
+denied s lock (Some c) = answered_if s c.number (refusal_of c.intent lock)
 
 abbrev pub delivered : NodeState → Message → Effect
 delivered s (Grant file number call mode span) = in_order s file number (granted s file number call mode span)

@@ -4,7 +4,7 @@ use Rattle.intervals.specs.Bytes.{Range}
 use Rattle.model.specs.declared.mode.Mode.{Mode}
 use Rattle.model.specs.declared.owner.Kind.{Kind}
 use Rattle.model.specs.declared.call.CallId.{CallId}
-use Rattle.model.specs.declared.op.Op.TheVariants.{Set}
+use Rattle.model.specs.declared.op.Op.TheVariants.{Set, Wait}
 use Rattle.model.specs.declared.reply.Reply.TheVariants.{Done}
 use Rattle.model.specs.Limits.{IsNumber, most_processes, most_regions}
 use Rattle.model.specs.Locks.{IsFree, IsOfNode, IsClear}
@@ -15,7 +15,7 @@ use Rattle.messages.specs.Messages.{greatest_number}
 use Rattle.messages.specs.Wants.{Wants}
 use Rattle.messages.specs.declared.message.Message.TheVariants.{Revoke, Released}
 use Rattle.messages.specs.declared.outcome.Outcome.{Outcome}
-use Rattle.node_core.specs.declared.event.NodeEvent.TheVariants.{Call, Deliver}
+use Rattle.node_core.specs.declared.event.NodeEvent.TheVariants.{Call, Deliver, Interrupt}
 use Rattle.node_core.specs.State.{NodeState, host, process, id_of, open_call_of}
 use Rattle.node_core.specs.Node.{node_rule}
 
@@ -36,6 +36,28 @@ CoveredSetIsDone =
     → covers (s.files t.file).token t.span mode ≡ true
     → regions_with s.table t (Some mode) ≤ most_regions
     → IsOkAnd (node_rule s (Call pid (Set fd kind mode start len))) (λ r. r.1.reply ≡ Some (id_of s (s.calls + 1), Done))
+
+-- and so is a wait
+abbrev pub CoveredWaitIsDone : Type 0
+CoveredWaitIsDone =
+    (s : NodeState) (pid fd : ℕ) (kind : Kind) (mode : Mode) (start len : ℤ) (t : Target)
+    → MayCall s pid
+    → target s.table (process s pid) (Some mode) fd kind start len ≡ Ok t
+    → IsOfNode (s.table.locks t.file) s.node s.incarnation
+    → IsFree (s.table.locks t.file) t.owner t.span mode
+    → covers (s.files t.file).token t.span mode ≡ true
+    → regions_with s.table t (Some mode) ≤ most_regions
+    → IsOkAnd (node_rule s (Call pid (Wait fd kind mode start len))) (λ r. r.1.reply ≡ Some (id_of s (s.calls + 1), Done))
+
+-- processes, locks and tokens are as they were, and nobody hears of it
+pub record IsUntouched (s : NodeState) (r : NodeState × Outcome) : Type 0 where
+  pub table : r.0.table ≡ s.table
+  pub files : r.0.files ≡ s.files
+  pub silent : r.1.sends ≡ []
+
+-- an interrupt changes nothing but which calls are open
+abbrev pub InterruptChangesNothing : Type 0
+InterruptChangesNothing = (s : NodeState) (pid : ℕ) → IsNumber most_processes pid → IsOkAnd (node_rule s (Interrupt pid)) (IsUntouched s)
 
 -- the one answer to a revoke gives up a span around the required bytes, and none of these is in the way of the mode in the node's token any more
 pub record GivesUp (s : NodeState) (file number : ℕ) (call : CallId) (mode : Mode) (required : Range) (r : NodeState × Outcome) : Type 0 where

@@ -3,14 +3,16 @@ use Rattle.std.specs.Prelude.{Result}
 use Rattle.messages.specs.declared.refusal.StepError.{StepError}
 use Rattle.messages.specs.declared.outcome.Outcome.{Outcome}
 use Rattle.node_core.specs.declared.event.NodeEvent.{NodeEvent}
-use Rattle.node_core.specs.declared.event.NodeEvent.TheVariants.{Call, Deliver, Retry}
+use Rattle.node_core.specs.declared.event.NodeEvent.TheVariants.{Call, Deliver, Interrupt, Retry}
 use Rattle.node_core.specs.State.{NodeState}
 use Rattle.node_core.specs.Calls.{call_rule}
 use Rattle.node_core.specs.Commands.{deliver_rule}
+use Rattle.node_core.specs.Interrupts.{interrupt_rule}
 use Rattle.node_core.specs.Retries.{retry_rule}
 
 -- what a node does at an event, or why it refuses it
 abbrev pub node_rule : NodeState → NodeEvent → Result (NodeState × Outcome) StepError
 node_rule s (Call pid op) = call_rule s pid op
 node_rule s (Deliver m) = deliver_rule s m
+node_rule s (Interrupt pid) = interrupt_rule s pid
 node_rule s (Retry pid) = retry_rule s pid

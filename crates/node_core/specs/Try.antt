@@ -9,10 +9,11 @@ use Rattle.model.specs.Locks.{lowest_blocker}
 use Rattle.model.specs.Table.{Table, Target, lock_within}
 use Rattle.token_set.specs.Tokens.{covers, desired}
 use Rattle.messages.specs.Wants.{Wants}
-use Rattle.messages.specs.declared.message.Urgency.TheVariants.{Now}
+use Rattle.messages.specs.declared.message.Urgency.{Urgency}
+use Rattle.messages.specs.declared.message.Urgency.TheVariants.{Now, Waits}
 use Rattle.messages.specs.declared.message.Message.TheVariants.{Request, Freed}
 use Rattle.node_core.specs.declared.open_call.Intent.{Intent}
-use Rattle.node_core.specs.declared.open_call.Intent.TheVariants.{Set, Query}
+use Rattle.node_core.specs.declared.open_call.Intent.TheVariants.{Set, Wait, Query}
 use Rattle.node_core.specs.declared.open_call.OpenCall.{OpenCall}
 use Rattle.node_core.specs.State.{NodeState, Effect, quiet, sent, answered, with_file, host, id_of, target_of}
 
@@ -20,16 +21,27 @@ use Rattle.node_core.specs.State.{NodeState, Effect, quiet, sent, answered, with
 abbrev pub settled : NodeState → ℕ → Table × Reply → Effect
 settled s number answer = answered (record s { table = answer.0 }) number answer.1
 
+-- a request of a call that waits may be put off, where a lock is in its way
+abbrev pub urgency_of : Intent → Urgency
+urgency_of Wait = Waits
+urgency_of _ = Now
+
 -- the token does not cover the call: the server is asked
 abbrev pub requested : NodeState → OpenCall → Effect
 requested s c =
     let wanted : Wants = record { required = c.span; desired = desired s.shape.policy (s.files c.file).token c.span } in
-    sent s (Request c.file (id_of s c.number) Now c.mode wanted)
+    sent s (Request c.file (id_of s c.number) (urgency_of c.intent) c.mode wanted)
 
--- the answer that names a lock in the way
-abbrev pub refusal_of : Intent → LockInfo → Reply
-refusal_of Set lock = Again lock
-refusal_of Query lock = Blocked lock
+-- the answer that names a lock in the way; a call that waits gets none
+abbrev pub refusal_of : Intent → LockInfo → Option Reply
+refusal_of Set lock = Some (Again lock)
+refusal_of Wait lock = None
+refusal_of Query lock = Some (Blocked lock)
+
+-- the call is answered, or stays open
+abbrev pub answered_if : NodeState → ℕ → Option Reply → Effect
+answered_if s number None = quiet s
+answered_if s number (Some reply) = answered s number reply
 
 -- what the bytes were may have been in the way of other nodes' calls: they are freed, or only read locks from now on
 abbrev pub may_free : Option Mode → Reply → Bool
@@ -60,6 +72,7 @@ locked_by s number target mode =
 -- the node's own table answers
 abbrev pub answered_here : NodeState → OpenCall → Intent → Effect
 answered_here s c Set = locked_by s c.number (target_of c) (Some c.mode)
+answered_here s c Wait = locked_by s c.number (target_of c) (Some c.mode)
 answered_here s c Query = answered s c.number Free
 
 -- no lock of the node is in the way: where its token covers the call the node answers by itself
@@ -67,7 +80,7 @@ abbrev pub unblocked : NodeState → OpenCall → Effect
 unblocked s c = if covers (s.files c.file).token c.span c.mode then answered_here s c c.intent else requested s c
 
 abbrev pub tried_against : NodeState → OpenCall → Option LockInfo → Effect
-tried_against s c (Some lock) = answered s c.number (refusal_of c.intent lock)
+tried_against s c (Some lock) = answered_if s c.number (refusal_of c.intent lock)
 tried_against s c None = unblocked s c
 
 -- first the node's own locks of other owners are asked, then its token, and then the server

@@ -9,6 +9,8 @@ pub enum NodeEvent {
     Call { pid: u16, op: Op },
     /// A message comes.
     Deliver(Message),
+    /// The wait of a process is interrupted.
+    Interrupt { pid: u16 },
     /// The open call of a process is tried again.
     Retry { pid: u16 },
 }

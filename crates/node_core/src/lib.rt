@@ -8,6 +8,7 @@ pub mod effect;
 pub mod event;
 pub mod file_row;
 mod files;
+mod hints;
 pub mod laws;
 pub mod locks;
 pub mod node;

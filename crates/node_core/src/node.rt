@@ -200,6 +200,7 @@ impl Node {
         match event {
             NodeEvent::Call { pid, op } => self.plan_call(alloc, *pid, op),
             NodeEvent::Deliver(message) => self.plan_message(alloc, message),
+            NodeEvent::Interrupt { pid } => self.plan_interrupt(alloc, *pid),
             NodeEvent::Retry { pid } => self.plan_retry(alloc, *pid),
         }
     }
@@ -289,6 +290,7 @@ impl Node {
 
 mod calls;
 mod commands;
+mod interrupts;
 mod readers;
 mod shuts;
 mod tries;

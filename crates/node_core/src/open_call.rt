@@ -1,32 +1,57 @@
 //! Open calls.
 ghost use Rattle.std.specs.Prelude.{◌≡◌, ◌↔◌, IsTrue};
 ghost use Rattle.node_core.specs.State.{target_of};
-ghost use Rattle.node_core.specs.Try.{refusal_of};
+ghost use Rattle.node_core.specs.Try.{refusal_of, urgency_of};
+ghost use Rattle.node_core.specs.Interrupts.{interruption_of};
 
 use intervals::span::Span;
+use messages::message::Urgency;
 use model::lock_call::LockCall;
 use model::lock_info::LockInfo;
 use model::mode::Mode;
 use model::owner::Owner;
 use model::reply::Reply;
 
-/// What an open call asks for: the lock, or whether it would be free.
+/// What an open call asks for: the lock, now or as soon as it is free, or whether it would be free.
 #[derive(Clone, Copy, Debug, PartialEq, Eq)]
 pub enum Intent {
     /// A lock, at once or not at all (POSIX.1-2017 `fcntl()`, F_SETLK).
     Set,
+    /// A lock, as soon as none is in the way (POSIX.1-2017 `fcntl()`, F_SETLKW).
+    Wait,
     /// Whether a lock is in the way, and which (POSIX.1-2017 `fcntl()`, F_GETLK).
     Query,
 }
 
 impl Intent {
-    /// The reply that names a lock in the way.
-    pub fn refusal(self, lock: LockInfo) -> Reply
+    /// The reply that names a lock in the way; a wait stays open.
+    pub fn refusal(self, lock: LockInfo) -> Option<Reply>
         ensures { result ≡ refusal_of self lock }
     {
         match self {
-            Intent::Set => Reply::Again(lock),
-            Intent::Query => Reply::Blocked(lock),
+            Intent::Set => Some(Reply::Again(lock)),
+            Intent::Wait => None,
+            Intent::Query => Some(Reply::Blocked(lock)),
+        }
+    }
+
+    /// What an interrupt answers: a wait alone (POSIX.1-2017 `fcntl()`, EINTR).
+    pub fn interruption(self) -> Option<Reply>
+        ensures { result ≡ interruption_of self }
+    {
+        match self {
+            Intent::Wait => Some(Reply::Interrupted),
+            Intent::Set | Intent::Query => None,
+        }
+    }
+
+    /// Whether a server may put the request off, where a lock is in its way.
+    pub fn urgency(self) -> Urgency
+        ensures { result ≡ urgency_of self }
+    {
+        match self {
+            Intent::Wait => Urgency::Waits,
+            Intent::Set | Intent::Query => Urgency::Now,
         }
     }
 }

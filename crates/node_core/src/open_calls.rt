@@ -3,6 +3,7 @@ ghost use Rattle.std.specs.Prelude.{◌≡◌, ◌==◌, ◌↔◌, ◌++◌, �
 ghost use Rattle.std.specs.Vec.{vec_capacity};
 ghost use Rattle.node_core.specs.Plans.{pending_after, HasRoom};
 
+use crate::hints::Hints;
 use crate::open_call::OpenCall;
 use std::alloc::{AllocError, Global};
 use std::marker::Model;
@@ -24,6 +25,8 @@ pub enum CallsEdit {
 #[derive(Drop)]
 pub struct OpenCalls {
     calls: Vec<OpenCall>,
+    // What they may be: most searches for a call that is not open end here.
+    hints: Hints,
 }
 
 impl Model for OpenCalls {
@@ -33,6 +36,11 @@ impl Model for OpenCalls {
     ghost Value = { List Call };
 
     ghost view = { λ c. c.calls.items };
+
+    ghost use Rattle.std.specs.Prelude.{All};
+    ghost use Rattle.node_core.specs.Hints.{IsHinted};
+
+    ghost invariant = { λ c. All (IsHinted c.hints) c.calls.items };
 }
 
 // Puts one more call last, by the list that has room for all.
@@ -57,6 +65,7 @@ impl OpenCalls {
     {
         OpenCalls {
             calls: Vec::new(alloc),
+            hints: Hints::none(),
         }
     }
 
@@ -69,6 +78,7 @@ impl OpenCalls {
     {
         Ok(OpenCalls {
             calls: Vec::from_slice(*self.calls.allocator(), &self.calls)?,
+            hints: self.hints,
         })
     }
 
@@ -76,6 +86,9 @@ impl OpenCalls {
     pub fn get(&self, number: u32) -> Option<OpenCall>
         ensures { result ≡ find (λ c. c.number == number) self.now }
     {
+        if !self.hints.has_number(number) {
+            return None;
+        }
         self.calls
             .iter()
             .find(|call| call.number == number)
@@ -86,6 +99,9 @@ impl OpenCalls {
     pub fn call_of(&self, pid: u16) -> Option<OpenCall>
         ensures { result ≡ find (λ c. c.pid == pid) self.now }
     {
+        if !self.hints.has_caller(pid) {
+            return None;
+        }
         self.calls.iter().find(|call| call.pid == pid).copied()
     }
 
@@ -93,7 +109,7 @@ impl OpenCalls {
     pub fn has_call_of(&self, pid: u16) -> bool
         ensures { result ≡ is_some (find (λ c. c.pid == pid) self.now) }
     {
-        self.calls.iter().any(|call| call.pid == pid)
+        self.call_of(pid).is_some()
     }
 
     /// An empty list with room for all open calls and one more.
@@ -107,18 +123,34 @@ impl OpenCalls {
         Vec::with_capacity(*self.calls.allocator(), self.calls.len() + 1)
     }
 
+    // Puts one more call last, by the list that has room for all.
+    fn put(&mut self, call: OpenCall, room: Vec<OpenCall>)
+        requires empty { room.items ≡ [] }
+        requires room { length self.old < vec_capacity room }
+        ensures { self.new ≡ self.old ++ call ∷ [] }
+    {
+        self.hints.add(&call);
+        put_last(&mut self.calls, call, room);
+    }
+
     // The call with that number is open no longer.
     fn drop_call(&mut self, number: u32)
         ensures { self.new ≡ filter (λ c. not (c.number == number)) self.old }
     {
-        self.calls.retain(|call| call.number != number);
+        if self.hints.has_number(number) {
+            self.calls.retain(|call| call.number != number);
+            self.hints = Hints::of(&self.calls);
+        }
     }
 
     // No call of the process is open any longer.
     fn drop_calls_of(&mut self, pid: u16)
         ensures { self.new ≡ filter (λ c. not (c.pid == pid)) self.old }
     {
-        self.calls.retain(|call| call.pid != pid);
+        if self.hints.has_caller(pid) {
+            self.calls.retain(|call| call.pid != pid);
+            self.hints = Hints::of(&self.calls);
+        }
     }
 
     /// Makes a planned change. Takes no memory.
@@ -128,7 +160,7 @@ impl OpenCalls {
     {
         match edit {
             CallsEdit::Same => {}
-            CallsEdit::Put(call, room) => put_last(&mut self.calls, call, room),
+            CallsEdit::Put(call, room) => self.put(call, room),
             CallsEdit::Gone(number) => self.drop_call(number),
             CallsEdit::Left { pid, number } => {
                 self.drop_calls_of(pid);

@@ -1,4 +1,4 @@
-//! Tests of the parts, through their public calls.
+//! Tests of the parts of nodes and servers, through their public calls.
 #![tactic(auto)]
 
 #[cfg(test)]
@@ -10,12 +10,10 @@ mod of_intervals;
 #[cfg(test)]
 mod of_lock_table;
 #[cfg(test)]
+mod of_members;
+#[cfg(test)]
 mod of_messages;
 #[cfg(test)]
 mod of_model;
-#[cfg(test)]
-mod of_node_core;
-#[cfg(test)]
-mod of_token_server;
 #[cfg(test)]
 mod of_token_set;

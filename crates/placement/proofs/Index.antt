@@ -8,7 +8,7 @@ use Rattle.model.specs.declared.call.CallId.{CallId}
 use Rattle.model.specs.declared.op.Op.{Op}
 use Rattle.model.specs.contracts.call.CallIdPartialEq.TheImpl as derived
 use Rattle.messages.specs.declared.event.Event.{Event}
-use Rattle.messages.specs.declared.event.Event.TheVariants.{Call, Deliver, Retry, Resend, Declare, Restart, Learn}
+use Rattle.messages.specs.declared.event.Event.TheVariants.{Call, Deliver, Interrupt, Retry, Resend, Declare, Restart, Learn}
 use Rattle.messages.specs.declared.entry.Entry.{Entry}
 use Rattle.messages.specs.Messages.{same_call}
 use Rattle.messages.proofs.SameMessages.{call_exact}
@@ -29,6 +29,7 @@ call_in e id = find_call (e ∷ []) id
 found_on : (b : Bool) (event : Event) (x y z : Option (ℕ × Op)) → y ≡ option_or x z → cond b (called_by event y) y ≡ option_or (cond b (called_by event x) x) z
 found_on true (Call node pid op) x y z h = refl
 found_on true (Deliver m) x y z h = h
+found_on true (Interrupt node pid) x y z h = h
 found_on true (Retry node pid) x y z h = h
 found_on true (Resend file) x y z h = h
 found_on true (Declare node) x y z h = h

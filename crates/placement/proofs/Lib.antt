@@ -4,3 +4,4 @@ pub mod Locating
 pub mod Placing
 pub mod Placements
 pub mod Replays
+pub mod Waits

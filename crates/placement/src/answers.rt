@@ -1,10 +1,11 @@
 //! What a single machine's table may answer.
-ghost use Rattle.std.specs.Prelude.{◌≡◌, true, false, IsTrue, ◌↔◌, IfOk};
-ghost use Rattle.model.specs.declared.op.Op.TheVariants.{Set, Unlock, Query};
-ghost use Rattle.model.specs.declared.reply.Reply.TheVariants.{Again, Blocked};
+ghost use Rattle.std.specs.Prelude.{◌≡◌, ◌≢◌, true, false, IsTrue, ◌↔◌, IfOk};
+ghost use Rattle.model.specs.declared.op.Op.TheVariants.{Set, Wait, Unlock, Query};
+ghost use Rattle.model.specs.declared.reply.Reply.TheVariants.{Again, Blocked, Interrupted};
 ghost use Rattle.model.specs.Step.{BlocksCall, IsPossible, Step};
 ghost use Rattle.model.specs.Replay.{NeverAnswers, NamesNoLock};
 ghost use Rattle.fcntl_table.specs.Tables.{table_of};
+ghost use Rattle.placement.specs.Waits.{GoesOn};
 
 use fcntl_table::table::FcntlTable;
 use intervals::span_map::NoMemory;
@@ -41,18 +42,20 @@ pub(crate) fn take(
     match reply {
         Reply::Again(lock) => Ok(may_deny(table, process, op, lock)),
         Reply::Blocked(lock) => Ok(may_block(table, process, op, lock)),
+        Reply::Interrupted => Ok(may_interrupt(table, process, op)),
         _ => take_answer(table, process, op, reply),
     }
 }
 
-// The step that is answered so, where the answer names no lock.
+// The step that is answered so, where the answer names no lock and is not that of an interrupt.
 fn take_answer(
     table: &mut FcntlTable,
     process: Process,
     op: Op,
     reply: Reply,
 ) -> Result<bool, NoMemory>
-    requires { NamesNoLock reply }
+    requires names_none { NamesNoLock reply }
+    requires is_own { Interrupted ≢ reply }
     ensures taken { IfOk result (λ yes. yes ≡ true → Step (table_of table.old) process op reply (table_of table.new)) }
     ensures never { IfOk result (λ yes. yes ≡ false → NeverAnswers (table_of table.old) process op reply) }
 {
@@ -115,6 +118,26 @@ fn may_block(table: &FcntlTable, process: Process, op: Op, lock: LockInfo) -> bo
     is_blocked_by(table, call, mode, &lock)
 }
 
+// Whether the call may be answered so: it waits, and passes its tests.
+fn may_interrupt(table: &FcntlTable, process: Process, op: Op) -> bool
+    ensures may { result ≡ true → Step (table_of table.now) process op Interrupted (table_of table.now) }
+    ensures never { result ≡ false → NeverAnswers (table_of table.now) process op Interrupted }
+{
+    let Op::Wait {
+        fd,
+        kind,
+        mode,
+        start,
+        len,
+    } = op
+    else {
+        return false;
+    };
+    table
+        .target(process, Some(mode), fd, kind, start, len)
+        .is_ok()
+}
+
 // Whether the lock is a region of another owner that blocks the call.
 fn is_blocked_by(table: &FcntlTable, call: LockCall, mode: Mode, lock: &LockInfo) -> bool
     ensures { IsTrue result ↔ BlocksCall (table_of table.now) call mode lock.now }
@@ -129,10 +152,11 @@ fn is_blocked_by(table: &FcntlTable, call: LockCall, mode: Mode, lock: &LockInfo
 }
 
 // Answers a call of the process. A segment is tested before the open mode of its descriptor; where
-// locks of several owners block, one of them is named.
+// locks of several owners block, one of them is named, and a call that waits is interrupted.
 fn step(table: &mut FcntlTable, process: Process, op: Op) -> Result<Reply, NoMemory>
     requires { IsPossible op }
-    ensures { IfOk result (λ reply. Step (table_of table.old) process op reply (table_of table.new)) }
+    ensures step { IfOk result (λ reply. Step (table_of table.old) process op reply (table_of table.new)) }
+    ensures goes_on { IfOk result (GoesOn (table_of table.old) process op) }
 {
     match op {
         Op::Spawn => table.spawn(process),
@@ -148,6 +172,13 @@ fn step(table: &mut FcntlTable, process: Process, op: Op) -> Result<Reply, NoMem
             start,
             len,
         } => set(table, process, fd, kind, mode, start, len),
+        Op::Wait {
+            fd,
+            kind,
+            mode,
+            start,
+            len,
+        } => wait(table, process, fd, kind, mode, start, len),
         Op::Unlock {
             fd,
             kind,
@@ -183,6 +214,30 @@ fn set(
     };
     match table.blocker(call, mode) {
         Some(lock) => Ok(Reply::Again(lock)),
+        None => table.lock_within(call, Some(mode)),
+    }
+}
+
+// A lock on a segment where none is in the way; else the wait goes on, until it is interrupted.
+fn wait(
+    table: &mut FcntlTable,
+    process: Process,
+    fd: u8,
+    kind: Kind,
+    mode: Mode,
+    start: i64,
+    len: i64,
+) -> Result<Reply, NoMemory>
+    ensures step { IfOk result (λ reply.
+        Step (table_of table.old) process (Wait fd kind mode start len) reply (table_of table.new)) }
+    ensures goes_on { IfOk result (GoesOn (table_of table.old) process (Wait fd kind mode start len)) }
+{
+    let call = match table.target(process, Some(mode), fd, kind, start, len) {
+        Ok(call) => call,
+        Err(refusal) => return Ok(refusal),
+    };
+    match table.blocker(call, mode) {
+        Some(_) => Ok(Reply::Interrupted),
         None => table.lock_within(call, Some(mode)),
     }
 }

@@ -13,7 +13,7 @@ use Rattle.messages.specs.declared.entry.Entry.{Entry}
 use Rattle.cluster_core.specs.World.{WorldState}
 use Rattle.cluster_core.specs.Next.{next}
 use Rattle.lockscript.specs.declared.script_line.Command.{Command}
-use Rattle.lockscript.specs.declared.script_line.Command.TheVariants.{Call, Deliver, Lose, Settle, Retry, Resend, Declare, Restart, Learn}
+use Rattle.lockscript.specs.declared.script_line.Command.TheVariants.{Call, Deliver, Lose, Settle, Interrupt, Retry, Resend, Declare, Restart, Learn}
 use Rattle.lockscript.specs.Scripts.{LineFields}
 use Rattle.replay.specs.Progress.{Progress, End, first_progress, after_delivery, delivery, index_of, settling, Ends, InTurn, Passes, IsLeastUnsettled, IsNextMessage, Delivers, IsSettled, Does}
 use Rattle.replay.specs.Played.{played_of}
@@ -79,6 +79,7 @@ does_one line (Deliver number) p q s a b =
     let made = delivery p (slice_get p.world.sent (index_of number)) in
     ends_one line (after_delivery (index_of number) p made) q s made a b
 does_one line (Lose number) p q s a b = a ∙ sym b
+does_one line (Interrupt node pid) p q s a b = ends_one line p q s (next p.world (event.Interrupt node pid)) a b
 does_one line (Retry node pid) p q s a b = ends_one line p q s (next p.world (event.Retry node pid)) a b
 does_one line (Resend file) p q s a b = ends_one line p q s (next p.world (event.Resend file)) a b
 does_one line (Declare node) p q s a b = ends_one line p q s (next p.world (event.Declare node)) a b

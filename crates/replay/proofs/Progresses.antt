@@ -16,7 +16,7 @@ use Rattle.cluster_core.specs.Next.{next}
 use Rattle.cluster_core.specs.Runs.{Leads}
 use Rattle.cluster_core.proofs.runs.JournalRuns.{leads_push, entry_event}
 use Rattle.lockscript.specs.declared.script_line.Command.{Command}
-use Rattle.lockscript.specs.declared.script_line.Command.TheVariants.{Call, Deliver, Lose, Settle, Retry, Resend, Declare, Restart, Learn}
+use Rattle.lockscript.specs.declared.script_line.Command.TheVariants.{Call, Deliver, Lose, Settle, Interrupt, Retry, Resend, Declare, Restart, Learn}
 use Rattle.lockscript.specs.Scripts.{LineFields}
 use Rattle.replay.specs.Progress.{Progress, End, first_progress, after_entry, after_refusal, delivery, index_of, lost, settling, Comes, Ends, Happens, InTurn, Passes, Delivers, Does, RunsTo}
 use Rattle.replay.specs.Played.{FillsJournal}
@@ -77,6 +77,7 @@ does_leads : (w : WorldState) (line : ℕ) (c : Command) (p : Progress) (end : E
 does_leads w line (Call node pid op) p end leads does = happens_leads w line (event.Call node pid op) p end leads does
 does_leads w line (Deliver number) p end leads does = comes_leads w line (index_of number) p end (slice_get p.world.sent (index_of number)) leads does
 does_leads w line (Lose number) p end leads does = end_leads w (Some (lost line (index_of number) p)) end does (lost_leads w line (index_of number) p (nat_lt (index_of number) (length p.world.sent)) leads)
+does_leads w line (Interrupt node pid) p end leads does = happens_leads w line (event.Interrupt node pid) p end leads does
 does_leads w line (Retry node pid) p end leads does = happens_leads w line (event.Retry node pid) p end leads does
 does_leads w line (Resend file) p end leads does = happens_leads w line (event.Resend file) p end leads does
 does_leads w line (Declare node) p end leads does = happens_leads w line (event.Declare node) p end leads does

@@ -11,7 +11,7 @@ use Rattle.messages.specs.Shapes.{ShapeFields}
 use Rattle.cluster_core.specs.World.{WorldState, first_world, journal_limit}
 use Rattle.cluster_core.specs.Next.{next}
 use Rattle.lockscript.specs.declared.script_line.Command.{Command}
-use Rattle.lockscript.specs.declared.script_line.Command.TheVariants.{Call, Deliver, Lose, Settle, Retry, Resend, Declare, Restart, Learn}
+use Rattle.lockscript.specs.declared.script_line.Command.TheVariants.{Call, Deliver, Lose, Settle, Interrupt, Retry, Resend, Declare, Restart, Learn}
 use Rattle.lockscript.specs.Scripts.{LineFields}
 
 -- how far a script came: the entries, the world that they led to, which messages are settled, each by its index in the order of sending, and the refused lines, each by its number with the number of its refusal
@@ -114,6 +114,7 @@ Does line (Call node pid op) p end = Happens line (event.Call node pid op) p end
 Does line (Deliver number) p end = Comes line (index_of number) p (delivery p (slice_get p.world.sent (index_of number))) end
 Does line (Lose number) p end = end ≡ Some (lost line (index_of number) p)
 Does line Settle p end = Settles line p end
+Does line (Interrupt node pid) p end = Happens line (event.Interrupt node pid) p end
 Does line (Retry node pid) p end = Happens line (event.Retry node pid) p end
 Does line (Resend file) p end = Happens line (event.Resend file) p end
 Does line (Declare node) p end = Happens line (event.Declare node) p end

@@ -65,6 +65,9 @@ impl Player {
             Command::Deliver { message } => self.deliver(alloc, line.number(), message),
             Command::Lose { message } => self.lose(line.number(), message),
             Command::Settle => self.settle(alloc, line.number()),
+            Command::Interrupt { node, pid } => {
+                self.step(alloc, line.number(), Event::Interrupt { node, pid })
+            }
             Command::Retry { node, pid } => {
                 self.step(alloc, line.number(), Event::Retry { node, pid })
             }

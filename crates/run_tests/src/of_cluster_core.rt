@@ -1,4 +1,5 @@
 //! The cluster, and what it lists.
+mod check;
 mod listings;
 mod run;
 mod sent;

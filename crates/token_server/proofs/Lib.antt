@@ -7,3 +7,5 @@ pub mod ServeLaws
 pub mod EditLaws
 pub mod ViewLaws
 pub mod RefusalLaws
+pub mod CareLaws
+pub mod WaitLaws

@@ -1,9 +1,9 @@
 -- Requests by their calls, and as a list.
-use Rattle.std.specs.Prelude.{◌≡◌, Bool, true, false, cond, ◌||◌, ◌&&◌, List, [], ◌∷◌, All, filter, drop, Option, None, Some, is_some, refl}
+use Rattle.std.specs.Prelude.{◌≡◌, Bool, true, false, cond, ◌||◌, ◌&&◌, List, [], ◌∷◌, All, filter, find, drop, Some, is_some, refl}
 use Rattle.std.specs.List.{list_any}
 use Rattle.std.specs.Map.{values_of, lookup}
 use Rattle.std.specs.Cmp.{nat_eq_equiv}
-use Rattle.std.proofs.Common.{ap, sym, subst, ◌∙◌, rules}
+use Rattle.std.proofs.Common.{ap, subst, ◌∙◌, rules}
 use Rattle.std.proofs.lemmas.List.Elements.{All-head, All-tail}
 use Rattle.model.specs.declared.call.CallId.{CallId}
 use Rattle.model.specs.contracts.call.CallIdPartialEq.TheImpl as derived
@@ -35,30 +35,21 @@ same_call-symm a b = λ i. nat_eq_equiv.symm a.node b.node i && (nat_eq_equiv.sy
 test-is : (call : CallId) (e : CallId × Held) → IsAtCall e → derived.ghosts.eq call e.0 ≡ is_of_call call e.1
 test-is call e at = call_eq call e.0 ∙ ap (same_call call) at ∙ same_call-symm call e.1.call
 
--- whether a look-up finds something
-pub has-by_call : (call : CallId) (es : List (CallId × Held)) → All IsAtCall es → is_some (lookup (derived.ghosts.eq call) es) ≡ list_any (is_of_call call) (values_of es)
-has-by_call call [] at = refl
-has-by_call call (e ∷ es) at = by (derived.ghosts.eq call e.0) refl (has-by_call call es (All-tail IsAtCall e es at))
-  where
-    same : derived.ghosts.eq call e.0 ≡ is_of_call call e.1
-    same = test-is call e (All-head IsAtCall e es at)
+-- what a look-up finds
+pub find-by_call : (call : CallId) (es : List (CallId × Held)) → All IsAtCall es → lookup (derived.ghosts.eq call) es ≡ find (is_of_call call) (values_of es)
+find-by_call call [] at = refl
+find-by_call call (e ∷ es) at =
+    (λ i. cond (test-is call e (All-head IsAtCall e es at) i) (Some e.1) (lookup (derived.ghosts.eq call) es))
+    ∙ (λ i. cond (is_of_call call e.1) (Some e.1) (find-by_call call es (All-tail IsAtCall e es at) i))
 
-    by : (b : Bool) → derived.ghosts.eq call e.0 ≡ b → is_some (lookup (derived.ghosts.eq call) es) ≡ list_any (is_of_call call) (values_of es) → is_some (lookup (derived.ghosts.eq call) (e ∷ es)) ≡ list_any (is_of_call call) (values_of (e ∷ es))
-    by true is rest =
-        (λ i. is_some (cond (is i) (Some e.1) (lookup (derived.ghosts.eq call) es)))
-        ∙ sym (λ i. (sym same ∙ is) i || list_any (is_of_call call) (values_of es))
-    by false is rest =
-        (λ i. is_some (cond (is i) (Some e.1) (lookup (derived.ghosts.eq call) es)))
-        ∙ rest
-        ∙ sym (λ i. (sym same ∙ is) i || list_any (is_of_call call) (values_of es))
-
--- a call that no request has is no key
-pub not-found : (call : CallId) (es : List (CallId × Held)) (rs : List Held) → All IsAtCall es → values_of es ≡ rs → list_any (is_of_call call) rs ≡ false → lookup (derived.ghosts.eq call) es ≡ None
-not-found call es rs at is none = nothing (lookup (derived.ghosts.eq call) es) (has-by_call call es at ∙ ap (list_any (is_of_call call)) is ∙ none)
+-- a request is found where one passes
+pub find-any : {X : Type 0} (test : X → Bool) (xs : List X) → is_some (find test xs) ≡ list_any test xs
+find-any test [] = refl
+find-any test (x ∷ xs) = by (test x) (find-any test xs)
   where
-    nothing : (x : Option Held) → is_some x ≡ false → x ≡ None
-    nothing None h = refl
-    nothing (Some r) h = absurd (cc)
+    by : (b : Bool) → is_some (find test xs) ≡ list_any test xs → is_some (cond b (Some x) (find test xs)) ≡ (b || list_any test xs)
+    by true rest = refl
+    by false rest = rest
 
 -- the values that pass are those of the entries whose values pass
 pub filter-values : {K X : Type 0} (test : X → Bool) (es : List (K × X)) → values_of (filter (λ e. test e.1) es) ≡ filter test (values_of es)

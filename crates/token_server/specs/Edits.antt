@@ -76,7 +76,7 @@ pub record Changes (clients : List Client) (node : ℕ) (f : Option Row → Opti
   pub row_is : row_seen (row_kept e.row client.row) ≡ f (row_seen client.row)
   pub dead_is : e.dead ≡ g client.dead
 
--- the queue after the edit
+-- the queue after the edit, or those that wait
 abbrev pub queue_after : QueueEdit → List Held → List Held
 queue_after Same queue = queue
 queue_after Taken queue = drop 1 queue
@@ -84,7 +84,7 @@ queue_after (Whole new) queue = new
 
 -- the server's parts once the draft is made
 abbrev pub drafted_parts : Draft → ServerParts → ServerParts
-drafted_parts e p = record p { clients = overlaid p.clients e.rows; queue = queue_after e.queue p.queue; active = e.active }
+drafted_parts e p = record p { clients = overlaid p.clients e.rows; queue = queue_after e.queue p.queue; active = e.active; waiting = queue_after e.waiting p.waiting }
 
 -- the state that they stand for
 abbrev pub drafted : ServerParts → Draft → ServerState

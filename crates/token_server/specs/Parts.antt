@@ -93,13 +93,14 @@ given span mode command row = record row { token = raised row.token span mode; n
 abbrev pub with_change : ℕ → (Option Row → Option Row) → (ℕ → Option Row) → ℕ → Option Row
 with_change node f rows n = if n == node then f (rows n) else rows n
 
--- of one file: what it knows of each node, from node 1 on; the requests that are queued, and the one that is served
+-- of one file: what it knows of each node, from node 1 on; the requests that are queued, the one that is served, and those that wait
 pub record ServerParts : Type 0 where
   pub shape : ShapeFields
   pub file : ℕ
   pub clients : List Client
   pub queue : List Held
   pub active : Option Held
+  pub waiting : List Held
 
 -- there is a client for each node, and the file is one of the cluster's
 pub record IsServer (p : ServerParts) : Type 0 where
@@ -108,4 +109,4 @@ pub record IsServer (p : ServerParts) : Type 0 where
 
 -- the state that the parts stand for
 abbrev pub server_state : ServerParts → ServerState
-server_state p = record { shape = p.shape; file = p.file; rows = rows_of p.clients; dead = deaths_of p.clients; queue = p.queue; active = p.active }
+server_state p = record { shape = p.shape; file = p.file; rows = rows_of p.clients; dead = deaths_of p.clients; queue = p.queue; active = p.active; waiting = p.waiting }

@@ -5,7 +5,7 @@ use Rattle.messages.specs.declared.refusal.StepError.{StepError}
 use Rattle.messages.specs.declared.message.Message.{Message}
 use Rattle.messages.specs.declared.outcome.Outcome.{Outcome}
 use Rattle.messages.specs.Messages.{sending}
-use Rattle.token_server.specs.State.{Row, ServerState}
+use Rattle.token_server.specs.State.{Row, ServerState, requeued}
 use Rattle.token_server.specs.Serve.{serve}
 
 -- the command to a node that has no answer yet
@@ -26,6 +26,6 @@ abbrev pub sending_first : List Message → Result (ServerState × List Message)
 sending_first commands (Err e) = Err e
 sending_first commands (Ok done) = Ok (done.0, sending (commands ++ done.1))
 
--- each command that has no answer yet is sent again as it was, and then the server serves
+-- each command that has no answer yet is sent again as it was, what waits is asked for again, and then the server serves
 abbrev pub resend_rule : ServerState → Result (ServerState × Outcome) StepError
-resend_rule s = sending_first (outstanding s) (serve s)
+resend_rule s = sending_first (outstanding s) (serve (requeued s))

@@ -1,5 +1,5 @@
 -- The rule of a token server.
-use Rattle.std.specs.Prelude.{ℕ, ◌-◌, Bool, false, not, ◌&&◌, ◌||◌, ◌==◌, nat_le, if◌then◌else◌, List, [], ◌∷◌, ◌++◌, option_map, Option, Some, None, Result, Ok, Err}
+use Rattle.std.specs.Prelude.{ℕ, ◌-◌, Bool, false, not, ◌&&◌, ◌||◌, ◌==◌, nat_le, if◌then◌else◌, List, [], ◌∷◌, ◌++◌, filter, find, option_map, Option, Some, None, Result, Ok, Err}
 use Rattle.std.specs.List.{list_any}
 use Rattle.intervals.specs.Bytes.{Range}
 use Rattle.model.specs.declared.call.CallId.{CallId}
@@ -11,7 +11,7 @@ use Rattle.token_set.specs.Tokens.{Token}
 use Rattle.token_set.specs.Releases.{lowered}
 use Rattle.messages.specs.declared.refusal.StepError.{StepError}
 use Rattle.messages.specs.declared.refusal.StepError.TheVariants.{Stranger}
-use Rattle.messages.specs.declared.message.Urgency.TheVariants.{Now}
+use Rattle.messages.specs.declared.message.Urgency.TheVariants.{Now, Waits}
 use Rattle.messages.specs.declared.message.Message.{Message}
 use Rattle.messages.specs.declared.message.Message.TheVariants.{Request, Grant, Revoke, Taken, Released, Conflict, Deny, Freed}
 use Rattle.messages.specs.declared.outcome.Outcome.{Outcome}
@@ -21,7 +21,7 @@ use Rattle.messages.specs.Messages.{addressee, host_of, is_within, same_urgency,
 use Rattle.token_server.specs.declared.held.Held.{Held}
 use Rattle.token_server.specs.declared.event.ServerEvent.{ServerEvent}
 use Rattle.token_server.specs.declared.event.ServerEvent.TheVariants.{Deliver, Resend, Learn}
-use Rattle.token_server.specs.State.{Row, ServerState, empty_row, with_row, is_of_call, unless, forgotten}
+use Rattle.token_server.specs.State.{Row, ServerState, empty_row, with_row, is_of_call, unless, forgotten, requeued}
 use Rattle.token_server.specs.Serve.{serve}
 use Rattle.token_server.specs.Resends.{sending_first, resend_rule}
 
@@ -37,9 +37,18 @@ abbrev pub is_active : CallId → Option Held → Bool
 is_active call None = false
 is_active call (Some r) = is_of_call call r
 
+-- the first request of the call, if there is one
+abbrev pub request_of : CallId → List Held → Option Held
+request_of call requests = find (is_of_call call) requests
+
+-- one that waits comes last in the queue, as it was asked first; a new one comes last
+abbrev pub enqueued_with : ServerState → Held → Option Held → ServerState
+enqueued_with s r None = record s { queue = s.queue ++ r ∷ [] }
+enqueued_with s r (Some own) = record s { queue = s.queue ++ own ∷ []; waiting = filter (λ q. not (is_of_call r.call q)) s.waiting }
+
 -- a request whose call is queued or served already is not added
 abbrev pub enqueued : ServerState → Held → ServerState
-enqueued s r = if is_active r.call s.active || list_any (is_of_call r.call) s.queue then s else record s { queue = s.queue ++ r ∷ [] }
+enqueued s r = if is_active r.call s.active || list_any (is_of_call r.call) s.queue then s else enqueued_with s r (request_of r.call s.waiting)
 
 -- a request makes older incarnations of its node known as dead, and makes a row where there is none
 abbrev pub asked : ServerState → Held → ServerState
@@ -65,6 +74,15 @@ acknowledged s node row token = with_row s node (Some (record row { token = toke
 abbrev pub ended : CallId → ServerState → ServerState
 ended call s = record s { active = unless (is_of_call call) s.active }
 
+-- the one that is served, where it is of the call and may wait
+abbrev pub put_off : CallId → Option Held → List Held
+put_off call None = []
+put_off call (Some r) = if is_of_call call r && same_urgency r.urgency Waits then r ∷ [] else []
+
+-- the request of the call is served no longer; where it may wait it comes last of those that do
+abbrev pub postponed : CallId → ServerState → ServerState
+postponed call s = record (ended call s) { waiting = s.waiting ++ put_off call s.active }
+
 -- the call is denied, where its request is the one that is served and may not wait
 abbrev pub denial : CallId → Message → Option Held → List Message
 denial call deny None = []
@@ -86,15 +104,20 @@ released s number holder span None = None
 released s number holder span (Some row) =
     option_map (λ mode. (acknowledged s holder.node row (lowered row.token span mode), [])) (revoked_mode number row.outstanding)
 
--- a lock of the holder is in the way: the request that it was for is denied
+-- a lock of the holder is in the way: the request that it was for is denied, or waits
 abbrev pub in_conflict : ServerState → ℕ → Host → CallId → LockInfo → Option Row → Option Change
 in_conflict s number holder call lock None = None
 in_conflict s number holder call lock (Some row) =
-    option_map (λ mode. (ended call (acknowledged s holder.node row row.token), denial call (Deny s.file call holder number lock) s.active)) (revoked_mode number row.outstanding)
+    option_map (λ mode. (postponed call (acknowledged s holder.node row row.token), denial call (Deny s.file call holder number lock) s.active)) (revoked_mode number row.outstanding)
 
 -- the row of the node, if it is of that incarnation
 abbrev pub row_of_host : ServerState → Host → Option Row
 row_of_host s h = row_of_incarnation h.incarnation (s.rows h.node)
+
+-- locks of a holder may be gone: where its row is of that incarnation, what waits is asked for again
+abbrev pub freed : ServerState → Option Row → ServerState
+freed s None = s
+freed s (Some row) = requeued s
 
 -- what a message changes before the server serves, and what is sent for it, or nothing at all: an answer counts where the row is of its incarnation and waits for an answer of its kind with this number
 abbrev pub delivered : ServerState → Message → Option Change
@@ -102,7 +125,7 @@ delivered s (Request file call urgency mode wanted) = Some (asked s (record { ca
 delivered s (Taken file number call) = taken s number call (row_of_host s (host_of_call call))
 delivered s (Released file number holder call span) = released s number holder span (row_of_host s holder)
 delivered s (Conflict file number holder call lock) = in_conflict s number holder call lock (row_of_host s holder)
-delivered s (Freed file holder) = Some (s, [])
+delivered s (Freed file holder) = Some (freed s (row_of_host s holder), [])
 delivered s _ = None
 
 abbrev pub is_server : ℕ → Actor → Bool
@@ -121,9 +144,9 @@ then_serve s (Err e) = Err e
 then_serve s (Ok None) = Ok (s, sending [])
 then_serve s (Ok (Some changed)) = sending_first changed.1 (serve changed.0)
 
--- the incarnation of the node is known as dead from now on, and then the server serves
+-- the incarnation of the node is known as dead from now on, what waits is asked for again, and then the server serves
 abbrev pub learn_rule : ServerState → ℕ → ℕ → Result (ServerState × Outcome) StepError
-learn_rule s node incarnation = if not (is_within s.shape.nodes node) then Err Stranger else sending_first [] (serve (forgotten s node incarnation))
+learn_rule s node incarnation = if not (is_within s.shape.nodes node) then Err Stranger else sending_first [] (serve (requeued (forgotten s node incarnation)))
 
 -- what a server does at an event, or why it refuses it
 abbrev pub server_rule : ServerState → ServerEvent → Result (ServerState × Outcome) StepError

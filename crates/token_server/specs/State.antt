@@ -1,5 +1,6 @@
 -- What a token server knows.
-use Rattle.std.specs.Prelude.{ℕ, Bool, not, ◌&&◌, ◌==◌, max, nat_le, if◌then◌else◌, List, [], filter, Option, Some, None}
+use Rattle.std.specs.Prelude.{ℕ, Bool, not, ◌&&◌, ◌==◌, max, nat_le, if◌then◌else◌, List, [], ◌++◌, filter, Option, Some, None}
+use Rattle.std.specs.List.{cons_option}
 use Rattle.model.specs.declared.call.CallId.{CallId}
 use Rattle.token_set.specs.Tokens.{Token, no_token}
 use Rattle.messages.specs.Shapes.{ShapeFields}
@@ -20,7 +21,7 @@ pub record Row : Type 0 where
   pub number : ℕ
   pub outstanding : Option Message
 
--- of one file: a row for each node that asked, the greatest incarnation of each node known to be dead (0 at first), the requests that are queued, and the one that is served
+-- of one file: a row for each node that asked, the greatest incarnation of each node known to be dead (0 at first), the requests that are queued, the one that is served, and those that wait for a lock of another node to go
 pub record ServerState : Type 0 where
   pub shape : ShapeFields
   pub file : ℕ
@@ -28,9 +29,10 @@ pub record ServerState : Type 0 where
   pub dead : ℕ → ℕ
   pub queue : List Held
   pub active : Option Held
+  pub waiting : List Held
 
 abbrev pub first_server : ShapeFields → ℕ → ServerState
-first_server shape file = record { shape = shape; file = file; rows = λ node. None; dead = λ node. 0; queue = []; active = None }
+first_server shape file = record { shape = shape; file = file; rows = λ node. None; dead = λ node. 0; queue = []; active = None; waiting = [] }
 
 abbrev pub empty_row : ℕ → Row
 empty_row incarnation = record { incarnation = incarnation; token = no_token; number = 0; outstanding = None }
@@ -62,4 +64,13 @@ forgotten s node incarnation = record s {
   dead = λ n. if n == node then max (s.dead n) incarnation else s.dead n;
   queue = filter (λ r. not (is_up_to node incarnation r)) s.queue;
   active = unless (is_up_to node incarnation) s.active;
+  waiting = filter (λ r. not (is_up_to node incarnation r)) s.waiting;
 }
+
+-- the requests of the server: the one that it serves, those that are queued, those that wait
+abbrev pub requests : ServerState → List Held
+requests s = cons_option s.active (s.queue ++ s.waiting)
+
+-- those that wait come last in the queue, in their order
+abbrev pub requeued : ServerState → ServerState
+requeued s = record s { queue = s.queue ++ s.waiting; waiting = [] }

@@ -8,13 +8,14 @@ use crate::row_edits::RowEdits;
 use messages::outcome::Outcome;
 use token_set::edit::TokenEdit;
 
-/// What an event changes of a server before it serves: new values of some nodes, of the queue, and the
-/// request that is served from then on.
+/// What an event changes of a server before it serves: new values of some nodes, of the queue, and of
+/// those that wait, and the request that is served from then on.
 #[derive(Drop)]
 pub struct Draft {
     pub rows: RowEdits,
     pub queue: QueueEdit,
     pub active: Option<Held>,
+    pub waiting: QueueEdit,
 }
 
 /// What a node at a place (from 0) is given as the server serves, if it has a row: the commands to it

@@ -1,16 +1,17 @@
-//! How a planned step changes a queue.
-ghost use Rattle.std.specs.Prelude.{◌≡◌, ◌++◌, ◌∷◌, [], true, false, not, filter, drop, slice_get, if◌then◌else◌, IfOk, OnOk, IsTrue, ◌↔◌};
+//! How a planned step changes a list of requests.
+ghost use Rattle.std.specs.Prelude.{◌≡◌, ◌++◌, ◌∷◌, [], not, filter, find, drop, slice_get, IfOk, IsTrue, ◌↔◌};
 ghost use Rattle.std.specs.List.{list_any};
 ghost use Rattle.token_server.specs.declared.queue_edit.QueueEdit.TheVariants.{Same};
 ghost use Rattle.token_server.specs.State.{is_of_call, is_up_to};
+ghost use Rattle.token_server.specs.Server.{request_of};
 ghost use Rattle.token_server.specs.Edits.{queue_after};
 
 use crate::held::Held;
-use crate::requests::Requests;
+use crate::requests::{self, Requests};
 use intervals::span_map::NoMemory;
 use model::call::CallId;
 
-/// How a planned step changes the queue.
+/// How a planned step changes the queue, or those that wait.
 #[derive(Drop)]
 pub enum QueueEdit {
     /// It stays.
@@ -32,24 +33,42 @@ impl QueueEdit {
         }
     }
 
-    // Whether requests go that are of the node up to that incarnation. It may say so where none does.
-    fn forgets(&self, queue: &Requests, node: u8, incarnation: u16) -> bool
-        ensures { result ≡ false → filter (λ r. not (is_up_to node incarnation r)) (queue_after self.now queue.now) ≡ queue_after self.now queue.now }
+    /// The requests after the edit, in order.
+    pub fn requests<'a>(&'a self, queue: &'a Requests) -> &'a [Held]
+        ensures { result.now ≡ queue_after self.now queue.now }
     {
         match self {
-            QueueEdit::Same => queue.has_up_to(node, incarnation),
-            _ => true,
+            QueueEdit::Same => queue.as_slice(),
+            QueueEdit::Taken => queue.rest(),
+            QueueEdit::Whole(new) => new.as_slice(),
         }
     }
 
-    // Whether the call has a request. It may say no where it has one.
-    fn holds(&self, queue: &Requests, call: CallId) -> bool
-        ensures { result ≡ true → list_any (is_of_call call) (queue_after self.now queue.now) ≡ true }
+    /// The first request of the call after the edit.
+    pub fn find(&self, queue: &Requests, call: CallId) -> Option<Held>
+        ensures { result ≡ request_of call (queue_after self.now queue.now) }
     {
         match self {
-            QueueEdit::Same => queue.has(call),
-            _ => false,
+            QueueEdit::Same => queue.find(call),
+            QueueEdit::Taken => requests::find(queue.rest(), call),
+            QueueEdit::Whole(new) => new.find(call),
         }
+    }
+
+    /// Whether the call has a request after the edit.
+    pub fn has(&self, queue: &Requests, call: CallId) -> bool
+        ensures { result ≡ list_any (is_of_call call) (queue_after self.now queue.now) }
+    {
+        self.find(queue, call).is_some()
+    }
+
+    // Whether the edit leaves requests of the node up to that incarnation.
+    fn has_up_to(&self, queue: &Requests, node: u8, incarnation: u16) -> bool
+        ensures { result ≡ list_any (is_up_to node incarnation) (queue_after self.now queue.now) }
+    {
+        self.requests(queue)
+            .iter()
+            .any(|request| request.is_up_to(node, incarnation))
     }
 
     // The queue after the edit, as a value of its own. The edit is used up.
@@ -76,7 +95,7 @@ impl QueueEdit {
     ) -> Result<QueueEdit, NoMemory>
         ensures { IfOk result (λ edit. queue_after edit queue.now ≡ filter (λ r. not (is_up_to node incarnation r)) (queue_after self queue.now)) }
     {
-        if !self.forgets(queue, node, incarnation) {
+        if !self.has_up_to(queue, node, incarnation) {
             return Ok(self);
         }
         let mut new = self.into_queue(queue)?;
@@ -84,15 +103,30 @@ impl QueueEdit {
         Ok(QueueEdit::Whole(new))
     }
 
-    /// The edit, and then the request comes last, unless its call has one.
-    pub fn pushing(self, queue: &Requests, request: Held) -> Result<QueueEdit, NoMemory>
-        ensures { IfOk result (λ edit. queue_after edit queue.now ≡ (if list_any (is_of_call request.call) (queue_after self queue.now) then queue_after self queue.now else queue_after self queue.now ++ request ∷ [])) }
+    /// The edit, and then the requests of the call go.
+    pub fn forgetting_call(self, queue: &Requests, call: CallId) -> Result<QueueEdit, NoMemory>
+        ensures { IfOk result (λ edit. queue_after edit queue.now ≡ filter (λ r. not (is_of_call call r)) (queue_after self queue.now)) }
     {
-        if self.holds(queue, request.call) {
-            return Ok(self);
-        }
         let mut new = self.into_queue(queue)?;
-        new.push_new(request)?;
+        new.forget_call(call);
+        Ok(QueueEdit::Whole(new))
+    }
+
+    /// The edit, and then the request comes last.
+    pub fn pushing(self, queue: &Requests, request: Held) -> Result<QueueEdit, NoMemory>
+        ensures { IfOk result (λ edit. queue_after edit queue.now ≡ queue_after self queue.now ++ request ∷ []) }
+    {
+        let mut new = self.into_queue(queue)?;
+        new.push(request)?;
+        Ok(QueueEdit::Whole(new))
+    }
+
+    /// The edit, and then the requests come last, in their order.
+    pub fn appending(self, queue: &Requests, more: &[Held]) -> Result<QueueEdit, NoMemory>
+        ensures { IfOk result (λ edit. queue_after edit queue.now ≡ queue_after self queue.now ++ more.now) }
+    {
+        let mut new = self.into_queue(queue)?;
+        new.append(more)?;
         Ok(QueueEdit::Whole(new))
     }
 
@@ -102,7 +136,7 @@ impl QueueEdit {
         ensures first { IfOk result (λ r. r.1 ≡ slice_get (queue_after self queue.now) 0) }
     {
         if self.is_same() {
-            return Ok((QueueEdit::Taken, queue.first()));
+            return Ok((QueueEdit::Taken, queue.as_slice().first().copied()));
         }
         let mut new = self.into_queue(queue)?;
         let first = new.take_first();

@@ -1,34 +1,38 @@
-//! The requests that a server has queued, in order of arrival.
-ghost use Rattle.std.specs.Prelude.{◌≡◌, ◌↔◌, ◌++◌, ◌∷◌, [], not, filter, drop, slice_get, false, if◌then◌else◌, IfOk, OnOk, OnErr, IsTrue};
-ghost use Rattle.std.specs.List.{list_any};
+//! Requests that a server holds, in order.
+ghost use Rattle.std.specs.Prelude.{◌≡◌, ◌↔◌, ◌++◌, ◌∷◌, [], not, filter, find, drop, slice_get, IfOk, OnOk, IsTrue};
 ghost use Rattle.token_server.specs.State.{is_of_call, is_up_to};
 ghost use Rattle.token_server.specs.Edits.{queue_after};
 
+use crate::by_call::ByCall;
 use crate::held::Held;
 use crate::queue_edit::QueueEdit;
-use indexmap::IndexMap;
 use intervals::span_map::NoMemory;
 use model::call::CallId;
 use std::alloc::Global;
 use std::marker::Model;
 
-/// Requests by their calls, in order of arrival. No two are of one call.
+// Requests by their calls. A server has one of a call at most; a list that is given two of one is kept
+// as it is.
+#[derive(Drop)]
+enum Kept {
+    ByCall(ByCall),
+    InOrder(Vec<Held>),
+}
+
+/// Requests in order.
 #[derive(Drop)]
 pub struct Requests {
-    requests: IndexMap<CallId, Held>,
+    kept: Kept,
 }
 
 impl Model for Requests {
     ghost use Rattle.std.specs.Prelude.{List};
-    ghost use Rattle.indexmap.specs.IndexMap.{values};
-    ghost use Rattle.token_server.specs.Requests.{IsByCall};
+    ghost use Rattle.token_server.specs.Listed.{listed};
     ghost use Rattle.token_server.specs.declared.held.Held.{Held as Request};
 
     ghost Value = { List Request };
 
-    ghost view = { λ r. values r.requests };
-
-    ghost invariant = { λ r. IsByCall r.requests };
+    ghost view = { λ r. listed r.kept };
 }
 
 impl Requests {
@@ -37,7 +41,35 @@ impl Requests {
         ensures { result ≡ [] }
     {
         Requests {
-            requests: IndexMap::new(alloc),
+            kept: Kept::ByCall(ByCall::new(alloc)),
+        }
+    }
+
+    // Where it takes its memory.
+    fn allocator(&self) -> Global {
+        match &self.kept {
+            Kept::ByCall(requests) => requests.allocator(),
+            Kept::InOrder(requests) => *requests.allocator(),
+        }
+    }
+
+    /// The requests in order.
+    pub fn as_slice(&self) -> &[Held]
+        ensures { result.now ≡ self.now }
+    {
+        match &self.kept {
+            Kept::ByCall(requests) => requests.as_slice(),
+            Kept::InOrder(requests) => requests.as_slice(),
+        }
+    }
+
+    /// Those after the first, in order.
+    pub fn rest(&self) -> &[Held]
+        ensures { result.now ≡ drop 1 self.now }
+    {
+        match self.as_slice() {
+            [_, rest @ ..] => rest,
+            none => none,
         }
     }
 
@@ -48,42 +80,61 @@ impl Requests {
     pub fn copy(&self) -> Result<Requests, NoMemory>
         ensures { IfOk result (λ copy. copy ≡ self.now) }
     {
-        Ok(Requests {
-            requests: self.requests.clone()?,
-        })
+        let kept = match &self.kept {
+            Kept::ByCall(requests) => Kept::ByCall(requests.copy()?),
+            Kept::InOrder(requests) => {
+                Kept::InOrder(Vec::from_slice(self.allocator(), requests.as_slice())?)
+            }
+        };
+        Ok(Requests { kept })
     }
 
-    /// Whether there is a request of the call: a look-up by the call, not a walk.
-    pub fn has(&self, call: CallId) -> bool
-        ensures { result ≡ list_any (is_of_call call) self.now }
+    /// The first request of the call: a look-up by the call, not a walk.
+    pub fn find(&self, call: CallId) -> Option<Held>
+        ensures { result ≡ find (is_of_call call) self.now }
     {
-        self.requests.contains_key(&call)
+        match &self.kept {
+            Kept::ByCall(requests) => requests.find(call),
+            Kept::InOrder(requests) => find(requests.as_slice(), call),
+        }
     }
 
-    /// The request comes last from now on. There is none of its call.
-    ///
-    /// # Errors
-    /// `NoMemory` where a request for memory was refused; all stays as it was.
-    pub fn push(&mut self, request: Held) -> Result<(), NoMemory>
-        requires { list_any (is_of_call request.call) self.old ≡ false }
-        ensures ok { OnOk result (self.new ≡ self.old ++ request ∷ []) }
-        ensures err { OnErr result (self.new ≡ self.old) }
+    // The request comes last, in a plain list from now on.
+    fn push_in_order(&mut self, request: Held) -> Result<(), NoMemory>
+        ensures { OnOk result (self.new ≡ self.old ++ request ∷ []) }
     {
-        self.requests.insert(request.call, request)?;
+        let mut all = Vec::from_slice(self.allocator(), self.as_slice())?;
+        all.push(request)?;
+        self.kept = Kept::InOrder(all);
         Ok(())
     }
 
-    /// The request comes last from now on, unless its call has one.
+    /// The request comes last from now on.
     ///
     /// # Errors
     /// `NoMemory` where a request for memory was refused.
-    pub fn push_new(&mut self, request: Held) -> Result<(), NoMemory>
-        ensures { OnOk result (self.new ≡ (if list_any (is_of_call request.call) self.old then self.old else self.old ++ request ∷ [])) }
+    pub fn push(&mut self, request: Held) -> Result<(), NoMemory>
+        ensures { OnOk result (self.new ≡ self.old ++ request ∷ []) }
     {
-        if self.has(request.call) {
-            return Ok(());
+        if let Kept::ByCall(requests) = &mut self.kept {
+            if requests.find(request.call).is_none() {
+                return requests.push(request);
+            }
         }
-        self.push(request)
+        self.push_in_order(request)
+    }
+
+    /// The requests come last from now on, in their order.
+    ///
+    /// # Errors
+    /// `NoMemory` where a request for memory was refused.
+    pub fn append(&mut self, more: &[Held]) -> Result<(), NoMemory>
+        ensures { OnOk result (self.new ≡ self.old ++ more.now) }
+    {
+        for request in more {
+            self.push(*request)?;
+        }
+        Ok(())
     }
 
     /// Takes the first request out, if there is one. The others keep their order.
@@ -91,19 +142,30 @@ impl Requests {
         ensures first { result ≡ slice_get self.old 0 }
         ensures rest { self.new ≡ drop 1 self.old }
     {
-        let (_call, request) = self.requests.shift_remove_index(0)?;
-        Some(request)
+        match &mut self.kept {
+            Kept::ByCall(requests) => requests.take_first(),
+            Kept::InOrder(requests) => take_first(requests),
+        }
     }
 
     /// Drops the requests of the node in that incarnation or an older one. The others keep their order.
     pub fn forget(&mut self, node: u8, incarnation: u16)
         ensures { self.new ≡ filter (λ r. not (is_up_to node incarnation r)) self.old }
     {
-        self.requests.retain(
-            |_call: &CallId, request: &mut Held| -> bool
-                ensures { (result ≡ not (is_up_to node incarnation request.old)) × (request.new ≡ request.old) }
-            { !request.is_up_to(node, incarnation) },
-        );
+        match &mut self.kept {
+            Kept::ByCall(requests) => requests.forget(node, incarnation),
+            Kept::InOrder(requests) => forget(requests, node, incarnation),
+        }
+    }
+
+    /// Drops the requests of the call. The others keep their order.
+    pub fn forget_call(&mut self, call: CallId)
+        ensures { self.new ≡ filter (λ r. not (is_of_call call r)) self.old }
+    {
+        match &mut self.kept {
+            Kept::ByCall(requests) => requests.forget_call(call),
+            Kept::InOrder(requests) => forget_call(requests, call),
+        }
     }
 
     /// Makes the edit. Takes no memory.
@@ -119,26 +181,45 @@ impl Requests {
         }
     }
 
-    /// The first request, if there is one.
-    pub fn first(&self) -> Option<Held>
-        ensures { result ≡ slice_get self.now 0 }
-    {
-        self.requests.values().as_slice().first().copied()
-    }
-
-    /// Whether there is a request of the node in that incarnation or an older one.
-    pub fn has_up_to(&self, node: u8, incarnation: u16) -> bool
-        ensures { result ≡ list_any (is_up_to node incarnation) self.now }
-    {
-        self.requests
-            .values()
-            .any(|request| request.is_up_to(node, incarnation))
-    }
-
     /// Whether both are the same requests in the same order.
     pub fn same(&self, other: &Requests) -> bool
         ensures { IsTrue result ↔ (self.now ≡ other.now) }
     {
-        self.requests.values().as_slice() == other.requests.values().as_slice()
+        self.as_slice() == other.as_slice()
     }
+}
+
+/// The first request of the call.
+pub fn find(requests: &[Held], call: CallId) -> Option<Held>
+    ensures { result ≡ find (is_of_call call) requests.now }
+{
+    requests
+        .iter()
+        .find(|request| request.is_of_call(call))
+        .copied()
+}
+
+// Takes the first request out, if there is one.
+fn take_first(requests: &mut Vec<Held>) -> Option<Held>
+    ensures first { result ≡ slice_get requests.old.items 0 }
+    ensures rest { requests.new.items ≡ drop 1 requests.old.items }
+{
+    if requests.is_empty() {
+        return None;
+    }
+    Some(requests.remove(0))
+}
+
+// Drops the requests of the node in that incarnation or an older one.
+fn forget(requests: &mut Vec<Held>, node: u8, incarnation: u16)
+    ensures { requests.new.items ≡ filter (λ r. not (is_up_to node incarnation r)) requests.old.items }
+{
+    requests.retain(|request| !request.is_up_to(node, incarnation));
+}
+
+// Drops the requests of the call.
+fn forget_call(requests: &mut Vec<Held>, call: CallId)
+    ensures { requests.new.items ≡ filter (λ r. not (is_of_call call r)) requests.old.items }
+{
+    requests.retain(|request| !request.is_of_call(call));
 }

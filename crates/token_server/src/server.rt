@@ -1,17 +1,17 @@
 //! The token server of a file.
-ghost use Rattle.std.specs.Prelude.{◌≡◌, ◌≢◌, ◌+◌, ◌-◌, ◌<◌, ◌≤◌, ◌↔◌, not, filter, ◌&&◌, ◌||◌, ◌==◌, if◌then◌else◌, IsTrue, IsFalse, true, false, IsSome, IsNone, IfSome, IfOk, IfErr, OnOk, MatchOption, [], ◌∷◌, Some, None, Ok, Err};
+ghost use Rattle.std.specs.Prelude.{◌≡◌, ◌≢◌, ◌+◌, ◌-◌, ◌<◌, ◌≤◌, ◌↔◌, ◌++◌, not, filter, ◌&&◌, ◌||◌, ◌==◌, if◌then◌else◌, IsTrue, IsFalse, true, false, IsSome, IsNone, IfSome, IfOk, IfErr, OnOk, MatchOption, [], ◌∷◌, Some, None, Ok, Err};
 ghost use Rattle.std.specs.List.{list_any};
-ghost use Rattle.std.specs.Option.{option_map};
+ghost use Rattle.std.specs.Option.{option_map, option_to_list};
 ghost use Rattle.model.specs.Limits.{IsNumber, most_nodes};
 ghost use Rattle.model.specs.Owners.{host_of_call};
 ghost use Rattle.intervals.specs.Bytes.{largest_around};
 ghost use Rattle.messages.specs.Messages.{greatest_number, sending, addressee, host_of, is_within};
-ghost use Rattle.token_server.specs.State.{first_server, is_of_call, is_up_to, unless, with_row, forgotten};
+ghost use Rattle.token_server.specs.State.{first_server, is_of_call, is_up_to, unless, with_row, forgotten, requeued};
 ghost use Rattle.token_server.specs.Serve.{admitted, row_conflicts, row_conflicts_at, granted_span, conflicting_node, granted_to, revoked_from, served, serve};
 ghost use Rattle.token_server.specs.Resends.{outstanding, sending_first, resend_rule};
-ghost use Rattle.token_server.specs.Server.{server_rule, learn_rule, with_a_row, is_active, enqueued, asked, denial, row_of_host, revoked_mode, taken, released, in_conflict, delivered, is_server};
+ghost use Rattle.token_server.specs.Server.{server_rule, learn_rule, with_a_row, is_active, request_of, enqueued_with, enqueued, asked, put_off, denial, row_of_host, freed, revoked_mode, taken, released, in_conflict, delivered, is_server};
 ghost use Rattle.token_server.specs.Parts.{server_state, rows_of, deaths_of, told_commands};
-ghost use Rattle.token_server.specs.Edits.{drafted_parts, drafted, with_given, planned};
+ghost use Rattle.token_server.specs.Edits.{queue_after, drafted_parts, drafted, with_given, planned};
 
 use crate::change::{Change, Draft, Edit, Given};
 use crate::clients::Clients;
@@ -38,7 +38,8 @@ use std::marker::Model;
 use token_set::edit::TokenEdit;
 
 /// The token server of one file: what it knows of each node, the requests that are queued, in the
-/// order in which they came, and the one that is served.
+/// order in which they came, the one that is served, and those that wait for a lock of another node to
+/// go.
 #[derive(Drop)]
 pub struct Server {
     shape: Shape,
@@ -46,6 +47,7 @@ pub struct Server {
     clients: Clients,
     queue: Requests,
     active: Option<Held>,
+    waiting: Requests,
 }
 
 impl Model for Server {
@@ -53,9 +55,9 @@ impl Model for Server {
 
     ghost Value = { ServerParts };
 
-    ghost view = { λ s. record { shape = s.shape; file = s.file; clients = s.clients; queue = s.queue; active = s.active } };
+    ghost view = { λ s. record { shape = s.shape; file = s.file; clients = s.clients; queue = s.queue; active = s.active; waiting = s.waiting } };
 
-    ghost invariant = { λ s. IsServer (record { shape = s.shape; file = s.file; clients = s.clients; queue = s.queue; active = s.active }) };
+    ghost invariant = { λ s. IsServer (record { shape = s.shape; file = s.file; clients = s.clients; queue = s.queue; active = s.active; waiting = s.waiting }) };
 }
 
 impl Server {
@@ -73,6 +75,7 @@ impl Server {
             clients: Clients::new(alloc, shape.nodes())?,
             queue: Requests::new(alloc),
             active: None,
+            waiting: Requests::new(alloc),
         })
     }
 
@@ -89,6 +92,7 @@ impl Server {
             clients: self.clients.copy()?,
             queue: self.queue.copy()?,
             active: self.active,
+            waiting: self.waiting.copy()?,
         })
     }
 
@@ -103,7 +107,7 @@ impl Server {
         if !self.queue.same(&other.queue) || !same_request(&self.active, &other.active) {
             return false;
         }
-        self.clients.same(&other.clients)
+        self.waiting.same(&other.waiting) && self.clients.same(&other.clients)
     }
 
     // No draft.
@@ -114,6 +118,7 @@ impl Server {
             rows: RowEdits::new(alloc),
             queue: QueueEdit::Same,
             active: self.active,
+            waiting: QueueEdit::Same,
         }
     }
 
@@ -126,12 +131,14 @@ impl Server {
             mut rows,
             queue,
             active,
+            waiting,
         } = draft;
         rows.forget(&self.clients, node, incarnation)?;
         Ok(Draft {
             rows,
             queue: queue.forgetting(&self.queue, node, incarnation)?,
             active: unless_up_to(active, node, incarnation),
+            waiting: waiting.forgetting(&self.waiting, node, incarnation)?,
         })
     }
 
@@ -148,23 +155,61 @@ impl Server {
             .add_row(&self.clients, alloc, call.node, call.incarnation)
     }
 
-    // Queues the request, unless its call has one.
-    fn enqueue(&self, draft: Draft, request: Held) -> Result<Draft, NoMemory>
-        ensures { IfOk result (λ new. drafted self.now new ≡ enqueued (drafted self.now draft) request) }
+    // Those that wait come last in the queue, in their order.
+    fn requeue(&self, draft: Draft, alloc: Global) -> Result<Draft, NoMemory>
+        ensures { IfOk result (λ new. drafted self.now new ≡ requeued (drafted self.now draft)) }
     {
-        if is_active(&draft.active, request.call) {
+        if draft.waiting.requests(&self.waiting).is_empty() {
             return Ok(draft);
         }
         let Draft {
             rows,
             queue,
             active,
+            waiting,
         } = draft;
         Ok(Draft {
             rows,
-            queue: queue.pushing(&self.queue, request)?,
+            queue: queue.appending(&self.queue, waiting.requests(&self.waiting))?,
             active,
+            waiting: QueueEdit::Whole(Requests::new(alloc)),
         })
+    }
+
+    // Queues the request, or the one of its call that waits. Its call is not queued.
+    fn enqueue_new(&self, draft: Draft, request: Held) -> Result<Draft, NoMemory>
+        ensures { IfOk result (λ new. drafted self.now new ≡ enqueued_with (drafted self.now draft) request (request_of request.call (drafted self.now draft).waiting)) }
+    {
+        let Draft {
+            rows,
+            queue,
+            active,
+            waiting,
+        } = draft;
+        let Some(own) = waiting.find(&self.waiting, request.call) else {
+            return Ok(Draft {
+                rows,
+                queue: queue.pushing(&self.queue, request)?,
+                active,
+                waiting,
+            });
+        };
+        Ok(Draft {
+            rows,
+            queue: queue.pushing(&self.queue, own)?,
+            active,
+            waiting: waiting.forgetting_call(&self.waiting, request.call)?,
+        })
+    }
+
+    // Queues the request, unless its call has one that is queued or served.
+    fn enqueue(&self, draft: Draft, request: Held) -> Result<Draft, NoMemory>
+        ensures { IfOk result (λ new. drafted self.now new ≡ enqueued (drafted self.now draft) request) }
+    {
+        if is_active(&draft.active, request.call) || draft.queue.has(&self.queue, request.call) {
+            return Ok(draft);
+        }
+        self.enqueue_new(draft, request)
     }
 
     // Takes a request: older incarnations of its node are dead, and there is a row from now on.
@@ -230,8 +275,23 @@ impl Server {
         Ok(Some((draft, Items::new(alloc))))
     }
 
-    // Takes a holder's answer that a lock is in the way: the call's request is served no longer. What is
-    // sent, or `None` where the answer doesn't count.
+    // Those that wait, where the request of the call that is served comes last if it may wait.
+    fn putting_off(
+        &self,
+        waiting: QueueEdit,
+        active: &Option<Held>,
+        call: CallId,
+    ) -> Result<QueueEdit, NoMemory>
+        ensures { IfOk result (λ new. queue_after new self.now.waiting ≡ queue_after waiting self.now.waiting ++ put_off call active.now) }
+    {
+        match put_off(active, call) {
+            Some(request) => waiting.pushing(&self.waiting, request),
+            None => Ok(waiting),
+        }
+    }
+
+    // Takes a holder's answer that a lock is in the way: the call's request is served no longer, and is
+    // denied or waits. What is sent, or `None` where the answer doesn't count.
     fn take_conflict(
         &self,
         mut draft: Draft,
@@ -256,8 +316,19 @@ impl Server {
         };
         let sends = denial(alloc, &draft.active, call, &deny)?;
         draft.rows.answer(&self.clients, holder.node)?;
-        draft.active = unless_of_call(draft.active, call);
-        Ok(Some((draft, sends)))
+        let Draft {
+            rows,
+            queue,
+            active,
+            waiting,
+        } = draft;
+        let postponed = Draft {
+            rows,
+            queue,
+            active: unless_of_call(active, call),
+            waiting: self.putting_off(waiting, &active, call)?,
+        };
+        Ok(Some((postponed, sends)))
     }
 
     // Serves the first of the queue where no request is served.
@@ -267,12 +338,18 @@ impl Server {
         if draft.active.is_some() {
             return Ok(draft);
         }
-        let Draft { rows, queue, .. } = draft;
+        let Draft {
+            rows,
+            queue,
+            waiting,
+            ..
+        } = draft;
         let (queue, active) = queue.taking(&self.queue)?;
         Ok(Draft {
             rows,
             queue,
             active,
+            waiting,
         })
     }
 
@@ -407,6 +484,18 @@ impl Server {
         Ok((Edit { draft, given }, sends))
     }
 
+    // Takes that locks of the holder may be gone: where its row is of that incarnation, what waits is asked
+    // for again.
+    fn take_freed(&self, draft: Draft, alloc: Global, holder: Host) -> Result<Draft, NoMemory>
+        requires { IsNumber self.now.shape.nodes holder.node }
+        ensures { IfOk result (λ new. drafted self.now new ≡ freed (drafted self.now draft) (row_of_host (drafted self.now draft) holder)) }
+    {
+        if draft.rows.row_of(&self.clients, holder).is_none() {
+            return Ok(draft);
+        }
+        self.requeue(draft, alloc)
+    }
+
     // What a message changes before the server serves. What is sent for it, or `None` where it does
     // nothing at all.
     fn deliver(
@@ -443,7 +532,10 @@ impl Server {
                 lock,
                 ..
             } => self.take_conflict(draft, alloc, number, holder, call, lock),
-            Message::Freed { .. } => Ok(Some((draft, Items::new(alloc)))),
+            Message::Freed { holder, .. } => {
+                let freed = self.take_freed(draft, alloc, holder)?;
+                Ok(Some((freed, Items::new(alloc))))
+            }
             Message::Grant { .. } | Message::Revoke { .. } | Message::Deny { .. } => Ok(None),
         }
     }
@@ -526,22 +618,25 @@ impl Server {
         self.clients.outstanding(alloc)
     }
 
-    // Sends again what has no answer yet, and then serves.
+    // Sends again what has no answer yet, asks again for what waits, and then serves.
     fn resend(&self, alloc: Global) -> Result<Change, StepError>
         ensures ok { IfOk result (λ change. resend_rule (server_state self.now) ≡ Ok (planned self.now change.edit, change.outcome)) }
         ensures err { IfErr result (λ e. e ≢ StepError.NoMemory → resend_rule (server_state self.now) ≡ Err e) }
     {
         let commands = self.outstanding(alloc)?;
-        self.serve_after(self.no_draft(alloc), alloc, commands)
+        let draft = self.requeue(self.no_draft(alloc), alloc)?;
+        self.serve_after(draft, alloc, commands)
     }
 
-    // The incarnation of a node of the cluster is known as dead from now on, and then the server serves.
+    // The incarnation of a node of the cluster is known as dead from now on, what waits is asked for again,
+    // and then the server serves.
     fn learn_own(&self, alloc: Global, node: u8, incarnation: u16) -> Result<Change, StepError>
         requires { IsNumber self.now.shape.nodes node }
         ensures ok { IfOk result (λ change. learn_rule (server_state self.now) node incarnation ≡ Ok (planned self.now change.edit, change.outcome)) }
         ensures err { IfErr result (λ e. e ≢ StepError.NoMemory → learn_rule (server_state self.now) node incarnation ≡ Err e) }
     {
         let draft = self.forget(self.no_draft(alloc), node, incarnation)?;
+        let draft = self.requeue(draft, alloc)?;
         self.serve_after(draft, alloc, Items::new(alloc))
     }
 
@@ -595,10 +690,12 @@ impl Server {
             rows,
             queue,
             active,
+            waiting,
         } = draft;
         self.clients.apply(rows);
         self.queue.apply(queue);
         self.active = active;
+        self.waiting.apply(waiting);
     }
 
     // Makes the last part of a change.
@@ -614,8 +711,8 @@ impl Server {
     /// after the other, in the order in which they came. One is granted the largest span around the bytes
     /// that it needs, within those that it would like to have, that no other node's token stands in the
     /// way of. Where another node's token has some of the bytes that it needs, that is revoked first, one
-    /// node after the other; where a holder then names a lock in the way, the request is denied. An answer
-    /// counts once, and only where the command with its number waits for one of its kind. (Tokens revoked
+    /// node after the other; where a holder then names a lock in the way, the request is denied, or, where it
+    /// may wait, put off until the holder says that locks of it may be gone. An answer counts once, and only where the command with its number waits for one of its kind. (Tokens revoked
     /// by required and desired ranges: Schmuck and Haskin, FAST 2002.)
     ///
     /// # Errors
@@ -692,6 +789,18 @@ fn is_active(active: &Option<Held>, call: CallId) -> bool
     match active {
         Some(request) => request.is_of_call(call),
         None => false,
+    }
+}
+
+// The request that is served, where it is of the call and may wait.
+fn put_off(active: &Option<Held>, call: CallId) -> Option<Held>
+    ensures { put_off call active.now ≡ option_to_list result }
+{
+    match active {
+        Some(request) if request.is_of_call(call) && request.urgency == Urgency::Waits => {
+            Some(*request)
+        }
+        _ => None,
     }
 }
 

@@ -1,5 +1,5 @@
 -- The token that a map of levels is.
-use Rattle.std.specs.Prelude.{◌≢◌, ℕ, ◌&&◌, if◌then◌else◌, ◌<◌, ◌≤◌, Option, Some, None, IsSome}
+use Rattle.std.specs.Prelude.{◌≡◌, ◌≢◌, ℕ, false, ◌&&◌, if◌then◌else◌, ◌<◌, ◌≤◌, Option, Some, None, IsSome}
 use Rattle.intervals.specs.declared.vec_map.VecMap.{VecMap}
 use Rattle.intervals.specs.Bytes.{Range, is_in, AllAre}
 use Rattle.intervals.specs.Runs.{value_at}
@@ -17,6 +17,10 @@ token_of = value_at
 abbrev pub bar_of : Mode → Option Level
 bar_of Read = Some Exclusive
 bar_of Write = None
+
+-- no byte is exclusive
+abbrev pub ExcludesNone : Token → Type 0
+ExcludesNone t = (b : ℕ) → level_conflicts (t b) Read ≡ false
 
 -- each byte of the span has a level
 abbrev pub HasLevels : Token → Range → Type 0

@@ -1,5 +1,5 @@
 //! The token of one node for one file.
-ghost use Rattle.std.specs.Prelude.{◌≡◌, ◌≤◌, true, Some, IfOk, OnOk, OnErr, IsTrue, ◌↔◌, MatchOption, Contains};
+ghost use Rattle.std.specs.Prelude.{◌≡◌, ◌≤◌, ℕ, true, false, Some, IfOk, OnOk, OnErr, IsTrue, ◌↔◌, MatchOption, Contains};
 ghost use Rattle.intervals.specs.Bytes.{IsLargest, NoneIn, put, largest_around};
 ghost use Rattle.intervals.specs.Edits.{written};
 ghost use Rattle.token_set.specs.Tokens.{Token, no_token, serves, covers, raised, conflicts, level_conflicts, holds_nothing};
@@ -29,6 +29,8 @@ type Levels = VecMap<Level>;
 #[derive(Drop)]
 pub struct TokenSet {
     levels: Levels,
+    // Whether a byte may be exclusive: where none is, no byte has to be asked for a read lock.
+    may_exclude: bool,
 }
 
 impl Model for TokenSet {
@@ -38,6 +40,11 @@ impl Model for TokenSet {
     ghost Value = { VecMap Level };
 
     ghost view = { λ t. t.levels };
+
+    ghost use Rattle.std.specs.Prelude.{◌≡◌, false};
+    ghost use Rattle.token_set.specs.Sets.{ExcludesNone, token_of};
+
+    ghost invariant = { λ t. t.may_exclude ≡ false → ExcludesNone (token_of t.levels) };
 }
 
 // The level that stands in the way of the mode at another node, or any where it is `None`.
@@ -47,6 +54,16 @@ fn bar_of(mode: Mode) -> Option<Level>
     match mode {
         Mode::Read => Some(Level::Exclusive),
         Mode::Write => None,
+    }
+}
+
+// Whether the level is exclusive.
+fn is_exclusive(level: Option<Level>) -> bool
+    ensures { result ≡ false → level_conflicts level Mode.Read ≡ false }
+{
+    match level {
+        Some(Level::Exclusive) => true,
+        _ => false,
     }
 }
 
@@ -163,6 +180,27 @@ impl TokenSet {
     {
         TokenSet {
             levels: Levels::new(alloc),
+            may_exclude: false,
+        }
+    }
+
+    // The token of these levels.
+    fn of(levels: Levels) -> Self
+        ensures { result ≡ levels }
+    {
+        TokenSet {
+            levels,
+            may_exclude: true,
+        }
+    }
+
+    // Whether it is known at once that no byte stands in the way of the mode at another node.
+    fn excludes_none(&self, mode: Mode) -> bool
+        ensures { result ≡ true → (b : ℕ) → level_conflicts (token_of self.now b) mode ≡ false }
+    {
+        match mode {
+            Mode::Read => !self.may_exclude,
+            Mode::Write => false,
         }
     }
 
@@ -173,7 +211,7 @@ impl TokenSet {
     {
         if self.conflicts(span, Mode::Read) {
             let levels = shared(&self.levels, span)?;
-            return Ok(TokenEdit::Whole(TokenSet { levels }));
+            return Ok(TokenEdit::Whole(TokenSet::of(levels)));
         }
         Ok(TokenEdit::Write(self.levels.plan(span, Some(Level::Shared))?))
     }
@@ -190,7 +228,7 @@ impl TokenSet {
             return Ok(TokenEdit::Same);
         }
         let levels = unexclusive(&self.levels, span)?;
-        Ok(TokenEdit::Whole(TokenSet { levels }))
+        Ok(TokenEdit::Whole(TokenSet::of(levels)))
     }
 
     /// The edit that `grant` makes.
@@ -243,13 +281,21 @@ impl TokenSet {
         Ok((answer, edit))
     }
 
+    // Makes a planned write. Takes no memory.
+    fn write(&mut self, edit: SpanEdit<Level>)
+        ensures { token_of self.new ≡ written edit self.old }
+    {
+        self.may_exclude = self.may_exclude || is_exclusive(edit.value);
+        self.levels.apply(edit);
+    }
+
     /// Makes a planned change. Takes no memory.
     pub fn apply(&mut self, edit: TokenEdit)
         ensures { token_of self.new ≡ edited edit self.old }
     {
         match edit {
             TokenEdit::Same => {}
-            TokenEdit::Write(edit) => self.levels.apply(edit),
+            TokenEdit::Write(edit) => self.write(edit),
             TokenEdit::Whole(token) => *self = token,
         }
     }
@@ -265,7 +311,7 @@ impl TokenSet {
                 None => levels.clear(write.span)?,
             }
         }
-        Ok(TokenSet { levels })
+        Ok(TokenSet::of(levels))
     }
 
     /// The token once the edit is made, as one of its own; the token itself stays as it is.
@@ -382,6 +428,9 @@ impl TokenSet {
     pub fn conflicts(&self, span: Span, mode: Mode) -> bool
         ensures { result ≡ conflicts (token_of self.now) span mode }
     {
+        if self.excludes_none(mode) {
+            return false;
+        }
         self.levels.first_where(span, bar_of(mode)).is_some()
     }
 
@@ -395,6 +444,9 @@ impl TokenSet {
         ensures value { result ≡ largest_around (λ b. level_conflicts (token_of self.now b) mode) required within }
     {
         let _ = &required.lo; // tells the proof that the span has a byte
+        if self.excludes_none(mode) {
+            return within;
+        }
         self.levels.largest_around(required, within, bar_of(mode))
     }
 
@@ -424,6 +476,7 @@ impl TokenSet {
     {
         Ok(TokenSet {
             levels: self.levels.copy()?,
+            may_exclude: self.may_exclude,
         })
     }
 

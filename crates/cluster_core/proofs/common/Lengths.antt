@@ -12,7 +12,7 @@ use Rattle.messages.specs.declared.refusal.Refused.{Refused}
 use Rattle.messages.specs.declared.refusal.Refused.TheVariants.{Stranger, JournalFull, NotAlive, NotDead, TooManyRestarts, Fenced}
 use Rattle.messages.specs.Refusals.{refused_by}
 use Rattle.messages.specs.declared.event.Event.{Event}
-use Rattle.messages.specs.declared.event.Event.TheVariants.{Call, Deliver, Retry, Resend, Declare, Restart, Learn}
+use Rattle.messages.specs.declared.event.Event.TheVariants.{Call, Deliver, Interrupt, Retry, Resend, Declare, Restart, Learn}
 use Rattle.messages.specs.declared.entry.Entry.{Entry}
 use Rattle.node_core.specs.declared.event.NodeEvent.TheVariants as node
 use Rattle.node_core.specs.State.{NodeState}
@@ -53,6 +53,7 @@ delivered-grows w m (AServer file) = after_server-grows w (Deliver m) file (serv
 taken-grows : (w : WorldState) (event : Event) → GrowsBy w.length (taken w event)
 taken-grows w (Call n pid op) = after_node-grows w (Call n pid op) n (node_rule (w.nodes n) (node.Call pid op))
 taken-grows w (Deliver m) = delivered-grows w m (addressee m)
+taken-grows w (Interrupt n pid) = after_node-grows w (Interrupt n pid) n (node_rule (w.nodes n) (node.Interrupt pid))
 taken-grows w (Retry n pid) = after_node-grows w (Retry n pid) n (node_rule (w.nodes n) (node.Retry pid))
 taken-grows w (Resend file) = after_server-grows w (Resend file) file (server_rule (w.servers file) server.Resend)
 taken-grows w (Learn file n i) = after_server-grows w (Learn file n i) file (server_rule (w.servers file) (server.Learn n i))

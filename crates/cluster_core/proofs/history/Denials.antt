@@ -21,8 +21,7 @@ use Rattle.messages.proofs.SameMessages.{host_refl}
 use Rattle.messages.specs.declared.event.Event.TheVariants.{Deliver}
 use Rattle.messages.specs.declared.entry.Entry.{Entry}
 use Rattle.node_core.specs.declared.open_call.OpenCall.{OpenCall}
-use Rattle.node_core.specs.State.{NodeState, host, process, id_of, target_of}
-use Rattle.node_core.specs.Try.{refusal_of}
+use Rattle.node_core.specs.State.{NodeState, host, process, target_of}
 use Rattle.cluster_core.specs.World.{WorldState, first_world, has_node}
 use Rattle.cluster_core.specs.Runs.{Leads}
 use Rattle.cluster_core.specs.Union.{union}
@@ -35,7 +34,7 @@ use Rattle.cluster_core.proofs.history.Joined.{is_of_host, holder_of_host}
 use Rattle.cluster_core.proofs.history.Lifting.{union_locks-host, about_lifts}
 use Rattle.cluster_core.proofs.history.Nodes.{IsOpen}
 use Rattle.cluster_core.proofs.history.Prefixes.{after_all, after-keeps}
-use Rattle.cluster_core.proofs.history.Witnesses.{about_span, about_node, called_one, asked_one, asked-keeps, IsAskedBy, Denies}
+use Rattle.cluster_core.proofs.history.Witnesses.{about_span, about_node, called_one, asked_one, asked-keeps, IsAskedBy, MayRefuse, Denies}
 
 -- what holds where node n does that revoke
 pub record Revokes (shape : ShapeFields) (past : List Entry) (w later : WorldState) (made : Entry) (n file number : ℕ) (call : CallId) (mode : Mode) (wanted : Wants) (lock : LockInfo) : Type 0 where
@@ -142,8 +141,8 @@ module _ (shape : ShapeFields) (past : List Entry) (w later : WorldState) (made 
           ap (λ (b : Bool). b || false) both
 
   -- while the call is open the one table may refuse it now
-  allows_now : (c : OpenCall) → has_node w call.node ≡ true → IsOpen past (w.nodes call.node) c → IsAskedBy shape past (w.nodes call.node) c → id_of (w.nodes call.node) c.number ≡ call → Step (union later) (caller call r.asked.pid) r.asked.op (refusal_of c.intent lock) (union later)
-  allows_now c there_too o by named =
+  allows_now : (c : OpenCall) → has_node w call.node ≡ true → IsOpen past (w.nodes call.node) c → IsAskedBy shape past (w.nodes call.node) c → MayRefuse later call r.asked.pid r.asked.op lock (w.nodes call.node) c
+  allows_now c there_too o by named reply refuses =
       let t = w.nodes call.node in
       let p = process t c.pid in
       let P : CallId → Type 0 = λ id. IsAsked shape past c.file id c.mode c.span in
@@ -156,15 +155,15 @@ module _ (shape : ShapeFields) (past : List Entry) (w later : WorldState) (made 
       let B : Mode → Type 0 = λ m. Blocks ((union later).locks c.file) c.owner wanted.required m lock in
       let C : Range → Type 0 = λ x. Blocks ((union later).locks c.file) c.owner x c.mode lock in
       let blocks = subst C same.span_is (subst B same.mode_is (subst A same.file_is (blocks_now c.owner owned))) in
-      let step = about_step (union later) p o.op c.intent c.mode (target_of c) (refusal_of c.intent lock) (union later) o.ready.is_for (subst Q (sym r.same) about) (blocked_step (union later) c.intent c.mode lock (target_of c) blocks) in
-      let D : CallId → Type 0 = λ id. Step (union later) (caller id c.pid) o.op (refusal_of c.intent lock) (union later) in
-      let E : ℕ → Type 0 = λ pid. Step (union later) (caller call pid) o.op (refusal_of c.intent lock) (union later) in
-      let F : Op → Type 0 = λ op. Step (union later) (caller call r.asked.pid) op (refusal_of c.intent lock) (union later) in
+      let step = about_step (union later) p o.op c.intent c.mode (target_of c) reply (union later) o.ready.is_for (subst Q (sym r.same) about) (blocked_step (union later) c.intent c.mode lock (target_of c) reply refuses blocks) in
+      let D : CallId → Type 0 = λ id. Step (union later) (caller id c.pid) o.op reply (union later) in
+      let E : ℕ → Type 0 = λ pid. Step (union later) (caller call pid) o.op reply (union later) in
+      let F : Op → Type 0 = λ op. Step (union later) (caller call r.asked.pid) op reply (union later) in
       subst F calls.op_is (subst E calls.pid_is (subst D named step))
 
   -- it is allowed of the open calls of that name
   abbrev IsAllowed : NodeState → OpenCall → Type 0
-  IsAllowed t c = id_of t c.number ≡ call → Step (union later) (caller call r.asked.pid) r.asked.op (refusal_of c.intent lock) (union later)
+  IsAllowed t c = MayRefuse later call r.asked.pid r.asked.op lock t c
 
   all_allowed : All (IsAllowed (w.nodes call.node)) (w.nodes call.node).pending
   all_allowed =

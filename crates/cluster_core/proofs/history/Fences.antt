@@ -8,7 +8,7 @@ use Rattle.messages.specs.declared.actor.Actor.{Actor}
 use Rattle.messages.specs.declared.actor.Actor.TheVariants.{Node as ANode, Server as AServer}
 use Rattle.messages.specs.declared.message.Message.{Message}
 use Rattle.messages.specs.declared.event.Event.{Event}
-use Rattle.messages.specs.declared.event.Event.TheVariants.{Call, Deliver, Retry, Resend, Declare, Restart, Learn}
+use Rattle.messages.specs.declared.event.Event.TheVariants.{Call, Deliver, Interrupt, Retry, Resend, Declare, Restart, Learn}
 use Rattle.messages.specs.declared.entry.Entry.{Entry}
 use Rattle.node_core.specs.declared.event.NodeEvent.TheVariants as node
 use Rattle.node_core.specs.State.{NodeState, first_node, id_of}
@@ -63,6 +63,7 @@ module _ (w : WorldState) (named : (n : ℕ) → (w.nodes n).node ≡ n) where
       let P : NodeState × _ → Type 0 = λ d. NamesLive (recorded (with_node w n d.0) (Call n pid op) 0 d.1) in
       node_step w NamesLive (Call n pid op) n (node_rule s (node.Call pid op)) q (λ done is. subst P (call_done s pid op done is) (called_live n (s.calls + 1))) h
   taken_names (Deliver m) q h = message_names m (addressee m) q h
+  taken_names (Interrupt n pid) q h = node_step w NamesLive (Interrupt n pid) n (node_rule (w.nodes n) (node.Interrupt pid)) q (λ done is id c. absurd (not_there done.1.call id (node_rule-steps (w.nodes n) (node.Interrupt pid) done is).named c)) h
   taken_names (Retry n pid) q h = node_step w NamesLive (Retry n pid) n (node_rule (w.nodes n) (node.Retry pid)) q (λ done is id c. absurd (not_there done.1.call id (node_rule-steps (w.nodes n) (node.Retry pid) done is).named c)) h
   taken_names (Resend file) q h = server_step w NamesLive (Resend file) file (server_rule (w.servers file) server.Resend) q (λ done is id c. absurd (not_there done.1.call id (server_rule-sending (w.servers file) server.Resend done is).0 c)) h
   taken_names (Learn file n i) q h = server_step w NamesLive (Learn file n i) file (server_rule (w.servers file) (server.Learn n i)) q (λ done is id c. absurd (not_there done.1.call id (server_rule-sending (w.servers file) (server.Learn n i) done is).0 c)) h

@@ -4,7 +4,7 @@ use Rattle.std.proofs.lemmas.Bool.{false≢true}
 use Rattle.model.specs.declared.call.CallId.{CallId}
 use Rattle.model.specs.declared.op.Op.{Op}
 use Rattle.messages.specs.declared.event.Event.{Event}
-use Rattle.messages.specs.declared.event.Event.TheVariants.{Call, Deliver, Retry, Resend, Declare, Restart, Learn}
+use Rattle.messages.specs.declared.event.Event.TheVariants.{Call, Deliver, Interrupt, Retry, Resend, Declare, Restart, Learn}
 use Rattle.messages.specs.declared.entry.Entry.{Entry}
 use Rattle.messages.proofs.SameMessages.{call_exact, call_refl}
 use Rattle.cluster_core.specs.Histories.{IsCalledAt}
@@ -22,6 +22,7 @@ is_named-itself id o h = rw h (call_refl id)
 go_on : (b : Bool) (event : Event) (x y : Option (ℕ × Op)) (c : ℕ × Op) → (x ≡ Some c → y ≡ Some c) → cond b (called_by event x) x ≡ Some c → cond b (called_by event y) y ≡ Some c
 go_on true (Call node pid op) x y c h e = e
 go_on true (Deliver m) x y c h e = h e
+go_on true (Interrupt node pid) x y c h e = h e
 go_on true (Retry node pid) x y c h e = h e
 go_on true (Resend file) x y c h e = h e
 go_on true (Declare node) x y c h e = h e

@@ -11,15 +11,15 @@ use Rattle.model.specs.declared.owner.Owner.{Owner}
 use Rattle.model.specs.declared.opened.Opened.{Opened}
 use Rattle.model.specs.declared.process.Process.{Process}
 use Rattle.model.specs.declared.op.Op.{Op}
-use Rattle.model.specs.declared.op.Op.TheVariants.{Spawn, Fork, Open, Dup, Close, Exit, Set, Unlock, Query}
+use Rattle.model.specs.declared.op.Op.TheVariants.{Spawn, Fork, Open, Dup, Close, Exit, Set, Wait, Unlock, Query}
 use Rattle.model.specs.declared.reply.Reply.{Reply}
-use Rattle.model.specs.declared.reply.Reply.TheVariants.{Done, Again, NoProcess, NoLocks, Free, Blocked}
+use Rattle.model.specs.declared.reply.Reply.TheVariants.{Done, Again, NoProcess, NoLocks, Free, Blocked, Interrupted}
 use Rattle.model.specs.Limits.{most_descriptors, most_regions}
 use Rattle.model.specs.Owners.{same_owner, process_owner, description_owner}
 use Rattle.model.specs.Locks.{bars, replace, without_owner, without_owner_anywhere, regions, IsFree, Blocks}
 use Rattle.model.specs.Descriptors.{Processes, with_process, with_descriptor, is_open, after_spawn, after_fork, after_open, after_dup}
 use Rattle.model.specs.Table.{Table, Target, around, is_running, descriptor, beside, with_processes, target, target_at, owner_of, locked, lock_within, regions_with, after_unlock, after_last_close, closed, closed_at, closed_if, closed_below, after_close, exited, after_exit}
-use Rattle.model.specs.Step.{Is, AfterTests, SetStep, QueryStep, Step}
+use Rattle.model.specs.Step.{Is, AfterTests, SetStep, WaitStep, QueryStep, Step}
 use Rattle.model.proofs.OwnerLaws.{owner_exact}
 use Rattle.cluster_core.specs.Evidence.{IsAbout}
 use Rattle.cluster_core.proofs.common.Refusals.{if_then}
@@ -244,6 +244,12 @@ module _ (others : Table) (p : Process) where
   set-joined t u mode NoLocks c own of elsewhere h = (free-joined t c.file c.owner c.span mode (elsewhere tt) h.0, is-joined (lock_within t c (Some mode)) (lock_within (all t) c (Some mode)) NoLocks u (lock_within-joined t c (Some mode) of) h.1)
   set-joined t u mode _ c own of elsewhere h = absurd h
 
+  wait-joined : (t u : Table) (mode : Mode) (reply : Reply) (c : Target) → IsOwn t p.node p.incarnation → is_own c.owner ≡ true → (IsUnhindered reply → IsFreeAt mode c) → WaitStep t mode reply u c → WaitStep (all t) mode reply (all u) c
+  wait-joined t u mode Interrupted c own of elsewhere h = ap all h
+  wait-joined t u mode Done c own of elsewhere h = set-joined t u mode Done c own of elsewhere h
+  wait-joined t u mode NoLocks c own of elsewhere h = set-joined t u mode NoLocks c own of elsewhere h
+  wait-joined t u mode _ c own of elsewhere h = absurd h
+
   query-joined : (t u : Table) (mode : Mode) (reply : Reply) (c : Target) → IsOwn t p.node p.incarnation → (IsUnhindered reply → IsFreeAt mode c) → QueryStep t mode reply u c → QueryStep (all t) mode reply (all u) c
   query-joined t u mode (Blocked lock) c own elsewhere h = (blocks-joined t c.file c.owner c.span mode lock own h.0, ap all h.1)
   query-joined t u mode Free c own elsewhere h = (free-joined t c.file c.owner c.span mode (elsewhere tt) h.0, ap all h.1)
@@ -276,6 +282,14 @@ module _ (others : Table) (p : Process) where
       (elim found as (λ x. found ≡ x → AfterTests t x reply u (SetStep t mode reply u) → P x) [
         | Err refusal ↦ λ is step. (step.0, ap all step.1)
         | Ok c ↦ λ is step. set-joined t u mode reply c own (target_of_host t p (Some mode) fd kind start len c is) (λ unhindered. elsewhere mode c unhindered (refl, is)) step
+      ] refl h)
+  step-joined t u (Wait fd kind mode start len) reply own elsewhere h =
+      let found = target t p (Some mode) fd kind start len in
+      let P : Result Target Reply → Type 0 = λ x. AfterTests (all t) x reply (all u) (WaitStep (all t) mode reply (all u)) in
+      subst P (sym (target-joined t (Some mode) fd kind start len))
+      (elim found as (λ x. found ≡ x → AfterTests t x reply u (WaitStep t mode reply u) → P x) [
+        | Err refusal ↦ λ is step. (step.0, ap all step.1)
+        | Ok c ↦ λ is step. wait-joined t u mode reply c own (target_of_host t p (Some mode) fd kind start len c is) (λ unhindered. elsewhere mode c unhindered (refl, is)) step
       ] refl h)
   step-joined t u (Query fd kind mode start len) reply own elsewhere h =
       let found = target t p None fd kind start len in

@@ -157,7 +157,9 @@ pub record IsDenied (s u : NodeState) (e : Entry) : Type 0 where
   pub answering : OpenCall
   pub there : Contains s.pending answering
   pub named : id_of s answering.number ≡ call
-  pub is_reply : e.reply ≡ Some (call, refusal_of answering.intent lock)
+  pub reply : Reply
+  pub refuses : refusal_of answering.intent lock ≡ Some reply
+  pub is_reply : e.reply ≡ Some (call, reply)
   pub table : u.table ≡ s.table
 
 -- no reply comes of a denial but that

@@ -22,7 +22,7 @@ use Rattle.messages.specs.declared.refusal.StepError.{StepError}
 use Rattle.messages.specs.declared.message.Message.{Message}
 use Rattle.messages.specs.declared.message.Message.TheVariants.{Request, Grant, Revoke, Taken, Released, Conflict, Deny, Freed}
 use Rattle.messages.specs.declared.event.Event.{Event}
-use Rattle.messages.specs.declared.event.Event.TheVariants.{Call, Deliver, Retry, Resend, Declare, Restart, Learn}
+use Rattle.messages.specs.declared.event.Event.TheVariants.{Call, Deliver, Interrupt, Retry, Resend, Declare, Restart, Learn}
 use Rattle.messages.specs.declared.entry.Entry.{Entry}
 use Rattle.messages.specs.declared.outcome.Outcome.{Outcome}
 use Rattle.node_core.specs.declared.event.NodeEvent.TheVariants as node
@@ -31,6 +31,7 @@ use Rattle.node_core.specs.State.{NodeState, Effect, quiet, host, outcome, proce
 use Rattle.node_core.specs.Try.{tried_if}
 use Rattle.node_core.specs.Calls.{is_pid, is_in_shape, is_busy, after_call}
 use Rattle.node_core.specs.Commands.{remembered, answer_to, revoked, delivered, deliver_rule}
+use Rattle.node_core.specs.Interrupts.{interrupted, interrupt_rule}
 use Rattle.node_core.specs.Retries.{retry_rule}
 use Rattle.node_core.specs.Node.{node_rule}
 use Rattle.token_server.specs.declared.event.ServerEvent.TheVariants as server
@@ -41,27 +42,27 @@ use Rattle.cluster_core.specs.Next.{has_actor, is_known, entry, recorded, with_n
 use Rattle.cluster_core.specs.Runs.{Leads}
 use Rattle.cluster_core.specs.Safe.{IsSafe}
 use Rattle.cluster_core.proofs.tokens.Heard.{IsHeard}
-use Rattle.cluster_core.specs.Histories.{EntryAt, names_conflict, HasHistory, EachAtItsPlace}
-use Rattle.cluster_core.specs.Evidence.{IsTold, HasEvidence}
+use Rattle.cluster_core.specs.Histories.{EntryAt, IsCalledAt, names_conflict, HasHistory, EachAtItsPlace}
+use Rattle.cluster_core.specs.Evidence.{IsTold, HasEvidence, is_wait}
 use Rattle.cluster_core.proofs.history.Placement.{slots_of, items_in, history_of}
 use Rattle.cluster_core.specs.Plain.{IsPlainHistory}
 use Rattle.cluster_core.proofs.history.Entries.{none_named, none_called, none_replied}
-use Rattle.cluster_core.proofs.steps.NodeSteps.{IsTo, call_done, call_free, deliver_done, retry_done}
+use Rattle.cluster_core.proofs.steps.NodeSteps.{IsTo, call_done, call_free, deliver_done, interrupt_done, retry_done}
 use Rattle.cluster_core.proofs.steps.Steps.{next_taken, next_unfenced, node_step, server_step, declare_step, restart_step}
 use Rattle.cluster_core.proofs.steps.ServerSteps.{IsSending, server_rule-sending}
 use Rattle.model.specs.Anchors.{IsOwn}
 use Rattle.model.proofs.NodeTables.{own_empty}
 use Rattle.cluster_core.proofs.steps.Tries.{IsSilent, not_busy}
 use Rattle.cluster_core.proofs.history.Nodes.{IsOpen, IsExplained, IsDenied, IsNoDeclaration, Moves, found_open}
-use Rattle.cluster_core.proofs.steps.Moves.{delivered_receives, quiet_receives, retried_receives, call_moves}
+use Rattle.cluster_core.proofs.steps.Moves.{delivered_receives, quiet_receives, interrupted_receives, retried_receives, call_moves}
 use Rattle.cluster_core.proofs.history.Lifting.{IsFreeElsewhere}
 use Rattle.cluster_core.proofs.tokens.Unbarred.{safe_free}
 use Rattle.cluster_core.proofs.steps.Requested.{Comes, Makes, Tells, delivered-steps, resend-steps, learn-steps}
-use Rattle.cluster_core.proofs.steps.Sends.{IsFreely, AsksFor, Conflicts, called-sends, tried_if-sends, delivered-sends}
+use Rattle.cluster_core.proofs.steps.Sends.{IsFreely, AsksFor, Conflicts, called-sends, tried_if-sends, interrupted-sends, delivered-sends}
 use Rattle.cluster_core.proofs.history.Slots.{slotted_first, all_slotted_first, slots_fit, slots_legal, slots_at_their_places}
 use Rattle.cluster_core.proofs.history.Plain.{plain_slots, plain_legal, plain_items}
 use Rattle.cluster_core.proofs.history.Placing.{declared_node}
-use Rattle.cluster_core.proofs.history.Witnesses.{IsAskedBy, Denies, Backed, HeldFor, StaysOpen, backed-keeps}
+use Rattle.cluster_core.proofs.history.Witnesses.{IsAskedBy, Denies, Backed, HeldFor, StaysOpen, backed-keeps, called_one, urgent}
 use Rattle.cluster_core.proofs.history.Denials.{denies_now}
 use Rattle.cluster_core.proofs.history.Worlds.{Good, replied_named, server_good, node_good, declared_good, restarted_good, stays, asks, leads_on, union_stays, others_stay}
 
@@ -194,7 +195,7 @@ module _ (shape : ShapeFields) (past : List Entry) (w : WorldState) (few : IsNum
       free safe x there_now = safe_free w later n u x.pid x.op x.reply refl here (others_stay shape past w n u event incarnation o g made_so moves not_strange) safe there x.served (λ m h. h)
 
       denied : (d : IsDenied (w.nodes n) u made) → Denies shape past w d.file d.call d.holder d.number d.lock
-      denied d = known_backed (Deny d.file d.call d.holder d.number d.lock) (known (Deny d.file d.call d.holder d.number d.lock) d.is_deny)
+      denied d = (known_backed (Deny d.file d.call d.holder d.number d.lock) (known (Deny d.file d.call d.holder d.number d.lock) d.is_deny)).0
 
       pub keeps : ((asks : AsksFor (Backed shape (past ++ made ∷ []) later) u) → All (Backed shape (past ++ made ∷ []) later) o.sends) → IsSafe later → IsNumber most_nodes w.shape.nodes × Good shape (past ++ made ∷ []) later
       keeps sends safe = (few, node_good shape past w n u event incarnation o g made_so moves not_strange (free safe) denied (sends (asks shape past w n u event incarnation o g made_so moves not_strange)) undeclared)
@@ -223,6 +224,18 @@ module _ (shape : ShapeFields) (past : List Entry) (w : WorldState) (few : IsNum
       let v = (recorded (with_node w n effect.state) event s.incarnation o).0 in
       let test : OpenCall → Bool = λ c. c.pid == pid in
       subst P is (λ made_so safe. keeps n effect.state event s.incarnation o there received.moves (λ m h. absurd (cc)) tt made_so (tried_if-sends (Backed shape run v) (freely run v) s (open_call_of s pid) (λ c f. (found_open test s.pending c f).0)) safe)
+
+  interrupt_good : (n pid : ℕ) (done : NodeState × Outcome) → has_node w n ≡ true → interrupt_rule (w.nodes n) pid ≡ Ok done → After (Interrupt n pid) (recorded (with_node w n done.0) (Interrupt n pid) (w.nodes n).incarnation done.1)
+  interrupt_good n pid done there h =
+      let s = w.nodes n in
+      let event = Interrupt n pid in
+      let effect = interrupted s (open_call_of s pid) in
+      let P : NodeState × Outcome → Type 0 = λ d. After event (recorded (with_node w n d.0) event s.incarnation d.1) in
+      let received = interrupted_receives past s (g.holds n) event s.incarnation pid tt in
+      let o = (outcome None effect).1 in
+      let run = past ++ entry event s.incarnation o ∷ [] in
+      let v = (recorded (with_node w n effect.state) event s.incarnation o).0 in
+      subst P (interrupt_done s pid done h) (λ made_so safe. keeps n effect.state event s.incarnation o there received.moves (λ m h. absurd (cc)) tt made_so (interrupted-sends (Backed shape run v) (freely run v) s (open_call_of s pid)) safe)
 
   -- a message for another incarnation does nothing
   idle_good : (n : ℕ) (m : Message) → has_node w n ≡ true → is_among w.sent m ≡ true → After (Deliver m) (recorded (with_node w n (w.nodes n)) (Deliver m) 0 (outcome None (quiet (w.nodes n))).1)
@@ -330,7 +343,7 @@ module _ (shape : ShapeFields) (past : List Entry) (w : WorldState) (few : IsNum
 
   -- a step of a server
   makes : (file : ℕ) → Makes file (HeldFor shape past file) (Backed shape past w)
-  makes file = record { grants = λ number call mode span. tt; revokes = λ number holder r held other. (held, other) }
+  makes file = record { grants = λ number call mode span. tt; revokes = λ number holder r held other. (held.0, other) }
 
   abbrev Serves : ℕ → Result (ServerState × Outcome) StepError → Type 0
   Serves file r = (done : ServerState × Outcome) → r ≡ Ok done → Comes file (HeldFor shape past file) (Backed shape past w) done.0 × All (Backed shape past w) done.1.sends
@@ -388,10 +401,12 @@ module _ (shape : ShapeFields) (past : List Entry) (w : WorldState) (few : IsNum
       told_good m file p (known_backed m (and_parts (has_actor w (addressee m)) (is_among w.sent m) known).1) h
   taken_good (Deliver (Conflict file number holder call lock)) p known h =
       let m = Conflict file number holder call lock in
-      told_good m file p (known_backed m (and_parts (has_actor w (addressee m)) (is_among w.sent m) known).1) h
+      let behind = known_backed m (and_parts (has_actor w (addressee m)) (is_among w.sent m) known).1 in
+      told_good m file p (λ r held its now. (behind, urgent past call r its now held.1)) h
   taken_good (Deliver (Taken file number call)) p known h = told_good (Taken file number call) file p tt h
   taken_good (Deliver (Released file number holder call span)) p known h = told_good (Released file number holder call span) file p tt h
   taken_good (Deliver (Freed file holder)) p known h = told_good (Freed file holder) file p tt h
+  taken_good (Interrupt n pid) p known h = node_step w (After (Interrupt n pid)) (Interrupt n pid) n (node_rule (w.nodes n) (node.Interrupt pid)) p (λ done is. interrupt_good n pid done (and_parts (has_node w n) (is_pid pid) known).0 is) h
   taken_good (Retry n pid) p known h = node_step w (After (Retry n pid)) (Retry n pid) n (node_rule (w.nodes n) (node.Retry pid)) p (λ done is. retry_good n pid done (and_parts (has_node w n) (is_pid pid) known).0 is) h
   taken_good (Resend file) p known h = resend_good file p h
   taken_good (Learn file n i) p known h = learn_good file n i p h
@@ -423,8 +438,7 @@ good_first shape = record {
   backed = All-nil (Backed shape [] (first_world shape));
   comes = λ file. record {
     file_is = refl;
-    queued = All-nil (HeldFor shape [] file);
-    active = λ r h. absurd (none-some r h);
+    held = All-nil (HeldFor shape [] file);
     outstanding = λ n row m there h. absurd (none-some row there);
   };
   slotted = slotted_first shape;
@@ -496,7 +510,14 @@ module _ (shape : ShapeFields) (is_shape : IsShape shape) (Q : WorldState → Ty
       elim told [
         | inl conflict ↦ (backed (Conflict file number holder call lock) conflict).evidence
         | inr rest ↦ elim rest [
-          | inl deny ↦ (backed (Deny file call holder number lock) deny).evidence
+          | inl deny ↦ (backed (Deny file call holder number lock) deny).0.evidence
           | inr kept ↦ (backed (Conflict file number holder call lock) ((heard w both.present).answers kept.0 kept.1 (Conflict file number holder call lock) kept.2 kept.3)).evidence
         ]
       ]
+
+  -- and no call that waits is denied
+  pub no_wait_after : (es : List Entry) (w : WorldState) (file : ℕ) (call : CallId) (holder : Host) (number : ℕ) (lock : LockInfo) (pid : ℕ) (op : Op) (at : ℕ) → Leads (first_world shape) es w → is_among w.sent (Deny file call holder number lock) ≡ true → IsCalledAt es call pid op at → is_wait op ≡ false
+  no_wait_after es w file call holder number lock pid op at l sent called =
+      let g = (both_after es w l).good in
+      let urgency = (among_backed (Backed shape es w) w.sent (Deny file call holder number lock) g.backed sent).1 in
+      ap is_wait (called_one es call pid urgency.pid op urgency.op at urgency.at g.one_call called urgency.called).op_is ∙ urgency.waits

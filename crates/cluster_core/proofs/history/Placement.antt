@@ -1,14 +1,12 @@
 -- The history of a run, each answered call at its place.
 use Rattle.std.specs.Prelude.{ℕ, ◌+◌, List, [], ◌∷◌, ◌++◌, length, position, filter_map, slice_set, Option, Some, None}
 use Rattle.model.specs.declared.call.CallId.{CallId}
-use Rattle.model.specs.declared.op.Op.{Op}
 use Rattle.model.specs.declared.reply.Reply.{Reply}
 use Rattle.messages.specs.declared.event.Event.{Event}
 use Rattle.messages.specs.declared.message.Message.TheVariants.{Deny}
-use Rattle.messages.specs.declared.event.Event.TheVariants.{Deliver, Declare}
+use Rattle.messages.specs.declared.event.Event.TheVariants.{Deliver}
 use Rattle.messages.specs.declared.entry.Entry.{Entry}
 use Rattle.cluster_core.specs.declared.item.Item.{Item}
-use Rattle.cluster_core.specs.declared.item.Item.TheVariants.{Answered, Gone}
 pub use Rattle.cluster_core.specs.Calls.{is_named, called_by, find_call, item_of, gone_at}
 use Rattle.cluster_core.specs.Histories.{names_conflict}
 

@@ -1,8 +1,10 @@
 -- Items that leave the table as it was, and the replies of calls that are denied.
-use Rattle.std.proofs.Common.{◌≡◌, refl, sym, subst, List, [], ◌∷◌, ◌++◌}
+use Rattle.std.proofs.Common.{◌≡◌, sym, subst, List, [], ◌∷◌, ◌++◌, Some}
+use Rattle.std.proofs.lemmas.Option.{none-some, same_Some}
 use Rattle.model.specs.declared.lock_info.LockInfo.{LockInfo}
 use Rattle.model.specs.declared.process.Process.{Process}
 use Rattle.model.specs.declared.op.Op.{Op}
+use Rattle.model.specs.declared.reply.Reply.{Reply}
 use Rattle.model.specs.declared.reply.Reply.TheVariants.{Again, Blocked}
 use Rattle.model.specs.Replay.{NamesNoLock}
 use Rattle.model.specs.Table.{Table}
@@ -15,9 +17,10 @@ use Rattle.cluster_core.specs.declared.item.Item.{Item}
 use Rattle.cluster_core.specs.Histories.{caller, ItemStep, Legal, IsReadOnly, moved, QuietItemsMayStandEarlier}
 
 -- the reply to a call that is denied names a lock
-pub refusal_names : (i : Intent) (lock : LockInfo) → NamesNoLock (refusal_of i lock) → ⊥
-refusal_names intent.Set lock none = (none lock).0 refl
-refusal_names intent.Query lock none = (none lock).1 refl
+pub refusal_names : (i : Intent) (lock : LockInfo) (reply : Reply) → refusal_of i lock ≡ Some reply → NamesNoLock reply → ⊥
+refusal_names intent.Set lock reply is none = (none lock).0 (same_Some (Again lock) reply is)
+refusal_names intent.Wait lock reply is none = none-some reply is
+refusal_names intent.Query lock reply is none = (none lock).1 (same_Some (Blocked lock) reply is)
 
 -- a call that names a lock leaves the table as it was
 pub again_stays : (t u : Table) (p : Process) (op : Op) (lock : LockInfo) → Step t p op (Again lock) u → u ≡ t

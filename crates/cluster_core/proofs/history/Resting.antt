@@ -10,7 +10,7 @@ use Rattle.messages.specs.declared.actor.Actor.{Actor}
 use Rattle.messages.specs.declared.actor.Actor.TheVariants.{Node as ANode, Server as AServer}
 use Rattle.messages.specs.declared.message.Message.{Message}
 use Rattle.messages.specs.declared.event.Event.{Event}
-use Rattle.messages.specs.declared.event.Event.TheVariants.{Call, Deliver, Retry, Resend, Declare, Restart, Learn}
+use Rattle.messages.specs.declared.event.Event.TheVariants.{Call, Deliver, Interrupt, Retry, Resend, Declare, Restart, Learn}
 use Rattle.messages.specs.declared.entry.Entry.{Entry}
 use Rattle.node_core.specs.declared.event.NodeEvent.TheVariants as node
 use Rattle.node_core.specs.State.{NodeState, first_node, first_file}
@@ -48,6 +48,7 @@ module _ (w : WorldState) (rests : Rests w) where
   taken_rests : (event : Event) (q : WorldState × Entry) → is_fenced w event ≡ false → taken w event ≡ Ok q → Rests q.0
   taken_rests (Call n pid op) q free h = node_step w (λ x. Rests x.0) (Call n pid op) n (node_rule (w.nodes n) (node.Call pid op)) q (λ done is. node_rests n done.0 free) h
   taken_rests (Deliver m) q free h = message_rests m (addressee m) q free h
+  taken_rests (Interrupt n pid) q free h = node_step w (λ x. Rests x.0) (Interrupt n pid) n (node_rule (w.nodes n) (node.Interrupt pid)) q (λ done is. node_rests n done.0 free) h
   taken_rests (Retry n pid) q free h = node_step w (λ x. Rests x.0) (Retry n pid) n (node_rule (w.nodes n) (node.Retry pid)) q (λ done is. node_rests n done.0 free) h
   taken_rests (Resend file) q free h = server_step w (λ x. Rests x.0) (Resend file) file (server_rule (w.servers file) server.Resend) q (λ done is. rests) h
   taken_rests (Learn file n i) q free h = server_step w (λ x. Rests x.0) (Learn file n i) file (server_rule (w.servers file) (server.Learn n i)) q (λ done is. rests) h

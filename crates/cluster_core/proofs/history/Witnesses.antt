@@ -1,6 +1,6 @@
 -- What stands behind each message, and goes on standing behind it.
-use Rattle.std.proofs.Common.{◌≡◌, ℕ, ◌≤◌, true, ◌==◌, ◌⊎◌, inl, inr, sym, ◌∙◌, ap, subst, arith, List, [], ◌∷◌, ◌++◌, length, take, All, Contains}
-use Rattle.std.proofs.lemmas.Bool.{and_parts, eqb-true}
+use Rattle.std.proofs.Common.{◌≡◌, ℕ, ◌≤◌, true, ◌==◌, ◌⊎◌, inl, inr, sym, ◌∙◌, ap, subst, arith, List, [], ◌∷◌, ◌++◌, length, take, All, Contains, refl, Some}
+use Rattle.std.proofs.lemmas.Bool.{and_parts, eqb-true, false≢true}
 use Rattle.std.proofs.lemmas.List.Elements.{All-contains, All-weaker}
 use Rattle.intervals.specs.Bytes.{Range}
 use Rattle.model.specs.declared.call.CallId.{CallId}
@@ -8,27 +8,35 @@ use Rattle.model.specs.declared.host.Host.{Host}
 use Rattle.model.specs.declared.lock_info.LockInfo.{LockInfo}
 use Rattle.model.specs.declared.mode.Mode.{Mode}
 use Rattle.model.specs.declared.op.Op.{Op}
-use Rattle.model.specs.declared.op.Op.TheVariants.{Spawn}
+use Rattle.model.specs.declared.op.Op.TheVariants.{Spawn, Set, Wait, Query}
 use Rattle.model.specs.declared.process.Process.{Process}
+use Rattle.model.specs.declared.reply.Reply.{Reply}
 use Rattle.model.specs.Table.{Table, Target}
 use Rattle.model.specs.Step.{Step}
 use Rattle.messages.specs.Shapes.{ShapeFields}
+use Rattle.messages.specs.Messages.{same_urgency}
+use Rattle.messages.specs.declared.message.Urgency.{Urgency}
+use Rattle.messages.specs.declared.message.Urgency.TheVariants.{Now, Waits}
+use Rattle.messages.proofs.SameMessages.{call_exact}
 use Rattle.messages.specs.declared.message.Message.{Message}
 use Rattle.messages.specs.declared.message.Message.TheVariants.{Request, Grant, Revoke, Taken, Released, Conflict, Deny, Freed}
 use Rattle.messages.specs.declared.event.Event.{Event}
 use Rattle.messages.specs.declared.event.Event.TheVariants.{Call}
 use Rattle.messages.specs.declared.entry.Entry.{Entry}
+use Rattle.node_core.specs.declared.open_call.Intent.{Intent}
+use Rattle.node_core.specs.declared.open_call.Intent.TheVariants as intent
 use Rattle.node_core.specs.declared.open_call.OpenCall.{OpenCall}
 use Rattle.node_core.specs.State.{NodeState, id_of}
-use Rattle.node_core.specs.Try.{refusal_of}
+use Rattle.node_core.specs.Try.{urgency_of, refusal_of}
 use Rattle.token_server.specs.declared.held.Held.{Held}
+use Rattle.token_server.specs.State.{is_of_call}
 use Rattle.cluster_core.specs.World.{WorldState, first_world}
 use Rattle.cluster_core.specs.Union.{union}
 use Rattle.cluster_core.specs.Histories.{caller, EntryAt, IsCalledAt, OneCall}
-use Rattle.cluster_core.specs.Evidence.{IsAbout, IsAsked, IsWorldAfter, IsFirstDone, HasEvidence}
+use Rattle.cluster_core.specs.Evidence.{IsAbout, IsAsked, IsWorldAfter, IsFirstDone, HasEvidence, is_wait}
 use Rattle.model.proofs.Targets.{IsSpan, target_span}
 use Rattle.cluster_core.proofs.history.Entries.{IsNamed, named_called, entry_at-within, called_at-keeps}
-use Rattle.cluster_core.proofs.steps.Tries.{about_finds, about_one}
+use Rattle.cluster_core.proofs.steps.Tries.{IsFor, about_finds, about_one}
 use Rattle.cluster_core.proofs.history.Joined.{is_of_host, target_of_host}
 use Rattle.cluster_core.proofs.history.Prefixes.{leads_one, after-keeps}
 use Rattle.cluster_core.proofs.history.Slots.{entry_at-one, revoked-keeps}
@@ -138,17 +146,47 @@ evidence-keeps shape es e file call holder number lock h = record {
 abbrev pub IsAskedBy : ShapeFields → List Entry → NodeState → OpenCall → Type 0
 IsAskedBy shape past s c = IsAsked shape past c.file (id_of s c.number) c.mode c.span
 
+-- if the open call is this one, the one table of the world may refuse it for the lock, as far as it is told of it
+abbrev pub MayRefuse : WorldState → CallId → ℕ → Op → LockInfo → NodeState → OpenCall → Type 0
+MayRefuse w call pid op lock s c = id_of s c.number ≡ call → (reply : Reply) → refusal_of c.intent lock ≡ Some reply → Step (union w) (caller call pid) op reply (union w)
+
+-- a call of the run, that waits where its requests may
+pub record IsOfUrgency (past : List Entry) (call : CallId) (urgency : Urgency) : Type 0 where
+  pub at : ℕ
+  pub pid : ℕ
+  pub op : Op
+  pub called : IsCalledAt past call pid op at
+  pub waits : is_wait op ≡ same_urgency urgency Waits
+
+pub for_urgency : (i : Intent) (op : Op) → IsFor i op → is_wait op ≡ same_urgency (urgency_of i) Waits
+for_urgency intent.Set (Set fd kind mode start len) f = refl
+for_urgency intent.Wait (Wait fd kind mode start len) f = refl
+for_urgency intent.Query (Query fd kind mode start len) f = refl
+for_urgency i op f = absurd f
+
+urgency-keeps : (past : List Entry) (e : Entry) (call : CallId) (urgency : Urgency) → IsOfUrgency past call urgency → IsOfUrgency (past ++ e ∷ []) call urgency
+urgency-keeps past e call urgency u = record { at = u.at; pid = u.pid; op = u.op; called = called_at-keeps past (e ∷ []) call u.pid u.op u.at u.called; waits = u.waits }
+
+-- a request of the call that is urgent
+is_now : (u : Urgency) → same_urgency u Now ≡ true → u ≡ Now
+is_now Now h = refl
+is_now Waits h = absurd (false≢true h)
+
+pub urgent : (past : List Entry) (call : CallId) (r : Held) → is_of_call call r ≡ true → same_urgency r.urgency Now ≡ true → IsOfUrgency past r.call r.urgency → IsOfUrgency past call Now
+urgent past call r its now h =
+    subst (IsOfUrgency past call) (is_now r.urgency now) (subst (λ (id : CallId). IsOfUrgency past id r.urgency) (call_exact r.call call its) h)
+
 -- a conflict has its evidence; and while the call is open the one table may have refused it there
 pub record Denies (shape : ShapeFields) (past : List Entry) (w : WorldState) (file : ℕ) (call : CallId) (holder : Host) (number : ℕ) (lock : LockInfo) : Type 0 where
   pub evidence : HasEvidence shape past file call holder number lock
-  pub allows : All (λ c. id_of (w.nodes call.node) c.number ≡ call → Step (union evidence.world) (caller call evidence.asked.pid) evidence.asked.op (refusal_of c.intent lock) (union evidence.world)) (w.nodes call.node).pending
+  pub allows : All (MayRefuse evidence.world call evidence.asked.pid evidence.asked.op lock (w.nodes call.node)) (w.nodes call.node).pending
 
 -- what stands behind a message
 abbrev pub Backed : ShapeFields → List Entry → WorldState → Message → Type 0
-Backed shape past w (Request file call urgency mode wanted) = IsAsked shape past file call mode wanted.required
+Backed shape past w (Request file call urgency mode wanted) = IsAsked shape past file call mode wanted.required × IsOfUrgency past call urgency
 Backed shape past w (Revoke file number holder call mode wanted) = IsAsked shape past file call mode wanted.required × (holder.node ≡ call.node → ⊥)
 Backed shape past w (Conflict file number holder call lock) = Denies shape past w file call holder number lock
-Backed shape past w (Deny file call holder number lock) = Denies shape past w file call holder number lock
+Backed shape past w (Deny file call holder number lock) = Denies shape past w file call holder number lock × IsOfUrgency past call Now
 Backed shape past w (Grant file number call mode span) = Unit {0}
 Backed shape past w (Taken file number call) = Unit {0}
 Backed shape past w (Released file number holder call span) = Unit {0}
@@ -156,7 +194,10 @@ Backed shape past w (Freed file holder) = Unit {0}
 
 -- and behind a request that a server keeps
 abbrev pub HeldFor : ShapeFields → List Entry → ℕ → Held → Type 0
-HeldFor shape past file r = IsAsked shape past file r.call r.mode r.wanted.required
+HeldFor shape past file r = IsAsked shape past file r.call r.mode r.wanted.required × IsOfUrgency past r.call r.urgency
+
+pub held-keeps : (shape : ShapeFields) (past : List Entry) (e : Entry) (file : ℕ) (r : Held) → HeldFor shape past file r → HeldFor shape (past ++ e ∷ []) file r
+held-keeps shape past e file r h = (asked-keeps shape past e file r.call r.mode r.wanted.required h.0, urgency-keeps past e r.call r.urgency h.1)
 
 -- each open call was open before under its name, or is new
 abbrev pub StaysOpen : List Entry → NodeState → NodeState → Type 0
@@ -168,8 +209,8 @@ module _ (shape : ShapeFields) (past : List Entry) (e : Entry) (w v : WorldState
       let h = d.evidence in
       let s = w.nodes call.node in
       let u = v.nodes call.node in
-      let A : OpenCall → Type 0 = λ c. id_of s c.number ≡ call → Step (union h.world) (caller call h.asked.pid) h.asked.op (refusal_of c.intent lock) (union h.world) in
-      let B : OpenCall → Type 0 = λ c. id_of u c.number ≡ call → Step (union h.world) (caller call h.asked.pid) h.asked.op (refusal_of c.intent lock) (union h.world) in
+      let A : OpenCall → Type 0 = MayRefuse h.world call h.asked.pid h.asked.op lock s in
+      let B : OpenCall → Type 0 = MayRefuse h.world call h.asked.pid h.asked.op lock u in
       let S : OpenCall → Type 0 = λ c. (Contains s.pending c × (id_of s c.number ≡ id_of u c.number)) ⊎ (IsNamed past (id_of u c.number) → ⊥) in
       record {
         evidence = evidence-keeps shape past e file call holder number lock h;
@@ -180,10 +221,10 @@ module _ (shape : ShapeFields) (past : List Entry) (e : Entry) (w v : WorldState
       }
 
   pub backed-keeps : (m : Message) → Backed shape past w m → Backed shape (past ++ e ∷ []) v m
-  backed-keeps (Request file call urgency mode wanted) b = asked-keeps shape past e file call mode wanted.required b
+  backed-keeps (Request file call urgency mode wanted) b = (asked-keeps shape past e file call mode wanted.required b.0, urgency-keeps past e call urgency b.1)
   backed-keeps (Revoke file number holder call mode wanted) b = (asked-keeps shape past e file call mode wanted.required b.0, b.1)
   backed-keeps (Conflict file number holder call lock) b = denies-keeps file call holder number lock b
-  backed-keeps (Deny file call holder number lock) b = denies-keeps file call holder number lock b
+  backed-keeps (Deny file call holder number lock) b = (denies-keeps file call holder number lock b.0, urgency-keeps past e call Now b.1)
   backed-keeps (Grant file number call mode span) b = b
   backed-keeps (Taken file number call) b = b
   backed-keeps (Released file number holder call span) b = b

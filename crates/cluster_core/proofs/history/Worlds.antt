@@ -18,7 +18,6 @@ use Rattle.messages.specs.declared.entry.Entry.{Entry}
 use Rattle.messages.specs.declared.outcome.Outcome.{Outcome}
 use Rattle.node_core.specs.declared.open_call.OpenCall.{OpenCall}
 use Rattle.node_core.specs.State.{NodeState, first_node, process, id_of, target_of}
-use Rattle.node_core.specs.Try.{refusal_of}
 use Rattle.token_server.specs.State.{ServerState}
 use Rattle.cluster_core.specs.declared.item.Item.TheVariants.{Answered}
 use Rattle.cluster_core.specs.World.{WorldState, first_world, most_incarnations, has_node}
@@ -45,7 +44,7 @@ use Rattle.cluster_core.proofs.history.Placing.{Placed, nothing_placed, gone_pla
 use Rattle.cluster_core.proofs.history.Quiet.{refusal_names}
 use Rattle.cluster_core.proofs.steps.Requested.{Comes, comes-weaker}
 use Rattle.cluster_core.proofs.steps.Sends.{AsksFor}
-use Rattle.cluster_core.proofs.history.Witnesses.{IsAskedBy, Denies, Backed, HeldFor, StaysOpen, asked-keeps, backed-keeps}
+use Rattle.cluster_core.proofs.history.Witnesses.{IsAskedBy, MayRefuse, for_urgency, Denies, Backed, HeldFor, StaysOpen, asked-keeps, held-keeps, backed-keeps}
 
 -- each message that an entry sent is among those that were sent
 abbrev pub Told : List Entry → List Message → Type 0
@@ -103,7 +102,7 @@ stays_same past s =
 -- what servers keep, of which one may have made a step
 comes-push : (shape : ShapeFields) (past : List Entry) (e : Entry) (w v : WorldState) (file : ℕ) (t : ServerState) → ((n : ℕ) → StaysOpen past (w.nodes n) (v.nodes n)) → Comes file (HeldFor shape past file) (Backed shape past w) t → Comes file (HeldFor shape (past ++ e ∷ []) file) (Backed shape (past ++ e ∷ []) v) t
 comes-push shape past e w v file t stays c = comes-weaker file (HeldFor shape past file) (HeldFor shape (past ++ e ∷ []) file) (Backed shape past w) (Backed shape (past ++ e ∷ []) v) t
-    (λ r h. asked-keeps shape past e file r.call r.mode r.wanted.required h)
+    (held-keeps shape past e file)
     (λ m b. backed-keeps shape past e w v stays m b) c
 
 -- a step of a server
@@ -174,7 +173,7 @@ module _ (shape : ShapeFields) (past : List Entry) (w : WorldState) (n : ℕ) (u
         record { node = ap (λ (c : CallId). c.node) is; fresh = subst (Unanswered past) (sym is) x.0.fresh }
     | inr rest ↦ elim rest [
       | inl d ↦
-          let is = (same_answer made.reply id d.call reply (refusal_of d.answering.intent d.lock) h d.is_reply).0 ∙ sym d.named in
+          let is = (same_answer made.reply id d.call reply d.reply h d.is_reply).0 ∙ sym d.named in
           let its = All-contains (IsOpen past before) before.pending d.answering (g.holds n).waiting d.there in
           record { node = ap (λ (c : CallId). c.node) is; fresh = subst (Unanswered past) (sym is) its.unanswered }
       | inr silent ↦ absurd (not_there made.reply (id, reply) silent.no_reply h)
@@ -268,7 +267,10 @@ module _ (shape : ShapeFields) (past : List Entry) (w : WorldState) (n : ℕ) (u
   asks c wanted there same =
       let P : NodeState → Type 0 = λ x. All (IsAskedBy shape run x) x.pending in
       let a = All-contains (IsAskedBy shape run u) u.pending c (subst P after (all_asked n)) there in
-      subst (IsAsked shape run c.file (id_of u c.number) c.mode) (sym same) a
+      let its = All-contains (IsOpen run u) u.pending c moves.holds.waiting there in (
+        subst (IsAsked shape run c.file (id_of u c.number) c.mode) (sym same) a,
+        record { at = its.called.at; pid = c.pid; op = its.op; called = its.called.there; waits = for_urgency c.intent its.op its.ready.is_for },
+      )
 
   -- and makes the step of the node's table
   union_steps : (pid : ℕ) (op : Op) (reply : Reply) → has_node w n ≡ true → IsFreeElsewhere w n pid op reply → Step before.table (process before pid) op reply u.table → Step (union w) (process before pid) op reply (union later)
@@ -293,16 +295,15 @@ module _ (shape : ShapeFields) (past : List Entry) (w : WorldState) (n : ℕ) (u
         let its = All-contains (IsOpen past before) before.pending c (g.holds n).waiting d.there in
         let denial = denied d in
         let ev = denial.evidence in
-        let reply = refusal_of c.intent d.lock in
         let t = w.nodes d.call.node in
         let node : d.call.node ≡ n = ap (λ (id : CallId). id.node) (sym d.named) ∙ g.named n in
-        let A : NodeState → Type 0 = λ x. All (λ (b : OpenCall). id_of x b.number ≡ d.call → Step (union ev.world) (caller d.call ev.asked.pid) ev.asked.op (refusal_of b.intent d.lock) (union ev.world)) x.pending in
+        let A : NodeState → Type 0 = λ x. All (MayRefuse ev.world d.call ev.asked.pid ev.asked.op d.lock x) x.pending in
         let allowed = subst A (ap w.nodes node) denial.allows in
-        let step_there = All-contains (λ (b : OpenCall). id_of before b.number ≡ d.call → Step (union ev.world) (caller d.call ev.asked.pid) ev.asked.op (refusal_of b.intent d.lock) (union ev.world)) before.pending c allowed d.there d.named in
-        denial_placed shape past w later made g.slotted g.all g.leads leads_on d.call c.pid its.op reply d.is_reply d.file d.number d.holder d.lock ev d.is_deny
+        let step_there = All-contains (MayRefuse ev.world d.call ev.asked.pid ev.asked.op d.lock before) before.pending c allowed d.there d.named d.reply d.refuses in
+        denial_placed shape past w later made g.slotted g.all g.leads leads_on d.call c.pid its.op d.reply d.is_reply d.file d.number d.holder d.lock ev d.is_deny
         (subst (λ (id : CallId). Called past id c.pid its.op) d.named its.called)
         (subst (Unanswered past) d.named its.unanswered)
-        g.one_call (refusal_names c.intent d.lock) (sym (union_stays d.table))
+        g.one_call (refusal_names c.intent d.lock d.reply d.refuses) (sym (union_stays d.table))
         (subst (λ (id : CallId). IsProcess (caller id c.pid)) d.named its.is_process)
         step_there
 

@@ -16,7 +16,7 @@ use Rattle.cluster_core.specs.declared.held_lock.HeldLock.{HeldLock}
 use Rattle.cluster_core.specs.World.{WorldState, has_node, has_file, is_live}
 use Rattle.cluster_core.specs.Union.{union}
 use Rattle.cluster_core.specs.Listings.{Lists, Adds, IsHeld, IsHeldBefore, IsLockListing, held_lock}
-use Rattle.cluster_core.proofs.steps.WorldSteps.{within_is}
+use Rattle.cluster_core.proofs.common.Numbered.{within_is}
 use Rattle.cluster_core.proofs.history.Unions.{live_at, none_held}
 use Rattle.cluster_core.proofs.common.Lists.{lists_map, adds_all, IsUpTo, adds_first, adds_next, adds_last}
 

@@ -11,7 +11,7 @@ use Rattle.node_core.specs.State.{NodeState}
 use Rattle.cluster_core.specs.declared.token_run.TokenRun.{TokenRun}
 use Rattle.cluster_core.specs.World.{WorldState, has_node, has_file}
 use Rattle.cluster_core.specs.Listings.{Lists, Adds, IsTokenRun, IsTokenBefore, IsTokenOf, IsTokenOfFile, IsTokenListing, token_run}
-use Rattle.cluster_core.proofs.steps.WorldSteps.{within_is}
+use Rattle.cluster_core.proofs.common.Numbered.{within_is}
 use Rattle.cluster_core.proofs.history.Unions.{live_at}
 use Rattle.cluster_core.proofs.common.Lists.{lists_map, adds_all, IsUpTo, adds_first, adds_next, adds_last}
 

@@ -18,6 +18,10 @@ pub leads_push : (w v u : WorldState) (es : List Entry) (e : Entry) → Leads w 
 leads_push w v u [] e is step = let P : WorldState → Type 0 = λ x. next x e.event ≡ Ok (u, e) in (u, subst P (sym is) step, refl)
 leads_push w v u (d ∷ es) e leads step = (leads.0, leads.1, leads_push leads.0 v u es e leads.2 step)
 
+-- the entry that is read next comes next
+pub leads_read : (w v u : WorldState) (es : List Entry) (i : ℕ) (e : Entry) → i < length es → e ≡ get_or es i e → Leads w (take i es) v → next v e.event ≡ Ok (u, e) → Leads w (take (i + 1) es) u
+leads_read w v u es i e lt is leads step = subst (λ (xs : List Entry). Leads w xs u) (sym (take_read es i e lt is)) (leads_push w v u (take i es) e leads step)
+
 -- the events of the entries are the first i of these, and the entries lead to this world
 pub record Ran (shape : ShapeFields) (events : List Event) (i : ℕ) (es : List Entry) (w : WorldState) : Type 0 where
   pub leads : Leads (first_world shape) es w

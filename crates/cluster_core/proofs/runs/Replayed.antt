@@ -8,9 +8,9 @@ use Rattle.messages.specs.declared.entry.Entry.{Entry}
 use Rattle.cluster_core.specs.World.{WorldState, first_world}
 use Rattle.cluster_core.specs.Next.{next}
 use Rattle.cluster_core.specs.Runs.{Leads, IsRun}
-use Rattle.cluster_core.proofs.common.Places.{take_read, drop_read}
+use Rattle.cluster_core.proofs.common.Places.{drop_read}
 use Rattle.cluster_core.proofs.common.Refusals.{ok_is}
-use Rattle.cluster_core.proofs.runs.JournalRuns.{leads_push}
+use Rattle.cluster_core.proofs.runs.JournalRuns.{leads_read}
 
 -- the first i entries lead to this world, and the others on from it
 pub record Replayed (shape : ShapeFields) (es : List Entry) (i : ℕ) (w : WorldState) : Type 0 where
@@ -45,7 +45,7 @@ pub replayed_more : (shape : ShapeFields) (es : List Entry) (i : ℕ) (w v : Wor
 replayed_more shape es i w v e lt is r step =
     let left = subst (λ (xs : List Entry). Leads w xs r.last) (drop_read es i e lt is) r.left in
     record {
-      done = subst (λ (xs : List Entry). Leads (first_world shape) xs v) (sym (take_read es i e lt is)) (leads_push (first_world shape) w v (take i es) e r.done step);
+      done = leads_read (first_world shape) w v es i e lt is r.done step;
       last = r.last;
       left = subst (λ (x : WorldState). Leads x (drop (i + 1) es) r.last) (one_world w left.0 v e e left.1 step) left.2;
     }

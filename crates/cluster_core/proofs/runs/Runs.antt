@@ -1,4 +1,4 @@
--- Every run is safe and has a history and a plain one, and each denial its evidence.
+-- Every run is safe and has a history and a plain one, each denial its evidence, and no call that waits is denied.
 use Rattle.std.proofs.Common.{◌≡◌, ℕ, refl, List, take, Ok}
 use Rattle.messages.specs.Shapes.{ShapeFields, IsShape}
 use Rattle.messages.specs.declared.message.Message.TheVariants.{Conflict}
@@ -10,7 +10,7 @@ use Rattle.cluster_core.specs.Next.{next}
 use Rattle.cluster_core.specs.Runs.{Leads}
 use Rattle.cluster_core.specs.Safe.{IsSafe}
 use Rattle.cluster_core.specs.Histories.{HasHistory, EachAtItsPlace, EveryRunHasAHistory}
-use Rattle.cluster_core.specs.Evidence.{EveryDenialHasEvidence}
+use Rattle.cluster_core.specs.Evidence.{EveryDenialHasEvidence, NoWaitIsDenied}
 use Rattle.cluster_core.proofs.history.Placement.{slots_of, items_in, history_of}
 use Rattle.cluster_core.specs.Plain.{EveryRunHasAPlainHistory}
 use Rattle.cluster_core.proofs.tokens.Covering.{Covered, first_covered}
@@ -20,7 +20,7 @@ use Rattle.cluster_core.proofs.tokens.Present.{Present}
 use Rattle.cluster_core.proofs.tokens.Apart.{next_present, present_first, present_apart, answers_counted, remembered_sent}
 use Rattle.cluster_core.proofs.tokens.Heard.{IsHeard}
 use Rattle.cluster_core.proofs.history.Plain.{plain_slots}
-use Rattle.cluster_core.proofs.history.Pasts.{AllOwn, safe_after, history_after, plain_after, evidence_after}
+use Rattle.cluster_core.proofs.history.Pasts.{AllOwn, safe_after, history_after, plain_after, evidence_after, no_wait_after}
 
 -- tokens, rows and messages fit, and locks are covered
 pub record IsCovered (w : WorldState) : Type 0 where
@@ -57,3 +57,6 @@ every_plain shape es w is l = (items_in (plain_slots (slots_of es)), plain_after
 
 pub every_denial : EveryDenialHasEvidence
 every_denial shape es is at w file call holder number lock l told = evidence_after shape is IsCovered (covered_first shape) covered_next covered_heard (take at es) w file call holder number lock l told
+
+pub no_wait : NoWaitIsDenied
+no_wait shape es w file call holder number lock pid op at is l sent called = no_wait_after shape is IsCovered (covered_first shape) covered_next covered_heard es w file call holder number lock pid op at l sent called

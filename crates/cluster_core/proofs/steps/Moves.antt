@@ -10,6 +10,7 @@ use Rattle.model.specs.declared.host.Host.{Host}
 use Rattle.model.specs.declared.lock_info.LockInfo.{LockInfo}
 use Rattle.model.specs.declared.op.Op.{Op}
 use Rattle.model.specs.declared.reply.Reply.{Reply}
+use Rattle.model.specs.declared.reply.Reply.TheVariants.{Interrupted}
 use Rattle.model.specs.Limits.{IsProcess}
 use Rattle.token_set.specs.Tokens.{raised}
 use Rattle.messages.specs.Wants.{Wants}
@@ -19,17 +20,18 @@ use Rattle.messages.specs.declared.event.Event.{Event}
 use Rattle.messages.specs.declared.event.Event.TheVariants.{Call, Deliver}
 use Rattle.messages.specs.declared.entry.Entry.{Entry}
 use Rattle.node_core.specs.declared.open_call.OpenCall.{OpenCall}
-use Rattle.node_core.specs.State.{NodeState, FileState, Effect, quiet, without_call, process, id_of, open_call_of, outcome}
+use Rattle.node_core.specs.State.{NodeState, FileState, Effect, quiet, answered, without_call, process, id_of, open_call_of, outcome}
 use Rattle.node_core.specs.Try.{refusal_of, tried, tried_if}
 use Rattle.node_core.specs.Calls.{is_in_shape, called, after_call}
 use Rattle.node_core.specs.Commands.{remembered, in_order, after_command, granted, revoked, denied, delivered}
+use Rattle.node_core.specs.Interrupts.{interrupted}
 use Rattle.cluster_core.specs.Histories.{IsRepliedAt}
 use Rattle.cluster_core.specs.Next.{entry}
 use Rattle.cluster_core.proofs.history.Entries.{not_there, IsNamed, Unanswered, unanswered-push, named-push}
 use Rattle.cluster_core.proofs.history.Fitting.{Called, called-keeps, called-last}
-use Rattle.cluster_core.proofs.steps.NodeSteps.{IsTo, in_order_either}
+use Rattle.cluster_core.proofs.steps.NodeSteps.{IsTo, answered_if_either, interrupted_either, in_order_either}
 use Rattle.model.specs.Anchors.{IsOwn}
-use Rattle.cluster_core.proofs.steps.Tries.{Continues, IsAnswered, IsSilent, Stays, IsIdle, same_continues, stays_closed, tried_ends, called_ends}
+use Rattle.cluster_core.proofs.steps.Tries.{Continues, IsAnswered, IsSilent, Stays, IsIdle, same_continues, stays_closed, tried_ends, interrupted_ends, called_ends}
 use Rattle.cluster_core.proofs.history.Nodes.{IsOpen, Holds, Moves, IsNoDenial, still_goes_on, open-continues, opened, all_wait, others_wait, found_open, stay_same, stay_closed, stay_opened}
 
 -- an entry that names no call counts none
@@ -108,14 +110,18 @@ module _ (past : List Entry) (s : NodeState) (holds : Holds past s) where
   still : Continues s s
   still = same_continues s s.pending holds.own
 
+  -- nothing happens
+  nothing_receives : (e : Entry) → e.call ≡ None → e.reply ≡ None → Receives past s s e
+  nothing_receives e no_call none = record {
+    moves = silent_moves past e s s still refl refl no_call (record { no_reply = none; table = refl }) holds;
+    idle = λ h. (h, record { no_reply = none; table = refl });
+  }
+
   -- nothing but messages
   pub quiet_receives : (event : Event) (e : Effect) → e.state ≡ s → e.reply ≡ None → Receives past s e.state (said event e)
   quiet_receives event e same none =
       let P : NodeState → Type 0 = λ u. Receives past s u (said event e) in
-      subst P (sym same) (record {
-        moves = silent_moves past (said event e) s s still refl refl refl (record { no_reply = none; table = refl }) holds;
-        idle = λ h. (h, record { no_reply = none; table = refl });
-      })
+      subst P (sym same) (nothing_receives (said event e) refl none)
 
   remembered_receives : (event : Event) (answer : Option Message) → Receives past s (remembered s answer).state (said event (remembered s answer))
   remembered_receives event None = quiet_receives event (quiet s) refl refl
@@ -151,6 +157,19 @@ module _ (past : List Entry) (s : NodeState) (holds : Holds past s) where
   retried_receives event incarnation pid undenied =
       tried_receives s.files (λ c. c.pid == pid) (entry event incarnation (outcome None (tried_if s (open_call_of s pid))).1) undenied refl refl
 
+  -- an interrupt: a call that waits is answered
+  pub interrupted_receives : (event : Event) (incarnation pid : ℕ) → IsNoDenial event → (let e = interrupted s (open_call_of s pid) in Receives past s e.state (entry event incarnation (outcome None e).1))
+  interrupted_receives event incarnation pid undenied =
+      let test : OpenCall → Bool = λ c. c.pid == pid in
+      let told : Effect → Entry = λ e. entry event incarnation (outcome None e).1 in
+      interrupted_either (λ e. Receives past s e.state (told e)) s (open_call_of s pid) (λ c h waits.
+      let o = All-contains (IsOpen past s) s.pending c holds.waiting (found_open test s.pending c h).0 in
+      let u = without_call s c.number in
+      record {
+        moves = answer_moves past (told (answered s c.number Interrupted)) s u c o undenied (same_continues s u.pending holds.own) refl refl (interrupted_ends s c o.op waits o.ready) holds;
+        idle = λ empty. absurd (found_none test s.pending c empty h);
+      }) (nothing_receives (told (quiet s)) refl refl)
+
   -- a grant: the call that it was for is tried
   granted_receives : (event : Event) (file number : ℕ) (call : CallId) (mode : Mode) (span : Range) → IsNoDenial event → Receives past s (granted s file number call mode span).state (said event (granted s file number call mode span))
   granted_receives event file number call mode span undenied =
@@ -167,12 +186,11 @@ module _ (past : List Entry) (s : NodeState) (holds : Holds past s) where
         idle = λ none. (none, silent);
       }
 
-  -- a denial: the call is answered if it is open
-  denied_receives : (file : ℕ) (call : CallId) (holder : Host) (number : ℕ) (lock : LockInfo) → IsTo s (Deny file call holder number lock) → (o : Option OpenCall) → find (λ c. c.number == call.number) s.pending ≡ o → Receives past s (denied s lock o).state (said (Deliver (Deny file call holder number lock)) (denied s lock o))
-  denied_receives file call holder number lock to None h = quiet_receives (Deliver (Deny file call holder number lock)) (quiet s) refl refl
-  denied_receives file call holder number lock to (Some c) h =
+  -- a denial: the call is told of the lock
+  refused_receives : (file : ℕ) (call : CallId) (holder : Host) (number : ℕ) (lock : LockInfo) → IsTo s (Deny file call holder number lock) → (c : OpenCall) → find (λ d. d.number == call.number) s.pending ≡ Some c → (reply : Reply) → refusal_of c.intent lock ≡ Some reply → Receives past s (answered s c.number reply).state (said (Deliver (Deny file call holder number lock)) (answered s c.number reply))
+  refused_receives file call holder number lock to c h reply refuses =
       let test : OpenCall → Bool = λ d. d.number == call.number in
-      let e = said (Deliver (Deny file call holder number lock)) (denied s lock (Some c)) in
+      let e = said (Deliver (Deny file call holder number lock)) (answered s c.number reply) in
       let u = without_call s c.number in
       let g : Continues s u = same_continues s u.pending holds.own in
       let left = stays_closed s.pending c.number in
@@ -182,7 +200,7 @@ module _ (past : List Entry) (s : NodeState) (holds : Holds past s) where
       let same_number : c.number ≡ call.number = eqb-true c.number call.number found.1 in
       record {
         moves = record {
-          holds = closed_holds past e s u c.number (refusal_of c.intent lock) g refl refl refl left holds;
+          holds = closed_holds past e s u c.number reply g refl refl refl left holds;
           node = refl;
           incarnation = refl;
           fresh = λ id is. absurd (not_there e.call id refl is);
@@ -198,12 +216,21 @@ module _ (past : List Entry) (s : NodeState) (holds : Holds past s) where
             answering = c;
             there = found.0;
             named = λ i. record { node = same_node i; incarnation = same_incarnation i; number = same_number i };
-            is_reply = λ i. Some (record { node = same_node i; incarnation = same_incarnation i; number = same_number i }, refusal_of c.intent lock);
+            reply = reply;
+            refuses = refuses;
+            is_reply = λ i. Some (record { node = same_node i; incarnation = same_incarnation i; number = same_number i }, reply);
             table = refl;
           }));
         };
         idle = λ none. absurd (found_none test s.pending c none h);
       }
+
+  -- if it is open, and doesn't wait
+  denied_receives : (file : ℕ) (call : CallId) (holder : Host) (number : ℕ) (lock : LockInfo) → IsTo s (Deny file call holder number lock) → (o : Option OpenCall) → find (λ c. c.number == call.number) s.pending ≡ o → Receives past s (denied s lock o).state (said (Deliver (Deny file call holder number lock)) (denied s lock o))
+  denied_receives file call holder number lock to None h = quiet_receives (Deliver (Deny file call holder number lock)) (quiet s) refl refl
+  denied_receives file call holder number lock to (Some c) h =
+      let event = Deliver (Deny file call holder number lock) in
+      answered_if_either (λ e. Receives past s e.state (said event e)) s c.number (refusal_of c.intent lock) (refused_receives file call holder number lock to c h) (quiet_receives event (quiet s) refl refl)
 
   -- a command: it is done, or the answer to the last one is sent again, or nothing
   in_order_receives : (event : Event) (file number : ℕ) (effect : Effect) → Receives past s effect.state (said event effect) → (let all = in_order s file number effect in Receives past s all.state (said event all))

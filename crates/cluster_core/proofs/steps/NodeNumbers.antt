@@ -6,12 +6,12 @@ use Rattle.messages.specs.declared.message.Message.{Message}
 use Rattle.messages.specs.declared.message.Message.TheVariants.{Grant, Revoke, Taken, Deny}
 use Rattle.messages.specs.declared.outcome.Outcome.{Outcome}
 use Rattle.node_core.specs.declared.event.NodeEvent.{NodeEvent}
-use Rattle.node_core.specs.declared.event.NodeEvent.TheVariants.{Call, Deliver, Retry}
+use Rattle.node_core.specs.declared.event.NodeEvent.TheVariants.{Call, Deliver, Interrupt, Retry}
 use Rattle.node_core.specs.State.{NodeState, Effect, open_call, open_call_of}
 use Rattle.node_core.specs.Commands.{in_order, after_command, granted, revoked, delivered}
 use Rattle.node_core.specs.Node.{node_rule}
-use Rattle.cluster_core.proofs.steps.NodeSteps.{call_done, deliver_done, retry_done, remembered_state, in_order_either}
-use Rattle.cluster_core.proofs.steps.NodeTokens.{called_asks, tried_if_asks, denied_asks}
+use Rattle.cluster_core.proofs.steps.NodeSteps.{call_done, deliver_done, interrupt_done, retry_done, remembered_state, in_order_either}
+use Rattle.cluster_core.proofs.steps.NodeTokens.{called_asks, tried_if_asks, denied_asks, interrupted_asks}
 
 in_order-node : (s : NodeState) (file number : ℕ) (e : Effect) → e.state.node ≡ s.node → (in_order s file number e).state.node ≡ s.node
 in_order-node s file number e kept =
@@ -44,6 +44,7 @@ abbrev pub NamesBy : ℕ → NodeEvent → Option CallId → Type 0
 NamesBy node (Call pid op) None = ⊥
 NamesBy node (Call pid op) (Some id) = id.node ≡ node
 NamesBy node (Deliver m) call = call ≡ None
+NamesBy node (Interrupt pid) call = call ≡ None
 NamesBy node (Retry pid) call = call ≡ None
 
 pub record Steps (s : NodeState) (event : NodeEvent) (done : NodeState × Outcome) : Type 0 where
@@ -59,5 +60,8 @@ node_rule-steps s (Deliver m) done h = elim (deliver_done s m done h) [
   | inl taken ↦ subst (Steps s (Deliver m)) taken.1 (record { node = delivered-node s m; incarnation = delivered-incarnation s m; named = refl })
   | inr passed ↦ subst (Steps s (Deliver m)) passed (record { node = refl; incarnation = refl; named = refl })
 ]
+node_rule-steps s (Interrupt pid) done h =
+    let asks = interrupted_asks s (open_call_of s pid) in
+    subst (Steps s (Interrupt pid)) (interrupt_done s pid done h) (record { node = asks.node_is; incarnation = asks.incarnation_is; named = refl })
 node_rule-steps s (Retry pid) done h =
     subst (Steps s (Retry pid)) (retry_done s pid done h) (record { node = (tried_if_asks s (open_call_of s pid)).node_is; incarnation = (tried_if_asks s (open_call_of s pid)).incarnation_is; named = refl })

@@ -4,15 +4,20 @@ use Rattle.std.proofs.Common.{◌≡◌, ℕ, zero, suc, ◌+◌, Bool, true, fa
 use Rattle.std.proofs.lemmas.Bool.{and_parts, eqb-true, not-false}
 use Rattle.model.specs.declared.op.Op.{Op}
 use Rattle.model.specs.declared.reply.Reply.{Reply}
+use Rattle.model.specs.declared.reply.Reply.TheVariants.{Interrupted}
 use Rattle.model.specs.Table.{Table}
 use Rattle.messages.specs.declared.message.Message.{Message}
 use Rattle.messages.specs.declared.outcome.Outcome.{Outcome}
 use Rattle.messages.specs.declared.refusal.StepError.TheVariants.{Busy, Stranger, Spent}
 use Rattle.messages.specs.Messages.{addressee, host_of, file_of, is_within, greatest_number}
-use Rattle.node_core.specs.State.{NodeState, Effect, quiet, outcome, open_call_of}
-use Rattle.node_core.specs.Try.{settled, may_free, with_freed, with_freed_of, tried_if}
+use Rattle.node_core.specs.declared.open_call.Intent.{Intent}
+use Rattle.node_core.specs.declared.open_call.Intent.TheVariants as intent
+use Rattle.node_core.specs.declared.open_call.OpenCall.{OpenCall}
+use Rattle.node_core.specs.State.{NodeState, Effect, quiet, answered, outcome, open_call_of}
+use Rattle.node_core.specs.Try.{settled, may_free, with_freed, with_freed_of, answered_if, tried_if}
 use Rattle.node_core.specs.Calls.{is_pid, is_in_shape, is_busy, shut_by, after_call, call_rule}
 use Rattle.node_core.specs.Commands.{remembered, in_order, delivered, is_node, deliver_rule}
+use Rattle.node_core.specs.Interrupts.{interruption_of, interrupted, interrupt_rule}
 use Rattle.node_core.specs.Retries.{retry_rule}
 use Rattle.cluster_core.proofs.common.Choices.{if_either, at_number}
 use Rattle.cluster_core.proofs.common.Refusals.{if_ok, unless_refused, if_ours}
@@ -61,6 +66,24 @@ deliver_done s m done h =
 
 pub retry_done : (s : NodeState) (pid : ℕ) (done : NodeState × Outcome) → retry_rule s pid ≡ Ok done → outcome None (tried_if s (open_call_of s pid)) ≡ done
 retry_done s pid done h = (if_ok (is_pid pid) (outcome None (tried_if s (open_call_of s pid))) done Stranger h).1
+
+pub interrupt_done : (s : NodeState) (pid : ℕ) (done : NodeState × Outcome) → interrupt_rule s pid ≡ Ok done → outcome None (interrupted s (open_call_of s pid)) ≡ done
+interrupt_done s pid done h = (if_ok (is_pid pid) (outcome None (interrupted s (open_call_of s pid))) done Stranger h).1
+
+-- a call that is answered, or stays open
+pub answered_if_either : (P : Effect → Type 0) (s : NodeState) (number : ℕ) (o : Option Reply) → ((reply : Reply) → o ≡ Some reply → P (answered s number reply)) → P (quiet s) → P (answered_if s number o)
+answered_if_either P s number None answers stays = stays
+answered_if_either P s number (Some reply) answers stays = answers reply refl
+
+-- an interrupt: a call that waits is answered, or nothing happens
+pub interrupted_either : (P : Effect → Type 0) (s : NodeState) (o : Option OpenCall) → ((c : OpenCall) → o ≡ Some c → c.intent ≡ intent.Wait → P (answered s c.number Interrupted)) → P (quiet s) → P (interrupted s o)
+interrupted_either P s None waits stays = stays
+interrupted_either P s (Some c) waits stays = each c.intent refl
+  where
+    each : (i : Intent) → c.intent ≡ i → P (answered_if s c.number (interruption_of i))
+    each intent.Wait is = waits c refl is
+    each intent.Set is = stays
+    each intent.Query is = stays
 
 -- an answer that is sent again leaves the node as it was
 pub remembered_state : (s : NodeState) (answer : Option Message) → (remembered s answer).state ≡ s

@@ -9,7 +9,7 @@ use Rattle.model.specs.declared.host.Host.{Host}
 use Rattle.model.specs.declared.lock_info.LockInfo.{LockInfo}
 use Rattle.model.specs.declared.mode.Mode.{Mode}
 use Rattle.model.specs.declared.op.Op.{Op}
-use Rattle.model.specs.declared.op.Op.TheVariants.{Spawn, Fork, Open, Dup, Close, Exit, Set, Unlock, Query}
+use Rattle.model.specs.declared.op.Op.TheVariants.{Spawn, Fork, Open, Dup, Close, Exit, Set, Wait, Unlock, Query}
 use Rattle.model.specs.declared.reply.Reply.{Reply}
 use Rattle.model.specs.Locks.{lowest_blocker}
 use Rattle.model.specs.Descriptors.{is_of_file, has_open}
@@ -27,9 +27,10 @@ use Rattle.node_core.specs.declared.open_call.Intent.{Intent}
 use Rattle.node_core.specs.declared.open_call.Intent.TheVariants as intent
 use Rattle.node_core.specs.declared.open_call.OpenCall.{OpenCall}
 use Rattle.node_core.specs.State.{FileState, NodeState, Effect, quiet, answered, without_call_of, host, open_call, process, target_of}
-use Rattle.node_core.specs.Try.{settled as after_settling, may_free, with_freed, locked_by, answered_here, tried, tried_against, tried_if, requested}
+use Rattle.node_core.specs.Try.{settled as after_settling, may_free, with_freed, locked_by, answered_here, refusal_of, answered_if, tried, tried_against, tried_if, requested}
 use Rattle.node_core.specs.Calls.{lock_call, unlock_call, called, shut_by}
 use Rattle.node_core.specs.Commands.{granted, revoked, answer_to, is_conflict, after_command, in_order, denied, remembered}
+use Rattle.node_core.specs.Interrupts.{interruption_of, interrupted}
 use Rattle.cluster_core.proofs.common.Choices.{if_either, at_number}
 use Rattle.cluster_core.proofs.steps.KnownMessages.{sent_either}
 use Rattle.cluster_core.proofs.steps.NodeSteps.{in_order_either, shut_keeps}
@@ -150,10 +151,15 @@ requested_asks s c = record { node_is = refl; incarnation_is = refl; files_are =
 
 answered_here_asks : (s : NodeState) (c : OpenCall) (i : Intent) → AsksFrom s (answered_here s c i)
 answered_here_asks s c intent.Set = locked_by_asks s c.number (target_of c) (Some c.mode)
+answered_here_asks s c intent.Wait = locked_by_asks s c.number (target_of c) (Some c.mode)
 answered_here_asks s c intent.Query = says_nothing s _ refl refl (λ file. refl) refl
 
+answered_if_asks : (s : NodeState) (number : ℕ) (o : Option Reply) → AsksFrom s (answered_if s number o)
+answered_if_asks s number None = quiet_asks s
+answered_if_asks s number (Some reply) = answered_asks s number reply
+
 tried_against_asks : (s : NodeState) (c : OpenCall) (o : Option LockInfo) → AsksFrom s (tried_against s c o)
-tried_against_asks s c (Some lock) = says_nothing s (tried_against s c (Some lock)) refl refl (λ file. refl) refl
+tried_against_asks s c (Some lock) = answered_if_asks s c.number (refusal_of c.intent lock)
 tried_against_asks s c None = if_either (AsksFrom s) (covers (s.files c.file).token c.span c.mode) (answered_here s c c.intent) (requested s c) (answered_here_asks s c c.intent) (requested_asks s c)
 
 -- a try of an open call
@@ -191,13 +197,19 @@ called_asks s number pid Exit =
     let a = shut_asks (without_call_of s pid) number (has_open (around s.table (process s pid)) pid) (after_exit s.table (process s pid)) in
     record { node_is = a.node_is; incarnation_is = a.incarnation_is; files_are = a.files_are; sends = a.sends }
 called_asks s number pid (Set fd kind mode start len) = lock_call_asks s number pid intent.Set mode (target s.table (process s pid) (Some mode) fd kind start len)
+called_asks s number pid (Wait fd kind mode start len) = lock_call_asks s number pid intent.Wait mode (target s.table (process s pid) (Some mode) fd kind start len)
 called_asks s number pid (Unlock fd kind start len) = unlock_call_asks s number (target s.table (process s pid) None fd kind start len)
 called_asks s number pid (Query fd kind mode start len) = lock_call_asks s number pid intent.Query mode (target s.table (process s pid) None fd kind start len)
 
 -- a call is denied
 pub denied_asks : (s : NodeState) (lock : LockInfo) (o : Option OpenCall) → AsksFrom s (denied s lock o)
 denied_asks s lock None = quiet_asks s
-denied_asks s lock (Some c) = says_nothing s (denied s lock (Some c)) refl refl (λ file. refl) refl
+denied_asks s lock (Some c) = answered_if_asks s c.number (refusal_of c.intent lock)
+
+-- a wait is interrupted
+pub interrupted_asks : (s : NodeState) (o : Option OpenCall) → AsksFrom s (interrupted s o)
+interrupted_asks s None = quiet_asks s
+interrupted_asks s (Some c) = answered_if_asks s c.number (interruption_of c.intent)
 
 -- an answer that it remembers is sent again
 pub record Repeats (s : NodeState) (e : Effect) : Type 0 where

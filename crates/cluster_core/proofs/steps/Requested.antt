@@ -1,10 +1,10 @@
 -- What a token server keeps and sends comes of what it is told.
-use Rattle.std.specs.Prelude.{is_some, nat_le, nat_lt, ◌==◌, filter_map, option_map}
-use Rattle.std.specs.List.{list_any, range_with_len, cons_option}
-use Rattle.std.proofs.Common.{◌≡◌, ℕ, ◌+◌, ◌-◌, Bool, true, false, not, ◌&&◌, ◌||◌, if◌then◌else◌, ◌⊎◌, inl, inr, refl, sym, ◌∙◌, ap, subst, arith, List, [], ◌∷◌, ◌++◌, All, Option, Some, None, Result, Ok, Err}
+use Rattle.std.specs.Prelude.{IfSome, is_some, nat_le, nat_lt, ◌==◌, filter_map, option_map}
+use Rattle.std.specs.List.{range_with_len, cons_option}
+use Rattle.std.proofs.Common.{◌≡◌, ℕ, ◌+◌, ◌-◌, Bool, true, false, not, ◌&&◌, if◌then◌else◌, ◌⊎◌, inl, inr, refl, sym, ◌∙◌, ap, subst, arith, List, [], ◌∷◌, ◌++◌, All, Option, Some, None, Result, Ok, Err}
 use Rattle.std.proofs.lemmas.Bool.{and_parts, both_ways, leb-true, eq-eqb, not-true}
 use Rattle.std.proofs.lemmas.Option.{none-some, same_Some}
-use Rattle.std.proofs.lemmas.List.Elements.{All-nil, All-cons, All-head, All-tail, All-push, All-append, All-filter, All-weaker}
+use Rattle.std.proofs.lemmas.List.Elements.{All-nil, All-cons, All-append, All-weaker}
 use Rattle.intervals.specs.Bytes.{Range}
 use Rattle.intervals.proofs.SearchLaws.{first_is_first}
 use Rattle.model.specs.declared.call.CallId.{CallId}
@@ -23,25 +23,18 @@ use Rattle.messages.specs.declared.refusal.StepError.TheVariants.{Stranger, Spen
 use Rattle.messages.specs.Messages.{addressee, host_of, is_within, greatest_number, same_urgency, sending}
 use Rattle.token_server.specs.declared.held.Held.{Held}
 use Rattle.token_server.specs.declared.event.ServerEvent.TheVariants.{Deliver, Resend, Learn}
-use Rattle.token_server.specs.State.{Row, ServerState, empty_row, with_row, is_of_call, is_up_to, row_above, unless, forgotten}
+use Rattle.token_server.specs.State.{Row, ServerState, empty_row, with_row, is_of_call, row_above, unless, forgotten, requests, requeued}
 use Rattle.token_server.specs.Serve.{admitted, row_conflicts, conflicting_node, granted_span, commanded, granted_to, revoked_from, served, serve}
 use Rattle.token_server.specs.Resends.{outstanding_of, outstanding, sending_first}
-use Rattle.token_server.specs.Server.{Change, with_a_row, is_active, enqueued, asked, is_grant, revoked_mode, acknowledged, ended, denial, taken, released, in_conflict, row_of_host, delivered, is_server, change, then_serve, server_rule}
+use Rattle.token_server.specs.Server.{Change, with_a_row, enqueued, asked, is_grant, revoked_mode, acknowledged, ended, put_off, postponed, denial, taken, released, in_conflict, row_of_host, freed, delivered, is_server, change, then_serve, server_rule}
+use Rattle.token_server.proofs.CareLaws.{requests-parts, active-each, admitted-each, requeued-each, freed-each, ended-each, postponed-each, forgotten-each, enqueued-each}
 use Rattle.cluster_core.proofs.common.Choices.{if_either}
 use Rattle.cluster_core.proofs.common.Refusals.{ok_is, if_ours}
+use Rattle.cluster_core.proofs.steps.ServerMoves.{WhateverRequests, enqueued-stays, freed-stays, admitted-stays}
 
 row_above_kept : (i : ℕ) (o : Option Row) (r : Row) → row_above i o ≡ Some r → o ≡ Some r
 row_above_kept i None r h = h
 row_above_kept i (Some row) r h = elim (nat_le row.incarnation i) as (λ b. (if b then None else Some row) ≡ Some r → Some row ≡ Some r) [ true ↦ λ x. absurd (none-some r x) | false ↦ λ x. x ] h
-
--- what is left where some are dropped
-pub unless_some : (drops : Held → Bool) (o : Option Held) (r : Held) → unless drops o ≡ Some r → (o ≡ Some r) × (drops r ≡ false)
-unless_some drops None r h = absurd (none-some r h)
-unless_some drops (Some x) r h =
-    elim (drops x) as (λ b. drops x ≡ b → (if b then None else Some x) ≡ Some r → (Some x ≡ Some r) × (drops r ≡ false)) [
-      | true ↦ λ is h. absurd (none-some r h)
-      | false ↦ λ is h. (h, ap drops (sym (same_Some x r h)) ∙ is)
-    ] refl h
 
 -- a message that is not refused changes the server unless it is of a dead incarnation
 pub change_done : (t : ServerState) (m : Message) (o : Option Change) → change t m ≡ Ok o → (is_within t.shape.nodes (host_of m).node ≡ true) × ((None ≡ o) ⊎ ((nat_le (host_of m).incarnation (t.dead (host_of m).node) ≡ false) × (delivered t m ≡ o)))
@@ -67,15 +60,13 @@ mapped C f (n ∷ ns) each =
 -- the requests that a server keeps are of one kind, its commands of another
 pub record Comes (file : ℕ) (H : Held → Type 0) (C : Message → Type 0) (t : ServerState) : Type 0 where
   pub file_is : t.file ≡ file
-  pub queued : All H t.queue
-  pub active : (r : Held) → t.active ≡ Some r → H r
+  pub held : All H (requests t)
   pub outstanding : (n : ℕ) (row : Row) (m : Message) → t.rows n ≡ Some row → row.outstanding ≡ Some m → C m
 
 pub comes-weaker : (file : ℕ) (H G : Held → Type 0) (C D : Message → Type 0) (t : ServerState) → ((r : Held) → H r → G r) → ((m : Message) → C m → D m) → Comes file H C t → Comes file G D t
 comes-weaker file H G C D t to told c = record {
   file_is = c.file_is;
-  queued = All-weaker H G to t.queue c.queued;
-  active = λ r h. to r (c.active r h);
+  held = All-weaker H G to (requests t) c.held;
   outstanding = λ n row m there h. told m (c.outstanding n row m there h);
 }
 
@@ -84,18 +75,28 @@ pub record Makes (file : ℕ) (H : Held → Type 0) (C : Message → Type 0) : T
   pub grants : (number : ℕ) (call : CallId) (mode : Mode) (span : Range) → C (Grant file number call mode span)
   pub revokes : (number : ℕ) (holder : Host) (r : Held) → H r → (holder.node ≡ r.call.node → ⊥) → C (Revoke file number holder r.call r.mode r.wanted)
 
+-- it may send the denial of a call whose request it serves, where that may not wait
+abbrev pub MayDeny : (Held → Type 0) → (Message → Type 0) → CallId → Message → Type 0
+MayDeny H C call deny = (r : Held) → H r → is_of_call call r ≡ true → same_urgency r.urgency Now ≡ true → C deny
+
 -- what a message tells it
 abbrev pub Tells : ℕ → (Held → Type 0) → (Message → Type 0) → Message → Type 0
 Tells file H C (Request f call urgency mode wanted) = H (record { call = call; urgency = urgency; mode = mode; wanted = wanted })
-Tells file H C (Conflict f number holder call lock) = C (Deny file call holder number lock)
+Tells file H C (Conflict f number holder call lock) = MayDeny H C call (Deny file call holder number lock)
 Tells file H C _ = Unit {0}
 
 module _ (file : ℕ) (H : Held → Type 0) (C : Message → Type 0) (makes : Makes file H C) where
+  -- other requests of that kind
+  abbrev Holds : ServerState → Type 0
+  Holds u = All H (requests u) → Comes file H C u
+
+  moved-comes : (t : ServerState) → Comes file H C t → WhateverRequests Holds t
+  moved-comes t c active queue waiting held = record { file_is = c.file_is; held = held; outstanding = c.outstanding }
+
   with_row-comes : (t : ServerState) (n : ℕ) (row : Row) → ((m : Message) → row.outstanding ≡ Some m → C m) → Comes file H C t → Comes file H C (with_row t n (Some row))
   with_row-comes t n row told c = record {
     file_is = c.file_is;
-    queued = c.queued;
-    active = c.active;
+    held = c.held;
     outstanding = λ k r m there h. elim (k == n) as (λ b. (if b then Some row else t.rows k) ≡ Some r → C m) [
       | true ↦ λ is. told m (ap (λ (x : Row). x.outstanding) (same_Some row r is) ∙ h)
       | false ↦ λ is. c.outstanding k r m is h
@@ -105,8 +106,7 @@ module _ (file : ℕ) (H : Held → Type 0) (C : Message → Type 0) (makes : Ma
   forgotten-comes : (t : ServerState) (node i : ℕ) → Comes file H C t → Comes file H C (forgotten t node i)
   forgotten-comes t node i c = record {
     file_is = c.file_is;
-    queued = All-filter (λ r. not (is_up_to node i r)) H t.queue c.queued;
-    active = λ r h. c.active r (unless_some (is_up_to node i) t.active r h).0;
+    held = forgotten-each H t node i c.held;
     outstanding = λ k r m there h. elim (k == node) as (λ b. (if b then row_above i (t.rows k) else t.rows k) ≡ Some r → C m) [
       | true ↦ λ is. c.outstanding k r m (row_above_kept i (t.rows k) r is) h
       | false ↦ λ is. c.outstanding k r m is h
@@ -118,10 +118,7 @@ module _ (file : ℕ) (H : Held → Type 0) (C : Message → Type 0) (makes : Ma
   with_a_row-comes t call (Some row) c = c
 
   enqueued-comes : (t : ServerState) (r : Held) → H r → Comes file H C t → Comes file H C (enqueued t r)
-  enqueued-comes t r held c = elim (is_active r.call t.active || list_any (is_of_call r.call) t.queue) as (λ b. Comes file H C (if b then t else record t { queue = t.queue ++ r ∷ [] })) [
-    | true ↦ c
-    | false ↦ record { file_is = c.file_is; queued = All-push H t.queue r c.queued held; active = c.active; outstanding = c.outstanding }
-  ]
+  enqueued-comes t r held c = enqueued-stays Holds t (moved-comes t c) r (enqueued-each H t r held c.held)
 
   asked-comes : (t : ServerState) (r : Held) → H r → Comes file H C t → Comes file H C (asked t r)
   asked-comes t r held c =
@@ -132,7 +129,16 @@ module _ (file : ℕ) (H : Held → Type 0) (C : Message → Type 0) (makes : Ma
   acknowledged-comes t node row token c = with_row-comes t node (record row { token = token; outstanding = None }) (λ m h. absurd (none-some m h)) c
 
   ended-comes : (t : ServerState) (call : CallId) → Comes file H C t → Comes file H C (ended call t)
-  ended-comes t call c = record { file_is = c.file_is; queued = c.queued; active = λ r h. c.active r (unless_some (is_of_call call) t.active r h).0; outstanding = c.outstanding }
+  ended-comes t call c = moved-comes t c (unless (is_of_call call) t.active) t.queue t.waiting (ended-each H call t c.held)
+
+  postponed-comes : (t : ServerState) (call : CallId) → Comes file H C t → Comes file H C (postponed call t)
+  postponed-comes t call c = moved-comes t c (unless (is_of_call call) t.active) t.queue (t.waiting ++ put_off call t.active) (postponed-each H call t c.held)
+
+  requeued-comes : (t : ServerState) → Comes file H C t → Comes file H C (requeued t)
+  requeued-comes t c = moved-comes t c t.active (t.queue ++ t.waiting) [] (requeued-each H t c.held)
+
+  freed-comes : (t : ServerState) (row : Option Row) → Comes file H C t → Comes file H C (freed t row)
+  freed-comes t row c = freed-stays Holds t (moved-comes t c) row (freed-each H t row c.held)
 
   -- what a message changes, and what is sent for it
   abbrev Changes : Option Change → Type 0
@@ -162,20 +168,25 @@ module _ (file : ℕ) (H : Held → Type 0) (C : Message → Type 0) (makes : Ma
         | Some mode ↦ changes_one (next mode) (acknowledged-comes t holder.node row (lowered row.token span mode) c, All-nil C)
       ]
 
-  denial-sends : (call : CallId) (deny : Message) (o : Option Held) → C deny → All C (denial call deny o)
-  denial-sends call deny None told = All-nil C
-  denial-sends call deny (Some r) told = elim (is_of_call call r && same_urgency r.urgency Now) as (λ b. All C (if b then deny ∷ [] else [])) [ true ↦ All-cons C deny [] told (All-nil C) | false ↦ All-nil C ]
+  denial-sends : (call : CallId) (deny : Message) (o : Option Held) → IfSome o H → MayDeny H C call deny → All C (denial call deny o)
+  denial-sends call deny None held told = All-nil C
+  denial-sends call deny (Some r) held told =
+      let test : Bool = is_of_call call r && same_urgency r.urgency Now in
+      elim test as (λ b. test ≡ b → All C (if b then deny ∷ [] else [])) [
+        | true ↦ λ is. let both = and_parts (is_of_call call r) (same_urgency r.urgency Now) is in All-cons C deny [] (told r held both.0 both.1) (All-nil C)
+        | false ↦ λ is. All-nil C
+      ] refl
 
-  conflict-changes : (t : ServerState) (number : ℕ) (holder : Host) (call : CallId) (lock : LockInfo) (o : Option Row) → C (Deny file call holder number lock) → Comes file H C t → Changes (in_conflict t number holder call lock o)
+  conflict-changes : (t : ServerState) (number : ℕ) (holder : Host) (call : CallId) (lock : LockInfo) (o : Option Row) → MayDeny H C call (Deny file call holder number lock) → Comes file H C t → Changes (in_conflict t number holder call lock o)
   conflict-changes t number holder call lock None told c = changes_none
   conflict-changes t number holder call lock (Some row) told c =
       let next = acknowledged t holder.node row row.token in
       let deny = Deny t.file call holder number lock in
-      let here : C deny = subst (λ (f : ℕ). C (Deny f call holder number lock)) (sym c.file_is) told in
-      let made : Mode → Change = λ mode. (ended call next, denial call deny t.active) in
+      let here : MayDeny H C call deny = subst (λ (f : ℕ). MayDeny H C call (Deny f call holder number lock)) (sym c.file_is) told in
+      let made : Mode → Change = λ mode. (postponed call next, denial call deny t.active) in
       elim (revoked_mode number row.outstanding) as (λ o. Changes (option_map made o)) [
         | None ↦ changes_none
-        | Some mode ↦ changes_one (made mode) (ended-comes next call (acknowledged-comes t holder.node row row.token c), denial-sends call deny t.active here)
+        | Some mode ↦ changes_one (made mode) (postponed-comes next call (acknowledged-comes t holder.node row row.token c), denial-sends call deny t.active (requests-parts H t c.held).active here)
       ]
 
   delivered-changes : (t : ServerState) (m : Message) → Tells file H C m → Comes file H C t → Changes (delivered t m)
@@ -185,7 +196,9 @@ module _ (file : ℕ) (H : Held → Type 0) (C : Message → Type 0) (makes : Ma
   delivered-changes t (Taken f number call) told c = taken-changes t number call (row_of_host t (host_of_call call)) c
   delivered-changes t (Released f number holder call span) told c = released-changes t number holder span (row_of_host t holder) c
   delivered-changes t (Conflict f number holder call lock) told c = conflict-changes t number holder call lock (row_of_host t holder) told c
-  delivered-changes t (Freed f holder) told c = changes_one (t, []) (c, All-nil C)
+  delivered-changes t (Freed f holder) told c =
+      let row = row_of_host t holder in
+      changes_one (freed t row, []) (freed-comes t row c, All-nil C)
   delivered-changes t (Grant f number call mode span) told c = changes_none
   delivered-changes t (Revoke f number holder call mode wanted) told c = changes_none
   delivered-changes t (Deny f call holder number lock) told c = changes_none
@@ -223,26 +236,17 @@ module _ (file : ℕ) (H : Held → Type 0) (C : Message → Type 0) (makes : Ma
   served-serves t (Some r) is c =
       let node = conflicting_node t r in
       elim (nat_le node t.shape.nodes) as (λ b. nat_le node t.shape.nodes ≡ b → Serves (if b then revoked_from t r node (t.rows node) else granted_to t r (t.rows r.call.node))) [
-        | true ↦ λ h. revoked-serves t r node (t.rows node) (c.active r is) (other_node t r h) c
+        | true ↦ λ h. revoked-serves t r node (t.rows node) (active-each H t c.held r is) (other_node t r h) c
         | false ↦ λ h. granted-serves t r (t.rows r.call.node) c
       ] refl
 
-  admitted-comes : (t : ServerState) (active : Option Held) (queue : List Held) → t.queue ≡ queue → Comes file H C t → Comes file H C (admitted t active queue)
-  admitted-comes t (Some r) queue is c = c
-  admitted-comes t None [] is c = c
-  admitted-comes t None (r ∷ rest) is c =
-      let all = subst (All H) is c.queued in
-      record {
-        file_is = c.file_is;
-        queued = All-tail H r rest all;
-        active = λ x h. subst H (same_Some r x h) (All-head H r rest all);
-        outstanding = c.outstanding;
-      }
+  admitted-comes : (t : ServerState) → Comes file H C t → Comes file H C (admitted t t.active t.queue)
+  admitted-comes t c = admitted-stays Holds t (moved-comes t c) t.active t.queue (admitted-each H t c.held)
 
   serve-serves : (t : ServerState) → Comes file H C t → Serves (serve t)
   serve-serves t c =
       let next = admitted t t.active t.queue in
-      served-serves next next.active refl (admitted-comes t t.active t.queue refl c)
+      served-serves next next.active refl (admitted-comes t c)
 
   -- a step of the server
   abbrev pub Steps : Result (ServerState × Outcome) StepError → Type 0
@@ -274,7 +278,7 @@ module _ (file : ℕ) (H : Held → Type 0) (C : Message → Type 0) (makes : Ma
   delivered-steps t m told c = then_serve-steps t (change t m) c (change-changes t m told c)
 
   pub resend-steps : (t : ServerState) → Comes file H C t → Steps (server_rule t Resend)
-  resend-steps t c = sending_first-steps (outstanding t) (serve t) (mapped C (λ node. outstanding_of (t.rows node)) (range_with_len 1 t.shape.nodes) each) (serve-serves t c)
+  resend-steps t c = sending_first-steps (outstanding t) (serve (requeued t)) (mapped C (λ node. outstanding_of (t.rows node)) (range_with_len 1 t.shape.nodes) each) (serve-serves (requeued t) (requeued-comes t c))
     where
       kept : (n : ℕ) (m : Message) (o : Option Row) → t.rows n ≡ o → outstanding_of o ≡ Some m → C m
       kept n m None there h = absurd (none-some m h)
@@ -285,5 +289,5 @@ module _ (file : ℕ) (H : Held → Type 0) (C : Message → Type 0) (makes : Ma
 
   pub learn-steps : (t : ServerState) (n i : ℕ) → Comes file H C t → Steps (server_rule t (Learn n i))
   learn-steps t n i c =
-      let young = forgotten t n i in
-      if_either Steps (not (is_within t.shape.nodes n)) _ _ (steps_none Stranger) (sending_first-steps [] (serve young) (All-nil C) (serve-serves young (forgotten-comes t n i c)))
+      let young = requeued (forgotten t n i) in
+      if_either Steps (not (is_within t.shape.nodes n)) _ _ (steps_none Stranger) (sending_first-steps [] (serve young) (All-nil C) (serve-serves young (requeued-comes (forgotten t n i) (forgotten-comes t n i c))))

@@ -8,7 +8,7 @@ use Rattle.model.specs.declared.host.Host.{Host}
 use Rattle.model.specs.declared.lock_info.LockInfo.{LockInfo}
 use Rattle.model.specs.declared.mode.Mode.{Mode}
 use Rattle.model.specs.declared.op.Op.{Op}
-use Rattle.model.specs.declared.op.Op.TheVariants.{Spawn, Fork, Open, Dup, Close, Exit, Set, Unlock, Query}
+use Rattle.model.specs.declared.op.Op.TheVariants.{Spawn, Fork, Open, Dup, Close, Exit, Set, Wait, Unlock, Query}
 use Rattle.model.specs.declared.reply.Reply.{Reply}
 use Rattle.model.specs.Locks.{lowest_blocker, lowest_in_way}
 use Rattle.model.specs.Descriptors.{is_of_file, has_open}
@@ -16,16 +16,16 @@ use Rattle.model.specs.Table.{Table, Target, around, descriptor, target, lock_wi
 use Rattle.token_set.specs.Tokens.{covers, desired, raised}
 use Rattle.token_set.specs.Releases.{given_up_span, answer_of}
 use Rattle.messages.specs.Wants.{Wants}
-use Rattle.messages.specs.declared.message.Urgency.TheVariants.{Now}
 use Rattle.messages.specs.declared.message.Message.{Message}
 use Rattle.messages.specs.declared.message.Message.TheVariants.{Request, Grant, Revoke, Taken, Released, Conflict, Deny, Freed}
 use Rattle.node_core.specs.declared.open_call.Intent.{Intent}
 use Rattle.node_core.specs.declared.open_call.Intent.TheVariants as intent
 use Rattle.node_core.specs.declared.open_call.OpenCall.{OpenCall}
 use Rattle.node_core.specs.State.{NodeState, Effect, quiet, with_file, without_call_of, host, process, id_of, target_of, open_call}
-use Rattle.node_core.specs.Try.{settled, requested, may_free, with_freed, locked_by, answered_here, tried, tried_against, tried_if}
+use Rattle.node_core.specs.Try.{settled, urgency_of, requested, refusal_of, answered_if, may_free, with_freed, locked_by, answered_here, tried, tried_against, tried_if}
 use Rattle.node_core.specs.Calls.{lock_call, unlock_call, called, shut_by}
 use Rattle.node_core.specs.Commands.{remembered, in_order, after_command, granted, answer_to, revoked, denied, delivered}
+use Rattle.node_core.specs.Interrupts.{interruption_of, interrupted}
 use Rattle.cluster_core.proofs.common.Choices.{if_either}
 use Rattle.cluster_core.proofs.steps.NodeSteps.{in_order_either, shut_keeps}
 use Rattle.cluster_core.proofs.history.Nodes.{found_open}
@@ -38,7 +38,7 @@ pub record IsFreely (P : Message → Type 0) : Type 0 where
 
 -- what is asked for an open call
 abbrev pub AsksFor : (Message → Type 0) → NodeState → Type 0
-AsksFor P u = (c : OpenCall) (wanted : Wants) → Contains u.pending c → wanted.required ≡ c.span → P (Request c.file (id_of u c.number) Now c.mode wanted)
+AsksFor P u = (c : OpenCall) (wanted : Wants) → Contains u.pending c → wanted.required ≡ c.span → P (Request c.file (id_of u c.number) (urgency_of c.intent) c.mode wanted)
 
 module _ (P : Message → Type 0) (free : IsFreely P) where
   -- the messages of an effect are so where what it asks for is
@@ -64,15 +64,20 @@ module _ (P : Message → Type 0) (free : IsFreely P) where
 
   answered_here-sends : (s : NodeState) (c : OpenCall) (i : Intent) → SendsOnly (answered_here s c i)
   answered_here-sends s c intent.Set = locked_by-sends s c.number (target_of c) (Some c.mode)
+  answered_here-sends s c intent.Wait = locked_by-sends s c.number (target_of c) (Some c.mode)
   answered_here-sends s c intent.Query = λ asks. All-nil P
 
+  answered_if-sends : (s : NodeState) (number : ℕ) (o : Option Reply) → SendsOnly (answered_if s number o)
+  answered_if-sends s number None = λ asks. All-nil P
+  answered_if-sends s number (Some reply) = λ asks. All-nil P
+
   tried_against-sends : (s : NodeState) (c : OpenCall) (o : Option LockInfo) → Contains s.pending c → SendsOnly (tried_against s c o)
-  tried_against-sends s c (Some lock) there = λ asks. All-nil P
+  tried_against-sends s c (Some lock) there = answered_if-sends s c.number (refusal_of c.intent lock)
   tried_against-sends s c None there =
       let wanted : Wants = record { required = c.span; desired = desired s.shape.policy (s.files c.file).token c.span } in
       if_either SendsOnly (covers (s.files c.file).token c.span c.mode) (answered_here s c c.intent) (requested s c)
       (answered_here-sends s c c.intent)
-      (λ asks. All-cons P (Request c.file (id_of s c.number) Now c.mode wanted) [] (asks c wanted there refl) (All-nil P))
+      (λ asks. All-cons P (Request c.file (id_of s c.number) (urgency_of c.intent) c.mode wanted) [] (asks c wanted there refl) (All-nil P))
 
   pub tried-sends : (s : NodeState) (c : OpenCall) → Contains s.pending c → SendsOnly (tried s c)
   tried-sends s c there = tried_against-sends s c (lowest_blocker (s.table.locks c.file) c.owner c.span c.mode) there
@@ -102,6 +107,7 @@ module _ (P : Message → Type 0) (free : IsFreely P) where
   called-sends s number pid (Close fd) = shut-sends s number (λ file. is_of_file file (descriptor s.table (process s pid) fd)) (after_close s.table (process s pid) fd)
   called-sends s number pid Exit = shut-sends (without_call_of s pid) number (has_open (around s.table (process s pid)) pid) (after_exit s.table (process s pid))
   called-sends s number pid (Set fd kind mode start len) = lock_call-sends s number pid intent.Set mode (target s.table (process s pid) (Some mode) fd kind start len)
+  called-sends s number pid (Wait fd kind mode start len) = lock_call-sends s number pid intent.Wait mode (target s.table (process s pid) (Some mode) fd kind start len)
   called-sends s number pid (Unlock fd kind start len) = unlock_call-sends s number (target s.table (process s pid) None fd kind start len)
   called-sends s number pid (Query fd kind mode start len) = lock_call-sends s number pid intent.Query mode (target s.table (process s pid) None fd kind start len)
 
@@ -142,8 +148,12 @@ module _ (P : Message → Type 0) (free : IsFreely P) where
       each (Some lock) here = All-cons P (Conflict file number (host s) call lock) [] (conflict lock is here) (All-nil P)
 
   denied-sends : (s : NodeState) (lock : LockInfo) (o : Option OpenCall) → SendsOnly (denied s lock o)
-  denied-sends s lock None asks = All-nil P
-  denied-sends s lock (Some c) asks = All-nil P
+  denied-sends s lock None = λ asks. All-nil P
+  denied-sends s lock (Some c) = answered_if-sends s c.number (refusal_of c.intent lock)
+
+  pub interrupted-sends : (s : NodeState) (o : Option OpenCall) → SendsOnly (interrupted s o)
+  interrupted-sends s None = λ asks. All-nil P
+  interrupted-sends s (Some c) = answered_if-sends s c.number (interruption_of c.intent)
 
   pub delivered-sends : (s : NodeState) (m : Message) → Remembers s → Conflicts s m → SendsOnly (delivered s m)
   delivered-sends s (Grant file number call mode span) old conflict = in_order-sends s file number (granted s file number call mode span) old (λ is. granted-sends s file number call mode span)

@@ -1,10 +1,10 @@
 -- What a token server's step does to its rows, and what it sends.
 use Rattle.std.specs.Prelude.{max, nat_le, nat_lt, ◌==◌, not, is_some, option_map}
-use Rattle.std.specs.List.{list_any, All}
-use Rattle.std.proofs.Common.{◌≡◌, ℕ, ◌+◌, ◌-◌, ◌<◌, ◌≤◌, Bool, true, false, if◌then◌else◌, ◌&&◌, ◌||◌, ◌⊎◌, inl, inr, refl, sym, ◌∙◌, ap, subst, arith, List, [], ◌∷◌, ◌++◌, filter, Option, Some, None, Result, Ok, Err}
+use Rattle.std.specs.List.{All}
+use Rattle.std.proofs.Common.{◌≡◌, ℕ, ◌+◌, ◌-◌, ◌<◌, ◌≤◌, Bool, true, false, if◌then◌else◌, ◌&&◌, ◌⊎◌, inl, inr, refl, sym, ◌∙◌, ap, subst, arith, List, [], ◌∷◌, ◌++◌, Option, Some, None, Result, Ok, Err}
 use Rattle.std.proofs.lemmas.Bool.{both_ways, cases_Bool, cases_lt, and_parts, and_from, eqb-true, eq-eqb, ne_eqb, leb-true, leb-false, le-leb, lt-leb, not-true, not_from_false, false_from_ne_true}
 use Rattle.std.proofs.lemmas.Option.{same_Some, none-some}
-use Rattle.std.proofs.lemmas.List.Elements.{All-weaker, All-push, All-head, All-tail, All-filter, filter_passes}
+use Rattle.std.proofs.lemmas.List.Elements.{All-weaker}
 use Rattle.intervals.specs.Search.{first}
 use Rattle.intervals.specs.Bytes.{Range, is_in, NoneIn}
 use Rattle.intervals.proofs.SearchLaws.{first_is_first}
@@ -28,15 +28,17 @@ use Rattle.messages.specs.Shapes.{ShapeFields}
 use Rattle.node_core.specs.State.{NodeState}
 use Rattle.token_server.specs.declared.held.Held.{Held}
 use Rattle.token_server.specs.declared.event.ServerEvent.TheVariants.{Deliver}
-use Rattle.token_server.specs.State.{Row, ServerState, empty_row, with_row, is_of_call, is_up_to, row_above, forgotten}
+use Rattle.token_server.specs.State.{Row, ServerState, empty_row, with_row, is_of_call, is_up_to, row_above, unless, forgotten, requests, requeued}
 use Rattle.token_server.specs.Serve.{admitted, row_conflicts, row_conflicts_at, is_taken, granted_span, conflicting_node, commanded, granted_to, revoked_from, served, serve}
 use Rattle.token_server.specs.Resends.{sending_first}
-use Rattle.token_server.specs.Server.{Change, with_a_row, enqueued, is_active, is_grant, revoked_mode, asked, acknowledged, ended, denial, row_of_incarnation, row_of_host, taken, released, in_conflict, delivered, change, then_serve, server_rule}
+use Rattle.token_server.specs.Server.{Change, with_a_row, enqueued, is_grant, revoked_mode, asked, acknowledged, ended, put_off, postponed, denial, row_of_incarnation, row_of_host, taken, released, in_conflict, freed, delivered, change, then_serve, server_rule}
+use Rattle.token_server.proofs.CareLaws.{active-each, admitted-each, requeued-each, freed-each, ended-each, postponed-each, forgotten-each, forgotten-young, enqueued-each}
 use Rattle.token_server.proofs.GrantLaws.{conflicts_at, conflicts_at_byte, row_free}
 use Rattle.cluster_core.proofs.common.Choices.{at_number}
 use Rattle.cluster_core.proofs.common.Refusals.{ok_is}
 use Rattle.cluster_core.proofs.common.Lists.{All-both}
-use Rattle.cluster_core.proofs.steps.Requested.{unless_some, change_done}
+use Rattle.cluster_core.proofs.steps.ServerMoves.{WhateverRequests, enqueued-stays, freed-stays, admitted-stays}
+use Rattle.cluster_core.proofs.steps.Requested.{change_done}
 use Rattle.cluster_core.proofs.tokens.Clearing.{around_free}
 use Rattle.cluster_core.proofs.tokens.Talks.{Sent, IsCommandTo, IsAnswerOf, promised, settled, unasked, Talk}
 use Rattle.cluster_core.proofs.tokens.TalkMoves.{talk-forgets, talk-row, talk-answered, answered_row, commanded_row}
@@ -56,8 +58,7 @@ pub record Serves (was : Sent) (nodes : ℕ → NodeState) (shape : ShapeFields)
   pub file_is : t.file ≡ file
   pub shape_is : t.shape ≡ shape
   pub talks : (n : ℕ) → TalkOf was nodes file t n
-  pub queued : All (IsCurrent t) t.queue
-  pub active : (r : Held) → t.active ≡ Some r → IsCurrent t r
+  pub held : All (IsCurrent t) (requests t)
 
 -- a command that has no answer was sent
 pub outstanding_sent : (was : Sent) (nodes : ℕ → NodeState) (shape : ShapeFields) (file : ℕ) (t : ServerState) → Serves was nodes shape file t → (n : ℕ) (row : Row) (m : Message) → t.rows n ≡ Some row → row.outstanding ≡ Some m → was m
@@ -160,10 +161,7 @@ module _ (was : Sent) (nodes : ℕ → NodeState) (shape : ShapeFields) (file : 
           let before : j < (nodes m).incarnation = subst (λ (k : ℕ). j < (nodes k).incarnation) (sym same) older in
           talk-forgets was file m (nodes m).incarnation (unasked ((nodes m).files file)) (t.dead m) j before (t.rows m) (serves.talks m))
           (λ other. serves.talks m);
-      queued =
-          let test : Held → Bool = λ r. not (is_up_to n j r) in
-          All-both (IsCurrent t) (λ r. test r ≡ true) (IsCurrent (forgotten t n j)) (λ r c young. current_forgets r c (not-true (is_up_to n j r) young)) (filter test t.queue) (All-filter test (IsCurrent t) t.queue serves.queued) (filter_passes test t.queue);
-      active = λ r h. let kept = unless_some (is_up_to n j) t.active r h in current_forgets r (serves.active r kept.0) kept.1;
+      held = All-both (IsCurrent t) (λ r. not (is_up_to n j r) ≡ true) (IsCurrent (forgotten t n j)) (λ r c young. current_forgets r c (not-true (is_up_to n j r) young)) (requests (forgotten t n j)) (forgotten-each (IsCurrent t) t n j serves.held) (forgotten-young t n j);
     }
 
   -- another row of a node keeps its requests
@@ -181,8 +179,7 @@ module _ (was : Sent) (nodes : ℕ → NodeState) (shape : ShapeFields) (file : 
     talks = λ m. at_number m n (λ b. Talk was file m (nodes m).incarnation (unasked ((nodes m).files file)) (if b then Some row else t.rows m) (t.dead m))
         (λ same. subst (λ (k : ℕ). Talk was file k (nodes k).incarnation (unasked ((nodes k).files file)) (Some row) (t.dead k)) (sym same) talk)
         (λ other. serves.talks m);
-    queued = All-weaker (IsCurrent t) (IsCurrent (with_row t n (Some row))) (current_row n row) t.queue serves.queued;
-    active = λ r h. current_row n row r (serves.active r h);
+    held = All-weaker (IsCurrent t) (IsCurrent (with_row t n (Some row))) (current_row n row) (requests t) serves.held;
   }
 
   talk_with : (n : ℕ) (row : Option Row) → t.rows n ≡ row → Talk was file n (nodes n).incarnation (unasked ((nodes n).files file)) row (t.dead n)
@@ -193,22 +190,30 @@ module _ (was : Sent) (nodes : ℕ → NodeState) (shape : ShapeFields) (file : 
   makes_row call None is of = put_row call.node (empty_row call.incarnation) (talk-row was file call.node (nodes call.node).incarnation (unasked ((nodes call.node).files file)) (t.dead call.node) call.incarnation of (talk_with call.node None is))
   makes_row call (Some row) is of = serves
 
-  -- a request of the incarnation after the dead ones
-  pub queues : (r : Held) → IsCurrent t r → Serves was nodes shape file (enqueued t r)
-  queues r current = if_serves (is_active r.call t.active || list_any (is_of_call r.call) t.queue)
-    where
-      added : Serves was nodes shape file (record t { queue = t.queue ++ r ∷ [] })
-      added = record {
+  -- other requests of the incarnations after the dead ones
+  abbrev Holds : ServerState → Type 0
+  Holds u = All (IsCurrent t) (requests u) → Serves was nodes shape file u
+
+  moves : WhateverRequests Holds t
+  moves active queue waiting held =
+      let u : ServerState = record t { active = active; queue = queue; waiting = waiting } in
+      record {
         file_is = serves.file_is;
         shape_is = serves.shape_is;
         talks = serves.talks;
-        queued = All-weaker (IsCurrent t) (IsCurrent (record t { queue = t.queue ++ r ∷ [] })) (λ x c. record { of = c.of; within = c.within; has_row = c.has_row }) (t.queue ++ r ∷ []) (All-push (IsCurrent t) t.queue r serves.queued current);
-        active = λ x h. let c = serves.active x h in record { of = c.of; within = c.within; has_row = c.has_row };
+        held = All-weaker (IsCurrent t) (IsCurrent u) (λ r c. record { of = c.of; within = c.within; has_row = c.has_row }) (requests u) held;
       }
 
-      if_serves : (b : Bool) → Serves was nodes shape file (if b then t else record t { queue = t.queue ++ r ∷ [] })
-      if_serves true = serves
-      if_serves false = added
+  -- one more request
+  pub queues : (r : Held) → IsCurrent t r → Serves was nodes shape file (enqueued t r)
+  queues r current = enqueued-stays Holds t moves r (enqueued-each (IsCurrent t) t r current serves.held)
+
+  -- what waits is asked for again
+  pub requeues : Serves was nodes shape file (requeued t)
+  requeues = moves t.active (t.queue ++ t.waiting) [] (requeued-each (IsCurrent t) t serves.held)
+
+  pub frees : (row : Option Row) → Serves was nodes shape file (freed t row)
+  frees row = freed-stays Holds t moves row (freed-each (IsCurrent t) t row serves.held)
 
   -- the answer that a row waits for
   pub acknowledges : (n k : ℕ) (row : Row) (answer : Message) (token : Token) → was answer → IsAnswerOf file n row.incarnation k answer → t.rows n ≡ Some row → Awaits k row.outstanding row.token answer token → Serves was nodes shape file (acknowledged t n row token)
@@ -218,15 +223,12 @@ module _ (was : Sent) (nodes : ℕ → NodeState) (shape : ShapeFields) (file : 
       subst P w.token (put_row n (answered_row row w.command answer)
       (talk-answered was file n (nodes n).incarnation (unasked ((nodes n).files file)) row (t.dead n) k w.command answer told of w.waiting (w.number file n row.incarnation row.number sent) (talk_with n (Some row) there)))
 
-  -- a request is served no longer
+  -- a request is served no longer, or waits from then on
   pub ends : (call : CallId) → Serves was nodes shape file (ended call t)
-  ends call = record {
-    file_is = serves.file_is;
-    shape_is = serves.shape_is;
-    talks = serves.talks;
-    queued = All-weaker (IsCurrent t) (IsCurrent (ended call t)) (λ x c. record { of = c.of; within = c.within; has_row = c.has_row }) t.queue serves.queued;
-    active = λ r h. let c = serves.active r (unless_some (is_of_call call) t.active r h).0 in record { of = c.of; within = c.within; has_row = c.has_row };
-  }
+  ends call = moves (unless (is_of_call call) t.active) t.queue t.waiting (ended-each (IsCurrent t) call t serves.held)
+
+  pub postpones : (call : CallId) → Serves was nodes shape file (postponed call t)
+  postpones call = moves (unless (is_of_call call) t.active) t.queue (t.waiting ++ put_off call t.active) (postponed-each (IsCurrent t) call t serves.held)
 
   -- a denial is of a call of a live incarnation
   denies : (call : CallId) (holder : Host) (number : ℕ) (lock : LockInfo) (active : Option Held) → t.active ≡ active → Only (IsDenial nodes) (denial call (Deny t.file call holder number lock) active)
@@ -238,7 +240,7 @@ module _ (was : Sent) (nodes : ℕ → NodeState) (shape : ShapeFields) (file : 
             let same = and_parts (r.call.node == call.node) _ (and_parts (is_of_call call r) (same_urgency r.urgency Now) h).0 in
             let node : r.call.node ≡ call.node = eqb-true r.call.node call.node same.0 in
             let incarnation : r.call.incarnation ≡ call.incarnation = eqb-true r.call.incarnation call.incarnation (and_parts (r.call.incarnation == call.incarnation) _ same.1).0 in
-            let of = (serves.active r is).of in
+            let of = (active-each (IsCurrent t) t serves.held r is).of in
             let lives = (serves.talks r.call.node).lives in
             let live : call.incarnation ≤ (nodes r.call.node).incarnation = omega arith in
             only_one (IsDenial nodes) deny (subst (λ (k : ℕ). call.incarnation ≤ (nodes k).incarnation) node live)
@@ -322,12 +324,12 @@ module _ (was : Sent) (nodes : ℕ → NodeState) (shape : ShapeFields) (file : 
       let answer = Conflict file number holder call lock in
       let next = acknowledged t holder.node row row.token in
       let deny = denial call (Deny t.file call holder number lock) t.active in
-      elim (revoked_mode number row.outstanding) as (λ o. revoked_mode number row.outstanding ≡ o → option_map (λ (mode : Mode). let c : Change = (ended call next, deny) in c) o ≡ Some x → IsServing was nodes shape file x) [
+      elim (revoked_mode number row.outstanding) as (λ o. revoked_mode number row.outstanding ≡ o → option_map (λ (mode : Mode). let c : Change = (postponed call next, deny) in c) o ≡ Some x → IsServing was nodes shape file x) [
         | Some mode ↦ λ fits h.
             let r = revokes number mode row.outstanding fits in
             let w : Awaits number row.outstanding row.token answer row.token = record { command = r.command; waiting = r.waiting; number = r.number; token = r.keeps row.token file number holder call lock } in
             let after : Serves was nodes shape file next = acknowledges was nodes shape file t serves holder.node number row answer row.token told (refl, refl, refl, sym found.1) found.0 w in
-            subst (IsServing was nodes shape file) (same_Some (ended call next, deny) x h) (ends was nodes shape file next after call, denies was nodes shape file t serves call holder number lock t.active refl)
+            subst (IsServing was nodes shape file) (same_Some (postponed call next, deny) x h) (postpones was nodes shape file next after call, denies was nodes shape file t serves call holder number lock t.active refl)
         | None ↦ λ fits h. absurd (none-some x h)
       ] refl h
 
@@ -345,23 +347,14 @@ module _ (was : Sent) (nodes : ℕ → NodeState) (shape : ShapeFields) (file : 
   changes (Conflict f number holder call lock) told to known within alive x h =
       let same : f ≡ file = cc in
       answers_conflict number holder call lock (row_of_host t holder) x (subst (λ (g : ℕ). was (Conflict g number holder call lock)) same told) refl h
-  changes (Freed f holder) told to known within alive x h = subst (IsServing was nodes shape file) (same_Some (t, []) x h) (serves, only_none (IsDenial nodes))
+  changes (Freed f holder) told to known within alive x h =
+      let row = row_of_host t holder in
+      subst (IsServing was nodes shape file) (same_Some (freed t row, []) x h) (frees was nodes shape file t serves row, only_none (IsDenial nodes))
   changes m told to known within alive x h = absurd (none-some x h)
 
   -- the first of the queue is served
-  pub admits : (active : Option Held) (queue : List Held) → t.active ≡ active → t.queue ≡ queue → Serves was nodes shape file (admitted t active queue)
-  admits (Some r) queue is line = serves
-  admits None [] is line = serves
-  admits None (r ∷ rest) is line =
-      let all : All (IsCurrent t) (r ∷ rest) = subst (λ (xs : List Held). All (IsCurrent t) xs) line serves.queued in
-      let move : (x : Held) → IsCurrent t x → IsCurrent (record t { active = Some r; queue = rest }) x = λ x c. record { of = c.of; within = c.within; has_row = c.has_row } in
-      record {
-        file_is = serves.file_is;
-        shape_is = serves.shape_is;
-        talks = serves.talks;
-        queued = All-weaker (IsCurrent t) (IsCurrent (record t { active = Some r; queue = rest })) move rest (All-tail (IsCurrent t) r rest all);
-        active = λ x h. move x (subst (IsCurrent t) (same_Some r x h) (All-head (IsCurrent t) r rest all));
-      }
+  pub admits : Serves was nodes shape file (admitted t t.active t.queue)
+  admits = admitted-stays (Holds was nodes shape file t serves) t (moves was nodes shape file t serves) t.active t.queue (admitted-each (IsCurrent t) t serves.held)
 
 -- no byte of the span that is granted is one on which another node's row conflicts
 module _ (t : ServerState) (r : Held) (unblocked : nat_le (conflicting_node t r) t.shape.nodes ≡ false) where
@@ -474,14 +467,14 @@ module _ (was : Sent) (nodes : ℕ → NodeState) (shape : ShapeFields) (file : 
       let n = conflicting_node t r in
       elim (nat_le n t.shape.nodes) as (λ b. nat_le n t.shape.nodes ≡ b → ◌≡◌ {A = R} (if b then revoked_from t r n (t.rows n) else granted_to t r (t.rows r.call.node)) (Ok (v, sends)) → Served was nodes shape file v sends) [
         | true ↦ λ blocked h. revokes_from r n (t.rows n) refl h
-        | false ↦ λ unblocked h. grants r (serves.active r is) unblocked (t.rows r.call.node) refl h
+        | false ↦ λ unblocked h. grants r (active-each (IsCurrent t) t serves.held r is) unblocked (t.rows r.call.node) refl h
       ] refl h
 
 -- the server serves
 pub serve_serves : (was : Sent) (nodes : ℕ → NodeState) (shape : ShapeFields) (file : ℕ) (t : ServerState) → Serves was nodes shape file t → (v : ServerState) (sends : List Message) → serve t ≡ Ok (v, sends) → Served was nodes shape file v sends
 serve_serves was nodes shape file t serves v sends h =
     let next = admitted t t.active t.queue in
-    serves_one was nodes shape file next (admits was nodes shape file t serves t.active t.queue refl refl) v sends next.active refl h
+    serves_one was nodes shape file next (admits was nodes shape file t serves) v sends next.active refl h
 
 -- what comes of a message: denials, and what is sent by serving
 pub record Answered (was : Sent) (nodes : ℕ → NodeState) (shape : ShapeFields) (file : ℕ) (v : ServerState) (sends : List Message) : Type 0 where

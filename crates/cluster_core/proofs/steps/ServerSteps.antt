@@ -7,7 +7,7 @@ use Rattle.messages.specs.declared.message.Message.{Message}
 use Rattle.messages.specs.declared.outcome.Outcome.{Outcome}
 use Rattle.token_server.specs.declared.event.ServerEvent.{ServerEvent}
 use Rattle.token_server.specs.declared.event.ServerEvent.TheVariants.{Deliver, Resend, Learn}
-use Rattle.token_server.specs.State.{ServerState, forgotten}
+use Rattle.token_server.specs.State.{ServerState, forgotten, requeued}
 use Rattle.token_server.specs.Serve.{serve}
 use Rattle.token_server.specs.Resends.{outstanding, sending_first}
 use Rattle.token_server.specs.Server.{Change, change, then_serve, server_rule}
@@ -28,5 +28,5 @@ then_serve-sending s (Ok (Some changed)) p h = sending_first-sending changed.1 (
 
 pub server_rule-sending : (s : ServerState) (event : ServerEvent) (p : ServerState × Outcome) → server_rule s event ≡ Ok p → IsSending p
 server_rule-sending s (Deliver m) p h = then_serve-sending s (change s m) p h
-server_rule-sending s Resend p h = sending_first-sending (outstanding s) (serve s) p h
-server_rule-sending s (Learn node incarnation) p h = sending_first-sending [] (serve (forgotten s node incarnation)) p (unless_refused (not (is_within s.shape.nodes node)) _ p Stranger h).1
+server_rule-sending s Resend p h = sending_first-sending (outstanding s) (serve (requeued s)) p h
+server_rule-sending s (Learn node incarnation) p h = sending_first-sending [] (serve (requeued (forgotten s node incarnation))) p (unless_refused (not (is_within s.shape.nodes node)) _ p Stranger h).1

@@ -6,7 +6,7 @@ use Rattle.messages.specs.declared.actor.Actor.{Actor}
 use Rattle.messages.specs.declared.actor.Actor.TheVariants.{Node as ANode, Server as AServer}
 use Rattle.messages.specs.declared.message.Message.{Message}
 use Rattle.messages.specs.declared.event.Event.{Event}
-use Rattle.messages.specs.declared.event.Event.TheVariants.{Call, Deliver, Retry, Resend, Declare, Restart, Learn}
+use Rattle.messages.specs.declared.event.Event.TheVariants.{Call, Deliver, Interrupt, Retry, Resend, Declare, Restart, Learn}
 use Rattle.messages.specs.declared.entry.Entry.{Entry}
 use Rattle.messages.specs.declared.outcome.Outcome.{Outcome}
 use Rattle.messages.specs.declared.refusal.Refused.TheVariants.{Stranger, JournalFull, NotAlive, NotDead, TooManyRestarts, Fenced}
@@ -80,6 +80,7 @@ module _ (w : WorldState) (P : WorldState × Entry → Type 0) where
   taken_step : (event : Event) (q : WorldState × Entry) → OnNode event → OnServer event → OnDeclare event → OnRestart event → taken w event ≡ Ok q → P q
   taken_step (Call n pid op) q on_node on_server on_declare on_restart h = node_step (Call n pid op) n (node_rule (w.nodes n) (node.Call pid op)) q (on_node n (node.Call pid op)) h
   taken_step (Deliver m) q on_node on_server on_declare on_restart h = message_step m (addressee m) q on_node on_server h
+  taken_step (Interrupt n pid) q on_node on_server on_declare on_restart h = node_step (Interrupt n pid) n (node_rule (w.nodes n) (node.Interrupt pid)) q (on_node n (node.Interrupt pid)) h
   taken_step (Retry n pid) q on_node on_server on_declare on_restart h = node_step (Retry n pid) n (node_rule (w.nodes n) (node.Retry pid)) q (on_node n (node.Retry pid)) h
   taken_step (Resend file) q on_node on_server on_declare on_restart h = server_step (Resend file) file (server_rule (w.servers file) server.Resend) q (on_server file server.Resend) h
   taken_step (Declare n) q on_node on_server on_declare on_restart h = declare_step n q on_declare h

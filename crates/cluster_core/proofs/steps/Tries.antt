@@ -1,16 +1,17 @@
 -- What a node makes of a call: it answers as its own table may, or leaves the call open.
-use Rattle.std.proofs.Common.{◌≡◌, ℕ, Bool, true, false, not, if◌then◌else◌, ◌==◌, ◌⊎◌, inl, inr, refl, sym, ◌∙◌, ap, subst, ℤ, nat_le, List, [], ◌∷◌, ◌++◌, filter, find, get_or, All, Contains, is_some, Option, Some, None, MatchOption, Result, Ok, Err}
-use Rattle.std.proofs.lemmas.Bool.{eq-eqb, both_ways, cases_Bool, not-true}
-use Rattle.std.proofs.lemmas.List.Elements.{All-nil, All-cons, All-filter, All-weaker, All-same, All-contains, All-contains_itself, Contains-push_cases, filter_passes}
+use Rattle.std.proofs.Common.{◌≡◌, ℕ, Bool, true, false, not, if◌then◌else◌, ◌==◌, ◌⊎◌, inl, inr, refl, sym, ◌∙◌, ap, subst, ℤ, nat_le, List, [], ◌∷◌, ◌++◌, filter, get_or, All, Contains, Option, Some, None, MatchOption, Result, Ok, Err}
+use Rattle.std.proofs.lemmas.Bool.{eq-eqb, both_ways, not-true}
+use Rattle.std.proofs.lemmas.Option.{none-some, same_Some}
+use Rattle.std.proofs.lemmas.List.Elements.{All-filter, All-weaker, All-same, All-contains, All-contains_itself, Contains-push_cases, filter_passes}
 use Rattle.model.specs.declared.mode.Mode.{Mode}
 use Rattle.model.specs.declared.owner.Kind.{Kind}
 use Rattle.model.specs.declared.lock_info.LockInfo.{LockInfo}
 use Rattle.model.specs.declared.process.Process.{Process}
 use Rattle.model.specs.declared.call.CallId.{CallId}
 use Rattle.model.specs.declared.op.Op.{Op}
-use Rattle.model.specs.declared.op.Op.TheVariants.{Spawn, Fork, Open, Dup, Close, Exit, Set, Unlock, Query}
+use Rattle.model.specs.declared.op.Op.TheVariants.{Spawn, Fork, Open, Dup, Close, Exit, Set, Wait, Unlock, Query}
 use Rattle.model.specs.declared.reply.Reply.{Reply}
-use Rattle.model.specs.declared.reply.Reply.TheVariants.{Done, NoLocks, Free}
+use Rattle.model.specs.declared.reply.Reply.TheVariants.{Done, Again, NoLocks, Free, Blocked, Interrupted}
 use Rattle.model.specs.Limits.{IsNumber, most_processes, most_regions}
 use Rattle.model.specs.Locks.{IsOfNode, IsFree, IsLowestBlocker, Blocks, lowest_blocker}
 use Rattle.model.specs.Anchors.{Hangs, IsOwn}
@@ -21,26 +22,27 @@ use Rattle.model.proofs.NodeTables.{GoesOn, same_goes_on, Follows, spawn_follows
 use Rattle.model.proofs.Closings.{close_follows, exit_follows}
 use Rattle.model.specs.Descriptors.{Processes, is_of_file, has_open, after_spawn, after_fork, after_open, after_dup}
 use Rattle.model.specs.Table.{Table, Target, around, descriptor, beside, target, lock_within, locked, regions_with, after_unlock, after_close, after_exit}
-use Rattle.model.specs.Step.{Step, SetStep, QueryStep, AfterTests, Unblocked}
+use Rattle.model.specs.Step.{Step, SetStep, WaitStep, QueryStep, Is, AfterTests, Unblocked}
 use Rattle.token_set.specs.Tokens.{Token, covers}
 use Rattle.messages.specs.declared.message.Message.TheVariants.{Freed}
 use Rattle.node_core.specs.declared.open_call.Intent.{Intent}
 use Rattle.node_core.specs.declared.open_call.Intent.TheVariants as intent
 use Rattle.node_core.specs.declared.open_call.OpenCall.{OpenCall}
-use Rattle.node_core.specs.State.{NodeState, Effect, without_call, without_call_of, with_file, host, process, id_of, target_of}
-use Rattle.node_core.specs.Try.{settled, requested, refusal_of, may_free, with_freed, locked_by, answered_here, tried, tried_against}
+use Rattle.node_core.specs.State.{NodeState, Effect, answered, without_call, without_call_of, with_file, host, process, id_of, target_of}
+use Rattle.node_core.specs.Try.{settled, requested, refusal_of, answered_if, may_free, with_freed, locked_by, answered_here, tried, tried_against}
 use Rattle.node_core.specs.Calls.{is_in_shape, is_busy, called, lock_call, unlock_call, shut_by}
 use Rattle.node_core.proofs.AnchorLaws.{idle-others}
 use Rattle.cluster_core.specs.Evidence.{IsAbout}
 use Rattle.cluster_core.proofs.common.Choices.{at_number}
 use Rattle.cluster_core.proofs.common.Refusals.{ok_is}
 use Rattle.cluster_core.proofs.common.Lists.{All-both}
-use Rattle.cluster_core.proofs.steps.NodeSteps.{shut_keeps}
-use Rattle.cluster_core.proofs.steps.WorldSteps.{within_is}
+use Rattle.cluster_core.proofs.steps.NodeSteps.{shut_keeps, answered_if_either}
+use Rattle.cluster_core.proofs.common.Numbered.{within_is}
 
 -- what an open call asks for
 abbrev pub IsFor : Intent → Op → Type 0
 IsFor intent.Set (Set fd kind mode start len) = Unit {0}
+IsFor intent.Wait (Wait fd kind mode start len) = Unit {0}
 IsFor intent.Query (Query fd kind mode start len) = Unit {0}
 IsFor _ _ = ⊥
 
@@ -52,6 +54,7 @@ pub record IsReady (t : Table) (p : Process) (op : Op) (c : OpenCall) : Type 0 w
 -- a call is about one thing
 pub about_one : (t : Table) (p : Process) (op : Op) (m n : Mode) (c d : Target) → IsAbout t p op m c → IsAbout t p op n d → (m ≡ n) × (c ≡ d)
 about_one t p (Set fd kind mode start len) m n c d a b = (sym a.0 ∙ b.0, ok_is c d (sym a.1 ∙ b.1))
+about_one t p (Wait fd kind mode start len) m n c d a b = (sym a.0 ∙ b.0, ok_is c d (sym a.1 ∙ b.1))
 about_one t p (Query fd kind mode start len) m n c d a b = (sym a.0 ∙ b.0, ok_is c d (sym a.1 ∙ b.1))
 about_one t p Spawn m n c d a b = absurd a
 about_one t p (Open file access) m n c d a b = absurd a
@@ -72,6 +75,7 @@ pub record Finds (t : Table) (p : Process) (c : Target) : Type 0 where
 
 pub about_finds : (t : Table) (p : Process) (op : Op) (mode : Mode) (c : Target) → IsAbout t p op mode c → Finds t p c
 about_finds t p (Set fd kind m start len) mode c a = record { need = Some m; fd = fd; kind = kind; start = start; len = len; found = a.1 }
+about_finds t p (Wait fd kind m start len) mode c a = record { need = Some m; fd = fd; kind = kind; start = start; len = len; found = a.1 }
 about_finds t p (Query fd kind m start len) mode c a = record { need = None; fd = fd; kind = kind; start = start; len = len; found = a.1 }
 about_finds t p Spawn mode c a = absurd a
 about_finds t p (Open file access) mode c a = absurd a
@@ -84,6 +88,7 @@ about_finds t p (Unlock fd kind start len) mode c a = absurd a
 -- and it is about the same where the process finds the same
 pub about_maps : (t u : Table) (p : Process) (op : Op) (mode : Mode) (c : Target) → ((need : Option Mode) (fd : ℕ) (kind : Kind) (start len : ℤ) → target t p need fd kind start len ≡ Ok c → target u p need fd kind start len ≡ Ok c) → IsAbout t p op mode c → IsAbout u p op mode c
 about_maps t u p (Set fd kind m start len) mode c same a = (a.0, same (Some m) fd kind start len a.1)
+about_maps t u p (Wait fd kind m start len) mode c same a = (a.0, same (Some m) fd kind start len a.1)
 about_maps t u p (Query fd kind m start len) mode c same a = (a.0, same None fd kind start len a.1)
 about_maps t u p Spawn mode c same a = absurd a
 about_maps t u p (Open file access) mode c same a = absurd a
@@ -96,6 +101,7 @@ about_maps t u p (Unlock fd kind start len) mode c same a = absurd a
 -- what the one table may answer to it
 abbrev pub LockStep : Table → Intent → Mode → Reply → Table → Target → Type 0
 LockStep t intent.Set = SetStep t
+LockStep t intent.Wait = WaitStep t
 LockStep t intent.Query = QueryStep t
 
 -- a call that passes its tests is answered as its answer says
@@ -104,12 +110,17 @@ about_step t p (Set fd kind m start len) intent.Set mode c reply u f a step =
     let P : Mode → Type 0 = λ k. SetStep t k reply u c in
     let Q : Result Target Reply → Type 0 = λ x. AfterTests t x reply u (SetStep t m reply u) in
     subst Q (sym a.1) (subst P (sym a.0) step)
+about_step t p (Wait fd kind m start len) intent.Wait mode c reply u f a step =
+    let P : Mode → Type 0 = λ k. WaitStep t k reply u c in
+    let Q : Result Target Reply → Type 0 = λ x. AfterTests t x reply u (WaitStep t m reply u) in
+    subst Q (sym a.1) (subst P (sym a.0) step)
 about_step t p (Query fd kind m start len) intent.Query mode c reply u f a step =
     let P : Mode → Type 0 = λ k. QueryStep t k reply u c in
     let Q : Result Target Reply → Type 0 = λ x. AfterTests t x reply u (QueryStep t m reply u) in
     subst Q (sym a.1) (subst P (sym a.0) step)
-about_step t p (Set fd kind m start len) intent.Query mode c reply u f a step = absurd f
-about_step t p (Query fd kind m start len) intent.Set mode c reply u f a step = absurd f
+about_step t p (Set fd kind m start len) i mode c reply u f a step = absurd f
+about_step t p (Wait fd kind m start len) i mode c reply u f a step = absurd f
+about_step t p (Query fd kind m start len) i mode c reply u f a step = absurd f
 about_step t p Spawn i mode c reply u f a step = absurd a
 about_step t p (Open file access) i mode c reply u f a step = absurd a
 about_step t p (Fork child) i mode c reply u f a step = absurd a
@@ -118,10 +129,11 @@ about_step t p (Close fd) i mode c reply u f a step = absurd a
 about_step t p Exit i mode c reply u f a step = absurd a
 about_step t p (Unlock fd kind start len) i mode c reply u f a step = absurd a
 
--- a lock in the way is named
-pub blocked_step : (t : Table) (i : Intent) (mode : Mode) (lock : LockInfo) (c : Target) → Blocks (t.locks c.file) c.owner c.span mode lock → LockStep t i mode (refusal_of i lock) t c
-blocked_step t intent.Set mode lock c b = (b, refl)
-blocked_step t intent.Query mode lock c b = (b, refl)
+-- a lock in the way is named, but to a call that waits
+pub blocked_step : (t : Table) (i : Intent) (mode : Mode) (lock : LockInfo) (c : Target) (reply : Reply) → refusal_of i lock ≡ Some reply → Blocks (t.locks c.file) c.owner c.span mode lock → LockStep t i mode reply t c
+blocked_step t intent.Set mode lock c reply is b = subst (λ (r : Reply). SetStep t mode r t c) (same_Some (Again lock) reply is) (b, refl)
+blocked_step t intent.Wait mode lock c reply is b = absurd (none-some reply is)
+blocked_step t intent.Query mode lock c reply is b = subst (λ (r : Reply). QueryStep t mode r t c) (same_Some (Blocked lock) reply is) (b, refl)
 
 -- the reply tells that no lock is in the way
 abbrev pub IsUnhindered : Reply → Type 0
@@ -130,9 +142,10 @@ IsUnhindered NoLocks = Unit {0}
 IsUnhindered Free = Unit {0}
 IsUnhindered _ = ⊥
 
-hindered : (i : Intent) (lock : LockInfo) → IsUnhindered (refusal_of i lock) → ⊥
-hindered intent.Set lock u = u
-hindered intent.Query lock u = u
+hindered : (i : Intent) (lock : LockInfo) (reply : Reply) → refusal_of i lock ≡ Some reply → IsUnhindered reply → ⊥
+hindered intent.Set lock reply is u = subst IsUnhindered (sym (same_Some (Again lock) reply is)) u
+hindered intent.Wait lock reply is u = none-some reply is
+hindered intent.Query lock reply is u = subst IsUnhindered (sym (same_Some (Blocked lock) reply is)) u
 
 -- the node goes on: its name stays, its table stays its own, and the processes that have an open call go on
 pub record Continues (s u : NodeState) : Type 0 where
@@ -283,14 +296,15 @@ served_by t p op m c reply u about given mode d free other =
     let same = about_one t p op m mode c d about other in
     subst (λ (x : Target). covers (u.files x.file).token x.span mode ≡ true) same.1 (subst (λ (k : Mode). covers (u.files c.file).token c.span k ≡ true) same.0 given)
 
--- where no other lock is in the way the table answers by itself
-lock_step : (t : Table) (c : Target) (mode : Mode) → Unblocked t c mode → SetStep t mode (lock_within t c (Some mode)).1 (lock_within t c (Some mode)).0 c
+-- where no other lock is in the way the table answers by itself, whether the call may wait or not
+lock_step : (t : Table) (c : Target) (mode : Mode) → Unblocked t c mode → (let answer = lock_within t c (Some mode) in SetStep t mode answer.1 answer.0 c × WaitStep t mode answer.1 answer.0 c)
 lock_step t c mode free =
     let few = nat_le (regions_with t c (Some mode)) most_regions in
     let out : Bool → Table × Reply = λ b. if b then (locked t c (Some mode), Done) else (t, NoLocks) in
-    elim few as (λ b. few ≡ b → SetStep t mode (out b).1 (out b).0 c) [
-      | true ↦ λ h. (free, (ap (λ b. (out b).1) (sym h), ap (λ b. (out b).0) (sym h)))
-      | false ↦ λ h. (free, (ap (λ b. (out b).1) (sym h), ap (λ b. (out b).0) (sym h)))
+    let made : (b : Bool) → few ≡ b → Is (out few) (out b).1 (out b).0 = λ b h. (ap (λ x. (out x).1) (sym h), ap (λ x. (out x).0) (sym h)) in
+    elim few as (λ b. few ≡ b → SetStep t mode (out b).1 (out b).0 c × WaitStep t mode (out b).1 (out b).0 c) [
+      | true ↦ λ h. ((free, made true h), (free, made true h))
+      | false ↦ λ h. ((free, made false h), (free, made false h))
     ] refl
 
 of_owner : (t : Table) (node incarnation file n i : ℕ) → n ≡ node → i ≡ incarnation → IsOwn t node incarnation → IsOfNode (t.locks file) n i
@@ -308,14 +322,13 @@ about_hangs t p op mode c a =
     let f = about_finds t p op mode c a in
     target_hangs t p f.need f.fd f.kind f.start f.len c f.found
 
--- a call that the token covers is answered by the node's own table
-here_ends : (s : NodeState) (c : OpenCall) (op : Op) (i : Intent) → IsTarget s.node s.incarnation (target_of c) → IsOwn s.table s.node s.incarnation → IsFor i op → IsAbout s.table (process s c.pid) op c.mode (target_of c) → Unblocked s.table (target_of c) c.mode → covers (s.files c.file).token c.span c.mode ≡ true → Tried s c.number c.pid op (answered_here s c i).state (answered_here s c i).reply
-here_ends s c op intent.Set is own is_for about free given =
+-- bytes that the token covers are locked
+lock_ends : (s : NodeState) (c : OpenCall) (op : Op) → IsTarget s.node s.incarnation (target_of c) → IsOwn s.table s.node s.incarnation → IsAbout s.table (process s c.pid) op c.mode (target_of c) → covers (s.files c.file).token c.span c.mode ≡ true → (let answer = lock_within s.table (target_of c) (Some c.mode) in Step s.table (process s c.pid) op answer.1 answer.0) → (let e = locked_by s c.number (target_of c) (Some c.mode) in Tried s c.number c.pid op e.state e.reply)
+lock_ends s c op is own about given step =
     let p = process s c.pid in
     let answer = lock_within s.table (target_of c) (Some c.mode) in
     let e = locked_by s c.number (target_of c) (Some c.mode) in
     let h = locked_by_settles s c.number (target_of c) (Some c.mode) in
-    let step = about_step s.table p op intent.Set c.mode (target_of c) answer.1 answer.0 is_for about (lock_step s.table (target_of c) c.mode free) in
     record {
       continues = settles_continues s c.number answer e h
           (lock_own s.table s.node s.incarnation (target_of c) (Some c.mode) is (about_hangs s.table p op c.mode (target_of c) about) own)
@@ -323,6 +336,15 @@ here_ends s c op intent.Set is own is_for about free given =
       calls = h.calls;
       ends = inl (settles_answers s c.number answer e h c.pid op step (served_by s.table p op c.mode (target_of c) answer.1 s about given));
     }
+
+-- a call that the token covers is answered by the node's own table
+here_ends : (s : NodeState) (c : OpenCall) (op : Op) (i : Intent) → IsTarget s.node s.incarnation (target_of c) → IsOwn s.table s.node s.incarnation → IsFor i op → IsAbout s.table (process s c.pid) op c.mode (target_of c) → Unblocked s.table (target_of c) c.mode → covers (s.files c.file).token c.span c.mode ≡ true → Tried s c.number c.pid op (answered_here s c i).state (answered_here s c i).reply
+here_ends s c op intent.Set is own is_for about free given =
+    let answer = lock_within s.table (target_of c) (Some c.mode) in
+    lock_ends s c op is own about given (about_step s.table (process s c.pid) op intent.Set c.mode (target_of c) answer.1 answer.0 is_for about (lock_step s.table (target_of c) c.mode free).0)
+here_ends s c op intent.Wait is own is_for about free given =
+    let answer = lock_within s.table (target_of c) (Some c.mode) in
+    lock_ends s c op is own about given (about_step s.table (process s c.pid) op intent.Wait c.mode (target_of c) answer.1 answer.0 is_for about (lock_step s.table (target_of c) c.mode free).1)
 here_ends s c op intent.Query is own is_for about free given =
     let p = process s c.pid in
     record {
@@ -337,6 +359,27 @@ here_ends s c op intent.Query is own is_for about free given =
       });
     }
 
+-- a call that stays open
+stays_open : (s : NodeState) (number pid : ℕ) (op : Op) → IsOwn s.table s.node s.incarnation → Tried s number pid op s None
+stays_open s number pid op own = record { continues = same_continues s s.pending own; calls = refl; ends = inr (record { no_reply = refl; table = refl }, refl) }
+
+-- a lock is in its way: it is told so, unless it waits
+blocked_ends : (s : NodeState) (c : OpenCall) (op : Op) → IsOwn s.table s.node s.incarnation → IsReady s.table (process s c.pid) op c → (lock : LockInfo) → Blocks (s.table.locks c.file) c.owner c.span c.mode lock → (let e = answered_if s c.number (refusal_of c.intent lock) in Tried s c.number c.pid op e.state e.reply)
+blocked_ends s c op own ready lock blocks =
+    answered_if_either (λ e. Tried s c.number c.pid op e.state e.reply) s c.number (refusal_of c.intent lock)
+    (λ reply is. record {
+      continues = same_continues s (without_call s c.number).pending own;
+      calls = refl;
+      ends = inl (record {
+        reply = reply;
+        is_reply = refl;
+        step = about_step s.table (process s c.pid) op c.intent c.mode (target_of c) reply s.table ready.is_for ready.passes (blocked_step s.table c.intent c.mode lock (target_of c) reply is blocks);
+        served = λ mode d free about. absurd (hindered c.intent lock reply is free);
+        closed = stays_closed s.pending c.number;
+      });
+    })
+    (stays_open s c.number c.pid op own)
+
 -- an open call is tried
 pub tried_ends : (s : NodeState) (c : OpenCall) (op : Op) → IsNumber most_processes c.pid → IsOwn s.table s.node s.incarnation → IsReady s.table (process s c.pid) op c → Tried s c.number c.pid op (tried s c).state (tried s c).reply
 tried_ends s c op pid_in own ready =
@@ -344,24 +387,24 @@ tried_ends s c op pid_in own ready =
     let p = process s c.pid in
     let is = about_own s.table s.node s.incarnation c.pid op c.mode (target_of c) pid_in own ready.passes in
     elim (lowest_blocker h c.owner c.span c.mode) as (λ x. MatchOption x (IsFree h c.owner c.span c.mode) (IsLowestBlocker h c.owner c.span c.mode) → Tried s c.number c.pid op (tried_against s c x).state (tried_against s c x).reply) [
-      | Some lock ↦ λ found. record {
-        continues = same_continues s (without_call s c.number).pending own;
-        calls = refl;
-        ends = inl (record {
-          reply = refusal_of c.intent lock;
-          is_reply = refl;
-          step = about_step s.table p op c.intent c.mode (target_of c) (refusal_of c.intent lock) s.table ready.is_for ready.passes (blocked_step s.table c.intent c.mode lock (target_of c) found.blocks);
-          served = λ mode d free about. absurd (hindered c.intent lock free);
-          closed = stays_closed s.pending c.number;
-        });
-      }
+      | Some lock ↦ λ found. blocked_ends s c op own ready lock found.blocks
       | None ↦ λ free.
           let out : Bool → Effect = λ b. if b then answered_here s c c.intent else requested s c in
           elim (covers (s.files c.file).token c.span c.mode) as (λ b. covers (s.files c.file).token c.span c.mode ≡ b → Tried s c.number c.pid op (out b).state (out b).reply) [
             | true ↦ λ given. here_ends s c op c.intent is own ready.is_for ready.passes free given
-            | false ↦ λ other. record { continues = same_continues s s.pending own; calls = refl; ends = inr (record { no_reply = refl; table = refl }, refl) }
+            | false ↦ λ other. stays_open s c.number c.pid op own
           ] refl
     ] (lowest_is_lowest h c.owner c.span c.mode (of_owner s.table s.node s.incarnation c.file c.owner.node c.owner.incarnation is.owner.node_is is.owner.incarnation_is own) is.span.ordered is.span.ends)
+
+-- a wait is interrupted
+pub interrupted_ends : (s : NodeState) (c : OpenCall) (op : Op) → c.intent ≡ intent.Wait → IsReady s.table (process s c.pid) op c → (let e = answered s c.number Interrupted in IsAnswered s c.number c.pid op e.state e.reply)
+interrupted_ends s c op waits ready = record {
+  reply = Interrupted;
+  is_reply = refl;
+  step = about_step s.table (process s c.pid) op intent.Wait c.mode (target_of c) Interrupted s.table (subst (λ (i : Intent). IsFor i op) waits ready.is_for) ready.passes refl;
+  served = λ mode d free about. absurd free;
+  closed = stays_closed s.pending c.number;
+}
 
 -- a call that is closed again was not there
 closed_again : (pending after : List OpenCall) (c : OpenCall) → All (Stays (pending ++ c ∷ []) c.number) after → All (Stays pending c.number) after
@@ -455,6 +498,13 @@ called_ends s number pid (Set fd kind mode start len) pid_in known idle own =
     let found = target s.table p (Some mode) fd kind start len in
     let Q : Reply → Result Target Reply → Type 0 = λ reply x. AfterTests s.table x reply s.table (SetStep s.table mode reply s.table) in
     lock_taken s number pid (Set fd kind mode start len) intent.Set mode found pid_in own
+    (λ refusal h. record { step = subst (Q refusal) (sym h) (refl, refl); about_none = λ m c a. found_err found refusal c h a.1 })
+    (λ c h. (tt, (refl, h)))
+called_ends s number pid (Wait fd kind mode start len) pid_in known idle own =
+    let p = process s pid in
+    let found = target s.table p (Some mode) fd kind start len in
+    let Q : Reply → Result Target Reply → Type 0 = λ reply x. AfterTests s.table x reply s.table (WaitStep s.table mode reply s.table) in
+    lock_taken s number pid (Wait fd kind mode start len) intent.Wait mode found pid_in own
     (λ refusal h. record { step = subst (Q refusal) (sym h) (refl, refl); about_none = λ m c a. found_err found refusal c h a.1 })
     (λ c h. (tt, (refl, h)))
 called_ends s number pid (Query fd kind mode start len) pid_in known idle own =

@@ -6,14 +6,13 @@ use Rattle.std.specs.declared.option.Option.{Option}
 use Rattle.std.specs.declared.option.Option.TheVariants.{None, Some}
 use Rattle.std.specs.declared.result.Result.{Result}
 use Rattle.std.specs.declared.result.Result.TheVariants.{Ok, Err}
-use Rattle.std.proofs.lemmas.Bool.Decides.{nat_tests}
 use Rattle.std.proofs.lemmas.List.{length-set}
 use Rattle.model.specs.declared.call.CallId.{CallId}
 use Rattle.messages.specs.Messages.{is_within}
 use Rattle.messages.specs.Entries.{NamesItsCall, NamesItsIncarnation}
 use Rattle.messages.specs.declared.message.Message.{Message}
 use Rattle.messages.specs.declared.event.Event.{Event}
-use Rattle.messages.specs.declared.event.Event.TheVariants.{Call, Deliver, Retry, Resend, Declare, Restart, Learn}
+use Rattle.messages.specs.declared.event.Event.TheVariants.{Call, Deliver, Interrupt, Retry, Resend, Declare, Restart, Learn}
 use Rattle.messages.specs.declared.outcome.Outcome.{Outcome}
 use Rattle.messages.specs.declared.entry.Entry.{Entry}
 use Rattle.messages.specs.declared.refusal.StepError.{StepError}
@@ -31,12 +30,11 @@ use Rattle.cluster_core.specs.World.{first_world, journal_limit}
 use Rattle.cluster_core.specs.Next.{with_node, with_server, recorded, entry, named_incarnation, after_node, after_server}
 use Rattle.cluster_core.specs.Parts.{WorldParts, IsWorld, IsRest, IsStepOf, IsServerStepOf, IsTakenByNode, numbered, seated, listed, alive_at, world_state}
 use Rattle.cluster_core.proofs.common.Choices.{at_number}
-use Rattle.cluster_core.proofs.common.Numbered.{numbered-set, numbered-read}
+use Rattle.members.specs.Members.{MembersState, first_members}
+use Rattle.members.specs.Parts.{incarnation_in, members_state}
+use Rattle.cluster_core.proofs.common.Numbered.{within_is, put_at, read_number}
 use Rattle.cluster_core.proofs.steps.NodeNumbers.{NamesBy, node_rule-steps}
 use Rattle.cluster_core.proofs.steps.ServerSteps.{server_rule-sending}
-
-pub within_is : (most n : ℕ) → is_within most n ≡ true → (1 ≤ n) × (n ≤ most)
-within_is most n h = (grind (arith, nat_tests, h), grind (arith, nat_tests, h))
 
 -- the world with another node, more messages, and one more entry
 abbrev pub with_node_parts : WorldParts → ℕ → NodeParts → List Message → WorldParts
@@ -44,12 +42,6 @@ with_node_parts p n next sends = record p { nodes = slice_set p.nodes (n - 1) ne
 
 abbrev pub with_server_parts : WorldParts → ℕ → ServerParts → List Message → WorldParts
 with_server_parts p file next sends = record p { servers = slice_set p.servers (file - 1) next; sent = p.sent ++ sends; length = p.length + 1 }
-
-pub put_at : {A B : Type 0} (f : A → B) (rest : ℕ → B) (xs : List A) (n : ℕ) (x : A) → 1 ≤ n → n ≤ length xs → (m : ℕ) → numbered f rest 1 (slice_set xs (n - 1) x) m ≡ (if m == n then f x else numbered f rest 1 xs m)
-put_at f rest xs n x least most m =
-    let place : n - 1 < length xs = omega arith in
-    let number : 1 + (n - 1) ≡ n = omega arith in
-    numbered-set f rest 1 xs (n - 1) x place m ∙ ap (λ (k : ℕ). if m == k then f x else numbered f rest 1 xs m) number
 
 -- the node that is listed there now is the one that stands there, since it is alive
 seat_put : (p : WorldParts) (n : ℕ) (next : NodeParts) (sends : List Message) → 1 ≤ n → n ≤ length p.nodes → alive_at p n ≡ true → (m : ℕ) → seated p.shape m (alive_at p m) (listed (with_node_parts p n next sends) m) ≡ (if m == n then node_state next else (world_state p).nodes m)
@@ -88,20 +80,24 @@ node_world p n step next o least most room world alive done =
     let there : n ≤ length p.nodes = omega (arith, world.nodes_there) in
     record {
       nodes_there = length-set p.nodes (n - 1) next ∙ world.nodes_there;
-      alive_there = world.alive_there;
+      members_there = world.members_there;
       servers_there = world.servers_there;
       own_number = λ m.
           ap (λ (s : NodeState). s.node) (seat_put p n next o.sends least there alive m)
           ∙ at_number m n (λ b. (if b then node_state next else (world_state p).nodes m).node ≡ m) (λ same. steps.node ∙ world.own_number n ∙ sym same) (λ other. world.own_number m);
+      own_incarnation = λ m.
+          ap (λ (s : NodeState). s.incarnation) (seat_put p n next o.sends least there alive m)
+          ∙ at_number m n (λ b. (if b then node_state next else (world_state p).nodes m).incarnation ≡ incarnation_in p.members m) (λ same. steps.incarnation ∙ world.own_incarnation n ∙ ap (incarnation_in p.members) (sym same)) (λ other. world.own_incarnation m);
       within = omega arith;
     }
 
 server_world : (p : WorldParts) (file : ℕ) (next : ServerParts) (sends : List Message) → p.length < journal_limit → IsWorld p → IsWorld (with_server_parts p file next sends)
 server_world p file next sends room world = record {
   nodes_there = world.nodes_there;
-  alive_there = world.alive_there;
+  members_there = world.members_there;
   servers_there = length-set p.servers (file - 1) next ∙ world.servers_there;
   own_number = world.own_number;
+  own_incarnation = world.own_incarnation;
   within = omega arith;
 }
 
@@ -109,6 +105,7 @@ names : (event : Event) (node : ℕ) (step : NodeEvent) (number : ℕ) (call : O
 names (Call n pid op) node step number None is own by = let P : NodeEvent → Type 0 = λ e. NamesBy number e None in absurd (subst P is.1 by)
 names (Call n pid op) node step number (Some id) is own by = let P : NodeEvent → Type 0 = λ e. NamesBy number e (Some id) in subst P is.1 by ∙ (own ∙ sym is.0)
 names (Deliver m) node step number call is own by = let P : NodeEvent → Type 0 = λ e. NamesBy number e call in subst P is by
+names (Interrupt n pid) node step number call is own by = let P : NodeEvent → Type 0 = λ e. NamesBy number e call in subst P is.1 by
 names (Retry n pid) node step number call is own by = let P : NodeEvent → Type 0 = λ e. NamesBy number e call in subst P is.1 by
 names _ node step number call is own by = absurd is
 
@@ -116,6 +113,7 @@ names _ node step number call is own by = absurd is
 pub taken_by : (event : Event) (node : ℕ) (step : NodeEvent) → IsStepOf event node step → IsTakenByNode event
 taken_by (Call n pid op) node step is = tt
 taken_by (Deliver m) node step is = tt
+taken_by (Interrupt n pid) node step is = tt
 taken_by (Retry n pid) node step is = tt
 taken_by _ node step is = absurd is
 
@@ -128,17 +126,12 @@ node_names p event n step next o world is done =
 pub server_names : (event : Event) (step : ServerEvent) (s next : ServerState) (o : Outcome) → IsServerStepOf event step → server_rule s step ≡ Ok (next, o) → NamesItsCall event o.call × NamesItsIncarnation event 0
 server_names (Call n pid op) step s next o is done = absurd is
 server_names (Deliver m) step s next o is done = ((server_rule-sending s step (next, o) done).0, refl)
+server_names (Interrupt n pid) step s next o is done = absurd is
 server_names (Retry n pid) step s next o is done = absurd is
 server_names (Resend file) step s next o is done = ((server_rule-sending s step (next, o) done).0, refl)
 server_names (Learn file n incarnation) step s next o is done = ((server_rule-sending s step (next, o) done).0, refl)
 server_names (Declare n) step s next o is done = absurd is
 server_names (Restart n) step s next o is done = absurd is
-
-pub read_number : {A B : Type 0} (f : A → B) (rest : ℕ → B) (xs : List A) (n : ℕ) (x : A) → 1 ≤ n → n ≤ length xs → x ≡ slice_index_or xs (n - 1) x → numbered f rest 1 xs n ≡ f x
-read_number f rest xs n x least most is =
-    let place : n - 1 < length xs = omega arith in
-    let number : 1 + (n - 1) ≡ n = omega arith in
-    ap (λ (k : ℕ). numbered f rest 1 xs k) (sym number) ∙ numbered-read f rest 1 xs (n - 1) x place is
 
 -- the node and the server that stand at their number's place
 pub read_node : (p : WorldParts) (n : ℕ) (x : NodeParts) → IsWorld p → is_within p.shape.nodes n ≡ true → alive_at p n ≡ true → x ≡ slice_index_or p.nodes (n - 1) x → (world_state p).nodes n ≡ node_state x
@@ -159,14 +152,6 @@ read_server p file x world number is =
 pub plan_found : (r : Result NodeChange StepError) (x : NodeParts) (There : NodeParts → Type 0) (s : NodeState) (step : NodeEvent) → There x → s ≡ node_state x → IfOk r (λ change. Fits x change.edit) → IfOk r (λ change. node_rule (node_state x) step ≡ Ok (planned x change.edit, change.outcome)) → IfOk r (λ change. (y : NodeParts) × There y × Fits y change.edit × (node_rule s step ≡ Ok (planned y change.edit, change.outcome)))
 plan_found (Ok change) x There s step is here fits done = (x, is, fits, subst (λ (t : NodeState). node_rule t step ≡ Ok (planned x change.edit, change.outcome)) (sym here) done)
 plan_found (Err e) x There s step is here fits done = tt
-
--- whether a node is alive
-pub read_alive : (p : WorldParts) (n : ℕ) (x : Bool) → IsWorld p → is_within p.shape.nodes n ≡ true → x ≡ slice_index_or p.alive (n - 1) x → alive_at p n ≡ x
-read_alive p n x world number is =
-    let bounds = within_is p.shape.nodes n number in
-    let least : 1 ≤ n = bounds.0 in
-    let most : n ≤ length p.alive = omega (arith, bounds.1, world.alive_there) in
-    read_number (λ b. b) (λ k. true) p.alive n x least most is
 
 -- the new world and the entry are what the rules say
 node_done : (p : WorldParts) (event : Event) (n : ℕ) (step : NodeEvent) (next : NodeParts) (o : Outcome) (fresh : WorldParts) (e : Entry) → IsWorld p → is_within p.shape.nodes n ≡ true → alive_at p n ≡ true → node_rule ((world_state p).nodes n) step ≡ Ok (node_state next, o) → fresh ≡ with_node_parts p n next o.sends → e ≡ entry event (named_incarnation ((world_state p).nodes n) event) o → after_node (world_state p) event n (node_rule ((world_state p).nodes n) step) ≡ Ok (world_state fresh, e)
@@ -192,10 +177,10 @@ module _ (p now : WorldParts) (view : p ≡ now) (world : IsWorld p) (o : Outcom
 
   module _ (n : ℕ) (step : NodeEvent) (next : NodeParts) (nodes : List NodeParts) (nodes_are : nodes ≡ slice_set p.nodes (n - 1) next) (number : is_within now.shape.nodes n ≡ true) (alive : alive_at now n ≡ true) (done : node_rule ((world_state now).nodes n) step ≡ Ok (node_state next, o)) where
     abbrev with_nodes : WorldParts
-    with_nodes = record { shape = p.shape; nodes = nodes; alive = p.alive; servers = p.servers; sent = sent; length = p.length + 1 }
+    with_nodes = record { shape = p.shape; nodes = nodes; members = p.members; servers = p.servers; sent = sent; length = p.length + 1 }
 
     nodes_made : with_nodes ≡ with_node_parts p n next o.sends
-    nodes_made = λ i. record { shape = p.shape; nodes = nodes_are i; alive = p.alive; servers = p.servers; sent = more i; length = p.length + 1 }
+    nodes_made = λ i. record { shape = p.shape; nodes = nodes_are i; members = p.members; servers = p.servers; sent = more i; length = p.length + 1 }
 
     done_before : node_rule ((world_state p).nodes n) step ≡ Ok (node_state next, o)
     done_before = subst (λ (q : WorldParts). node_rule ((world_state q).nodes n) step ≡ Ok (node_state next, o)) (sym view) done
@@ -206,7 +191,7 @@ module _ (p now : WorldParts) (view : p ≡ now) (world : IsWorld p) (o : Outcom
     alive_before : alive_at p n ≡ true
     alive_before = subst (λ (q : WorldParts). alive_at q n ≡ true) (sym view) alive
 
-    pub node_settled : now.length < journal_limit → IsWorld (record { shape = p.shape; nodes = nodes; alive = p.alive; servers = p.servers; sent = sent; length = p.length + 1 })
+    pub node_settled : now.length < journal_limit → IsWorld (record { shape = p.shape; nodes = nodes; members = p.members; servers = p.servers; sent = sent; length = p.length + 1 })
     node_settled room =
         let bounds = within_is p.shape.nodes n within_before in
         let space = subst (λ (q : WorldParts). q.length < journal_limit) (sym view) room in
@@ -215,7 +200,7 @@ module _ (p now : WorldParts) (view : p ≡ now) (world : IsWorld p) (o : Outcom
     pub node_named : (event : Event) → IsStepOf event n step → NamesItsCall event o.call
     node_named event is = node_names p event n step (node_state next) o world is done_before
 
-    pub node_returns : (event : Event) (incarnation : ℕ) (e : Entry) → incarnation ≡ named_incarnation ((world_state now).nodes n) event → e ≡ entry event incarnation o → after_node (world_state now) event n (node_rule ((world_state now).nodes n) step) ≡ Ok (world_state (record { shape = p.shape; nodes = nodes; alive = p.alive; servers = p.servers; sent = sent; length = p.length + 1 }), e)
+    pub node_returns : (event : Event) (incarnation : ℕ) (e : Entry) → incarnation ≡ named_incarnation ((world_state now).nodes n) event → e ≡ entry event incarnation o → after_node (world_state now) event n (node_rule ((world_state now).nodes n) step) ≡ Ok (world_state (record { shape = p.shape; nodes = nodes; members = p.members; servers = p.servers; sent = sent; length = p.length + 1 }), e)
     node_returns event incarnation e incarnation_is e_is =
         let named = e_is ∙ ap (λ k. entry event k o) (incarnation_is ∙ ap (λ q. named_incarnation ((world_state q).nodes n) event) (sym view)) in
         subst (λ (q : WorldParts). after_node (world_state q) event n (node_rule ((world_state q).nodes n) step) ≡ Ok (world_state with_nodes, e)) view
@@ -223,17 +208,17 @@ module _ (p now : WorldParts) (view : p ≡ now) (world : IsWorld p) (o : Outcom
 
   module _ (file : ℕ) (step : ServerEvent) (next : ServerParts) (servers : List ServerParts) (servers_are : servers ≡ slice_set p.servers (file - 1) next) where
     abbrev with_servers : WorldParts
-    with_servers = record { shape = p.shape; nodes = p.nodes; alive = p.alive; servers = servers; sent = sent; length = p.length + 1 }
+    with_servers = record { shape = p.shape; nodes = p.nodes; members = p.members; servers = servers; sent = sent; length = p.length + 1 }
 
     servers_made : with_servers ≡ with_server_parts p file next o.sends
-    servers_made = λ i. record { shape = p.shape; nodes = p.nodes; alive = p.alive; servers = servers_are i; sent = more i; length = p.length + 1 }
+    servers_made = λ i. record { shape = p.shape; nodes = p.nodes; members = p.members; servers = servers_are i; sent = more i; length = p.length + 1 }
 
-    pub server_settled : now.length < journal_limit → IsWorld (record { shape = p.shape; nodes = p.nodes; alive = p.alive; servers = servers; sent = sent; length = p.length + 1 })
+    pub server_settled : now.length < journal_limit → IsWorld (record { shape = p.shape; nodes = p.nodes; members = p.members; servers = servers; sent = sent; length = p.length + 1 })
     server_settled room =
         let space = subst (λ (q : WorldParts). q.length < journal_limit) (sym view) room in
         subst IsWorld (sym servers_made) (server_world p file next o.sends space world)
 
-    pub server_returns : (event : Event) (e : Entry) → is_within now.shape.files file ≡ true → server_rule ((world_state now).servers file) step ≡ Ok (server_state next, o) → e ≡ entry event 0 o → after_server (world_state now) event file (server_rule ((world_state now).servers file) step) ≡ Ok (world_state (record { shape = p.shape; nodes = p.nodes; alive = p.alive; servers = servers; sent = sent; length = p.length + 1 }), e)
+    pub server_returns : (event : Event) (e : Entry) → is_within now.shape.files file ≡ true → server_rule ((world_state now).servers file) step ≡ Ok (server_state next, o) → e ≡ entry event 0 o → after_server (world_state now) event file (server_rule ((world_state now).servers file) step) ≡ Ok (world_state (record { shape = p.shape; nodes = p.nodes; members = p.members; servers = servers; sent = sent; length = p.length + 1 }), e)
     server_returns event e number done e_is =
         let within = subst (λ (q : WorldParts). is_within q.shape.files file ≡ true) (sym view) number in
         let before = subst (λ (q : WorldParts). server_rule ((world_state q).servers file) step ≡ Ok (server_state next, o)) (sym view) done in
@@ -241,20 +226,26 @@ module _ (p now : WorldParts) (view : p ≡ now) (world : IsWorld p) (o : Outcom
         (server_done p event file step next o with_servers e world within before servers_made e_is)
 
 -- a world whose nodes and servers are as they began
-pub first_is_world : (p : WorldParts) → length p.nodes ≡ p.shape.nodes → length p.alive ≡ p.shape.nodes → length p.servers ≡ p.shape.files → IsRest node_state (λ n. first_node p.shape n 1) p.nodes → IsRest (λ b. b) (λ n. true) p.alive → p.length ≤ journal_limit → IsWorld p
-first_is_world p nodes alive servers first begun within = record {
+pub first_is_world : (p : WorldParts) → length p.nodes ≡ p.shape.nodes → members_state p.members ≡ first_members p.shape.nodes → length p.servers ≡ p.shape.files → IsRest node_state (λ n. first_node p.shape n 1) p.nodes → p.length ≤ journal_limit → IsWorld p
+first_is_world p nodes members servers first within = record {
   nodes_there = nodes;
-  alive_there = alive;
+  members_there = ap (λ (s : MembersState). s.nodes) members;
   servers_there = servers;
-  own_number = λ n. ap (λ (b : Bool). (seated p.shape n b (listed p n)).node) (begun n) ∙ ap (λ (s : NodeState). s.node) (first n);
+  own_number = λ n. seat_begun n ∙ ap (λ (s : NodeState). s.node) (first n);
+  own_incarnation = λ n.
+      ap (λ (s : MembersState). (seated p.shape n (s.alive n) (listed p n)).incarnation) members
+      ∙ (ap (λ (s : NodeState). s.incarnation) (first n) ∙ ap (λ (s : MembersState). s.incarnation n) (sym members));
   within = within;
 }
+  where
+    seat_begun : (n : ℕ) → (seated p.shape n (alive_at p n) (listed p n)).node ≡ (listed p n).node
+    seat_begun n = ap (λ (s : MembersState). (seated p.shape n (s.alive n) (listed p n)).node) members
 
-pub first_is_first : (p : WorldParts) → IsRest node_state (λ n. first_node p.shape n 1) p.nodes → IsRest (λ b. b) (λ n. true) p.alive → IsRest server_state (first_server p.shape) p.servers → p.sent ≡ [] → p.length ≡ 0 → world_state p ≡ first_world p.shape
-first_is_first p nodes begun servers sent none = λ i. record {
+pub first_is_first : (p : WorldParts) → IsRest node_state (λ n. first_node p.shape n 1) p.nodes → members_state p.members ≡ first_members p.shape.nodes → IsRest server_state (first_server p.shape) p.servers → p.sent ≡ [] → p.length ≡ 0 → world_state p ≡ first_world p.shape
+first_is_first p nodes members servers sent none = λ i. record {
   shape = p.shape;
-  nodes = λ n. seated p.shape n (begun n i) (nodes n i);
-  alive = λ n. begun n i;
+  nodes = λ n. seated p.shape n ((members i).alive n) (nodes n i);
+  alive = (members i).alive;
   servers = λ file. servers file i;
   sent = sent i;
   length = none i;

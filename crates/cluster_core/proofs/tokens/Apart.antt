@@ -16,7 +16,7 @@ use Rattle.messages.specs.declared.actor.Actor.TheVariants.{Node as ANode, Serve
 use Rattle.messages.specs.declared.message.Message.{Message}
 use Rattle.messages.specs.declared.message.Message.TheVariants.{Grant, Revoke, Deny}
 use Rattle.messages.specs.declared.event.Event.{Event}
-use Rattle.messages.specs.declared.event.Event.TheVariants.{Call, Deliver, Retry, Resend, Declare, Restart, Learn}
+use Rattle.messages.specs.declared.event.Event.TheVariants.{Call, Deliver, Interrupt, Retry, Resend, Declare, Restart, Learn}
 use Rattle.messages.specs.declared.entry.Entry.{Entry}
 use Rattle.messages.specs.declared.outcome.Outcome.{Outcome}
 use Rattle.messages.specs.declared.refusal.StepError.{StepError}
@@ -27,9 +27,10 @@ use Rattle.node_core.specs.declared.open_call.OpenCall.{OpenCall}
 use Rattle.node_core.specs.Try.{tried_if}
 use Rattle.node_core.specs.Calls.{after_call, called}
 use Rattle.node_core.specs.Commands.{delivered, deliver_rule}
+use Rattle.node_core.specs.Interrupts.{interrupted}
 use Rattle.node_core.specs.Node.{node_rule}
 use Rattle.token_server.specs.declared.event.ServerEvent.TheVariants as server
-use Rattle.token_server.specs.State.{ServerState, forgotten}
+use Rattle.token_server.specs.State.{ServerState, forgotten, requeued}
 use Rattle.token_server.specs.Serve.{serve}
 use Rattle.token_server.specs.Resends.{outstanding_of, outstanding, sending_first}
 use Rattle.token_server.specs.Server.{server_rule}
@@ -41,13 +42,13 @@ use Rattle.cluster_core.specs.Numbers.{is_command, number_of, NumbersTellCommand
 use Rattle.cluster_core.proofs.common.Choices.{at_number}
 use Rattle.cluster_core.proofs.common.Refusals.{ok_is, unless_refused}
 use Rattle.cluster_core.proofs.steps.KnownMessages.{sent_before, sent_now, sent_either}
-use Rattle.cluster_core.proofs.steps.NodeSteps.{call_done, deliver_done, retry_done}
+use Rattle.cluster_core.proofs.steps.NodeSteps.{call_done, deliver_done, interrupt_done, retry_done}
 use Rattle.cluster_core.proofs.steps.Steps.{next_taken, node_step, server_step, declare_step, restart_step}
 use Rattle.cluster_core.proofs.tokens.Lowering.{IsWithin, within_itself, within_excludes}
 use Rattle.cluster_core.proofs.tokens.Talks.{Sent, IsHostOf, IsCommandTo, IsAnswerOf, same_answer_of, no_answer, command_host, answer_host, unasked, Talk, MayHold}
 use Rattle.cluster_core.proofs.tokens.TalkMoves.{NoNews, talk-no_news, may_hold-no_news, IsDoing, done_file, talk-does, may_hold-does, IsCommanding}
-use Rattle.cluster_core.proofs.steps.NodeTokens.{Only, IsAsking, asking_host, asking_command, asking_answer, AsksFrom, Does, Receives, called_asks, quiet_asks, tried_if_asks, denied_asks, grant_receives, revoke_receives, first_among, only_none, only_one, only_mapped}
-use Rattle.cluster_core.proofs.steps.ServerRows.{IsCurrent, Serves, forgets, IsDenial, denial_command, denial_answer, denial_known, Commands, Served, receives, outstanding_sent, serve_serves}
+use Rattle.cluster_core.proofs.steps.NodeTokens.{Only, IsAsking, asking_host, asking_command, asking_answer, AsksFrom, Does, Receives, called_asks, quiet_asks, tried_if_asks, denied_asks, interrupted_asks, grant_receives, revoke_receives, first_among, only_none, only_one, only_mapped}
+use Rattle.cluster_core.proofs.steps.ServerRows.{IsCurrent, Serves, forgets, requeues, IsDenial, denial_command, denial_answer, denial_known, Commands, Served, receives, outstanding_sent, serve_serves}
 use Rattle.cluster_core.proofs.tokens.Members.{declared_present, restarted_present, silent_present}
 use Rattle.cluster_core.proofs.tokens.Present.{Was, Holding, StayApart, Present, serves-no_news, apart-no_news, nothing_new, files_no_news, commanded_serves, commanded_apart}
 
@@ -188,8 +189,7 @@ module _ (w : WorldState) (p : Present w) (n : ℕ) (u : NodeState) (event : Eve
               (λ same. subst (λ (k : ℕ). Talk (Was after) file k u.incarnation (unasked (u.files file)) ((w.servers file).rows k) ((w.servers file).dead k)) (sym same)
               (subst (λ (i : ℕ). Talk (Was after) file n i (unasked (u.files file)) ((w.servers file).rows n) ((w.servers file).dead n)) (sym incarnation_is) (g.talk file)))
               (λ other. talk-no_news (Was w) (Was after) file m (w.nodes m).incarnation (known m file) ((w.servers file).rows m) ((w.servers file).dead m) (g.others file m other) (s.talks m));
-          queued = s.queued;
-          active = s.active;
+          held = s.held;
         };
     apart = λ file l m t x l_in m_in other a b.
         let y = before file l t a in
@@ -329,6 +329,10 @@ module _ (w : WorldState) (p : Present w) where
   pub try_present : (n : ℕ) (event : Event) (c : Option OpenCall) → Present (recorded (with_node w n (tried_if (w.nodes n) c).state) event 0 (outcome None (tried_if (w.nodes n) c)).1).0
   try_present n event c = asking_present n event None (tried_if (w.nodes n) c) (tried_if_asks (w.nodes n) c)
 
+  -- an interrupt of one
+  interrupt_present : (n : ℕ) (event : Event) (c : Option OpenCall) → Present (recorded (with_node w n (interrupted (w.nodes n) c).state) event 0 (outcome None (interrupted (w.nodes n) c)).1).0
+  interrupt_present n event c = asking_present n event None (interrupted (w.nodes n) c) (interrupted_asks (w.nodes n) c)
+
   call_present : (n pid : ℕ) (op : Op) → Present (recorded (with_node w n (after_call (w.nodes n) pid op).0) (Call n pid op) 0 (after_call (w.nodes n) pid op).1).0
   call_present n pid op =
       let s = w.nodes n in
@@ -375,7 +379,7 @@ module _ (w : WorldState) (p : Present w) where
       ]
 
   -- a server sends its commands again
-  resend_present : (file : ℕ) (r : Result (ServerState × List Message) StepError) (done : ServerState × Outcome) → serve (w.servers file) ≡ r → sending_first (outstanding (w.servers file)) r ≡ Ok done → Present (recorded (with_server w file done.0) (Resend file) 0 done.1).0
+  resend_present : (file : ℕ) (r : Result (ServerState × List Message) StepError) (done : ServerState × Outcome) → serve (requeued (w.servers file)) ≡ r → sending_first (outstanding (w.servers file)) r ≡ Ok done → Present (recorded (with_server w file done.0) (Resend file) 0 done.1).0
   resend_present file (Err e) done served is = absurd (cc)
   resend_present file (Ok made) done served is =
       let t = w.servers file in
@@ -385,19 +389,21 @@ module _ (w : WorldState) (p : Present w) where
         | Some row ↦ λ found waiting. outstanding_sent (Was w) w.nodes w.shape file t (p.serves file) n row m found waiting
       ] refl there in
       let old : Only (λ m. Was w m ⊎ IsDenial w.nodes m) (outstanding t) = only_mapped (λ m. Was w m ⊎ IsDenial w.nodes m) (λ n. outstanding_of (t.rows n)) (range_with_len 1 t.shape.nodes) (λ n m there. inl (sent n m there)) in
-      subst P (ok_is _ done is) (again_present w p file made.0 (Resend file) (sending (outstanding t ++ made.1)) (outstanding t) made.1 refl old (serve_serves (Was w) w.nodes w.shape file t (p.serves file) made.0 made.1 served))
+      let asked : Serves (Was w) w.nodes w.shape file (requeued t) = requeues (Was w) w.nodes w.shape file t (p.serves file) in
+      subst P (ok_is _ done is) (again_present w p file made.0 (Resend file) (sending (outstanding t ++ made.1)) (outstanding t) made.1 refl old (serve_serves (Was w) w.nodes w.shape file (requeued t) asked made.0 made.1 served))
 
   below : (a b : ℕ) → nat_lt a b ≡ true → a < b
   below a b h = grind (arith, nat_tests, h)
 
   -- a server learns of an incarnation that was declared: it is not the live one
-  learn_present : (file n i : ℕ) (r : Result (ServerState × List Message) StepError) (done : ServerState × Outcome) → i < (w.nodes n).incarnation → serve (forgotten (w.servers file) n i) ≡ r → sending_first [] r ≡ Ok done → Present (recorded (with_server w file done.0) (Learn file n i) 0 done.1).0
+  learn_present : (file n i : ℕ) (r : Result (ServerState × List Message) StepError) (done : ServerState × Outcome) → i < (w.nodes n).incarnation → serve (requeued (forgotten (w.servers file) n i)) ≡ r → sending_first [] r ≡ Ok done → Present (recorded (with_server w file done.0) (Learn file n i) 0 done.1).0
   learn_present file n i (Err e) done older served is = absurd (cc)
   learn_present file n i (Ok made) done older served is =
       let t = w.servers file in
       let P : ServerState × Outcome → Type 0 = λ d. Present (recorded (with_server w file d.0) (Learn file n i) 0 d.1).0 in
       let young : Serves (Was w) w.nodes w.shape file (forgotten t n i) = forgets (Was w) w.nodes w.shape file t (p.serves file) n i older in
-      subst P (ok_is _ done is) (again_present w p file made.0 (Learn file n i) (sending made.1) [] made.1 refl (only_none (λ m. Was w m ⊎ IsDenial w.nodes m)) (serve_serves (Was w) w.nodes w.shape file (forgotten t n i) young made.0 made.1 served))
+      let asked : Serves (Was w) w.nodes w.shape file (requeued (forgotten t n i)) = requeues (Was w) w.nodes w.shape file (forgotten t n i) young in
+      subst P (ok_is _ done is) (again_present w p file made.0 (Learn file n i) (sending made.1) [] made.1 refl (only_none (λ m. Was w m ⊎ IsDenial w.nodes m)) (serve_serves (Was w) w.nodes w.shape file (requeued (forgotten t n i)) asked made.0 made.1 served))
 
   -- a message goes to the actor that takes it
   message_present : (m : Message) (to : Actor) (q : WorldState × Entry) → Was w m → addressee m ≡ to → routed w m to ≡ Ok q → Present q.0
@@ -416,6 +422,11 @@ module _ (w : WorldState) (p : Present w) where
       node_step w (λ x. Present x.0) (Call n pid op) n (node_rule s (node.Call pid op)) q
       (λ done is. subst P (call_done s pid op done is) (call_present n pid op)) h
   taken_present (Deliver m) q known h = message_present m (addressee m) q (and_parts (has_actor w (addressee m)) (is_among w.sent m) known).1 refl h
+  taken_present (Interrupt n pid) q known h =
+      let s = w.nodes n in
+      let P : NodeState × Outcome → Type 0 = λ d. Present (recorded (with_node w n d.0) (Interrupt n pid) 0 d.1).0 in
+      node_step w (λ x. Present x.0) (Interrupt n pid) n (node_rule s (node.Interrupt pid)) q
+      (λ done is. subst P (interrupt_done s pid done is) (interrupt_present n (Interrupt n pid) (open_call_of s pid))) h
   taken_present (Retry n pid) q known h =
       let s = w.nodes n in
       let P : NodeState × Outcome → Type 0 = λ d. Present (recorded (with_node w n d.0) (Retry n pid) 0 d.1).0 in
@@ -423,7 +434,7 @@ module _ (w : WorldState) (p : Present w) where
       (λ done is. subst P (retry_done s pid done is) (try_present n (Retry n pid) (open_call_of s pid))) h
   taken_present (Resend file) q known h =
       let t = w.servers file in
-      server_step w (λ x. Present x.0) (Resend file) file (server_rule t server.Resend) q (λ done is. resend_present file (serve t) done refl is) h
+      server_step w (λ x. Present x.0) (Resend file) file (server_rule t server.Resend) q (λ done is. resend_present file (serve (requeued t)) done refl is) h
   taken_present (Declare n) q known h = declare_step w (λ x. Present x.0) n q (λ k is alive. silent_present (declared w k) (declared_present w p k) (Declare n) (w.nodes k).incarnation) h
   taken_present (Restart n) q known h = restart_step w (λ x. Present x.0) n q (λ k is dead few. silent_present (restarted w k) (restarted_present w p k) (Restart n) (w.nodes k).incarnation) h
   taken_present (Learn file n i) q known h =
@@ -431,7 +442,7 @@ module _ (w : WorldState) (p : Present w) where
       let parts = and_parts (has_node w n) (was_declared w n i) (and_parts (has_file w file) (has_node w n && was_declared w n i) known).1 in
       let older : i < (w.nodes n).incarnation = below i (w.nodes n).incarnation (and_parts (nat_le 1 i) (nat_lt i (w.nodes n).incarnation) parts.1).1 in
       server_step w (λ x. Present x.0) (Learn file n i) file (server_rule t (server.Learn n i)) q
-      (λ done is. learn_present file n i (serve (forgotten t n i)) done older refl (unless_refused (not (is_within t.shape.nodes n)) _ done Stranger is).1) h
+      (λ done is. learn_present file n i (serve (requeued (forgotten t n i))) done older refl (unless_refused (not (is_within t.shape.nodes n)) _ done Stranger is).1) h
 
   -- each step keeps it
   pub next_present : (event : Event) (q : WorldState × Entry) → next w event ≡ Ok q → Present q.0
@@ -468,8 +479,7 @@ module _ (shape : ShapeFields) where
       file_is = refl;
       shape_is = refl;
       talks = λ n. first_talk file n;
-      queued = All-nil (IsCurrent (begun.servers file));
-      active = λ r h. absurd (none-some r h);
+      held = All-nil (IsCurrent (begun.servers file));
     };
     apart = λ file m n t u m_in n_in other a b. first_apart file m n t u a b;
   }

@@ -12,7 +12,7 @@ use Rattle.model.specs.declared.owner.Owner.{Owner}
 use Rattle.model.specs.declared.process.Process.{Process}
 use Rattle.model.specs.declared.call.CallId.{CallId}
 use Rattle.model.specs.declared.op.Op.{Op}
-use Rattle.model.specs.declared.op.Op.TheVariants.{Spawn, Fork, Open, Dup, Close, Exit, Set, Unlock, Query}
+use Rattle.model.specs.declared.op.Op.TheVariants.{Spawn, Fork, Open, Dup, Close, Exit, Set, Wait, Unlock, Query}
 use Rattle.model.specs.declared.reply.Reply.{Reply}
 use Rattle.model.specs.declared.reply.Reply.TheVariants.{Done, NoLocks}
 use Rattle.model.specs.Limits.{most_regions}
@@ -33,18 +33,19 @@ use Rattle.messages.specs.declared.message.Message.{Message}
 use Rattle.messages.specs.declared.message.Message.TheVariants.{Grant, Revoke, Taken, Deny}
 use Rattle.messages.specs.declared.outcome.Outcome.{Outcome}
 use Rattle.node_core.specs.declared.event.NodeEvent.{NodeEvent}
-use Rattle.node_core.specs.declared.event.NodeEvent.TheVariants.{Call, Deliver, Retry}
+use Rattle.node_core.specs.declared.event.NodeEvent.TheVariants.{Call, Deliver, Interrupt, Retry}
 use Rattle.node_core.specs.declared.open_call.Intent.{Intent}
 use Rattle.node_core.specs.declared.open_call.Intent.TheVariants as intent
 use Rattle.node_core.specs.declared.open_call.OpenCall.{OpenCall}
 use Rattle.node_core.specs.State.{NodeState, FileState, Effect, first_node, process, host, open_call, open_call_of, without_call_of, target_of}
-use Rattle.node_core.specs.Try.{requested, locked_by, answered_here, tried, tried_against, tried_if}
+use Rattle.node_core.specs.Try.{requested, refusal_of, answered_if, locked_by, answered_here, tried, tried_against, tried_if}
 use Rattle.node_core.specs.Calls.{called, after_call, lock_call, unlock_call, shut_by}
 use Rattle.node_core.specs.Commands.{in_order, after_command, granted, revoked, answer_to, is_conflict, denied, delivered}
+use Rattle.node_core.specs.Interrupts.{interruption_of, interrupted}
 use Rattle.node_core.specs.Node.{node_rule}
 use Rattle.cluster_core.specs.Safe.{Excludes}
 use Rattle.cluster_core.proofs.common.Choices.{at_number}
-use Rattle.cluster_core.proofs.steps.NodeSteps.{call_done, deliver_done, retry_done, remembered_state, in_order_either}
+use Rattle.cluster_core.proofs.steps.NodeSteps.{call_done, deliver_done, interrupt_done, retry_done, remembered_state, in_order_either}
 use Rattle.cluster_core.proofs.steps.Tries.{locked_by_settles, shut_settles}
 use Rattle.cluster_core.proofs.tokens.Clearing.{released_clear}
 
@@ -146,13 +147,18 @@ locked_by_covered s number about mode given old file o b m held =
 
 answered_here_covered : (s : NodeState) (c : OpenCall) (i : Intent) → covers (s.files c.file).token c.span c.mode ≡ true → Covered s → Covered (answered_here s c i).state
 answered_here_covered s c intent.Set given old = locked_by_covered s c.number (target_of c) (Some c.mode) given old
+answered_here_covered s c intent.Wait given old = locked_by_covered s c.number (target_of c) (Some c.mode) given old
 answered_here_covered s c intent.Query given old = old
+
+answered_if_covered : (s : NodeState) (number : ℕ) (o : Option Reply) → Covered s → Covered (answered_if s number o).state
+answered_if_covered s number None old = old
+answered_if_covered s number (Some reply) old = old
 
 -- an open call is tried: it is set where the token covers it
 pub tried_covered : (s : NodeState) (c : OpenCall) → Covered s → Covered (tried s c).state
 tried_covered s c old =
     elim (lowest_blocker (s.table.locks c.file) c.owner c.span c.mode) as (λ x. Covered (tried_against s c x).state) [
-      | Some lock ↦ old
+      | Some lock ↦ answered_if_covered s c.number (refusal_of c.intent lock) old
       | None ↦ elim (covers (s.files c.file).token c.span c.mode) as (λ x. covers (s.files c.file).token c.span c.mode ≡ x → Covered (if x then answered_here s c c.intent else requested s c).state) [
         | true ↦ λ given. answered_here_covered s c c.intent given old
         | false ↦ λ other. old
@@ -189,6 +195,7 @@ called_covered s number pid (Dup fd) old = beside_covered s.files s.table (proce
 called_covered s number pid (Close fd) old = shut_covered s number (λ file. is_of_file file (descriptor s.table (process s pid) fd)) (after_close s.table (process s pid) fd) (fewer_after_close (process s pid) s.table fd) old
 called_covered s number pid Exit old = shut_covered (without_call_of s pid) number (has_open (around s.table (process s pid)) pid) (after_exit s.table (process s pid)) (fewer_after_exit (process s pid) s.table) old
 called_covered s number pid (Set fd kind mode start len) old = lock_call_covered s number pid intent.Set mode (target s.table (process s pid) (Some mode) fd kind start len) old
+called_covered s number pid (Wait fd kind mode start len) old = lock_call_covered s number pid intent.Wait mode (target s.table (process s pid) (Some mode) fd kind start len) old
 called_covered s number pid (Unlock fd kind start len) old = unlock_call_covered s number (target s.table (process s pid) None fd kind start len) old
 called_covered s number pid (Query fd kind mode start len) old = lock_call_covered s number pid intent.Query mode (target s.table (process s pid) None fd kind start len) old
 
@@ -235,7 +242,11 @@ in_order_covered s file number effect old new =
 
 denied_covered : (s : NodeState) (lock : LockInfo) (c : Option OpenCall) → Covered s → Covered (denied s lock c).state
 denied_covered s lock None old = old
-denied_covered s lock (Some c) old = old
+denied_covered s lock (Some c) old = answered_if_covered s c.number (refusal_of c.intent lock) old
+
+interrupted_covered : (s : NodeState) (c : Option OpenCall) → Covered s → Covered (interrupted s c).state
+interrupted_covered s None old = old
+interrupted_covered s (Some c) old = answered_if_covered s c.number (interruption_of c.intent) old
 
 -- a message is taken
 pub delivered_covered : (s : NodeState) (m : Message) → OwnLocks s → Covered s → Covered (delivered s m).state
@@ -250,4 +261,5 @@ node_rule_covered s u (Call pid op) o h own old = subst (λ (x : NodeState × Ou
 node_rule_covered s u (Deliver m) o h own old =
     let P : NodeState × Outcome → Type 0 = λ x. Covered x.0 in
     elim (deliver_done s m (u, o) h) [ inl taken ↦ subst P taken.1 (delivered_covered s m own old) | inr passed ↦ subst P passed old ]
+node_rule_covered s u (Interrupt pid) o h own old = subst (λ (x : NodeState × Outcome). Covered x.0) (interrupt_done s pid (u, o) h) (interrupted_covered s (open_call_of s pid) old)
 node_rule_covered s u (Retry pid) o h own old = subst (λ (x : NodeState × Outcome). Covered x.0) (retry_done s pid (u, o) h) (tried_if_covered s (open_call_of s pid) old)

@@ -75,8 +75,7 @@ module _ (w : WorldState) (p : Present w) (n : ℕ) where
             (λ same. subst (λ (k : ℕ). Talk (Was w) file k (i + 1) (unasked first_file) (t.rows k) (t.dead k)) (sym same)
             (talk-begins (Was w) file n i (unasked ((w.nodes n).files file)) (t.rows n) (t.dead n) none_later (s.talks n)))
             (λ other. s.talks m);
-        queued = s.queued;
-        active = s.active;
+        held = s.held;
       }
 
   -- what a node may hold then is nothing, or what it may have held

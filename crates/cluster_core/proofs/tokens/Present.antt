@@ -12,7 +12,7 @@ use Rattle.messages.specs.Messages.{host_of, is_among, is_within}
 use Rattle.messages.specs.declared.message.Message.{Message}
 use Rattle.messages.specs.declared.message.Message.TheVariants.{Grant}
 use Rattle.node_core.specs.State.{FileState, NodeState}
-use Rattle.token_server.specs.State.{Row, ServerState, with_row}
+use Rattle.token_server.specs.State.{Row, ServerState, with_row, requests}
 use Rattle.token_server.specs.Serve.{row_conflicts_at}
 use Rattle.cluster_core.specs.World.{WorldState}
 use Rattle.cluster_core.specs.Safe.{Excludes}
@@ -54,8 +54,7 @@ serves-no_news was now nodes shape file t news s = record {
   file_is = s.file_is;
   shape_is = s.shape_is;
   talks = λ n. talk-no_news was now file n (nodes n).incarnation (unasked ((nodes n).files file)) (t.rows n) (t.dead n) (news n) (s.talks n);
-  queued = s.queued;
-  active = s.active;
+  held = s.held;
 }
 
 pub apart-no_news : (was now : Sent) (nodes : ℕ → NodeState) (shape : ShapeFields) (file : ℕ) → ((n : ℕ) → NoNews was now file n (nodes n).incarnation) → StayApart was nodes shape file → StayApart now nodes shape file
@@ -123,8 +122,7 @@ module _ (was now : Sent) (nodes : ℕ → NodeState) (shape : ShapeFields) (fil
             (λ same. subst (λ (k : ℕ). Talk now file k (nodes k).incarnation (heard k) (Some row) (g.state.dead k)) (sym same)
             (talk-commanded was now file g.node (nodes g.node).incarnation (heard g.node) g.row (g.state.dead g.node) g.command g.idle g.to news its_talk))
             (λ other. talk-no_news was now file n (nodes n).incarnation (heard n) (g.state.rows n) (g.state.dead n) (others_no_news n other) (g.serves.talks n));
-        queued = All-weaker (IsCurrent g.state) (IsCurrent later) current g.state.queue g.serves.queued;
-        active = λ r h. current r (g.serves.active r h);
+        held = All-weaker (IsCurrent g.state) (IsCurrent later) current (requests g.state) g.serves.held;
       }
 
   pub commanded_serves : Serves now nodes shape file v

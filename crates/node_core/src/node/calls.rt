@@ -273,7 +273,7 @@ impl Node {
         }
     }
 
-    // The call takes the next number: all but set and query are answered in the same step.
+    // The call takes the next number: all but set, wait and query are answered in the same step.
     fn call(&self, alloc: Global, pid: u16, op: &Op) -> Result<Effect, AllocError>
         requires left { (node_state self.now).calls < greatest_number }
         requires pid { IsNumber most_processes pid }
@@ -297,6 +297,16 @@ impl Node {
             } => {
                 let target = self.target(pid, Some(mode), fd, kind, start, len);
                 self.call_lock(alloc, pid, Intent::Set, mode, target)
+            }
+            Op::Wait {
+                fd,
+                kind,
+                mode,
+                start,
+                len,
+            } => {
+                let target = self.target(pid, Some(mode), fd, kind, start, len);
+                self.call_lock(alloc, pid, Intent::Wait, mode, target)
             }
             Op::Unlock {
                 fd,

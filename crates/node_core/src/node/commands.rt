@@ -157,7 +157,8 @@ impl Node {
         self.revoke(alloc, command, wanted)
     }
 
-    // A call that may be open no longer is answered with the lock in its way.
+    // A call that may be open no longer is answered with the lock in its way; one that waits stays
+    // open.
     fn deny(&self, alloc: Global, call: Option<OpenCall>, lock: LockInfo) -> Effect
         requires { IfSome call (IsCallOf (node_state self.now)) }
         ensures value { denied (node_state self.now) lock call ≡ effect_of self.now result }
@@ -165,10 +166,7 @@ impl Node {
     {
         match call {
             None => Effect::quiet(alloc, Edit::none(alloc)),
-            Some(call) => {
-                let refusal = call.intent.refusal(lock);
-                self.answer(alloc, Draft::none(), None, call.number, refusal)
-            }
+            Some(call) => self.answer_if(alloc, call.number, call.intent.refusal(lock)),
         }
     }
 

@@ -6,7 +6,7 @@ ghost use Rattle.model.specs.Table.{lock_within};
 ghost use Rattle.token_set.specs.Sets.{token_of};
 ghost use Rattle.token_set.specs.Tokens.{covers, desired};
 ghost use Rattle.node_core.specs.State.{answered};
-ghost use Rattle.node_core.specs.Try.{requested, with_freed, locked_by, answered_here, tried, tried_if};
+ghost use Rattle.node_core.specs.Try.{requested, answered_if, with_freed, locked_by, answered_here, tried, tried_if};
 ghost use Rattle.node_core.specs.Parts.{node_state, IsOwn, IsSpan, IsCallOf};
 ghost use Rattle.node_core.specs.Plans.{drafted, trying, opened_if, pending_after, locks_after, with_locks, effect_of, DraftFits, LocksFit, CallsFit, PartsFit};
 
@@ -18,7 +18,7 @@ use crate::open_call::{Intent, OpenCall};
 use crate::open_calls::CallsEdit;
 use lock_table::error::LockError;
 use lock_table::lock_table::LockEdit;
-use messages::message::{Message, Urgency};
+use messages::message::Message;
 use messages::wanted::Wanted;
 use model::lock_call::LockCall;
 use model::lock_info::LockInfo;
@@ -111,7 +111,7 @@ impl Node {
         let request = Message::Request {
             file: call.file,
             call: self.id(call.number),
-            urgency: Urgency::Now,
+            urgency: call.intent.urgency(),
             mode: call.mode,
             wanted: self.wanted(&draft, call)?,
         };
@@ -145,6 +145,42 @@ impl Node {
             ..Edit::of(alloc, draft)
         };
         Effect::answered(alloc, edit, self.id(number), reply)
+    }
+
+    // A call that is open already is answered, or stays open.
+    pub(super) fn answer_if(&self, alloc: Global, number: u32, reply: Option<Reply>) -> Effect
+        requires { 1 ≤ number }
+        ensures value { answered_if (node_state self.now) number reply ≡ effect_of self.now result }
+        ensures fits { PartsFit self.now result.edit }
+    {
+        match reply {
+            None => Effect::quiet(alloc, Edit::none(alloc)),
+            Some(reply) => self.answer(alloc, Draft::none(), None, number, reply),
+        }
+    }
+
+    // A lock of the node is in the way: the call is answered, or is open from then on.
+    fn refuse(
+        &self,
+        alloc: Global,
+        draft: Draft,
+        call: &OpenCall,
+        refusal: Option<Reply>,
+    ) -> Result<Effect, AllocError>
+        requires own { IsCallOf (node_state self.now) call.now }
+        requires draft { DraftFits self.now draft }
+        ensures value { IfOk result (λ effect. answered_if (trying self.now draft call.now) call.now.number refusal ≡ effect_of self.now effect) }
+        ensures fits { IfOk result (λ effect. PartsFit self.now effect.edit) }
+    {
+        if let Some(reply) = refusal {
+            return Ok(self.answer(alloc, draft, None, call.number, reply));
+        }
+        let calls = self.keep_open(&draft, call)?;
+        let edit = Edit {
+            calls,
+            ..Edit::of(alloc, draft)
+        };
+        Ok(Effect::quiet(alloc, edit))
     }
 
     // What locks or frees the bytes, unless their owner would have too many regions, and the reply.
@@ -224,7 +260,13 @@ impl Node {
         ensures fits { IfOk result (λ effect. PartsFit self.now effect.edit) }
     {
         match call.intent {
-            Intent::Set => self.lock(alloc, draft, call.number, call.target(), Some(call.mode)),
+            Intent::Set | Intent::Wait => self.lock(
+                alloc,
+                draft,
+                call.number,
+                call.target(),
+                Some(call.mode),
+            ),
             Intent::Query => Ok(self.answer(alloc, draft, None, call.number, Reply::Free)),
         }
     }
@@ -243,8 +285,7 @@ impl Node {
         ensures fits { IfOk result (λ effect. PartsFit self.now effect.edit) }
     {
         if let Some(lock) = self.blocker(call) {
-            let refusal = call.intent.refusal(lock);
-            return Ok(self.answer(alloc, draft, None, call.number, refusal));
+            return self.refuse(alloc, draft, call, call.intent.refusal(lock));
         }
         if self.is_covered(&draft, call)? {
             return self.answer_here(alloc, draft, call);

@@ -149,12 +149,13 @@ fn refusal(world: &mut World, alloc: Global, event: Event) -> Option<Refused> {
 }
 
 #[test]
-fn refuses_retries_and_resends_of_strangers(rt: HostRuntime) -> Result<(), Fail> {
+fn refuses_events_of_strangers(rt: HostRuntime) -> Result<(), Fail> {
     let alloc = rt.alloc();
     let mut world = begins(alloc)?;
     for (node, pid) in [(2, 1), (0, 1), (1, 0), (1, 257)] {
-        let refused = refusal(&mut world, alloc, Event::Retry { node, pid });
-        assert_eq!(rt; refused, Some(Refused::Stranger));
+        for event in [Event::Interrupt { node, pid }, Event::Retry { node, pid }] {
+            assert_eq!(rt; refusal(&mut world, alloc, event), Some(Refused::Stranger));
+        }
     }
     for file in [0, 2] {
         let refused = refusal(&mut world, alloc, Event::Resend { file });

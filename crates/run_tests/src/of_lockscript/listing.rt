@@ -260,6 +260,7 @@ fn names_each_reply(rt: HostRuntime) -> Result<(), Fail> {
         (Reply::Done, "done"),
         (Reply::Fd(63), "fd 63"),
         (Reply::Free, "free"),
+        (Reply::Interrupted, "interrupted"),
         (Reply::NoProcess, "no-process"),
         (Reply::Exists, "exists"),
         (Reply::BadFd, "bad-fd"),

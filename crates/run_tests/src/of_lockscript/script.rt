@@ -57,7 +57,7 @@ fn call(node: u8, pid: u16, op: Op) -> Command {
 #[test]
 fn has_its_descriptor_calls(rt: HostRuntime) -> Result<(), Fail> {
     let text =
-        "cluster nodes 1 files 1 policy wide\ncall 1 1 open 1 r\ncall 1 1 open 1 w\ncall 1 1 fork 256\ncall 1 1 dup 255\ncall 1 1 close 64\ncall 1 1 exit\ncall 1 1 unlock 0 desc 0 1\n";
+        "cluster nodes 1 files 1 policy wide\ncall 1 1 open 1 r\ncall 1 1 open 1 w\ncall 1 1 fork 256\ncall 1 1 dup 255\ncall 1 1 close 64\ncall 1 1 exit\ncall 1 1 unlock 0 desc 0 1\ncall 1 1 wait 255 desc read -1 0\n";
     let script = Script::parse(rt.alloc(), text)?;
     let want = [
         Op::Open {
@@ -77,6 +77,13 @@ fn has_its_descriptor_calls(rt: HostRuntime) -> Result<(), Fail> {
             kind: Kind::OfDescription,
             start: 0,
             len: 1,
+        },
+        Op::Wait {
+            fd: 255,
+            kind: Kind::OfDescription,
+            mode: Mode::Read,
+            start: -1,
+            len: 0,
         },
     ];
     assert_eq!(rt; script.lines().len(), want.len());
@@ -110,6 +117,7 @@ const MESSAGES: &str = "cluster nodes 1 files 1 policy wide
 deliver 1
 deliver 4294967295
 lose 4294967295
+interrupt 64 256
 retry 64 256
 resend 256
 ";
@@ -121,6 +129,7 @@ fn has_its_lines_of_messages(rt: HostRuntime) -> Result<(), Fail> {
         Command::Deliver { message: 1 },
         Command::Deliver { message: u32::MAX },
         Command::Lose { message: u32::MAX },
+        Command::Interrupt { node: 64, pid: 256 },
         Command::Retry { node: 64, pid: 256 },
         Command::Resend { file: 256 },
     ];
@@ -132,7 +141,7 @@ fn has_its_lines_of_messages(rt: HostRuntime) -> Result<(), Fail> {
 }
 
 // What may not stand in line 2.
-const BAD_SECOND_LINES: [&str; 72] = [
+const BAD_SECOND_LINES: [&str; 76] = [
     "cluster nodes 1 files 1 policy wide",
     "Settle",
     "settle ",
@@ -186,7 +195,9 @@ const BAD_SECOND_LINES: [&str; 72] = [
     "call 1 1 dup 256",
     "call 1 1 close",
     "call 1 1 exit 0",
-    "call 1 1 wait 0 proc write 0 1",
+    "call 1 1 wait",
+    "call 1 1 wait 256 proc write 0 1",
+    "call 1 1 wait 0 proc write 0",
     "deliver",
     "deliver 0",
     "deliver 01",
@@ -204,7 +215,9 @@ const BAD_SECOND_LINES: [&str; 72] = [
     "resend 0",
     "resend 257",
     "resend 1 ",
-    "interrupt 1 1",
+    "interrupt 1",
+    "interrupt 65 1",
+    "interrupt 1 257",
 ];
 
 #[test]

@@ -49,6 +49,14 @@ const SECOND: Op = Op::Set {
     len: 10,
 };
 
+const WAIT: Op = Op::Wait {
+    fd: 0,
+    kind: Kind::OfProcess,
+    mode: Mode::Write,
+    start: 5,
+    len: 10,
+};
+
 // A call of another node.
 const ELSEWHERE: CallId = CallId {
     node: 2,
@@ -120,6 +128,34 @@ fn allows_what_one_machine_may_answer(rt: HostRuntime) -> Result<(), Fail> {
         assert_eq!(rt; is_legal(&rt, calls(rt.alloc(), &made)?)?, may);
     }
     assert!(rt; is_legal(&rt, Vec::new(rt.alloc()))?);
+    Ok(())
+}
+
+// A wait may be interrupted wherever it passes its tests, and nothing else may; it is told of no lock.
+#[test]
+fn allows_what_a_wait_may_be_answered(rt: HostRuntime) -> Result<(), Fail> {
+    for (pid, op, reply, may) in [
+        (1, WAIT, Reply::Done, true),
+        (1, WAIT, Reply::Interrupted, true),
+        (2, WAIT, Reply::Done, false),
+        (2, WAIT, Reply::Interrupted, true),
+        (2, WAIT, blocked(Span { lo: 0, hi: 9 }), false),
+        (
+            2,
+            WAIT,
+            Reply::Blocked(region(Span { lo: 0, hi: 9 })),
+            false,
+        ),
+        (3, WAIT, Reply::NoProcess, true),
+        (3, WAIT, Reply::Interrupted, false),
+        (2, SECOND, Reply::Interrupted, false),
+        (2, QUERY, Reply::Interrupted, false),
+        (3, Op::Spawn, Reply::Interrupted, false),
+    ] {
+        let mut made = Vec::from_slice(rt.alloc(), &START)?;
+        made.push((9, pid, op, reply))?;
+        assert_eq!(rt; is_legal(&rt, calls(rt.alloc(), &made)?)?, may);
+    }
     Ok(())
 }
 

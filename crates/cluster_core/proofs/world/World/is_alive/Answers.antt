@@ -1,11 +1,14 @@
-use Rattle.std.proofs.Common.{◌≡◌, true, sym, subst}
-use Rattle.messages.specs.Messages.{is_within}
+use Rattle.std.specs.Option.{is_some}
+use Rattle.std.proofs.Common.{◌≡◌, ℕ, Option, ap, ◌∙◌}
+use Rattle.members.specs.Members.{live_incarnation}
+use Rattle.members.specs.Parts.{members_state}
 use Rattle.cluster_core.specs.Parts.{WorldParts, alive_at}
-use Rattle.cluster_core.proofs.steps.WorldSteps.{read_alive}
+use Rattle.cluster_core.proofs.steps.MemberSteps.{alive_there, opened}
 use Rattle.cluster_core.proofs.world.World.is_alive.Goals as goal
 
 pub returns : goal.returns
 returns c =
-    let P : WorldParts → Type 0 = λ p. c.index.result.now ≡ alive_at p c.args.node in
-    let R : WorldParts → Type 0 = λ p. is_within p.shape.nodes c.args.node ≡ true in
-    subst P c.self.view_is (sym (read_alive (record { shape = c.self.inside.shape; nodes = c.self.inside.nodes.items; alive = c.self.inside.alive.items; servers = c.self.inside.servers.items; sent = c.self.inside.sent; length = c.self.inside.length }) c.args.node c.index.result.now c.self.invariant (subst R (sym c.self.view_is) c.requires) c.index.ensures))
+    let P : WorldParts → Type 0 = λ q. is_some (live_incarnation (members_state c.self.inside.members) c.args.node) ≡ alive_at q c.args.node in
+    c.is_some.ensures
+    ∙ (ap (λ (o : Option ℕ). is_some o) c.alive.ensures.value
+    ∙ opened P _ _ c.args.node c.self.view_is c.requires (λ number. alive_there _ c.self.invariant c.args.node number))

@@ -10,4 +10,4 @@ returns c =
     let P : WorldParts → Type 0 = λ p. node_state c.index.result.now ≡ (world_state p).nodes c.args.node in
     let R : WorldParts → Type 0 = λ p. is_within p.shape.nodes c.args.node ≡ true in
     let A : WorldParts → Type 0 = λ p. alive_at p c.args.node ≡ true in
-    subst P c.self.view_is (sym (read_node (record { shape = c.self.inside.shape; nodes = c.self.inside.nodes.items; alive = c.self.inside.alive.items; servers = c.self.inside.servers.items; sent = c.self.inside.sent; length = c.self.inside.length }) c.args.node c.index.result.now c.self.invariant (subst R (sym c.self.view_is) c.requires.node) (subst A (sym c.self.view_is) c.requires.alive) c.index.ensures))
+    subst P c.self.view_is (sym (read_node (record { shape = c.self.inside.shape; nodes = c.self.inside.nodes.items; members = c.self.inside.members; servers = c.self.inside.servers.items; sent = c.self.inside.sent; length = c.self.inside.length }) c.args.node c.index.result.now c.self.invariant (subst R (sym c.self.view_is) c.requires.node) (subst A (sym c.self.view_is) c.requires.alive) c.index.ensures))

@@ -18,7 +18,7 @@ returns-clause-ok c =
     let P : WorldParts → Type 0 = λ p. IfOk c.plan.result (λ change. (y : NodeParts) × (y ≡ slice_index_or p.nodes (c.args.node - 1) y) × Fits y change.edit × (node_rule ((world_state p).nodes c.args.node) c.args.step.now ≡ Ok (planned y change.edit, change.outcome))) in
     let R : WorldParts → Type 0 = λ p. is_within p.shape.nodes c.args.node ≡ true in
     let A : WorldParts → Type 0 = λ p. alive_at p c.args.node ≡ true in
-    let here = read_node (record { shape = c.self.inside.shape; nodes = c.self.inside.nodes.items; alive = c.self.inside.alive.items; servers = c.self.inside.servers.items; sent = c.self.inside.sent; length = c.self.inside.length }) c.args.node x c.self.invariant (subst R (sym c.self.view_is) c.requires.node) (subst A (sym c.self.view_is) c.requires.alive) c.index.ensures in
+    let here = read_node (record { shape = c.self.inside.shape; nodes = c.self.inside.nodes.items; members = c.self.inside.members; servers = c.self.inside.servers.items; sent = c.self.inside.sent; length = c.self.inside.length }) c.args.node x c.self.invariant (subst R (sym c.self.view_is) c.requires.node) (subst A (sym c.self.view_is) c.requires.alive) c.index.ensures in
     subst P c.self.view_is (plan_found c.plan.result x (λ y. y ≡ slice_index_or c.self.inside.nodes.items (c.args.node - 1) y) _ c.args.step.now c.index.ensures here c.plan.ensures.fits c.plan.ensures.ok)
 
 pub returns-clause-err : goal.returns-clause-err
@@ -27,7 +27,7 @@ returns-clause-err c =
     let Q : NodeState → Type 0 = λ s. IfErr c.plan.result (λ e. e ≢ NoMemory → node_rule s c.args.step.now ≡ Err e) in
     let R : WorldParts → Type 0 = λ p. is_within p.shape.nodes c.args.node ≡ true in
     let A : WorldParts → Type 0 = λ p. alive_at p c.args.node ≡ true in
-    subst P c.self.view_is (subst Q (sym (read_node (record { shape = c.self.inside.shape; nodes = c.self.inside.nodes.items; alive = c.self.inside.alive.items; servers = c.self.inside.servers.items; sent = c.self.inside.sent; length = c.self.inside.length }) c.args.node c.index.result.now c.self.invariant (subst R (sym c.self.view_is) c.requires.node) (subst A (sym c.self.view_is) c.requires.alive) c.index.ensures)) c.plan.ensures.err)
+    subst P c.self.view_is (subst Q (sym (read_node (record { shape = c.self.inside.shape; nodes = c.self.inside.nodes.items; members = c.self.inside.members; servers = c.self.inside.servers.items; sent = c.self.inside.sent; length = c.self.inside.length }) c.args.node c.index.result.now c.self.invariant (subst R (sym c.self.view_is) c.requires.node) (subst A (sym c.self.view_is) c.requires.alive) c.index.ensures)) c.plan.ensures.err)
 
 pub returns-clause-refused : goal.returns-clause-refused
 returns-clause-refused c =
@@ -35,4 +35,4 @@ returns-clause-refused c =
     let Q : NodeState → Type 0 = λ s. (r : StepError) → node_rule s c.args.step.now ≡ Err r → c.plan.result ≡ Err r in
     let R : WorldParts → Type 0 = λ p. is_within p.shape.nodes c.args.node ≡ true in
     let A : WorldParts → Type 0 = λ p. alive_at p c.args.node ≡ true in
-    subst P c.self.view_is (subst Q (sym (read_node (record { shape = c.self.inside.shape; nodes = c.self.inside.nodes.items; alive = c.self.inside.alive.items; servers = c.self.inside.servers.items; sent = c.self.inside.sent; length = c.self.inside.length }) c.args.node c.index.result.now c.self.invariant (subst R (sym c.self.view_is) c.requires.node) (subst A (sym c.self.view_is) c.requires.alive) c.index.ensures)) c.plan.ensures.refused)
+    subst P c.self.view_is (subst Q (sym (read_node (record { shape = c.self.inside.shape; nodes = c.self.inside.nodes.items; members = c.self.inside.members; servers = c.self.inside.servers.items; sent = c.self.inside.sent; length = c.self.inside.length }) c.args.node c.index.result.now c.self.invariant (subst R (sym c.self.view_is) c.requires.node) (subst A (sym c.self.view_is) c.requires.alive) c.index.ensures)) c.plan.ensures.refused)

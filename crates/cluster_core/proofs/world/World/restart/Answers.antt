@@ -1,9 +1,19 @@
-use Rattle.cluster_core.proofs.steps.MemberSteps.{restarted_settled, restarted_returns}
+use Rattle.std.proofs.Common.{◌≡◌, ◌<◌, sym, subst, Ok}
+use Rattle.cluster_core.specs.World.{journal_limit}
+use Rattle.cluster_core.specs.Next.{restart_rule}
+use Rattle.cluster_core.specs.Parts.{WorldParts, world_state}
+use Rattle.cluster_core.specs.Changes.{IsRestart}
+use Rattle.cluster_core.proofs.steps.MemberSteps.{restarted_parts, restarted_world, restarted_done}
 use Rattle.cluster_core.proofs.world.World.restart.Goals as goal
 
 pub invariant_of-self : goal.invariant_of-self
-invariant_of-self c = restarted_settled _ _ c.self.view_is c.self.invariant c.args.node c.requires.made.number c.args.begun c.requires.made c.requires.room
+invariant_of-self c =
+    let before = subst (λ (q : WorldParts). IsRestart q c.args.node c.args.begun) (sym c.self.view_is) c.requires.made in
+    restarted_world _ c.self.invariant c.args.node before.number c.args.begun _ _ before.begins c.in-Ok.ensures.ok (subst (λ (q : WorldParts). q.length < journal_limit) (sym c.self.view_is) c.requires.room)
 
 pub returns : goal.returns
 returns c =
-    restarted_returns _ _ c.self.view_is c.self.invariant c.args.node c.requires.made.number c.args.begun c.requires.made c.incarnation-incarnation.result c.sending-outcome.result _ c.at_node.result c.incarnation-incarnation.ensures.value c.sending-outcome.ensures c.new.ensures c.at_node.ensures
+    let before = subst (λ (q : WorldParts). IsRestart q c.args.node c.args.begun) (sym c.self.view_is) c.requires.made in
+    let done = restarted_done _ c.self.invariant c.args.node before.number c.args.begun _ _ before.begins c.in-Ok.ensures.ok c.sending-outcome.result _ c.at_node.result c.sending-outcome.ensures c.new.ensures c.at_node.ensures in
+    let here : WorldParts = record { shape = c.self.inside.shape; nodes = c.self.inside.nodes.items; members = c.self.inside.members; servers = c.self.inside.servers.items; sent = c.self.inside.sent; length = c.self.inside.length } in
+    subst (λ (q : WorldParts). restart_rule (world_state q) c.args.node ≡ Ok (world_state (restarted_parts here c.args.node c.args.begun c.restart.new.self), c.at_node.result)) c.self.view_is done

@@ -18,7 +18,7 @@ returns-clause-ok c =
     let x : ServerParts = c.index.result.now in
     let P : WorldParts → Type 0 = λ p. IfOk c.plan.result (λ change. (y : ServerParts) × (y ≡ slice_index_or p.servers (c.args.file - 1) y) × (server_rule ((world_state p).servers c.args.file) c.args.step.now ≡ Ok (planned y change.edit, change.outcome))) in
     let R : WorldParts → Type 0 = λ p. is_within p.shape.files c.args.file ≡ true in
-    let here = read_server (record { shape = c.self.inside.shape; nodes = c.self.inside.nodes.items; alive = c.self.inside.alive.items; servers = c.self.inside.servers.items; sent = c.self.inside.sent; length = c.self.inside.length }) c.args.file x c.self.invariant (subst R (sym c.self.view_is) c.requires) c.index.ensures in
+    let here = read_server (record { shape = c.self.inside.shape; nodes = c.self.inside.nodes.items; members = c.self.inside.members; servers = c.self.inside.servers.items; sent = c.self.inside.sent; length = c.self.inside.length }) c.args.file x c.self.invariant (subst R (sym c.self.view_is) c.requires) c.index.ensures in
     subst P c.self.view_is (IfOk-weaker c.plan.result (λ change. server_rule (server_state x) c.args.step.now ≡ Ok (planned x change.edit, change.outcome)) _ (λ change done. (x, c.index.ensures, subst (λ (s : ServerState). server_rule s c.args.step.now ≡ Ok (planned x change.edit, change.outcome)) (sym here) done)) c.plan.ensures.ok)
 
 pub returns-clause-err : goal.returns-clause-err
@@ -26,11 +26,11 @@ returns-clause-err c =
     let P : WorldParts → Type 0 = λ p. IfErr c.plan.result (λ e. e ≢ NoMemory → server_rule ((world_state p).servers c.args.file) c.args.step.now ≡ Err e) in
     let Q : ServerState → Type 0 = λ s. IfErr c.plan.result (λ e. e ≢ NoMemory → server_rule s c.args.step.now ≡ Err e) in
     let R : WorldParts → Type 0 = λ p. is_within p.shape.files c.args.file ≡ true in
-    subst P c.self.view_is (subst Q (sym (read_server (record { shape = c.self.inside.shape; nodes = c.self.inside.nodes.items; alive = c.self.inside.alive.items; servers = c.self.inside.servers.items; sent = c.self.inside.sent; length = c.self.inside.length }) c.args.file c.index.result.now c.self.invariant (subst R (sym c.self.view_is) c.requires) c.index.ensures)) c.plan.ensures.err)
+    subst P c.self.view_is (subst Q (sym (read_server (record { shape = c.self.inside.shape; nodes = c.self.inside.nodes.items; members = c.self.inside.members; servers = c.self.inside.servers.items; sent = c.self.inside.sent; length = c.self.inside.length }) c.args.file c.index.result.now c.self.invariant (subst R (sym c.self.view_is) c.requires) c.index.ensures)) c.plan.ensures.err)
 
 pub returns-clause-refused : goal.returns-clause-refused
 returns-clause-refused c =
     let P : WorldParts → Type 0 = λ p. (r : StepError) → r ≢ Spent → server_rule ((world_state p).servers c.args.file) c.args.step.now ≡ Err r → c.plan.result ≡ Err r in
     let Q : ServerState → Type 0 = λ s. (r : StepError) → r ≢ Spent → server_rule s c.args.step.now ≡ Err r → c.plan.result ≡ Err r in
     let R : WorldParts → Type 0 = λ p. is_within p.shape.files c.args.file ≡ true in
-    subst P c.self.view_is (subst Q (sym (read_server (record { shape = c.self.inside.shape; nodes = c.self.inside.nodes.items; alive = c.self.inside.alive.items; servers = c.self.inside.servers.items; sent = c.self.inside.sent; length = c.self.inside.length }) c.args.file c.index.result.now c.self.invariant (subst R (sym c.self.view_is) c.requires) c.index.ensures)) c.plan.ensures.refused)
+    subst P c.self.view_is (subst Q (sym (read_server (record { shape = c.self.inside.shape; nodes = c.self.inside.nodes.items; members = c.self.inside.members; servers = c.self.inside.servers.items; sent = c.self.inside.sent; length = c.self.inside.length }) c.args.file c.index.result.now c.self.invariant (subst R (sym c.self.view_is) c.requires) c.index.ensures)) c.plan.ensures.refused)

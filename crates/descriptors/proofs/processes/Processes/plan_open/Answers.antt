@@ -14,5 +14,5 @@ returns-clause-fits c =
     let runs : ps.runs c.args.pid ≡ true = sym c.is_running.ensures ∙ c.if-not-is_running.false in
     let lowest = subst P c.in-Some.ensures.1 c.in-Some.ensures.0 in
     let is = c.in_ok-description.ensures ∙ ap (λ rows. lowest_description (processes rows)) (c.deref.ensures.value ∙ c.self.view_is) in
-    let number = runs-numbered c.self.inside.rows.items c.args.pid c.self.invariant (ap (λ rows. (processes rows).runs c.args.pid) c.self.view_is ∙ runs) in
+    let number = runs-numbered c.self.inside.rows.items c.args.pid c.self.invariant.0 (ap (λ rows. (processes rows).runs c.args.pid) c.self.view_is ∙ runs) in
     (runs, c.in-Some.ensures.0, subst Q (sym is) (lowest_description-number ps c.args.pid (lowest_fd ps c.args.pid) number lowest (lowest_fd-free ps c.args.pid lowest)))

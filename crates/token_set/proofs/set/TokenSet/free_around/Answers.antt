@@ -1,5 +1,6 @@
-use Rattle.std.proofs.Common.{arith}
-use Rattle.token_set.proofs.AroundLaws.{largest_around-is}
+use Rattle.std.proofs.Common.{sym, arith}
+use Rattle.std.proofs.lemmas.Bool.{both_ways}
+use Rattle.token_set.proofs.AroundLaws.{largest_around-is, largest_around-free}
 use Rattle.token_set.proofs.TokenLaws.{largest-conflicts}
 use Rattle.token_set.proofs.set.TokenSet.free_around.Goals as goal
 
@@ -9,3 +10,7 @@ returns-clause-largest c =
 
 pub returns-clause-value : goal.returns-clause-value
 returns-clause-value c = largest_around-is _ _ _ _ (omega (arith, c.required.invariant)) (returns-clause-largest c)
+
+pub returns-then-excludes_none-clause-value : goal.returns-then-excludes_none-clause-value
+returns-then-excludes_none-clause-value c =
+    sym (largest_around-free _ _ _ (omega (arith, c.required.invariant)) c.requires.starts_within c.requires.ends_within (λ b above below yes. both_ways _ (c.excludes_none.ensures c.if-excludes_none.true b) yes))

@@ -1,0 +1,37 @@
+//! Why entries are no journal.
+ghost use Rattle.std.specs.Prelude.{◌≡◌};
+ghost use Rattle.cluster_core.specs.declared.check_error.CheckError.TheVariants.{NoMemory};
+
+use std::alloc::{AllocError, AllocFailed};
+use thiserror::Error;
+
+/// Why entries that somebody hands in are taken for no journal.
+#[derive(Clone, Copy, Debug, PartialEq, Eq, Error)]
+pub enum CheckError {
+    /// A request for memory was refused: nothing is said of the entries.
+    #[error("no memory")]
+    NoMemory,
+    /// There are more entries than a journal may have, which is 1,048,576.
+    #[error("more entries than a journal may have")]
+    JournalFull,
+    /// The position, from 1, of the first entry that is not the next step of the cluster: those before
+    /// it are a run, after which its event is refused or makes another entry.
+    #[error("entry {0} is not the next step")]
+    NotARun(u32),
+}
+
+impl From<AllocError> for CheckError {
+    ghost from_gives = { λ error made. made ≡ NoMemory };
+
+    fn from(_error: AllocError) -> CheckError {
+        CheckError::NoMemory
+    }
+}
+
+impl<T: Drop> From<AllocFailed<T>> for CheckError {
+    ghost from_gives = { λ error made. made ≡ NoMemory };
+
+    fn from(_error: AllocFailed<T>) -> CheckError {
+        CheckError::NoMemory
+    }
+}

@@ -1,0 +1,7 @@
+//! Tests of nodes and token servers, through their public calls.
+#![tactic(auto)]
+
+#[cfg(test)]
+mod of_node_core;
+#[cfg(test)]
+mod of_token_server;

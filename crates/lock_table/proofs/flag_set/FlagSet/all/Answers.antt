@@ -1,0 +1,5 @@
+use Rattle.lock_table.proofs.FlagLemmas.{has_all}
+use Rattle.lock_table.proofs.flag_set.FlagSet.all.Goals as goal
+
+pub returns : goal.returns
+returns c = has_all

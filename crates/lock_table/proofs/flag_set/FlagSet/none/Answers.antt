@@ -1,0 +1,5 @@
+use Rattle.lock_table.proofs.FlagLemmas.{has_nothing}
+use Rattle.lock_table.proofs.flag_set.FlagSet.none.Goals as goal
+
+pub returns : goal.returns
+returns c = has_nothing

@@ -1,0 +1,11 @@
+use Rattle.std.proofs.Common.{◌≡◌, ℕ, ◌+◌, ◌/◌, ◌<◌}
+use Rattle.intervals.specs.Bytes.{nothing}
+use Rattle.lock_table.specs.Rows.{held, HoldsLess}
+use Rattle.lock_table.specs.Pages.{HasFlag}
+use Rattle.lock_table.proofs.lock_table.LockTable.drop_in_files.Given as goal
+
+abbrev pub invariant-loop-word : goal.invariant-loop-word
+invariant-loop-word l = record {
+  less : HoldsLess l.owner (held l.initial.self) (held l.self);
+  gone : (k : ℕ) → k / 64 < l.word → HasFlag l.files k → held l.self (k + 1) l.owner ≡ nothing;
+}

@@ -1,0 +1,11 @@
+use Rattle.std.proofs.Common.{◌≡◌, ℕ, ◌+◌, ◌/◌, ◌%◌, ◌<◌}
+use Rattle.intervals.specs.Bytes.{nothing}
+use Rattle.lock_table.specs.Rows.{held, HoldsLess}
+use Rattle.lock_table.specs.Pages.{HasFlag}
+use Rattle.lock_table.proofs.lock_table.LockTable.drop_in_word.Given as goal
+
+abbrev pub invariant-loop-bit : goal.invariant-loop-bit
+invariant-loop-bit l = record {
+  less : HoldsLess l.owner (held l.initial.self) (held l.self);
+  gone : (k : ℕ) → k / 64 ≡ l.word → k % 64 < l.bit → HasFlag l.files k → held l.self (k + 1) l.owner ≡ nothing;
+}

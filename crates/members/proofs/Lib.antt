@@ -1,0 +1,3 @@
+pub mod Choices
+pub mod Numbered
+pub mod Rules

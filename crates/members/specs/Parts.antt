@@ -1,0 +1,27 @@
+-- Members as plain data, and what they stand for.
+use Rattle.std.specs.Prelude.{ℕ, ◌+◌, ◌≤◌, Bool, true, false, List, length}
+use Rattle.members.specs.Members.{MembersState, most_incarnations}
+use Rattle.members.specs.Numbered.{numbered}
+
+-- whether a node is alive, and the last incarnation that it began
+pub record MemberParts : Type 0 where
+  pub alive : Bool
+  pub last : ℕ
+
+pub record IsMember (m : MemberParts) : Type 0 where
+  pub begun : 1 ≤ m.last
+  pub few : m.last ≤ most_incarnations
+
+-- the incarnation that is live, or begins next
+abbrev pub incarnation_of : Bool → ℕ → ℕ
+incarnation_of true last = last
+incarnation_of false last = last + 1
+
+abbrev pub alive_in : List MemberParts → ℕ → Bool
+alive_in ms = numbered (λ m. m.alive) (λ n. true) 1 ms
+
+abbrev pub incarnation_in : List MemberParts → ℕ → ℕ
+incarnation_in ms = numbered (λ m. incarnation_of m.alive m.last) (λ n. 1) 1 ms
+
+abbrev pub members_state : List MemberParts → MembersState
+members_state ms = record { nodes = length ms; alive = alive_in ms; incarnation = incarnation_in ms }

@@ -1,0 +1,42 @@
+//! A node interrupts the wait of a process.
+ghost use Rattle.std.specs.Prelude.{◌≡◌, Ok, Err, IfOk, IfErr, IfSome};
+ghost use Rattle.node_core.specs.Interrupts.{interrupted, interrupt_rule};
+ghost use Rattle.node_core.specs.Parts.{node_state, IsCallOf};
+ghost use Rattle.node_core.specs.Plans.{planned, effect_of, PartsFit};
+
+use super::Node;
+use crate::change::Change;
+use crate::edit::Edit;
+use crate::effect::Effect;
+use crate::numbers::is_pid;
+use crate::open_call::OpenCall;
+use messages::refusal::StepError;
+use std::alloc::Global;
+
+impl Node {
+    // A call that waits is answered, and open no longer; to another, or to none, nothing happens.
+    fn interrupt(&self, alloc: Global, call: Option<OpenCall>) -> Effect
+        requires { IfSome call (IsCallOf (node_state self.now)) }
+        ensures value { interrupted (node_state self.now) call ≡ effect_of self.now result }
+        ensures fits { PartsFit self.now result.edit }
+    {
+        match call {
+            None => Effect::quiet(alloc, Edit::none(alloc)),
+            Some(call) => self.answer_if(alloc, call.number, call.intent.interruption()),
+        }
+    }
+
+    // The wait of the process is interrupted. Takes no memory.
+    pub(super) fn plan_interrupt(&self, alloc: Global, pid: u16) -> Result<Change, StepError>
+        ensures ok { IfOk result (λ change. interrupt_rule (node_state self.now) pid ≡ Ok (planned self.now change.edit, change.outcome)) }
+        ensures err { IfErr result (λ error. interrupt_rule (node_state self.now) pid ≡ Err error) }
+        ensures refused { (r : StepError) → interrupt_rule (node_state self.now) pid ≡ Err r → result ≡ Err r }
+        ensures fits { IfOk result (λ change. PartsFit self.now change.edit) }
+    {
+        if !is_pid(pid) {
+            return Err(StepError::Stranger);
+        }
+        let effect = self.interrupt(alloc, self.open_call_of(pid));
+        Ok(effect.change(None))
+    }
+}
