@@ -15,7 +15,7 @@ use Rattle.lockscript.proofs.OperationKinds.{apart-op}
 use Rattle.lockscript.proofs.Pairs.{AreApart, apart-pair}
 use Rattle.lockscript.proofs.SingleWords.{file_words, first-word, one-word, pid_words}
 use Rattle.journal_text.specs.declared.named_event.NamedEvent.{NamedEvent}
-use Rattle.journal_text.specs.declared.named_event.NamedEvent.TheVariants.{Call, Deliver, Retry, Resend, Declare, Restart, Learn}
+use Rattle.journal_text.specs.declared.named_event.NamedEvent.TheVariants.{Call, Deliver, Interrupt, Retry, Resend, Declare, Restart, Learn}
 use Rattle.journal_text.specs.Events.{IsServedEvent, named_text}
 use Rattle.journal_text.specs.Served.{IsFile, IsHolder, IsServedMessage}
 use Rattle.journal_text.specs.Texts.{holder_text, message_text}
@@ -26,6 +26,7 @@ use Rattle.journal_text.proofs.Words.{call_words, holder_words}
 pub data EventKind : Type 0 where
   calls : EventKind
   delivers : EventKind
+  interrupts : EventKind
   retries : EventKind
   resends : EventKind
   declares : EventKind
@@ -35,6 +36,7 @@ pub data EventKind : Type 0 where
 abbrev pub Operands : EventKind → Type 0
 Operands calls = CallId × (ℕ × Op)
 Operands delivers = Message
+Operands interrupts = Host × ℕ
 Operands retries = Host × ℕ
 Operands resends = ℕ
 Operands declares = Host
@@ -45,6 +47,7 @@ Operands learns = ℕ × Host
 abbrev pub front : EventKind → List ℕ
 front calls = codes "call "
 front delivers = codes "deliver "
+front interrupts = codes "interrupt "
 front retries = codes "retry "
 front resends = codes "resend "
 front declares = codes "declare "
@@ -55,6 +58,7 @@ abbrev pub table : List (List ℕ × EventKind)
 table =
     (codes "call ", calls)
     ∷ (codes "deliver ", delivers)
+    ∷ (codes "interrupt ", interrupts)
     ∷ (codes "retry ", retries)
     ∷ (codes "resend ", resends)
     ∷ (codes "declare ", declares)
@@ -70,6 +74,7 @@ told k bytes = refl
 abbrev pub rest : (k : EventKind) → Operands k → List ℕ
 rest calls = pair_text call_text (pair_text decimal op_text)
 rest delivers = message_text
+rest interrupts = pair_text holder_text decimal
 rest retries = pair_text holder_text decimal
 rest resends = decimal
 rest declares = holder_text
@@ -79,6 +84,7 @@ rest learns = pair_text decimal holder_text
 abbrev pub Fit : (k : EventKind) → Operands k → Type 0
 Fit calls = Both IsCall (Both (IsNumber most_processes) IsServedOp)
 Fit delivers = IsServedMessage
+Fit interrupts = Both IsHolder (IsNumber most_processes)
 Fit retries = Both IsHolder (IsNumber most_processes)
 Fit resends = IsFile
 Fit declares = IsHolder
@@ -95,6 +101,7 @@ apart-rest : (k : EventKind) → AreApart (rest k) (Fit k)
 apart-rest calls = apart-pair call_text (pair_text decimal op_text) IsCall (Both (IsNumber most_processes) IsServedOp) call_words apart-call
     (apart-pair decimal op_text (IsNumber most_processes) IsServedOp pid_words apart-pid apart-op)
 apart-rest delivers = apart-message
+apart-rest interrupts = apart-pair holder_text decimal IsHolder (IsNumber most_processes) holder_words apart-holder apart-pid
 apart-rest retries = apart-pair holder_text decimal IsHolder (IsNumber most_processes) holder_words apart-holder apart-pid
 apart-rest resends = apart-file
 apart-rest declares = apart-holder
@@ -104,6 +111,7 @@ apart-rest learns = apart-pair decimal holder_text IsFile IsHolder file_words ap
 abbrev pub make : (k : EventKind) → Operands k → NamedEvent
 make calls p = Call p.0 p.1.0 p.1.1
 make delivers p = Deliver p
+make interrupts p = Interrupt p.0 p.1
 make retries p = Retry p.0 p.1
 make resends p = Resend p
 make declares p = Declare p
@@ -113,6 +121,7 @@ make learns p = Learn p.0 p.1
 abbrev pub kind_of : NamedEvent → EventKind
 kind_of (Call call pid op) = calls
 kind_of (Deliver message) = delivers
+kind_of (Interrupt host pid) = interrupts
 kind_of (Retry host pid) = retries
 kind_of (Resend file) = resends
 kind_of (Declare host) = declares
@@ -122,6 +131,7 @@ kind_of (Learn file host) = learns
 abbrev pub operands_of : (e : NamedEvent) → Operands (kind_of e)
 operands_of (Call call pid op) = (call, (pid, op))
 operands_of (Deliver message) = message
+operands_of (Interrupt host pid) = (host, pid)
 operands_of (Retry host pid) = (host, pid)
 operands_of (Resend file) = file
 operands_of (Declare host) = host
@@ -164,6 +174,7 @@ apart-event = apart-kinds events apart-rest
 pub no_event_alone : (word : List ℕ) → IsOneField word → Reads named_text IsServedEvent word None
 no_event_alone word one (Call call pid op) served e = one (codes "call") _ (one-word (codes "call") refl) e
 no_event_alone word one (Deliver message) served e = one (codes "deliver") _ (one-word (codes "deliver") refl) e
+no_event_alone word one (Interrupt host pid) served e = one (codes "interrupt") _ (one-word (codes "interrupt") refl) e
 no_event_alone word one (Retry host pid) served e = one (codes "retry") _ (one-word (codes "retry") refl) e
 no_event_alone word one (Resend file) served e = one (codes "resend") _ (one-word (codes "resend") refl) e
 no_event_alone word one (Declare host) served e = one (codes "declare") _ (one-word (codes "declare") refl) e
@@ -171,12 +182,13 @@ no_event_alone word one (Restart host) served e = one (codes "restart") _ (one-w
 no_event_alone word one (Learn file host) served e = one (codes "learn") _ (one-word (codes "learn") refl) e
 
 -- a word of none of them is no event, whatever stands behind it
-pub no_event_with : (word operands : List ℕ) → Lacks space word → word ≢ codes "call" → word ≢ codes "deliver" → word ≢ codes "retry" → word ≢ codes "resend" → word ≢ codes "declare" → word ≢ codes "restart" → word ≢ codes "learn"
+pub no_event_with : (word operands : List ℕ) → Lacks space word → word ≢ codes "call" → word ≢ codes "deliver" → word ≢ codes "interrupt" → word ≢ codes "retry" → word ≢ codes "resend" → word ≢ codes "declare" → word ≢ codes "restart" → word ≢ codes "learn"
     → Reads named_text IsServedEvent (word ++ space ∷ operands) None
-no_event_with word operands lacks no_call no_deliver no_retry no_resend no_declare no_restart no_learn (Call call pid op) served e = no_call (first-word word (codes "call") operands _ lacks refl e)
-no_event_with word operands lacks no_call no_deliver no_retry no_resend no_declare no_restart no_learn (Deliver message) served e = no_deliver (first-word word (codes "deliver") operands _ lacks refl e)
-no_event_with word operands lacks no_call no_deliver no_retry no_resend no_declare no_restart no_learn (Retry host pid) served e = no_retry (first-word word (codes "retry") operands _ lacks refl e)
-no_event_with word operands lacks no_call no_deliver no_retry no_resend no_declare no_restart no_learn (Resend file) served e = no_resend (first-word word (codes "resend") operands _ lacks refl e)
-no_event_with word operands lacks no_call no_deliver no_retry no_resend no_declare no_restart no_learn (Declare host) served e = no_declare (first-word word (codes "declare") operands _ lacks refl e)
-no_event_with word operands lacks no_call no_deliver no_retry no_resend no_declare no_restart no_learn (Restart host) served e = no_restart (first-word word (codes "restart") operands _ lacks refl e)
-no_event_with word operands lacks no_call no_deliver no_retry no_resend no_declare no_restart no_learn (Learn file host) served e = no_learn (first-word word (codes "learn") operands _ lacks refl e)
+no_event_with word operands lacks no_call no_deliver no_interrupt no_retry no_resend no_declare no_restart no_learn (Call call pid op) served e = no_call (first-word word (codes "call") operands _ lacks refl e)
+no_event_with word operands lacks no_call no_deliver no_interrupt no_retry no_resend no_declare no_restart no_learn (Deliver message) served e = no_deliver (first-word word (codes "deliver") operands _ lacks refl e)
+no_event_with word operands lacks no_call no_deliver no_interrupt no_retry no_resend no_declare no_restart no_learn (Interrupt host pid) served e = no_interrupt (first-word word (codes "interrupt") operands _ lacks refl e)
+no_event_with word operands lacks no_call no_deliver no_interrupt no_retry no_resend no_declare no_restart no_learn (Retry host pid) served e = no_retry (first-word word (codes "retry") operands _ lacks refl e)
+no_event_with word operands lacks no_call no_deliver no_interrupt no_retry no_resend no_declare no_restart no_learn (Resend file) served e = no_resend (first-word word (codes "resend") operands _ lacks refl e)
+no_event_with word operands lacks no_call no_deliver no_interrupt no_retry no_resend no_declare no_restart no_learn (Declare host) served e = no_declare (first-word word (codes "declare") operands _ lacks refl e)
+no_event_with word operands lacks no_call no_deliver no_interrupt no_retry no_resend no_declare no_restart no_learn (Restart host) served e = no_restart (first-word word (codes "restart") operands _ lacks refl e)
+no_event_with word operands lacks no_call no_deliver no_interrupt no_retry no_resend no_declare no_restart no_learn (Learn file host) served e = no_learn (first-word word (codes "learn") operands _ lacks refl e)

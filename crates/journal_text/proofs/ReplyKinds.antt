@@ -3,7 +3,7 @@ use Rattle.std.proofs.Common.{◌≡◌, ◌≢◌, ℕ, List, [], ◌∷◌, �
 use Rattle.std.specs.Prelude.{⊤}
 use Rattle.model.specs.declared.lock_info.LockInfo.{LockInfo}
 use Rattle.model.specs.declared.reply.Reply.{Reply}
-use Rattle.model.specs.declared.reply.Reply.TheVariants.{Done, Fd, Again, Free, Blocked, NoProcess, Exists, BadFd, TooManyFiles, NoLocks, Invalid, Overflow}
+use Rattle.model.specs.declared.reply.Reply.TheVariants.{Done, Fd, Again, Free, Blocked, Interrupted, NoProcess, Exists, BadFd, TooManyFiles, NoLocks, Invalid, Overflow}
 use Rattle.lockscript.specs.Layout.{space}
 use Rattle.lockscript.specs.Reads.{IsOneField, Lacks, Reads}
 use Rattle.lockscript.specs.Served.{IsDescriptor}
@@ -21,6 +21,7 @@ pub data ReplyKind : Type 0 where
   agains : ReplyKind
   frees : ReplyKind
   blocks : ReplyKind
+  interrupts : ReplyKind
   no_processes : ReplyKind
   existing : ReplyKind
   bad_fds : ReplyKind
@@ -35,6 +36,7 @@ Operands fds = ℕ
 Operands agains = LockInfo
 Operands frees = ⊤
 Operands blocks = LockInfo
+Operands interrupts = ⊤
 Operands no_processes = ⊤
 Operands existing = ⊤
 Operands bad_fds = ⊤
@@ -50,6 +52,7 @@ front fds = codes "fd "
 front agains = codes "again "
 front frees = codes "free"
 front blocks = codes "blocked "
+front interrupts = codes "interrupted"
 front no_processes = codes "no-process"
 front existing = codes "exists"
 front bad_fds = codes "bad-fd"
@@ -65,6 +68,7 @@ table =
     ∷ (codes "again ", agains)
     ∷ (codes "free", frees)
     ∷ (codes "blocked ", blocks)
+    ∷ (codes "interrupted", interrupts)
     ∷ (codes "no-process", no_processes)
     ∷ (codes "exists", existing)
     ∷ (codes "bad-fd", bad_fds)
@@ -85,6 +89,7 @@ rest fds = decimal
 rest agains = lock_text
 rest frees = λ _. []
 rest blocks = lock_text
+rest interrupts = λ _. []
 rest no_processes = λ _. []
 rest existing = λ _. []
 rest bad_fds = λ _. []
@@ -99,6 +104,7 @@ Fit fds = IsDescriptor
 Fit agains = IsServedLock
 Fit frees = λ _. ⊤
 Fit blocks = IsServedLock
+Fit interrupts = λ _. ⊤
 Fit no_processes = λ _. ⊤
 Fit existing = λ _. ⊤
 Fit bad_fds = λ _. ⊤
@@ -113,6 +119,7 @@ apart-rest fds = apart-fd
 apart-rest agains = apart-lock
 apart-rest frees = λ p q p_fits q_fits e. refl
 apart-rest blocks = apart-lock
+apart-rest interrupts = λ p q p_fits q_fits e. refl
 apart-rest no_processes = λ p q p_fits q_fits e. refl
 apart-rest existing = λ p q p_fits q_fits e. refl
 apart-rest bad_fds = λ p q p_fits q_fits e. refl
@@ -127,6 +134,7 @@ make fds p = Fd p
 make agains p = Again p
 make frees _ = Free
 make blocks p = Blocked p
+make interrupts _ = Interrupted
 make no_processes _ = NoProcess
 make existing _ = Exists
 make bad_fds _ = BadFd
@@ -141,6 +149,7 @@ kind_of (Fd fd) = fds
 kind_of (Again lock) = agains
 kind_of Free = frees
 kind_of (Blocked lock) = blocks
+kind_of Interrupted = interrupts
 kind_of NoProcess = no_processes
 kind_of Exists = existing
 kind_of BadFd = bad_fds
@@ -155,6 +164,7 @@ operands_of (Fd fd) = fd
 operands_of (Again lock) = lock
 operands_of Free = tt
 operands_of (Blocked lock) = lock
+operands_of Interrupted = tt
 operands_of NoProcess = tt
 operands_of Exists = tt
 operands_of BadFd = tt
@@ -169,6 +179,7 @@ fit (Fd fd) served = served
 fit (Again lock) served = served
 fit Free served = tt
 fit (Blocked lock) served = served
+fit Interrupted served = tt
 fit NoProcess served = tt
 fit Exists served = tt
 fit BadFd served = tt
@@ -206,19 +217,20 @@ pub apart-reply : AreApart reply_text IsServedReply
 apart-reply = apart-kinds replies apart-rest
 
 -- one word is no reply with operands
-pub no_reply_alone : (word : List ℕ) → IsOneField word → word ≢ codes "done" → word ≢ codes "free" → word ≢ codes "no-process" → word ≢ codes "exists" → word ≢ codes "bad-fd" → word ≢ codes "too-many-files" → word ≢ codes "no-locks" → word ≢ codes "invalid" → word ≢ codes "overflow" → Reads reply_text IsServedReply word None
-no_reply_alone word one no_done no_free no_no_process no_exists no_bad_fd no_too_many_files no_no_locks no_invalid no_overflow Done served e = no_done e
-no_reply_alone word one no_done no_free no_no_process no_exists no_bad_fd no_too_many_files no_no_locks no_invalid no_overflow (Fd fd) served e = one (codes "fd") _ (one-word (codes "fd") refl) e
-no_reply_alone word one no_done no_free no_no_process no_exists no_bad_fd no_too_many_files no_no_locks no_invalid no_overflow (Again lock) served e = one (codes "again") _ (one-word (codes "again") refl) e
-no_reply_alone word one no_done no_free no_no_process no_exists no_bad_fd no_too_many_files no_no_locks no_invalid no_overflow Free served e = no_free e
-no_reply_alone word one no_done no_free no_no_process no_exists no_bad_fd no_too_many_files no_no_locks no_invalid no_overflow (Blocked lock) served e = one (codes "blocked") _ (one-word (codes "blocked") refl) e
-no_reply_alone word one no_done no_free no_no_process no_exists no_bad_fd no_too_many_files no_no_locks no_invalid no_overflow NoProcess served e = no_no_process e
-no_reply_alone word one no_done no_free no_no_process no_exists no_bad_fd no_too_many_files no_no_locks no_invalid no_overflow Exists served e = no_exists e
-no_reply_alone word one no_done no_free no_no_process no_exists no_bad_fd no_too_many_files no_no_locks no_invalid no_overflow BadFd served e = no_bad_fd e
-no_reply_alone word one no_done no_free no_no_process no_exists no_bad_fd no_too_many_files no_no_locks no_invalid no_overflow TooManyFiles served e = no_too_many_files e
-no_reply_alone word one no_done no_free no_no_process no_exists no_bad_fd no_too_many_files no_no_locks no_invalid no_overflow NoLocks served e = no_no_locks e
-no_reply_alone word one no_done no_free no_no_process no_exists no_bad_fd no_too_many_files no_no_locks no_invalid no_overflow Invalid served e = no_invalid e
-no_reply_alone word one no_done no_free no_no_process no_exists no_bad_fd no_too_many_files no_no_locks no_invalid no_overflow Overflow served e = no_overflow e
+pub no_reply_alone : (word : List ℕ) → IsOneField word → word ≢ codes "done" → word ≢ codes "free" → word ≢ codes "interrupted" → word ≢ codes "no-process" → word ≢ codes "exists" → word ≢ codes "bad-fd" → word ≢ codes "too-many-files" → word ≢ codes "no-locks" → word ≢ codes "invalid" → word ≢ codes "overflow" → Reads reply_text IsServedReply word None
+no_reply_alone word one no_done no_free no_interrupted no_no_process no_exists no_bad_fd no_too_many_files no_no_locks no_invalid no_overflow Done served e = no_done e
+no_reply_alone word one no_done no_free no_interrupted no_no_process no_exists no_bad_fd no_too_many_files no_no_locks no_invalid no_overflow (Fd fd) served e = one (codes "fd") _ (one-word (codes "fd") refl) e
+no_reply_alone word one no_done no_free no_interrupted no_no_process no_exists no_bad_fd no_too_many_files no_no_locks no_invalid no_overflow (Again lock) served e = one (codes "again") _ (one-word (codes "again") refl) e
+no_reply_alone word one no_done no_free no_interrupted no_no_process no_exists no_bad_fd no_too_many_files no_no_locks no_invalid no_overflow Free served e = no_free e
+no_reply_alone word one no_done no_free no_interrupted no_no_process no_exists no_bad_fd no_too_many_files no_no_locks no_invalid no_overflow (Blocked lock) served e = one (codes "blocked") _ (one-word (codes "blocked") refl) e
+no_reply_alone word one no_done no_free no_interrupted no_no_process no_exists no_bad_fd no_too_many_files no_no_locks no_invalid no_overflow Interrupted served e = no_interrupted e
+no_reply_alone word one no_done no_free no_interrupted no_no_process no_exists no_bad_fd no_too_many_files no_no_locks no_invalid no_overflow NoProcess served e = no_no_process e
+no_reply_alone word one no_done no_free no_interrupted no_no_process no_exists no_bad_fd no_too_many_files no_no_locks no_invalid no_overflow Exists served e = no_exists e
+no_reply_alone word one no_done no_free no_interrupted no_no_process no_exists no_bad_fd no_too_many_files no_no_locks no_invalid no_overflow BadFd served e = no_bad_fd e
+no_reply_alone word one no_done no_free no_interrupted no_no_process no_exists no_bad_fd no_too_many_files no_no_locks no_invalid no_overflow TooManyFiles served e = no_too_many_files e
+no_reply_alone word one no_done no_free no_interrupted no_no_process no_exists no_bad_fd no_too_many_files no_no_locks no_invalid no_overflow NoLocks served e = no_no_locks e
+no_reply_alone word one no_done no_free no_interrupted no_no_process no_exists no_bad_fd no_too_many_files no_no_locks no_invalid no_overflow Invalid served e = no_invalid e
+no_reply_alone word one no_done no_free no_interrupted no_no_process no_exists no_bad_fd no_too_many_files no_no_locks no_invalid no_overflow Overflow served e = no_overflow e
 
 -- a word of none of them is no reply, whatever stands behind it
 pub no_reply_with : (word operands : List ℕ) → Lacks space word → word ≢ codes "fd" → word ≢ codes "again" → word ≢ codes "blocked"
@@ -228,6 +240,7 @@ no_reply_with word operands lacks no_fd no_again no_blocked (Fd fd) served e = n
 no_reply_with word operands lacks no_fd no_again no_blocked (Again lock) served e = no_again (first-word word (codes "again") operands _ lacks refl e)
 no_reply_with word operands lacks no_fd no_again no_blocked Free served e = not-one word operands (codes "free") lacks refl e
 no_reply_with word operands lacks no_fd no_again no_blocked (Blocked lock) served e = no_blocked (first-word word (codes "blocked") operands _ lacks refl e)
+no_reply_with word operands lacks no_fd no_again no_blocked Interrupted served e = not-one word operands (codes "interrupted") lacks refl e
 no_reply_with word operands lacks no_fd no_again no_blocked NoProcess served e = not-one word operands (codes "no-process") lacks refl e
 no_reply_with word operands lacks no_fd no_again no_blocked Exists served e = not-one word operands (codes "exists") lacks refl e
 no_reply_with word operands lacks no_fd no_again no_blocked BadFd served e = not-one word operands (codes "bad-fd") lacks refl e

@@ -5,7 +5,7 @@ use Rattle.model.specs.declared.call.CallId.{CallId}
 use Rattle.model.specs.declared.host.Host.{Host}
 use Rattle.messages.specs.Wants.{Wants}
 use Rattle.messages.specs.declared.event.Event.{Event}
-use Rattle.messages.specs.declared.event.Event.TheVariants.{Call, Deliver, Retry, Resend, Declare, Restart, Learn}
+use Rattle.messages.specs.declared.event.Event.TheVariants.{Call, Deliver, Interrupt, Retry, Resend, Declare, Restart, Learn}
 use Rattle.messages.specs.declared.message.Message.{Message}
 use Rattle.messages.specs.declared.message.Message.TheVariants.{Request, Grant, Revoke, Taken, Released, Conflict, Deny, Freed}
 use Rattle.messages.specs.declared.message.Urgency.{Urgency}
@@ -51,6 +51,7 @@ abbrev pub event_text : Event → ℕ → Option CallId → List ℕ
 event_text (Call node pid op) incarnation None = []
 event_text (Call node pid op) incarnation (Some call) = codes "call " ++ pair_text call_text (pair_text decimal op_text) (call, (pid, op))
 event_text (Deliver message) incarnation call = codes "deliver " ++ message_text message
+event_text (Interrupt node pid) incarnation call = codes "interrupt " ++ pair_text (host_text node) decimal (incarnation, pid)
 event_text (Retry node pid) incarnation call = codes "retry " ++ pair_text (host_text node) decimal (incarnation, pid)
 event_text (Resend file) incarnation call = codes "resend " ++ decimal file
 event_text (Declare node) incarnation call = codes "declare " ++ host_text node incarnation

@@ -36,6 +36,7 @@ fn event_with(word: &str, operands: &str) -> Option<NamedEvent>
     match word {
         "call" => call_event(operands),
         "deliver" => deliver_event(operands),
+        "interrupt" => interrupt_event(operands),
         "retry" => retry_event(operands),
         "resend" => resend_event(operands),
         "declare" => declare_event(operands),
@@ -61,11 +62,19 @@ fn deliver_event(operands: &str) -> Option<NamedEvent>
     Some(NamedEvent::Deliver(message))
 }
 
+// `interrupt` with these operands.
+fn interrupt_event(operands: &str) -> Option<NamedEvent>
+    ensures { Reads named_text IsServedEvent (codes "interrupt " ++ operands.now) result }
+{
+    let (host, pid) = host_and_pid(operands)?;
+    Some(NamedEvent::Interrupt { host, pid })
+}
+
 // `retry` with these operands.
 fn retry_event(operands: &str) -> Option<NamedEvent>
     ensures { Reads named_text IsServedEvent (codes "retry " ++ operands.now) result }
 {
-    let (host, pid) = retry_operands(operands)?;
+    let (host, pid) = host_and_pid(operands)?;
     Some(NamedEvent::Retry { host, pid })
 }
 
@@ -122,7 +131,7 @@ fn pid_and_op(text: &str) -> Option<(u16, Op)>
 }
 
 // `N.I PID`.
-fn retry_operands(text: &str) -> Option<(Host, u16)>
+fn host_and_pid(text: &str) -> Option<(Host, u16)>
     ensures { Reads (pair_text holder_text decimal) (Both IsHolder (IsNumber most_processes)) text.now result }
 {
     match split_field(text) {

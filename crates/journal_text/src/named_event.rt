@@ -15,6 +15,8 @@ pub enum NamedEvent {
     Call { call: CallId, pid: u16, op: Op },
     /// A message comes to its addressee.
     Deliver(Message),
+    /// The wait of a process is interrupted.
+    Interrupt { host: Host, pid: u16 },
     /// The open call of a process is tried again.
     Retry { host: Host, pid: u16 },
     /// The token server of a file sends again what has no answer.
@@ -39,6 +41,10 @@ impl NamedEvent {
                 op: *op,
             },
             NamedEvent::Deliver(message) => Event::Deliver(*message),
+            NamedEvent::Interrupt { host, pid } => Event::Interrupt {
+                node: host.node,
+                pid: *pid,
+            },
             NamedEvent::Retry { host, pid } => Event::Retry {
                 node: host.node,
                 pid: *pid,
@@ -59,7 +65,8 @@ impl NamedEvent {
         ensures { result ≡ named.incarnation_of self.now }
     {
         match self {
-            NamedEvent::Retry { host, .. }
+            NamedEvent::Interrupt { host, .. }
+            | NamedEvent::Retry { host, .. }
             | NamedEvent::Declare { host }
             | NamedEvent::Restart { host } => host.incarnation,
             NamedEvent::Call { .. }
@@ -76,6 +83,7 @@ impl NamedEvent {
         match self {
             NamedEvent::Call { call, .. } => Some(*call),
             NamedEvent::Deliver(_)
+            | NamedEvent::Interrupt { .. }
             | NamedEvent::Retry { .. }
             | NamedEvent::Resend { .. }
             | NamedEvent::Declare { .. }

@@ -40,6 +40,7 @@ fn reply_alone(word: &str) -> Option<Reply>
     match word {
         "done" => Some(Reply::Done),
         "free" => Some(Reply::Free),
+        "interrupted" => Some(Reply::Interrupted),
         "no-process" => Some(Reply::NoProcess),
         "exists" => Some(Reply::Exists),
         "bad-fd" => Some(Reply::BadFd),

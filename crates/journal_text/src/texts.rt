@@ -257,6 +257,7 @@ pub(crate) fn push_event(
             out.push_str("deliver ")?;
             push_message(out, message)
         }
+        Event::Interrupt { node, pid } => push_interrupt(out, *node, incarnation, *pid),
         Event::Retry { node, pid } => push_retry(out, *node, incarnation, *pid),
         Event::Resend { file } => write!(out, "resend {file}"),
         Event::Declare { node } => {
@@ -296,6 +297,15 @@ fn push_named_call(
     push_call(out, call)?;
     write!(out, " {pid} ")?;
     push_op(out, op)
+}
+
+// Writes `interrupt N.I PID`.
+fn push_interrupt(out: &mut String, node: u8, incarnation: u16, pid: u16) -> Result<(), AllocError>
+    ensures { OnOk result (string_bytes out.new ≡ string_bytes out.old ++ event_text (event.Interrupt node pid) incarnation None) }
+{
+    out.push_str("interrupt ")?;
+    push_host(out, node, incarnation)?;
+    write!(out, " {pid}")
 }
 
 // Writes `retry N.I PID`.

@@ -4,7 +4,7 @@ use Rattle.journal_text.specs.Served.{IsHolder}
 use Rattle.journal_text.specs.Texts.{holder_text}
 use Rattle.journal_text.proofs.Words.{holder_words}
 use Rattle.lockscript.proofs.Pairs.{reads-pair, reads-pair_none}
-use Rattle.journal_text.proofs.events.retry_operands.Goals as goal
+use Rattle.journal_text.proofs.events.host_and_pid.Goals as goal
 
 pub returns-in-None : goal.returns-in-None
 returns-in-None c = reads-pair_none holder_text decimal IsHolder (IsNumber most_processes) c.args.text.now holder_words c.in-None.ensures
