@@ -23,10 +23,10 @@ apart-counts = apart-pair decimal (after_text (codes "files ") (pair_text decima
     (apart-pair decimal (after_text (codes "policy ") policy_text) (IsNumber most_files) (λ _. ⊤) file_words (apart-number most_files (omega arith))
     (apart-after (codes "policy ") policy_text (λ _. ⊤) apart-policy)))
 
-abbrev counts_of : ShapeFields → ℕ × (ℕ × Policy)
+abbrev pub counts_of : ShapeFields → ℕ × (ℕ × Policy)
 counts_of s = (s.nodes, (s.files, s.policy))
 
-abbrev shape_with : ℕ × (ℕ × Policy) → ShapeFields
+abbrev pub shape_with : ℕ × (ℕ × Policy) → ShapeFields
 shape_with c = record { nodes = c.0; files = c.1.0; policy = c.1.1 }
 
 counts-fit : (s : ShapeFields) → IsShape s → IsCounts (counts_of s)
@@ -37,15 +37,24 @@ pub apart-shape : AreApart shape_text IsShape
 apart-shape s t s_in t_in e =
     ap shape_with (apart-counts (counts_of s) (counts_of t) (counts-fit s s_in) (counts-fit t t_in) (cancel-front (codes "cluster nodes ") _ _ e))
 
-pub no_cluster : (line rest : List ℕ) → line ≡ codes "cluster nodes " ++ rest → Reads counts_text IsCounts rest None → Reads shape_text IsShape line None
-no_cluster line rest parts none s fits e = none (counts_of s) (counts-fit s fits) (cancel-front (codes "cluster nodes ") rest _ (sym parts ∙ e))
+-- no counts behind this front
+pub no_counts : (front line rest : List ℕ) → line ≡ front ++ rest → Reads counts_text IsCounts rest None → Reads (λ s. front ++ counts_text (counts_of s)) IsShape line None
+no_counts front line rest parts none s fits e = none (counts_of s) (counts-fit s fits) (cancel-front front rest _ (sym parts ∙ e))
 
--- the shape that is made of the counts, if it is served
+pub no_cluster : (line rest : List ℕ) → line ≡ codes "cluster nodes " ++ rest → Reads counts_text IsCounts rest None → Reads shape_text IsShape line None
+no_cluster line rest parts none = no_counts (codes "cluster nodes ") line rest parts none
+
+-- the shape that is made of the counts behind this front, if it is served
+pub counts-made : {E : Type 0} (front line rest : List ℕ) (nodes files : ℕ) (policy : Policy) (made : Result ShapeFields E) → line ≡ front ++ rest → Reads counts_text IsCounts rest (Some (nodes, (files, policy)))
+    → IfOk made (λ shape. shape ≡ shape_with (nodes, (files, policy))) → IsOk made ↔ IsServed nodes files → Reads (λ s. front ++ counts_text (counts_of s)) IsShape line (result_ok made)
+counts-made front line rest nodes files policy (Ok shape) parts counts same served =
+    let within = served.0 refl in
+    rw same (record { nodes_in = within.0; files_in = within.1 }, parts ∙ ap (λ (r : List ℕ). front ++ r) counts.1)
+counts-made front line rest nodes files policy (Err error) parts counts same served = λ s fits e.
+    let one = apart-counts (nodes, (files, policy)) (counts_of s) counts.0 (counts-fit s fits) (sym counts.1 ∙ cancel-front front rest _ (sym parts ∙ e)) in
+    false≢true (served.1 (rw (ap (λ (c : ℕ × (ℕ × Policy)). c.0) one, ap (λ (c : ℕ × (ℕ × Policy)). c.1.0) one) (fits.nodes_in, fits.files_in)))
+
+-- the cluster of its counts
 pub shape-made : {E : Type 0} (line rest : List ℕ) (nodes files : ℕ) (policy : Policy) (made : Result ShapeFields E) → line ≡ codes "cluster nodes " ++ rest → Reads counts_text IsCounts rest (Some (nodes, (files, policy)))
     → IfOk made (λ shape. shape ≡ shape_with (nodes, (files, policy))) → IsOk made ↔ IsServed nodes files → Reads shape_text IsShape line (result_ok made)
-shape-made line rest nodes files policy (Ok shape) parts counts same served =
-    let within = served.0 refl in
-    rw same (record { nodes_in = within.0; files_in = within.1 }, parts ∙ ap (λ (r : List ℕ). codes "cluster nodes " ++ r) counts.1)
-shape-made line rest nodes files policy (Err error) parts counts same served = λ s fits e.
-    let one = apart-counts (nodes, (files, policy)) (counts_of s) counts.0 (counts-fit s fits) (sym counts.1 ∙ cancel-front (codes "cluster nodes ") rest _ (sym parts ∙ e)) in
-    false≢true (served.1 (rw (ap (λ (c : ℕ × (ℕ × Policy)). c.0) one, ap (λ (c : ℕ × (ℕ × Policy)). c.1.0) one) (fits.nodes_in, fits.files_in)))
+shape-made line rest nodes files policy made parts counts same served = counts-made (codes "cluster nodes ") line rest nodes files policy made parts counts same served

@@ -30,7 +30,7 @@ apart-policy Wide Exact _ _ e = absurd (omega (arith, heads 119 101 _ _ e))
 apart-policy Exact Wide _ _ e = absurd (omega (arith, heads 101 119 _ _ e))
 apart-policy Exact Exact _ _ e = refl
 
-apart-mode : AreApart mode_text (λ _. ⊤)
+pub apart-mode : AreApart mode_text (λ _. ⊤)
 apart-mode Read Read _ _ e = refl
 apart-mode Read Write _ _ e = absurd (omega (arith, heads 114 119 _ _ e))
 apart-mode Write Read _ _ e = absurd (omega (arith, heads 119 114 _ _ e))

@@ -1,5 +1,5 @@
 -- Texts that are one field.
-use Rattle.std.proofs.Common.{◌≡◌, ◌≢◌, ℕ, zero, suc, ◌<◌, ◌^◌, ◌++◌, Option, Some, None, MatchOption, Bor, ℤ, pos, negsuc, true, not, List, [], ◌∷◌, refl, sym, arith, eqb, decimal, codes, FitsSigned, w64}
+use Rattle.std.proofs.Common.{◌≡◌, ◌≢◌, ℕ, zero, suc, ◌<◌, ◌≤◌, ◌^◌, ◌++◌, Option, Some, None, MatchOption, Bor, ℤ, pos, negsuc, true, not, List, [], ◌∷◌, refl, sym, arith, eqb, decimal, codes, FitsSigned, w64}
 use Rattle.std.specs.List.{list_all}
 use Rattle.std.specs.Fmt.{signed_decimal}
 use Rattle.std.proofs.lemmas.Fmt.{decimal_is_IsNumeral}
@@ -41,10 +41,14 @@ not-one (b ∷ word) operands [] lacks test e = cc
 not-one (b ∷ word) operands (c ∷ front) lacks test e =
     not-one word operands front (λ i lt. lacks (suc i) (omega (arith, lt))) (grind (arith, test)) (tails b c (word ++ space ∷ operands) front e)
 
-pub Lacks-decimal : (n : ℕ) → n < 2 ^ 64 → Lacks space (decimal n)
-Lacks-decimal n small i lt e =
+-- a byte that is no digit
+pub decimal-lacks : (c : ℕ) → ((d : ℕ) → 48 ≤ d → d ≤ 57 → d ≢ c) → (n : ℕ) → n < 2 ^ 64 → Lacks c (decimal n)
+decimal-lacks c apart n small i lt =
     let digit = digit_at (decimal n) i (decimal_is_IsNumeral n small).0.1 lt in
-    omega (arith, digit.0, e)
+    apart _ digit.0 digit.1
+
+pub Lacks-decimal : (n : ℕ) → n < 2 ^ 64 → Lacks space (decimal n)
+Lacks-decimal n small = decimal-lacks space (λ d low high e. omega (arith, low, e)) n small
 
 pub Lacks-signed_decimal : (z : ℤ) → FitsSigned w64 z → Lacks space (signed_decimal z)
 Lacks-signed_decimal (pos n) fits i lt = Lacks-decimal n (omega (arith, fits)) i lt
@@ -59,13 +63,18 @@ pub Lacks-kind_text : (k : Kind) → Lacks space (kind_text k)
 Lacks-kind_text OfProcess = lacks-tested space (codes "proc") refl
 Lacks-kind_text OfDescription = lacks-tested space (codes "desc") refl
 
+-- what a split at the first of a byte gives
+pub split-first : (c : ℕ) → c < 128 → (bs : List ℕ) (r : Option (Bor (List ℕ) × Bor (List ℕ))) → IsSplitOnceResult c bs r
+    → MatchOption r ((word rest : List ℕ) → Lacks c word → bs ≢ word ++ c ∷ rest) (λ x. Lacks c x.0.now × (bs ≡ x.0.now ++ c ∷ x.1.now))
+split-first c ascii bs None split = λ word rest lacks e. split_after c bs word rest None split (omega (arith, ascii)) e lacks
+split-first c ascii bs (Some x) split =
+    let parts = split_parts c bs (Some x) split (omega (arith, ascii)) in
+    (parts.1, parts.0)
+
 -- what a split at the first space gives
 pub split-first_field : (bs : List ℕ) (r : Option (Bor (List ℕ) × Bor (List ℕ))) → IsSplitOnceResult space bs r
     → MatchOption r ((word rest : List ℕ) → Lacks space word → bs ≢ word ++ space ∷ rest) (λ x. Lacks space x.0.now × (bs ≡ x.0.now ++ space ∷ x.1.now))
-split-first_field bs None split = λ word rest lacks e. split_after space bs word rest None split (omega arith) e lacks
-split-first_field bs (Some x) split =
-    let parts = split_parts space bs (Some x) split (omega arith) in
-    (parts.1, parts.0)
+split-first_field bs r split = split-first space (omega arith) bs r split
 
 pub file_words : AreWords decimal (IsNumber most_files)
 file_words n fits = Lacks-decimal n (omega (arith, fits.1))

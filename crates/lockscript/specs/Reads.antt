@@ -23,5 +23,9 @@ after_text front text x = front ++ text x
 abbrev pub pair_text : {A B : Type 0} → (A → List ℕ) → (B → List ℕ) → A × B → List ℕ
 pair_text first second p = first p.0 ++ space ∷ second p.1
 
+-- two parts with this byte between them
+abbrev pub joined_text : {A B : Type 0} → ℕ → (A → List ℕ) → (B → List ℕ) → A × B → List ℕ
+joined_text c first second p = first p.0 ++ c ∷ second p.1
+
 abbrev pub Both : {A B : Type 0} → (A → Type 0) → (B → Type 0) → A × B → Type 0
 Both P Q p = P p.0 × Q p.1

@@ -13,7 +13,7 @@ use model::policy::Policy;
 
 /// The shape that `cluster nodes N files F policy P` names, if the line is that and such a cluster is
 /// served.
-pub(crate) fn shape_of(line: &str) -> Option<Shape>
+pub fn shape_of(line: &str) -> Option<Shape>
     ensures { Reads shape_text IsShape line.now result }
 {
     if let Some(counts) = after(line, "cluster nodes ") {
@@ -25,8 +25,8 @@ pub(crate) fn shape_of(line: &str) -> Option<Shape>
     None
 }
 
-// `N files F policy P`.
-fn shape_operands(text: &str) -> Option<(u8, (u16, Policy))>
+/// Reads `N files F policy P`.
+pub fn shape_operands(text: &str) -> Option<(u8, (u16, Policy))>
     ensures { Reads (pair_text decimal (after_text (codes "files ") (pair_text decimal (after_text (codes "policy ") policy_text))))
         (Both (IsNumber most_nodes) (Both (IsNumber most_files) (λ _. ⊤))) text.now result }
 {

@@ -22,7 +22,7 @@ const GREATEST_INCARNATION: u64 = 65_535;
 const GREATEST_DESCRIPTOR: u64 = 255;
 
 /// The first field of a text, and what stands after the space behind it.
-pub(crate) fn split_field(text: &str) -> Option<(&str, &str)>
+pub fn split_field(text: &str) -> Option<(&str, &str)>
     ensures { MatchOption result
         ((word rest : List ℕ) → Lacks space word → text.now ≢ word ++ space ∷ rest)
         (λ parts. Lacks space parts.0.now × (text.now ≡ parts.0.now ++ space ∷ parts.1.now)) }
@@ -31,14 +31,14 @@ pub(crate) fn split_field(text: &str) -> Option<(&str, &str)>
 }
 
 /// What stands behind the front of a text.
-pub(crate) fn after<'a>(text: &'a str, front: &str) -> Option<&'a str>
+pub fn after<'a>(text: &'a str, front: &str) -> Option<&'a str>
     ensures { MatchOption result ((rest : List ℕ) → text.entry.now ≢ front.now ++ rest) (λ rest. text.entry.now ≡ front.now ++ rest.now) }
 {
     text.strip_prefix(front)
 }
 
 /// The number of a node.
-pub(crate) fn node_of(word: &str) -> Option<u8>
+pub fn node_of(word: &str) -> Option<u8>
     ensures { Reads decimal (IsNumber most_nodes) word.now result }
 {
     match number_of(word, 1, MOST_NODES as u64) {
@@ -48,7 +48,7 @@ pub(crate) fn node_of(word: &str) -> Option<u8>
 }
 
 /// The number of a file.
-pub(crate) fn file_of(word: &str) -> Option<u16>
+pub fn file_of(word: &str) -> Option<u16>
     ensures { Reads decimal (IsNumber most_files) word.now result }
 {
     match number_of(word, 1, MOST_FILES as u64) {
@@ -58,7 +58,7 @@ pub(crate) fn file_of(word: &str) -> Option<u16>
 }
 
 /// The number of a process.
-pub(crate) fn pid_of(word: &str) -> Option<u16>
+pub fn pid_of(word: &str) -> Option<u16>
     ensures { Reads decimal (IsNumber most_processes) word.now result }
 {
     match number_of(word, 1, MOST_PROCESSES as u64) {
@@ -68,7 +68,7 @@ pub(crate) fn pid_of(word: &str) -> Option<u16>
 }
 
 /// The number of an incarnation.
-pub(crate) fn incarnation_of(word: &str) -> Option<u16>
+pub fn incarnation_of(word: &str) -> Option<u16>
     ensures { Reads decimal (IsNumber most_incarnations) word.now result }
 {
     match number_of(word, 1, GREATEST_INCARNATION) {
@@ -78,7 +78,7 @@ pub(crate) fn incarnation_of(word: &str) -> Option<u16>
 }
 
 /// The number of a message.
-pub(crate) fn message_of(word: &str) -> Option<u32>
+pub fn message_of(word: &str) -> Option<u32>
     ensures { Reads decimal (IsNumber greatest_message) word.now result }
 {
     match number_of(word, 1, GREATEST_MESSAGE) {
@@ -88,7 +88,7 @@ pub(crate) fn message_of(word: &str) -> Option<u32>
 }
 
 /// A descriptor, which need not be open.
-pub(crate) fn descriptor_of(word: &str) -> Option<u8>
+pub fn descriptor_of(word: &str) -> Option<u8>
     ensures { Reads decimal IsDescriptor word.now result }
 {
     match number_of(word, 0, GREATEST_DESCRIPTOR) {

@@ -24,7 +24,7 @@ fn natural_of(word: &str) -> Option<u64>
 
 /// The number from `least` to `most` that the word writes: decimal, without leading zeros and
 /// without a leading `+`.
-pub(crate) fn number_of(word: &str, least: u64, most: u64) -> Option<u64>
+pub fn number_of(word: &str, least: u64, most: u64) -> Option<u64>
     ensures { Reads decimal (λ n. (least ≤ n) × (n ≤ most)) word.now result }
 {
     match natural_of(word) {
@@ -43,7 +43,7 @@ pub(crate) fn number_of(word: &str, least: u64, most: u64) -> Option<u64>
 
 /// The offset that the word writes: decimal, without leading zeros, without a leading `+`, with a
 /// leading `-` where it is negative.
-pub(crate) fn offset_of(word: &str) -> Option<i64>
+pub fn offset_of(word: &str) -> Option<i64>
     ensures { Reads signed_decimal (FitsSigned w64) word.now result }
 {
     match word.parse::<i64>() {

@@ -18,7 +18,7 @@ use model::op::Op;
 use model::owner::Kind;
 
 /// The operation that the text writes.
-pub(crate) fn op_of(text: &str) -> Option<Op>
+pub fn op_of(text: &str) -> Option<Op>
     ensures { Reads op_text IsServedOp text.now result }
 {
     match split_field(text) {

@@ -14,7 +14,8 @@ use model::reply::Reply;
 use std::alloc::AllocError;
 use std::fmt::Write;
 
-pub(crate) fn mode_word(mode: Mode) -> &'static str
+/// The word for a mode.
+pub fn mode_word(mode: Mode) -> &'static str
     ensures { result.now ≡ mode_text mode }
 {
     match mode {
@@ -62,14 +63,14 @@ fn letter_of(kind: Kind) -> &'static str
 }
 
 /// Writes `N.I`.
-pub(crate) fn push_host(out: &mut String, node: u8, incarnation: u16) -> Result<(), AllocError>
+pub fn push_host(out: &mut String, node: u8, incarnation: u16) -> Result<(), AllocError>
     ensures { OnOk result (string_bytes out.new ≡ string_bytes out.old ++ host_text node incarnation) }
 {
     write!(out, "{node}.{incarnation}")
 }
 
 /// Writes `N.I.C`.
-pub(crate) fn push_call(out: &mut String, call: &CallId) -> Result<(), AllocError>
+pub fn push_call(out: &mut String, call: &CallId) -> Result<(), AllocError>
     ensures { OnOk result (string_bytes out.new ≡ string_bytes out.old ++ call_text call.now) }
 {
     push_host(out, call.node, call.incarnation)?;
@@ -87,8 +88,8 @@ pub(crate) fn push_owner(out: &mut String, owner: &Owner) -> Result<(), AllocErr
     push_host(out, owner.node, owner.incarnation)
 }
 
-// Writes `MODE LO HI OWNER`.
-fn push_lock(out: &mut String, lock: &LockInfo) -> Result<(), AllocError>
+/// Writes `MODE LO HI OWNER`.
+pub fn push_lock(out: &mut String, lock: &LockInfo) -> Result<(), AllocError>
     ensures { OnOk result (string_bytes out.new ≡ string_bytes out.old ++ lock_text lock.now) }
 {
     let mode = mode_word(lock.mode);
@@ -99,7 +100,7 @@ fn push_lock(out: &mut String, lock: &LockInfo) -> Result<(), AllocError>
 }
 
 /// Writes a reply.
-pub(crate) fn push_reply(out: &mut String, reply: &Reply) -> Result<(), AllocError>
+pub fn push_reply(out: &mut String, reply: &Reply) -> Result<(), AllocError>
     ensures { OnOk result (string_bytes out.new ≡ string_bytes out.old ++ reply_text reply.now) }
 {
     match reply {
@@ -126,7 +127,7 @@ pub(crate) fn push_reply(out: &mut String, reply: &Reply) -> Result<(), AllocErr
 }
 
 /// Writes an operation.
-pub(crate) fn push_op(out: &mut String, op: &Op) -> Result<(), AllocError>
+pub fn push_op(out: &mut String, op: &Op) -> Result<(), AllocError>
     ensures { OnOk result (string_bytes out.new ≡ string_bytes out.old ++ op_text op.now) }
 {
     match op {

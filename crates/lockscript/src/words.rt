@@ -9,7 +9,7 @@ use model::owner::Kind;
 use model::policy::Policy;
 
 /// The mode that the word names.
-pub(crate) fn mode_of(word: &str) -> Option<Mode>
+pub fn mode_of(word: &str) -> Option<Mode>
     ensures { Reads mode_text (λ _. ⊤) word.now result }
 {
     match word {
@@ -20,7 +20,7 @@ pub(crate) fn mode_of(word: &str) -> Option<Mode>
 }
 
 /// The policy that the word names.
-pub(crate) fn policy_of(word: &str) -> Option<Policy>
+pub fn policy_of(word: &str) -> Option<Policy>
     ensures { Reads policy_text (λ _. ⊤) word.now result }
 {
     match word {
@@ -31,7 +31,7 @@ pub(crate) fn policy_of(word: &str) -> Option<Policy>
 }
 
 /// The access that the word names.
-pub(crate) fn access_of(word: &str) -> Option<Access>
+pub fn access_of(word: &str) -> Option<Access>
     ensures { Reads access_text (λ _. ⊤) word.now result }
 {
     match word {
@@ -43,7 +43,7 @@ pub(crate) fn access_of(word: &str) -> Option<Access>
 }
 
 /// The kind of owner that the word names.
-pub(crate) fn kind_of(word: &str) -> Option<Kind>
+pub fn kind_of(word: &str) -> Option<Kind>
     ensures { Reads kind_text (λ _. ⊤) word.now result }
 {
     match word {

@@ -1,0 +1,194 @@
+-- The kinds of events.
+use Rattle.std.proofs.Common.{◌≡◌, ◌≢◌, ℕ, List, [], ◌∷◌, ◌++◌, Some, None, arith, refl, codes, decimal}
+use Rattle.model.specs.Limits.{IsCall, IsNumber, most_processes}
+use Rattle.model.specs.declared.call.CallId.{CallId}
+use Rattle.model.specs.declared.host.Host.{Host}
+use Rattle.model.specs.declared.op.Op.{Op}
+use Rattle.messages.specs.declared.message.Message.{Message}
+use Rattle.lockscript.specs.Layout.{space}
+use Rattle.lockscript.specs.Reads.{Both, IsOneField, Lacks, Reads, pair_text}
+use Rattle.lockscript.specs.Served.{IsServedOp}
+use Rattle.lockscript.specs.Texts.{call_text, op_text}
+use Rattle.lockscript.proofs.FieldValues.{apart-number}
+use Rattle.lockscript.proofs.Fronts.{Kinds, apart-kinds, kind_in}
+use Rattle.lockscript.proofs.OperationKinds.{apart-op}
+use Rattle.lockscript.proofs.Pairs.{AreApart, apart-pair}
+use Rattle.lockscript.proofs.SingleWords.{file_words, first-word, one-word, pid_words}
+use Rattle.journal_text.specs.declared.named_event.NamedEvent.{NamedEvent}
+use Rattle.journal_text.specs.declared.named_event.NamedEvent.TheVariants.{Call, Deliver, Interrupt, Retry, Resend, Declare, Restart, Learn}
+use Rattle.journal_text.specs.Events.{IsServedEvent, named_text}
+use Rattle.journal_text.specs.Served.{IsFile, IsHolder, IsServedMessage}
+use Rattle.journal_text.specs.Texts.{holder_text, message_text}
+use Rattle.journal_text.proofs.MessageKinds.{apart-message}
+use Rattle.journal_text.proofs.Names.{apart-call, apart-holder}
+use Rattle.journal_text.proofs.Words.{call_words, holder_words}
+
+pub data EventKind : Type 0 where
+  calls : EventKind
+  delivers : EventKind
+  interrupts : EventKind
+  retries : EventKind
+  resends : EventKind
+  declares : EventKind
+  restarts : EventKind
+  learns : EventKind
+
+abbrev pub Operands : EventKind → Type 0
+Operands calls = CallId × (ℕ × Op)
+Operands delivers = Message
+Operands interrupts = Host × ℕ
+Operands retries = Host × ℕ
+Operands resends = ℕ
+Operands declares = Host
+Operands restarts = Host
+Operands learns = ℕ × Host
+
+-- what an event of the kind begins with
+abbrev pub front : EventKind → List ℕ
+front calls = codes "call "
+front delivers = codes "deliver "
+front interrupts = codes "interrupt "
+front retries = codes "retry "
+front resends = codes "resend "
+front declares = codes "declare "
+front restarts = codes "restart "
+front learns = codes "learn "
+
+abbrev pub table : List (List ℕ × EventKind)
+table =
+    (codes "call ", calls)
+    ∷ (codes "deliver ", delivers)
+    ∷ (codes "interrupt ", interrupts)
+    ∷ (codes "retry ", retries)
+    ∷ (codes "resend ", resends)
+    ∷ (codes "declare ", declares)
+    ∷ (codes "restart ", restarts)
+    ∷ (codes "learn ", learns)
+    ∷ []
+
+pub told : (k : EventKind) (bytes : List ℕ) → kind_in table (front k ++ bytes) ≡ Some k
+told calls bytes = refl
+told k bytes = refl
+
+-- what stands behind the front
+abbrev pub rest : (k : EventKind) → Operands k → List ℕ
+rest calls = pair_text call_text (pair_text decimal op_text)
+rest delivers = message_text
+rest interrupts = pair_text holder_text decimal
+rest retries = pair_text holder_text decimal
+rest resends = decimal
+rest declares = holder_text
+rest restarts = holder_text
+rest learns = pair_text decimal holder_text
+
+abbrev pub Fit : (k : EventKind) → Operands k → Type 0
+Fit calls = Both IsCall (Both (IsNumber most_processes) IsServedOp)
+Fit delivers = IsServedMessage
+Fit interrupts = Both IsHolder (IsNumber most_processes)
+Fit retries = Both IsHolder (IsNumber most_processes)
+Fit resends = IsFile
+Fit declares = IsHolder
+Fit restarts = IsHolder
+Fit learns = Both IsFile IsHolder
+
+apart-file : AreApart decimal IsFile
+apart-file = apart-number 256 (omega arith)
+
+apart-pid : AreApart decimal (IsNumber most_processes)
+apart-pid = apart-number most_processes (omega arith)
+
+apart-rest : (k : EventKind) → AreApart (rest k) (Fit k)
+apart-rest calls = apart-pair call_text (pair_text decimal op_text) IsCall (Both (IsNumber most_processes) IsServedOp) call_words apart-call
+    (apart-pair decimal op_text (IsNumber most_processes) IsServedOp pid_words apart-pid apart-op)
+apart-rest delivers = apart-message
+apart-rest interrupts = apart-pair holder_text decimal IsHolder (IsNumber most_processes) holder_words apart-holder apart-pid
+apart-rest retries = apart-pair holder_text decimal IsHolder (IsNumber most_processes) holder_words apart-holder apart-pid
+apart-rest resends = apart-file
+apart-rest declares = apart-holder
+apart-rest restarts = apart-holder
+apart-rest learns = apart-pair decimal holder_text IsFile IsHolder file_words apart-file apart-holder
+
+abbrev pub make : (k : EventKind) → Operands k → NamedEvent
+make calls p = Call p.0 p.1.0 p.1.1
+make delivers p = Deliver p
+make interrupts p = Interrupt p.0 p.1
+make retries p = Retry p.0 p.1
+make resends p = Resend p
+make declares p = Declare p
+make restarts p = Restart p
+make learns p = Learn p.0 p.1
+
+abbrev pub kind_of : NamedEvent → EventKind
+kind_of (Call call pid op) = calls
+kind_of (Deliver message) = delivers
+kind_of (Interrupt host pid) = interrupts
+kind_of (Retry host pid) = retries
+kind_of (Resend file) = resends
+kind_of (Declare host) = declares
+kind_of (Restart host) = restarts
+kind_of (Learn file host) = learns
+
+abbrev pub operands_of : (e : NamedEvent) → Operands (kind_of e)
+operands_of (Call call pid op) = (call, (pid, op))
+operands_of (Deliver message) = message
+operands_of (Interrupt host pid) = (host, pid)
+operands_of (Retry host pid) = (host, pid)
+operands_of (Resend file) = file
+operands_of (Declare host) = host
+operands_of (Restart host) = host
+operands_of (Learn file host) = (file, host)
+
+pub fit : (e : NamedEvent) → IsServedEvent e → Fit (kind_of e) (operands_of e)
+fit (Call call pid op) served = (served.0, (served.1, served.2))
+fit e served = served
+
+pub made : (e : NamedEvent) → make (kind_of e) (operands_of e) ≡ e
+made (Call call pid op) = refl
+made e = refl
+
+pub written : (e : NamedEvent) → named_text e ≡ front (kind_of e) ++ rest (kind_of e) (operands_of e)
+written (Call call pid op) = refl
+written e = refl
+
+abbrev pub events : Kinds NamedEvent named_text IsServedEvent
+events = record {
+  Kind = EventKind;
+  Operands = Operands;
+  front = front;
+  table = table;
+  told = told;
+  rest = rest;
+  Fit = Fit;
+  kind_of = kind_of;
+  operands_of = operands_of;
+  fit = fit;
+  written = written;
+  make = make;
+  made = made;
+}
+
+pub apart-event : AreApart named_text IsServedEvent
+apart-event = apart-kinds events apart-rest
+
+-- one word is no event
+pub no_event_alone : (word : List ℕ) → IsOneField word → Reads named_text IsServedEvent word None
+no_event_alone word one (Call call pid op) served e = one (codes "call") _ (one-word (codes "call") refl) e
+no_event_alone word one (Deliver message) served e = one (codes "deliver") _ (one-word (codes "deliver") refl) e
+no_event_alone word one (Interrupt host pid) served e = one (codes "interrupt") _ (one-word (codes "interrupt") refl) e
+no_event_alone word one (Retry host pid) served e = one (codes "retry") _ (one-word (codes "retry") refl) e
+no_event_alone word one (Resend file) served e = one (codes "resend") _ (one-word (codes "resend") refl) e
+no_event_alone word one (Declare host) served e = one (codes "declare") _ (one-word (codes "declare") refl) e
+no_event_alone word one (Restart host) served e = one (codes "restart") _ (one-word (codes "restart") refl) e
+no_event_alone word one (Learn file host) served e = one (codes "learn") _ (one-word (codes "learn") refl) e
+
+-- a word of none of them is no event, whatever stands behind it
+pub no_event_with : (word operands : List ℕ) → Lacks space word → word ≢ codes "call" → word ≢ codes "deliver" → word ≢ codes "interrupt" → word ≢ codes "retry" → word ≢ codes "resend" → word ≢ codes "declare" → word ≢ codes "restart" → word ≢ codes "learn"
+    → Reads named_text IsServedEvent (word ++ space ∷ operands) None
+no_event_with word operands lacks no_call no_deliver no_interrupt no_retry no_resend no_declare no_restart no_learn (Call call pid op) served e = no_call (first-word word (codes "call") operands _ lacks refl e)
+no_event_with word operands lacks no_call no_deliver no_interrupt no_retry no_resend no_declare no_restart no_learn (Deliver message) served e = no_deliver (first-word word (codes "deliver") operands _ lacks refl e)
+no_event_with word operands lacks no_call no_deliver no_interrupt no_retry no_resend no_declare no_restart no_learn (Interrupt host pid) served e = no_interrupt (first-word word (codes "interrupt") operands _ lacks refl e)
+no_event_with word operands lacks no_call no_deliver no_interrupt no_retry no_resend no_declare no_restart no_learn (Retry host pid) served e = no_retry (first-word word (codes "retry") operands _ lacks refl e)
+no_event_with word operands lacks no_call no_deliver no_interrupt no_retry no_resend no_declare no_restart no_learn (Resend file) served e = no_resend (first-word word (codes "resend") operands _ lacks refl e)
+no_event_with word operands lacks no_call no_deliver no_interrupt no_retry no_resend no_declare no_restart no_learn (Declare host) served e = no_declare (first-word word (codes "declare") operands _ lacks refl e)
+no_event_with word operands lacks no_call no_deliver no_interrupt no_retry no_resend no_declare no_restart no_learn (Restart host) served e = no_restart (first-word word (codes "restart") operands _ lacks refl e)
+no_event_with word operands lacks no_call no_deliver no_interrupt no_retry no_resend no_declare no_restart no_learn (Learn file host) served e = no_learn (first-word word (codes "learn") operands _ lacks refl e)

@@ -1,0 +1,152 @@
+-- The kinds of lines of journals.
+use Rattle.std.proofs.Common.{◌≡◌, ◌≢◌, ℕ, List, [], ◌∷◌, ◌++◌, Some, None, arith, refl, codes, decimal}
+use Rattle.std.proofs.lemmas.Fmt.{decimal_injective}
+use Rattle.model.specs.Limits.{IsCall}
+use Rattle.model.specs.declared.call.CallId.{CallId}
+use Rattle.model.specs.declared.reply.Reply.{Reply}
+use Rattle.messages.specs.declared.message.Message.{Message}
+use Rattle.lockscript.specs.Layout.{space}
+use Rattle.lockscript.specs.Reads.{Both, IsOneField, Lacks, Reads, pair_text}
+use Rattle.lockscript.specs.Texts.{call_text, reply_text}
+use Rattle.lockscript.proofs.FieldValues.{apart-number}
+use Rattle.lockscript.proofs.Fronts.{Kinds, apart-kinds, kind_in}
+use Rattle.lockscript.proofs.Pairs.{AreApart, AreWords, apart-pair}
+use Rattle.lockscript.proofs.SingleWords.{Lacks-decimal, first-word, one-word}
+use Rattle.journal_text.specs.declared.named_event.NamedEvent.{NamedEvent}
+use Rattle.journal_text.specs.declared.lines.JournalLine.{JournalLine}
+use Rattle.journal_text.specs.declared.lines.JournalLine.TheVariants.{Entry, Answer, Send, End}
+use Rattle.journal_text.specs.Events.{IsServedEvent, named_text}
+use Rattle.journal_text.specs.Lines.{IsCount, IsPosition, IsServedLine, line_text}
+use Rattle.journal_text.specs.Served.{IsServedMessage, IsServedReply}
+use Rattle.journal_text.specs.Texts.{message_text}
+use Rattle.journal_text.proofs.EventKinds.{apart-event}
+use Rattle.journal_text.proofs.MessageKinds.{apart-message}
+use Rattle.journal_text.proofs.Names.{apart-call}
+use Rattle.journal_text.proofs.ReplyKinds.{apart-reply}
+use Rattle.journal_text.proofs.Words.{call_words}
+
+pub data LineKind : Type 0 where
+  entries : LineKind
+  answers : LineKind
+  sends : LineKind
+  ends : LineKind
+
+abbrev pub Operands : LineKind → Type 0
+Operands entries = ℕ × NamedEvent
+Operands answers = CallId × Reply
+Operands sends = Message
+Operands ends = ℕ
+
+-- what one of the kind begins with
+abbrev pub front : LineKind → List ℕ
+front entries = codes "entry "
+front answers = codes "reply "
+front sends = codes "send "
+front ends = codes "end "
+
+abbrev pub table : List (List ℕ × LineKind)
+table =
+    (codes "entry ", entries)
+    ∷ (codes "reply ", answers)
+    ∷ (codes "send ", sends)
+    ∷ (codes "end ", ends)
+    ∷ []
+
+pub told : (k : LineKind) (bytes : List ℕ) → kind_in table (front k ++ bytes) ≡ Some k
+told entries bytes = refl
+told k bytes = refl
+
+-- what stands behind the front
+abbrev pub rest : (k : LineKind) → Operands k → List ℕ
+rest entries = pair_text decimal named_text
+rest answers = pair_text call_text reply_text
+rest sends = message_text
+rest ends = decimal
+
+abbrev pub Fit : (k : LineKind) → Operands k → Type 0
+Fit entries = Both IsPosition IsServedEvent
+Fit answers = Both IsCall IsServedReply
+Fit sends = IsServedMessage
+Fit ends = IsCount
+
+pub position_words : AreWords decimal IsPosition
+position_words n fits = Lacks-decimal n (omega (arith, fits.1))
+
+apart-position : AreApart decimal IsPosition
+apart-position = apart-number 4294967295 (omega arith)
+
+apart-count : AreApart decimal IsCount
+apart-count m n m_in n_in e = decimal_injective m n (omega (arith, m_in)) (omega (arith, n_in)) e
+
+apart-rest : (k : LineKind) → AreApart (rest k) (Fit k)
+apart-rest entries = apart-pair decimal named_text IsPosition IsServedEvent position_words apart-position apart-event
+apart-rest answers = apart-pair call_text reply_text IsCall IsServedReply call_words apart-call apart-reply
+apart-rest sends = apart-message
+apart-rest ends = apart-count
+
+abbrev pub make : (k : LineKind) → Operands k → JournalLine
+make entries p = Entry p.0 p.1
+make answers p = Answer p.0 p.1
+make sends p = Send p
+make ends p = End p
+
+abbrev pub kind_of : JournalLine → LineKind
+kind_of (Entry position event) = entries
+kind_of (Answer call reply) = answers
+kind_of (Send message) = sends
+kind_of (End count) = ends
+
+abbrev pub operands_of : (x : JournalLine) → Operands (kind_of x)
+operands_of (Entry position event) = (position, event)
+operands_of (Answer call reply) = (call, reply)
+operands_of (Send message) = message
+operands_of (End count) = count
+
+pub fit : (x : JournalLine) → IsServedLine x → Fit (kind_of x) (operands_of x)
+fit (Entry position event) served = (served.0, served.1)
+fit (Answer call reply) served = (served.0, served.1)
+fit (Send message) served = served
+fit (End count) served = served
+
+pub made : (x : JournalLine) → make (kind_of x) (operands_of x) ≡ x
+made (Entry position event) = refl
+made x = refl
+
+pub written : (x : JournalLine) → line_text x ≡ front (kind_of x) ++ rest (kind_of x) (operands_of x)
+written (Entry position event) = refl
+written x = refl
+
+abbrev pub lines : Kinds JournalLine line_text IsServedLine
+lines = record {
+  Kind = LineKind;
+  Operands = Operands;
+  front = front;
+  table = table;
+  told = told;
+  rest = rest;
+  Fit = Fit;
+  kind_of = kind_of;
+  operands_of = operands_of;
+  fit = fit;
+  written = written;
+  make = make;
+  made = made;
+}
+
+pub apart-line : AreApart line_text IsServedLine
+apart-line = apart-kinds lines apart-rest
+
+-- one word is no line with operands
+pub no_line_alone : (word : List ℕ) → IsOneField word → Reads line_text IsServedLine word None
+no_line_alone word one (Entry position event) served e = one (codes "entry") _ (one-word (codes "entry") refl) e
+no_line_alone word one (Answer call reply) served e = one (codes "reply") _ (one-word (codes "reply") refl) e
+no_line_alone word one (Send message) served e = one (codes "send") _ (one-word (codes "send") refl) e
+no_line_alone word one (End count) served e = one (codes "end") _ (one-word (codes "end") refl) e
+
+-- a word of none of them is no line, whatever stands behind it
+pub no_line_with : (word operands : List ℕ) → Lacks space word → word ≢ codes "entry" → word ≢ codes "reply" → word ≢ codes "send" → word ≢ codes "end"
+    → Reads line_text IsServedLine (word ++ space ∷ operands) None
+no_line_with word operands lacks no_entry no_reply no_send no_end (Entry position event) served e = no_entry (first-word word (codes "entry") operands _ lacks refl e)
+no_line_with word operands lacks no_entry no_reply no_send no_end (Answer call reply) served e = no_reply (first-word word (codes "reply") operands _ lacks refl e)
+no_line_with word operands lacks no_entry no_reply no_send no_end (Send message) served e = no_send (first-word word (codes "send") operands _ lacks refl e)
+no_line_with word operands lacks no_entry no_reply no_send no_end (End count) served e = no_end (first-word word (codes "end") operands _ lacks refl e)

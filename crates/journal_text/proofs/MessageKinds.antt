@@ -1,0 +1,220 @@
+-- The kinds of messages.
+use Rattle.std.proofs.Common.{◌≡◌, ◌≢◌, ℕ, List, [], ◌∷◌, ◌++◌, Some, None, arith, refl, codes, decimal}
+use Rattle.std.specs.Prelude.{⊤}
+use Rattle.intervals.specs.Bytes.{Range}
+use Rattle.model.specs.Limits.{IsCall}
+use Rattle.model.specs.declared.call.CallId.{CallId}
+use Rattle.model.specs.declared.host.Host.{Host}
+use Rattle.model.specs.declared.lock_info.LockInfo.{LockInfo}
+use Rattle.model.specs.declared.mode.Mode.{Mode}
+use Rattle.messages.specs.Wants.{Wants}
+use Rattle.messages.specs.declared.message.Message.{Message}
+use Rattle.messages.specs.declared.message.Message.TheVariants.{Request, Grant, Revoke, Taken, Released, Conflict, Deny, Freed}
+use Rattle.messages.specs.declared.message.Urgency.{Urgency}
+use Rattle.lockscript.specs.Layout.{space}
+use Rattle.lockscript.specs.Reads.{Both, IsOneField, Lacks, Reads, pair_text}
+use Rattle.lockscript.specs.Texts.{call_text, lock_text, mode_text}
+use Rattle.lockscript.proofs.FieldValues.{apart-mode, apart-number}
+use Rattle.lockscript.proofs.Fronts.{Kinds, apart-kinds, kind_in}
+use Rattle.lockscript.proofs.Pairs.{AreApart, apart-pair}
+use Rattle.lockscript.proofs.SingleWords.{file_words, first-word, message_words, mode_words, one-word}
+use Rattle.journal_text.specs.Served.{AreServedWants, IsCommandNumber, IsFile, IsHolder, IsServedLock, IsServedMessage, IsServedSpan}
+use Rattle.journal_text.specs.Texts.{holder_text, message_text, span_text, urgency_text, wants_text}
+use Rattle.journal_text.proofs.Names.{apart-call, apart-holder}
+use Rattle.journal_text.proofs.SpanParts.{apart-lock, apart-span, apart-wants}
+use Rattle.journal_text.proofs.Words.{apart-urgency, call_words, holder_words, urgency_words}
+
+pub data MessageKind : Type 0 where
+  requests : MessageKind
+  grants : MessageKind
+  revokes : MessageKind
+  takens : MessageKind
+  releases : MessageKind
+  conflicts : MessageKind
+  denials : MessageKind
+  frees : MessageKind
+
+abbrev pub Operands : MessageKind → Type 0
+Operands requests = ℕ × (CallId × (Urgency × (Mode × Wants)))
+Operands grants = ℕ × (ℕ × (CallId × (Mode × Range)))
+Operands revokes = ℕ × (ℕ × (Host × (CallId × (Mode × Wants))))
+Operands takens = ℕ × (ℕ × CallId)
+Operands releases = ℕ × (ℕ × (Host × (CallId × Range)))
+Operands conflicts = ℕ × (ℕ × (Host × (CallId × LockInfo)))
+Operands denials = ℕ × (CallId × (Host × (ℕ × LockInfo)))
+Operands frees = ℕ × Host
+
+-- what a message of the kind begins with
+abbrev pub front : MessageKind → List ℕ
+front requests = codes "request "
+front grants = codes "grant "
+front revokes = codes "revoke "
+front takens = codes "taken "
+front releases = codes "released "
+front conflicts = codes "conflict "
+front denials = codes "deny "
+front frees = codes "freed "
+
+abbrev pub table : List (List ℕ × MessageKind)
+table =
+    (codes "request ", requests)
+    ∷ (codes "grant ", grants)
+    ∷ (codes "revoke ", revokes)
+    ∷ (codes "taken ", takens)
+    ∷ (codes "released ", releases)
+    ∷ (codes "conflict ", conflicts)
+    ∷ (codes "deny ", denials)
+    ∷ (codes "freed ", frees)
+    ∷ []
+
+pub told : (k : MessageKind) (bytes : List ℕ) → kind_in table (front k ++ bytes) ≡ Some k
+told requests bytes = refl
+told k bytes = refl
+
+-- what stands behind the front
+abbrev pub rest : (k : MessageKind) → Operands k → List ℕ
+rest requests = pair_text decimal (pair_text call_text (pair_text urgency_text (pair_text mode_text wants_text)))
+rest grants = pair_text decimal (pair_text decimal (pair_text call_text (pair_text mode_text span_text)))
+rest revokes = pair_text decimal (pair_text decimal (pair_text holder_text (pair_text call_text (pair_text mode_text wants_text))))
+rest takens = pair_text decimal (pair_text decimal call_text)
+rest releases = pair_text decimal (pair_text decimal (pair_text holder_text (pair_text call_text span_text)))
+rest conflicts = pair_text decimal (pair_text decimal (pair_text holder_text (pair_text call_text lock_text)))
+rest denials = pair_text decimal (pair_text call_text (pair_text holder_text (pair_text decimal lock_text)))
+rest frees = pair_text decimal holder_text
+
+abbrev pub Fit : (k : MessageKind) → Operands k → Type 0
+Fit requests = Both IsFile (Both IsCall (Both (λ _. ⊤) (Both (λ _. ⊤) AreServedWants)))
+Fit grants = Both IsFile (Both IsCommandNumber (Both IsCall (Both (λ _. ⊤) IsServedSpan)))
+Fit revokes = Both IsFile (Both IsCommandNumber (Both IsHolder (Both IsCall (Both (λ _. ⊤) AreServedWants))))
+Fit takens = Both IsFile (Both IsCommandNumber IsCall)
+Fit releases = Both IsFile (Both IsCommandNumber (Both IsHolder (Both IsCall IsServedSpan)))
+Fit conflicts = Both IsFile (Both IsCommandNumber (Both IsHolder (Both IsCall IsServedLock)))
+Fit denials = Both IsFile (Both IsCall (Both IsHolder (Both IsCommandNumber IsServedLock)))
+Fit frees = Both IsFile IsHolder
+
+apart-file : AreApart decimal IsFile
+apart-file = apart-number 256 (omega arith)
+
+apart-command : AreApart decimal IsCommandNumber
+apart-command = apart-number 4294967295 (omega arith)
+
+apart-rest : (k : MessageKind) → AreApart (rest k) (Fit k)
+apart-rest requests = apart-pair decimal (pair_text call_text (pair_text urgency_text (pair_text mode_text wants_text))) IsFile (Both IsCall (Both (λ _. ⊤) (Both (λ _. ⊤) AreServedWants))) file_words apart-file
+    (apart-pair call_text (pair_text urgency_text (pair_text mode_text wants_text)) IsCall (Both (λ _. ⊤) (Both (λ _. ⊤) AreServedWants)) call_words apart-call
+    (apart-pair urgency_text (pair_text mode_text wants_text) (λ _. ⊤) (Both (λ _. ⊤) AreServedWants) urgency_words apart-urgency
+    (apart-pair mode_text wants_text (λ _. ⊤) AreServedWants mode_words apart-mode apart-wants)))
+apart-rest grants = apart-pair decimal (pair_text decimal (pair_text call_text (pair_text mode_text span_text))) IsFile (Both IsCommandNumber (Both IsCall (Both (λ _. ⊤) IsServedSpan))) file_words apart-file
+    (apart-pair decimal (pair_text call_text (pair_text mode_text span_text)) IsCommandNumber (Both IsCall (Both (λ _. ⊤) IsServedSpan)) message_words apart-command
+    (apart-pair call_text (pair_text mode_text span_text) IsCall (Both (λ _. ⊤) IsServedSpan) call_words apart-call
+    (apart-pair mode_text span_text (λ _. ⊤) IsServedSpan mode_words apart-mode apart-span)))
+apart-rest revokes = apart-pair decimal (pair_text decimal (pair_text holder_text (pair_text call_text (pair_text mode_text wants_text)))) IsFile (Both IsCommandNumber (Both IsHolder (Both IsCall (Both (λ _. ⊤) AreServedWants)))) file_words apart-file
+    (apart-pair decimal (pair_text holder_text (pair_text call_text (pair_text mode_text wants_text))) IsCommandNumber (Both IsHolder (Both IsCall (Both (λ _. ⊤) AreServedWants))) message_words apart-command
+    (apart-pair holder_text (pair_text call_text (pair_text mode_text wants_text)) IsHolder (Both IsCall (Both (λ _. ⊤) AreServedWants)) holder_words apart-holder
+    (apart-pair call_text (pair_text mode_text wants_text) IsCall (Both (λ _. ⊤) AreServedWants) call_words apart-call
+    (apart-pair mode_text wants_text (λ _. ⊤) AreServedWants mode_words apart-mode apart-wants))))
+apart-rest takens = apart-pair decimal (pair_text decimal call_text) IsFile (Both IsCommandNumber IsCall) file_words apart-file
+    (apart-pair decimal call_text IsCommandNumber IsCall message_words apart-command apart-call)
+apart-rest releases = apart-pair decimal (pair_text decimal (pair_text holder_text (pair_text call_text span_text))) IsFile (Both IsCommandNumber (Both IsHolder (Both IsCall IsServedSpan))) file_words apart-file
+    (apart-pair decimal (pair_text holder_text (pair_text call_text span_text)) IsCommandNumber (Both IsHolder (Both IsCall IsServedSpan)) message_words apart-command
+    (apart-pair holder_text (pair_text call_text span_text) IsHolder (Both IsCall IsServedSpan) holder_words apart-holder
+    (apart-pair call_text span_text IsCall IsServedSpan call_words apart-call apart-span)))
+apart-rest conflicts = apart-pair decimal (pair_text decimal (pair_text holder_text (pair_text call_text lock_text))) IsFile (Both IsCommandNumber (Both IsHolder (Both IsCall IsServedLock))) file_words apart-file
+    (apart-pair decimal (pair_text holder_text (pair_text call_text lock_text)) IsCommandNumber (Both IsHolder (Both IsCall IsServedLock)) message_words apart-command
+    (apart-pair holder_text (pair_text call_text lock_text) IsHolder (Both IsCall IsServedLock) holder_words apart-holder
+    (apart-pair call_text lock_text IsCall IsServedLock call_words apart-call apart-lock)))
+apart-rest denials = apart-pair decimal (pair_text call_text (pair_text holder_text (pair_text decimal lock_text))) IsFile (Both IsCall (Both IsHolder (Both IsCommandNumber IsServedLock))) file_words apart-file
+    (apart-pair call_text (pair_text holder_text (pair_text decimal lock_text)) IsCall (Both IsHolder (Both IsCommandNumber IsServedLock)) call_words apart-call
+    (apart-pair holder_text (pair_text decimal lock_text) IsHolder (Both IsCommandNumber IsServedLock) holder_words apart-holder
+    (apart-pair decimal lock_text IsCommandNumber IsServedLock message_words apart-command apart-lock)))
+apart-rest frees = apart-pair decimal holder_text IsFile IsHolder file_words apart-file apart-holder
+
+abbrev pub make : (k : MessageKind) → Operands k → Message
+make requests p = Request p.0 p.1.0 p.1.1.0 p.1.1.1.0 p.1.1.1.1
+make grants p = Grant p.0 p.1.0 p.1.1.0 p.1.1.1.0 p.1.1.1.1
+make revokes p = Revoke p.0 p.1.0 p.1.1.0 p.1.1.1.0 p.1.1.1.1.0 p.1.1.1.1.1
+make takens p = Taken p.0 p.1.0 p.1.1
+make releases p = Released p.0 p.1.0 p.1.1.0 p.1.1.1.0 p.1.1.1.1
+make conflicts p = Conflict p.0 p.1.0 p.1.1.0 p.1.1.1.0 p.1.1.1.1
+make denials p = Deny p.0 p.1.0 p.1.1.0 p.1.1.1.0 p.1.1.1.1
+make frees p = Freed p.0 p.1
+
+abbrev pub kind_of : Message → MessageKind
+kind_of (Request file call urgency mode wanted) = requests
+kind_of (Grant file number call mode span) = grants
+kind_of (Revoke file number holder call mode wanted) = revokes
+kind_of (Taken file number call) = takens
+kind_of (Released file number holder call span) = releases
+kind_of (Conflict file number holder call lock) = conflicts
+kind_of (Deny file call holder number lock) = denials
+kind_of (Freed file holder) = frees
+
+abbrev pub operands_of : (m : Message) → Operands (kind_of m)
+operands_of (Request file call urgency mode wanted) = (file, (call, (urgency, (mode, wanted))))
+operands_of (Grant file number call mode span) = (file, (number, (call, (mode, span))))
+operands_of (Revoke file number holder call mode wanted) = (file, (number, (holder, (call, (mode, wanted)))))
+operands_of (Taken file number call) = (file, (number, call))
+operands_of (Released file number holder call span) = (file, (number, (holder, (call, span))))
+operands_of (Conflict file number holder call lock) = (file, (number, (holder, (call, lock))))
+operands_of (Deny file call holder number lock) = (file, (call, (holder, (number, lock))))
+operands_of (Freed file holder) = (file, holder)
+
+pub fit : (m : Message) → IsServedMessage m → Fit (kind_of m) (operands_of m)
+fit (Request file call urgency mode wanted) served = (served.0, (served.1, (tt, (tt, served.2))))
+fit (Grant file number call mode span) served = (served.0, (served.1, (served.2, (tt, served.3))))
+fit (Revoke file number holder call mode wanted) served = (served.0, (served.1, (served.2, (served.3, (tt, served.4)))))
+fit (Taken file number call) served = (served.0, (served.1, served.2))
+fit (Released file number holder call span) served = (served.0, (served.1, (served.2, (served.3, served.4))))
+fit (Conflict file number holder call lock) served = (served.0, (served.1, (served.2, (served.3, served.4))))
+fit (Deny file call holder number lock) served = (served.0, (served.1, (served.2, (served.3, served.4))))
+fit (Freed file holder) served = (served.0, served.1)
+
+pub made : (m : Message) → make (kind_of m) (operands_of m) ≡ m
+made (Request file call urgency mode wanted) = refl
+made m = refl
+
+pub written : (m : Message) → message_text m ≡ front (kind_of m) ++ rest (kind_of m) (operands_of m)
+written (Request file call urgency mode wanted) = refl
+written m = refl
+
+abbrev pub messages : Kinds Message message_text IsServedMessage
+messages = record {
+  Kind = MessageKind;
+  Operands = Operands;
+  front = front;
+  table = table;
+  told = told;
+  rest = rest;
+  Fit = Fit;
+  kind_of = kind_of;
+  operands_of = operands_of;
+  fit = fit;
+  written = written;
+  make = make;
+  made = made;
+}
+
+pub apart-message : AreApart message_text IsServedMessage
+apart-message = apart-kinds messages apart-rest
+
+-- one word is no message
+pub no_message_alone : (word : List ℕ) → IsOneField word → Reads message_text IsServedMessage word None
+no_message_alone word one (Request file call urgency mode wanted) served e = one (codes "request") _ (one-word (codes "request") refl) e
+no_message_alone word one (Grant file number call mode span) served e = one (codes "grant") _ (one-word (codes "grant") refl) e
+no_message_alone word one (Revoke file number holder call mode wanted) served e = one (codes "revoke") _ (one-word (codes "revoke") refl) e
+no_message_alone word one (Taken file number call) served e = one (codes "taken") _ (one-word (codes "taken") refl) e
+no_message_alone word one (Released file number holder call span) served e = one (codes "released") _ (one-word (codes "released") refl) e
+no_message_alone word one (Conflict file number holder call lock) served e = one (codes "conflict") _ (one-word (codes "conflict") refl) e
+no_message_alone word one (Deny file call holder number lock) served e = one (codes "deny") _ (one-word (codes "deny") refl) e
+no_message_alone word one (Freed file holder) served e = one (codes "freed") _ (one-word (codes "freed") refl) e
+
+-- a word of none of them is no message, whatever stands behind it
+pub no_message_with : (word operands : List ℕ) → Lacks space word → word ≢ codes "request" → word ≢ codes "grant" → word ≢ codes "revoke" → word ≢ codes "taken" → word ≢ codes "released" → word ≢ codes "conflict" → word ≢ codes "deny" → word ≢ codes "freed"
+    → Reads message_text IsServedMessage (word ++ space ∷ operands) None
+no_message_with word operands lacks no_request no_grant no_revoke no_taken no_released no_conflict no_deny no_freed (Request file call urgency mode wanted) served e = no_request (first-word word (codes "request") operands _ lacks refl e)
+no_message_with word operands lacks no_request no_grant no_revoke no_taken no_released no_conflict no_deny no_freed (Grant file number call mode span) served e = no_grant (first-word word (codes "grant") operands _ lacks refl e)
+no_message_with word operands lacks no_request no_grant no_revoke no_taken no_released no_conflict no_deny no_freed (Revoke file number holder call mode wanted) served e = no_revoke (first-word word (codes "revoke") operands _ lacks refl e)
+no_message_with word operands lacks no_request no_grant no_revoke no_taken no_released no_conflict no_deny no_freed (Taken file number call) served e = no_taken (first-word word (codes "taken") operands _ lacks refl e)
+no_message_with word operands lacks no_request no_grant no_revoke no_taken no_released no_conflict no_deny no_freed (Released file number holder call span) served e = no_released (first-word word (codes "released") operands _ lacks refl e)
+no_message_with word operands lacks no_request no_grant no_revoke no_taken no_released no_conflict no_deny no_freed (Conflict file number holder call lock) served e = no_conflict (first-word word (codes "conflict") operands _ lacks refl e)
+no_message_with word operands lacks no_request no_grant no_revoke no_taken no_released no_conflict no_deny no_freed (Deny file call holder number lock) served e = no_deny (first-word word (codes "deny") operands _ lacks refl e)
+no_message_with word operands lacks no_request no_grant no_revoke no_taken no_released no_conflict no_deny no_freed (Freed file holder) served e = no_freed (first-word word (codes "freed") operands _ lacks refl e)

@@ -1,0 +1,15 @@
+use Rattle.std.specs.Fmt.{decimal}
+use Rattle.model.specs.Limits.{IsCall, IsNumber, most_processes}
+use Rattle.lockscript.specs.Reads.{Both, pair_text}
+use Rattle.lockscript.specs.Served.{IsServedOp}
+use Rattle.lockscript.specs.Texts.{call_text, op_text}
+use Rattle.journal_text.proofs.Words.{call_words}
+use Rattle.lockscript.proofs.Pairs.{reads-pair, reads-pair_none}
+use Rattle.journal_text.proofs.events.call_operands.Goals as goal
+
+pub returns-in-None : goal.returns-in-None
+returns-in-None c = reads-pair_none call_text (pair_text decimal op_text) IsCall (Both (IsNumber most_processes) IsServedOp) c.args.text.now call_words c.in-None.ensures
+
+pub returns-in-Some : goal.returns-in-Some
+returns-in-Some c =
+    rw c.zip.ensures (reads-pair call_text (pair_text decimal op_text) IsCall (Both (IsNumber most_processes) IsServedOp) c.args.text.now c.in-Some.call.now c.in-Some.rest.now call_words c.in-Some.ensures.0 c.in-Some.ensures.1 c.call_of.result c.pid_and_op.result c.call_of.ensures c.pid_and_op.ensures)

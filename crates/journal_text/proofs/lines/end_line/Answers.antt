@@ -1,0 +1,7 @@
+use Rattle.lockscript.proofs.Fronts.{none-of_kind}
+use Rattle.journal_text.proofs.LineKinds.{lines}
+use Rattle.journal_text.proofs.LineKinds.LineKind.{ends}
+use Rattle.journal_text.proofs.lines.end_line.Goals as goal
+
+pub returns-in_err-count : goal.returns-in_err-count
+returns-in_err-count c = rw c.from_residual.ensures (none-of_kind lines ends c.args.operands.now c.in_err-count.ensures)

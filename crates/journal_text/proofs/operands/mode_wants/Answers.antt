@@ -1,0 +1,14 @@
+use Rattle.std.specs.Prelude.{⊤}
+use Rattle.lockscript.specs.Texts.{mode_text}
+use Rattle.lockscript.proofs.SingleWords.{mode_words}
+use Rattle.journal_text.specs.Served.{AreServedWants}
+use Rattle.journal_text.specs.Texts.{wants_text}
+use Rattle.lockscript.proofs.Pairs.{reads-pair, reads-pair_none}
+use Rattle.journal_text.proofs.operands.mode_wants.Goals as goal
+
+pub returns-in-None : goal.returns-in-None
+returns-in-None c = reads-pair_none mode_text wants_text (λ _. ⊤) AreServedWants c.args.text.now mode_words c.in-None.ensures
+
+pub returns-in-Some : goal.returns-in-Some
+returns-in-Some c =
+    rw c.zip.ensures (reads-pair mode_text wants_text (λ _. ⊤) AreServedWants c.args.text.now c.in-Some.mode.now c.in-Some.wanted.now mode_words c.in-Some.ensures.0 c.in-Some.ensures.1 c.mode_of.result c.wants_of.result c.mode_of.ensures c.wants_of.ensures)

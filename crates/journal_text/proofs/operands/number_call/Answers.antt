@@ -1,0 +1,14 @@
+use Rattle.std.specs.Fmt.{decimal}
+use Rattle.model.specs.Limits.{IsCall}
+use Rattle.lockscript.specs.Texts.{call_text}
+use Rattle.lockscript.proofs.SingleWords.{message_words}
+use Rattle.journal_text.specs.Served.{IsCommandNumber}
+use Rattle.lockscript.proofs.Pairs.{reads-pair, reads-pair_none}
+use Rattle.journal_text.proofs.operands.number_call.Goals as goal
+
+pub returns-in-None : goal.returns-in-None
+returns-in-None c = reads-pair_none decimal call_text IsCommandNumber IsCall c.args.text.now message_words c.in-None.ensures
+
+pub returns-in-Some : goal.returns-in-Some
+returns-in-Some c =
+    rw c.zip.ensures (reads-pair decimal call_text IsCommandNumber IsCall c.args.text.now c.in-Some.number.now c.in-Some.call.now message_words c.in-Some.ensures.0 c.in-Some.ensures.1 c.counted_of.result c.call_of.result c.counted_of.ensures c.call_of.ensures)

@@ -1,0 +1,13 @@
+use Rattle.std.specs.Fmt.{decimal}
+use Rattle.lockscript.specs.Texts.{lock_text}
+use Rattle.lockscript.proofs.SingleWords.{message_words}
+use Rattle.journal_text.specs.Served.{IsCommandNumber, IsServedLock}
+use Rattle.lockscript.proofs.Pairs.{reads-pair, reads-pair_none}
+use Rattle.journal_text.proofs.operands.number_lock.Goals as goal
+
+pub returns-in-None : goal.returns-in-None
+returns-in-None c = reads-pair_none decimal lock_text IsCommandNumber IsServedLock c.args.text.now message_words c.in-None.ensures
+
+pub returns-in-Some : goal.returns-in-Some
+returns-in-Some c =
+    rw c.zip.ensures (reads-pair decimal lock_text IsCommandNumber IsServedLock c.args.text.now c.in-Some.number.now c.in-Some.lock.now message_words c.in-Some.ensures.0 c.in-Some.ensures.1 c.counted_of.result c.lock_of.result c.counted_of.ensures c.lock_of.ensures)

@@ -1,0 +1,48 @@
+-- Events with the names that their entries give them.
+use Rattle.std.specs.Prelude.{ℕ, List, Option, Some, None}
+use Rattle.model.specs.declared.call.CallId.{CallId}
+use Rattle.model.specs.Limits.{IsCall, IsNumber, most_processes}
+use Rattle.messages.specs.declared.event.Event.{Event}
+use Rattle.messages.specs.declared.event.Event.TheVariants as event
+use Rattle.lockscript.specs.Served.{IsServedOp}
+use Rattle.journal_text.specs.declared.named_event.NamedEvent.{NamedEvent}
+use Rattle.journal_text.specs.declared.named_event.NamedEvent.TheVariants.{Call, Deliver, Interrupt, Retry, Resend, Declare, Restart, Learn}
+use Rattle.journal_text.specs.Served.{IsFile, IsHolder, IsServedMessage}
+use Rattle.journal_text.specs.Texts.{event_text}
+
+abbrev pub event_of : NamedEvent → Event
+event_of (Call call pid op) = event.Call call.node pid op
+event_of (Deliver message) = event.Deliver message
+event_of (Interrupt host pid) = event.Interrupt host.node pid
+event_of (Retry host pid) = event.Retry host.node pid
+event_of (Resend file) = event.Resend file
+event_of (Declare host) = event.Declare host.node
+event_of (Restart host) = event.Restart host.node
+event_of (Learn file host) = event.Learn file host.node host.incarnation
+
+-- the incarnation that an entry of the event names, 0 for none
+abbrev pub incarnation_of : NamedEvent → ℕ
+incarnation_of (Interrupt host pid) = host.incarnation
+incarnation_of (Retry host pid) = host.incarnation
+incarnation_of (Declare host) = host.incarnation
+incarnation_of (Restart host) = host.incarnation
+incarnation_of _ = 0
+
+-- the call that an entry of the event names
+abbrev pub call_of : NamedEvent → Option CallId
+call_of (Call call pid op) = Some call
+call_of _ = None
+
+abbrev pub named_text : NamedEvent → List ℕ
+named_text e = event_text (event_of e) (incarnation_of e) (call_of e)
+
+-- numbers within their limits
+abbrev pub IsServedEvent : NamedEvent → Type 0
+IsServedEvent (Call call pid op) = IsCall call × IsNumber most_processes pid × IsServedOp op
+IsServedEvent (Deliver message) = IsServedMessage message
+IsServedEvent (Interrupt host pid) = IsHolder host × IsNumber most_processes pid
+IsServedEvent (Retry host pid) = IsHolder host × IsNumber most_processes pid
+IsServedEvent (Resend file) = IsFile file
+IsServedEvent (Declare host) = IsHolder host
+IsServedEvent (Restart host) = IsHolder host
+IsServedEvent (Learn file host) = IsFile file × IsHolder host

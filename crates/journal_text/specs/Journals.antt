@@ -1,0 +1,41 @@
+-- Journals as text.
+use Rattle.std.specs.Prelude.{ℕ, ◌+◌, List, [], ◌∷◌, ◌++◌, codes, decimal, flat_map, length, Option, Some, None}
+use Rattle.model.specs.declared.call.CallId.{CallId}
+use Rattle.model.specs.declared.reply.Reply.{Reply}
+use Rattle.messages.specs.declared.message.Message.{Message}
+use Rattle.messages.specs.Entries.{EntryFields}
+use Rattle.messages.specs.Shapes.{ShapeFields}
+use Rattle.lockscript.specs.Scripts.{counts_text}
+use Rattle.lockscript.specs.Texts.{call_text, reply_text}
+use Rattle.journal_text.specs.Texts.{event_text, message_text}
+
+-- the line of the answer, if there is one
+abbrev pub reply_line : Option (CallId × Reply) → List ℕ
+reply_line None = []
+reply_line (Some answer) = codes "reply " ++ call_text answer.0 ++ codes " " ++ reply_text answer.1 ++ codes "\n"
+
+abbrev pub send_line : Message → List ℕ
+send_line message = codes "send " ++ message_text message ++ codes "\n"
+
+-- an entry at this position: its event, its answer, and what it sends
+abbrev pub entry_text : ℕ → EntryFields → List ℕ
+entry_text position e =
+    codes "entry " ++ decimal position ++ codes " " ++ event_text e.event e.incarnation e.call ++ codes "\n"
+    ++ reply_line e.reply
+    ++ flat_map send_line e.sends
+
+-- the entries, the first at this position
+abbrev pub entries_text : ℕ → List EntryFields → List ℕ
+entries_text position [] = []
+entries_text position (e ∷ es) = entry_text position e ++ entries_text (position + 1) es
+
+-- the first line
+abbrev pub head_text : ShapeFields → List ℕ
+head_text s = codes "journal 1 nodes " ++ counts_text (s.nodes, (s.files, s.policy))
+
+-- the last line, of so many entries
+abbrev pub end_text : ℕ → List ℕ
+end_text count = codes "end " ++ decimal count
+
+abbrev pub journal_text : ShapeFields → List EntryFields → List ℕ
+journal_text s entries = head_text s ++ codes "\n" ++ entries_text 1 entries ++ end_text (length entries) ++ codes "\n"

@@ -1,0 +1,31 @@
+-- Lines of journals behind the first.
+use Rattle.std.specs.Prelude.{ℕ, ◌≤◌, List, ◌++◌, codes, decimal}
+use Rattle.model.specs.Limits.{IsCall, IsNumber}
+use Rattle.lockscript.specs.Reads.{pair_text}
+use Rattle.lockscript.specs.Texts.{call_text, reply_text}
+use Rattle.journal_text.specs.declared.lines.JournalLine.{JournalLine}
+use Rattle.journal_text.specs.declared.lines.JournalLine.TheVariants.{Entry, Answer, Send, End}
+use Rattle.journal_text.specs.Events.{IsServedEvent, named_text}
+use Rattle.journal_text.specs.Served.{IsServedMessage, IsServedReply}
+use Rattle.journal_text.specs.Texts.{message_text}
+
+-- the place of an entry
+abbrev pub IsPosition : ℕ → Type 0
+IsPosition = IsNumber 4294967295
+
+-- how many entries there are
+abbrev pub IsCount : ℕ → Type 0
+IsCount count = count ≤ 4294967295
+
+abbrev pub line_text : JournalLine → List ℕ
+line_text (Entry position event) = codes "entry " ++ pair_text decimal named_text (position, event)
+line_text (Answer call reply) = codes "reply " ++ pair_text call_text reply_text (call, reply)
+line_text (Send message) = codes "send " ++ message_text message
+line_text (End count) = codes "end " ++ decimal count
+
+-- its numbers are within their limits
+abbrev pub IsServedLine : JournalLine → Type 0
+IsServedLine (Entry position event) = IsPosition position × IsServedEvent event
+IsServedLine (Answer call reply) = IsCall call × IsServedReply reply
+IsServedLine (Send message) = IsServedMessage message
+IsServedLine (End count) = IsCount count

@@ -1,0 +1,59 @@
+-- Texts of messages and events.
+use Rattle.std.specs.Prelude.{ℕ, List, [], ◌++◌, codes, decimal, Option, Some, None}
+use Rattle.intervals.specs.Bytes.{Range}
+use Rattle.model.specs.declared.call.CallId.{CallId}
+use Rattle.model.specs.declared.host.Host.{Host}
+use Rattle.messages.specs.Wants.{Wants}
+use Rattle.messages.specs.declared.event.Event.{Event}
+use Rattle.messages.specs.declared.event.Event.TheVariants.{Call, Deliver, Interrupt, Retry, Resend, Declare, Restart, Learn}
+use Rattle.messages.specs.declared.message.Message.{Message}
+use Rattle.messages.specs.declared.message.Message.TheVariants.{Request, Grant, Revoke, Taken, Released, Conflict, Deny, Freed}
+use Rattle.messages.specs.declared.message.Urgency.{Urgency}
+use Rattle.messages.specs.declared.message.Urgency.TheVariants.{Now, Waits}
+use Rattle.lockscript.specs.Reads.{pair_text}
+use Rattle.lockscript.specs.Texts.{call_text, host_text, lock_text, mode_text, op_text}
+
+abbrev pub urgency_text : Urgency → List ℕ
+urgency_text Now = codes "now"
+urgency_text Waits = codes "wait"
+
+abbrev pub holder_text : Host → List ℕ
+holder_text h = host_text h.node h.incarnation
+
+-- the first and the last byte
+abbrev pub span_text : Range → List ℕ
+span_text s = pair_text decimal decimal (s.lo, s.hi)
+
+-- the required span and the desired one
+abbrev pub wants_text : Wants → List ℕ
+wants_text w = pair_text span_text span_text (w.required, w.desired)
+
+abbrev pub message_text : Message → List ℕ
+message_text (Request file call urgency mode wanted) =
+    codes "request " ++ pair_text decimal (pair_text call_text (pair_text urgency_text (pair_text mode_text wants_text))) (file, (call, (urgency, (mode, wanted))))
+message_text (Grant file number call mode span) =
+    codes "grant " ++ pair_text decimal (pair_text decimal (pair_text call_text (pair_text mode_text span_text))) (file, (number, (call, (mode, span))))
+message_text (Revoke file number holder call mode wanted) =
+    codes "revoke " ++ pair_text decimal (pair_text decimal (pair_text holder_text (pair_text call_text (pair_text mode_text wants_text)))) (file, (number, (holder, (call, (mode, wanted)))))
+message_text (Taken file number call) =
+    codes "taken " ++ pair_text decimal (pair_text decimal call_text) (file, (number, call))
+message_text (Released file number holder call span) =
+    codes "released " ++ pair_text decimal (pair_text decimal (pair_text holder_text (pair_text call_text span_text))) (file, (number, (holder, (call, span))))
+message_text (Conflict file number holder call lock) =
+    codes "conflict " ++ pair_text decimal (pair_text decimal (pair_text holder_text (pair_text call_text lock_text))) (file, (number, (holder, (call, lock))))
+message_text (Deny file call holder number lock) =
+    codes "deny " ++ pair_text decimal (pair_text call_text (pair_text holder_text (pair_text decimal lock_text))) (file, (call, (holder, (number, lock))))
+message_text (Freed file holder) =
+    codes "freed " ++ pair_text decimal holder_text (file, holder)
+
+-- an event, with the incarnation and the call that its entry names; a call without its name, which no entry has, is written nowhere
+abbrev pub event_text : Event → ℕ → Option CallId → List ℕ
+event_text (Call node pid op) incarnation None = []
+event_text (Call node pid op) incarnation (Some call) = codes "call " ++ pair_text call_text (pair_text decimal op_text) (call, (pid, op))
+event_text (Deliver message) incarnation call = codes "deliver " ++ message_text message
+event_text (Interrupt node pid) incarnation call = codes "interrupt " ++ pair_text (host_text node) decimal (incarnation, pid)
+event_text (Retry node pid) incarnation call = codes "retry " ++ pair_text (host_text node) decimal (incarnation, pid)
+event_text (Resend file) incarnation call = codes "resend " ++ decimal file
+event_text (Declare node) incarnation call = codes "declare " ++ host_text node incarnation
+event_text (Restart node) incarnation call = codes "restart " ++ host_text node incarnation
+event_text (Learn file node known) incarnation call = codes "learn " ++ pair_text decimal (host_text node) (file, known)

@@ -1,0 +1,22 @@
+//! The first line of a journal.
+ghost use Rattle.messages.specs.Shapes.{IsShape};
+ghost use Rattle.lockscript.specs.Reads.{Reads};
+ghost use Rattle.journal_text.specs.Journals.{head_text};
+
+use lockscript::cluster_line::shape_operands;
+use lockscript::fields::after;
+use messages::shape::Shape;
+
+/// The shape that `journal 1 nodes N files F policy P` names, if the line is that and such a cluster
+/// is served.
+pub fn head_of(line: &str) -> Option<Shape>
+    ensures { Reads head_text IsShape line.now result }
+{
+    if let Some(counts) = after(line, "journal 1 nodes ") {
+        return match shape_operands(counts) {
+            Some((nodes, (files, policy))) => Shape::new(nodes, files, policy).ok(),
+            None => None,
+        };
+    }
+    None
+}

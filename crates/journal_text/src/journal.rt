@@ -1,0 +1,112 @@
+//! Journals.
+ghost use Rattle.std.specs.Prelude.{◌≡◌, ◌++◌, codes, flat_map, string_bytes, IfOk, OnOk};
+ghost use Rattle.lockscript.specs.Texts.{policy_text};
+ghost use Rattle.journal_text.specs.Journals.{end_text, entries_text, entry_text, head_text, journal_text, reply_line, send_line};
+
+use crate::texts::{push_event, push_message};
+use intervals::span_map::NoMemory;
+use lockscript::texts::{push_call, push_reply};
+use messages::entry::Entry;
+use messages::message::Message;
+use messages::shape::Shape;
+use model::call::CallId;
+use model::policy::Policy;
+use model::reply::Reply;
+use std::alloc::{AllocError, Global};
+use std::fmt::Write;
+
+/// The journal of a cluster of this shape as text: a first line with the shape, the lines of each
+/// entry, the first at position 1, and a last line with how many entries there are.
+///
+/// # Errors
+/// `NoMemory` where a request for memory was refused.
+pub fn print(alloc: Global, shape: &Shape, entries: &[Entry]) -> Result<String, NoMemory>
+    ensures { IfOk result (λ text. string_bytes text ≡ journal_text shape.now entries.now) }
+{
+    let mut out = String::new(alloc);
+    push_head(&mut out, shape)?;
+    push_entries(&mut out, entries)?;
+    let count = entries.len();
+    writeln!(out, "end {count}")?;
+    Ok(out)
+}
+
+fn policy_word(policy: Policy) -> &'static str
+    ensures { result.now ≡ policy_text policy }
+{
+    match policy {
+        Policy::Wide => "wide",
+        Policy::Exact => "exact",
+    }
+}
+
+/// Writes the first line of a journal.
+///
+/// # Errors
+/// `AllocError` where a request for memory was refused.
+pub fn push_head(out: &mut String, shape: &Shape) -> Result<(), AllocError>
+    ensures { OnOk result (string_bytes out.new ≡ string_bytes out.old ++ head_text shape.now ++ codes "\n") }
+{
+    let nodes = shape.nodes();
+    let files = shape.files();
+    let policy = policy_word(shape.policy());
+    writeln!(out, "journal 1 nodes {nodes} files {files} policy {policy}")
+}
+
+// Writes the lines of entries, the first of them at position 1.
+fn push_entries(out: &mut String, entries: &[Entry]) -> Result<(), AllocError>
+    ensures { OnOk result (string_bytes out.new ≡ string_bytes out.old ++ entries_text 1 entries.now) }
+{
+    let mut position = 0u64;
+    for entry in entries {
+        position += 1;
+        push_entry(out, position, entry)?;
+    }
+    Ok(())
+}
+
+/// Writes the lines of an entry at this position.
+///
+/// # Errors
+/// `AllocError` where a request for memory was refused.
+pub fn push_entry(out: &mut String, position: u64, entry: &Entry) -> Result<(), AllocError>
+    ensures { OnOk result (string_bytes out.new ≡ string_bytes out.old ++ entry_text position entry.now) }
+{
+    write!(out, "entry {position} ")?;
+    push_event(out, &entry.event(), entry.incarnation(), &entry.call())?;
+    out.push_str("\n")?;
+    push_answer(out, &entry.reply())?;
+    push_sends(out, entry.sends())
+}
+
+// Writes the line of an answer, or nothing where there is none.
+fn push_answer(out: &mut String, answer: &Option<(CallId, Reply)>) -> Result<(), AllocError>
+    ensures { OnOk result (string_bytes out.new ≡ string_bytes out.old ++ reply_line answer.now) }
+{
+    let Some((call, reply)) = answer else {
+        return Ok(());
+    };
+    out.push_str("reply ")?;
+    push_call(out, call)?;
+    out.push_str(" ")?;
+    push_reply(out, reply)?;
+    out.push_str("\n")
+}
+
+// Writes the lines of messages that are sent.
+fn push_sends(out: &mut String, sends: &[Message]) -> Result<(), AllocError>
+    ensures { OnOk result (string_bytes out.new ≡ string_bytes out.old ++ flat_map send_line sends.now) }
+{
+    for message in sends {
+        push_send(out, message)?;
+    }
+    Ok(())
+}
+
+fn push_send(out: &mut String, message: &Message) -> Result<(), AllocError>
+    ensures { OnOk result (string_bytes out.new ≡ string_bytes out.old ++ send_line message.now) }
+{
+    out.push_str("send ")?;
+    push_message(out, message)?;
+    out.push_str("\n")
+}

@@ -1,0 +1,94 @@
+//! Events with the names that their entries give them.
+ghost use Rattle.std.specs.Prelude.{◌≡◌};
+ghost use Rattle.journal_text.specs.Events as named;
+
+use messages::event::Event;
+use messages::message::Message;
+use model::call::CallId;
+use model::host::Host;
+use model::op::Op;
+
+/// An event with the incarnation, or the call, that its entry names.
+#[derive(Clone, Copy)]
+pub enum NamedEvent {
+    /// A process makes a call, which takes this name.
+    Call { call: CallId, pid: u16, op: Op },
+    /// A message comes to its addressee.
+    Deliver(Message),
+    /// The wait of a process is interrupted.
+    Interrupt { host: Host, pid: u16 },
+    /// The open call of a process is tried again.
+    Retry { host: Host, pid: u16 },
+    /// The token server of a file sends again what has no answer.
+    Resend { file: u16 },
+    /// The node is declared failed in this incarnation.
+    Declare { host: Host },
+    /// The node begins again in this incarnation.
+    Restart { host: Host },
+    /// The token server of a file learns that this incarnation of a node was declared.
+    Learn { file: u16, host: Host },
+}
+
+impl NamedEvent {
+    /// The event without those names.
+    pub fn event(&self) -> Event
+        ensures { result ≡ named.event_of self.now }
+    {
+        match self {
+            NamedEvent::Call { call, pid, op } => Event::Call {
+                node: call.node,
+                pid: *pid,
+                op: *op,
+            },
+            NamedEvent::Deliver(message) => Event::Deliver(*message),
+            NamedEvent::Interrupt { host, pid } => Event::Interrupt {
+                node: host.node,
+                pid: *pid,
+            },
+            NamedEvent::Retry { host, pid } => Event::Retry {
+                node: host.node,
+                pid: *pid,
+            },
+            NamedEvent::Resend { file } => Event::Resend { file: *file },
+            NamedEvent::Declare { host } => Event::Declare { node: host.node },
+            NamedEvent::Restart { host } => Event::Restart { node: host.node },
+            NamedEvent::Learn { file, host } => Event::Learn {
+                file: *file,
+                node: host.node,
+                incarnation: host.incarnation,
+            },
+        }
+    }
+
+    /// The incarnation that the event's entry names, 0 for none.
+    pub fn incarnation(&self) -> u16
+        ensures { result ≡ named.incarnation_of self.now }
+    {
+        match self {
+            NamedEvent::Interrupt { host, .. }
+            | NamedEvent::Retry { host, .. }
+            | NamedEvent::Declare { host }
+            | NamedEvent::Restart { host } => host.incarnation,
+            NamedEvent::Call { .. }
+            | NamedEvent::Deliver(_)
+            | NamedEvent::Resend { .. }
+            | NamedEvent::Learn { .. } => 0,
+        }
+    }
+
+    /// The call that the event's entry names.
+    pub fn call(&self) -> Option<CallId>
+        ensures { result ≡ named.call_of self.now }
+    {
+        match self {
+            NamedEvent::Call { call, .. } => Some(*call),
+            NamedEvent::Deliver(_)
+            | NamedEvent::Interrupt { .. }
+            | NamedEvent::Retry { .. }
+            | NamedEvent::Resend { .. }
+            | NamedEvent::Declare { .. }
+            | NamedEvent::Restart { .. }
+            | NamedEvent::Learn { .. } => None,
+        }
+    }
+}

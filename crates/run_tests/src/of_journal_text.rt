@@ -1,0 +1,3 @@
+//! Journals as text.
+mod printed;
+mod read;

@@ -1,0 +1,159 @@
+//! Journals that are printed.
+use intervals::span::{GREATEST, Span};
+use journal_text::journal::print;
+use messages::entry::Entry;
+use messages::event::Event;
+use messages::items::Items;
+use messages::message::{Message, Urgency};
+use messages::outcome::Outcome;
+use messages::shape::Shape;
+use messages::wanted::Wanted;
+use model::call::CallId;
+use model::host::Host;
+use model::lock_info::LockInfo;
+use model::mode::Mode;
+use model::op::Op;
+use model::owner::{Kind, Owner};
+use model::policy::Policy;
+use model::reply::Reply;
+use std::alloc::Global;
+use std::test::Fail;
+
+const JOURNAL: &str = "journal 1 nodes 2 files 1 policy wide
+entry 1 call 1.1.1 1 spawn
+reply 1.1.1 done
+entry 2 deliver revoke 1 2 1.1 2.1.3 read 0 99 0 9223372036854775807
+send conflict 1 2 1.1 2.1.3 write 0 99 p1@1.1
+send freed 1 1.1
+entry 3 retry 2.1 1
+send request 1 2.1.3 wait read 0 99 0 9223372036854775807
+entry 4 resend 1
+end 4
+";
+
+const CALL: CallId = CallId {
+    node: 1,
+    incarnation: 1,
+    number: 1,
+};
+
+const ASKS: CallId = CallId {
+    node: 2,
+    incarnation: 1,
+    number: 3,
+};
+
+const HOLDER: Host = Host {
+    node: 1,
+    incarnation: 1,
+};
+
+const LOCK: LockInfo = LockInfo {
+    owner: Owner {
+        node: 1,
+        incarnation: 1,
+        kind: Kind::OfProcess,
+        number: 1,
+    },
+    mode: Mode::Write,
+    span: Span { lo: 0, hi: 99 },
+};
+
+fn wanted() -> Wanted {
+    let required = Span { lo: 0, hi: 99 };
+    let desired = Span {
+        lo: 0,
+        hi: GREATEST,
+    };
+    Wanted::new(required, desired)
+}
+
+fn spawned(alloc: Global) -> Entry {
+    let event = Event::Call {
+        node: 1,
+        pid: 1,
+        op: Op::Spawn,
+    };
+    let sends = Items::new(alloc);
+    Entry::new(
+        event,
+        Outcome {
+            call: Some(CALL),
+            reply: Some((CALL, Reply::Done)),
+            sends,
+        },
+    )
+}
+
+fn revoked(alloc: Global) -> Result<Entry, Fail> {
+    let mut sends = Items::one(
+        alloc,
+        Message::Conflict {
+            file: 1,
+            number: 2,
+            holder: HOLDER,
+            call: ASKS,
+            lock: LOCK,
+        },
+    )?;
+    sends.push(Message::Freed {
+        file: 1,
+        holder: HOLDER,
+    })?;
+    let revoke = Message::Revoke {
+        file: 1,
+        number: 2,
+        holder: HOLDER,
+        call: ASKS,
+        mode: Mode::Read,
+        wanted: wanted(),
+    };
+    Ok(Entry::new(
+        Event::Deliver(revoke),
+        Outcome::sending(sends),
+    ))
+}
+
+fn retried(alloc: Global) -> Result<Entry, Fail> {
+    let request = Message::Request {
+        file: 1,
+        call: ASKS,
+        urgency: Urgency::Waits,
+        mode: Mode::Read,
+        wanted: wanted(),
+    };
+    let sends = Items::one(alloc, request)?;
+    Ok(Entry::at_node(
+        Event::Retry { node: 2, pid: 1 },
+        1,
+        Outcome::sending(sends),
+    ))
+}
+
+#[test]
+fn has_a_first_and_a_last_line(rt: HostRuntime) -> Result<(), Fail> {
+    let alloc = rt.alloc();
+    let shape = Shape::new(2, 1, Policy::Wide)?;
+    let text = print(alloc, &shape, &[])?;
+    assert_eq!(rt;
+        text.as_str(),
+        "journal 1 nodes 2 files 1 policy wide\nend 0\n"
+    );
+    Ok(())
+}
+
+#[test]
+fn has_the_lines_of_its_entries(rt: HostRuntime) -> Result<(), Fail> {
+    let alloc = rt.alloc();
+    let shape = Shape::new(2, 1, Policy::Wide)?;
+    let resent = Outcome::sending(Items::new(alloc));
+    let entries = vec![in alloc;
+        spawned(alloc),
+        revoked(alloc)?,
+        retried(alloc)?,
+        Entry::new(Event::Resend { file: 1 }, resent),
+    ]?;
+    let text = print(alloc, &shape, &entries)?;
+    assert_eq!(rt; text.as_str(), JOURNAL);
+    Ok(())
+}
