@@ -27,8 +27,10 @@ send conflict 1 2 1.1 2.1.3 write 0 99 p1@1.1
 send freed 1 1.1
 entry 3 retry 2.1 1
 send request 1 2.1.3 wait read 0 99 0 9223372036854775807
-entry 4 resend 1
-end 4
+entry 4 interrupt 2.1 1
+reply 2.1.3 interrupted
+entry 5 resend 1
+end 5
 ";
 
 const CALL: CallId = CallId {
@@ -130,6 +132,19 @@ fn retried(alloc: Global) -> Result<Entry, Fail> {
     ))
 }
 
+fn interrupted(alloc: Global) -> Entry {
+    let sends = Items::new(alloc);
+    Entry::at_node(
+        Event::Interrupt { node: 2, pid: 1 },
+        1,
+        Outcome {
+            call: None,
+            reply: Some((ASKS, Reply::Interrupted)),
+            sends,
+        },
+    )
+}
+
 #[test]
 fn has_a_first_and_a_last_line(rt: HostRuntime) -> Result<(), Fail> {
     let alloc = rt.alloc();
@@ -151,6 +166,7 @@ fn has_the_lines_of_its_entries(rt: HostRuntime) -> Result<(), Fail> {
         spawned(alloc),
         revoked(alloc)?,
         retried(alloc)?,
+        interrupted(alloc),
         Entry::new(Event::Resend { file: 1 }, resent),
     ]?;
     let text = print(alloc, &shape, &entries)?;

@@ -24,11 +24,16 @@ fn messages_have_one_text(rt: HostRuntime) -> Result<(), Fail> {
 fn events_and_replies_have_one_text(rt: HostRuntime) -> Result<(), Fail> {
     assert!(rt; event_of("call 1.1.3 1 set 0 proc write 0 100").is_some());
     assert!(rt; event_of("deliver taken 1 1 1.1.3").is_some());
+    assert!(rt; event_of("call 1.1.3 1 wait 0 proc write 0 100").is_some());
+    assert!(rt; event_of("interrupt 1.2 256").is_some());
+    assert!(rt; event_of("interrupt 1 256").is_none());
     assert!(rt; event_of("restart 1.2").is_some());
     assert!(rt; event_of("restart 1.0").is_none());
     assert!(rt; event_of("learn 1 1 2").is_none());
     assert!(rt; reply_of("again write 0 99 p1@1.1").is_some());
     assert!(rt; reply_of("done").is_some());
+    assert!(rt; reply_of("interrupted").is_some());
+    assert!(rt; reply_of("interrupt").is_none());
     assert!(rt; reply_of("fd 256").is_none());
     assert!(rt; line_of("entry 1 call 1.1.1 1 spawn").is_some());
     assert!(rt; line_of("end 0").is_some());
