@@ -110,10 +110,7 @@ fn revoked(alloc: Global) -> Result<Entry, Fail> {
         mode: Mode::Read,
         wanted: wanted(),
     };
-    Ok(Entry::new(
-        Event::Deliver(revoke),
-        Outcome::sending(sends),
-    ))
+    Ok(Entry::new(Event::Deliver(revoke), Outcome::sending(sends)))
 }
 
 fn retried(alloc: Global) -> Result<Entry, Fail> {
@@ -125,11 +122,7 @@ fn retried(alloc: Global) -> Result<Entry, Fail> {
         wanted: wanted(),
     };
     let sends = Items::one(alloc, request)?;
-    Ok(Entry::at_node(
-        Event::Retry { node: 2, pid: 1 },
-        1,
-        Outcome::sending(sends),
-    ))
+    Ok(Entry::at_node(Event::Retry { node: 2, pid: 1 }, 1, Outcome::sending(sends)))
 }
 
 fn interrupted(alloc: Global) -> Entry {
