@@ -65,7 +65,7 @@ abbrev pub Makes : WorldParts → Event → Change → Result (WorldState × Ent
 Makes p event (OfNode n incarnation change) r = IsNodeChange p event n incarnation change r
 Makes p event (OfServer file change) r = IsServerChange p event file change r
 Makes p event (Declared n) r = IsDeclaration p n r
-Makes p event (Restarted n begun) r = IsRestart p n begun × (r ≡ restart_rule (world_state p) n)
+Makes p event (Restarted n begun) r = IsRestart p n begun.value × (r ≡ restart_rule (world_state p) n)
 
 -- the change is what the event will do
 pub record Plans (p : WorldParts) (event : Event) (change : Change) : Type 0 where

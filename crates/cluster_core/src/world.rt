@@ -354,7 +354,8 @@ impl World {
         ensures refused { (e : Refused) → restart_rule (world_state self.now) node ≡ Err e → result ≡ Err e }
     {
         let incarnation = self.members.next(node)?;
-        let begun = Node::new(alloc, self.shape, node, incarnation)?;
+        let first = Node::new(alloc, self.shape, node, incarnation)?;
+        let begun = Box::new(alloc, first)?;
         Ok(Change::Restarted { node, begun })
     }
 
@@ -476,15 +477,15 @@ impl World {
     }
 
     // The node restarts, as this one.
-    fn restart(&mut self, alloc: Global, node: u8, begun: Node) -> Entry
+    fn restart(&mut self, alloc: Global, node: u8, begun: Box<Node>) -> Entry
         requires room { self.old.length < journal_limit }
-        requires made { IsRestart self.old node begun }
+        requires made { IsRestart self.old node begun.value }
         ensures { restart_rule (world_state self.old) node ≡ Ok (world_state self.new, result) }
     {
         let Ok(incarnation) = self.members.restart(node) else {
             unreachable!()
         };
-        self.nodes[node as usize - 1] = begun;
+        self.nodes[node as usize - 1] = Box::into_inner(begun);
         self.length += 1;
         let outcome = Outcome::sending(Items::new(alloc));
         Entry::at_node(Event::Restart { node }, incarnation, outcome)

@@ -1,6 +1,7 @@
 //! The token server of a file.
 #![tactic(auto)]
 
+mod active;
 mod by_call;
 pub mod change;
 mod client;

@@ -13,6 +13,7 @@ ghost use Rattle.token_server.specs.Server.{server_rule, learn_rule, with_a_row,
 ghost use Rattle.token_server.specs.Parts.{server_state, rows_of, deaths_of, told_commands};
 ghost use Rattle.token_server.specs.Edits.{queue_after, drafted_parts, drafted, with_given, planned};
 
+use crate::active::{denial, is_active, put_off, same_request, unless_of_call, unless_up_to};
 use crate::change::{Change, Draft, Edit, Given};
 use crate::clients::Clients;
 use crate::commands::Commands;
@@ -753,70 +754,4 @@ fn given(
         token,
     };
     Ok((Some(given), sends))
-}
-
-// Whether both are the same request, or none.
-fn same_request(one: &Option<Held>, other: &Option<Held>) -> bool
-    ensures { IsTrue result ↔ (one.now ≡ other.now) }
-{
-    one == other
-}
-
-// The request, unless it is of the node in that incarnation or an older one.
-fn unless_up_to(active: Option<Held>, node: u8, incarnation: u16) -> Option<Held>
-    ensures { result ≡ unless (is_up_to node incarnation) active }
-{
-    match active {
-        Some(request) if !request.is_up_to(node, incarnation) => Some(request),
-        _ => None,
-    }
-}
-
-// The request, unless it is of the call.
-fn unless_of_call(active: Option<Held>, call: CallId) -> Option<Held>
-    ensures { result ≡ unless (is_of_call call) active }
-{
-    match active {
-        Some(request) if !request.is_of_call(call) => Some(request),
-        _ => None,
-    }
-}
-
-// Whether the request that is served is of the call.
-fn is_active(active: &Option<Held>, call: CallId) -> bool
-    ensures { result ≡ is_active call active.now }
-{
-    match active {
-        Some(request) => request.is_of_call(call),
-        None => false,
-    }
-}
-
-// The request that is served, where it is of the call and may wait.
-fn put_off(active: &Option<Held>, call: CallId) -> Option<Held>
-    ensures { put_off call active.now ≡ option_to_list result }
-{
-    match active {
-        Some(request) if request.is_of_call(call) && request.urgency == Urgency::Waits => {
-            Some(*request)
-        }
-        _ => None,
-    }
-}
-
-// The denial of a call, where its request is the one that is served and may not wait.
-fn denial(
-    alloc: Global,
-    active: &Option<Held>,
-    call: CallId,
-    deny: &Message,
-) -> Result<Items<Message>, NoMemory>
-    ensures { IfOk result (λ sends. sends ≡ denial call deny.now active.now) }
-{
-    match active {
-        Some(request) if request.is_of_call(call) && request.urgency == Urgency::Now => {
-            Items::one(alloc, *deny)
-        }
-        _ => Ok(Items::new(alloc)),
-    }
 }

@@ -21,9 +21,9 @@ pub(crate) enum Change {
     Declared {
         node: u8,
     },
-    /// The node begins again, as this one.
+    /// The node begins again, as this one. (In a box, since a change is handed on for each event.)
     Restarted {
         node: u8,
-        begun: Node,
+        begun: Box<Node>,
     },
 }

@@ -1,0 +1,78 @@
+//! The request that a server serves.
+ghost use Rattle.std.specs.Prelude.{◌≡◌, ◌↔◌, IfOk, IsTrue};
+ghost use Rattle.std.specs.Option.{option_to_list};
+ghost use Rattle.token_server.specs.State.{is_of_call, is_up_to, unless};
+ghost use Rattle.token_server.specs.Server.{is_active, put_off, denial};
+
+use crate::held::Held;
+use intervals::span_map::NoMemory;
+use messages::items::Items;
+use messages::message::{Message, Urgency};
+use model::call::CallId;
+use std::alloc::Global;
+
+/// Whether both are the same request, or none.
+pub(crate) fn same_request(one: &Option<Held>, other: &Option<Held>) -> bool
+    ensures { IsTrue result ↔ (one.now ≡ other.now) }
+{
+    one == other
+}
+
+/// The request, unless it is of the node in that incarnation or an older one.
+pub(crate) fn unless_up_to(active: Option<Held>, node: u8, incarnation: u16) -> Option<Held>
+    ensures { result ≡ unless (is_up_to node incarnation) active }
+{
+    match active {
+        Some(request) if !request.is_up_to(node, incarnation) => Some(request),
+        _ => None,
+    }
+}
+
+/// The request, unless it is of the call.
+pub(crate) fn unless_of_call(active: Option<Held>, call: CallId) -> Option<Held>
+    ensures { result ≡ unless (is_of_call call) active }
+{
+    match active {
+        Some(request) if !request.is_of_call(call) => Some(request),
+        _ => None,
+    }
+}
+
+/// Whether the request that is served is of the call.
+pub(crate) fn is_active(active: &Option<Held>, call: CallId) -> bool
+    ensures { result ≡ is_active call active.now }
+{
+    match active {
+        Some(request) => request.is_of_call(call),
+        None => false,
+    }
+}
+
+/// The request that is served, where it is of the call and may wait.
+pub(crate) fn put_off(active: &Option<Held>, call: CallId) -> Option<Held>
+    ensures { put_off call active.now ≡ option_to_list result }
+{
+    match active {
+        Some(request) if request.is_of_call(call) && request.urgency == Urgency::Waits => {
+            Some(*request)
+        }
+        _ => None,
+    }
+}
+
+/// The denial of a call, where its request is the one that is served and may not wait.
+pub(crate) fn denial(
+    alloc: Global,
+    active: &Option<Held>,
+    call: CallId,
+    deny: &Message,
+) -> Result<Items<Message>, NoMemory>
+    ensures { IfOk result (λ sends. sends ≡ denial call deny.now active.now) }
+{
+    match active {
+        Some(request) if request.is_of_call(call) && request.urgency == Urgency::Now => {
+            Items::one(alloc, *deny)
+        }
+        _ => Ok(Items::new(alloc)),
+    }
+}
