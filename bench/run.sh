@@ -12,27 +12,7 @@ if [ -z "$folder" ]; then
 fi
 [ $# -gt 0 ] || set -- covered readers lossy fight storm crowd walk churn failures turns
 "$here/../lockreplay" --help >/dev/null || exit 1
-
-# Runs the program so many times. Prints the processor seconds of the fastest run, and the peak memory in kilobytes.
-measure() {
-    python3 - "$here/../crates/lockreplay/out/lockreplay" "$@" <<'PYTHON'
-import resource, subprocess, sys
-program, script, listing, runs = sys.argv[1:]
-def spent():
-    used = resource.getrusage(resource.RUSAGE_CHILDREN)
-    return used.ru_utime + used.ru_stime
-fastest = None
-for _ in range(int(runs)):
-    before = spent()
-    with open(listing, "wb") as out:
-        status = subprocess.run([program, "run", script], stdout=out).returncode
-    if status != 0:
-        sys.exit(f"{script}: status {status}")
-    seconds = spent() - before
-    fastest = seconds if fastest is None else min(fastest, seconds)
-print(f"{fastest:.4f} {resource.getrusage(resource.RUSAGE_CHILDREN).ru_maxrss}")
-PYTHON
-}
+program=$here/../crates/lockreplay/out/lockreplay
 
 # The position of the last reply of a listing.
 entries_of() {
@@ -58,7 +38,7 @@ for kind in "$@"; do
         script=$folder/$kind-$lines.lock
         listing=$folder/$kind-$lines.listing
         sh "$here/script.sh" "$kind" "$lines" >"$script" || exit 1
-        measured=$(measure "$script" "$listing" "${size#*:}") || exit 1
+        measured=$("$here/measure" "${size#*:}" "$listing" "$program" run "$script") || exit 1
         row="$kind $lines $(entries_of "$listing") $measured"
         [ -n "$first" ] || first=$row
         echo "$first $row" | awk '{
