@@ -18,7 +18,7 @@ use Rattle.descriptors.specs.declared.row.Row.{Row}
 use Rattle.descriptors.specs.declared.edit.ProcessEdit.{ProcessEdit}
 use Rattle.descriptors.specs.Rows.{processes}
 use Rattle.descriptors.specs.Edits.{edited, Fits}
-use Rattle.fcntl_table.specs.Hosts.{HostRows, AreHosts, FitsOn, processes_of, shown, table_with, with_host}
+use Rattle.fcntl_table.specs.Hosts.{HostRows, AreHosts, FitsOn, IsKept, processes_of, shown, table_with, with_host}
 
 abbrev at : ℕ → ℕ → Host
 at node incarnation = record { node = node; incarnation = incarnation }
@@ -215,6 +215,15 @@ shut_on F old new host rows written locks left changes made =
 -- a process runs only on a node of which something is kept
 pub runs-nowhere : (hosts : HostRows) (host : Host) (pid : ℕ) → processes_of hosts host.node host.incarnation ≡ no_processes → (processes_of hosts host.node host.incarnation).runs pid ≡ true → ⊥
 runs-nowhere hosts host pid none runs = false≢true (ap (λ (ps : Processes). ps.runs pid) (sym none) ∙ runs)
+
+-- so something is kept of a node where one runs
+pub runs-kept : (hosts : HostRows) (host : Host) (pid : ℕ) → (processes_of hosts host.node host.incarnation).runs pid ≡ true → IsKept hosts host
+unfolding processes_of
+runs-kept hosts host pid = by (lookup (same_host host) hosts)
+  where
+    by : (rows : Option (List Row)) → (by_kept rows).runs pid ≡ true → IsSome rows
+    by None runs = absurd (false≢true (ap (λ (ps : Processes). ps.runs pid) (sym none_run) ∙ runs))
+    by (Some rows) runs = refl
 
 -- a host of which none runs is kept no longer
 abbrev pub Removes : HostRows → Host → HostRows → Type 0

@@ -1,6 +1,6 @@
 -- What a single machine's table answers.
 use Rattle.std.proofs.Common.{◌≡◌, ℕ, Bool, true, false, if◌then◌else◌, refl, sym, ◌∙◌, ap, subst, Option, Some, None, Result, Ok, Err, ℤ}
-use Rattle.std.specs.Prelude.{IfOk, MatchResult}
+use Rattle.std.specs.Prelude.{IfOk, IsOk, MatchResult}
 use Rattle.intervals.specs.declared.span.SpanError.{SpanError}
 use Rattle.intervals.specs.Bytes.{Range}
 use Rattle.intervals.specs.Segment.{seg}
@@ -11,20 +11,24 @@ use Rattle.model.specs.declared.owner.Kind.{Kind}
 use Rattle.model.specs.declared.process.Process.{Process}
 use Rattle.model.specs.declared.reply.Reply.{Reply}
 use Rattle.model.specs.declared.reply.Reply.TheVariants as reply
-use Rattle.model.specs.declared.reply.Reply.TheVariants.{Done}
-use Rattle.model.specs.Descriptors.{Processes, no_processes}
+use Rattle.model.specs.declared.reply.Reply.TheVariants.{Done, Exists}
+use Rattle.model.specs.Descriptors.{Processes, no_processes, after_spawn}
 use Rattle.model.specs.Locks.{no_locks}
 use Rattle.model.specs.Table.{Table, Target, empty_table, around, is_running, descriptor, beside, target_at, target, closed_at, closed_if, after_close}
 use Rattle.model.specs.Step.{Is}
 use Rattle.lock_table.specs.Rows.{held}
 use Rattle.descriptors.specs.declared.error.FdError.{FdError}
 use Rattle.descriptors.specs.declared.error.FdError.TheVariants.{NoProcess, BadFd}
-use Rattle.descriptors.specs.Rows.{opened_or, resolved, fd_reply}
+use Rattle.descriptors.specs.declared.error.ProcessError.{ProcessError}
+use Rattle.descriptors.specs.declared.error.ProcessError.TheVariants as error
+use Rattle.descriptors.specs.Rows.{Refuses, opened_or, resolved, fd_reply}
 use Rattle.model.proofs.Refusals.{ok_is}
+use Rattle.fcntl_table.proofs.HostLaws.{runs-kept}
 use Rattle.fcntl_table.proofs.TargetLaws.{target-ok, target-err}
 use Rattle.fcntl_table.specs.declared.table.FcntlTable.{FcntlTable}
 use Rattle.fcntl_table.specs.Hosts.{processes_of}
-use Rattle.fcntl_table.specs.Tables.{table_of}
+use Rattle.fcntl_table.specs.Tables.{table_of, Keeps}
+use Rattle.fcntl_table.specs.declared.edit.Planned.{Planned}
 use Rattle.fcntl_table.specs.declared.edit.TableEdit.{TableEdit}
 use Rattle.fcntl_table.specs.declared.edit.TableEdit.TheVariants.{Nothing, OfProcess, Closes}
 use Rattle.fcntl_table.specs.Edits.{edited}
@@ -103,6 +107,33 @@ pub planned-refused : (t : Table) (p : Process) (host : Host) (edit : TableEdit)
 planned-refused t p host edit r refusal of_p nothing is =
     let here : r (around t p) ≡ Err refusal = ap (λ (h : Host). r (t.on h.node h.incarnation)) (sym of_p) ∙ is in
     (ap (λ x. (beside t p x).1) (sym here), ap (edited t) nothing ∙ ap (λ x. (beside t p x).0) (sym here))
+
+-- what they answer is no refusal
+pub not-refused : (t : Table) (p : Process) (host : Host) (r : Processes → Result (Processes × Reply) Reply) (answer : Processes × Reply) (refusal : Reply) → host ≡ host_of p → r (t.on host.node host.incarnation) ≡ Ok answer → r (around t p) ≡ Err refusal → ⊥
+not-refused t p host r answer refusal of_p is refused =
+    let never : ◌≡◌ {A = Result (Processes × Reply) Reply} (Ok answer) (Err refusal) = sym is ∙ (ap (λ (h : Host). r (t.on h.node h.incarnation)) of_p ∙ refused) in
+    absurd (cc)
+
+-- what the rule refuses is planned so, and never for want of memory
+pub refused-outright : {B : Type 0} (t : Table) (p : Process) (host : Host) (r : Processes → Result (Processes × Reply) Reply) (e : ProcessError) (refusal : Reply) (result : Result Planned B) → host ≡ host_of p → Refuses e (r (t.on host.node host.incarnation)) → MatchResult result (λ planned. (planned.edit ≡ Nothing) × ((answer : Result (Processes × Reply) Reply) → Refuses e answer → answer ≡ Err planned.reply)) (λ _. e ≡ error.NoMemory) → r (around t p) ≡ Err refusal → result ≡ Ok (record { edit = Nothing; reply = refusal })
+refused-outright t p host r e refusal (Ok planned) of_p refuses m refused =
+    let told : ◌≡◌ {A = Result (Processes × Reply) Reply} (Err planned.reply) (Err refusal) = sym (m.1 _ refuses) ∙ (ap (λ (h : Host). r (t.on h.node h.incarnation)) of_p ∙ refused) in
+    let same : planned.reply ≡ refusal = cc in
+    λ i. Ok (record { edit = m.0 i; reply = same i })
+refused-outright t p host r e refusal (Err failed) of_p refuses m refused =
+    let answered : IsOk (r (t.on host.node host.incarnation)) = subst (λ (x : ProcessError). Refuses x (r (t.on host.node host.incarnation))) m refuses in
+    let not : IsOk {T = Processes × Reply} {E = Reply} (Err refusal) = subst (λ (x : Result (Processes × Reply) Reply). IsOk x) (ap (λ (h : Host). r (t.on h.node h.incarnation)) of_p ∙ refused) answered in
+    absurd (cc)
+
+-- a process that runs already is one of a node that is kept
+pub refused-kept : (m : FcntlTable) (p : Process) (host : Host) (refusal : Reply) → host ≡ host_of p → after_spawn (around (table_of m) p) p.pid ≡ Err refusal → Keeps m host
+unfolding table_of
+refused-kept m p host refusal of_p refused =
+    subst (Keeps m) (sym of_p) (runs-kept m.hosts (host_of p) p.pid (by ((around (table_of m) p).runs p.pid) _ refused))
+  where
+    by : (b : Bool) (x : Processes × Reply) → ◌≡◌ {A = Result (Processes × Reply) Reply} (if b then Err Exists else Ok x) (Err refusal) → b ≡ true
+    by true x e = refl
+    by false x e = absurd (cc)
 
 -- what a result that is Ok comes with
 pub if_matched : {A B : Type 0} (r : Result A B) (P Q : A → Type 0) (R : B → Type 0) → MatchResult r P R → ((x : A) → P x → Q x) → IfOk r Q

@@ -1,5 +1,5 @@
 //! The processes of each host: a node in one of its incarnations.
-ghost use Rattle.std.specs.Prelude.{◌≡◌, ℕ, true, false, Ok, IfOk, IfErr, IsTrue, ◌↔◌, OnOk, MatchOption};
+ghost use Rattle.std.specs.Prelude.{◌≡◌, ◌≢◌, ℕ, true, false, Ok, IfOk, IfErr, IsOk, IsTrue, ◌↔◌, OnOk, MatchOption};
 ghost use Rattle.model.specs.declared.reply.Reply.TheVariants.{Done, Fd};
 ghost use Rattle.model.specs.Limits.{IsHost, IsNumber, most_processes, most_descriptions};
 ghost use Rattle.model.specs.Descriptors.{no_processes, after_spawn, after_fork, after_open, after_dup};
@@ -72,13 +72,15 @@ impl Hosts {
         }
     }
 
-    /// Something is kept of the host from now on, be there no process that runs.
+    /// Something is kept of the host from now on, be there no process that runs. Takes no memory where
+    /// something is kept already.
     ///
     /// # Errors
     /// `NoMemory`.
     pub(crate) fn admit(&mut self, host: Host) -> Result<(), NoMemory>
         ensures same { processes_of self.new ≡ processes_of self.old }
         ensures kept { OnOk result (IsKept self.new host) }
+        ensures known { IsKept self.old host → IsOk result }
     {
         if self.by_host.contains_key(&host) {
             return Ok(());
@@ -138,7 +140,7 @@ impl Hosts {
         fd: u8,
     ) -> Result<(ProcessEdit, u8), ProcessError>
         ensures ok { IfOk result (λ planned. after_dup (processes_of self.now host.node host.incarnation) pid fd ≡ Ok (edited (processes_of self.now host.node host.incarnation) planned.0, Fd planned.1)) }
-        ensures err { IfErr result (λ error. Refuses error (after_dup (processes_of self.now host.node host.incarnation) pid fd)) }
+        ensures err { IfErr result (λ error. (error ≢ ProcessError.NoMemory) × Refuses error (after_dup (processes_of self.now host.node host.incarnation) pid fd)) }
         ensures fits { IfOk result (λ planned. FitsOn self.now host planned.0) }
     {
         match self.by_host.get(&host) {

@@ -1,5 +1,5 @@
 //! The table of a single machine.
-ghost use Rattle.std.specs.Prelude.{◌≡◌, None, IfOk, IsTrue, ◌↔◌, OnOk, MatchOption, MatchResult, Result, Err};
+ghost use Rattle.std.specs.Prelude.{◌≡◌, ◌≢◌, None, IfOk, IsOk, IsTrue, ◌↔◌, OnOk, OnErr, MatchOption, MatchResult, Result, Ok, Err};
 ghost use Rattle.model.specs.Locks.{IsRegion, IsLowestBlocker};
 ghost use Rattle.model.specs.Descriptors.{Processes, after_spawn, after_fork, after_open, after_dup};
 ghost use Rattle.model.specs.declared.reply.Reply.{Reply};
@@ -62,6 +62,18 @@ fn refused(error: ProcessError) -> Result<Planned, NoMemory>
     })
 }
 
+// The same where it is refused for another reason than memory.
+fn refused_outright(error: ProcessError) -> Planned
+    requires { error ≢ ProcessError.NoMemory }
+    ensures nothing { result.edit ≡ Nothing }
+    ensures reply { (answer : Result (Processes × Reply) Reply) → Refuses error answer → answer ≡ Err result.reply }
+{
+    let Ok(planned) = refused(error) else {
+        unreachable!()
+    };
+    planned
+}
+
 impl FcntlTable {
     /// The table in which no process runs, nothing is open and no byte is locked.
     pub fn new(alloc: Global) -> Self
@@ -73,7 +85,8 @@ impl FcntlTable {
         }
     }
 
-    /// The table keeps processes of the host from now on, be there none that runs.
+    /// The table keeps processes of the host from now on, be there none that runs. Takes no memory where
+    /// it keeps them already.
     ///
     /// # Errors
     /// `NoMemory`.
@@ -81,6 +94,7 @@ impl FcntlTable {
     pub fn admit(&mut self, host: Host) -> Result<(), NoMemory>
         ensures same { table_of self.new ≡ table_of self.old }
         ensures kept { OnOk result (Keeps self.new host) }
+        ensures known { Keeps self.old host → IsOk result }
     {
         self.hosts.admit(host)
     }
@@ -129,10 +143,11 @@ impl FcntlTable {
     /// What `spawn` would change, and its reply: `Done`, or `Exists` where the process runs already.
     ///
     /// # Errors
-    /// `NoMemory`.
+    /// `NoMemory`, never in place of a reply that refuses the call.
     pub fn plan_spawn(&self, process: Process) -> Result<Planned, NoMemory>
         requires { Keeps self.now (record { node = process.node; incarnation = process.incarnation }) }
         ensures ok { IfOk result (λ planned. Is (beside (table_of self.now) process (after_spawn (around (table_of self.now) process) process.pid)) planned.reply (edited (table_of self.now) planned.edit)) }
+        ensures refused { (refusal : Reply) → after_spawn (around (table_of self.now) process) process.pid ≡ Err refusal → result ≡ Ok (record { edit = Nothing; reply = refusal }) }
         ensures fits { IfOk result (λ planned. Fits self.now planned.edit) }
     {
         let host = host_of(process);
@@ -148,7 +163,7 @@ impl FcntlTable {
     /// What `open` would change, and its reply: the descriptor, `NoProcess` or `TooManyFiles`.
     ///
     /// # Errors
-    /// `NoMemory`.
+    /// `NoMemory`, never in place of a reply that refuses the call.
     pub fn plan_open(
         &self,
         process: Process,
@@ -156,6 +171,7 @@ impl FcntlTable {
         access: Access,
     ) -> Result<Planned, NoMemory>
         ensures ok { IfOk result (λ planned. Is (beside (table_of self.now) process (after_open (around (table_of self.now) process) process.pid file access)) planned.reply (edited (table_of self.now) planned.edit)) }
+        ensures refused { (refusal : Reply) → after_open (around (table_of self.now) process) process.pid file access ≡ Err refusal → result ≡ Ok (record { edit = Nothing; reply = refusal }) }
         ensures fits { IfOk result (λ planned. Fits self.now planned.edit) }
     {
         let host = host_of(process);
@@ -172,10 +188,11 @@ impl FcntlTable {
     /// already.
     ///
     /// # Errors
-    /// `NoMemory`.
+    /// `NoMemory`, never in place of a reply that refuses the call.
     pub fn plan_fork(&self, process: Process, child: u16) -> Result<Planned, NoMemory>
         requires { IsNumber most_processes child }
         ensures ok { IfOk result (λ planned. Is (beside (table_of self.now) process (after_fork (around (table_of self.now) process) process.pid child)) planned.reply (edited (table_of self.now) planned.edit)) }
+        ensures refused { (refusal : Reply) → after_fork (around (table_of self.now) process) process.pid child ≡ Err refusal → result ≡ Ok (record { edit = Nothing; reply = refusal }) }
         ensures fits { IfOk result (λ planned. Fits self.now planned.edit) }
     {
         let host = host_of(process);
@@ -189,20 +206,18 @@ impl FcntlTable {
     }
 
     /// What `dup` would change, and its reply: the descriptor, `NoProcess`, `BadFd` or `TooManyFiles`.
-    ///
-    /// # Errors
-    /// `NoMemory`.
-    pub fn plan_dup(&self, process: Process, fd: u8) -> Result<Planned, NoMemory>
-        ensures ok { IfOk result (λ planned. Is (beside (table_of self.now) process (after_dup (around (table_of self.now) process) process.pid fd)) planned.reply (edited (table_of self.now) planned.edit)) }
-        ensures fits { IfOk result (λ planned. Fits self.now planned.edit) }
+    /// Takes no memory.
+    pub fn plan_dup(&self, process: Process, fd: u8) -> Planned
+        ensures is { Is (beside (table_of self.now) process (after_dup (around (table_of self.now) process) process.pid fd)) result.reply (edited (table_of self.now) result.edit) }
+        ensures fits { Fits self.now result.edit }
     {
         let host = host_of(process);
         match self.hosts.plan_dup(host, process.pid, fd) {
-            Ok((edit, fd)) => Ok(Planned {
+            Ok((edit, fd)) => Planned {
                 edit: TableEdit::OfProcess { host, edit },
                 reply: Reply::Fd(fd),
-            }),
-            Err(error) => refused(error),
+            },
+            Err(error) => refused_outright(error),
         }
     }
 
@@ -281,9 +296,11 @@ impl FcntlTable {
     /// The process begins, with no descriptors. Answers `Done`, or `Exists` where it runs already.
     ///
     /// # Errors
-    /// `NoMemory`.
+    /// `NoMemory`, never in place of a reply that refuses the call.
     pub fn spawn(&mut self, process: Process) -> Result<Reply, NoMemory>
-        ensures { IfOk result (λ reply. Is (beside (table_of self.old) process (after_spawn (around (table_of self.old) process) process.pid)) reply (table_of self.new)) }
+        ensures ok { IfOk result (λ reply. Is (beside (table_of self.old) process (after_spawn (around (table_of self.old) process) process.pid)) reply (table_of self.new)) }
+        ensures refused { (refusal : Reply) → after_spawn (around (table_of self.old) process) process.pid ≡ Err refusal → result ≡ Ok refusal }
+        ensures unchanged { OnErr result (table_of self.new ≡ table_of self.old) }
     {
         self.admit(host_of(process))?;
         let Planned { edit, reply } = self.plan_spawn(process)?;
@@ -295,9 +312,11 @@ impl FcntlTable {
     /// `TooManyFiles`.
     ///
     /// # Errors
-    /// `NoMemory`.
+    /// `NoMemory`, never in place of a reply that refuses the call.
     pub fn open(&mut self, process: Process, file: u16, access: Access) -> Result<Reply, NoMemory>
-        ensures { IfOk result (λ reply. Is (beside (table_of self.old) process (after_open (around (table_of self.old) process) process.pid file access)) reply (table_of self.new)) }
+        ensures ok { IfOk result (λ reply. Is (beside (table_of self.old) process (after_open (around (table_of self.old) process) process.pid file access)) reply (table_of self.new)) }
+        ensures refused { (refusal : Reply) → after_open (around (table_of self.old) process) process.pid file access ≡ Err refusal → result ≡ Ok refusal }
+        ensures unchanged { OnErr result (table_of self.new ≡ table_of self.old) }
     {
         let Planned { edit, reply } = self.plan_open(process, file, access)?;
         self.apply(edit);
@@ -308,10 +327,12 @@ impl FcntlTable {
     /// `NoProcess`, or `Exists` where the child runs already. The child's number is from 1 to 256.
     ///
     /// # Errors
-    /// `NoMemory`.
+    /// `NoMemory`, never in place of a reply that refuses the call.
     pub fn fork(&mut self, process: Process, child: u16) -> Result<Reply, NoMemory>
         requires { IsNumber most_processes child }
-        ensures { IfOk result (λ reply. Is (beside (table_of self.old) process (after_fork (around (table_of self.old) process) process.pid child)) reply (table_of self.new)) }
+        ensures ok { IfOk result (λ reply. Is (beside (table_of self.old) process (after_fork (around (table_of self.old) process) process.pid child)) reply (table_of self.new)) }
+        ensures refused { (refusal : Reply) → after_fork (around (table_of self.old) process) process.pid child ≡ Err refusal → result ≡ Ok refusal }
+        ensures unchanged { OnErr result (table_of self.new ≡ table_of self.old) }
     {
         let Planned { edit, reply } = self.plan_fork(process, child)?;
         self.apply(edit);
@@ -319,16 +340,13 @@ impl FcntlTable {
     }
 
     /// One more descriptor of what this one refers to (POSIX.1-2017 `dup()`). Answers the descriptor,
-    /// `NoProcess`, `BadFd` or `TooManyFiles`.
-    ///
-    /// # Errors
-    /// `NoMemory`.
-    pub fn dup(&mut self, process: Process, fd: u8) -> Result<Reply, NoMemory>
-        ensures { IfOk result (λ reply. Is (beside (table_of self.old) process (after_dup (around (table_of self.old) process) process.pid fd)) reply (table_of self.new)) }
+    /// `NoProcess`, `BadFd` or `TooManyFiles`. Takes no memory.
+    pub fn dup(&mut self, process: Process, fd: u8) -> Reply
+        ensures { Is (beside (table_of self.old) process (after_dup (around (table_of self.old) process) process.pid fd)) result (table_of self.new) }
     {
-        let Planned { edit, reply } = self.plan_dup(process, fd)?;
+        let Planned { edit, reply } = self.plan_dup(process, fd);
         self.apply(edit);
-        Ok(reply)
+        reply
     }
 
     /// The descriptor goes, and all locks of the process on its file; where it was the last of its
@@ -359,7 +377,8 @@ impl FcntlTable {
     /// # Errors
     /// `NoMemory`.
     pub fn lock_within(&mut self, call: LockCall, mode: Option<Mode>) -> Result<Reply, NoMemory>
-        ensures { IfOk result (λ reply. Is (lock_within (table_of self.old) call mode) reply (table_of self.new)) }
+        ensures ok { IfOk result (λ reply. Is (lock_within (table_of self.old) call mode) reply (table_of self.new)) }
+        ensures unchanged { OnErr result (table_of self.new ≡ table_of self.old) }
     {
         let Planned { edit, reply } = self.plan_lock(call, mode)?;
         self.apply(edit);

@@ -62,6 +62,12 @@ called s number pid (Query fd kind mode start len) = lock_call s number pid inte
 abbrev pub after_call : NodeState → ℕ → Op → NodeState × Outcome
 after_call s pid op = outcome (Some (id_of s (s.calls + 1))) (called (record s { calls = s.calls + 1 }) (s.calls + 1) pid op)
 
+-- the call locks bytes, at once or when no lock is in the way any more
+abbrev pub is_set : Op → Bool
+is_set (Set fd kind mode start len) = true
+is_set (Wait fd kind mode start len) = true
+is_set _ = false
+
 abbrev pub is_exit : Op → Bool
 is_exit Exit = true
 is_exit _ = false

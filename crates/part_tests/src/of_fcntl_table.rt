@@ -99,7 +99,7 @@ fn step(table: &mut FcntlTable, process: Process, op: Op) -> Result<Reply, Alloc
         Op::Fork { child } if 1 <= child && child <= MOST_PROCESSES => table.fork(process, child),
         Op::Fork { .. } => Ok(Reply::NoProcess),
         Op::Open { file, access } => table.open(process, file, access),
-        Op::Dup { fd } => table.dup(process, fd),
+        Op::Dup { fd } => Ok(table.dup(process, fd)),
         Op::Close { fd } => Ok(table.close(process, fd)),
         Op::Exit => Ok(table.exit(process)),
         Op::Set {

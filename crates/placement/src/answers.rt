@@ -162,7 +162,7 @@ fn step(table: &mut FcntlTable, process: Process, op: Op) -> Result<Reply, NoMem
         Op::Spawn => table.spawn(process),
         Op::Fork { child } => table.fork(process, child),
         Op::Open { file, access } => table.open(process, file, access),
-        Op::Dup { fd } => table.dup(process, fd),
+        Op::Dup { fd } => Ok(table.dup(process, fd)),
         Op::Close { fd } => Ok(table.close(process, fd)),
         Op::Exit => Ok(table.exit(process)),
         Op::Set {

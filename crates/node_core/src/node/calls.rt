@@ -5,7 +5,7 @@ ghost use Rattle.model.specs.Table.{target};
 ghost use Rattle.messages.specs.Messages.{greatest_number};
 ghost use Rattle.node_core.specs.State.{process, open_call_of};
 ghost use Rattle.node_core.specs.Try.{settled};
-ghost use Rattle.node_core.specs.Calls.{is_in_shape, is_exit, is_busy, lock_call, unlock_call, called, call_rule};
+ghost use Rattle.node_core.specs.Calls.{is_in_shape, is_exit, is_set, is_busy, lock_call, unlock_call, called, call_rule};
 ghost use Rattle.node_core.specs.Retries.{retry_rule};
 ghost use Rattle.node_core.specs.Parts.{node_state, spawned, forked, opened, dupped, IsOwn, IsSpan};
 ghost use Rattle.node_core.specs.Plans.{numbered, table_after, planned, effect_of, ProcessesFit, PartsFit};
@@ -273,21 +273,15 @@ impl Node {
         }
     }
 
-    // The call takes the next number: all but set, wait and query are answered in the same step.
-    fn call(&self, alloc: Global, pid: u16, op: &Op) -> Result<Effect, AllocError>
+    // Bytes are locked, at once or when no lock is in the way any more, if the call passes its first tests.
+    fn call_set(&self, alloc: Global, pid: u16, op: &Op) -> Result<Effect, AllocError>
         requires left { (node_state self.now).calls < greatest_number }
         requires pid { IsNumber most_processes pid }
-        requires file { is_in_shape (node_state self.now).shape op.now ≡ true }
+        requires set { is_set op.now ≡ true }
         ensures value { IfOk result (λ effect. called (numbered (node_state self.now)) ((node_state self.now).calls + 1) pid op.now ≡ effect_of self.now effect) }
         ensures fits { IfOk result (λ effect. PartsFit self.now effect.edit) }
     {
         match *op {
-            Op::Spawn => self.call_spawn(alloc, pid),
-            Op::Open { file, access } => self.call_open(alloc, pid, file, access),
-            Op::Fork { child } => self.call_fork(alloc, pid, child),
-            Op::Dup { fd } => self.call_dup(alloc, pid, fd),
-            Op::Close { fd } => self.call_close(alloc, pid, fd),
-            Op::Exit => self.call_exit(alloc, pid),
             Op::Set {
                 fd,
                 kind,
@@ -308,6 +302,26 @@ impl Node {
                 let target = self.target(pid, Some(mode), fd, kind, start, len);
                 self.call_lock(alloc, pid, Intent::Wait, mode, target)
             }
+            _ => unreachable!(),
+        }
+    }
+
+    // The call takes the next number: all but set, wait and query are answered in the same step.
+    fn call(&self, alloc: Global, pid: u16, op: &Op) -> Result<Effect, AllocError>
+        requires left { (node_state self.now).calls < greatest_number }
+        requires pid { IsNumber most_processes pid }
+        requires file { is_in_shape (node_state self.now).shape op.now ≡ true }
+        ensures value { IfOk result (λ effect. called (numbered (node_state self.now)) ((node_state self.now).calls + 1) pid op.now ≡ effect_of self.now effect) }
+        ensures fits { IfOk result (λ effect. PartsFit self.now effect.edit) }
+    {
+        match *op {
+            Op::Spawn => self.call_spawn(alloc, pid),
+            Op::Open { file, access } => self.call_open(alloc, pid, file, access),
+            Op::Fork { child } => self.call_fork(alloc, pid, child),
+            Op::Dup { fd } => self.call_dup(alloc, pid, fd),
+            Op::Close { fd } => self.call_close(alloc, pid, fd),
+            Op::Exit => self.call_exit(alloc, pid),
+            Op::Set { .. } | Op::Wait { .. } => self.call_set(alloc, pid, op),
             Op::Unlock {
                 fd,
                 kind,

@@ -7,7 +7,7 @@ use Rattle.descriptors.specs.Rows.{Refuses}
 use Rattle.descriptors.specs.Edits.{edited}
 use Rattle.fcntl_table.specs.Hosts.{processes_of}
 use Rattle.fcntl_table.specs.Tables.{table_of}
-use Rattle.fcntl_table.proofs.TableLaws.{planned-ok, planned-refused, if_matched}
+use Rattle.fcntl_table.proofs.TableLaws.{planned-ok, planned-refused, not-refused, refused-outright, if_matched}
 use Rattle.fcntl_table.proofs.table.FcntlTable.plan_fork.Goals as goal
 
 pub returns-in-Ok-clause-ok : goal.returns-in-Ok-clause-ok
@@ -24,3 +24,17 @@ returns-in-Err-clause-ok c =
     let P : ℕ → Type 0 = λ pid. Refuses c.in-Err.error (after_fork ps pid c.args.child) in
     let refuses = subst P (ap (λ (p : Process). p.pid) c.process.view_is) c.in-Err.ensures.err in
     if_matched c.refused.result _ _ _ c.refused.ensures (λ planned m. planned-refused (table_of c.args.self.now) c.args.process c.host_of-host.result planned.edit (λ ps. after_fork ps c.args.process.pid c.args.child) planned.reply c.host_of-host.ensures m.0 (m.1 (after_fork ps c.args.process.pid c.args.child) refuses))
+
+pub returns-in-Ok-clause-refused : goal.returns-in-Ok-clause-refused
+unfolding table_of
+returns-in-Ok-clause-refused c = λ refusal refused.
+    let ps : Processes = processes_of c.args.self.now.hosts c.host_of-host.result.node c.host_of-host.result.incarnation in
+    let P : ℕ → Type 0 = λ pid. after_fork ps pid c.args.child ≡ Ok (edited ps c.in-Ok.edit, Done) in
+    absurd (not-refused (table_of c.args.self.now) c.args.process c.host_of-host.result (λ ps. after_fork ps c.args.process.pid c.args.child) _ refusal c.host_of-host.ensures (subst P (ap (λ (p : Process). p.pid) c.process.view_is) c.in-Ok.ensures.ok) refused)
+
+pub returns-in-Err-clause-refused : goal.returns-in-Err-clause-refused
+unfolding table_of
+returns-in-Err-clause-refused c = λ refusal refused.
+    let ps : Processes = processes_of c.args.self.now.hosts c.host_of-host.result.node c.host_of-host.result.incarnation in
+    let P : ℕ → Type 0 = λ pid. Refuses c.in-Err.error (after_fork ps pid c.args.child) in
+    refused-outright (table_of c.args.self.now) c.args.process c.host_of-host.result (λ ps. after_fork ps c.args.process.pid c.args.child) c.in-Err.error refusal c.refused.result c.host_of-host.ensures (subst P (ap (λ (p : Process). p.pid) c.process.view_is) c.in-Err.ensures.err) c.refused.ensures refused
