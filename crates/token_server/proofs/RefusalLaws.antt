@@ -7,7 +7,7 @@ use Rattle.messages.specs.declared.message.Message.{Message}
 use Rattle.messages.specs.declared.outcome.Outcome.{Outcome}
 use Rattle.messages.specs.Messages.{addressee, host_of, is_within}
 use Rattle.token_set.specs.Tokens.{Token}
-use Rattle.token_server.specs.declared.held.Held.{Held}
+use Rattle.token_server.specs.declared.token_request.TokenRequest.{TokenRequest}
 use Rattle.token_server.specs.State.{Row, ServerState, forgotten}
 use Rattle.token_server.specs.Serve.{admitted, conflicting_node, commanded, granted_to, revoked_from, served, serve}
 use Rattle.token_server.specs.Resends.{sending_first}
@@ -30,15 +30,15 @@ spent e is = cc
 commanded-spent : (s : ServerState) (node : ℕ) (row : Row) (token : Token) (command : Message) → IsAtMostSpent (commanded s node row token command)
 commanded-spent s node row token command = picked (is_some row.outstanding) _ _ (done _) (picked (nat_lt row.number _) _ _ (done _) spent)
 
-granted-spent : (s : ServerState) (r : Held) (row : Option Row) → IsAtMostSpent (granted_to s r row)
+granted-spent : (s : ServerState) (r : TokenRequest) (row : Option Row) → IsAtMostSpent (granted_to s r row)
 granted-spent s r None = done _
 granted-spent s r (Some row) = commanded-spent s _ row _ _
 
-revoked-spent : (s : ServerState) (r : Held) (node : ℕ) (row : Option Row) → IsAtMostSpent (revoked_from s r node row)
+revoked-spent : (s : ServerState) (r : TokenRequest) (node : ℕ) (row : Option Row) → IsAtMostSpent (revoked_from s r node row)
 revoked-spent s r node None = done _
 revoked-spent s r node (Some row) = commanded-spent s node row _ _
 
-served-spent : (s : ServerState) (r : Option Held) → IsAtMostSpent (served s r)
+served-spent : (s : ServerState) (r : Option TokenRequest) → IsAtMostSpent (served s r)
 served-spent s None = done _
 served-spent s (Some r) =
     let node = conflicting_node s r in

@@ -12,7 +12,7 @@ ghost use Rattle.token_server.specs.Edits.{overlaid, Changes, seen, seen_client,
 use crate::client::ClientView;
 use crate::clients::Clients;
 use crate::commands::Commands;
-use crate::row::RowView;
+use crate::token_holder::RowView;
 use intervals::span::Span;
 use intervals::span_map::NoMemory;
 use model::host::Host;

@@ -18,7 +18,7 @@ use crate::change::{Change, Draft, Edit, Given};
 use crate::clients::Clients;
 use crate::commands::Commands;
 use crate::event::ServerEvent;
-use crate::held::Held;
+use crate::token_request::TokenRequest;
 use crate::queue_edit::QueueEdit;
 use crate::requests::Requests;
 use crate::row_edits::RowEdits;
@@ -47,7 +47,7 @@ pub struct Server {
     file: u16,
     clients: Clients,
     queue: Requests,
-    active: Option<Held>,
+    active: Option<TokenRequest>,
     waiting: Requests,
 }
 
@@ -178,7 +178,7 @@ impl Server {
     }
 
     // Queues the request, or the one of its call that waits. Its call is not queued.
-    fn enqueue_new(&self, draft: Draft, request: Held) -> Result<Draft, NoMemory>
+    fn enqueue_new(&self, draft: Draft, request: TokenRequest) -> Result<Draft, NoMemory>
         ensures { IfOk result (λ new. drafted self.now new ≡ enqueued_with (drafted self.now draft) request (request_of request.call (drafted self.now draft).waiting)) }
     {
         let Draft {
@@ -204,7 +204,7 @@ impl Server {
     }
 
     // Queues the request, unless its call has one that is queued or served.
-    fn enqueue(&self, draft: Draft, request: Held) -> Result<Draft, NoMemory>
+    fn enqueue(&self, draft: Draft, request: TokenRequest) -> Result<Draft, NoMemory>
         ensures { IfOk result (λ new. drafted self.now new ≡ enqueued (drafted self.now draft) request) }
     {
         if is_active(&draft.active, request.call) || draft.queue.has(&self.queue, request.call) {
@@ -214,7 +214,7 @@ impl Server {
     }
 
     // Takes a request: older incarnations of its node are dead, and there is a row from now on.
-    fn ask(&self, draft: Draft, alloc: Global, request: Held) -> Result<Draft, NoMemory>
+    fn ask(&self, draft: Draft, alloc: Global, request: TokenRequest) -> Result<Draft, NoMemory>
         requires { IsNumber self.now.shape.nodes request.call.node }
         ensures { IfOk result (λ new. drafted self.now new ≡ asked (drafted self.now draft) request) }
     {
@@ -237,7 +237,7 @@ impl Server {
 
     // Takes a node's answer to a Grant: the call's request is served no longer. What is sent, or `None`
     // where the answer doesn't count.
-    fn take_taken(
+    fn on_taken(
         &self,
         mut draft: Draft,
         alloc: Global,
@@ -258,7 +258,7 @@ impl Server {
 
     // Takes a holder's answer that it gave up a span. What is sent, or `None` where the answer doesn't
     // count.
-    fn take_released(
+    fn on_released(
         &self,
         mut draft: Draft,
         alloc: Global,
@@ -280,7 +280,7 @@ impl Server {
     fn putting_off(
         &self,
         waiting: QueueEdit,
-        active: &Option<Held>,
+        active: &Option<TokenRequest>,
         call: CallId,
     ) -> Result<QueueEdit, NoMemory>
         ensures { IfOk result (λ new. queue_after new self.now.waiting ≡ queue_after waiting self.now.waiting ++ put_off call active.now) }
@@ -293,7 +293,7 @@ impl Server {
 
     // Takes a holder's answer that a lock is in the way: the call's request is served no longer, and is
     // denied or waits. What is sent, or `None` where the answer doesn't count.
-    fn take_conflict(
+    fn on_conflict(
         &self,
         mut draft: Draft,
         alloc: Global,
@@ -355,7 +355,7 @@ impl Server {
     }
 
     // Whether the row of another node conflicts with what the request needs.
-    fn conflicts_at(&self, draft: &Draft, node: u8, request: &Held) -> bool
+    fn conflicts_at(&self, draft: &Draft, node: u8, request: &TokenRequest) -> bool
         requires { IsNumber self.now.shape.nodes node }
         ensures { result ≡ (not (node == request.now.call.node) && row_conflicts ((drafted self.now draft.now).rows node) request.now.wanted.required request.now.mode) }
     {
@@ -366,7 +366,7 @@ impl Server {
     }
 
     // The least other node whose row conflicts with what the request needs.
-    fn conflicting_node(&self, draft: &Draft, request: &Held) -> Option<u8>
+    fn conflicting_node(&self, draft: &Draft, request: &TokenRequest) -> Option<u8>
         ensures node_in { IfSome result (λ node. IsNumber self.now.shape.nodes node × IsNumber most_nodes node) }
         ensures within { IsSome result ↔ (conflicting_node (drafted self.now draft.now) request.now ≤ self.now.shape.nodes) }
         ensures value { IfSome result (λ node. node ≡ conflicting_node (drafted self.now draft.now) request.now) }
@@ -380,7 +380,7 @@ impl Server {
     }
 
     // The span that a request is granted: the largest that it would like to have.
-    fn granted_span(&self, draft: &Draft, request: &Held) -> Span
+    fn granted_span(&self, draft: &Draft, request: &TokenRequest) -> Span
         requires { self.now.shape.nodes < conflicting_node (drafted self.now draft.now) request.now }
         ensures { result ≡ granted_span (drafted self.now draft.now) request.now }
     {
@@ -401,7 +401,7 @@ impl Server {
         &self,
         draft: &Draft,
         alloc: Global,
-        request: &Held,
+        request: &TokenRequest,
     ) -> Result<(Option<Given>, Items<Message>), StepError>
         requires { self.now.shape.nodes < conflicting_node (drafted self.now draft.now) request.now }
         ensures ok { IfOk result (λ r. granted_to (drafted self.now draft.now) request.now ((drafted self.now draft.now).rows request.now.call.node) ≡ Ok (with_given r.0 (drafted_parts draft.now self.now), r.1)) }
@@ -431,7 +431,7 @@ impl Server {
         draft: &'a Draft,
         alloc: Global,
         node: u8,
-        request: &Held,
+        request: &TokenRequest,
     ) -> Result<(Option<Given>, Items<Message>), StepError>
         requires node_in { IsNumber self.now.shape.nodes node × IsNumber most_nodes node }
         ensures ok { IfOk result (λ r. revoked_from (drafted self.now draft.now) request.now node ((drafted self.now draft.now).rows node) ≡ Ok (with_given r.0 (drafted_parts draft.now self.now), r.1)) }
@@ -487,7 +487,7 @@ impl Server {
 
     // Takes that locks of the holder may be gone: where its row is of that incarnation, what waits is asked
     // for again.
-    fn take_freed(&self, draft: Draft, alloc: Global, holder: Host) -> Result<Draft, NoMemory>
+    fn on_freed(&self, draft: Draft, alloc: Global, holder: Host) -> Result<Draft, NoMemory>
         requires { IsNumber self.now.shape.nodes holder.node }
         ensures { IfOk result (λ new. drafted self.now new ≡ freed (drafted self.now draft) (row_of_host (drafted self.now draft) holder)) }
     {
@@ -516,25 +516,25 @@ impl Server {
                 wanted,
                 ..
             } => {
-                let asked = self.ask(draft, alloc, Held::new(call, urgency, mode, wanted))?;
+                let asked = self.ask(draft, alloc, TokenRequest::new(call, urgency, mode, wanted))?;
                 Ok(Some((asked, Items::new(alloc))))
             }
-            Message::Taken { number, call, .. } => self.take_taken(draft, alloc, number, call),
+            Message::Taken { number, call, .. } => self.on_taken(draft, alloc, number, call),
             Message::Released {
                 number,
                 holder,
                 span,
                 ..
-            } => self.take_released(draft, alloc, number, holder, span),
+            } => self.on_released(draft, alloc, number, holder, span),
             Message::Conflict {
                 number,
                 holder,
                 call,
                 lock,
                 ..
-            } => self.take_conflict(draft, alloc, number, holder, call, lock),
+            } => self.on_conflict(draft, alloc, number, holder, call, lock),
             Message::Freed { holder, .. } => {
-                let freed = self.take_freed(draft, alloc, holder)?;
+                let freed = self.on_freed(draft, alloc, holder)?;
                 Ok(Some((freed, Items::new(alloc))))
             }
             Message::Grant { .. } | Message::Revoke { .. } | Message::Deny { .. } => Ok(None),
@@ -584,7 +584,7 @@ impl Server {
     }
 
     // Takes a message of a node of the cluster to this server.
-    fn take_own(&self, alloc: Global, message: &Message) -> Result<Change, StepError>
+    fn on_own(&self, alloc: Global, message: &Message) -> Result<Change, StepError>
         requires { (is_server self.now.file (addressee message.now) && is_within self.now.shape.nodes (host_of message.now).node) ≡ true }
         ensures ok { IfOk result (λ change. server_rule (server_state self.now) (ServerEvent.Deliver message.now) ≡ Ok (planned self.now change.edit, change.outcome)) }
         ensures err { IfErr result (λ e. e ≢ StepError.NoMemory → server_rule (server_state self.now) (ServerEvent.Deliver message.now) ≡ Err e) }
@@ -609,7 +609,7 @@ impl Server {
         if !self.is_addressed_by(message) {
             return Err(StepError::Stranger);
         }
-        self.take_own(alloc, message)
+        self.on_own(alloc, message)
     }
 
     // The commands that have no answer yet.
