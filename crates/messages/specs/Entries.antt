@@ -28,9 +28,16 @@ NamesItsIncarnation (Declare node) incarnation = 1 ≤ incarnation
 NamesItsIncarnation (Restart node) incarnation = 1 ≤ incarnation
 NamesItsIncarnation _ incarnation = incarnation ≡ 0
 
-pub record IsEntry (e : EntryFields) : Type 0 where
-  pub named : NamesItsCall e.event e.call
-  pub incarnated : NamesItsIncarnation e.event e.incarnation
+-- an entry as it is kept, with one incarnation for the event and for the name of a call
+abbrev pub kept : Event → ℕ → ℕ → Option (CallId × Reply) → List Message → EntryFields
+kept (Call node pid op) incarnation number reply sends =
+    record { event = Call node pid op; incarnation = 0; call = Some (record { node = node; incarnation = incarnation; number = number }); reply = reply; sends = sends }
+kept event incarnation number reply sends = record { event = event; incarnation = incarnation; call = None; reply = reply; sends = sends }
+
+-- what is kept of the incarnation that the event names and of the name that it gave
+abbrev pub kept_name : ℕ → Option CallId → ℕ × ℕ
+kept_name incarnation (Some call) = (call.incarnation, call.number)
+kept_name incarnation None = (incarnation, 0)
 
 -- the entry of an event with this outcome, and the incarnation that it names, 0 for none
 abbrev pub entry_of : Event → ℕ → Outcome → EntryFields

@@ -1,6 +1,6 @@
 //! Entries of the journal.
 ghost use Rattle.std.specs.Prelude.{◌≡◌, ◌↔◌, IsTrue};
-ghost use Rattle.messages.specs.Entries.{NamesItsCall, NamesItsIncarnation, entry_of};
+ghost use Rattle.messages.specs.Entries.{NamesItsCall, NamesItsIncarnation, entry_of, kept_name};
 
 use crate::event::Event;
 use crate::items::Items;
@@ -16,20 +16,32 @@ use std::marker::Model;
 #[derive(Drop)]
 pub struct Entry {
     event: Event,
+    // That of the call's name, where the event is a call.
     incarnation: u16,
-    call: Option<CallId>,
+    // The number of the call's name, where the event is a call.
+    number: u32,
     reply: Option<(CallId, Reply)>,
     sends: Items<Message>,
 }
 
 impl Model for Entry {
-    ghost use Rattle.messages.specs.Entries.{EntryFields, IsEntry};
+    ghost use Rattle.messages.specs.Entries.{EntryFields, kept, NamesItsIncarnation};
 
     ghost Value = { EntryFields };
 
-    ghost view = { λ e. record { event = e.event; incarnation = e.incarnation; call = e.call; reply = e.reply; sends = e.sends } };
+    ghost view = { λ e. kept e.event e.incarnation e.number e.reply e.sends };
 
-    ghost invariant = { λ e. IsEntry (record { event = e.event; incarnation = e.incarnation; call = e.call; reply = e.reply; sends = e.sends }) };
+    ghost invariant = { λ e. NamesItsIncarnation e.event (kept e.event e.incarnation e.number e.reply e.sends).incarnation };
+}
+
+// The incarnation and the number that are kept of an event that gave this name.
+fn kept_name(incarnation: u16, call: Option<CallId>) -> (u16, u32)
+    ensures { result ≡ kept_name incarnation call }
+{
+    match call {
+        Some(call) => (call.incarnation, call.number),
+        None => (incarnation, 0),
+    }
 }
 
 impl Entry {
@@ -49,10 +61,11 @@ impl Entry {
         requires incarnated { NamesItsIncarnation event incarnation }
         ensures { result ≡ entry_of event incarnation outcome }
     {
+        let (incarnation, number) = kept_name(incarnation, outcome.call);
         Entry {
             event,
             incarnation,
-            call: outcome.call,
+            number,
             reply: outcome.reply,
             sends: outcome.sends.fitted(),
         }
@@ -69,7 +82,10 @@ impl Entry {
         ensures value { result ≡ self.now.incarnation }
         ensures incarnated { NamesItsIncarnation self.now.event result }
     {
-        self.incarnation
+        match self.event {
+            Event::Call { .. } => 0,
+            _ => self.incarnation,
+        }
     }
 
     /// The name that the call took, where the event is a call.
@@ -77,7 +93,14 @@ impl Entry {
         ensures value { result ≡ self.now.call }
         ensures named { NamesItsCall self.now.event result }
     {
-        self.call
+        match self.event {
+            Event::Call { node, .. } => Some(CallId {
+                node,
+                incarnation: self.incarnation,
+                number: self.number,
+            }),
+            _ => None,
+        }
     }
 
     /// The call that is answered, and its reply.
@@ -98,10 +121,10 @@ impl Entry {
     pub fn same(&self, other: &Entry) -> bool
         ensures { IsTrue result ↔ (self.now ≡ other.now) }
     {
-        if !self.event.same(&other.event) || self.incarnation != other.incarnation {
+        if !self.event.same(&other.event) || self.incarnation() != other.incarnation() {
             return false;
         }
-        if !same_names(&self.call, &other.call) || !same_replies(&self.reply, &other.reply) {
+        if !same_names(&self.call(), &other.call()) || !same_replies(&self.reply, &other.reply) {
             return false;
         }
         same_messages(self.sends.as_slice(), other.sends.as_slice())
