@@ -2,6 +2,7 @@
 use Rattle.std.specs.Prelude.{◌≡◌, ◌≤◌, ℕ, List, Option, Some, None}
 use Rattle.model.specs.declared.call.CallId.{CallId}
 use Rattle.model.specs.declared.reply.Reply.{Reply}
+use Rattle.model.specs.Limits.{CallFields, IsCall}
 use Rattle.messages.specs.declared.message.Message.{Message}
 use Rattle.messages.specs.declared.outcome.Outcome.{Outcome}
 use Rattle.messages.specs.declared.event.Event.{Event}
@@ -33,6 +34,11 @@ abbrev pub kept : Event → ℕ → ℕ → Option (CallId × Reply) → List Me
 kept (Call node pid op) incarnation number reply sends =
     record { event = Call node pid op; incarnation = 0; call = Some (record { node = node; incarnation = incarnation; number = number }); reply = reply; sends = sends }
 kept event incarnation number reply sends = record { event = event; incarnation = incarnation; call = None; reply = reply; sends = sends }
+
+-- what is kept beside an event: of a call the incarnation and the number of its name, else the incarnation that the event names
+abbrev pub IsKept : Event → ℕ → ℕ → Type 0
+IsKept (Call node pid op) incarnation number = IsCall (record { node = node; incarnation = incarnation; number = number })
+IsKept event incarnation number = NamesItsIncarnation event incarnation
 
 -- what is kept of the incarnation that the event names and of the name that it gave
 abbrev pub kept_name : ℕ → Option CallId → ℕ × ℕ

@@ -25,13 +25,13 @@ pub struct Entry {
 }
 
 impl Model for Entry {
-    ghost use Rattle.messages.specs.Entries.{EntryFields, kept, NamesItsIncarnation};
+    ghost use Rattle.messages.specs.Entries.{EntryFields, kept, IsKept};
 
     ghost Value = { EntryFields };
 
     ghost view = { λ e. kept e.event e.incarnation e.number e.reply e.sends };
 
-    ghost invariant = { λ e. NamesItsIncarnation e.event (kept e.event e.incarnation e.number e.reply e.sends).incarnation };
+    ghost invariant = { λ e. IsKept e.event e.incarnation e.number };
 }
 
 // The incarnation and the number that are kept of an event that gave this name.
