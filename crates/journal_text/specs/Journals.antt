@@ -31,7 +31,7 @@ entries_text position (e ∷ es) = entry_text position e ++ entries_text (positi
 
 -- the first line
 abbrev pub head_text : ShapeFields → List ℕ
-head_text s = codes "journal 1 nodes " ++ counts_text (s.nodes, (s.files, s.policy))
+head_text s = codes "journal 1 nodes " ++ counts_text s
 
 -- the last line, of so many entries
 abbrev pub end_text : ℕ → List ℕ

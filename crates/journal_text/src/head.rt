@@ -12,11 +12,8 @@ use messages::shape::Shape;
 pub fn head_of(line: &str) -> Option<Shape>
     ensures { Reads head_text IsShape line.now result }
 {
-    if let Some(counts) = after(line, "journal 1 nodes ") {
-        return match shape_operands(counts) {
-            Some((nodes, (files, policy))) => Shape::new(nodes, files, policy).ok(),
-            None => None,
-        };
+    match after(line, "journal 1 nodes ") {
+        Some(operands) => shape_operands(operands),
+        None => None,
     }
-    None
 }

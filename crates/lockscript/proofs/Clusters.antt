@@ -1,5 +1,5 @@
 -- The `cluster` line.
-use Rattle.std.proofs.Common.{◌≡◌, ℕ, List, ◌++◌, Some, None, Result, Ok, Err, refl, sym, ◌∙◌, ap, arith, codes, decimal}
+use Rattle.std.proofs.Common.{◌≡◌, ℕ, List, ◌++◌, Some, None, Result, Ok, Err, refl, sym, ◌∙◌, ap, arith, codes, decimal, append_assoc}
 use Rattle.std.specs.Prelude.{⊤, IfOk, IsOk, ◌↔◌}
 use Rattle.std.specs.Result.{result_ok}
 use Rattle.std.proofs.lemmas.Bool.{false≢true}
@@ -16,7 +16,11 @@ use Rattle.lockscript.proofs.SingleWords.{file_words, node_words}
 abbrev pub IsCounts : ℕ × (ℕ × Policy) → Type 0
 IsCounts = Both (IsNumber most_nodes) (Both (IsNumber most_files) (λ _. ⊤))
 
-apart-counts : AreApart counts_text IsCounts
+-- the counts as one text
+abbrev pub parts_text : ℕ × (ℕ × Policy) → List ℕ
+parts_text = pair_text decimal (after_text (codes "files ") (pair_text decimal (after_text (codes "policy ") policy_text)))
+
+apart-counts : AreApart parts_text IsCounts
 apart-counts = apart-pair decimal (after_text (codes "files ") (pair_text decimal (after_text (codes "policy ") policy_text))) (IsNumber most_nodes) (Both (IsNumber most_files) (λ _. ⊤))
     node_words (apart-number most_nodes (omega arith))
     (apart-after (codes "files ") (pair_text decimal (after_text (codes "policy ") policy_text)) (Both (IsNumber most_files) (λ _. ⊤))
@@ -29,32 +33,27 @@ counts_of s = (s.nodes, (s.files, s.policy))
 abbrev pub shape_with : ℕ × (ℕ × Policy) → ShapeFields
 shape_with c = record { nodes = c.0; files = c.1.0; policy = c.1.1 }
 
+counts-parts : (s : ShapeFields) → counts_text s ≡ parts_text (counts_of s)
+counts-parts s = simp append_assoc refl
+
 counts-fit : (s : ShapeFields) → IsShape s → IsCounts (counts_of s)
 counts-fit s fits = ((fits.nodes_in.0, omega (arith, fits.nodes_in.1)), (fits.files_in, tt))
 
 -- no line names two clusters
 pub apart-shape : AreApart shape_text IsShape
 apart-shape s t s_in t_in e =
-    ap shape_with (apart-counts (counts_of s) (counts_of t) (counts-fit s s_in) (counts-fit t t_in) (cancel-front (codes "cluster nodes ") _ _ e))
+    ap shape_with (apart-counts (counts_of s) (counts_of t) (counts-fit s s_in) (counts-fit t t_in) (sym (counts-parts s) ∙ cancel-front (codes "cluster nodes ") _ _ e ∙ counts-parts t))
 
--- no counts behind this front
-pub no_counts : (front line rest : List ℕ) → line ≡ front ++ rest → Reads counts_text IsCounts rest None → Reads (λ s. front ++ counts_text (counts_of s)) IsShape line None
-no_counts front line rest parts none s fits e = none (counts_of s) (counts-fit s fits) (cancel-front front rest _ (sym parts ∙ e))
+-- no counts, no shape
+pub no_counts : (text : List ℕ) → Reads parts_text IsCounts text None → Reads counts_text IsShape text None
+no_counts text none s fits e = none (counts_of s) (counts-fit s fits) (e ∙ counts-parts s)
 
-pub no_cluster : (line rest : List ℕ) → line ≡ codes "cluster nodes " ++ rest → Reads counts_text IsCounts rest None → Reads shape_text IsShape line None
-no_cluster line rest parts none = no_counts (codes "cluster nodes ") line rest parts none
-
--- the shape that is made of the counts behind this front, if it is served
-pub counts-made : {E : Type 0} (front line rest : List ℕ) (nodes files : ℕ) (policy : Policy) (made : Result ShapeFields E) → line ≡ front ++ rest → Reads counts_text IsCounts rest (Some (nodes, (files, policy)))
-    → IfOk made (λ shape. shape ≡ shape_with (nodes, (files, policy))) → IsOk made ↔ IsServed nodes files → Reads (λ s. front ++ counts_text (counts_of s)) IsShape line (result_ok made)
-counts-made front line rest nodes files policy (Ok shape) parts counts same served =
+-- the shape that is made of the counts, if it is served
+pub counts-made : {E : Type 0} (text : List ℕ) (nodes files : ℕ) (policy : Policy) (made : Result ShapeFields E) → Reads parts_text IsCounts text (Some (nodes, (files, policy)))
+    → IfOk made (λ shape. shape ≡ shape_with (nodes, (files, policy))) → IsOk made ↔ IsServed nodes files → Reads counts_text IsShape text (result_ok made)
+counts-made text nodes files policy (Ok shape) counts same served =
     let within = served.0 refl in
-    rw same (record { nodes_in = within.0; files_in = within.1 }, parts ∙ ap (λ (r : List ℕ). front ++ r) counts.1)
-counts-made front line rest nodes files policy (Err error) parts counts same served = λ s fits e.
-    let one = apart-counts (nodes, (files, policy)) (counts_of s) counts.0 (counts-fit s fits) (sym counts.1 ∙ cancel-front front rest _ (sym parts ∙ e)) in
+    rw same (record { nodes_in = within.0; files_in = within.1 }, counts.1 ∙ sym (counts-parts (shape_with (nodes, (files, policy)))))
+counts-made text nodes files policy (Err error) counts same served = λ s fits e.
+    let one = apart-counts (nodes, (files, policy)) (counts_of s) counts.0 (counts-fit s fits) (sym counts.1 ∙ e ∙ counts-parts s) in
     false≢true (served.1 (rw (ap (λ (c : ℕ × (ℕ × Policy)). c.0) one, ap (λ (c : ℕ × (ℕ × Policy)). c.1.0) one) (fits.nodes_in, fits.files_in)))
-
--- the cluster of its counts
-pub shape-made : {E : Type 0} (line rest : List ℕ) (nodes files : ℕ) (policy : Policy) (made : Result ShapeFields E) → line ≡ codes "cluster nodes " ++ rest → Reads counts_text IsCounts rest (Some (nodes, (files, policy)))
-    → IfOk made (λ shape. shape ≡ shape_with (nodes, (files, policy))) → IsOk made ↔ IsServed nodes files → Reads shape_text IsShape line (result_ok made)
-shape-made line rest nodes files policy made parts counts same served = counts-made (codes "cluster nodes ") line rest nodes files policy made parts counts same served

@@ -8,12 +8,13 @@ use Rattle.cluster_core.specs.declared.held_lock.HeldLock.{HeldLock}
 use Rattle.cluster_core.specs.declared.token_run.TokenRun.{TokenRun}
 use Rattle.cluster_core.specs.declared.item.Item.{Item}
 use Rattle.cluster_core.specs.declared.item.Item.TheVariants.{Answered, Gone}
+use Rattle.lockscript.specs.declared.refused_line.RefusedLine.{RefusedLine}
 use Rattle.lockscript.specs.Layout.{left_in, right_in}
 use Rattle.lockscript.specs.Texts.{call_text, host_text, level_text, mode_text, op_text, owner_text, reply_text}
 
 -- a refused line of the script, with the number of its refusal
-abbrev pub refused_line : ℕ × ℕ → List ℕ
-refused_line r = codes "line " ++ decimal r.0 ++ codes " code " ++ decimal r.1 ++ codes "\n"
+abbrev pub refused_line : RefusedLine → List ℕ
+refused_line r = codes "line " ++ decimal r.line ++ codes " code " ++ decimal r.code ++ codes "\n"
 
 -- the columns that begin a line of an entry: its position and a name
 abbrev pub placed : ℕ → List ℕ → List ℕ
@@ -44,7 +45,7 @@ history_line (Answered position id pid op reply) = placed position (call_text id
 history_line (Gone position node incarnation) = placed position (codes "gone") ++ host_text node incarnation ++ codes "\n"
 
 -- the first four sections, each under its heading
-abbrev pub listing_start : List (ℕ × ℕ) → List Entry → List TokenRun → List HeldLock → List ℕ
+abbrev pub listing_start : List RefusedLine → List Entry → List TokenRun → List HeldLock → List ℕ
 listing_start refused entries tokens locks =
     codes "refused\n" ++ flat_map refused_line refused
     ++ codes "replies\n" ++ reply_lines 1 entries
@@ -56,7 +57,7 @@ abbrev pub history_text : List Item → List ℕ
 history_text history = codes "history\n" ++ flat_map history_line history
 
 -- the five sections, each under its heading
-abbrev pub listing_text : List (ℕ × ℕ) → List Entry → List TokenRun → List HeldLock → List Item → List ℕ
+abbrev pub listing_text : List RefusedLine → List Entry → List TokenRun → List HeldLock → List Item → List ℕ
 listing_text refused entries tokens locks history =
     codes "refused\n" ++ flat_map refused_line refused
     ++ codes "replies\n" ++ reply_lines 1 entries

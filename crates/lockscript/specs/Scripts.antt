@@ -29,12 +29,13 @@ command_text (Declare node) = codes "declare " ++ decimal node
 command_text (Restart node) = codes "restart " ++ decimal node
 command_text (Learn file node incarnation) = codes "learn " ++ pair_text decimal (pair_text decimal decimal) (file, (node, incarnation))
 
--- `cluster nodes N files F policy P`, the first line of a script that is not skipped
-abbrev pub counts_text : ℕ × (ℕ × Policy) → List ℕ
-counts_text = pair_text decimal (after_text (codes "files ") (pair_text decimal (after_text (codes "policy ") policy_text)))
+-- `N files F policy P`
+abbrev pub counts_text : ShapeFields → List ℕ
+counts_text s = decimal s.nodes ++ codes " files " ++ decimal s.files ++ codes " policy " ++ policy_text s.policy
 
+-- `cluster nodes N files F policy P`, the first line of a script that is not skipped
 abbrev pub shape_text : ShapeFields → List ℕ
-shape_text s = codes "cluster nodes " ++ counts_text (s.nodes, (s.files, s.policy))
+shape_text s = codes "cluster nodes " ++ counts_text s
 
 -- the greatest number of a message that a line can name
 abbrev pub greatest_message : ℕ

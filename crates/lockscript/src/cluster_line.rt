@@ -3,7 +3,7 @@ ghost use Rattle.std.specs.Prelude.{codes, decimal, ⊤};
 ghost use Rattle.model.specs.Limits.{IsNumber, most_nodes};
 ghost use Rattle.messages.specs.Shapes.{IsShape, most_files};
 ghost use Rattle.lockscript.specs.Reads.{Both, Reads, after_text, pair_text};
-ghost use Rattle.lockscript.specs.Scripts.{shape_text};
+ghost use Rattle.lockscript.specs.Scripts.{counts_text, shape_text};
 ghost use Rattle.lockscript.specs.Texts.{policy_text};
 
 use crate::fields::{after, file_of, node_of, split_field};
@@ -16,17 +16,24 @@ use model::policy::Policy;
 pub fn shape_of(line: &str) -> Option<Shape>
     ensures { Reads shape_text IsShape line.now result }
 {
-    if let Some(counts) = after(line, "cluster nodes ") {
-        return match shape_operands(counts) {
-            Some((nodes, (files, policy))) => Shape::new(nodes, files, policy).ok(),
-            None => None,
-        };
+    match after(line, "cluster nodes ") {
+        Some(operands) => shape_operands(operands),
+        None => None,
     }
-    None
 }
 
-/// Reads `N files F policy P`.
-pub fn shape_operands(text: &str) -> Option<(u8, (u16, Policy))>
+/// The shape that `N files F policy P` names, if the text is that and such a cluster is served.
+pub fn shape_operands(text: &str) -> Option<Shape>
+    ensures { Reads counts_text IsShape text.now result }
+{
+    match counts_of(text) {
+        Some((nodes, (files, policy))) => Shape::new(nodes, files, policy).ok(),
+        None => None,
+    }
+}
+
+// `N files F policy P`.
+fn counts_of(text: &str) -> Option<(u8, (u16, Policy))>
     ensures { Reads (pair_text decimal (after_text (codes "files ") (pair_text decimal (after_text (codes "policy ") policy_text))))
         (Both (IsNumber most_nodes) (Both (IsNumber most_files) (λ _. ⊤))) text.now result }
 {

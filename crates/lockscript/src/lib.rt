@@ -11,6 +11,7 @@ mod lines;
 pub mod listing;
 pub mod number;
 pub mod operations;
+pub mod refused_line;
 pub mod script;
 pub mod script_line;
 pub mod texts;

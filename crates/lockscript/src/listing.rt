@@ -5,6 +5,7 @@ ghost use Rattle.lockscript.specs.Listing.{listing_text, listing_start, history_
 ghost use Rattle.lockscript.specs.Texts.{reply_text};
 
 use crate::columns::{push_host_column, push_owner_column, push_placed, push_span_line};
+use crate::refused_line::RefusedLine;
 use crate::texts::{level_word, mode_word, push_op, push_reply};
 use cluster_core::held_lock::HeldLock;
 use cluster_core::item::Item;
@@ -25,7 +26,7 @@ use std::fmt::Write;
 /// `NoMemory` where a request for memory was refused.
 pub fn listing(
     alloc: Global,
-    refused: &[(u32, u16)],
+    refused: &[RefusedLine],
     entries: &[Entry],
     tokens: &[TokenRun],
     locks: &[HeldLock],
@@ -44,7 +45,7 @@ pub fn listing(
 /// `NoMemory` where a request for memory was refused.
 pub fn listing_start(
     alloc: Global,
-    refused: &[(u32, u16)],
+    refused: &[RefusedLine],
     entries: &[Entry],
     tokens: &[TokenRun],
     locks: &[HeldLock],
@@ -59,12 +60,12 @@ pub fn listing_start(
     Ok(out)
 }
 
-fn push_refused(out: &mut String, refused: &[(u32, u16)]) -> Result<(), AllocError>
+fn push_refused(out: &mut String, refused: &[RefusedLine]) -> Result<(), AllocError>
     ensures { OnOk result (string_bytes out.new ≡ string_bytes out.old ++ codes "refused\n" ++ flat_map refused_line refused.now) }
 {
     out.push_str("refused\n")?;
-    for (line, number) in refused {
-        writeln!(out, "line {line} code {number}")?;
+    for RefusedLine { line, code } in refused {
+        writeln!(out, "line {line} code {code}")?;
     }
     Ok(())
 }

@@ -1,7 +1,8 @@
 -- A run of a script as plain data, and what it stands for.
-use Rattle.std.specs.Prelude.{ℕ, List}
+use Rattle.std.specs.Prelude.{List}
 use Rattle.cluster_core.specs.Journals.{JournalFields, RunFields}
 use Rattle.cluster_core.specs.Parts.{WorldParts, world_state}
+use Rattle.lockscript.specs.declared.refused_line.RefusedLine.{RefusedLine}
 use Rattle.replay.specs.Progress.{Progress}
 use Rattle.replay.specs.Played.{PlayedState}
 use Rattle.replay.specs.Settled.{SettledParts, settled_in}
@@ -9,7 +10,7 @@ use Rattle.replay.specs.Settled.{SettledParts, settled_in}
 pub record PlayerParts : Type 0 where
   pub run : RunFields
   pub settled : SettledParts
-  pub refused : List (ℕ × ℕ)
+  pub refused : List RefusedLine
 
 abbrev pub progress : PlayerParts → Progress
 progress p = record { entries = p.run.entries; world = world_state p.run.world; settled = settled_in p.settled; refused = p.refused }
@@ -17,7 +18,7 @@ progress p = record { entries = p.run.entries; world = world_state p.run.world; 
 pub record PlayedParts : Type 0 where
   pub journal : JournalFields
   pub world : WorldParts
-  pub refused : List (ℕ × ℕ)
+  pub refused : List RefusedLine
 
 abbrev pub state_of : PlayedParts → PlayedState
 state_of p = record { journal = p.journal; world = world_state p.world; refused = p.refused }

@@ -5,6 +5,7 @@ use Rattle.cluster_core.specs.World.{WorldState, first_world}
 use Rattle.cluster_core.specs.Journals.{JournalFields}
 use Rattle.cluster_core.specs.Runs.{Leads}
 use Rattle.cluster_core.specs.Safe.{IsSafe}
+use Rattle.lockscript.specs.declared.refused_line.RefusedLine.{RefusedLine}
 use Rattle.lockscript.specs.Scripts.{LineFields}
 use Rattle.replay.specs.Progress.{Progress, first_progress, RunsTo}
 
@@ -12,7 +13,7 @@ use Rattle.replay.specs.Progress.{Progress, first_progress, RunsTo}
 pub record PlayedState : Type 0 where
   pub journal : JournalFields
   pub world : WorldState
-  pub refused : List (ℕ × ℕ)
+  pub refused : List RefusedLine
 
 -- the entries of the journal lead to the world, which is safe
 pub record EndsIn (journal : JournalFields) (world : WorldState) : Type 0 where

@@ -10,6 +10,7 @@ use Rattle.messages.specs.Refusals.{number_of}
 use Rattle.messages.specs.Shapes.{ShapeFields}
 use Rattle.cluster_core.specs.World.{WorldState, first_world, journal_limit}
 use Rattle.cluster_core.specs.Next.{next}
+use Rattle.lockscript.specs.declared.refused_line.RefusedLine.{RefusedLine}
 use Rattle.lockscript.specs.declared.script_line.Command.{Command}
 use Rattle.lockscript.specs.declared.script_line.Command.TheVariants.{Call, Deliver, Lose, Settle, Interrupt, Retry, Resend, Declare, Restart, Learn}
 use Rattle.lockscript.specs.Scripts.{LineFields}
@@ -19,7 +20,7 @@ pub record Progress : Type 0 where
   pub entries : List Entry
   pub world : WorldState
   pub settled : ℕ → Bool
-  pub refused : List (ℕ × ℕ)
+  pub refused : List RefusedLine
 
 abbrev pub first_progress : ShapeFields → Progress
 first_progress shape = record { entries = []; world = first_world shape; settled = λ index. false; refused = [] }
@@ -30,7 +31,7 @@ after_entry p made = record p { entries = p.entries ++ made.1 ∷ []; world = ma
 
 -- the event of the line was refused
 abbrev pub after_refusal : Progress → ℕ → Refused → Progress
-after_refusal p line refusal = record p { refused = p.refused ++ (line, number_of refusal) ∷ [] }
+after_refusal p line refusal = record p { refused = p.refused ++ record { line = line; code = number_of refusal } ∷ [] }
 
 -- how far a script comes by something that it does, and nothing where the journal has no room for an event of it
 abbrev pub End : Type 0

@@ -8,6 +8,7 @@ ghost use Rattle.replay.specs.Played.{EndsIn};
 
 use cluster_core::journal::Journal;
 use cluster_core::world::World;
+use lockscript::refused_line::RefusedLine;
 use std::marker::Model;
 
 /// What came of a script: the journal of its run, the world to which its entries lead, and the lines
@@ -16,7 +17,7 @@ use std::marker::Model;
 pub struct Played {
     journal: Journal,
     world: World,
-    refused: Vec<(u32, u16)>,
+    refused: Vec<RefusedLine>,
 }
 
 impl Model for Played {
@@ -32,7 +33,7 @@ impl Model for Played {
 }
 
 impl Played {
-    pub(crate) fn new(journal: Journal, world: World, refused: Vec<(u32, u16)>) -> Played
+    pub(crate) fn new(journal: Journal, world: World, refused: Vec<RefusedLine>) -> Played
         requires { EndsIn journal (world_state world) }
         ensures { result ≡ record { journal = journal; world = world; refused = refused.items } }
     {
@@ -60,14 +61,14 @@ impl Played {
     }
 
     /// The lines that were refused, each by its number, from 1, with the number of the refusal.
-    pub fn refused(&self) -> &[(u32, u16)]
+    pub fn refused(&self) -> &[RefusedLine]
         ensures { result.now ≡ self.now.refused }
     {
         self.refused.as_slice()
     }
 
     /// What happened, and the lines that were refused, without the world.
-    pub fn into_journal(self) -> (Journal, Vec<(u32, u16)>)
+    pub fn into_journal(self) -> (Journal, Vec<RefusedLine>)
         ensures journal { result.0 ≡ self.journal }
         ensures refused { result.1.items ≡ self.refused }
     {

@@ -15,6 +15,7 @@ use crate::played::Played;
 use crate::settled::Settled;
 use cluster_core::run::Run;
 use cluster_core::world::JOURNAL_LIMIT;
+use lockscript::refused_line::RefusedLine;
 use lockscript::script_line::{Command, ScriptLine};
 use messages::event::Event;
 use messages::message::Message;
@@ -29,7 +30,7 @@ use std::marker::Model;
 pub(crate) struct Player {
     run: Run,
     settled: Settled,
-    refused: Vec<(u32, u16)>,
+    refused: Vec<RefusedLine>,
 }
 
 impl Model for Player {
@@ -114,7 +115,10 @@ impl Player {
         match refusal {
             Refused::NoMemory => return Err(PlayError::NoMemory),
             Refused::JournalFull => return Err(PlayError::JournalFull),
-            listed => self.refused.push((line, listed.number()))?,
+            listed => self.refused.push(RefusedLine {
+                line,
+                code: listed.number(),
+            })?,
         }
         Ok(())
     }

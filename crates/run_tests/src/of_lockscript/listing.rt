@@ -4,6 +4,7 @@ use cluster_core::item::Item;
 use cluster_core::token_run::TokenRun;
 use intervals::span::{GREATEST, Span};
 use lockscript::listing::listing;
+use lockscript::refused_line::RefusedLine;
 use messages::entry::Entry;
 use messages::event::Event;
 use messages::items::Items;
@@ -178,7 +179,13 @@ fn has_five_sections(rt: HostRuntime) -> Result<(), Fail> {
         entry(alloc, CALL, None),
         entry(alloc, CALL, Some((NEXT_CALL, Reply::Again(LOCK)))),
     ]?;
-    let refused = [(7, 13), (4_294_967_295, 19)];
+    let refused = [
+        RefusedLine { line: 7, code: 13 },
+        RefusedLine {
+            line: 4_294_967_295,
+            code: 19,
+        },
+    ];
     let text = listing(alloc, &refused, &entries, &TOKENS, &LOCKS, &HISTORY)?;
     assert_eq!(rt; text.as_str(), LISTING);
     let empty = listing(alloc, &[], &[], &[], &[], &[])?;

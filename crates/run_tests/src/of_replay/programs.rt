@@ -1,5 +1,6 @@
 //! What the program prints where no script of `tests/` can lead, and its status.
 use crate::of_replay::shelf::{PATH, RUN, Shelf};
+use lockscript::refused_line::RefusedLine;
 use lockscript::script::Script;
 use replay::fault::Fault;
 use replay::play::play;
@@ -69,7 +70,10 @@ fn plays_a_script(rt: HostRuntime) -> Result<(), Fail> {
     let played = play(alloc, &script)?;
     assert_eq!(rt; played.journal().entries().len(), 10);
     assert_eq!(rt; played.world().sent().len(), 3);
-    assert_eq!(rt; played.refused(), [(7, 13)].as_slice());
+    assert_eq!(rt;
+        played.refused(),
+        [RefusedLine { line: 7, code: 13 }].as_slice()
+    );
     Ok(())
 }
 
