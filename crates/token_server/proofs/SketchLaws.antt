@@ -1,5 +1,5 @@
 -- What a sketch makes of a server is what the rule says.
-use Rattle.std.specs.Prelude.{◌≡◌, ℕ, ◌-◌, ◌≤◌, Bool, true, false, not, cond, if◌then◌else◌, ◌&&◌, ◌||◌, ◌==◌, List, [], ◌∷◌, filter, find, nat_le, is_some, Option, Some, None}
+use Rattle.std.specs.Prelude.{◌≡◌, ℕ, ◌-◌, ◌≤◌, Bool, true, false, not, cond, if◌then◌else◌, ◌&&◌, ◌||◌, ◌==◌, List, filter, find, nat_le, is_some, Option, Some, None}
 use Rattle.std.specs.List.{list_any}
 use Rattle.std.proofs.Common.{refl, sym, ap, ◌∙◌, inl, inr, arith}
 use Rattle.std.proofs.lemmas.Grind.{common_steps}
@@ -13,8 +13,7 @@ use Rattle.token_server.specs.declared.node_change.NodeChange.TheVariants.{Asked
 use Rattle.token_server.specs.declared.sketch.Moved.{Moved}
 use Rattle.token_server.specs.declared.sketch.Moved.TheVariants.{Nothing}
 use Rattle.token_server.specs.declared.sketch.Changed.{Changed}
-use Rattle.token_server.specs.declared.sketch.Sketch.{Sketch}
-use Rattle.token_server.specs.State.{Row, ServerState, empty_row, row_above, is_of_call, is_up_to, unless, forgotten}
+use Rattle.token_server.specs.State.{Row, ServerState, row_above, is_of_call, is_up_to, unless, forgotten}
 use Rattle.token_server.specs.Parts.{ServerParts, server_state, with_change}
 use Rattle.token_server.specs.Server.{with_a_row, is_active, request_of, enqueued_with, enqueued, asked}
 use Rattle.token_server.specs.Sketches.{row_or_empty, rows_after, moved_with, moved_for, sketched}

@@ -57,13 +57,7 @@ fn has_level_in(token: &TokenSet, inner: Span, span: Span) -> bool
 
 // Whether the token conflicts with the mode at some byte of the span that is given up, once it is lowered
 // for a mode there.
-fn conflicts_inside(
-    token: &TokenSet,
-    given_up: Span,
-    wanted: Mode,
-    span: Span,
-    mode: Mode,
-) -> bool
+fn conflicts_inside(token: &TokenSet, given_up: Span, wanted: Mode, span: Span, mode: Mode) -> bool
     ensures { IsTrue result ↔ ConflictsIn (lowered (token_of token.now) given_up wanted) span mode (λ b. (given_up.lo ≤ b) × (b ≤ given_up.hi)) }
 {
     match (wanted, mode) {

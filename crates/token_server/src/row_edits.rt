@@ -192,14 +192,6 @@ impl RowEdits {
         }
     }
 
-    /// The greatest incarnation of a node known to be dead.
-    pub fn dead(&self, clients: &Clients, node: u8) -> u16
-        requires { IsNumber (length clients.now) node }
-        ensures { result ≡ deaths_of (overlaid clients.now self.now) node }
-    {
-        self.client(clients, node).dead
-    }
-
     /// The row of a node.
     pub fn row<'a>(&'a self, clients: &'a Clients, node: u8) -> Option<RowView<'a>>
         requires { 1 ≤ node }
@@ -314,12 +306,7 @@ impl RowEdits {
     }
 
     // The node changes so.
-    fn make(
-        &mut self,
-        clients: &Clients,
-        alloc: Global,
-        changed: &Changed,
-    ) -> Result<(), NoMemory>
+    fn make(&mut self, clients: &Clients, alloc: Global, changed: &Changed) -> Result<(), NoMemory>
         requires { IsNumber (length clients.now) changed.now.node }
         ensures rows { OnOk result (rows_of (overlaid clients.now self.new) ≡ rows_after (Some changed.now) (rows_of (overlaid clients.now self.old))) }
         ensures deaths { OnOk result (deaths_of (overlaid clients.now self.new) ≡ deaths_after (Some changed.now) (deaths_of (overlaid clients.now self.old))) }

@@ -291,65 +291,13 @@ impl Server {
         sketch.first_queued(&self.queue, &self.waiting)
     }
 
-    // The queue, and those that wait, without the requests that are dropped.
-    fn kept(&self, sketch: &Sketch) -> Result<(QueueEdit, QueueEdit), NoMemory>
-        ensures queue { IfOk result (λ r. queue_after r.0 self.now.queue ≡ without (dropped sketch.now.changed) self.now.queue) }
-        ensures waiting { IfOk result (λ r. queue_after r.1 self.now.waiting ≡ without (dropped sketch.now.changed) self.now.waiting) }
-    {
-        let Some((node, incarnation)) = sketch.dropped() else {
-            return Ok((QueueEdit::Same, QueueEdit::Same));
-        };
-        let queue = QueueEdit::Same.forgetting(&self.queue, node, incarnation)?;
-        let waiting = QueueEdit::Same.forgetting(&self.waiting, node, incarnation)?;
-        Ok((queue, waiting))
-    }
-
-    // Those that wait come last in the queue, in their order.
-    fn requeue(
-        &self,
-        alloc: Global,
-        queue: QueueEdit,
-        waiting: QueueEdit,
-    ) -> Result<(QueueEdit, QueueEdit), NoMemory>
-        ensures queue { IfOk result (λ r. queue_after r.0 self.now.queue ≡ queue_after queue self.now.queue ++ queue_after waiting self.now.waiting) }
-        ensures waiting { IfOk result (λ r. queue_after r.1 self.now.waiting ≡ []) }
-    {
-        if waiting.requests(&self.waiting).is_empty() {
-            return Ok((queue, waiting));
-        }
-        let queue = queue.appending(&self.queue, waiting.requests(&self.waiting))?;
-        Ok((queue, QueueEdit::Whole(Requests::new(alloc))))
-    }
-
-    // The queue, and those that wait, once the sketch is made.
-    fn moved(
-        &self,
-        sketch: &Sketch,
-        alloc: Global,
-    ) -> Result<(QueueEdit, QueueEdit), NoMemory>
-        ensures queue { IfOk result (λ r. queue_after r.0 self.now.queue ≡ queue_moved sketch.now.moved (without (dropped sketch.now.changed) self.now.queue) (without (dropped sketch.now.changed) self.now.waiting)) }
-        ensures waiting { IfOk result (λ r. queue_after r.1 self.now.waiting ≡ waiting_moved sketch.now.moved (without (dropped sketch.now.changed) self.now.waiting)) }
-    {
-        let (queue, waiting) = self.kept(sketch)?;
-        match sketch.moved {
-            Moved::Nothing => Ok((queue, waiting)),
-            Moved::New(request) => Ok((queue.pushing(&self.queue, request)?, waiting)),
-            Moved::Again { call, request } => {
-                let queue = queue.pushing(&self.queue, request)?;
-                Ok((queue, waiting.forgetting_call(&self.waiting, call)?))
-            }
-            Moved::Waiting => self.requeue(alloc, queue, waiting),
-            Moved::PutOff(request) => Ok((queue, waiting.pushing(&self.waiting, request)?)),
-        }
-    }
-
     // What a sketch changes, with the memory that this needs.
     fn settle(&self, sketch: &Sketch, alloc: Global) -> Result<Draft, NoMemory>
         requires { IfSome sketch.now.changed (λ c. IsNumber self.now.shape.nodes c.node) }
         ensures { IfOk result (λ draft. drafted self.now draft ≡ sketched self.now sketch.now) }
     {
         let rows = RowEdits::of(&self.clients, alloc, &sketch.changed)?;
-        let (queue, waiting) = self.moved(sketch, alloc)?;
+        let (queue, waiting) = sketch.moved(&self.queue, &self.waiting, alloc)?;
         Ok(Draft {
             rows,
             queue,
@@ -787,11 +735,7 @@ impl Server {
 }
 
 // What an edit changes, where those messages are sent and then what serving sends.
-fn sending(
-    edit: Edit,
-    first: Items<Message>,
-    served: Items<Message>,
-) -> Result<Change, NoMemory>
+fn sending(edit: Edit, first: Items<Message>, served: Items<Message>) -> Result<Change, NoMemory>
     ensures edit { IfOk result (λ change. change.edit ≡ edit) }
     ensures outcome { IfOk result (λ change. change.outcome ≡ sending (first ++ served)) }
 {

@@ -1,18 +1,22 @@
 //! What an event changes of a token server before it serves.
-ghost use Rattle.std.specs.Prelude.{◌≡◌, ◌≤◌, slice_get, Some, None};
+ghost use Rattle.std.specs.Prelude.{◌≡◌, ◌≤◌, ◌++◌, [], IfOk, slice_get, Some, None};
 ghost use Rattle.std.specs.Option.{option_map};
 ghost use Rattle.token_server.specs.Serve.{row_conflicts};
 ghost use Rattle.token_server.specs.Parts.{rows_of};
-ghost use Rattle.token_server.specs.Sketches.{commands_of, rows_after, dropped, dropped_to, without, queue_moved};
+ghost use Rattle.token_server.specs.Sketches.{commands_of, rows_after, dropped, dropped_to, without, queue_moved, waiting_moved};
+ghost use Rattle.token_server.specs.Edits.{queue_after};
 
 use crate::clients::Clients;
 use crate::commands::Commands;
 use crate::held::Held;
 use crate::node_change::NodeChange;
+use crate::queue_edit::QueueEdit;
 use crate::requests::Requests;
 use intervals::span::Span;
+use intervals::span_map::NoMemory;
 use model::call::CallId;
 use model::mode::Mode;
+use std::alloc::Global;
 
 /// What moves in the lists of requests.
 #[derive(Clone, Copy)]
@@ -114,4 +118,61 @@ impl Sketch {
             Moved::Nothing | Moved::PutOff(_) => None,
         }
     }
+
+    // The queue, and those that wait, without the requests that are dropped.
+    fn kept(&self, queue: &Requests, waiting: &Requests) -> Result<(QueueEdit, QueueEdit), NoMemory>
+        ensures queue { IfOk result (λ r. queue_after r.0 queue.now ≡ without (dropped self.now.changed) queue.now) }
+        ensures waiting { IfOk result (λ r. queue_after r.1 waiting.now ≡ without (dropped self.now.changed) waiting.now) }
+    {
+        let Some((node, incarnation)) = self.dropped() else {
+            return Ok((QueueEdit::Same, QueueEdit::Same));
+        };
+        let kept_queue = QueueEdit::Same.forgetting(queue, node, incarnation)?;
+        let kept_waiting = QueueEdit::Same.forgetting(waiting, node, incarnation)?;
+        Ok((kept_queue, kept_waiting))
+    }
+
+    /// How the queue changes, and those that wait.
+    ///
+    /// # Errors
+    /// `NoMemory` where a request for memory was refused.
+    pub fn moved(
+        &self,
+        queue: &Requests,
+        waiting: &Requests,
+        alloc: Global,
+    ) -> Result<(QueueEdit, QueueEdit), NoMemory>
+        ensures queue { IfOk result (λ r. queue_after r.0 queue.now ≡ queue_moved self.now.moved (without (dropped self.now.changed) queue.now) (without (dropped self.now.changed) waiting.now)) }
+        ensures waiting { IfOk result (λ r. queue_after r.1 waiting.now ≡ waiting_moved self.now.moved (without (dropped self.now.changed) waiting.now)) }
+    {
+        let (queued, left) = self.kept(queue, waiting)?;
+        match self.moved {
+            Moved::Nothing => Ok((queued, left)),
+            Moved::New(request) => Ok((queued.pushing(queue, request)?, left)),
+            Moved::Again { call, request } => {
+                let queued = queued.pushing(queue, request)?;
+                Ok((queued, left.forgetting_call(waiting, call)?))
+            }
+            Moved::Waiting => requeue(queue, waiting, alloc, queued, left),
+            Moved::PutOff(request) => Ok((queued, left.pushing(waiting, request)?)),
+        }
+    }
+}
+
+// Those that wait come last in the queue, in their order.
+fn requeue(
+    queue: &Requests,
+    waiting: &Requests,
+    alloc: Global,
+    queued: QueueEdit,
+    left: QueueEdit,
+) -> Result<(QueueEdit, QueueEdit), NoMemory>
+    ensures queue { IfOk result (λ r. queue_after r.0 queue.now ≡ queue_after queued queue.now ++ queue_after left waiting.now) }
+    ensures waiting { IfOk result (λ r. queue_after r.1 waiting.now ≡ []) }
+{
+    if left.requests(waiting).is_empty() {
+        return Ok((queued, left));
+    }
+    let queued = queued.appending(queue, left.requests(waiting))?;
+    Ok((queued, QueueEdit::Whole(Requests::new(alloc))))
 }

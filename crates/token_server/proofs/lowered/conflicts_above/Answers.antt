@@ -10,5 +10,5 @@ returns c =
     let hi = ap (λ (s : Range). s.hi) c.span.view_is in
     let most : c.max.result ≡ max c.span.inside.lo (c.args.end + 1) = c.max.ensures in
     conflicts-part _ c.args.span (record { lo = c.max.result; hi = c.span.inside.hi }) c.args.mode _ _ c.conflicts.ensures
-        (λ b above below. (omega (arith, most, lo), omega (arith, hi), omega (arith, most)))
-        (λ b above below among. (omega (arith, most, lo), omega (arith, hi)))
+    (λ b above below. (omega (arith, most, lo), omega (arith, hi), omega (arith, most)))
+    (λ b above below among. (omega (arith, most, lo), omega (arith, hi)))

@@ -10,5 +10,5 @@ returns c =
     let hi = ap (λ (s : Range). s.hi) c.span.view_is in
     let least : c.min.result ≡ min c.span.inside.hi (c.args.end - 1) = c.min.ensures in
     conflicts-part _ c.args.span (record { lo = c.span.inside.lo; hi = c.min.result }) c.args.mode _ _ c.conflicts.ensures
-        (λ b above below. (omega (arith, lo), omega (arith, least, hi), omega (arith, least, lo)))
-        (λ b above below among. (omega (arith, lo), omega (arith, least, hi)))
+    (λ b above below. (omega (arith, lo), omega (arith, least, hi), omega (arith, least, lo)))
+    (λ b above below among. (omega (arith, lo), omega (arith, least, hi)))

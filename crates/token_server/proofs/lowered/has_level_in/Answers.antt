@@ -14,5 +14,5 @@ returns c =
     let most : c.max.result ≡ max c.span.inside.lo c.inner.inside.lo = c.max.ensures in
     let least : c.min.result ≡ min c.span.inside.hi c.inner.inside.hi = c.min.ensures in
     conflicts-part _ c.args.span (record { lo = c.max.result; hi = c.min.result }) Write _ _ c.conflicts.ensures
-        (λ b above below. (omega (arith, most, lo), omega (arith, least, hi), (omega (arith, most, start), omega (arith, least, end))))
-        (λ b above below among. (omega (arith, most, lo, start, among.0), omega (arith, least, hi, end, among.1)))
+    (λ b above below. (omega (arith, most, lo), omega (arith, least, hi), (omega (arith, most, start), omega (arith, least, end))))
+    (λ b above below among. (omega (arith, most, lo, start, among.0), omega (arith, least, hi, end, among.1)))

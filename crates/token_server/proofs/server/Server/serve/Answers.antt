@@ -1,5 +1,5 @@
 use Rattle.std.specs.Prelude.{Err}
-use Rattle.std.proofs.Common.{ap, sym, ◌∙◌}
+use Rattle.std.proofs.Common.{ap, ◌∙◌}
 use Rattle.token_server.proofs.RefusalLaws.{refused-some, refused-same, refused-none, opposing-then}
 use Rattle.token_server.proofs.server.Server.serve.Goals as goal
 
