@@ -1,6 +1,8 @@
 pub mod ClientLaws
 pub mod TokenRequestLaws
 pub mod RequestLaws
+pub mod SketchLaws
+pub mod LoweredLaws
 pub mod GrantLaws
 pub mod ResendLaws
 pub mod ServeLaws

@@ -1,74 +1,83 @@
--- A server refuses a stranger, and what it takes at most for want of a number.
-use Rattle.std.specs.Prelude.{◌≡◌, ℕ, Bool, true, false, not, cond, ◌&&◌, nat_le, nat_lt, List, [], is_some, Option, Some, None, Result, Ok, Err}
-use Rattle.std.proofs.Common.{ap, sym, ◌∙◌}
+-- Why a server refuses to serve: for want of a number, which the row alone says.
+use Rattle.std.specs.Prelude.{◌≡◌, ℕ, Bool, true, false, cond, nat_le, nat_lt, List, [], ◌∷◌, is_some, Option, Some, None, Result, Ok, Err}
+use Rattle.std.proofs.Common.{refl, sym, ap, ◌∙◌}
 use Rattle.messages.specs.declared.refusal.StepError.{StepError}
-use Rattle.messages.specs.declared.refusal.StepError.TheVariants.{Stranger, Spent}
-use Rattle.messages.specs.declared.message.Message.{Message}
-use Rattle.messages.specs.declared.outcome.Outcome.{Outcome}
-use Rattle.messages.specs.Messages.{addressee, host_of, is_within}
-use Rattle.token_set.specs.Tokens.{Token}
+use Rattle.messages.specs.declared.refusal.StepError.TheVariants.{Spent}
+use Rattle.messages.specs.Messages.{greatest_number}
 use Rattle.token_server.specs.declared.token_request.TokenRequest.{TokenRequest}
-use Rattle.token_server.specs.State.{Row, ServerState, forgotten}
-use Rattle.token_server.specs.Serve.{admitted, conflicting_node, commanded, granted_to, revoked_from, served, serve}
-use Rattle.token_server.specs.Resends.{sending_first}
-use Rattle.token_server.specs.Server.{Change, is_server, change, delivered, then_serve}
+use Rattle.token_server.specs.State.{Row, ServerState}
+use Rattle.token_server.specs.Parts.{next_number}
+use Rattle.token_server.specs.Serve.{admitted, conflicting_node, granted_to, revoked_from, served, serve}
+use Rattle.token_server.specs.Sketches.{commands_of, opposing, refusal_of}
 
--- a refusal, if it is one, is for want of a number
-abbrev pub IsAtMostSpent : {A : Type 0} → Result A StepError → Type 0
-IsAtMostSpent a = (e : StepError) → a ≡ Err e → e ≡ Spent
+-- what a command to the node of a row would be refused for
+abbrev pub row_refusal : Option Row → Option StepError
+row_refusal None = None
+row_refusal (Some row) = refusal_of (next_number (commands_of row))
 
-picked : {A : Type 0} (b : Bool) (x y : Result A StepError) → IsAtMostSpent x → IsAtMostSpent y → IsAtMostSpent (cond b x y)
-picked true x y here there = here
-picked false x y here there = there
+either-refusal : {A B : Type 0} (b c : Bool) (x y : A) (u v : B) (e : StepError) → refusal_of {A = A} (cond b (Ok x) (cond c (Ok y) (Err e))) ≡ refusal_of {A = B} (cond b (Ok u) (cond c (Ok v) (Err e)))
+either-refusal true c x y u v e = refl
+either-refusal false true x y u v e = refl
+either-refusal false false x y u v e = refl
 
-done : {A : Type 0} (x : A) → IsAtMostSpent (Ok x)
-done x e is = absurd (cc)
+granted-refusal : (s : ServerState) (r : TokenRequest) (row : Option Row) → refusal_of (granted_to s r row) ≡ row_refusal row
+granted-refusal s r None = refl
+granted-refusal s r (Some row) = either-refusal (is_some row.outstanding) (nat_lt row.number greatest_number) _ _ _ _ Spent
 
-spent : {A : Type 0} → IsAtMostSpent {A = A} (Err Spent)
-spent e is = cc
+revoked-refusal : (s : ServerState) (r : TokenRequest) (node : ℕ) (row : Option Row) → refusal_of (revoked_from s r node row) ≡ row_refusal row
+revoked-refusal s r node None = refl
+revoked-refusal s r node (Some row) = either-refusal (is_some row.outstanding) (nat_lt row.number greatest_number) _ _ _ _ Spent
 
-commanded-spent : (s : ServerState) (node : ℕ) (row : Row) (token : Token) (command : Message) → IsAtMostSpent (commanded s node row token command)
-commanded-spent s node row token command = picked (is_some row.outstanding) _ _ (done _) (picked (nat_lt row.number _) _ _ (done _) spent)
+-- the node to which the next command for a request would go
+abbrev pub sought : Option ℕ → TokenRequest → ℕ
+sought None r = r.call.node
+sought (Some node) r = node
 
-granted-spent : (s : ServerState) (r : TokenRequest) (row : Option Row) → IsAtMostSpent (granted_to s r row)
-granted-spent s r None = done _
-granted-spent s r (Some row) = commanded-spent s _ row _ _
+pub served-refusal : (s : ServerState) (r : TokenRequest) → refusal_of (served s (Some r)) ≡ row_refusal (s.rows (sought (opposing s (Some r)) r))
+served-refusal s r = by (nat_le node s.shape.nodes)
+  where
+    node : ℕ
+    node = conflicting_node s r
 
-revoked-spent : (s : ServerState) (r : TokenRequest) (node : ℕ) (row : Option Row) → IsAtMostSpent (revoked_from s r node row)
-revoked-spent s r node None = done _
-revoked-spent s r node (Some row) = commanded-spent s node row _ _
+    by : (b : Bool) → refusal_of (cond b (revoked_from s r node (s.rows node)) (granted_to s r (s.rows r.call.node))) ≡ row_refusal (s.rows (sought (cond b (Some node) None) r))
+    by true = revoked-refusal s r node (s.rows node)
+    by false = granted-refusal s r (s.rows r.call.node)
 
-served-spent : (s : ServerState) (r : Option TokenRequest) → IsAtMostSpent (served s r)
-served-spent s None = done _
-served-spent s (Some r) =
-    let node = conflicting_node s r in
-    picked (nat_le node s.shape.nodes) _ _ (revoked-spent s r node (s.rows node)) (granted-spent s r (s.rows r.call.node))
+-- who is served changes neither the node nor the refusal
+pub opposing-admitted : (s : ServerState) (active : Option TokenRequest) (queue : List TokenRequest) (x : Option TokenRequest) → opposing (admitted s active queue) x ≡ opposing s x
+opposing-admitted s (Some r) queue x = refl
+opposing-admitted s None [] x = refl
+opposing-admitted s None (r ∷ rest) None = refl
+opposing-admitted s None (r ∷ rest) (Some x) = refl
 
-serve-spent : (s : ServerState) → IsAtMostSpent (serve s)
-serve-spent s = served-spent (admitted s s.active s.queue) (admitted s s.active s.queue).active
+pub refusal-admitted : (s : ServerState) (active : Option TokenRequest) (queue : List TokenRequest) (x : Option TokenRequest) → refusal_of (served (admitted s active queue) x) ≡ refusal_of (served s x)
+refusal-admitted s (Some r) queue x = refl
+refusal-admitted s None [] x = refl
+refusal-admitted s None (r ∷ rest) None = refl
+refusal-admitted s None (r ∷ rest) (Some x) = served-refusal (record s { active = Some r; queue = rest }) x ∙ sym (served-refusal s x)
 
-sending-spent : (sends : List Message) (a : Result (ServerState × List Message) StepError) → IsAtMostSpent a → IsAtMostSpent (sending_first sends a)
-sending-spent sends (Err x) at_most e is = at_most e (let same : x ≡ e = cc in ap Err same)
-sending-spent sends (Ok result) at_most e is = absurd (cc)
+-- a refusal, by its name
+pub refused-by : {A : Type 0} (a : Result A StepError) (e : StepError) → refusal_of a ≡ Some e → a ≡ Err e
+refused-by (Ok x) e is = absurd (cc)
+refused-by (Err x) e is = let same : x ≡ e = cc in ap Err same
 
-taken-spent : (s : ServerState) (c : Option Change) → IsAtMostSpent (then_serve s (Ok c))
-taken-spent s None = done _
-taken-spent s (Some changed) = sending-spent changed.1 (serve changed.0) (serve-spent changed.0)
+-- a refusal to serve that is found
+pub refused-some : (s : ServerState) (x : Option TokenRequest) (o : Option StepError) (e : StepError) → x ≡ (admitted s s.active s.queue).active → o ≡ refusal_of (served s x) → o ≡ Some e → serve s ≡ Err e
+refused-some s x o e at found is =
+    refused-by (serve s) e (refusal-admitted s s.active s.queue (admitted s s.active s.queue).active ∙ ap (λ (y : Option TokenRequest). refusal_of (served s y)) (sym at) ∙ sym found ∙ is)
 
--- what is done with a message, where it is for the server or not, of a dead incarnation or not
-abbrev sorted : ServerState → Message → Bool → Bool → Result (ServerState × Outcome) StepError
-sorted s m for dead = then_serve s (cond (not for) (Err Stranger) (cond dead (Ok None) (Ok (delivered s m))))
+pub refused-same : (s : ServerState) (e d : StepError) → serve s ≡ Err e → serve s ≡ Err d → e ≡ d
+refused-same s e d one other = let both : Some e ≡ Some d = sym (ap refusal_of one) ∙ ap refusal_of other in cc
 
-sorted-spent : (s : ServerState) (m : Message) (dead : Bool) → IsAtMostSpent (sorted s m true dead)
-sorted-spent s m true = taken-spent s None
-sorted-spent s m false = taken-spent s (delivered s m)
+-- and that there is none
+pub refused-none : (s : ServerState) (x : Option TokenRequest) (o : Option StepError) (e : StepError) → x ≡ (admitted s s.active s.queue).active → o ≡ refusal_of (served s x) → o ≡ None → serve s ≡ Err e → ⊥
+refused-none s x o e at found is refused =
+    let none : Some e ≡ None = sym (ap refusal_of refused) ∙ refusal-admitted s s.active s.queue (admitted s s.active s.queue).active ∙ ap (λ (y : Option TokenRequest). refusal_of (served s y)) (sym at) ∙ sym found ∙ is in
+    absurd (cc)
 
--- a message that is for the server
-pub message_spent : (s : ServerState) (m : Message) → (is_server s.file (addressee m) && is_within s.shape.nodes (host_of m).node) ≡ true → IsAtMostSpent (then_serve s (change s m))
-message_spent s m for e is =
-    let dead = nat_le (host_of m).incarnation (s.dead (host_of m).node) in
-    sorted-spent s m dead e (ap (λ (b : Bool). sorted s m b dead) (sym for) ∙ is)
-
--- what becomes of a Learn, where the cluster has the node or not
-abbrev learned : ServerState → ℕ → ℕ → Bool → Result (ServerState × Outcome) StepError
-learned s node incarnation within = cond (not within) (Err Stranger) (sending_first [] (serve (forgotten s node incarnation)))
+-- the node to which the next command goes, once the first of the queue is served
+pub opposing-then : (s t u : ServerState) (x : Option TokenRequest) → t ≡ s → u ≡ admitted t t.active t.queue → x ≡ (admitted s s.active s.queue).active → opposing s x ≡ opposing u u.active
+opposing-then s t u x settled next at =
+    ap (opposing s) at
+    ∙ sym (opposing-admitted s s.active s.queue (admitted s s.active s.queue).active)
+    ∙ sym (ap (λ (v : ServerState). opposing v v.active) (next ∙ ap (λ (v : ServerState). admitted v v.active v.queue) settled))

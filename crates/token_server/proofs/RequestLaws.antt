@@ -1,9 +1,10 @@
 -- Requests by their calls, and as a list.
-use Rattle.std.specs.Prelude.{◌≡◌, Bool, true, false, cond, ◌||◌, ◌&&◌, List, [], ◌∷◌, All, filter, find, drop, Some, is_some, refl}
+use Rattle.std.specs.Prelude.{◌≡◌, Bool, true, false, cond, ◌||◌, ◌&&◌, List, [], ◌∷◌, All, filter, find, drop, slice_get, Some, is_some, refl}
 use Rattle.std.specs.List.{list_any}
 use Rattle.std.specs.Map.{values_of, lookup}
 use Rattle.std.specs.Cmp.{nat_eq_equiv}
 use Rattle.std.proofs.Common.{ap, subst, ◌∙◌, rules}
+use Rattle.std.proofs.lemmas.Bool.{both_ways}
 use Rattle.std.proofs.lemmas.List.Elements.{All-head, All-tail}
 use Rattle.model.specs.declared.call.CallId.{CallId}
 use Rattle.model.specs.contracts.call.CallIdPartialEq.TheImpl as derived
@@ -64,3 +65,23 @@ filter-values test (e ∷ es) = by (test e.1) (filter-values test es)
 pub All-rest : {X : Type 0} (P : X → Type 0) (xs : List X) → All P xs → All P (drop 1 xs)
 All-rest P [] each = each
 All-rest P (x ∷ xs) each = All-tail P x xs each
+
+-- the first that passes is the first of those that do
+pub first-filter : {X : Type 0} (test : X → Bool) (xs : List X) → slice_get (filter test xs) 0 ≡ find test xs
+first-filter test [] = refl
+first-filter test (x ∷ xs) = by (test x) (first-filter test xs)
+  where
+    by : (b : Bool) → slice_get (filter test xs) 0 ≡ find test xs → slice_get (cond b (x ∷ filter test xs) (filter test xs)) 0 ≡ cond b (Some x) (find test xs)
+    by true rest = refl
+    by false rest = rest
+
+-- what is found is not dropped, where what passes is kept
+pub find-filter : {X : Type 0} (test keep : X → Bool) (xs : List X) → ((x : X) → test x ≡ true → keep x ≡ true) → find test (filter keep xs) ≡ find test xs
+find-filter test keep [] keeps = refl
+find-filter test keep (x ∷ xs) keeps = by (test x) (keep x) refl refl (find-filter test keep xs keeps)
+  where
+    by : (t k : Bool) → test x ≡ t → keep x ≡ k → find test (filter keep xs) ≡ find test xs → find test (cond k (x ∷ filter keep xs) (filter keep xs)) ≡ cond t (Some x) (find test xs)
+    by true true is kept rest = ap (λ (b : Bool). cond b (Some x) (find test (filter keep xs))) is
+    by true false is kept rest = absurd (both_ways _ kept (keeps x is))
+    by false true is kept rest = ap (λ (b : Bool). cond b (Some x) (find test (filter keep xs))) is ∙ rest
+    by false false is kept rest = rest

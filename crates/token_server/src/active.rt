@@ -1,15 +1,12 @@
 //! The request that a server serves.
-ghost use Rattle.std.specs.Prelude.{◌≡◌, ◌↔◌, IfOk, IsTrue};
+ghost use Rattle.std.specs.Prelude.{◌≡◌, ◌↔◌, IsTrue};
 ghost use Rattle.std.specs.Option.{option_to_list};
 ghost use Rattle.token_server.specs.State.{is_of_call, is_up_to, unless};
 ghost use Rattle.token_server.specs.Server.{is_active, put_off, denial};
 
 use crate::token_request::TokenRequest;
-use intervals::span_map::NoMemory;
-use messages::items::Items;
 use messages::message::{Message, Urgency};
 use model::call::CallId;
-use std::alloc::Global;
 
 /// Whether both are the same request, or none.
 pub(crate) fn same_request(one: &Option<TokenRequest>, other: &Option<TokenRequest>) -> bool
@@ -61,18 +58,11 @@ pub(crate) fn put_off(active: &Option<TokenRequest>, call: CallId) -> Option<Tok
 }
 
 /// The denial of a call, where its request is the one that is served and may not wait.
-pub(crate) fn denial(
-    alloc: Global,
-    active: &Option<TokenRequest>,
-    call: CallId,
-    deny: &Message,
-) -> Result<Items<Message>, NoMemory>
-    ensures { IfOk result (λ sends. sends ≡ denial call deny.now active.now) }
+pub(crate) fn denial(active: &Option<TokenRequest>, call: CallId, deny: &Message) -> Option<Message>
+    ensures { denial call deny.now active.now ≡ option_to_list result }
 {
     match active {
-        Some(request) if request.is_of_call(call) && request.urgency == Urgency::Now => {
-            Items::one(alloc, *deny)
-        }
-        _ => Ok(Items::new(alloc)),
+        Some(request) if request.is_of_call(call) && request.urgency == Urgency::Now => Some(*deny),
+        _ => None,
     }
 }

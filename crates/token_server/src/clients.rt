@@ -1,16 +1,20 @@
 //! The nodes of a cluster, as a token server knows them.
-ghost use Rattle.std.specs.Prelude.{◌≡◌, ℕ, ◌<◌, ◌≤◌, ◌↔◌, length, All, IsTrue, IfOk, Some, None};
+ghost use Rattle.std.specs.Prelude.{◌≡◌, ℕ, ◌<◌, ◌≤◌, ◌↔◌, length, All, IsTrue, IfOk, IfSome, Some, None};
+ghost use Rattle.std.specs.Option.{option_copied};
 ghost use Rattle.model.specs.Limits.{IsNumber};
-ghost use Rattle.token_server.specs.Parts.{client_at, rows_of, deaths_of, SameClients};
+ghost use Rattle.token_server.specs.Parts.{row_seen, row_state, client_at, rows_of, deaths_of, SameClients};
 ghost use Rattle.token_server.specs.Resends.{outstanding_to};
+ghost use Rattle.token_server.specs.Server.{row_of_incarnation};
 ghost use Rattle.token_server.specs.Edits.{overlaid, with_given_row};
 
 use crate::change::Given;
 use crate::client::Client;
+use crate::token_holder::TokenHolder;
 use crate::row_edits::{RowEdit, RowEdits};
 use intervals::span_map::NoMemory;
 use messages::items::Items;
 use messages::message::Message;
+use model::host::Host;
 use std::alloc::Global;
 use std::marker::Model;
 
@@ -113,6 +117,31 @@ impl Clients {
         ensures { client_at self.now node ≡ Some result.now }
     {
         &self.clients[usize::from(node) - 1]
+    }
+
+    /// The row of a node.
+    pub fn row(&self, node: u8) -> Option<&TokenHolder>
+        requires { 1 ≤ node }
+        ensures { row_seen (option_copied result) ≡ rows_of self.now node }
+    {
+        if usize::from(node) > self.clients.len() {
+            return None;
+        }
+        match &self.at(node).row {
+            Some(row) => Some(row),
+            None => None,
+        }
+    }
+
+    /// The row of a node, if it is of that incarnation.
+    pub fn row_of(&self, host: Host) -> Option<&TokenHolder>
+        ensures row { row_seen (option_copied result) ≡ row_of_incarnation host.incarnation (rows_of self.now host.node) }
+        ensures same { IfSome result (λ row. rows_of self.now host.node ≡ Some (row_state row.now)) }
+    {
+        match self.row(host.node) {
+            Some(row) if row.commands.incarnation() == host.incarnation => Some(row),
+            _ => None,
+        }
     }
 
     /// The edits are made. Takes no memory.

@@ -7,12 +7,15 @@ ghost use Rattle.token_server.specs.State.{empty_row, row_above};
 ghost use Rattle.token_server.specs.Serve.{row_conflicts, row_conflicts_at};
 ghost use Rattle.token_server.specs.Parts.{row_state, client_at, rows_of, deaths_of, answered, relieved, with_change};
 ghost use Rattle.token_server.specs.Server.{row_of_incarnation};
+ghost use Rattle.token_server.specs.Sketches.{row_or_empty, rows_after, deaths_after};
 ghost use Rattle.token_server.specs.Edits.{overlaid, Changes, seen, seen_client, token_kept, answered_with};
 
 use crate::client::ClientView;
 use crate::clients::Clients;
 use crate::commands::Commands;
+use crate::node_change::NodeChange;
 use crate::token_holder::RowView;
+use crate::sketch::Changed;
 use intervals::span::Span;
 use intervals::span_map::NoMemory;
 use model::host::Host;
@@ -189,14 +192,6 @@ impl RowEdits {
         }
     }
 
-    /// The greatest incarnation of a node known to be dead.
-    pub fn dead(&self, clients: &Clients, node: u8) -> u16
-        requires { IsNumber (length clients.now) node }
-        ensures { result ≡ deaths_of (overlaid clients.now self.now) node }
-    {
-        self.client(clients, node).dead
-    }
-
     /// The row of a node.
     pub fn row<'a>(&'a self, clients: &'a Clients, node: u8) -> Option<RowView<'a>>
         requires { 1 ≤ node }
@@ -208,28 +203,6 @@ impl RowEdits {
             return None;
         }
         self.client(clients, node).row
-    }
-
-    /// The row of a node, if it is of that incarnation.
-    pub fn row_of<'a>(&'a self, clients: &'a Clients, host: Host) -> Option<RowView<'a>>
-        ensures row { MatchOption result (row_of_incarnation host.incarnation (rows_of (overlaid clients.now self.now) host.node) ≡ None) (λ row. row_of_incarnation host.incarnation (rows_of (overlaid clients.now self.now) host.node) ≡ Some (row_state (seen row))) }
-        ensures same { IfSome result (λ row. rows_of (overlaid clients.now self.now) host.node ≡ Some (row_state (seen row))) }
-    {
-        match self.row(clients, host.node) {
-            Some(row) if row.commands.incarnation() == host.incarnation => Some(row),
-            _ => None,
-        }
-    }
-
-    /// Whether the row of a node conflicts with the mode at some byte of the span.
-    pub fn conflicts(&self, clients: &Clients, node: u8, span: Span, mode: Mode) -> bool
-        requires { IsNumber (length clients.now) node }
-        ensures { result ≡ row_conflicts (rows_of (overlaid clients.now self.now) node) span mode }
-    {
-        match self.row(clients, node) {
-            Some(row) => row.token.conflicts(span, mode),
-            None => false,
-        }
     }
 
     /// The largest span that contains `required`, lies in `within`, and has no byte at which the row
@@ -310,6 +283,58 @@ impl RowEdits {
         let token = self.lowered_token(clients, node, span, mode)?;
         let edit = self.answered(clients, node, token);
         self.put(edit)
+    }
+
+    // The node asks in that incarnation: those before it are dead, and it has a row.
+    fn ask(
+        &mut self,
+        clients: &Clients,
+        alloc: Global,
+        node: u8,
+        incarnation: u16,
+    ) -> Result<(), NoMemory>
+        requires node_in { IsNumber (length clients.now) node }
+        requires counted { 1 ≤ incarnation }
+        ensures rows { OnOk result (rows_of (overlaid clients.now self.new) ≡ with_change node (λ row. row_or_empty incarnation (row_above (incarnation - 1) row)) (rows_of (overlaid clients.now self.old))) }
+        ensures deaths { OnOk result (deaths_of (overlaid clients.now self.new) ≡ (λ n. if n == node then max (deaths_of (overlaid clients.now self.old) n) (incarnation - 1) else deaths_of (overlaid clients.now self.old) n)) }
+    {
+        self.forget(clients, node, incarnation - 1)?;
+        if self.row(clients, node).is_some() {
+            return Ok(());
+        }
+        self.add_row(clients, alloc, node, incarnation)
+    }
+
+    // The node changes so.
+    fn make(&mut self, clients: &Clients, alloc: Global, changed: &Changed) -> Result<(), NoMemory>
+        requires { IsNumber (length clients.now) changed.now.node }
+        ensures rows { OnOk result (rows_of (overlaid clients.now self.new) ≡ rows_after (Some changed.now) (rows_of (overlaid clients.now self.old))) }
+        ensures deaths { OnOk result (deaths_of (overlaid clients.now self.new) ≡ deaths_after (Some changed.now) (deaths_of (overlaid clients.now self.old))) }
+    {
+        let node = changed.node;
+        match &changed.change {
+            NodeChange::Forgotten { incarnation } => self.forget(clients, node, *incarnation),
+            NodeChange::Asked { host } => self.ask(clients, alloc, node, host.incarnation),
+            NodeChange::Answered => self.answer(clients, node),
+            NodeChange::Relieved { span, mode } => self.release(clients, node, *span, *mode),
+        }
+    }
+
+    /// The node changes so, if one does.
+    pub fn of(
+        clients: &Clients,
+        alloc: Global,
+        changed: &Option<Changed>,
+    ) -> Result<RowEdits, NoMemory>
+        requires { IfSome changed.now (λ c. IsNumber (length clients.now) c.node) }
+        ensures rows { IfOk result (λ edits. rows_of (overlaid clients.now edits) ≡ rows_after changed.now (rows_of clients.now)) }
+        ensures deaths { IfOk result (λ edits. deaths_of (overlaid clients.now edits) ≡ deaths_after changed.now (deaths_of clients.now)) }
+    {
+        let mut edits = RowEdits::new(alloc);
+        if let Some(changed) = changed {
+            edits.make(clients, alloc, changed)?;
+        }
+        Ok(edits)
     }
 
     /// The edits, in order.

@@ -11,6 +11,7 @@ ghost use Rattle.token_server.specs.Serve.{admitted, row_conflicts, row_conflict
 ghost use Rattle.token_server.specs.Resends.{outstanding, sending_first, resend_rule};
 ghost use Rattle.token_server.specs.Server.{server_rule, learn_rule, with_a_row, is_active, request_of, enqueued_with, enqueued, asked, put_off, denial, row_of_host, freed, revoked_mode, taken, released, in_conflict, delivered, is_server};
 ghost use Rattle.token_server.specs.Parts.{server_state, rows_of, deaths_of, told_commands};
+ghost use Rattle.token_server.specs.Sketches.{dropped, without, moved_for, queue_moved, waiting_moved, sketched, opposing, refusal_of};
 ghost use Rattle.token_server.specs.Edits.{queue_after, drafted_parts, drafted, with_given, planned};
 
 use crate::active::{denial, is_active, put_off, same_request, unless_of_call, unless_up_to};
@@ -19,9 +20,11 @@ use crate::clients::Clients;
 use crate::commands::Commands;
 use crate::event::ServerEvent;
 use crate::token_request::TokenRequest;
+use crate::node_change::NodeChange;
 use crate::queue_edit::QueueEdit;
 use crate::requests::Requests;
 use crate::row_edits::RowEdits;
+use crate::sketch::{Changed, Moved, Sketch};
 use intervals::span::Span;
 use intervals::span_map::NoMemory;
 use messages::actor::Actor;
@@ -111,203 +114,140 @@ impl Server {
         self.waiting.same(&other.waiting) && self.clients.same(&other.clients)
     }
 
-    // No draft.
-    fn no_draft(&self, alloc: Global) -> Draft
-        ensures { drafted self.now result ≡ server_state self.now }
+    // Nothing changes.
+    fn no_sketch(&self) -> Sketch
+        ensures state { sketched self.now result ≡ server_state self.now }
+        ensures in_cluster { IfSome result.changed (λ c. IsNumber self.now.shape.nodes c.node) }
     {
-        Draft {
-            rows: RowEdits::new(alloc),
-            queue: QueueEdit::Same,
+        Sketch {
+            changed: None,
+            moved: Moved::Nothing,
             active: self.active,
-            waiting: QueueEdit::Same,
         }
-    }
-
-    // The incarnations of a node up to this one are known to be dead: their row and requests go.
-    fn forget(&self, draft: Draft, node: u8, incarnation: u16) -> Result<Draft, NoMemory>
-        requires { IsNumber self.now.shape.nodes node }
-        ensures { IfOk result (λ new. drafted self.now new ≡ forgotten (drafted self.now draft) node incarnation) }
-    {
-        let Draft {
-            mut rows,
-            queue,
-            active,
-            waiting,
-        } = draft;
-        rows.forget(&self.clients, node, incarnation)?;
-        Ok(Draft {
-            rows,
-            queue: queue.forgetting(&self.queue, node, incarnation)?,
-            active: unless_up_to(active, node, incarnation),
-            waiting: waiting.forgetting(&self.waiting, node, incarnation)?,
-        })
-    }
-
-    // A row for the call's node where there is none.
-    fn add_row(&self, draft: &mut Draft, alloc: Global, call: CallId) -> Result<(), NoMemory>
-        requires { IsNumber self.now.shape.nodes call.node }
-        ensures { OnOk result (drafted self.now draft.new ≡ with_a_row (drafted self.now draft.old) call ((drafted self.now draft.old).rows call.node)) }
-    {
-        if draft.rows.row(&self.clients, call.node).is_some() {
-            return Ok(());
-        }
-        draft
-            .rows
-            .add_row(&self.clients, alloc, call.node, call.incarnation)
     }
 
     // Those that wait come last in the queue, in their order.
-    fn requeue(&self, draft: Draft, alloc: Global) -> Result<Draft, NoMemory>
-        ensures { IfOk result (λ new. drafted self.now new ≡ requeued (drafted self.now draft)) }
+    fn requeued(&self) -> Sketch
+        ensures state { sketched self.now result ≡ requeued (server_state self.now) }
+        ensures in_cluster { IfSome result.changed (λ c. IsNumber self.now.shape.nodes c.node) }
     {
-        if draft.waiting.requests(&self.waiting).is_empty() {
-            return Ok(draft);
+        Sketch {
+            changed: None,
+            moved: Moved::Waiting,
+            active: self.active,
         }
-        let Draft {
-            rows,
-            queue,
-            active,
-            waiting,
-        } = draft;
-        Ok(Draft {
-            rows,
-            queue: queue.appending(&self.queue, waiting.requests(&self.waiting))?,
-            active,
-            waiting: QueueEdit::Whole(Requests::new(alloc)),
-        })
     }
 
-    // Queues the request, or the one of its call that waits. Its call is not queued.
-    fn enqueue_new(&self, draft: Draft, request: TokenRequest) -> Result<Draft, NoMemory>
-        ensures { IfOk result (λ new. drafted self.now new ≡ enqueued_with (drafted self.now draft) request (request_of request.call (drafted self.now draft).waiting)) }
+    // The incarnations of a node up to this one are known to be dead, and what waits is asked for again.
+    fn forgotten(&self, node: u8, incarnation: u16) -> Sketch
+        requires { IsNumber self.now.shape.nodes node }
+        ensures state { sketched self.now result ≡ requeued (forgotten (server_state self.now) node incarnation) }
+        ensures in_cluster { IfSome result.changed (λ c. IsNumber self.now.shape.nodes c.node) }
     {
-        let Draft {
-            rows,
-            queue,
-            active,
-            waiting,
-        } = draft;
-        let Some(own) = waiting.find(&self.waiting, request.call) else {
-            return Ok(Draft {
-                rows,
-                queue: queue.pushing(&self.queue, request)?,
-                active,
-                waiting,
-            });
-        };
-        Ok(Draft {
-            rows,
-            queue: queue.pushing(&self.queue, own)?,
-            active,
-            waiting: waiting.forgetting_call(&self.waiting, request.call)?,
-        })
+        let change = NodeChange::Forgotten { incarnation };
+        Sketch {
+            changed: Some(Changed { node, change }),
+            moved: Moved::Waiting,
+            active: unless_up_to(self.active, node, incarnation),
+        }
     }
 
-    // Queues the request, unless its call has one that is queued or served.
-    fn enqueue(&self, draft: Draft, request: TokenRequest) -> Result<Draft, NoMemory>
-        ensures { IfOk result (λ new. drafted self.now new ≡ enqueued (drafted self.now draft) request) }
+    // What comes last in the queue for a request: its call's that waits, or the request itself, unless its
+    // call has one that is queued or served.
+    fn enqueued(&self, active: &Option<TokenRequest>, request: TokenRequest) -> Moved
+        ensures { result ≡ moved_for request active.now self.now.queue self.now.waiting }
     {
-        if is_active(&draft.active, request.call) || draft.queue.has(&self.queue, request.call) {
-            return Ok(draft);
+        let call = request.call;
+        if is_active(active, call) || self.queue.find(call).is_some() {
+            return Moved::Nothing;
         }
-        self.enqueue_new(draft, request)
+        match self.waiting.find(call) {
+            Some(own) => Moved::Again { call, request: own },
+            None => Moved::New(request),
+        }
     }
 
     // Takes a request: older incarnations of its node are dead, and there is a row from now on.
-    fn ask(&self, draft: Draft, alloc: Global, request: TokenRequest) -> Result<Draft, NoMemory>
+    fn ask(&self, request: TokenRequest) -> Sketch
         requires { IsNumber self.now.shape.nodes request.call.node }
-        ensures { IfOk result (λ new. drafted self.now new ≡ asked (drafted self.now draft) request) }
+        ensures state { sketched self.now result ≡ asked (server_state self.now) request }
+        ensures in_cluster { IfSome result.changed (λ c. IsNumber self.now.shape.nodes c.node) }
     {
-        let call = request.call;
-        let mut young = self.forget(draft, call.node, call.incarnation - 1)?;
-        self.add_row(&mut young, alloc, call)?;
-        self.enqueue(young, request)
+        let host = request.call.host();
+        let node = host.node;
+        let active = unless_up_to(self.active, node, host.incarnation - 1);
+        Sketch {
+            changed: Some(Changed {
+                node,
+                change: NodeChange::Asked { host },
+            }),
+            moved: self.enqueued(&active, request),
+            active,
+        }
     }
 
     // The mode that the command with that number revokes, if it is under way to that holder.
-    fn revoked_mode<'a>(&'a self, draft: &'a Draft, number: u32, holder: Host) -> Option<Mode>
-        requires { IsNumber self.now.shape.nodes holder.node }
-        ensures { MatchOption (row_of_host (drafted self.now draft.now) holder) (result ≡ None) (λ row. result ≡ revoked_mode number row.outstanding) }
+    fn revoked_mode(&self, number: u32, holder: Host) -> Option<Mode>
+        ensures { MatchOption (row_of_host (server_state self.now) holder) (result ≡ None) (λ row. result ≡ revoked_mode number row.outstanding) }
     {
-        match draft.rows.row_of(&self.clients, holder) {
+        match self.clients.row_of(holder) {
             Some(row) => row.commands.revoked_mode(number),
             None => None,
         }
     }
 
-    // Takes a node's answer to a Grant: the call's request is served no longer. What is sent, or `None`
-    // where the answer doesn't count.
-    fn on_taken(
-        &self,
-        mut draft: Draft,
-        alloc: Global,
-        number: u32,
-        call: CallId,
-    ) -> Result<Option<(Draft, Items<Message>)>, NoMemory>
+    // Takes a node's answer to a Grant: the call's request is served no longer. `None` where the answer
+    // doesn't count.
+    fn on_taken(&self, number: u32, call: CallId) -> Option<Sketch>
         requires { IsNumber self.now.shape.nodes call.node }
-        ensures { IfOk result (λ done. taken (drafted self.now draft) number call (row_of_host (drafted self.now draft) (host_of_call call)) ≡ option_map (λ d. (drafted self.now d.0, d.1)) done) }
+        ensures state { taken (server_state self.now) number call (row_of_host (server_state self.now) (host_of_call call)) ≡ option_map (λ k. (sketched self.now k, [])) result }
+        ensures in_cluster { IfSome result (λ k. IfSome k.changed (λ c. IsNumber self.now.shape.nodes c.node)) }
     {
-        match draft.rows.row_of(&self.clients, call.host()) {
+        match self.clients.row_of(call.host()) {
             Some(row) if row.commands.grants(number) => {}
-            _ => return Ok(None),
+            _ => return None,
         }
-        draft.rows.answer(&self.clients, call.node)?;
-        draft.active = unless_of_call(draft.active, call);
-        Ok(Some((draft, Items::new(alloc))))
+        Some(Sketch {
+            changed: Some(Changed {
+                node: call.node,
+                change: NodeChange::Answered,
+            }),
+            moved: Moved::Nothing,
+            active: unless_of_call(self.active, call),
+        })
     }
 
-    // Takes a holder's answer that it gave up a span. What is sent, or `None` where the answer doesn't
-    // count.
-    fn on_released(
-        &self,
-        mut draft: Draft,
-        alloc: Global,
-        number: u32,
-        holder: Host,
-        span: Span,
-    ) -> Result<Option<(Draft, Items<Message>)>, NoMemory>
+    // Takes a holder's answer that it gave up a span. `None` where the answer doesn't count.
+    fn on_released(&self, number: u32, holder: Host, span: Span) -> Option<Sketch>
         requires { IsNumber self.now.shape.nodes holder.node }
-        ensures { IfOk result (λ done. released (drafted self.now draft) number holder span (row_of_host (drafted self.now draft) holder) ≡ option_map (λ d. (drafted self.now d.0, d.1)) done) }
+        ensures state { released (server_state self.now) number holder span (row_of_host (server_state self.now) holder) ≡ option_map (λ k. (sketched self.now k, [])) result }
+        ensures in_cluster { IfSome result (λ k. IfSome k.changed (λ c. IsNumber self.now.shape.nodes c.node)) }
     {
-        let Some(mode) = self.revoked_mode(&draft, number, holder) else {
-            return Ok(None);
-        };
-        draft.rows.release(&self.clients, holder.node, span, mode)?;
-        Ok(Some((draft, Items::new(alloc))))
-    }
-
-    // Those that wait, where the request of the call that is served comes last if it may wait.
-    fn putting_off(
-        &self,
-        waiting: QueueEdit,
-        active: &Option<TokenRequest>,
-        call: CallId,
-    ) -> Result<QueueEdit, NoMemory>
-        ensures { IfOk result (λ new. queue_after new self.now.waiting ≡ queue_after waiting self.now.waiting ++ put_off call active.now) }
-    {
-        match put_off(active, call) {
-            Some(request) => waiting.pushing(&self.waiting, request),
-            None => Ok(waiting),
-        }
+        let mode = self.revoked_mode(number, holder)?;
+        Some(Sketch {
+            changed: Some(Changed {
+                node: holder.node,
+                change: NodeChange::Relieved { span, mode },
+            }),
+            moved: Moved::Nothing,
+            active: self.active,
+        })
     }
 
     // Takes a holder's answer that a lock is in the way: the call's request is served no longer, and is
     // denied or waits. What is sent, or `None` where the answer doesn't count.
     fn on_conflict(
         &self,
-        mut draft: Draft,
-        alloc: Global,
         number: u32,
         holder: Host,
         call: CallId,
         lock: LockInfo,
-    ) -> Result<Option<(Draft, Items<Message>)>, NoMemory>
+    ) -> Option<(Sketch, Option<Message>)>
         requires { IsNumber self.now.shape.nodes holder.node }
-        ensures { IfOk result (λ done. in_conflict (drafted self.now draft) number holder call lock (row_of_host (drafted self.now draft) holder) ≡ option_map (λ d. (drafted self.now d.0, d.1)) done) }
+        ensures state { in_conflict (server_state self.now) number holder call lock (row_of_host (server_state self.now) holder) ≡ option_map (λ d. (sketched self.now d.0, option_to_list d.1)) result }
+        ensures in_cluster { IfSome result (λ d. IfSome d.0.changed (λ c. IsNumber self.now.shape.nodes c.node)) }
     {
-        if self.revoked_mode(&draft, number, holder).is_none() {
-            return Ok(None);
-        }
+        self.revoked_mode(number, holder)?;
         let deny = Message::Deny {
             file: self.file,
             call,
@@ -315,21 +255,55 @@ impl Server {
             number,
             lock,
         };
-        let sends = denial(alloc, &draft.active, call, &deny)?;
-        draft.rows.answer(&self.clients, holder.node)?;
-        let Draft {
-            rows,
-            queue,
-            active,
-            waiting,
-        } = draft;
-        let postponed = Draft {
-            rows,
-            queue,
-            active: unless_of_call(active, call),
-            waiting: self.putting_off(waiting, &active, call)?,
+        let sketch = Sketch {
+            changed: Some(Changed {
+                node: holder.node,
+                change: NodeChange::Answered,
+            }),
+            moved: match put_off(&self.active, call) {
+                Some(request) => Moved::PutOff(request),
+                None => Moved::Nothing,
+            },
+            active: unless_of_call(self.active, call),
         };
-        Ok(Some((postponed, sends)))
+        Some((sketch, denial(&self.active, call, &deny)))
+    }
+
+    // Takes that locks of the holder may be gone: where its row is of that incarnation, what waits is asked
+    // for again.
+    fn on_freed(&self, holder: Host) -> Sketch
+        ensures state { sketched self.now result ≡ freed (server_state self.now) (row_of_host (server_state self.now) holder) }
+        ensures in_cluster { IfSome result.changed (λ c. IsNumber self.now.shape.nodes c.node) }
+    {
+        if self.clients.row_of(holder).is_none() {
+            return self.no_sketch();
+        }
+        self.requeued()
+    }
+
+    // The request that is served from then on: the first of the queue where none is.
+    fn admitted(&self, sketch: &Sketch) -> Option<TokenRequest>
+        ensures { result ≡ (admitted (sketched self.now sketch.now) (sketched self.now sketch.now).active (sketched self.now sketch.now).queue).active }
+    {
+        if sketch.active.is_some() {
+            return sketch.active;
+        }
+        sketch.first_queued(&self.queue, &self.waiting)
+    }
+
+    // What a sketch changes, with the memory that this needs.
+    fn settle(&self, sketch: &Sketch, alloc: Global) -> Result<Draft, NoMemory>
+        requires { IfSome sketch.now.changed (λ c. IsNumber self.now.shape.nodes c.node) }
+        ensures { IfOk result (λ draft. drafted self.now draft ≡ sketched self.now sketch.now) }
+    {
+        let rows = RowEdits::of(&self.clients, alloc, &sketch.changed)?;
+        let (queue, waiting) = sketch.moved(&self.queue, &self.waiting, alloc)?;
+        Ok(Draft {
+            rows,
+            queue,
+            active: sketch.active,
+            waiting,
+        })
     }
 
     // Serves the first of the queue where no request is served.
@@ -355,28 +329,58 @@ impl Server {
     }
 
     // Whether the row of another node conflicts with what the request needs.
-    fn conflicts_at(&self, draft: &Draft, node: u8, request: &TokenRequest) -> bool
+    fn conflicts_at(&self, sketch: &Sketch, node: u8, request: &TokenRequest) -> bool
         requires { IsNumber self.now.shape.nodes node }
-        ensures { result ≡ (not (node == request.now.call.node) && row_conflicts ((drafted self.now draft.now).rows node) request.now.wanted.required request.now.mode) }
+        ensures { result ≡ (not (node == request.now.call.node) && row_conflicts ((sketched self.now sketch.now).rows node) request.now.wanted.required request.now.mode) }
     {
         !request.is_of_node(node)
-            && draft
-                .rows
-                .conflicts(&self.clients, node, request.required(), request.mode)
+            && sketch.conflicts(&self.clients, node, request.required(), request.mode)
     }
 
     // The least other node whose row conflicts with what the request needs.
-    fn conflicting_node(&self, draft: &Draft, request: &TokenRequest) -> Option<u8>
+    fn conflicting_node(&self, sketch: &Sketch, request: &TokenRequest) -> Option<u8>
         ensures node_in { IfSome result (λ node. IsNumber self.now.shape.nodes node × IsNumber most_nodes node) }
-        ensures within { IsSome result ↔ (conflicting_node (drafted self.now draft.now) request.now ≤ self.now.shape.nodes) }
-        ensures value { IfSome result (λ node. node ≡ conflicting_node (drafted self.now draft.now) request.now) }
+        ensures within { IsSome result ↔ (conflicting_node (sketched self.now sketch.now) request.now ≤ self.now.shape.nodes) }
+        ensures value { IfSome result (λ node. node ≡ conflicting_node (sketched self.now sketch.now) request.now) }
     {
         for place in 0..self.shape.nodes() {
-            if self.conflicts_at(draft, place + 1, request) {
+            if self.conflicts_at(sketch, place + 1, request) {
                 return Some(place + 1);
             }
         }
         None
+    }
+
+    // The other node whose token is revoked first for the request that is served, if one is.
+    fn opposing(&self, sketch: &Sketch, active: &Option<TokenRequest>) -> Option<u8>
+        ensures node_in { IfSome result (λ node. IsNumber self.now.shape.nodes node × IsNumber most_nodes node) }
+        ensures value { result ≡ opposing (sketched self.now sketch.now) active.now }
+    {
+        match active {
+            Some(request) => self.conflicting_node(sketch, request),
+            None => None,
+        }
+    }
+
+    // The refusal to serve the request, where the next command would need a number that there isn't.
+    fn refusal(
+        &self,
+        sketch: &Sketch,
+        active: &Option<TokenRequest>,
+        holder: Option<u8>,
+    ) -> Option<StepError>
+        requires node_in { IfSome holder (λ node. IsNumber self.now.shape.nodes node × IsNumber most_nodes node) }
+        requires value { holder ≡ opposing (sketched self.now sketch.now) active.now }
+        ensures { result ≡ refusal_of (served (sketched self.now sketch.now) active.now) }
+    {
+        let Some(request) = active else {
+            return None;
+        };
+        let node = holder.unwrap_or(request.call.node);
+        match sketch.commands(&self.clients, node) {
+            Some(commands) => commands.next_number().err(),
+            None => None,
+        }
     }
 
     // The span that a request is granted: the largest that it would like to have.
@@ -461,52 +465,47 @@ impl Server {
         &self,
         draft: &Draft,
         alloc: Global,
+        holder: Option<u8>,
     ) -> Result<(Option<Given>, Items<Message>), StepError>
+        requires node_in { IfSome holder (λ node. IsNumber self.now.shape.nodes node × IsNumber most_nodes node) }
+        requires value { holder ≡ opposing (drafted self.now draft.now) (drafted self.now draft.now).active }
         ensures ok { IfOk result (λ r. served (drafted self.now draft.now) (drafted self.now draft.now).active ≡ Ok (with_given r.0 (drafted_parts draft.now self.now), r.1)) }
         ensures err { IfErr result (λ e. e ≢ StepError.NoMemory → served (drafted self.now draft.now) (drafted self.now draft.now).active ≡ Err e) }
     {
         let Some(request) = draft.active else {
             return Ok((None, Items::new(alloc)));
         };
-        match self.conflicting_node(draft, &request) {
+        match holder {
             Some(node) => self.revoke(draft, alloc, node, &request),
             None => self.grant(draft, alloc, &request),
         }
     }
 
     // Serves a request: it is granted, but where other nodes' rows conflict with it, the token of the
-    // least such node is revoked first.
-    fn serve(&self, draft: Draft, alloc: Global) -> Result<(Edit, Items<Message>), StepError>
-        ensures ok { IfOk result (λ r. serve (drafted self.now draft) ≡ Ok (planned self.now r.0, r.1)) }
-        ensures err { IfErr result (λ e. e ≢ StepError.NoMemory → serve (drafted self.now draft) ≡ Err e) }
+    // least such node is revoked first. That no number is left is decided before memory is taken.
+    fn serve(&self, sketch: &Sketch, alloc: Global) -> Result<(Edit, Items<Message>), StepError>
+        requires { IfSome sketch.now.changed (λ c. IsNumber self.now.shape.nodes c.node) }
+        ensures ok { IfOk result (λ r. serve (sketched self.now sketch.now) ≡ Ok (planned self.now r.0, r.1)) }
+        ensures err { IfErr result (λ e. e ≢ StepError.NoMemory → serve (sketched self.now sketch.now) ≡ Err e) }
+        ensures refused { (r : StepError) → serve (sketched self.now sketch.now) ≡ Err r → result ≡ Err r }
     {
+        let active = self.admitted(sketch);
+        let holder = self.opposing(sketch, &active);
+        if let Some(refusal) = self.refusal(sketch, &active, holder) {
+            return Err(refusal);
+        }
+        let draft = self.settle(sketch, alloc)?;
         let draft = self.admit(draft)?;
-        let (given, sends) = self.command(&draft, alloc)?;
+        let (given, sends) = self.command(&draft, alloc, holder)?;
         Ok((Edit { draft, given }, sends))
     }
 
-    // Takes that locks of the holder may be gone: where its row is of that incarnation, what waits is asked
-    // for again.
-    fn on_freed(&self, draft: Draft, alloc: Global, holder: Host) -> Result<Draft, NoMemory>
-        requires { IsNumber self.now.shape.nodes holder.node }
-        ensures { IfOk result (λ new. drafted self.now new ≡ freed (drafted self.now draft) (row_of_host (drafted self.now draft) holder)) }
-    {
-        if draft.rows.row_of(&self.clients, holder).is_none() {
-            return Ok(draft);
-        }
-        self.requeue(draft, alloc)
-    }
-
-    // What a message changes before the server serves. What is sent for it, or `None` where it does
+    // What a message changes before the server serves, and what is sent for it, or `None` where it does
     // nothing at all.
-    fn deliver(
-        &self,
-        draft: Draft,
-        alloc: Global,
-        message: &Message,
-    ) -> Result<Option<(Draft, Items<Message>)>, NoMemory>
+    fn deliver(&self, message: &Message) -> Option<(Sketch, Option<Message>)>
         requires { IsNumber self.now.shape.nodes (host_of message.now).node }
-        ensures { IfOk result (λ done. delivered (drafted self.now draft) message.now ≡ option_map (λ d. (drafted self.now d.0, d.1)) done) }
+        ensures state { delivered (server_state self.now) message.now ≡ option_map (λ d. (sketched self.now d.0, option_to_list d.1)) result }
+        ensures in_cluster { IfSome result (λ d. IfSome d.0.changed (λ c. IsNumber self.now.shape.nodes c.node)) }
     {
         match *message {
             Message::Request {
@@ -515,29 +514,23 @@ impl Server {
                 mode,
                 wanted,
                 ..
-            } => {
-                let asked = self.ask(draft, alloc, TokenRequest::new(call, urgency, mode, wanted))?;
-                Ok(Some((asked, Items::new(alloc))))
-            }
-            Message::Taken { number, call, .. } => self.on_taken(draft, alloc, number, call),
+            } => Some((self.ask(TokenRequest::new(call, urgency, mode, wanted)), None)),
+            Message::Taken { number, call, .. } => Some((self.on_taken(number, call)?, None)),
             Message::Released {
                 number,
                 holder,
                 span,
                 ..
-            } => self.on_released(draft, alloc, number, holder, span),
+            } => Some((self.on_released(number, holder, span)?, None)),
             Message::Conflict {
                 number,
                 holder,
                 call,
                 lock,
                 ..
-            } => self.on_conflict(draft, alloc, number, holder, call, lock),
-            Message::Freed { holder, .. } => {
-                let freed = self.on_freed(draft, alloc, holder)?;
-                Ok(Some((freed, Items::new(alloc))))
-            }
-            Message::Grant { .. } | Message::Revoke { .. } | Message::Deny { .. } => Ok(None),
+            } => self.on_conflict(number, holder, call, lock),
+            Message::Freed { holder, .. } => Some((self.on_freed(holder), None)),
+            Message::Grant { .. } | Message::Revoke { .. } | Message::Deny { .. } => None,
         }
     }
 
@@ -551,22 +544,24 @@ impl Server {
         message.host().node <= self.shape.nodes()
     }
 
-    // Serves after those messages were sent.
+    // Serves after that message was sent, if there is one.
     fn serve_after(
         &self,
-        draft: Draft,
+        sketch: &Sketch,
         alloc: Global,
-        mut sends: Items<Message>,
+        first: Option<Message>,
     ) -> Result<Change, StepError>
-        ensures ok { IfOk result (λ change. sending_first sends (serve (drafted self.now draft)) ≡ Ok (planned self.now change.edit, change.outcome)) }
-        ensures err { IfErr result (λ e. e ≢ StepError.NoMemory → sending_first sends (serve (drafted self.now draft)) ≡ Err e) }
+        requires { IfSome sketch.now.changed (λ c. IsNumber self.now.shape.nodes c.node) }
+        ensures ok { IfOk result (λ change. sending_first (option_to_list first) (serve (sketched self.now sketch.now)) ≡ Ok (planned self.now change.edit, change.outcome)) }
+        ensures err { IfErr result (λ e. e ≢ StepError.NoMemory → sending_first (option_to_list first) (serve (sketched self.now sketch.now)) ≡ Err e) }
+        ensures refused { (r : StepError) → sending_first (option_to_list first) (serve (sketched self.now sketch.now)) ≡ Err r → result ≡ Err r }
     {
-        let (edit, served) = self.serve(draft, alloc)?;
-        sends.append(served)?;
-        Ok(Change {
-            edit,
-            outcome: Outcome::sending(sends),
-        })
+        let (edit, served) = self.serve(sketch, alloc)?;
+        let sends = match first {
+            Some(message) => Items::one(alloc, message)?,
+            None => Items::new(alloc),
+        };
+        Ok(sending(edit, sends, served)?)
     }
 
     // Nothing changes, nothing is sent.
@@ -576,7 +571,12 @@ impl Server {
     {
         Change {
             edit: Edit {
-                draft: self.no_draft(alloc),
+                draft: Draft {
+                    rows: RowEdits::new(alloc),
+                    queue: QueueEdit::Same,
+                    active: self.active,
+                    waiting: QueueEdit::Same,
+                },
                 given: None,
             },
             outcome: Outcome::sending(Items::new(alloc)),
@@ -588,23 +588,23 @@ impl Server {
         requires { (is_server self.now.file (addressee message.now) && is_within self.now.shape.nodes (host_of message.now).node) ≡ true }
         ensures ok { IfOk result (λ change. server_rule (server_state self.now) (ServerEvent.Deliver message.now) ≡ Ok (planned self.now change.edit, change.outcome)) }
         ensures err { IfErr result (λ e. e ≢ StepError.NoMemory → server_rule (server_state self.now) (ServerEvent.Deliver message.now) ≡ Err e) }
+        ensures refused { (r : StepError) → server_rule (server_state self.now) (ServerEvent.Deliver message.now) ≡ Err r → result ≡ Err r }
     {
         let host = message.host();
         if host.incarnation <= self.clients.dead(host.node) {
             return Ok(self.no_change(alloc));
         }
-        let draft = self.no_draft(alloc);
-        let Some((draft, sends)) = self.deliver(draft, alloc, message)? else {
-            return Ok(self.no_change(alloc));
-        };
-        self.serve_after(draft, alloc, sends)
+        match self.deliver(message) {
+            Some((sketch, first)) => self.serve_after(&sketch, alloc, first),
+            None => Ok(self.no_change(alloc)),
+        }
     }
 
     // Takes a message.
     fn take(&self, alloc: Global, message: &Message) -> Result<Change, StepError>
         ensures ok { IfOk result (λ change. server_rule (server_state self.now) (ServerEvent.Deliver message.now) ≡ Ok (planned self.now change.edit, change.outcome)) }
         ensures err { IfErr result (λ e. e ≢ StepError.NoMemory → server_rule (server_state self.now) (ServerEvent.Deliver message.now) ≡ Err e) }
-        ensures refused { (r : StepError) → r ≢ StepError.Spent → server_rule (server_state self.now) (ServerEvent.Deliver message.now) ≡ Err r → result ≡ Err r }
+        ensures refused { (r : StepError) → server_rule (server_state self.now) (ServerEvent.Deliver message.now) ≡ Err r → result ≡ Err r }
     {
         if !self.is_addressed_by(message) {
             return Err(StepError::Stranger);
@@ -623,10 +623,11 @@ impl Server {
     fn resend(&self, alloc: Global) -> Result<Change, StepError>
         ensures ok { IfOk result (λ change. resend_rule (server_state self.now) ≡ Ok (planned self.now change.edit, change.outcome)) }
         ensures err { IfErr result (λ e. e ≢ StepError.NoMemory → resend_rule (server_state self.now) ≡ Err e) }
+        ensures refused { (r : StepError) → resend_rule (server_state self.now) ≡ Err r → result ≡ Err r }
     {
+        let (edit, served) = self.serve(&self.requeued(), alloc)?;
         let commands = self.outstanding(alloc)?;
-        let draft = self.requeue(self.no_draft(alloc), alloc)?;
-        self.serve_after(draft, alloc, commands)
+        Ok(sending(edit, commands, served)?)
     }
 
     // The incarnation of a node of the cluster is known as dead from now on, what waits is asked for again,
@@ -635,17 +636,16 @@ impl Server {
         requires { IsNumber self.now.shape.nodes node }
         ensures ok { IfOk result (λ change. learn_rule (server_state self.now) node incarnation ≡ Ok (planned self.now change.edit, change.outcome)) }
         ensures err { IfErr result (λ e. e ≢ StepError.NoMemory → learn_rule (server_state self.now) node incarnation ≡ Err e) }
+        ensures refused { (r : StepError) → learn_rule (server_state self.now) node incarnation ≡ Err r → result ≡ Err r }
     {
-        let draft = self.forget(self.no_draft(alloc), node, incarnation)?;
-        let draft = self.requeue(draft, alloc)?;
-        self.serve_after(draft, alloc, Items::new(alloc))
+        self.serve_after(&self.forgotten(node, incarnation), alloc, None)
     }
 
     // The incarnation is known as dead from now on, and then the server serves.
     fn learn(&self, alloc: Global, node: u8, incarnation: u16) -> Result<Change, StepError>
         ensures ok { IfOk result (λ change. learn_rule (server_state self.now) node incarnation ≡ Ok (planned self.now change.edit, change.outcome)) }
         ensures err { IfErr result (λ e. e ≢ StepError.NoMemory → learn_rule (server_state self.now) node incarnation ≡ Err e) }
-        ensures refused { (r : StepError) → r ≢ StepError.Spent → learn_rule (server_state self.now) node incarnation ≡ Err r → result ≡ Err r }
+        ensures refused { (r : StepError) → learn_rule (server_state self.now) node incarnation ≡ Err r → result ≡ Err r }
     {
         if node == 0 || node > self.shape.nodes() {
             return Err(StepError::Stranger);
@@ -661,8 +661,8 @@ impl Server {
         ensures ok { IfOk result (λ change. server_rule (server_state self.now) event.now ≡ Ok (planned self.now change.edit, change.outcome)) }
         ensures err { IfErr result (λ e. e ≢ StepError.NoMemory → server_rule (server_state self.now) event.now ≡ Err e) }
 
-        // A refusal that is decided before memory is taken always comes: any but that no number is left.
-        ensures refused { (r : StepError) → r ≢ StepError.Spent → server_rule (server_state self.now) event.now ≡ Err r → result ≡ Err r }
+        // A refusal always comes, for it is decided before memory is taken.
+        ensures refused { (r : StepError) → server_rule (server_state self.now) event.now ≡ Err r → result ≡ Err r }
     {
         match event {
             ServerEvent::Deliver(message) => self.take(alloc, message),
@@ -724,14 +724,27 @@ impl Server {
         ensures ok { IfOk result (λ r. server_rule (server_state self.now) event.now ≡ Ok (server_state r.0, r.1)) }
         ensures err { IfErr result (λ e. e ≢ StepError.NoMemory → server_rule (server_state self.now) event.now ≡ Err e) }
 
-        // A refusal that is decided before memory is taken always comes: any but that no number is left.
-        ensures refused { (r : StepError) → r ≢ StepError.Spent → server_rule (server_state self.now) event.now ≡ Err r → result ≡ Err r }
+        // A refusal always comes, for it is decided before memory is taken.
+        ensures refused { (r : StepError) → server_rule (server_state self.now) event.now ≡ Err r → result ≡ Err r }
     {
         let change = self.plan(alloc, event)?;
         let mut next = self.copy()?;
         let outcome = next.apply(change);
         Ok((next, outcome))
     }
+}
+
+// What an edit changes, where those messages are sent and then what serving sends.
+fn sending(edit: Edit, first: Items<Message>, served: Items<Message>) -> Result<Change, NoMemory>
+    ensures edit { IfOk result (λ change. change.edit ≡ edit) }
+    ensures outcome { IfOk result (λ change. change.outcome ≡ sending (first ++ served)) }
+{
+    let mut sends = first;
+    sends.append(served)?;
+    Ok(Change {
+        edit,
+        outcome: Outcome::sending(sends),
+    })
 }
 
 // The next command to a node, and what it is given by that.

@@ -1,0 +1,115 @@
+-- What an event changes of a server before it serves.
+use Rattle.std.specs.Prelude.{◌≡◌, ℕ, ◌-◌, ◌≤◌, true, not, ◌==◌, ◌||◌, nat_le, max, is_some, if◌then◌else◌, List, [], ◌∷◌, ◌++◌, filter, Option, Some, None, Result, Ok, Err}
+use Rattle.std.specs.Option.{option_map}
+use Rattle.intervals.specs.Bytes.{Range}
+use Rattle.model.specs.declared.mode.Mode.{Mode}
+use Rattle.token_set.specs.Tokens.{Token, level_conflicts}
+use Rattle.messages.specs.declared.refusal.StepError.{StepError}
+use Rattle.token_server.specs.declared.token_request.TokenRequest.{TokenRequest}
+use Rattle.token_server.specs.declared.node_change.NodeChange.{NodeChange}
+use Rattle.token_server.specs.declared.node_change.NodeChange.TheVariants.{Forgotten, Asked, Answered, Relieved}
+use Rattle.token_server.specs.declared.sketch.Moved.{Moved}
+use Rattle.token_server.specs.declared.sketch.Moved.TheVariants.{Nothing, New, Again, Waiting, PutOff}
+use Rattle.token_server.specs.declared.sketch.Changed.{Changed}
+use Rattle.token_server.specs.declared.sketch.Sketch.{Sketch}
+use Rattle.token_server.specs.State.{Commands, Row, ServerState, empty_row, row_above, is_of_call, is_up_to}
+use Rattle.token_server.specs.Serve.{conflicting_node}
+use Rattle.token_server.specs.Server.{is_active, request_of}
+use Rattle.token_server.specs.Parts.{ServerParts, answered, relieved, with_change, rows_of, deaths_of}
+
+-- the token conflicts with the mode at a byte of the span that is one of those
+abbrev pub ConflictsIn : Token → Range → Mode → (ℕ → Type 0) → Type 0
+ConflictsIn t s mode among = (b : ℕ) × (s.lo ≤ b) × (b ≤ s.hi) × among b × (level_conflicts (t b) mode ≡ true)
+
+-- the commands to the node of a row
+abbrev pub commands_of : Row → Commands
+commands_of row = record { incarnation = row.incarnation; number = row.number; outstanding = row.outstanding }
+
+abbrev pub row_or_empty : ℕ → Option Row → Option Row
+row_or_empty incarnation None = Some (empty_row incarnation)
+row_or_empty incarnation (Some row) = Some row
+
+-- the row of a node after the change
+abbrev pub row_after : NodeChange → Option Row → Option Row
+row_after (Forgotten incarnation) row = row_above incarnation row
+row_after (Asked host) row = row_or_empty host.incarnation (row_above (host.incarnation - 1) row)
+row_after Answered row = option_map answered row
+row_after (Relieved span mode) row = option_map (relieved span mode) row
+
+-- its greatest incarnation known to be dead
+abbrev pub dead_after : NodeChange → ℕ → ℕ
+dead_after (Forgotten incarnation) dead = max dead incarnation
+dead_after (Asked host) dead = max dead (host.incarnation - 1)
+dead_after Answered dead = dead
+dead_after (Relieved span mode) dead = dead
+
+-- the incarnation up to which its requests are dropped, if any are
+abbrev pub dropped_to : NodeChange → Option ℕ
+dropped_to (Forgotten incarnation) = Some incarnation
+dropped_to (Asked host) = Some (host.incarnation - 1)
+dropped_to Answered = None
+dropped_to (Relieved span mode) = None
+
+abbrev pub rows_after : Option Changed → (ℕ → Option Row) → ℕ → Option Row
+rows_after None rows = rows
+rows_after (Some c) rows = with_change c.node (row_after c.change) rows
+
+abbrev pub deaths_after : Option Changed → (ℕ → ℕ) → ℕ → ℕ
+deaths_after None deaths = deaths
+deaths_after (Some c) deaths = λ n. if n == c.node then dead_after c.change (deaths n) else deaths n
+
+-- the node, and the incarnation up to which its requests are dropped
+abbrev pub dropped : Option Changed → Option (ℕ × ℕ)
+dropped None = None
+dropped (Some c) = option_map (λ incarnation. (c.node, incarnation)) (dropped_to c.change)
+
+abbrev pub without : Option (ℕ × ℕ) → List TokenRequest → List TokenRequest
+without None requests = requests
+without (Some d) requests = filter (λ r. not (is_up_to d.0 d.1 r)) requests
+
+-- the queue after the move, and those that wait
+abbrev pub queue_moved : Moved → List TokenRequest → List TokenRequest → List TokenRequest
+queue_moved Nothing queue waiting = queue
+queue_moved (New r) queue waiting = queue ++ r ∷ []
+queue_moved (Again call r) queue waiting = queue ++ r ∷ []
+queue_moved Waiting queue waiting = queue ++ waiting
+queue_moved (PutOff r) queue waiting = queue
+
+abbrev pub waiting_moved : Moved → List TokenRequest → List TokenRequest
+waiting_moved Nothing waiting = waiting
+waiting_moved (New r) waiting = waiting
+waiting_moved (Again call r) waiting = filter (λ q. not (is_of_call call q)) waiting
+waiting_moved Waiting waiting = []
+waiting_moved (PutOff r) waiting = waiting ++ r ∷ []
+
+abbrev pub moved_with : TokenRequest → Option TokenRequest → Moved
+moved_with r None = New r
+moved_with r (Some own) = Again r.call own
+
+-- what moves for a request: its call's that waits, or the request itself, unless its call has one that is queued or served
+abbrev pub moved_for : TokenRequest → Option TokenRequest → List TokenRequest → List TokenRequest → Moved
+moved_for r active queue waiting =
+    if is_active r.call active || is_some (request_of r.call queue) then Nothing
+    else moved_with r (request_of r.call waiting)
+
+-- the state once what the event changes is made
+abbrev pub sketched : ServerParts → Sketch → ServerState
+sketched p k = record {
+  shape = p.shape;
+  file = p.file;
+  rows = rows_after k.changed (rows_of p.clients);
+  dead = deaths_after k.changed (deaths_of p.clients);
+  queue = queue_moved k.moved (without (dropped k.changed) p.queue) (without (dropped k.changed) p.waiting);
+  active = k.active;
+  waiting = waiting_moved k.moved (without (dropped k.changed) p.waiting);
+}
+
+-- the other node whose token is revoked first, if one is
+abbrev pub opposing : ServerState → Option TokenRequest → Option ℕ
+opposing s None = None
+opposing s (Some r) = let node = conflicting_node s r in if nat_le node s.shape.nodes then Some node else None
+
+-- the refusal, if it is one
+abbrev pub refusal_of : {A : Type 0} → Result A StepError → Option StepError
+refusal_of (Ok a) = None
+refusal_of (Err e) = Some e

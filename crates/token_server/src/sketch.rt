@@ -1,0 +1,178 @@
+//! What an event changes of a token server before it serves.
+ghost use Rattle.std.specs.Prelude.{◌≡◌, ◌≤◌, ◌++◌, [], IfOk, slice_get, Some, None};
+ghost use Rattle.std.specs.Option.{option_map};
+ghost use Rattle.token_server.specs.Serve.{row_conflicts};
+ghost use Rattle.token_server.specs.Parts.{rows_of};
+ghost use Rattle.token_server.specs.Sketches.{commands_of, rows_after, dropped, dropped_to, without, queue_moved, waiting_moved};
+ghost use Rattle.token_server.specs.Edits.{queue_after};
+
+use crate::clients::Clients;
+use crate::commands::Commands;
+use crate::token_request::TokenRequest;
+use crate::node_change::NodeChange;
+use crate::queue_edit::QueueEdit;
+use crate::requests::Requests;
+use intervals::span::Span;
+use intervals::span_map::NoMemory;
+use model::call::CallId;
+use model::mode::Mode;
+use std::alloc::Global;
+
+/// What moves in the lists of requests.
+#[derive(Clone, Copy)]
+pub enum Moved {
+    /// Nothing.
+    Nothing,
+    /// The request comes last in the queue.
+    New(TokenRequest),
+    /// The request comes last in the queue, and those of the call wait no longer.
+    Again { call: CallId, request: TokenRequest },
+    /// Those that wait come last in the queue, in their order.
+    Waiting,
+    /// The request comes last of those that wait.
+    PutOff(TokenRequest),
+}
+
+/// A node of which the server knows something else, and how.
+#[derive(Clone, Copy)]
+pub struct Changed {
+    pub node: u8,
+    pub change: NodeChange,
+}
+
+/// What an event changes of a server before it serves, in so few words that it takes no memory: what is
+/// known of a node (requests of its dead incarnations go), then what moves, and the request that is served
+/// from then on.
+#[derive(Clone, Copy)]
+pub struct Sketch {
+    pub changed: Option<Changed>,
+    pub moved: Moved,
+    pub active: Option<TokenRequest>,
+}
+
+impl Sketch {
+    /// The node and the incarnation up to which its requests are dropped, if any are.
+    pub fn dropped(&self) -> Option<(u8, u16)>
+        ensures { result ≡ dropped self.now.changed }
+    {
+        match &self.changed {
+            Some(changed) => match changed.change.dropped_to() {
+                Some(incarnation) => Some((changed.node, incarnation)),
+                None => None,
+            },
+            None => None,
+        }
+    }
+
+    /// The commands to a node, if it has a row.
+    pub fn commands(&self, clients: &Clients, node: u8) -> Option<Commands>
+        requires { 1 ≤ node }
+        ensures { result ≡ option_map commands_of (rows_after self.now.changed (rows_of clients.now) node) }
+    {
+        let row = clients.row(node);
+        match &self.changed {
+            Some(changed) if node == changed.node => changed.change.commands(row),
+            _ => match row {
+                Some(row) => Some(row.commands),
+                None => None,
+            },
+        }
+    }
+
+    /// Whether the row of a node conflicts with the mode at some byte of the span.
+    pub fn conflicts(&self, clients: &Clients, node: u8, span: Span, mode: Mode) -> bool
+        requires { 1 ≤ node }
+        ensures { result ≡ row_conflicts (rows_after self.now.changed (rows_of clients.now) node) span mode }
+    {
+        let row = clients.row(node);
+        match &self.changed {
+            Some(changed) if node == changed.node => changed.change.conflicts(row, span, mode),
+            _ => match row {
+                Some(row) => row.token.conflicts(span, mode),
+                None => false,
+            },
+        }
+    }
+
+    // The first of the requests that are not dropped.
+    fn first_kept(&self, requests: &Requests) -> Option<TokenRequest>
+        ensures { result ≡ slice_get (without (dropped self.now.changed) requests.now) 0 }
+    {
+        match self.dropped() {
+            Some((node, incarnation)) => requests.first_above(node, incarnation),
+            None => requests.as_slice().first().copied(),
+        }
+    }
+
+    /// The first of the queue.
+    pub fn first_queued(&self, queue: &Requests, waiting: &Requests) -> Option<TokenRequest>
+        ensures { result ≡ slice_get (queue_moved self.now.moved (without (dropped self.now.changed) queue.now) (without (dropped self.now.changed) waiting.now)) 0 }
+    {
+        let first = self.first_kept(queue);
+        if first.is_some() {
+            return first;
+        }
+        match self.moved {
+            Moved::New(request) | Moved::Again { request, .. } => Some(request),
+            Moved::Waiting => self.first_kept(waiting),
+            Moved::Nothing | Moved::PutOff(_) => None,
+        }
+    }
+
+    // The queue, and those that wait, without the requests that are dropped.
+    fn kept(&self, queue: &Requests, waiting: &Requests) -> Result<(QueueEdit, QueueEdit), NoMemory>
+        ensures queue { IfOk result (λ r. queue_after r.0 queue.now ≡ without (dropped self.now.changed) queue.now) }
+        ensures waiting { IfOk result (λ r. queue_after r.1 waiting.now ≡ without (dropped self.now.changed) waiting.now) }
+    {
+        let Some((node, incarnation)) = self.dropped() else {
+            return Ok((QueueEdit::Same, QueueEdit::Same));
+        };
+        let kept_queue = QueueEdit::Same.forgetting(queue, node, incarnation)?;
+        let kept_waiting = QueueEdit::Same.forgetting(waiting, node, incarnation)?;
+        Ok((kept_queue, kept_waiting))
+    }
+
+    /// How the queue changes, and those that wait.
+    ///
+    /// # Errors
+    /// `NoMemory` where a request for memory was refused.
+    pub fn moved(
+        &self,
+        queue: &Requests,
+        waiting: &Requests,
+        alloc: Global,
+    ) -> Result<(QueueEdit, QueueEdit), NoMemory>
+        ensures queue { IfOk result (λ r. queue_after r.0 queue.now ≡ queue_moved self.now.moved (without (dropped self.now.changed) queue.now) (without (dropped self.now.changed) waiting.now)) }
+        ensures waiting { IfOk result (λ r. queue_after r.1 waiting.now ≡ waiting_moved self.now.moved (without (dropped self.now.changed) waiting.now)) }
+    {
+        let (queued, left) = self.kept(queue, waiting)?;
+        match self.moved {
+            Moved::Nothing => Ok((queued, left)),
+            Moved::New(request) => Ok((queued.pushing(queue, request)?, left)),
+            Moved::Again { call, request } => {
+                let queued = queued.pushing(queue, request)?;
+                Ok((queued, left.forgetting_call(waiting, call)?))
+            }
+            Moved::Waiting => requeue(queue, waiting, alloc, queued, left),
+            Moved::PutOff(request) => Ok((queued, left.pushing(waiting, request)?)),
+        }
+    }
+}
+
+// Those that wait come last in the queue, in their order.
+fn requeue(
+    queue: &Requests,
+    waiting: &Requests,
+    alloc: Global,
+    queued: QueueEdit,
+    left: QueueEdit,
+) -> Result<(QueueEdit, QueueEdit), NoMemory>
+    ensures queue { IfOk result (λ r. queue_after r.0 queue.now ≡ queue_after queued queue.now ++ queue_after left waiting.now) }
+    ensures waiting { IfOk result (λ r. queue_after r.1 waiting.now ≡ []) }
+{
+    if left.requests(waiting).is_empty() {
+        return Ok((queued, left));
+    }
+    let queued = queued.appending(queue, left.requests(waiting))?;
+    Ok((queued, QueueEdit::Whole(Requests::new(alloc))))
+}
