@@ -9,7 +9,7 @@ use Rattle.model.specs.declared.op.Op.{Op}
 use Rattle.model.specs.declared.op.Op.TheVariants.{Set, Wait, Query}
 use Rattle.model.specs.declared.process.Process.{Process}
 use Rattle.model.specs.Locks.{Blocks}
-use Rattle.model.specs.Table.{Table, Target, target}
+use Rattle.model.specs.Table.{Table, LockTarget, target}
 use Rattle.messages.specs.Shapes.{ShapeFields, IsShape}
 use Rattle.messages.specs.Wants.{Wants}
 use Rattle.messages.specs.declared.message.Message.TheVariants.{Revoke, Conflict, Deny}
@@ -23,7 +23,7 @@ use Rattle.cluster_core.specs.Union.{union}
 use Rattle.cluster_core.specs.Histories.{caller, IsCalledAt, IsRevokedAt}
 
 -- the call passes its tests: it is about a lock of that mode there
-abbrev pub IsAbout : Table → Process → Op → Mode → Target → Type 0
+abbrev pub IsAbout : Table → Process → Op → Mode → LockTarget → Type 0
 IsAbout t p (Set fd kind m start len) mode c = (m ≡ mode) × (target t p (Some m) fd kind start len ≡ Ok c)
 IsAbout t p (Wait fd kind m start len) mode c = (m ≡ mode) × (target t p (Some m) fd kind start len ≡ Ok c)
 IsAbout t p (Query fd kind m start len) mode c = (m ≡ mode) × (target t p None fd kind start len ≡ Ok c)
@@ -46,7 +46,7 @@ pub record IsAsked (shape : ShapeFields) (es : List Entry) (file : ℕ) (call : 
   pub called : IsCalledAt es call pid op at
   pub world : WorldState
   pub after : IsWorldAfter shape es at world
-  pub about : Target
+  pub about : LockTarget
   pub asks : IsAbout (union world) (caller call pid) op mode about
   pub file_is : about.file ≡ file
   pub span_is : about.span ≡ span

@@ -10,7 +10,7 @@ use Rattle.model.specs.Descriptors.{Processes, no_processes, with_process, with_
 use Rattle.model.proofs.SearchLaws.{failed-start, first-passes, some_passes-found, some_passes-none}
 use Rattle.model.proofs.DescriptorLaws.{none_refers}
 use Rattle.intervals.specs.Search.{first}
-use Rattle.descriptors.specs.declared.row.Row.{Row}
+use Rattle.descriptors.specs.declared.process_entry.ProcessEntry.{ProcessEntry}
 use Rattle.descriptors.specs.declared.error.FdError.TheVariants.{NoProcess}
 use Rattle.descriptors.specs.Rows.{slot, idle, row, processes, IsSameRow, AreNumbered, IsRow, AreRows, refers, resolved}
 
@@ -59,11 +59,11 @@ some_passes-more passes lo n = elim (cases_Bool (some_passes passes lo n)) [
 pub marked-start : (a : Bool) (passes : ℕ → Bool) (lo : ℕ) → a ≡ (a || some_passes passes lo 0)
 marked-start a passes lo = or_false a ∙ ap (λ b. a || b) (sym (some_passes-zero passes lo))
 
-pub marked-idle : (a : Bool) (r : Row) (d : ℕ) → r ≡ idle → a ≡ (a || refers r d)
-marked-idle a r d e = or_false a ∙ ap (λ b. a || b) (sym (none_refers (slot r.opened) d 64 (λ fd. ap (λ (s : Row). slot s.opened fd) e)))
+pub marked-idle : (a : Bool) (r : ProcessEntry) (d : ℕ) → r ≡ idle → a ≡ (a || refers r d)
+marked-idle a r d e = or_false a ∙ ap (λ b. a || b) (sym (none_refers (slot r.opened) d 64 (λ fd. ap (λ (s : ProcessEntry). slot s.opened fd) e)))
 
 -- the open descriptions are those that some process refers to
-pub refers-is_open : (rows : List Row) (d : ℕ) → some_passes (λ pid. refers (row rows pid) d) 1 256 ≡ is_open (processes rows) d
+pub refers-is_open : (rows : List ProcessEntry) (d : ℕ) → some_passes (λ pid. refers (row rows pid) d) 1 256 ≡ is_open (processes rows) d
 unfolding processes
 refers-is_open rows d = refl
 
@@ -87,66 +87,66 @@ some_numbered fds fd None h e = tt
 some_numbered fds fd (Some o) h e = h fd o (sym e)
 
 -- rows that say the same are the same processes
-pub processes-is : (rows : List Row) (ps : Processes) → ((q : ℕ) → (row rows q).runs ≡ ps.runs q) → ((q fd : ℕ) → slot (row rows q).opened fd ≡ ps.opened q fd) → processes rows ≡ ps
+pub processes-is : (rows : List ProcessEntry) (ps : Processes) → ((q : ℕ) → (row rows q).runs ≡ ps.runs q) → ((q fd : ℕ) → slot (row rows q).opened fd ≡ ps.opened q fd) → processes rows ≡ ps
 unfolding processes
 processes-is rows ps runs opened = λ i. record { runs = λ q. runs q i; opened = λ q fd. opened q fd i }
 
-pub processes-runs : (rows : List Row) (pid : ℕ) → (processes rows).runs pid ≡ (row rows pid).runs
+pub processes-runs : (rows : List ProcessEntry) (pid : ℕ) → (processes rows).runs pid ≡ (row rows pid).runs
 unfolding processes
 processes-runs rows pid = refl
 
-pub processes-opened : (rows : List Row) (pid fd : ℕ) → (processes rows).opened pid fd ≡ slot (row rows pid).opened fd
+pub processes-opened : (rows : List ProcessEntry) (pid fd : ℕ) → (processes rows).opened pid fd ≡ slot (row rows pid).opened fd
 unfolding processes
 processes-opened rows pid fd = refl
 
-pub processes-same : (rows others : List Row) → ((q : ℕ) → IsSameRow (row rows q) (row others q)) → processes rows ≡ processes others
+pub processes-same : (rows others : List ProcessEntry) → ((q : ℕ) → IsSameRow (row rows q) (row others q)) → processes rows ≡ processes others
 unfolding processes
 processes-same rows others same = processes-is rows (processes others) (λ q. (same q).runs) (λ q fd. ap (λ f. f fd) (same q).opened)
 
-pub same-processes : (rows others : List Row) → processes rows ≡ processes others → (q : ℕ) → IsSameRow (row rows q) (row others q)
+pub same-processes : (rows others : List ProcessEntry) → processes rows ≡ processes others → (q : ℕ) → IsSameRow (row rows q) (row others q)
 unfolding processes
 same-processes rows others e q = record { runs = ap (λ (ps : Processes). ps.runs q) e; opened = ap (λ (ps : Processes). ps.opened q) e }
 
 pub numbered-same : (fds others : List (Option Opened)) → slot fds ≡ slot others → AreNumbered others → AreNumbered fds
 numbered-same fds others e h fd o some = h fd o (sym (ap (λ f. f fd) e) ∙ some)
 
-pub row-same : (pid : ℕ) (r s : Row) → IsSameRow r s → IsRow pid s → IsRow pid r
+pub row-same : (pid : ℕ) (r s : ProcessEntry) → IsSameRow r s → IsRow pid s → IsRow pid r
 row-same pid r s same h = record {
   numbered = numbered-same r.opened s.opened same.opened h.numbered;
   number_in = λ runs. h.number_in (sym same.runs ∙ runs);
   idle = λ idle fd. ap (λ f. f fd) same.opened ∙ h.idle (sym same.runs ∙ idle) fd;
 }
 
-pub rows-same : (rows others : List Row) → ((q : ℕ) → IsSameRow (row rows q) (row others q)) → AreRows others → AreRows rows
+pub rows-same : (rows others : List ProcessEntry) → ((q : ℕ) → IsSameRow (row rows q) (row others q)) → AreRows others → AreRows rows
 rows-same rows others same h pid = row-same pid (row rows pid) (row others pid) (same pid) (h pid)
 
 -- a process that runs has a row
-pub runs_within : (rows : List Row) (pid : ℕ) → (row rows pid).runs ≡ true → pid < length rows
+pub runs_within : (rows : List ProcessEntry) (pid : ℕ) → (row rows pid).runs ≡ true → pid < length rows
 runs_within rows pid runs = elim (cases_lt pid (length rows)) [
   | inl lt ↦ lt
-  | inr le ↦ absurd (false≢true (ap (λ (r : Row). r.runs) (sym (get_or_past rows pid idle le)) ∙ runs))
+  | inr le ↦ absurd (false≢true (ap (λ (r : ProcessEntry). r.runs) (sym (get_or_past rows pid idle le)) ∙ runs))
 ]
 
 -- and a number that can be
-pub runs-numbered : (rows : List Row) (pid : ℕ) → AreRows rows → (processes rows).runs pid ≡ true → IsNumber most_processes pid
+pub runs-numbered : (rows : List ProcessEntry) (pid : ℕ) → AreRows rows → (processes rows).runs pid ≡ true → IsNumber most_processes pid
 runs-numbered rows pid h runs = (h pid).number_in (sym (processes-runs rows pid) ∙ runs)
 
 -- the rows with one of them changed
-pub row-set : (rows : List Row) (pid : ℕ) (r : Row) (q : ℕ) → pid < length rows → row (slice_set rows pid r) q ≡ (if q == pid then r else row rows q)
+pub row-set : (rows : List ProcessEntry) (pid : ℕ) (r : ProcessEntry) (q : ℕ) → pid < length rows → row (slice_set rows pid r) q ≡ (if q == pid then r else row rows q)
 row-set rows pid r q within = elim (cases_eq q pid) [
   | inl is ↦ ap (row (slice_set rows pid r)) is ∙ get_or-set_same rows pid r idle within ∙ ap (λ b. if b then r else row rows q) (sym (eq-eqb q pid is))
   | inr ne ↦ get_or-set_other rows pid q r idle ne ∙ ap (λ b. if b then r else row rows q) (sym (ne_eqb q pid ne))
 ]
 
-runs-if : (b : Bool) (r s : Row) → (if b then r else s).runs ≡ (if b then r.runs else s.runs)
+runs-if : (b : Bool) (r s : ProcessEntry) → (if b then r else s).runs ≡ (if b then r.runs else s.runs)
 runs-if true r s = refl
 runs-if false r s = refl
 
-slot-if : (b : Bool) (r s : Row) (fd : ℕ) → slot (if b then r else s).opened fd ≡ (if b then slot r.opened fd else slot s.opened fd)
+slot-if : (b : Bool) (r s : ProcessEntry) (fd : ℕ) → slot (if b then r else s).opened fd ≡ (if b then slot r.opened fd else slot s.opened fd)
 slot-if true r s fd = refl
 slot-if false r s fd = refl
 
-pub rows-set : (rows : List Row) (pid : ℕ) (r : Row) → pid < length rows → AreRows rows → IsRow pid r → AreRows (slice_set rows pid r)
+pub rows-set : (rows : List ProcessEntry) (pid : ℕ) (r : ProcessEntry) → pid < length rows → AreRows rows → IsRow pid r → AreRows (slice_set rows pid r)
 rows-set rows pid r within h is q = subst (IsRow q) (sym (row-set rows pid r q within)) (at_if (q == pid) refl)
   where
     at_if : (b : Bool) → (q == pid) ≡ b → IsRow q (if b then r else row rows q)
@@ -154,7 +154,7 @@ rows-set rows pid r within h is q = subst (IsRow q) (sym (row-set rows pid r q w
     at_if false e = h q
 
 -- the row of a process that begins or ends
-pub fresh-row : (pid : ℕ) (r : Row) (runs : Bool) → r.runs ≡ runs → ((fd : ℕ) → slot r.opened fd ≡ None) → (runs ≡ true → IsNumber most_processes pid) → IsRow pid r
+pub fresh-row : (pid : ℕ) (r : ProcessEntry) (runs : Bool) → r.runs ≡ runs → ((fd : ℕ) → slot r.opened fd ≡ None) → (runs ≡ true → IsNumber most_processes pid) → IsRow pid r
 fresh-row pid r runs is none number = record {
   numbered = λ fd o some. let e = sym (none fd) ∙ some in absurd (cc);
   number_in = λ begun. number (sym is ∙ begun);
@@ -162,7 +162,7 @@ fresh-row pid r runs is none number = record {
 }
 
 -- the row of a process that begins with the descriptors of another
-pub copied-row : (pid from : ℕ) (r before : Row) → IsSameRow r before → before.runs ≡ true → IsRow from before → IsNumber most_processes pid → IsRow pid r
+pub copied-row : (pid from : ℕ) (r before : ProcessEntry) → IsSameRow r before → before.runs ≡ true → IsRow from before → IsNumber most_processes pid → IsRow pid r
 copied-row pid from r before same runs h number = record {
   numbered = numbered-same r.opened before.opened same.opened h.numbered;
   number_in = λ begun. number;
@@ -170,23 +170,23 @@ copied-row pid from r before same runs h number = record {
 }
 
 -- a process begins or ends
-pub processes-reset : (rows : List Row) (pid : ℕ) (runs : Bool) (fds : ℕ → Option Opened) (r : Row) → pid < length rows → r.runs ≡ runs → ((fd : ℕ) → slot r.opened fd ≡ fds fd) → processes (slice_set rows pid r) ≡ with_process (processes rows) pid runs fds
+pub processes-reset : (rows : List ProcessEntry) (pid : ℕ) (runs : Bool) (fds : ℕ → Option Opened) (r : ProcessEntry) → pid < length rows → r.runs ≡ runs → ((fd : ℕ) → slot r.opened fd ≡ fds fd) → processes (slice_set rows pid r) ≡ with_process (processes rows) pid runs fds
 unfolding processes
 processes-reset rows pid runs fds r within is opened = processes-is (slice_set rows pid r) (with_process (processes rows) pid runs fds)
-    (λ q. ap (λ (s : Row). s.runs) (row-set rows pid r q within) ∙ runs-if (q == pid) r (row rows q) ∙ (λ i. if q == pid then is i else (row rows q).runs))
-    (λ q fd. ap (λ (s : Row). slot s.opened fd) (row-set rows pid r q within) ∙ slot-if (q == pid) r (row rows q) fd ∙ (λ i. if q == pid then opened fd i else slot (row rows q).opened fd))
+    (λ q. ap (λ (s : ProcessEntry). s.runs) (row-set rows pid r q within) ∙ runs-if (q == pid) r (row rows q) ∙ (λ i. if q == pid then is i else (row rows q).runs))
+    (λ q fd. ap (λ (s : ProcessEntry). slot s.opened fd) (row-set rows pid r q within) ∙ slot-if (q == pid) r (row rows q) fd ∙ (λ i. if q == pid then opened fd i else slot (row rows q).opened fd))
 
 -- a process without a row doesn't run
-pub processes-past : (rows : List Row) (pid : ℕ) → length rows ≤ pid → processes rows ≡ with_process (processes rows) pid false (λ fd. None)
+pub processes-past : (rows : List ProcessEntry) (pid : ℕ) → length rows ≤ pid → processes rows ≡ with_process (processes rows) pid false (λ fd. None)
 unfolding processes
 processes-past rows pid le = processes-is rows (with_process (processes rows) pid false (λ fd. None)) (λ q. runs q (q == pid) refl) (λ q fd. opened q fd (q == pid) refl)
   where
     runs : (q : ℕ) (b : Bool) → (q == pid) ≡ b → (row rows q).runs ≡ (if b then false else (row rows q).runs)
-    runs q true is = ap (λ p. (row rows p).runs) (eqb-true q pid is) ∙ ap (λ (s : Row). s.runs) (get_or_past rows pid idle le)
+    runs q true is = ap (λ p. (row rows p).runs) (eqb-true q pid is) ∙ ap (λ (s : ProcessEntry). s.runs) (get_or_past rows pid idle le)
     runs q false ne = refl
 
     opened : (q fd : ℕ) (b : Bool) → (q == pid) ≡ b → slot (row rows q).opened fd ≡ (if b then None else slot (row rows q).opened fd)
-    opened q fd true is = ap (λ p. slot (row rows p).opened fd) (eqb-true q pid is) ∙ ap (λ (s : Row). slot s.opened fd) (get_or_past rows pid idle le)
+    opened q fd true is = ap (λ p. slot (row rows p).opened fd) (eqb-true q pid is) ∙ ap (λ (s : ProcessEntry). slot s.opened fd) (get_or_past rows pid idle le)
     opened q fd false ne = refl
 
 -- a process that has a descriptor runs
@@ -200,15 +200,15 @@ slot-set fds fd o k within = elim (cases_eq k fd) [
   | inr ne ↦ get_or-set_other fds fd k o None ne ∙ ap (λ b. if b then o else slot fds k) (sym (ne_eqb k fd ne))
 ]
 
-slots-if : (b : Bool) (r s : Row) (o : Option Opened) (fd k : ℕ) → (b ≡ true → (if k == fd then o else slot s.opened k) ≡ slot r.opened k) → (if b then slot r.opened k else slot s.opened k) ≡ (if b && (k == fd) then o else slot s.opened k)
+slots-if : (b : Bool) (r s : ProcessEntry) (o : Option Opened) (fd k : ℕ) → (b ≡ true → (if k == fd then o else slot s.opened k) ≡ slot r.opened k) → (if b then slot r.opened k else slot s.opened k) ≡ (if b && (k == fd) then o else slot s.opened k)
 slots-if true r s o fd k h = sym (h refl)
 slots-if false r s o fd k h = refl
 
-pub processes-refer : (rows : List Row) (pid fd : ℕ) (o : Option Opened) (r : Row) → pid < length rows → r.runs ≡ (row rows pid).runs → ((k : ℕ) → slot r.opened k ≡ (if k == fd then o else slot (row rows pid).opened k)) → processes (slice_set rows pid r) ≡ with_descriptor (processes rows) pid fd o
+pub processes-refer : (rows : List ProcessEntry) (pid fd : ℕ) (o : Option Opened) (r : ProcessEntry) → pid < length rows → r.runs ≡ (row rows pid).runs → ((k : ℕ) → slot r.opened k ≡ (if k == fd then o else slot (row rows pid).opened k)) → processes (slice_set rows pid r) ≡ with_descriptor (processes rows) pid fd o
 unfolding processes
 processes-refer rows pid fd o r within runs opened = processes-is (slice_set rows pid r) (with_descriptor (processes rows) pid fd o)
-    (λ q. ap (λ (s : Row). s.runs) (row-set rows pid r q within) ∙ runs-if (q == pid) r (row rows q) ∙ still q (q == pid) refl)
-    (λ q k. ap (λ (s : Row). slot s.opened k) (row-set rows pid r q within) ∙ slot-if (q == pid) r (row rows q) k ∙ slots-if (q == pid) r (row rows q) o fd k (λ is. ap (λ p. if k == fd then o else slot (row rows p).opened k) (eqb-true q pid is) ∙ sym (opened k)))
+    (λ q. ap (λ (s : ProcessEntry). s.runs) (row-set rows pid r q within) ∙ runs-if (q == pid) r (row rows q) ∙ still q (q == pid) refl)
+    (λ q k. ap (λ (s : ProcessEntry). slot s.opened k) (row-set rows pid r q within) ∙ slot-if (q == pid) r (row rows q) k ∙ slots-if (q == pid) r (row rows q) o fd k (λ is. ap (λ p. if k == fd then o else slot (row rows p).opened k) (eqb-true q pid is) ∙ sym (opened k)))
   where
     still : (q : ℕ) (b : Bool) → (q == pid) ≡ b → (if b then r.runs else (row rows q).runs) ≡ (row rows q).runs
     still q true is = runs ∙ ap (λ p. (row rows p).runs) (sym (eqb-true q pid is))
@@ -222,7 +222,7 @@ numbered-slot fds others fd o is h number k p some = at_if (k == fd) (sym (is k)
     at_if false e = h k p e
 
 -- the row of a process that runs, with one descriptor changed
-pub referred-row : (pid : ℕ) (r before : Row) (fd : ℕ) (o : Option Opened) → r.runs ≡ before.runs → before.runs ≡ true → ((k : ℕ) → slot r.opened k ≡ (if k == fd then o else slot before.opened k)) → IsRow pid before → IfSome o (λ x. IsNumber most_descriptions x.description) → IsRow pid r
+pub referred-row : (pid : ℕ) (r before : ProcessEntry) (fd : ℕ) (o : Option Opened) → r.runs ≡ before.runs → before.runs ≡ true → ((k : ℕ) → slot r.opened k ≡ (if k == fd then o else slot before.opened k)) → IsRow pid before → IfSome o (λ x. IsNumber most_descriptions x.description) → IsRow pid r
 referred-row pid r before fd o same runs is h number = record {
   numbered = numbered-slot r.opened before.opened fd o is h.numbered number;
   number_in = λ still. h.number_in runs;
@@ -230,38 +230,38 @@ referred-row pid r before fd o same runs is h number = record {
 }
 
 -- rows that are compared by copies
-pub same-joined : (a b r s : Row) → IsSameRow a r → IsSameRow r s → IsSameRow b s → IsSameRow a b
+pub same-joined : (a b r s : ProcessEntry) → IsSameRow a r → IsSameRow r s → IsSameRow b s → IsSameRow a b
 same-joined a b r s x y z = record { runs = x.runs ∙ y.runs ∙ sym z.runs; opened = x.opened ∙ y.opened ∙ sym z.opened }
 
-pub same-past : (rows others : List Row) (n : ℕ) → ((k : ℕ) → k < n → IsSameRow (row rows k) (row others k)) → length rows ≤ n → length others ≤ n → (k : ℕ) → IsSameRow (row rows k) (row others k)
+pub same-past : (rows others : List ProcessEntry) (n : ℕ) → ((k : ℕ) → k < n → IsSameRow (row rows k) (row others k)) → length rows ≤ n → length others ≤ n → (k : ℕ) → IsSameRow (row rows k) (row others k)
 same-past rows others n same within others_within k = elim (cases_lt k n) [
   | inl lt ↦ same k lt
   | inr le ↦ let e : row rows k ≡ row others k = get_or_past rows k idle (omega arith) ∙ sym (get_or_past others k idle (omega arith)) in
-      record { runs = ap (λ (r : Row). r.runs) e; opened = ap (λ (r : Row). slot r.opened) e }
+      record { runs = ap (λ (r : ProcessEntry). r.runs) e; opened = ap (λ (r : ProcessEntry). slot r.opened) e }
 ]
 
 -- rows with more places for processes that don't run
-pub grown-same : (rows old : List Row) (n : ℕ) (r : Row) → length rows ≡ n → length old ≤ n → ((k : ℕ) (d : Row) → k < n → k < length old → slice_index_or rows k d ≡ slice_index_or old k d) → ((k : ℕ) (d : Row) → length old ≤ k → k < n → slice_index_or rows k d ≡ r) → r.runs ≡ false → ((fd : ℕ) → slot r.opened fd ≡ None) → (q : ℕ) → IsSameRow (row rows q) (row old q)
+pub grown-same : (rows old : List ProcessEntry) (n : ℕ) (r : ProcessEntry) → length rows ≡ n → length old ≤ n → ((k : ℕ) (d : ProcessEntry) → k < n → k < length old → slice_index_or rows k d ≡ slice_index_or old k d) → ((k : ℕ) (d : ProcessEntry) → length old ≤ k → k < n → slice_index_or rows k d ≡ r) → r.runs ≡ false → ((fd : ℕ) → slot r.opened fd ≡ None) → (q : ℕ) → IsSameRow (row rows q) (row old q)
 grown-same rows old n r len more first rest runs opened q = elim (cases_lt q (length old)) [
   | inl lt ↦ equal (first q idle (omega arith) lt)
   | inr le ↦ elim (cases_lt q n) [
     | inl lt ↦ let e = rest q idle le lt in let o = get_or_past old q idle le in record {
-      runs = ap (λ (s : Row). s.runs) e ∙ runs ∙ ap (λ (s : Row). s.runs) (sym o);
-      opened = ap (λ (s : Row). slot s.opened) e ∙ (λ i fd. opened fd i) ∙ ap (λ (s : Row). slot s.opened) (sym o);
+      runs = ap (λ (s : ProcessEntry). s.runs) e ∙ runs ∙ ap (λ (s : ProcessEntry). s.runs) (sym o);
+      opened = ap (λ (s : ProcessEntry). slot s.opened) e ∙ (λ i fd. opened fd i) ∙ ap (λ (s : ProcessEntry). slot s.opened) (sym o);
     }
     | inr past ↦ equal (get_or_past rows q idle (omega arith) ∙ sym (get_or_past old q idle le))
   ]
 ]
   where
     equal : row rows q ≡ row old q → IsSameRow (row rows q) (row old q)
-    equal e = record { runs = ap (λ (s : Row). s.runs) e; opened = ap (λ (s : Row). slot s.opened) e }
+    equal e = record { runs = ap (λ (s : ProcessEntry). s.runs) e; opened = ap (λ (s : ProcessEntry). slot s.opened) e }
 
 -- none runs
-pub none_run : (rows : List Row) (n : ℕ) → AreRows rows → ((k : ℕ) → k < n → (processes rows).runs k ≡ false) → length rows ≤ n → processes rows ≡ no_processes
+pub none_run : (rows : List ProcessEntry) (n : ℕ) → AreRows rows → ((k : ℕ) → k < n → (processes rows).runs k ≡ false) → length rows ≤ n → processes rows ≡ no_processes
 none_run rows n are none within = processes-is rows no_processes runs (λ q fd. (are q).idle (runs q) fd)
   where
     runs : (q : ℕ) → (row rows q).runs ≡ false
     runs q = elim (cases_lt q n) [
       | inl lt ↦ sym (processes-runs rows q) ∙ none q lt
-      | inr le ↦ ap (λ (r : Row). r.runs) (get_or_past rows q idle (omega arith))
+      | inr le ↦ ap (λ (r : ProcessEntry). r.runs) (get_or_past rows q idle (omega arith))
     ]

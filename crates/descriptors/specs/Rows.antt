@@ -6,7 +6,7 @@ use Rattle.model.specs.declared.reply.Reply.{Reply}
 use Rattle.model.specs.declared.reply.Reply.TheVariants as reply
 use Rattle.model.specs.Limits.{IsNumber, most_processes, most_descriptors, most_descriptions}
 use Rattle.model.specs.Descriptors.{Processes, is_of, is_open, with_descriptor}
-use Rattle.descriptors.specs.declared.row.Row.{Row}
+use Rattle.descriptors.specs.declared.process_entry.ProcessEntry.{ProcessEntry}
 use Rattle.descriptors.specs.declared.error.ProcessError.{ProcessError}
 use Rattle.descriptors.specs.declared.error.ProcessError.TheVariants as error
 use Rattle.descriptors.specs.declared.error.FdError.{FdError}
@@ -17,20 +17,20 @@ abbrev pub slot : List (Option Opened) → ℕ → Option Opened
 slot fds fd = slice_index_or fds fd None
 
 -- both run or don't, and have the same descriptors
-pub record IsSameRow (a b : Row) : Type 0 where
+pub record IsSameRow (a b : ProcessEntry) : Type 0 where
   pub runs : a.runs ≡ b.runs
   pub opened : slot a.opened ≡ slot b.opened
 
 -- the row of a process that doesn't run
-abbrev pub idle : Row
+abbrev pub idle : ProcessEntry
 idle = record { runs = false; opened = [] }
 
 -- the row of the process with that number
-abbrev pub row : List Row → ℕ → Row
+abbrev pub row : List ProcessEntry → ℕ → ProcessEntry
 row rows pid = slice_index_or rows pid idle
 
 -- who runs, and what each descriptor refers to
-unfoldable pub processes : List Row → Processes
+unfoldable pub processes : List ProcessEntry → Processes
 processes rows = record { runs = λ pid. (row rows pid).runs; opened = λ pid fd. slot (row rows pid).opened fd }
 
 -- each descriptor refers to a description that can be
@@ -38,13 +38,13 @@ abbrev pub AreNumbered : List (Option Opened) → Type 0
 AreNumbered fds = (fd : ℕ) (o : Opened) → slot fds fd ≡ Some o → IsNumber most_descriptions o.description
 
 -- a row: a process that runs has a number that can be, and one that doesn't has no descriptors
-pub record IsRow (pid : ℕ) (r : Row) : Type 0 where
+pub record IsRow (pid : ℕ) (r : ProcessEntry) : Type 0 where
   pub numbered : AreNumbered r.opened
   pub number_in : r.runs ≡ true → IsNumber most_processes pid
   pub idle : r.runs ≡ false → (fd : ℕ) → slot r.opened fd ≡ None
 
 -- each is the row of the process of its number
-abbrev pub AreRows : List Row → Type 0
+abbrev pub AreRows : List ProcessEntry → Type 0
 AreRows rows = (pid : ℕ) → IsRow pid (row rows pid)
 
 -- the description with that number is among those used
@@ -52,7 +52,7 @@ abbrev pub is_used : List Bool → ℕ → Bool
 is_used used d = slice_index_or used d false
 
 -- some descriptor of the process refers to the description
-abbrev pub refers : Row → ℕ → Bool
+abbrev pub refers : ProcessEntry → ℕ → Bool
 refers r d = some_passes (λ fd. is_of d (slot r.opened fd)) 0 most_descriptors
 
 abbrev pub opened_or : Option Opened → Result Opened FdError

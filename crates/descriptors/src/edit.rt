@@ -1,5 +1,5 @@
 //! Planned changes of the processes of a node.
-use crate::row::Row;
+use crate::process_entry::ProcessEntry;
 use model::opened::Opened;
 
 /// What a call will make of one process.
@@ -9,13 +9,13 @@ pub enum ProcessEdit {
     /// are kept and more, up to its own.
     Begins {
         pid: u16,
-        rows: Option<Vec<Row>>,
+        rows: Option<Vec<ProcessEntry>>,
     },
     /// The child begins, with the descriptors of the process; `rows` as of `Begins`.
     Forks {
         pid: u16,
         child: u16,
-        rows: Option<Vec<Row>>,
+        rows: Option<Vec<ProcessEntry>>,
     },
     /// The descriptor, which is free, refers to this from now on.
     Opens {

@@ -4,7 +4,7 @@
 pub mod edit;
 pub mod error;
 mod marks;
+pub mod process_entry;
 pub mod processes;
-pub mod row;
 mod rows;
 mod used;

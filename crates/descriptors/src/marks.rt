@@ -4,7 +4,7 @@ ghost use Rattle.model.specs.Limits.{most_descriptors};
 ghost use Rattle.descriptors.specs.Rows.{processes, AreRows};
 ghost use Rattle.descriptors.specs.Marks.{mark_of, with_one_more, IsPut, AreShared};
 
-use crate::row::Row;
+use crate::process_entry::ProcessEntry;
 use crate::rows::opened_at;
 use model::limits::MOST_DESCRIPTORS;
 
@@ -49,7 +49,7 @@ pub(crate) fn put_mark(marks: &mut [Mark], description: u16, mark: Mark)
 }
 
 /// From now on nothing is known of the descriptions of the process.
-pub(crate) fn share_marks(marks: &mut [Mark], rows: &[Row], pid: usize)
+pub(crate) fn share_marks(marks: &mut [Mark], rows: &[ProcessEntry], pid: usize)
     requires { AreRows rows.now }
     ensures { AreShared (processes rows.now) pid most_descriptors marks.old marks.new }
 {

@@ -9,7 +9,7 @@ ghost use Rattle.descriptors.specs.Edits.{edited, Fits, HasPlace};
 use crate::edit::ProcessEdit;
 use crate::error::{FdError, ProcessError};
 use crate::marks::{Mark, mark_of, put_mark, share_marks};
-use crate::row::{Row, is_of_file};
+use crate::process_entry::{ProcessEntry, is_of_file};
 use crate::rows::{copy_row, is_idle, is_running, opened_at, refer, reset, same_rows, with_place};
 use crate::used::{is_open, lowest_description};
 use model::access::Access;
@@ -24,18 +24,18 @@ use std::marker::Model;
 #[derive(Drop)]
 pub struct Processes {
     // by the process's number; there is no process 0
-    rows: Vec<Row>,
+    rows: Vec<ProcessEntry>,
     // by the description's number; nothing is known of one that has none
     marks: [Mark; 1024],
 }
 
 impl Model for Processes {
     ghost use Rattle.std.specs.Prelude.{List};
-    ghost use Rattle.descriptors.specs.declared.row.Row.{Row};
+    ghost use Rattle.descriptors.specs.declared.process_entry.ProcessEntry.{ProcessEntry};
     ghost use Rattle.descriptors.specs.Rows.{AreRows, processes};
     ghost use Rattle.descriptors.specs.Marks.{AreMarks};
 
-    ghost Value = { List Row };
+    ghost Value = { List ProcessEntry };
 
     ghost view = { λ p. p.rows.items };
 
@@ -290,7 +290,7 @@ impl Processes {
     }
 
     // The child begins, with the descriptors of the process, in these rows if there are any.
-    fn copy_to(&mut self, pid: u16, child: u16, rows: Option<Vec<Row>>)
+    fn copy_to(&mut self, pid: u16, child: u16, rows: Option<Vec<ProcessEntry>>)
         requires runs { (processes self.old).runs pid ≡ true }
         requires number { IsNumber most_processes child }
         requires place { HasPlace self.old child rows }
@@ -304,7 +304,7 @@ impl Processes {
     }
 
     // The process begins, in these rows if there are any.
-    fn begin(&mut self, pid: u16, rows: Option<Vec<Row>>)
+    fn begin(&mut self, pid: u16, rows: Option<Vec<ProcessEntry>>)
         requires number { IsNumber most_processes pid }
         requires place { HasPlace self.old pid rows }
         ensures { processes self.new ≡ with_process (processes self.old) pid true (λ fd. None) }

@@ -5,29 +5,29 @@ ghost use Rattle.model.specs.Descriptors.{no_processes, with_process, with_descr
 ghost use Rattle.descriptors.specs.Rows.{slot, row, processes, IsSameRow, AreRows};
 ghost use Rattle.descriptors.specs.Edits.{HasPlace};
 
-use crate::row::Row;
+use crate::process_entry::ProcessEntry;
 use model::opened::Opened;
 use std::alloc::AllocError;
 
 // The row of the process with that number.
-fn row_at(rows: &[Row], pid: usize) -> Row
+fn row_at(rows: &[ProcessEntry], pid: usize) -> ProcessEntry
     ensures { IsSameRow result (row rows.now pid) }
 {
     match rows.get(pid) {
         Some(row) => *row,
-        None => Row::new(false),
+        None => ProcessEntry::new(false),
     }
 }
 
 /// Whether the process runs.
-pub fn is_running(rows: &[Row], pid: usize) -> bool
+pub fn is_running(rows: &[ProcessEntry], pid: usize) -> bool
     ensures { result ≡ (processes rows.now).runs pid }
 {
     row_at(rows, pid).runs
 }
 
 /// What the descriptor of the process refers to.
-pub fn opened_at(rows: &[Row], pid: usize, fd: u8) -> Option<Opened>
+pub fn opened_at(rows: &[ProcessEntry], pid: usize, fd: u8) -> Option<Opened>
     requires { AreRows rows.now }
     ensures value { result ≡ (processes rows.now).opened pid fd }
     ensures number { IfSome result (λ opened. IsNumber most_descriptions opened.description) }
@@ -37,20 +37,20 @@ pub fn opened_at(rows: &[Row], pid: usize, fd: u8) -> Option<Opened>
 }
 
 // Makes a place for the process with that number.
-fn grow(rows: &mut Vec<Row>, pid: usize) -> Result<(), AllocError>
+fn grow(rows: &mut Vec<ProcessEntry>, pid: usize) -> Result<(), AllocError>
     requires number { pid < 65536 }
     ensures room { OnOk result (pid < length rows.new.items) }
     ensures same { processes rows.new.items ≡ processes rows.old.items }
     ensures rows { AreRows rows.old.items → AreRows rows.new.items }
 {
     if rows.len() <= pid {
-        rows.resize(pid + 1, Row::new(false))?;
+        rows.resize(pid + 1, ProcessEntry::new(false))?;
     }
     Ok(())
 }
 
 /// The rows and more, up to that of the process with that number, where there is none for it yet.
-pub fn with_place(rows: &Vec<Row>, pid: usize) -> Result<Option<Vec<Row>>, AllocError>
+pub fn with_place(rows: &Vec<ProcessEntry>, pid: usize) -> Result<Option<Vec<ProcessEntry>>, AllocError>
     requires number { pid < 65536 }
     requires rows { AreRows rows.now.items }
     ensures { IfOk result (HasPlace rows.now.items pid) }
@@ -64,18 +64,18 @@ pub fn with_place(rows: &Vec<Row>, pid: usize) -> Result<Option<Vec<Row>>, Alloc
 }
 
 /// The process runs from now on, or no longer, and has no descriptors.
-pub fn reset(rows: &mut [Row], pid: usize, runs: bool)
+pub fn reset(rows: &mut [ProcessEntry], pid: usize, runs: bool)
     requires within { pid < length rows.old }
     requires number { runs ≡ true → IsNumber most_processes pid }
     requires rows { AreRows rows.old }
     ensures processes { processes rows.new ≡ with_process (processes rows.old) pid runs (λ fd. None) }
     ensures rows { AreRows rows.new }
 {
-    rows[pid] = Row::new(runs);
+    rows[pid] = ProcessEntry::new(runs);
 }
 
 /// The process runs from now on, with the descriptors of another.
-pub fn copy_row(rows: &mut [Row], pid: usize, child: usize)
+pub fn copy_row(rows: &mut [ProcessEntry], pid: usize, child: usize)
     requires within { child < length rows.old }
     requires runs { (processes rows.old).runs pid ≡ true }
     requires number { IsNumber most_processes child }
@@ -88,7 +88,7 @@ pub fn copy_row(rows: &mut [Row], pid: usize, child: usize)
 }
 
 /// The descriptor refers to this, or to nothing, from now on.
-pub fn refer(rows: &mut [Row], pid: usize, fd: u8, opened: Option<Opened>)
+pub fn refer(rows: &mut [ProcessEntry], pid: usize, fd: u8, opened: Option<Opened>)
     requires within { pid < length rows.old }
     requires runs { (processes rows.old).runs pid ≡ true }
     requires fd { fd < most_descriptors }
@@ -102,7 +102,7 @@ pub fn refer(rows: &mut [Row], pid: usize, fd: u8, opened: Option<Opened>)
 }
 
 /// Whether no process runs.
-pub fn is_idle(rows: &[Row]) -> bool
+pub fn is_idle(rows: &[ProcessEntry]) -> bool
     requires { AreRows rows.now }
     ensures { IsTrue result ↔ (processes rows.now ≡ no_processes) }
 {
@@ -115,7 +115,7 @@ pub fn is_idle(rows: &[Row]) -> bool
 }
 
 /// Whether the rows say the same of each process.
-pub fn same_rows(rows: &[Row], others: &[Row]) -> bool
+pub fn same_rows(rows: &[ProcessEntry], others: &[ProcessEntry]) -> bool
     ensures { IsTrue result ↔ (processes rows.now ≡ processes others.now) }
 {
     for pid in 0..rows.len().max(others.len()) {

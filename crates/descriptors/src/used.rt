@@ -5,7 +5,7 @@ ghost use Rattle.model.specs.Limits.{most_descriptions};
 ghost use Rattle.model.specs.Descriptors.{is_of, is_open, lowest_description};
 ghost use Rattle.descriptors.specs.Rows.{slot, row, processes, AreNumbered, AreRows, is_used, refers};
 
-use crate::row::Row;
+use crate::process_entry::ProcessEntry;
 use model::limits::{MOST_DESCRIPTIONS, MOST_DESCRIPTORS, MOST_PROCESSES};
 use model::opened::Opened;
 use std::alloc::{AllocError, Global};
@@ -21,7 +21,7 @@ fn mark(used: &mut [bool], opened: Option<Opened>)
 }
 
 // So are those of all descriptors of the process.
-fn mark_row(used: &mut [bool], row: &Row)
+fn mark_row(used: &mut [bool], row: &ProcessEntry)
     requires room { length used.old ≡ most_descriptions + 1 }
     requires numbers { AreNumbered row.now.opened }
     ensures { (d : ℕ) → is_used used.new d ≡ (is_used used.old d || refers row.now d) }
@@ -32,7 +32,7 @@ fn mark_row(used: &mut [bool], row: &Row)
 }
 
 // So are those of the process with that number.
-fn mark_process(used: &mut [bool], rows: &[Row], pid: usize)
+fn mark_process(used: &mut [bool], rows: &[ProcessEntry], pid: usize)
     requires room { length used.old ≡ most_descriptions + 1 }
     requires rows { AreRows rows.now }
     ensures { (d : ℕ) → is_used used.new d ≡ (is_used used.old d || refers (row rows.now pid) d) }
@@ -43,7 +43,7 @@ fn mark_process(used: &mut [bool], rows: &[Row], pid: usize)
 }
 
 // Whether a descriptor of the process with that number refers to the description.
-fn refers_to(rows: &[Row], pid: usize, description: u16) -> bool
+fn refers_to(rows: &[ProcessEntry], pid: usize, description: u16) -> bool
     ensures { result ≡ refers (row rows.now pid) description }
 {
     match rows.get(pid) {
@@ -53,7 +53,7 @@ fn refers_to(rows: &[Row], pid: usize, description: u16) -> bool
 }
 
 /// Whether a descriptor of some process refers to the description.
-pub fn is_open(rows: &[Row], description: u16) -> bool
+pub fn is_open(rows: &[ProcessEntry], description: u16) -> bool
     ensures { result ≡ is_open (processes rows.now) description }
 {
     for before in 0..MOST_PROCESSES as usize {
@@ -73,7 +73,7 @@ fn unused(alloc: Global, count: usize) -> Result<Vec<bool>, AllocError>
 }
 
 // So are all open descriptions.
-fn mark_open(used: &mut [bool], rows: &[Row])
+fn mark_open(used: &mut [bool], rows: &[ProcessEntry])
     requires room { length used.old ≡ most_descriptions + 1 }
     requires rows { AreRows rows.now }
     ensures { (d : ℕ) → is_used used.new d ≡ (is_used used.old d || is_open (processes rows.now) d) }
@@ -106,7 +106,7 @@ fn first_unused(used: &[bool]) -> u16
 }
 
 // The lowest number, from 1, that no open description has, by a place for each where none is used.
-fn lowest_unused(used: &mut [bool], rows: &[Row]) -> u16
+fn lowest_unused(used: &mut [bool], rows: &[ProcessEntry]) -> u16
     requires room { length used.old ≡ most_descriptions + 1 }
     requires none { (d : ℕ) → is_used used.old d ≡ false }
     requires rows { AreRows rows.now }
@@ -118,7 +118,7 @@ fn lowest_unused(used: &mut [bool], rows: &[Row]) -> u16
 
 /// The lowest number, from 1, that no open description has; one more than there may be where each
 /// has one.
-pub fn lowest_description(alloc: Global, rows: &[Row]) -> Result<u16, AllocError>
+pub fn lowest_description(alloc: Global, rows: &[ProcessEntry]) -> Result<u16, AllocError>
     requires { AreRows rows.now }
     ensures { IfOk result (λ number. number ≡ lowest_description (processes rows.now)) }
 {

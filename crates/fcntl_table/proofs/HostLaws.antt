@@ -11,10 +11,10 @@ use Rattle.model.specs.contracts.host.HostPartialEq.TheImpl as derived
 use Rattle.model.specs.Limits.{IsHost}
 use Rattle.model.specs.Descriptors.{Processes, no_processes}
 use Rattle.model.specs.Table.{Table}
-use Rattle.lock_table.specs.declared.row.Row.{Row as LockRow}
+use Rattle.lock_table.specs.declared.owner_locks.OwnerLocks.{OwnerLocks}
 use Rattle.lock_table.specs.Rows.{held}
 use Rattle.model.specs.Owners.{same_host}
-use Rattle.descriptors.specs.declared.row.Row.{Row}
+use Rattle.descriptors.specs.declared.process_entry.ProcessEntry.{ProcessEntry}
 use Rattle.descriptors.specs.declared.edit.ProcessEdit.{ProcessEdit}
 use Rattle.descriptors.specs.Rows.{processes}
 use Rattle.descriptors.specs.Edits.{edited, Fits}
@@ -24,12 +24,12 @@ abbrev at : ℕ → ℕ → Host
 at node incarnation = record { node = node; incarnation = incarnation }
 
 -- what is kept of a node
-abbrev kept : HostRows → Host → Option (List Row)
+abbrev kept : HostRows → Host → Option (List ProcessEntry)
 kept hosts host = lookup (derived.ghosts.eq host) hosts
 
 -- the map
 abbrev Map : Type 0
-Map = HashMap Host (List Row) (BuildHasherDefault FoldHasher)
+Map = HashMap Host (List ProcessEntry) (BuildHasherDefault FoldHasher)
 
 -- the derived `==` of nodes is the test of the definitions
 host_eq : (a b : Host) → derived.ghosts.eq a b ≡ same_host a b
@@ -43,7 +43,7 @@ kept-by_test : (hosts : HostRows) (host : Host) → kept hosts host ≡ lookup (
 kept-by_test hosts host = ap (λ (eq : Host → Host → Bool). lookup (eq host) hosts) (λ i a b. host_eq a b i)
 
 -- the processes of a node by what is kept of it
-abbrev by_kept : Option (List Row) → Processes
+abbrev by_kept : Option (List ProcessEntry) → Processes
 by_kept rows = processes (unwrap_or rows [])
 
 none_run : processes [] ≡ no_processes
@@ -54,7 +54,7 @@ processes-kept : (hosts : HostRows) (host : Host) → processes_of hosts host.no
 unfolding processes_of
 processes-kept hosts host = ap by_kept (sym (kept-by_test hosts host))
 
-pub processes-found : (hosts : HostRows) (host : Host) (rows : List Row) → Some rows ≡ kept hosts host → processes_of hosts host.node host.incarnation ≡ processes rows
+pub processes-found : (hosts : HostRows) (host : Host) (rows : List ProcessEntry) → Some rows ≡ kept hosts host → processes_of hosts host.node host.incarnation ≡ processes rows
 processes-found hosts host rows is = processes-kept hosts host ∙ ap by_kept (sym is)
 
 pub processes-not_found : (hosts : HostRows) (host : Host) → None ≡ kept hosts host → processes_of hosts host.node host.incarnation ≡ no_processes
@@ -65,14 +65,14 @@ unfolding processes_of
 processes-empty hosts node incarnation none = ap (λ es. by_kept (lookup (same_host (at node incarnation)) es)) none ∙ none_run
 
 -- these rows are kept of the host, and of the others what was
-abbrev pub Keeps : HostRows → Host → List Row → HostRows → Type 0
+abbrev pub Keeps : HostRows → Host → List ProcessEntry → HostRows → Type 0
 Keeps old host rows new = (q : Host) → kept new q ≡ cond (derived.ghosts.eq host q) (Some rows) (kept old q)
 
-by_either : (b : Bool) (rows : List Row) (before : Option (List Row)) → by_kept (cond b (Some rows) before) ≡ cond b (processes rows) (by_kept before)
+by_either : (b : Bool) (rows : List ProcessEntry) (before : Option (List ProcessEntry)) → by_kept (cond b (Some rows) before) ≡ cond b (processes rows) (by_kept before)
 by_either true rows before = refl
 by_either false rows before = refl
 
-processes-put : (old new : HostRows) (host : Host) (rows : List Row) → Keeps old host rows new → processes_of new ≡ with_host (processes_of old) host (processes rows)
+processes-put : (old new : HostRows) (host : Host) (rows : List ProcessEntry) → Keeps old host rows new → processes_of new ≡ with_host (processes_of old) host (processes rows)
 processes-put old new host rows keeps j n i = put (at n i) j
   where
     put : (q : Host) → processes_of new q.node q.incarnation ≡ with_host (processes_of old) host (processes rows) q.node q.incarnation
@@ -89,19 +89,19 @@ pub record Changes (old : HostRows) (host : Host) (before after : Processes) (ne
   pub is : processes_of new ≡ with_host (processes_of old) host after
 
 -- what is written through a loan of what is kept of a node
-keeps-written : (m new : Map) (host : Host) (rows written : List Row) → Some rows ≡ kept m.entries host → WritesThrough derived.ghosts.eq (derived.ghosts.eq host) m written new → Keeps m.entries host written new.entries
+keeps-written : (m new : Map) (host : Host) (rows written : List ProcessEntry) → Some rows ≡ kept m.entries host → WritesThrough derived.ghosts.eq (derived.ghosts.eq host) m written new → Keeps m.entries host written new.entries
 keeps-written m new host rows written is through = (through.3 (some is)).0
   where
-    some : {x : Option (List Row)} → Some rows ≡ x → IsSome x
+    some : {x : Option (List ProcessEntry)} → Some rows ≡ x → IsSome x
     some e = rw (← e) refl
 
-pub changes-written : (old : HostRows) (m new : Map) (host : Host) (rows written : List Row) → m.entries ≡ old → Some rows ≡ kept m.entries host → WritesThrough derived.ghosts.eq (derived.ghosts.eq host) m written new → Changes old host (processes rows) (processes written) new.entries
+pub changes-written : (old : HostRows) (m new : Map) (host : Host) (rows written : List ProcessEntry) → m.entries ≡ old → Some rows ≡ kept m.entries host → WritesThrough derived.ghosts.eq (derived.ghosts.eq host) m written new → Changes old host (processes rows) (processes written) new.entries
 changes-written old m new host rows written same is through =
     let P : HostRows → Type 0 = λ es. Changes es host (processes rows) (processes written) new.entries in
     subst P same (record { was = processes-found m.entries host rows is; is = processes-put m.entries new.entries host written (keeps-written m new host rows written is through) })
 
 -- what is put in, where nothing was kept
-pub changes-inserted : (old : HostRows) (between m new : Map) (host : Host) (before rows : List Row) → m.entries ≡ old → None ≡ kept m.entries host → processes before ≡ no_processes → between ≡ m → Updates derived.ghosts.eq between new host (Some rows) → Changes old host (processes before) (processes rows) new.entries
+pub changes-inserted : (old : HostRows) (between m new : Map) (host : Host) (before rows : List ProcessEntry) → m.entries ≡ old → None ≡ kept m.entries host → processes before ≡ no_processes → between ≡ m → Updates derived.ghosts.eq between new host (Some rows) → Changes old host (processes before) (processes rows) new.entries
 changes-inserted old between m new host before rows same none empty is updates =
     let P : HostRows → Type 0 = λ es. Changes es host (processes before) (processes rows) new.entries in
     let Q : Map → Type 0 = λ x. Keeps x.entries host rows new.entries in
@@ -131,7 +131,7 @@ changes-nothing old m new host same none stays =
     }
 
 -- each is still a node that can be
-hosts-kept : (old new : HostRows) (host : Host) (rows : List Row) → AreHosts old → IsHost host.node host.incarnation → Keeps old host rows new → AreHosts new
+hosts-kept : (old new : HostRows) (host : Host) (rows : List ProcessEntry) → AreHosts old → IsHost host.node host.incarnation → Keeps old host rows new → AreHosts new
 hosts-kept old new host rows are is keeps q found some =
     by (derived.ghosts.eq host q) (host_eq host q) (sym (keeps q) ∙ (kept-by_test new q ∙ some))
   where
@@ -145,11 +145,11 @@ hosts-kept old new host rows are is keeps q found some =
         subst Q incarnation (subst P node is)
     by false same e = are q found (sym (kept-by_test old q) ∙ e)
 
-pub hosts-written : (m new : Map) (host : Host) (rows written : List Row) → AreHosts m.entries → Some rows ≡ kept m.entries host → WritesThrough derived.ghosts.eq (derived.ghosts.eq host) m written new → AreHosts new.entries
+pub hosts-written : (m new : Map) (host : Host) (rows written : List ProcessEntry) → AreHosts m.entries → Some rows ≡ kept m.entries host → WritesThrough derived.ghosts.eq (derived.ghosts.eq host) m written new → AreHosts new.entries
 hosts-written m new host rows written are is through =
     hosts-kept m.entries new.entries host written are (are host rows (sym (kept-by_test m.entries host) ∙ sym is)) (keeps-written m new host rows written is through)
 
-pub hosts-inserted : (between m new : Map) (host : Host) (rows : List Row) → AreHosts m.entries → IsHost host.node host.incarnation → between ≡ m → Updates derived.ghosts.eq between new host (Some rows) → AreHosts new.entries
+pub hosts-inserted : (between m new : Map) (host : Host) (rows : List ProcessEntry) → AreHosts m.entries → IsHost host.node host.incarnation → between ≡ m → Updates derived.ghosts.eq between new host (Some rows) → AreHosts new.entries
 hosts-inserted between m new host rows are is same updates =
     let Q : Map → Type 0 = λ x. Keeps x.entries host rows new.entries in
     hosts-kept m.entries new.entries host rows are is (subst Q same updates.0)
@@ -164,38 +164,38 @@ pub not_host-idle : (hosts : HostRows) (node incarnation pid : ℕ) → AreHosts
 unfolding processes_of
 not_host-idle hosts node incarnation pid are none = by (lookup (same_host (at node incarnation)) hosts) refl
   where
-    by : (rows : Option (List Row)) → lookup (same_host (at node incarnation)) hosts ≡ rows → (by_kept rows).runs pid ≡ false
+    by : (rows : Option (List ProcessEntry)) → lookup (same_host (at node incarnation)) hosts ≡ rows → (by_kept rows).runs pid ≡ false
     by None e = ap (λ (ps : Processes). ps.runs pid) none_run
     by (Some rows) e = absurd (none (are (at node incarnation) rows e))
 
 -- what is true of the processes of a node by what is kept of it
-pub by_found : (P : Processes → Type 0) (hosts : HostRows) (host : Host) (rows : List Row) → Some rows ≡ kept hosts host → P (processes rows) → P (processes_of hosts host.node host.incarnation)
+pub by_found : (P : Processes → Type 0) (hosts : HostRows) (host : Host) (rows : List ProcessEntry) → Some rows ≡ kept hosts host → P (processes rows) → P (processes_of hosts host.node host.incarnation)
 by_found P hosts host rows is p = subst P (sym (processes-found hosts host rows is)) p
 
 pub by_not_found : (P : Processes → Type 0) (hosts : HostRows) (host : Host) → None ≡ kept hosts host → P no_processes → P (processes_of hosts host.node host.incarnation)
 by_not_found P hosts host is p = subst P (sym (processes-not_found hosts host is)) p
 
 -- an edit of what is kept of the node
-pub fits_on : (hosts : HostRows) (host : Host) (rows : List Row) (edit : ProcessEdit) → Some rows ≡ kept hosts host → Fits rows edit → FitsOn hosts host edit
+pub fits_on : (hosts : HostRows) (host : Host) (rows : List ProcessEntry) (edit : ProcessEdit) → Some rows ≡ kept hosts host → Fits rows edit → FitsOn hosts host edit
 fits_on hosts host rows edit is fits = record { rows = rows; kept = sym (is ∙ kept-by_test hosts host); fits = fits }
 
 -- is an edit of the rows that are found
-pub fits_found : (hosts : HostRows) (host : Host) (rows : List Row) (edit : ProcessEdit) → Some rows ≡ kept hosts host → FitsOn hosts host edit → Fits rows edit
+pub fits_found : (hosts : HostRows) (host : Host) (rows : List ProcessEntry) (edit : ProcessEdit) → Some rows ≡ kept hosts host → FitsOn hosts host edit → Fits rows edit
 fits_found hosts host rows edit is on =
     let same : Some rows ≡ Some on.rows = is ∙ (kept-by_test hosts host ∙ on.kept) in
     let e : on.rows ≡ rows = cc in
-    subst (λ (r : List Row). Fits r edit) e on.fits
+    subst (λ (r : List ProcessEntry). Fits r edit) e on.fits
 
 -- nothing is kept
 pub not_kept : (hosts : HostRows) (host : Host) (b : Bool) → b ≡ is_some (kept hosts host) → b ≡ false → None ≡ kept hosts host
 not_kept hosts host b is none = by (kept hosts host) (sym is ∙ none)
   where
-    by : (r : Option (List Row)) → is_some r ≡ false → None ≡ r
+    by : (r : Option (List ProcessEntry)) → is_some r ≡ false → None ≡ r
     by None e = refl
     by (Some rows) e = absurd (cc)
 
 -- processes of which none runs are put in where nothing was kept
-pub admitted : (old new : HostRows) (host : Host) (rows : List Row) → Changes old host (processes rows) (processes rows) new → processes_of new ≡ processes_of old
+pub admitted : (old new : HostRows) (host : Host) (rows : List ProcessEntry) → Changes old host (processes rows) (processes rows) new → processes_of new ≡ processes_of old
 admitted old new host rows changes = changes.is ∙ (ap (with_host (processes_of old) host) (sym changes.was) ∙ with_host-same (processes_of old) host)
 
 -- an edit that is made in the processes of a node
@@ -204,7 +204,7 @@ made_on old new host before after edit changes is =
     changes.is ∙ ap (with_host (processes_of old) host) (is ∙ ap (λ (ps : Processes). edited ps edit) (sym changes.was))
 
 -- what a change of one node's processes and of the locks makes of the whole table
-pub shut_on : (F : Table → Table) (old new : HostRows) (host : Host) (rows written : List Row) (locks left : List LockRow) → Changes old host (processes rows) (processes written) new → ((on : ℕ → ℕ → Processes) → shown on host written left ≡ F (shown on host rows locks)) → table_with new (held left) ≡ F (table_with old (held locks))
+pub shut_on : (F : Table → Table) (old new : HostRows) (host : Host) (rows written : List ProcessEntry) (locks left : List OwnerLocks) → Changes old host (processes rows) (processes written) new → ((on : ℕ → ℕ → Processes) → shown on host written left ≡ F (shown on host rows locks)) → table_with new (held left) ≡ F (table_with old (held locks))
 shut_on F old new host rows written locks left changes made =
     let on : ℕ → ℕ → Processes = processes_of old in
     let whole : with_host on host (processes rows) ≡ on = ap (with_host on host) (sym changes.was) ∙ with_host-same on host in
@@ -220,7 +220,7 @@ runs-nowhere hosts host pid none runs = false≢true (ap (λ (ps : Processes). p
 abbrev pub Removes : HostRows → Host → HostRows → Type 0
 Removes old host new = (q : Host) → kept new q ≡ cond (derived.ghosts.eq host q) None (kept old q)
 
-by_none : (b : Bool) (before : Option (List Row)) → by_kept (cond b None before) ≡ cond b no_processes (by_kept before)
+by_none : (b : Bool) (before : Option (List ProcessEntry)) → by_kept (cond b None before) ≡ cond b no_processes (by_kept before)
 by_none true before = none_run
 by_none false before = refl
 

@@ -14,7 +14,7 @@ use Rattle.model.specs.declared.reply.Reply.TheVariants as reply
 use Rattle.model.specs.declared.reply.Reply.TheVariants.{Done}
 use Rattle.model.specs.Descriptors.{Processes, no_processes}
 use Rattle.model.specs.Locks.{no_locks}
-use Rattle.model.specs.Table.{Table, Target, empty_table, around, is_running, descriptor, beside, target_at, target, closed_at, closed_if, after_close}
+use Rattle.model.specs.Table.{Table, LockTarget, empty_table, around, is_running, descriptor, beside, target_at, target, closed_at, closed_if, after_close}
 use Rattle.model.specs.Step.{Is}
 use Rattle.lock_table.specs.Rows.{held}
 use Rattle.descriptors.specs.declared.error.FdError.{FdError}
@@ -48,7 +48,7 @@ found-around m p host pid fd found of_p is e =
     ∙ (ap (λ (h : Host). resolved (processes_of m.hosts h.node h.incarnation) pid fd) (sym of_p) ∙ sym e)
 
 -- what a lock call is about, by what its descriptor refers to
-pub target-of : (m : FcntlTable) (p : Process) (need : Option Mode) (host : Host) (pid fd : ℕ) (kind : Kind) (start len : ℤ) (opened : Opened) (segment : Result Range SpanError) (r : Result Target Reply) → host ≡ host_of p → pid ≡ p.pid → Ok opened ≡ resolved (processes_of m.hosts host.node host.incarnation) pid fd → segment ≡ seg start len → r ≡ target_at p need kind (Some opened) segment → r ≡ target (table_of m) p need fd kind start len
+pub target-of : (m : FcntlTable) (p : Process) (need : Option Mode) (host : Host) (pid fd : ℕ) (kind : Kind) (start len : ℤ) (opened : Opened) (segment : Result Range SpanError) (r : Result LockTarget Reply) → host ≡ host_of p → pid ≡ p.pid → Ok opened ≡ resolved (processes_of m.hosts host.node host.incarnation) pid fd → segment ≡ seg start len → r ≡ target_at p need kind (Some opened) segment → r ≡ target (table_of m) p need fd kind start len
 target-of m p need host pid fd kind start len opened segment r of_p is found cut e =
     e
     ∙ (ap (target_at p need kind (Some opened)) cut

@@ -10,13 +10,13 @@ use Rattle.model.specs.declared.process.Process.{Process}
 use Rattle.model.specs.declared.reply.Reply.{Reply}
 use Rattle.model.specs.declared.reply.Reply.TheVariants as reply
 use Rattle.model.specs.Descriptors.{Processes}
-use Rattle.model.specs.Table.{Target, target_at}
+use Rattle.model.specs.Table.{LockTarget, target_at}
 use Rattle.descriptors.specs.declared.error.FdError.{FdError}
 use Rattle.descriptors.specs.declared.error.FdError.TheVariants.{NoProcess, BadFd}
 use Rattle.descriptors.specs.Rows.{resolved, opened_or, fd_reply}
 
 -- the tests of a lock call, one after the other
-abbrev pub target_in : Processes → Process → Option Mode → ℕ → Kind → Result Range SpanError → Result Target Reply
+abbrev pub target_in : Processes → Process → Option Mode → ℕ → Kind → Result Range SpanError → Result LockTarget Reply
 target_in ps p need fd kind segment = if ps.runs p.pid then target_at p need kind (ps.opened p.pid fd) segment else Err reply.NoProcess
 
 resolved_err : (b : Bool) (o : Option Opened) (p : Process) (need : Option Mode) (kind : Kind) (segment : Result Range SpanError) (e : FdError) → (if b then opened_or o else Err NoProcess) ≡ Err e → (if b then target_at p need kind o segment else Err reply.NoProcess) ≡ Err (fd_reply e)

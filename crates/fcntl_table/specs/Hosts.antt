@@ -9,20 +9,20 @@ use Rattle.model.specs.Locks.{Locks}
 use Rattle.model.specs.Descriptors.{Processes, is_open, with_descriptor}
 use Rattle.model.specs.Table.{Table}
 use Rattle.model.specs.Owners.{same_host}
-use Rattle.lock_table.specs.declared.row.Row.{Row as LockRow}
+use Rattle.lock_table.specs.declared.owner_locks.OwnerLocks.{OwnerLocks}
 use Rattle.lock_table.specs.Rows.{held}
-use Rattle.descriptors.specs.declared.row.Row.{Row}
+use Rattle.descriptors.specs.declared.process_entry.ProcessEntry.{ProcessEntry}
 use Rattle.descriptors.specs.declared.edit.ProcessEdit.{ProcessEdit}
 use Rattle.descriptors.specs.Rows.{processes}
 use Rattle.descriptors.specs.Edits.{Fits}
 
 -- by the node in its incarnation: rows of its processes
 abbrev pub HostRows : Type 0
-HostRows = List (Host × List Row)
+HostRows = List (Host × List ProcessEntry)
 
 -- each is a node that can be
 abbrev pub AreHosts : HostRows → Type 0
-AreHosts hosts = (q : Host) (rows : List Row) → lookup (same_host q) hosts ≡ Some rows → IsHost q.node q.incarnation
+AreHosts hosts = (q : Host) (rows : List ProcessEntry) → lookup (same_host q) hosts ≡ Some rows → IsHost q.node q.incarnation
 
 -- the processes of each node in each incarnation; none where none is kept
 unfoldable pub processes_of : HostRows → ℕ → ℕ → Processes
@@ -46,12 +46,12 @@ IsKept hosts host = IsSome (lookup (same_host host) hosts)
 
 -- rows are kept of the node, and the edit can be made in them
 pub record FitsOn (hosts : HostRows) (host : Host) (edit : ProcessEdit) : Type 0 where
-  pub rows : List Row
+  pub rows : List ProcessEntry
   pub kept : lookup (same_host host) hosts ≡ Some rows
   pub fits : Fits rows edit
 
 -- the table in which the node has these processes, with these locks
-abbrev pub shown : (ℕ → ℕ → Processes) → Host → List Row → List LockRow → Table
+abbrev pub shown : (ℕ → ℕ → Processes) → Host → List ProcessEntry → List OwnerLocks → Table
 shown on host rows locks = record { on = with_host on host (processes rows); locks = held locks }
 
 -- a descriptor is closed: it referred to this, and the description went or not. Where there is none, nothing changes

@@ -22,7 +22,7 @@ use intervals::span_map::NoMemory;
 use lock_table::lock_table::LockTable;
 use model::access::Access;
 use model::host::Host;
-use model::lock_call::LockCall;
+use model::lock_target::LockTarget;
 use model::lock_info::LockInfo;
 use model::mode::Mode;
 use model::owner::Kind;
@@ -98,7 +98,7 @@ impl FcntlTable {
         kind: Kind,
         start: i64,
         len: i64,
-    ) -> Result<LockCall, Reply>
+    ) -> Result<LockTarget, Reply>
         ensures value { result ≡ target (table_of self.now) process need fd kind start len }
         ensures own { IfOk result (λ call. IsOwn process.node process.incarnation call.owner) }
         ensures span { IfOk result (λ call. IsSpan call.span) }
@@ -112,7 +112,7 @@ impl FcntlTable {
     /// The lowest region of another owner that blocks the call (POSIX.1-2017 `fcntl()`, F_GETLK): by first
     /// byte, then by owner. Takes no memory.
     #[tactic(auto, unfolding(crate::specs::Tables::table_of))]
-    pub fn blocker(&self, call: LockCall, mode: Mode) -> Option<LockInfo>
+    pub fn blocker(&self, call: LockTarget, mode: Mode) -> Option<LockInfo>
         ensures { MatchOption result (Unblocked (table_of self.now) call mode) (IsLowestBlocker ((table_of self.now).locks call.file) call.owner call.span mode) }
     {
         self.locks.blocker(call.owner, call.file, call.span, mode)
@@ -247,7 +247,7 @@ impl FcntlTable {
     /// # Errors
     /// `NoMemory`.
     #[tactic(auto, unfolding(crate::specs::Tables::table_of))]
-    pub fn plan_lock(&self, call: LockCall, mode: Option<Mode>) -> Result<Planned, NoMemory>
+    pub fn plan_lock(&self, call: LockTarget, mode: Option<Mode>) -> Result<Planned, NoMemory>
         ensures ok { IfOk result (λ planned. Is (lock_within (table_of self.now) call mode) planned.reply (edited (table_of self.now) planned.edit)) }
         ensures fits { IfOk result (λ planned. Fits self.now planned.edit) }
     {
@@ -358,7 +358,7 @@ impl FcntlTable {
     ///
     /// # Errors
     /// `NoMemory`.
-    pub fn lock_within(&mut self, call: LockCall, mode: Option<Mode>) -> Result<Reply, NoMemory>
+    pub fn lock_within(&mut self, call: LockTarget, mode: Option<Mode>) -> Result<Reply, NoMemory>
         ensures { IfOk result (λ reply. Is (lock_within (table_of self.old) call mode) reply (table_of self.new)) }
     {
         let Planned { edit, reply } = self.plan_lock(call, mode)?;

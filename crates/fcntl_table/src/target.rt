@@ -6,7 +6,7 @@ ghost use Rattle.fcntl_table.specs.Targets.{IsOwn, IsSpan};
 
 use intervals::span::{Span, SpanError};
 use model::access::Access;
-use model::lock_call::LockCall;
+use model::lock_target::LockTarget;
 use model::mode::Mode;
 use model::opened::Opened;
 use model::owner::{Kind, Owner};
@@ -63,7 +63,7 @@ pub fn target_at(
     kind: Kind,
     opened: Opened,
     segment: Result<Span, SpanError>,
-) -> Result<LockCall, Reply>
+) -> Result<LockTarget, Reply>
     requires { IsNumber most_descriptions opened.description }
     ensures value { result ≡ target_at process need kind (Some opened) segment }
     ensures own { IfOk result (λ target. IsOwn process.node process.incarnation target.owner) }
@@ -79,7 +79,7 @@ pub fn target_at(
     if !allows(opened.access, need) {
         return Err(Reply::BadFd);
     }
-    Ok(LockCall {
+    Ok(LockTarget {
         file: opened.file,
         owner: owner_of(process, kind, opened),
         span,

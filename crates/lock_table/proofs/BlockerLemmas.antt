@@ -12,7 +12,7 @@ use Rattle.model.specs.declared.owner.Owner.{Owner}
 use Rattle.model.specs.declared.lock_info.LockInfo.{LockInfo}
 use Rattle.model.specs.Owners.{same_owner, owner_cmp}
 use Rattle.model.specs.Locks.{bar_of, FileLocks, excludes, bars, IsFree, IsRegion, Blocks, IsNotAfter, IsLowestBlocker}
-use Rattle.lock_table.specs.declared.row.Row.{Row}
+use Rattle.lock_table.specs.declared.owner_locks.OwnerLocks.{OwnerLocks}
 use Rattle.lock_table.specs.Regions.{IsFirstRegion}
 use Rattle.lock_table.specs.Rows.{held, row_cmp, AllAfter, AreRows, locks_of}
 use Rattle.lock_table.specs.Blockers.{IsBlockerOf}
@@ -21,10 +21,10 @@ use Rattle.lock_table.proofs.RowLemmas.{is_of, is_of_less}
 use Rattle.lock_table.proofs.FileRows.{rows-take}
 
 -- a row's own locks
-pub locks_own : (r : Row) → locks_of r r.owner ≡ value_at r.spans
+pub locks_own : (r : OwnerLocks) → locks_of r r.owner ≡ value_at r.spans
 locks_own r = let itself : ((eqb r.file r.file) && same_owner r.owner r.owner) ≡ true = and_from (eqb r.file r.file) (same_owner r.owner r.owner) (eq-eqb r.file r.file refl) (owner_refl r.owner) in rw itself refl
 
-pub locks_other : (r : Row) (o : Owner) → same_owner r.owner o ≡ false → locks_of r o ≡ nothing
+pub locks_other : (r : OwnerLocks) (o : Owner) → same_owner r.owner o ≡ false → locks_of r o ≡ nothing
 locks_other r o differ = rw (and_right (eqb r.file r.file) (same_owner r.owner o) differ) refl
 
 nothing_region : (s : Range) (m : Mode) → IsRun nothing s m → ⊥
@@ -34,7 +34,7 @@ differ_from : (a b : Owner) → a ≢ b → same_owner a b ≡ false
 differ_from a b differ = elim (cases_Bool (same_owner a b)) [ inl same ↦ absurd (differ (owner_exact a b same)) | inr other ↦ other ]
 
 -- a region of a row is of its owner, and a region of its bytes
-pub region_own : (r : Row) (x : LockInfo) → IsRegion (locks_of r) x → (x.owner ≡ r.owner) × IsRun (value_at r.spans) x.span x.mode
+pub region_own : (r : OwnerLocks) (x : LockInfo) → IsRegion (locks_of r) x → (x.owner ≡ r.owner) × IsRun (value_at r.spans) x.span x.mode
 region_own r x region = elim (cases_Bool (same_owner r.owner x.owner)) [
   | inl same ↦
       let e : r.owner ≡ x.owner = owner_exact _ _ same in
@@ -43,7 +43,7 @@ region_own r x region = elim (cases_Bool (same_owner r.owner x.owner)) [
   | inr differ ↦ absurd (nothing_region x.span x.mode (subst (λ (f : ℕ → Option Mode). IsRun f x.span x.mode) (locks_other r x.owner differ) region))
 ]
 
-pub own_region : (r : Row) (x : LockInfo) → x.owner ≡ r.owner → IsRun (value_at r.spans) x.span x.mode → IsRegion (locks_of r) x
+pub own_region : (r : OwnerLocks) (x : LockInfo) → x.owner ≡ r.owner → IsRun (value_at r.spans) x.span x.mode → IsRegion (locks_of r) x
 own_region r x e run =
     let here : IsRun (locks_of r r.owner) x.span x.mode = subst (λ (f : ℕ → Option Mode). IsRun f x.span x.mode) (sym (locks_own r)) run in
     subst (λ (o : Owner). IsRun (locks_of r o) x.span x.mode) (sym e) here
@@ -191,12 +191,12 @@ pub blocker_none : (owner : Owner) (s : Range) (mode : Mode) → IsBlockerOf (λ
 blocker_none owner s mode = record { answer = λ other byte differ lo hi. refl; ordered = λ some. absurd cc }
 
 -- the row's own locks don't block its owner
-pub own_free : (r : Row) (owner : Owner) (s : Range) (mode : Mode) → r.owner ≡ owner → IsFree (locks_of r) owner s mode
+pub own_free : (r : OwnerLocks) (owner : Owner) (s : Range) (mode : Mode) → r.owner ≡ owner → IsFree (locks_of r) owner s mode
 own_free r owner s mode e other byte differ lo hi =
     let apart_here : same_owner r.owner other ≡ false = differ_from r.owner other (λ same. differ (sym same ∙ e)) in
     rw (ap (λ (f : ℕ → Option Mode). f byte) (locks_other r other apart_here)) refl
 
-module _ (r : Row) (owner : Owner) (s : Range) (mode : Mode) (differ : r.owner ≢ owner) where
+module _ (r : OwnerLocks) (owner : Owner) (s : Range) (mode : Mode) (differ : r.owner ≢ owner) where
   row_free : NoneIn (IsBarred (value_at r.spans) (bar_of mode)) s → IsFree (locks_of r) owner s mode
   row_free none other byte apart lo hi = elim (cases_Bool (same_owner r.owner other)) [
     | inl same ↦
@@ -270,17 +270,17 @@ module _ (r : Row) (owner : Owner) (s : Range) (mode : Mode) (differ : r.owner �
       record { answer = row_lowest x is_first; ordered = λ some. omega arith }
 
 -- a last row of another owner than asked
-other_held : (l : List Row) (r : Row) (f : ℕ) (o : Owner) → is_of r f o ≡ false → held (l ++ r ∷ []) f o ≡ held l f o
+other_held : (l : List OwnerLocks) (r : OwnerLocks) (f : ℕ) (o : Owner) → is_of r f o ≡ false → held (l ++ r ∷ []) f o ≡ held l f o
 unfolding held
 other_held [] r f o differ = rw differ refl
 other_held (s ∷ l) r f o differ = rw (other_held l r f o differ) refl
 
-all_after_last : (f : ℕ) (o : Owner) (l : List Row) (r : Row) → AllAfter f o (l ++ r ∷ []) → row_cmp r f o ≡ Greater
+all_after_last : (f : ℕ) (o : Owner) (l : List OwnerLocks) (r : OwnerLocks) → AllAfter f o (l ++ r ∷ []) → row_cmp r f o ≡ Greater
 all_after_last f o [] r h = h.0
 all_after_last f o (s ∷ l) r h = all_after_last f o l r h.1
 
 -- the last row has the locks of its place, and those before it none
-last_held : (l : List Row) (r : Row) → AreRows (l ++ r ∷ []) → (held (l ++ r ∷ []) r.file r.owner ≡ value_at r.spans) × (held l r.file r.owner ≡ nothing)
+last_held : (l : List OwnerLocks) (r : OwnerLocks) → AreRows (l ++ r ∷ []) → (held (l ++ r ∷ []) r.file r.owner ≡ value_at r.spans) × (held l r.file r.owner ≡ nothing)
 unfolding held
 last_held [] r rows = let itself : is_of r r.file r.owner ≡ true = and_from (eqb r.file r.file) (same_owner r.owner r.owner) (eq-eqb r.file r.file refl) (owner_refl r.owner) in (rw itself refl, refl)
 last_held (s ∷ l) r rows =
@@ -289,7 +289,7 @@ last_held (s ∷ l) r rows =
     let differ = is_of_less s r.file r.owner before in
     (rw differ more.0, rw differ more.1)
 
-rows_join : (l : List Row) (r : Row) (f : ℕ) → AreRows (l ++ r ∷ []) → r.file ≡ f → IsJoin (held l f) (locks_of r) (held (l ++ r ∷ []) f)
+rows_join : (l : List OwnerLocks) (r : OwnerLocks) (f : ℕ) → AreRows (l ++ r ∷ []) → r.file ≡ f → IsJoin (held l f) (locks_of r) (held (l ++ r ∷ []) f)
 rows_join l r f rows file o = elim (cases_Bool (same_owner r.owner o)) [
   | inl same ↦
       let e : r.owner ≡ o = owner_exact _ _ same in
@@ -299,15 +299,15 @@ rows_join l r f rows file o = elim (cases_Bool (same_owner r.owner o)) [
 ]
 
 -- one row more of a file's rows
-pub rows_step : (l : List Row) (i : ℕ) (r : Row) (f : ℕ) → AreRows l → All (λ (s : Row). s.file ≡ f) l → i < length l → r ≡ get_or l i r → IsJoin (held (take i l) f) (locks_of r) (held (take (i + 1) l) f)
+pub rows_step : (l : List OwnerLocks) (i : ℕ) (r : OwnerLocks) (f : ℕ) → AreRows l → All (λ (s : OwnerLocks). s.file ≡ f) l → i < length l → r ≡ get_or l i r → IsJoin (held (take i l) f) (locks_of r) (held (take (i + 1) l) f)
 rows_step l i r f rows files lt is =
     let next : take (i + 1) l ≡ take i l ++ r ∷ [] = take_more l i r lt ∙ rw (← is) refl in
     let order : AreRows (take i l ++ r ∷ []) = subst AreRows next (rows-take l (i + 1) rows) in
     let file : r.file ≡ f = rw (← is) at (files i r lt) in
-    subst (λ (m : List Row). IsJoin (held (take i l) f) (locks_of r) (held m f)) (sym next) (rows_join (take i l) r f order file)
+    subst (λ (m : List OwnerLocks). IsJoin (held (take i l) f) (locks_of r) (held m f)) (sym next) (rows_join (take i l) r f order file)
 
 -- a row that holds no byte of the span has no lock that blocks
-pub row_away : (r : Row) (owner : Owner) (s : Range) (mode : Mode) → ((b : ℕ) (m : Mode) → s.lo ≤ b → b ≤ s.hi → value_at r.spans b ≡ Some m → ⊥) → IsFree (locks_of r) owner s mode
+pub row_away : (r : OwnerLocks) (owner : Owner) (s : Range) (mode : Mode) → ((b : ℕ) (m : Mode) → s.lo ≤ b → b ≤ s.hi → value_at r.spans b ≡ Some m → ⊥) → IsFree (locks_of r) owner s mode
 row_away r owner s mode none other byte differ lo hi = elim (cases_Bool (same_owner r.owner other)) [
   | inl same ↦
       let here : locks_of r other byte ≡ value_at r.spans byte = ap (λ (o : Owner). locks_of r o byte) (sym (owner_exact r.owner other same)) ∙ ap (λ (f : ℕ → Option Mode). f byte) (locks_own r) in

@@ -7,27 +7,27 @@ use Rattle.std.proofs.lemmas.Bool.{and_left, ltb-true, ltb-false, leb-true, leb-
 use Rattle.std.proofs.lemmas.List.{length-take, length-drop, get_or-take, get_or-drop}
 use Rattle.model.specs.declared.owner.Owner.{Owner}
 use Rattle.model.specs.Owners.{same_owner}
-use Rattle.lock_table.specs.declared.row.Row.{Row}
+use Rattle.lock_table.specs.declared.owner_locks.OwnerLocks.{OwnerLocks}
 use Rattle.lock_table.specs.Rows.{held, row_cmp, AllAfter, AreRows}
 
 -- a row after a place is not of a lower file
-after_file : (r : Row) (f : ℕ) (o : Owner) → row_cmp r f o ≡ Greater → f ≤ r.file
+after_file : (r : OwnerLocks) (f : ℕ) (o : Owner) → row_cmp r f o ≡ Greater → f ≤ r.file
 after_file r f o h = elim (cases_lt r.file f) [
   | inl lt ↦ let less : row_cmp r f o ≡ Less = rw (lt-ltb r.file f lt) refl in absurd cc
   | inr le ↦ le
 ]
 
-some_row : (l : List Row) → 0 < length l → Row
+some_row : (l : List OwnerLocks) → 0 < length l → OwnerLocks
 some_row [] h = absurd (omega arith)
 some_row (r ∷ rest) h = r
 
 -- files rise along the rows
-pub files_rise : (l : List Row) → AreRows l → IsNonDecreasingBy (λ (r : Row). r.file) l
+pub files_rise : (l : List OwnerLocks) → AreRows l → IsNonDecreasingBy (λ (r : OwnerLocks). r.file) l
 files_rise [] rows i j d le lt = absurd (omega arith)
 files_rise (r ∷ rest) rows zero zero d le lt = omega arith
 files_rise (r ∷ rest) rows zero (suc j) d le lt = file_after rest j rows.1 (omega arith)
   where
-    file_after : (l : List Row) (j : ℕ) → AllAfter r.file r.owner l → j < length l → r.file ≤ (get_or l j d).file
+    file_after : (l : List OwnerLocks) (j : ℕ) → AllAfter r.file r.owner l → j < length l → r.file ≤ (get_or l j d).file
     file_after [] j h lt = absurd (omega arith)
     file_after (s ∷ l) zero h lt = after_file s r.file r.owner h.0
     file_after (s ∷ l) (suc j) h lt = file_after l j h.1 (omega arith)
@@ -35,29 +35,29 @@ files_rise (r ∷ rest) rows (suc i) zero d le lt = absurd (omega arith)
 files_rise (r ∷ rest) rows (suc i) (suc j) d le lt = files_rise rest rows.2 i j d (omega arith) (omega arith)
 
 -- rows at the front or the end alone
-all_after-take : (l : List Row) (n : ℕ) (f : ℕ) (o : Owner) → AllAfter f o l → AllAfter f o (take n l)
+all_after-take : (l : List OwnerLocks) (n : ℕ) (f : ℕ) (o : Owner) → AllAfter f o l → AllAfter f o (take n l)
 all_after-take [] zero f o h = tt
 all_after-take [] (suc n) f o h = tt
 all_after-take (s ∷ rest) zero f o h = tt
 all_after-take (s ∷ rest) (suc n) f o h = (h.0, all_after-take rest n f o h.1)
 
-pub rows-take : (l : List Row) (n : ℕ) → AreRows l → AreRows (take n l)
+pub rows-take : (l : List OwnerLocks) (n : ℕ) → AreRows l → AreRows (take n l)
 rows-take [] zero rows = tt
 rows-take [] (suc n) rows = tt
 rows-take (s ∷ rest) zero rows = tt
 rows-take (s ∷ rest) (suc n) rows = (rows.0, all_after-take rest n s.file s.owner rows.1, rows-take rest n rows.2)
 
-rows-drop : (l : List Row) (n : ℕ) → AreRows l → AreRows (drop n l)
+rows-drop : (l : List OwnerLocks) (n : ℕ) → AreRows l → AreRows (drop n l)
 rows-drop [] zero rows = tt
 rows-drop [] (suc n) rows = tt
 rows-drop (s ∷ rest) zero rows = rows
 rows-drop (s ∷ rest) (suc n) rows = rows-drop rest n rows.2
 
-held_other : (r : Row) (rest : List Row) (f : ℕ) (o : Owner) → (r.file ≡ f → ⊥) → held (r ∷ rest) f o ≡ held rest f o
+held_other : (r : OwnerLocks) (rest : List OwnerLocks) (f : ℕ) (o : Owner) → (r.file ≡ f → ⊥) → held (r ∷ rest) f o ≡ held rest f o
 unfolding held
 held_other r rest f o differ = rw (and_left (eqb r.file f) (same_owner r.owner o) (ne_eqb r.file f differ)) refl
 
-held-drop : (l : List Row) (n : ℕ) (f : ℕ) (o : Owner) → AllWithin (λ (r : Row). ltb r.file f ≡ true) l 0 n → held (drop n l) f o ≡ held l f o
+held-drop : (l : List OwnerLocks) (n : ℕ) (f : ℕ) (o : Owner) → AllWithin (λ (r : OwnerLocks). ltb r.file f ≡ true) l 0 n → held (drop n l) f o ≡ held l f o
 held-drop [] zero f o below = refl
 held-drop [] (suc n) f o below = refl
 held-drop (r ∷ rest) zero f o below = refl
@@ -65,7 +65,7 @@ held-drop (r ∷ rest) (suc n) f o below =
     let lower : r.file < f = ltb-true _ _ (below 0 r (omega arith) (omega arith)) in
     held-drop rest n f o (λ k d low lt. below (suc k) d (omega arith) (omega arith)) ∙ sym (held_other r rest f o (λ e. absurd (omega arith)))
 
-held-take : (l : List Row) (n : ℕ) (f : ℕ) (o : Owner) → AllWithin (λ (r : Row). leb r.file f ≡ false) l n (length l) → held (take n l) f o ≡ held l f o
+held-take : (l : List OwnerLocks) (n : ℕ) (f : ℕ) (o : Owner) → AllWithin (λ (r : OwnerLocks). leb r.file f ≡ false) l n (length l) → held (take n l) f o ≡ held l f o
 unfolding held
 held-take [] zero f o above = refl
 held-take [] (suc n) f o above = refl
@@ -75,7 +75,7 @@ held-take (r ∷ rest) zero f o above =
 held-take (r ∷ rest) (suc n) f o above = rw (held-take rest n f o (λ k d low lt. above (suc k) d (omega arith) (omega arith))) refl
 
 -- the rows between the first that is not of a lower file and the first of a higher one
-module _ (l : List Row) (f start end : ℕ) (rows : AreRows l) (within : end ≤ length l) (below : AllWithin (λ (r : Row). ltb r.file f ≡ true) l 0 start) (from : AllWithin (λ (r : Row). ltb r.file f ≡ false) l start (length l)) (to : AllWithin (λ (r : Row). leb r.file f ≡ true) l 0 end) (above : AllWithin (λ (r : Row). leb r.file f ≡ false) l end (length l)) where
+module _ (l : List OwnerLocks) (f start end : ℕ) (rows : AreRows l) (within : end ≤ length l) (below : AllWithin (λ (r : OwnerLocks). ltb r.file f ≡ true) l 0 start) (from : AllWithin (λ (r : OwnerLocks). ltb r.file f ≡ false) l start (length l)) (to : AllWithin (λ (r : OwnerLocks). leb r.file f ≡ true) l 0 end) (above : AllWithin (λ (r : OwnerLocks). leb r.file f ≡ false) l end (length l)) where
   pub part_order : start ≤ length l → start ≤ end
   part_order le = elim (cases_lt end start) [
     | inl lt ↦
@@ -89,7 +89,7 @@ module _ (l : List Row) (f start end : ℕ) (rows : AreRows l) (within : end ≤
   pub part_rows : AreRows (take (end - start) (drop start l))
   part_rows = rows-take (drop start l) (end - start) (rows-drop l start rows)
 
-  pub part_file : All (λ (r : Row). r.file ≡ f) (take (end - start) (drop start l))
+  pub part_file : All (λ (r : OwnerLocks). r.file ≡ f) (take (end - start) (drop start l))
   part_file k d lt =
       let count = length-take (end - start) (drop start l) in
       let left = length-drop start l in

@@ -18,7 +18,7 @@ use Rattle.model.specs.declared.mode.Mode.{Mode}
 use Rattle.model.specs.declared.lock_info.LockInfo.{LockInfo}
 use Rattle.model.specs.Owners.{same_owner}
 use Rattle.model.specs.Locks.{FileLocks, IsRegion}
-use Rattle.lock_table.specs.declared.row.Row.{Row}
+use Rattle.lock_table.specs.declared.owner_locks.OwnerLocks.{OwnerLocks}
 use Rattle.lock_table.specs.Regions.{rest_from, IsFirstRegion}
 use Rattle.lock_table.specs.Rows.{locks_of, NothingFrom}
 use Rattle.lock_table.specs.Listing.{IsBefore, IsListing, lock_cmp, same_start, ListsRegions}
@@ -120,7 +120,7 @@ listing_from h xs ys lists moved sorted = record {
         go Greater e = before_from a b (back_less lock_cmp locks_total b a e)
 
 -- so far `new` has what old has, and then the row's regions that begin before byte `from`, at which none goes on
-pub record Listed (r : Row) (from : ℕ) (old new : List LockInfo) : Type 0 where
+pub record Listed (r : OwnerLocks) (from : ℕ) (old new : List LockInfo) : Type 0 where
   pub more : List LockInfo
   pub is : new ≡ old ++ more
   pub edge : (b : ℕ) (m : Mode) → b + 1 ≡ from → value_at r.spans b ≡ Some m → value_at r.spans from ≢ Some m
@@ -128,7 +128,7 @@ pub record Listed (r : Row) (from : ℕ) (old new : List LockInfo) : Type 0 wher
   pub complete : (x : LockInfo) → x.owner ≡ r.owner → IsRun (value_at r.spans) x.span x.mode → x.span.lo < from → Contains more x
   pub once : IsDistinct same_start more
 
-pub listed-start : (r : Row) (old : List LockInfo) → Listed r 0 old old
+pub listed-start : (r : OwnerLocks) (old : List LockInfo) → Listed r 0 old old
 listed-start r old = record {
   more = [];
   is = sym (append-nil old);
@@ -138,7 +138,7 @@ listed-start r old = record {
   once = distinct-nil;
 }
 
-module _ (r : Row) (from : ℕ) (old new : List LockInfo) (l : Listed r from old new) (x : LockInfo) (first : IsFirstRegion r (rest_from from) None x) where
+module _ (r : OwnerLocks) (from : ℕ) (old new : List LockInfo) (l : Listed r from old new) (x : LockInfo) (first : IsFirstRegion r (rest_from from) None x) where
   starts_late : from ≤ x.span.lo
   starts_late =
       let f = value_at r.spans in
@@ -197,7 +197,7 @@ module _ (r : Row) (from : ℕ) (old new : List LockInfo) (l : Listed r from old
   }
 
 -- with nothing left, they are the row's regions
-pub listed-end : (r : Row) (from : ℕ) (old new : List LockInfo) → Listed r from old new → NothingFrom (value_at r.spans) from → (more : List LockInfo) × (new ≡ old ++ more) × ListsRegions (locks_of r) more
+pub listed-end : (r : OwnerLocks) (from : ℕ) (old new : List LockInfo) → Listed r from old new → NothingFrom (value_at r.spans) from → (more : List LockInfo) × (new ≡ old ++ more) × ListsRegions (locks_of r) more
 listed-end r from old new l none = (
   l.more,
   l.is,

@@ -11,7 +11,7 @@ use Rattle.model.specs.declared.mode.Mode.{Mode}
 use Rattle.model.specs.declared.owner.Owner.{Owner}
 use Rattle.model.specs.Locks.{FileLocks, Locks, replace, without_owner_anywhere}
 use Rattle.model.specs.Owners.{same_owner}
-use Rattle.lock_table.specs.declared.row.Row.{Row}
+use Rattle.lock_table.specs.declared.owner_locks.OwnerLocks.{OwnerLocks}
 use Rattle.lock_table.specs.declared.page_index.PageIndex.{PageIndex}
 use Rattle.lock_table.specs.Rows.{held, AreRows, IsBounded}
 use Rattle.lock_table.proofs.RowLemmas.{is_of, row_place, row_at_from, held-at}
@@ -31,7 +31,7 @@ run-step runs i d b m lt at =
     ]
 
 -- a byte of the rows that are left is one of the first of them, or of the others
-pub row-step : (rows : List Row) (i : ℕ) (r : Row) (f : ℕ) (o : Owner) (b : ℕ) (m : Mode) → i < length rows → r ≡ get_or rows i r → held (drop i rows) f o b ≡ Some m → ((r.file ≡ f) × (r.owner ≡ o) × (value_at r.spans b ≡ Some m)) ⊎ (held (drop (i + 1) rows) f o b ≡ Some m)
+pub row-step : (rows : List OwnerLocks) (i : ℕ) (r : OwnerLocks) (f : ℕ) (o : Owner) (b : ℕ) (m : Mode) → i < length rows → r ≡ get_or rows i r → held (drop i rows) f o b ≡ Some m → ((r.file ≡ f) × (r.owner ≡ o) × (value_at r.spans b ≡ Some m)) ⊎ (held (drop (i + 1) rows) f o b ≡ Some m)
 unfolding held
 row-step rows i r f o b m lt is at =
     let split : held (r ∷ drop (i + 1) rows) f o b ≡ Some m = rw (drop_read rows i r lt is) at at in
@@ -44,7 +44,7 @@ pub runs-end : (runs : List (Run Mode)) (i b : ℕ) (m : Mode) → length runs �
 unfolding value_at
 runs-end runs i b m le at = let none : None ≡ Some m = rw (drop_all i runs le) at at in absurd cc
 
-pub rows-end : (rows : List Row) (i f : ℕ) (o : Owner) (b : ℕ) (m : Mode) → length rows ≤ i → held (drop i rows) f o b ≡ Some m → ⊥
+pub rows-end : (rows : List OwnerLocks) (i f : ℕ) (o : Owner) (b : ℕ) (m : Mode) → length rows ≤ i → held (drop i rows) f o b ≡ Some m → ⊥
 unfolding held
 rows-end rows i f o b m le at = let none : None ≡ Some m = rw (drop_all i rows le) at at in absurd cc
 
@@ -84,11 +84,11 @@ covers-changed x y h g file owner old new is covers keeps before noted f o b m a
     ]
 
 -- a row holds what the rows hold at its place
-pub row_held : (l : List Row) (i : ℕ) (r : Row) → AreRows l → i < length l → r ≡ get_or l i r → held l r.file r.owner ≡ value_at r.spans
+pub row_held : (l : List OwnerLocks) (i : ℕ) (r : OwnerLocks) → AreRows l → i < length l → r ≡ get_or l i r → held l r.file r.owner ≡ value_at r.spans
 row_held l i r rows lt is = held-at l i r.file r.owner r (row_at_from l i r.file r.owner rows lt (λ d. rw (get_or_default l i d r lt, ← is) (place_itself r.file r.owner))) is
 
 -- an owner that is not near holds no byte of the span
-pub none_near : (x : PageIndex) (near : OwnerSet) (rows part : List Row) (file i : ℕ) (r : Row) (s : Range) → Covers x (held rows) → ((o : Owner) (b : ℕ) → s.lo ≤ b → b ≤ s.hi → MayHold x file o b → Has near o) → held part file ≡ held rows file → AreRows part → All (λ (t : Row). t.file ≡ file) part → i < length part → r ≡ get_or part i r → (Has near r.owner → ⊥) → (b : ℕ) (m : Mode) → s.lo ≤ b → b ≤ s.hi → value_at r.spans b ≡ Some m → ⊥
+pub none_near : (x : PageIndex) (near : OwnerSet) (rows part : List OwnerLocks) (file i : ℕ) (r : OwnerLocks) (s : Range) → Covers x (held rows) → ((o : Owner) (b : ℕ) → s.lo ≤ b → b ≤ s.hi → MayHold x file o b → Has near o) → held part file ≡ held rows file → AreRows part → All (λ (t : OwnerLocks). t.file ≡ file) part → i < length part → r ≡ get_or part i r → (Has near r.owner → ⊥) → (b : ℕ) (m : Mode) → s.lo ≤ b → b ≤ s.hi → value_at r.spans b ≡ Some m → ⊥
 none_near x near rows part file i r s covers nearby same order files lt is away b m low high at =
     let of_file : r.file ≡ file = rw (← is) at (files i r lt) in
     let own : held part file r.owner ≡ value_at r.spans = rw (← of_file) (row_held part i r order lt is) in

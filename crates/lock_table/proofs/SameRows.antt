@@ -9,7 +9,7 @@ use Rattle.intervals.specs.Bytes.{nothing}
 use Rattle.intervals.specs.Runs.{value_at}
 use Rattle.model.specs.declared.owner.Owner.{Owner}
 use Rattle.model.specs.Owners.{same_owner}
-use Rattle.lock_table.specs.declared.row.Row.{Row}
+use Rattle.lock_table.specs.declared.owner_locks.OwnerLocks.{OwnerLocks}
 use Rattle.lock_table.specs.Rows.{held, row_cmp, AllAfter, AreRows, IsSameRow}
 use Rattle.lock_table.proofs.Orders.{place_cmp, places_total, place_equal, owner_refl, back_greater}
 use Rattle.lock_table.proofs.RowLemmas.{is_of, row_place, all_after_trans, held-none}
@@ -19,12 +19,12 @@ pub drop_read : {A : Type 0} (l : List A) (i : ℕ) (x : A) → i < length l →
 drop_read l i x lt is = drop_more l i x lt ∙ rw (← is) refl
 
 -- the first row has the locks of its place
-pub held_first : (r : Row) (rest : List Row) → held (r ∷ rest) r.file r.owner ≡ value_at r.spans
+pub held_first : (r : OwnerLocks) (rest : List OwnerLocks) → held (r ∷ rest) r.file r.owner ≡ value_at r.spans
 unfolding held
 held_first r rest = let itself : is_of r r.file r.owner ≡ true = and_from (eqb r.file r.file) (same_owner r.owner r.owner) (eq-eqb r.file r.file refl) (owner_refl r.owner) in rw itself refl
 
 -- rows that are the same one by one hold the same locks
-pub same_held : (a b : List Row) → AllZip IsSameRow a b → (f : ℕ) (o : Owner) → held a f o ≡ held b f o
+pub same_held : (a b : List OwnerLocks) → AllZip IsSameRow a b → (f : ℕ) (o : Owner) → held a f o ≡ held b f o
 unfolding held
 same_held [] [] h f o = refl
 same_held [] (s ∷ b) h f o = absurd h
@@ -37,12 +37,12 @@ cases_ordering Equal = inr (inl refl)
 cases_ordering Greater = inr (inr refl)
 
 -- past the first row, at another place
-held_past : (r : Row) (rest : List Row) (f : ℕ) (o : Owner) → is_of r f o ≡ false → held (r ∷ rest) f o ≡ held rest f o
+held_past : (r : OwnerLocks) (rest : List OwnerLocks) (f : ℕ) (o : Owner) → is_of r f o ≡ false → held (r ∷ rest) f o ≡ held rest f o
 unfolding held
 held_past r rest f o differ = rw differ refl
 
 -- and rows that hold the same locks are the same one by one
-pub held_same : (a b : List Row) → AreRows a → AreRows b → ((f : ℕ) (o : Owner) → held a f o ≡ held b f o) → AllZip IsSameRow a b
+pub held_same : (a b : List OwnerLocks) → AreRows a → AreRows b → ((f : ℕ) (o : Owner) → held a f o ≡ held b f o) → AllZip IsSameRow a b
 unfolding held
 held_same [] [] p q e = tt
 held_same [] (s ∷ b) p q e = absurd (q.0.some (sym (held_first s b) ∙ sym (e s.file s.owner)))
@@ -74,14 +74,14 @@ held_same (r ∷ a) (s ∷ b) p q e = elim (cases_ordering (row_cmp r s.file s.o
     ]
 
 -- whether rows are the same one by one is whether those that are left are
-pub record Left (a b : List Row) (i : ℕ) : Type 0 where
+pub record Left (a b : List OwnerLocks) (i : ℕ) : Type 0 where
   pub to : AllZip IsSameRow (drop i a) (drop i b) → AllZip IsSameRow a b
   pub from : AllZip IsSameRow a b → AllZip IsSameRow (drop i a) (drop i b)
 
-pub left-start : (a b : List Row) → Left a b 0
+pub left-start : (a b : List OwnerLocks) → Left a b 0
 left-start a b = record { to = λ h. h; from = λ h. h }
 
-module _ (a b : List Row) (i : ℕ) (x y : Row) (in_a : i < length a) (in_b : i < length b) (is_x : x ≡ get_or a i x) (is_y : y ≡ get_or b i y) (left : Left a b i) where
+module _ (a b : List OwnerLocks) (i : ℕ) (x y : OwnerLocks) (in_a : i < length a) (in_b : i < length b) (is_x : x ≡ get_or a i x) (is_y : y ≡ get_or b i y) (left : Left a b i) where
   pub left-more : IsSameRow x y → Left a b (i + 1)
   left-more same = record {
     to = λ h. left.to (rw (drop_read a i x in_a is_x, drop_read b i y in_b is_y) (same, h));
@@ -91,10 +91,10 @@ module _ (a b : List Row) (i : ℕ) (x y : Row) (in_a : i < length a) (in_b : i 
   pub left-differ : (IsSameRow x y → ⊥) → AllZip IsSameRow a b → ⊥
   left-differ differ h = differ (rw (drop_read a i x in_a is_x, drop_read b i y in_b is_y) at (left.from h)).0
 
-pub left-end : (a b : List Row) (i : ℕ) → length a ≤ i → length b ≤ i → Left a b i → AllZip IsSameRow a b
+pub left-end : (a b : List OwnerLocks) (i : ℕ) → length a ≤ i → length b ≤ i → Left a b i → AllZip IsSameRow a b
 left-end a b i le_a le_b left = left.to (rw (drop_all i a le_a, drop_all i b le_b) tt)
 
-pub same_length : (a b : List Row) → AllZip IsSameRow a b → length a ≡ length b
+pub same_length : (a b : List OwnerLocks) → AllZip IsSameRow a b → length a ≡ length b
 same_length [] [] h = refl
 same_length [] (s ∷ b) h = absurd h
 same_length (r ∷ a) [] h = absurd h

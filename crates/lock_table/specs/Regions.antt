@@ -4,14 +4,14 @@ use Rattle.intervals.specs.Bytes.{Range, greatest, IsBarred, IsFirstIn, IsRun}
 use Rattle.intervals.specs.Runs.{value_at}
 use Rattle.model.specs.declared.mode.Mode.{Mode}
 use Rattle.model.specs.declared.lock_info.LockInfo.{LockInfo}
-use Rattle.lock_table.specs.declared.row.Row.{Row}
+use Rattle.lock_table.specs.declared.owner_locks.OwnerLocks.{OwnerLocks}
 
 -- the bytes from the first on
 abbrev pub rest_from : ℕ → Range
 rest_from first = record { lo = first; hi = greatest }
 
 -- the lock is the row's region that has the first barred byte of the span
-pub record IsFirstRegion (r : Row) (within : Range) (bar : Option Mode) (lock : LockInfo) : Type 0 where
+pub record IsFirstRegion (r : OwnerLocks) (within : Range) (bar : Option Mode) (lock : LockInfo) : Type 0 where
   pub owner : lock.owner ≡ r.owner
   pub region : IsRun (value_at r.spans) lock.span lock.mode
   pub byte : ℕ

@@ -9,15 +9,15 @@ use Rattle.model.specs.Locks.{FileLocks, Locks, no_locks, replace}
 use Rattle.model.specs.Owners.{same_owner, owner_cmp}
 use Rattle.model.specs.declared.mode.Mode.{Mode}
 use Rattle.model.specs.declared.owner.Owner.{Owner}
-use Rattle.lock_table.specs.declared.row.Row.{Row}
+use Rattle.lock_table.specs.declared.owner_locks.OwnerLocks.{OwnerLocks}
 
 -- the locks that the rows hold: of an owner in a file those of its first row
-unfoldable pub held : List Row → Locks
+unfoldable pub held : List OwnerLocks → Locks
 held [] = no_locks
 held (r ∷ rest) = replace (held rest) r.file r.owner (value_at r.spans)
 
 -- where a row stands to the place of an owner in a file: by file, then by owner
-abbrev pub row_cmp : Row → ℕ → Owner → Ordering
+abbrev pub row_cmp : OwnerLocks → ℕ → Owner → Ordering
 row_cmp r file owner = ordering_then (nat_cmp r.file file) (owner_cmp r.owner owner)
 
 -- no byte past the greatest offset is held
@@ -34,37 +34,37 @@ pub record HoldsSome (f : ℕ → Option Mode) : Type 0 where
   pub bounded : IsBounded f
 
 -- each row stands after the place of the owner in the file
-abbrev pub AllAfter : ℕ → Owner → List Row → Type 0
+abbrev pub AllAfter : ℕ → Owner → List OwnerLocks → Type 0
 AllAfter file owner [] = Unit {0}
 AllAfter file owner (r ∷ rest) = (row_cmp r file owner ≡ Greater) × AllAfter file owner rest
 
 -- rows stand by file and then by owner, each owner has one at most in a file, and each row holds some byte
-abbrev pub AreRows : List Row → Type 0
+abbrev pub AreRows : List OwnerLocks → Type 0
 AreRows [] = Unit {0}
 AreRows (r ∷ rest) = HoldsSome (value_at r.spans) × AllAfter r.file r.owner rest × AreRows rest
 
 -- the row at place i is that of the owner in the file
-abbrev pub IsRowAt : List Row → ℕ → ℕ → Owner → Type 0
+abbrev pub IsRowAt : List OwnerLocks → ℕ → ℕ → Owner → Type 0
 IsRowAt [] i file owner = ⊥
 IsRowAt (r ∷ rest) zero file owner = row_cmp r file owner ≡ Equal
 IsRowAt (r ∷ rest) (suc i) file owner = (row_cmp r file owner ≡ Less) × IsRowAt rest i file owner
 
 -- no row is of the owner in the file, and one would stand at place i
-abbrev pub IsGap : List Row → ℕ → ℕ → Owner → Type 0
+abbrev pub IsGap : List OwnerLocks → ℕ → ℕ → Owner → Type 0
 IsGap rows zero file owner = AllAfter file owner rows
 IsGap [] (suc i) file owner = ⊥
 IsGap (r ∷ rest) (suc i) file owner = (row_cmp r file owner ≡ Less) × IsGap rest i file owner
 
 -- where the owner has no row in the file, there is room for all rows and one more
-abbrev pub HasRoom : List Row → ℕ → Owner → ℕ → Type 0
+abbrev pub HasRoom : List OwnerLocks → ℕ → Owner → ℕ → Type 0
 HasRoom rows file owner capacity = (i : ℕ) → IsGap rows i file owner → length rows < capacity
 
 -- the locks of one row, in its file
-abbrev pub locks_of : Row → FileLocks
+abbrev pub locks_of : OwnerLocks → FileLocks
 locks_of r = replace no_locks r.file r.owner (value_at r.spans) r.file
 
 -- both rows are of one owner in one file, and hold the same
-pub record IsSameRow (a b : Row) : Type 0 where
+pub record IsSameRow (a b : OwnerLocks) : Type 0 where
   pub file : a.file ≡ b.file
   pub owner : a.owner ≡ b.owner
   pub bytes : value_at a.spans ≡ value_at b.spans

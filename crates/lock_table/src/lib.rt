@@ -6,9 +6,9 @@ pub mod flag_set;
 pub mod laws;
 pub mod lock_table;
 pub mod order;
+pub mod owner_locks;
 pub mod owner_set;
 pub mod page_index;
-pub mod row;
 
 pub use model::lock_info::LockInfo;
 pub use model::mode::Mode;

@@ -16,7 +16,7 @@ use crate::error::LockError;
 use crate::flag_set::FlagSet;
 use crate::order::{cmp_regions, lowest_of};
 use crate::page_index::PageIndex;
-use crate::row::{Row, Spans};
+use crate::owner_locks::{OwnerLocks, Spans};
 use intervals::span::Span;
 use intervals::span_map::{NoMemory, SpanMap};
 use model::limits::MOST_REGIONS;
@@ -34,17 +34,17 @@ const LEAST_ROWS: usize = 64;
 /// that answers an error leaves the locks as they were.
 #[derive(Drop)]
 pub struct LockTable {
-    rows: Vec<Row>,
+    rows: Vec<OwnerLocks>,
     index: PageIndex,
 }
 
 impl Model for LockTable {
     ghost use Rattle.std.specs.Prelude.{List};
-    ghost use Rattle.lock_table.specs.declared.row.Row.{Row};
+    ghost use Rattle.lock_table.specs.declared.owner_locks.OwnerLocks.{OwnerLocks};
     ghost use Rattle.lock_table.specs.Rows.{AreRows, held};
     ghost use Rattle.lock_table.specs.Pages.{Covers};
 
-    ghost Value = { List Row };
+    ghost Value = { List OwnerLocks };
 
     ghost view = { λ t. t.rows.items };
 
@@ -52,7 +52,7 @@ impl Model for LockTable {
 }
 
 // The place of the row of an owner in a file, or where one belongs.
-fn position(rows: &[Row], file: u16, owner: Owner) -> Result<usize, usize>
+fn position(rows: &[OwnerLocks], file: u16, owner: Owner) -> Result<usize, usize>
     requires { AreRows rows.now }
     ensures { MatchResult result (λ i. IsRowAt rows.now i file owner) (λ i. IsGap rows.now i file owner) }
 {
@@ -60,7 +60,7 @@ fn position(rows: &[Row], file: u16, owner: Owner) -> Result<usize, usize>
 }
 
 // The rows of a file.
-fn rows_of(rows: &[Row], file: u16) -> &[Row]
+fn rows_of(rows: &[OwnerLocks], file: u16) -> &[OwnerLocks]
     requires { AreRows rows.now }
     ensures rows { AreRows result.now }
     ensures file { All (λ row. row.file ≡ file) result.now }
@@ -72,7 +72,7 @@ fn rows_of(rows: &[Row], file: u16) -> &[Row]
 }
 
 // Whether the rows are the same one by one.
-fn same_rows(rows: &[Row], others: &[Row]) -> bool
+fn same_rows(rows: &[OwnerLocks], others: &[OwnerLocks]) -> bool
     ensures { IsTrue result ↔ AllZip IsSameRow rows.now others.now }
 {
     if rows.len() != others.len() {
@@ -94,12 +94,12 @@ pub struct LockEdit {
     pub file: u16,
     pub owner: Owner,
     pub spans: Spans,
-    pub room: Vec<Row>,
+    pub room: Vec<OwnerLocks>,
     pub index: PageIndex,
 }
 
 // Moves the rows to the list that has room for them.
-fn move_rows(rows: &mut Vec<Row>, room: Vec<Row>)
+fn move_rows(rows: &mut Vec<OwnerLocks>, room: Vec<OwnerLocks>)
     requires empty { room.items ≡ [] }
     requires room { length rows.old.items ≤ vec_capacity room }
     ensures items { rows.new.items ≡ rows.old.items }
@@ -112,7 +112,7 @@ fn move_rows(rows: &mut Vec<Row>, room: Vec<Row>)
 }
 
 // One more row, for which there is room.
-fn insert_row(rows: &mut Vec<Row>, place: usize, row: Row)
+fn insert_row(rows: &mut Vec<OwnerLocks>, place: usize, row: OwnerLocks)
     requires place { place ≤ length rows.old.items }
     requires room { length rows.old.items < vec_capacity rows.old }
     ensures { rows.new.items ≡ insert rows.old.items place row }
@@ -203,7 +203,7 @@ impl LockTable {
     }
 
     // An empty list with room for all rows and one more, where the owner has no row in the file.
-    fn room_for(&self, file: u16, owner: Owner) -> Result<Vec<Row>, NoMemory>
+    fn room_for(&self, file: u16, owner: Owner) -> Result<Vec<OwnerLocks>, NoMemory>
         ensures empty { IfOk result (λ room. room.items ≡ []) }
         ensures room { IfOk result (λ room. HasRoom self.now file owner (vec_capacity room)) }
     {
@@ -277,7 +277,7 @@ impl LockTable {
     }
 
     // Puts spans that hold some byte in place of what an owner holds in a file. Takes no memory.
-    fn put_spans(&mut self, file: u16, owner: Owner, spans: Spans, room: Vec<Row>)
+    fn put_spans(&mut self, file: u16, owner: Owner, spans: Spans, room: Vec<OwnerLocks>)
         requires some { HoldsSome (value_at spans) }
         requires empty { room.items ≡ [] }
         requires room { HasRoom self.old file owner (vec_capacity room) }
@@ -294,7 +294,7 @@ impl LockTable {
                 let nothing = Spans::new(*self.rows.allocator());
                 self.index.note_change(file, owner, &nothing, &spans);
                 move_rows(&mut self.rows, room);
-                insert_row(&mut self.rows, i, Row { file, owner, spans });
+                insert_row(&mut self.rows, i, OwnerLocks { file, owner, spans });
             }
         }
     }

@@ -8,7 +8,7 @@ ghost use Rattle.lock_table.specs.Pages.{Has, HasFlag, HasFile, MayHold, HasPage
 
 use crate::flag_set::FlagSet;
 use crate::owner_set::{OwnerSet, flag_of};
-use crate::row::{Row, Spans};
+use crate::owner_locks::{OwnerLocks, Spans};
 use intervals::run::Run;
 use intervals::span::{GREATEST, Span};
 use intervals::span_map::NoMemory;
@@ -213,7 +213,7 @@ impl PageIndex {
     }
 
     // Notes what a row holds.
-    fn note_row(&mut self, row: &Row)
+    fn note_row(&mut self, row: &OwnerLocks)
         requires kept { IsKept self.old }
         requires bounded { IsBounded (value_at row.now.spans) }
         ensures kept { IsKept self.new }
@@ -228,7 +228,7 @@ impl PageIndex {
     }
 
     /// Forgets all, and notes what the rows hold.
-    pub(crate) fn renew(&mut self, rows: &[Row])
+    pub(crate) fn renew(&mut self, rows: &[OwnerLocks])
         requires { AreRows rows.now }
         ensures { Covers self.new (held rows.now) }
     {

@@ -14,7 +14,7 @@ use Rattle.model.specs.Limits.{IsNumber, most_processes}
 use Rattle.model.specs.Owners.{same_owner, process_owner, description_owner}
 use Rattle.model.specs.Locks.{without_owner, without_owner_anywhere}
 use Rattle.model.specs.Descriptors.{Processes, with_process, with_descriptor, is_open}
-use Rattle.model.specs.Table.{Table, Target, around, descriptor, is_running, beside, with_processes, target, lock_within, closed, closed_at, exited}
+use Rattle.model.specs.Table.{Table, LockTarget, around, descriptor, is_running, beside, with_processes, target, lock_within, closed, closed_at, exited}
 use Rattle.model.specs.Anchors.{IsAnchored, IsOwn}
 use Rattle.model.specs.Step.{Step, AfterTests, SetStep, WaitStep, QueryStep}
 use Rattle.model.specs.Laws.{ClosedFileHasNoLock, LastCloseDropsLocks, HasGone, ExitLeavesNothing, IsChild, sibling, ForkSharesDescriptions, CallsKeepAnchors}
@@ -127,11 +127,11 @@ fork_shares t u p child a step =
     ] step.1
 
 -- the tests of a lock call
-tested : (t u : Table) (n i : ℕ) (found : Result Target Reply) (reply : Reply) (Answer : Target → Type 0) → IsOwn t n i → ((c : Target) → found ≡ Ok c → Answer c → IsOwn u n i) → AfterTests t found reply u Answer → IsOwn u n i
+tested : (t u : Table) (n i : ℕ) (found : Result LockTarget Reply) (reply : Reply) (Answer : LockTarget → Type 0) → IsOwn t n i → ((c : LockTarget) → found ≡ Ok c → Answer c → IsOwn u n i) → AfterTests t found reply u Answer → IsOwn u n i
 tested t u n i (Err refusal) reply Answer own answers h = subst (λ (x : Table). IsOwn x n i) (sym h.1) own
 tested t u n i (Ok c) reply Answer own answers h = answers c refl h
 
-set_own : (t u : Table) (p : Process) (mode : Mode) (reply : Reply) (fd : ℕ) (kind : Kind) (start len : ℤ) (c : Target) → IsNumber most_processes p.pid → IsOwn t p.node p.incarnation → target t p (Some mode) fd kind start len ≡ Ok c → SetStep t mode reply u c → IsOwn u p.node p.incarnation
+set_own : (t u : Table) (p : Process) (mode : Mode) (reply : Reply) (fd : ℕ) (kind : Kind) (start len : ℤ) (c : LockTarget) → IsNumber most_processes p.pid → IsOwn t p.node p.incarnation → target t p (Some mode) fd kind start len ≡ Ok c → SetStep t mode reply u c → IsOwn u p.node p.incarnation
 set_own t u p mode reply fd kind start len c pid_in own found = by reply
   where
     after : IsOwn (lock_within t c (Some mode)).0 p.node p.incarnation
@@ -146,13 +146,13 @@ set_own t u p mode reply fd kind start len c pid_in own found = by reply
     by NoLocks h = to (lock_within t c (Some mode)).0 h.1.1 after
     by _ h = absurd h
 
-wait_own : (t u : Table) (p : Process) (mode : Mode) (reply : Reply) (fd : ℕ) (kind : Kind) (start len : ℤ) (c : Target) → IsNumber most_processes p.pid → IsOwn t p.node p.incarnation → target t p (Some mode) fd kind start len ≡ Ok c → WaitStep t mode reply u c → IsOwn u p.node p.incarnation
+wait_own : (t u : Table) (p : Process) (mode : Mode) (reply : Reply) (fd : ℕ) (kind : Kind) (start len : ℤ) (c : LockTarget) → IsNumber most_processes p.pid → IsOwn t p.node p.incarnation → target t p (Some mode) fd kind start len ≡ Ok c → WaitStep t mode reply u c → IsOwn u p.node p.incarnation
 wait_own t u p mode Interrupted fd kind start len c pid_in own found h = subst (λ (x : Table). IsOwn x p.node p.incarnation) (sym h) own
 wait_own t u p mode Done fd kind start len c pid_in own found h = set_own t u p mode Done fd kind start len c pid_in own found h
 wait_own t u p mode NoLocks fd kind start len c pid_in own found h = set_own t u p mode NoLocks fd kind start len c pid_in own found h
 wait_own t u p mode _ fd kind start len c pid_in own found h = absurd h
 
-query_own : (t u : Table) (n i : ℕ) (mode : Mode) (reply : Reply) (c : Target) → IsOwn t n i → QueryStep t mode reply u c → IsOwn u n i
+query_own : (t u : Table) (n i : ℕ) (mode : Mode) (reply : Reply) (c : LockTarget) → IsOwn t n i → QueryStep t mode reply u c → IsOwn u n i
 query_own t u n i mode (Blocked lock) c own h = subst (λ (x : Table). IsOwn x n i) (sym h.1) own
 query_own t u n i mode Free c own h = subst (λ (x : Table). IsOwn x n i) (sym h.1) own
 query_own t u n i mode _ c own h = absurd h

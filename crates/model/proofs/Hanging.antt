@@ -12,7 +12,7 @@ use Rattle.model.specs.declared.process.Process.{Process}
 use Rattle.model.specs.declared.reply.Reply.TheVariants.{NoProcess}
 use Rattle.model.specs.Locks.{Locks}
 use Rattle.model.specs.Descriptors.{Processes, no_processes}
-use Rattle.model.specs.Table.{Table, Target, is_running, descriptor, target, target_at, owner_of}
+use Rattle.model.specs.Table.{Table, LockTarget, is_running, descriptor, target, target_at, owner_of}
 use Rattle.model.specs.Anchors.{Hangs, AreAnchored}
 use Rattle.model.proofs.Refusals.{if_then}
 use Rattle.model.proofs.Targets.{passes_at}
@@ -31,11 +31,11 @@ hangs_on file OfProcess number before after stays (fd, x, h, of) = (fd, x, stays
 hangs_on file OfDescription number before after stays (q, fd, x, h, description, of) = (q, fd, x, stays q fd x h, description, of)
 
 -- a lock call that passes its tests is about a lock that would hang on its descriptor
-pub target_hangs : (t : Table) (p : Process) (need : Option Mode) (fd : ℕ) (kind : Kind) (start len : ℤ) (c : Target) → target t p need fd kind start len ≡ Ok c → Hangs (t.on p.node p.incarnation) c.file c.owner.kind c.owner.number
+pub target_hangs : (t : Table) (p : Process) (need : Option Mode) (fd : ℕ) (kind : Kind) (start len : ℤ) (c : LockTarget) → target t p need fd kind start len ≡ Ok c → Hangs (t.on p.node p.incarnation) c.file c.owner.kind c.owner.number
 target_hangs t p need fd kind start len c h =
     let runs = if_then (is_running t p) (target_at p need kind (descriptor t p fd) (seg start len)) c NoProcess h in
     let passes = passes_at p need kind (descriptor t p fd) (seg start len) c runs.1 in
-    subst (λ (x : Target). Hangs (t.on p.node p.incarnation) x.file x.owner.kind x.owner.number) passes.is (its kind passes.what passes.there)
+    subst (λ (x : LockTarget). Hangs (t.on p.node p.incarnation) x.file x.owner.kind x.owner.number) passes.is (its kind passes.what passes.there)
   where
     its : (k : Kind) (o : Opened) → descriptor t p fd ≡ Some o → Hangs (t.on p.node p.incarnation) o.file (owner_of p k o).kind (owner_of p k o).number
     its OfProcess o there = (fd, o, there, refl)

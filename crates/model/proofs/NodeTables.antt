@@ -19,7 +19,7 @@ use Rattle.model.specs.Limits.{IsNumber, most_processes, most_descriptors, most_
 use Rattle.model.specs.Owners.{same_owner, owner_at, most_owners}
 use Rattle.model.specs.Locks.{Locks, IsOfNode, with_lock}
 use Rattle.model.specs.Descriptors.{Processes, with_process, with_descriptor, is_of, is_open, lowest_fd, lowest_description, after_spawn, after_fork, after_open, after_dup, again_on, on_lowest_fd}
-use Rattle.model.specs.Table.{Table, Target, empty_table, target, beside, with_processes, lock_within, locked, regions_with, after_unlock}
+use Rattle.model.specs.Table.{Table, LockTarget, empty_table, target, beside, with_processes, lock_within, locked, regions_with, after_unlock}
 use Rattle.model.specs.Anchors.{Hangs, AreAnchored, IsOwn}
 use Rattle.model.proofs.OwnerLaws.{owner_exact}
 use Rattle.model.proofs.SearchLaws.{some_passes-found}
@@ -265,12 +265,12 @@ locked_of_node h file f c s mode node incarnation place place_in owner within ow
 }
 
 -- a change of locks leaves the processes
-pub lock_processes : (t : Table) (c : Target) (mode : Option Mode) → (lock_within t c mode).0.on ≡ t.on
+pub lock_processes : (t : Table) (c : LockTarget) (mode : Option Mode) → (lock_within t c mode).0.on ≡ t.on
 lock_processes t c mode =
     let out : Bool → Table × Reply = λ b. if b then (locked t c mode, Done) else (t, NoLocks) in
     elim (nat_le (regions_with t c mode) most_regions) as (λ b. (out b).0.on ≡ t.on) [ true ↦ refl | false ↦ refl ]
 
-pub lock_own : (t : Table) (node incarnation : ℕ) (c : Target) (mode : Option Mode) → IsTarget node incarnation c → Hangs (t.on node incarnation) c.file c.owner.kind c.owner.number → IsOwn t node incarnation → IsOwn (lock_within t c mode).0 node incarnation
+pub lock_own : (t : Table) (node incarnation : ℕ) (c : LockTarget) (mode : Option Mode) → IsTarget node incarnation c → Hangs (t.on node incarnation) c.file c.owner.kind c.owner.number → IsOwn t node incarnation → IsOwn (lock_within t c mode).0 node incarnation
 lock_own t node incarnation c mode is hangs own =
     let out : Bool → Table × Reply = λ b. if b then (locked t c mode, Done) else (t, NoLocks) in
     elim (nat_le (regions_with t c mode) most_regions) as (λ b. IsOwn (out b).0 node incarnation) [
@@ -299,7 +299,7 @@ lock_own t node incarnation c mode is hangs own =
 pub locks_follow : (t u : Table) (node incarnation pid : ℕ) → u.on ≡ t.on → IsOwn u node incarnation → Follows t u node incarnation pid
 locks_follow t u node incarnation pid same own = record { own = own; others = λ qid other. same_goes_on (t.on node incarnation) (u.on node incarnation) qid (ap (λ (on : ℕ → ℕ → Processes). on node incarnation) same) }
 
-pub target_own : (t : Table) (node incarnation pid : ℕ) (need : Option Mode) (fd : ℕ) (kind : Kind) (start len : ℤ) (c : Target) → IsNumber most_processes pid → IsOwn t node incarnation → target t (record { node = node; incarnation = incarnation; pid = pid }) need fd kind start len ≡ Ok c → IsTarget node incarnation c
+pub target_own : (t : Table) (node incarnation pid : ℕ) (need : Option Mode) (fd : ℕ) (kind : Kind) (start len : ℤ) (c : LockTarget) → IsNumber most_processes pid → IsOwn t node incarnation → target t (record { node = node; incarnation = incarnation; pid = pid }) need fd kind start len ≡ Ok c → IsTarget node incarnation c
 target_own t node incarnation pid need fd kind start len c pid_in own h = target_is t (record { node = node; incarnation = incarnation; pid = pid }) need fd kind start len c pid_in (λ o e. own.descriptions pid fd o e) h
 
 pub unlock_follows : (t : Table) (node incarnation pid fd : ℕ) (kind : Kind) (start len : ℤ) → IsNumber most_processes pid → IsOwn t node incarnation → Follows t (after_unlock t (target t (record { node = node; incarnation = incarnation; pid = pid }) None fd kind start len)).0 node incarnation pid
@@ -311,5 +311,5 @@ unlock_follows t node incarnation pid fd kind start len pid_in own =
       | Err refusal ↦ λ h. same_follows t node incarnation pid own
     ] refl
 
-pub target_goes_on : (t u : Table) (node incarnation pid : ℕ) (need : Option Mode) (fd : ℕ) (kind : Kind) (start len : ℤ) (c : Target) → GoesOn (t.on node incarnation) (u.on node incarnation) pid → target t (record { node = node; incarnation = incarnation; pid = pid }) need fd kind start len ≡ Ok c → target u (record { node = node; incarnation = incarnation; pid = pid }) need fd kind start len ≡ Ok c
+pub target_goes_on : (t u : Table) (node incarnation pid : ℕ) (need : Option Mode) (fd : ℕ) (kind : Kind) (start len : ℤ) (c : LockTarget) → GoesOn (t.on node incarnation) (u.on node incarnation) pid → target t (record { node = node; incarnation = incarnation; pid = pid }) need fd kind start len ≡ Ok c → target u (record { node = node; incarnation = incarnation; pid = pid }) need fd kind start len ≡ Ok c
 target_goes_on t u node incarnation pid need fd kind start len c g h = target-keeps t u (record { node = node; incarnation = incarnation; pid = pid }) need fd kind start len c g.runs (λ o runs e. g.opened fd o e) h

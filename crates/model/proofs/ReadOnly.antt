@@ -8,7 +8,7 @@ use Rattle.model.specs.declared.reply.Reply.{Reply}
 use Rattle.model.specs.declared.reply.Reply.TheVariants.{Done, Fd, Again, Free, Blocked, Interrupted, NoProcess, Exists, TooManyFiles, NoLocks}
 use Rattle.model.specs.Limits.{most_regions}
 use Rattle.model.specs.Descriptors.{Processes, again_on, after_spawn, after_fork, after_open, after_dup}
-use Rattle.model.specs.Table.{Table, Target, around, descriptor, is_running, beside, target, locked, lock_within, regions_with, after_unlock, closed_at, after_close, exited, after_exit}
+use Rattle.model.specs.Table.{Table, LockTarget, around, descriptor, is_running, beside, target, locked, lock_within, regions_with, after_unlock, closed_at, after_close, exited, after_exit}
 use Rattle.model.specs.Step.{Is, AfterTests, SetStep, WaitStep, QueryStep}
 use Rattle.model.specs.Laws.{TellsNoChange, OnlyDoneCallsChange}
 
@@ -41,30 +41,30 @@ lock_keeps : (t u : Table) (b : Bool) → Keeps t (if b then (u, Done) else (t, 
 lock_keeps t u true none = absurd none
 lock_keeps t u false none = refl
 
-unlock_keeps : (t : Table) (found : Result Target Reply) → Keeps t (after_unlock t found)
+unlock_keeps : (t : Table) (found : Result LockTarget Reply) → Keeps t (after_unlock t found)
 unlock_keeps t (Err refusal) = λ none. refl
 unlock_keeps t (Ok c) = lock_keeps t (locked t c None) (nat_le (regions_with t c None) most_regions)
 
 answered : (t u : Table) (answer : Table × Reply) (reply : Reply) → Keeps t answer → TellsNoChange reply → Is answer reply u → u ≡ t
 answered t u answer reply keeps none h = h.1 ∙ keeps (subst TellsNoChange h.0 none)
 
-tested : (t u : Table) (found : Result Target Reply) (reply : Reply) (Answer : Target → Type 0) → ((c : Target) → Answer c → u ≡ t) → AfterTests t found reply u Answer → u ≡ t
+tested : (t u : Table) (found : Result LockTarget Reply) (reply : Reply) (Answer : LockTarget → Type 0) → ((c : LockTarget) → Answer c → u ≡ t) → AfterTests t found reply u Answer → u ≡ t
 tested t u (Err refusal) reply Answer stays h = h.1
 tested t u (Ok c) reply Answer stays h = stays c h
 
-set_stays : (t u : Table) (mode : Mode) (reply : Reply) (c : Target) → TellsNoChange reply → SetStep t mode reply u c → u ≡ t
+set_stays : (t u : Table) (mode : Mode) (reply : Reply) (c : LockTarget) → TellsNoChange reply → SetStep t mode reply u c → u ≡ t
 set_stays t u mode (Again lock) c none h = h.1
 set_stays t u mode Done c none h = absurd none
 set_stays t u mode NoLocks c none h = answered t u (lock_within t c (Some mode)) NoLocks (lock_keeps t (locked t c (Some mode)) (nat_le (regions_with t c (Some mode)) most_regions)) tt h.1
 set_stays t u mode _ c none h = absurd h
 
-wait_stays : (t u : Table) (mode : Mode) (reply : Reply) (c : Target) → TellsNoChange reply → WaitStep t mode reply u c → u ≡ t
+wait_stays : (t u : Table) (mode : Mode) (reply : Reply) (c : LockTarget) → TellsNoChange reply → WaitStep t mode reply u c → u ≡ t
 wait_stays t u mode Interrupted c none h = h
 wait_stays t u mode Done c none h = absurd none
 wait_stays t u mode NoLocks c none h = set_stays t u mode NoLocks c tt h
 wait_stays t u mode _ c none h = absurd h
 
-query_stays : (t u : Table) (mode : Mode) (reply : Reply) (c : Target) → QueryStep t mode reply u c → u ≡ t
+query_stays : (t u : Table) (mode : Mode) (reply : Reply) (c : LockTarget) → QueryStep t mode reply u c → u ≡ t
 query_stays t u mode (Blocked lock) c h = h.1
 query_stays t u mode Free c h = h.1
 query_stays t u mode _ c h = absurd h

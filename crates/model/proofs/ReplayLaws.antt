@@ -20,7 +20,7 @@ use Rattle.model.specs.declared.reply.Reply.{Reply}
 use Rattle.model.specs.declared.reply.Reply.TheVariants.{Done, Fd, Again, Free, Blocked, Interrupted, NoProcess, Exists, TooManyFiles, NoLocks}
 use Rattle.model.specs.Locks.{excludes, bars}
 use Rattle.model.specs.Descriptors.{Processes, after_spawn, after_fork, after_open, after_dup, again_on}
-use Rattle.model.specs.Table.{Table, Target, around, beside, is_running, descriptor, allows, target_at, target, lock_within, after_unlock, closed_at, exited}
+use Rattle.model.specs.Table.{Table, LockTarget, around, beside, is_running, descriptor, allows, target_at, target, lock_within, after_unlock, closed_at, exited}
 use Rattle.model.specs.Step.{BlocksCall, Unblocked, AfterTests, SetStep, WaitStep, QueryStep, IsPossible, Step}
 use Rattle.model.specs.Replay.{NeverAnswers, NamesNoLock}
 
@@ -51,11 +51,11 @@ abbrev pub IsSure : Reply → Type 0
 IsSure reply = NamesNoLock reply × (Interrupted ≢ reply)
 
 -- a call's span has a byte, and a test that fails names no lock and interrupts nothing
-abbrev pub IsTarget : Result Target Reply → Type 0
+abbrev pub IsTarget : Result LockTarget Reply → Type 0
 IsTarget (Ok c) = c.span.lo ≤ c.span.hi
 IsTarget (Err e) = IsSure e
 
-target_if : (b : Bool) (x y : Result Target Reply) → IsTarget x → IsTarget y → IsTarget (if b then x else y)
+target_if : (b : Bool) (x y : Result LockTarget Reply) → IsTarget x → IsTarget y → IsTarget (if b then x else y)
 target_if true x y p q = p
 target_if false x y p q = q
 
@@ -80,12 +80,12 @@ within-names_none : (b : Bool) (t u : Table) → NamesNone (if b then (t, Done) 
 within-names_none true t u = (λ lock. (λ e. cc, λ e. cc), λ e. cc)
 within-names_none false t u = (λ lock. (λ e. cc, λ e. cc), λ e. cc)
 
-unlock-names_none : (t : Table) (r : Result Target Reply) → IsTarget r → NamesNone (after_unlock t r)
+unlock-names_none : (t : Table) (r : Result LockTarget Reply) → IsTarget r → NamesNone (after_unlock t r)
 unlock-names_none t (Err e) h = h
 unlock-names_none t (Ok c) h = within-names_none _ _ _
 
 -- the lock of a call that is blocked, and the call
-blocked_is_not_free : (t : Table) (c : Target) (mode : Mode) (lock : LockInfo) → c.span.lo ≤ c.span.hi → BlocksCall t c mode lock → Unblocked t c mode → ⊥
+blocked_is_not_free : (t : Table) (c : LockTarget) (mode : Mode) (lock : LockInfo) → c.span.lo ≤ c.span.hi → BlocksCall t c mode lock → Unblocked t c mode → ⊥
 blocked_is_not_free t c mode lock span blocks free = elim (cases_lt c.span.lo lock.span.lo) [
   | inl above ↦ at lock.span.lo (omega arith) (let s = blocks.starts in omega arith) (omega arith) (let o = blocks.region.ordered in omega arith)
   | inr below ↦ at c.span.lo (omega arith) (omega arith) (omega arith) (let e = blocks.ends in omega arith)
@@ -96,39 +96,39 @@ blocked_is_not_free t c mode lock span blocks free = elim (cases_lt c.span.lo lo
         both_ways (excludes lock.mode mode) (sym (ap (bars mode) (blocks.region.all b from to)) ∙ free lock.owner b blocks.is_other low high) blocks.conflicts
 
 -- an answer of a call that no lock blocks
-settled : (t : Table) (mode : Mode) (b : Reply) (m : Table) (c : Target) → NamesNoLock b → SetStep t mode b m c → Unblocked t c mode × (b ≡ (lock_within t c (Some mode)).1)
+settled : (t : Table) (mode : Mode) (b : Reply) (m : Table) (c : LockTarget) → NamesNoLock b → SetStep t mode b m c → Unblocked t c mode × (b ≡ (lock_within t c (Some mode)).1)
 settled t mode (Again lock) m c none k = absurd ((none lock).0 refl)
 settled t mode Done m c none k = (k.0, k.1.0)
 settled t mode NoLocks m c none k = (k.0, k.1.0)
 settled t mode _ m c none k = absurd k
 
-set_replies : (t : Table) (mode : Mode) (a b : Reply) (n m : Table) (c : Target) → c.span.lo ≤ c.span.hi → NamesNoLock b → SetStep t mode a n c → SetStep t mode b m c → a ≡ b
+set_replies : (t : Table) (mode : Mode) (a b : Reply) (n m : Table) (c : LockTarget) → c.span.lo ≤ c.span.hi → NamesNoLock b → SetStep t mode a n c → SetStep t mode b m c → a ≡ b
 set_replies t mode (Again lock) b n m c span none h k = absurd (blocked_is_not_free t c mode lock span h.0 (settled t mode b m c none k).0)
 set_replies t mode Done b n m c span none h k = h.1.0 ∙ sym (settled t mode b m c none k).1
 set_replies t mode NoLocks b n m c span none h k = h.1.0 ∙ sym (settled t mode b m c none k).1
 set_replies t mode _ b n m c span none h k = absurd h
 
 -- an answer of a query that names no lock
-query_free : (t : Table) (mode : Mode) (b : Reply) (m : Table) (c : Target) → NamesNoLock b → QueryStep t mode b m c → Unblocked t c mode × (b ≡ Free)
+query_free : (t : Table) (mode : Mode) (b : Reply) (m : Table) (c : LockTarget) → NamesNoLock b → QueryStep t mode b m c → Unblocked t c mode × (b ≡ Free)
 query_free t mode (Blocked lock) m c none k = absurd ((none lock).1 refl)
 query_free t mode Free m c none k = (k.0, refl)
 query_free t mode _ m c none k = absurd k
 
-query_replies : (t : Table) (mode : Mode) (a b : Reply) (n m : Table) (c : Target) → c.span.lo ≤ c.span.hi → NamesNoLock b → QueryStep t mode a n c → QueryStep t mode b m c → a ≡ b
+query_replies : (t : Table) (mode : Mode) (a b : Reply) (n m : Table) (c : LockTarget) → c.span.lo ≤ c.span.hi → NamesNoLock b → QueryStep t mode a n c → QueryStep t mode b m c → a ≡ b
 query_replies t mode (Blocked lock) b n m c span none h k = absurd (blocked_is_not_free t c mode lock span h.0 (query_free t mode b m c none k).0)
 query_replies t mode Free b n m c span none h k = sym (query_free t mode b m c none k).1
 query_replies t mode _ b n m c span none h k = absurd h
 
 -- what a lock call may be answered after its tests, and the table that it then leaves
 abbrev LockAnswers : Type 1
-LockAnswers = Reply → Table → Target → Type 0
+LockAnswers = Reply → Table → LockTarget → Type 0
 
-tests_replies : (Answer : LockAnswers) (t : Table) (a b : Reply) (n m : Table) (r : Result Target Reply) → IsTarget r → ((c : Target) → c.span.lo ≤ c.span.hi → Answer a n c → Answer b m c → a ≡ b) → AfterTests t r a n (Answer a n) → AfterTests t r b m (Answer b m) → a ≡ b
+tests_replies : (Answer : LockAnswers) (t : Table) (a b : Reply) (n m : Table) (r : Result LockTarget Reply) → IsTarget r → ((c : LockTarget) → c.span.lo ≤ c.span.hi → Answer a n c → Answer b m c → a ≡ b) → AfterTests t r a n (Answer a n) → AfterTests t r b m (Answer b m) → a ≡ b
 tests_replies Answer t a b n m (Err e) is one h k = h.0 ∙ sym k.0
 tests_replies Answer t a b n m (Ok c) is one h k = one c is h k
 
 -- a wait that is not interrupted is answered as a set
-wait_is_set : (t : Table) (mode : Mode) (a : Reply) (n : Table) (c : Target) → Interrupted ≢ a → WaitStep t mode a n c → SetStep t mode a n c
+wait_is_set : (t : Table) (mode : Mode) (a : Reply) (n : Table) (c : LockTarget) → Interrupted ≢ a → WaitStep t mode a n c → SetStep t mode a n c
 wait_is_set t mode Interrupted n c sure h = absurd (sure refl)
 wait_is_set t mode Done n c sure h = h
 wait_is_set t mode NoLocks n c sure h = h
@@ -151,24 +151,24 @@ replies_are_one t p (Unlock fd kind start len) a b n m sure none h k = h.0 ∙ s
 replies_are_one t p (Query fd kind mode start len) a b n m sure none h k =
     tests_replies (QueryStep t mode) t a b n m (target t p None fd kind start len) (target-is t p None fd kind start len) (λ c span. query_replies t mode a b n m c span none.0) h k
 
-set_tables : (t : Table) (mode : Mode) (a : Reply) (n m : Table) (c : Target) → SetStep t mode a n c → SetStep t mode a m c → n ≡ m
+set_tables : (t : Table) (mode : Mode) (a : Reply) (n m : Table) (c : LockTarget) → SetStep t mode a n c → SetStep t mode a m c → n ≡ m
 set_tables t mode (Again lock) n m c h k = h.1 ∙ sym k.1
 set_tables t mode Done n m c h k = h.1.1 ∙ sym k.1.1
 set_tables t mode NoLocks n m c h k = h.1.1 ∙ sym k.1.1
 set_tables t mode _ n m c h k = absurd h
 
-wait_tables : (t : Table) (mode : Mode) (a : Reply) (n m : Table) (c : Target) → WaitStep t mode a n c → WaitStep t mode a m c → n ≡ m
+wait_tables : (t : Table) (mode : Mode) (a : Reply) (n m : Table) (c : LockTarget) → WaitStep t mode a n c → WaitStep t mode a m c → n ≡ m
 wait_tables t mode Interrupted n m c h k = h ∙ sym k
 wait_tables t mode Done n m c h k = h.1.1 ∙ sym k.1.1
 wait_tables t mode NoLocks n m c h k = h.1.1 ∙ sym k.1.1
 wait_tables t mode _ n m c h k = absurd h
 
-query_tables : (t : Table) (mode : Mode) (a : Reply) (n m : Table) (c : Target) → QueryStep t mode a n c → QueryStep t mode a m c → n ≡ m
+query_tables : (t : Table) (mode : Mode) (a : Reply) (n m : Table) (c : LockTarget) → QueryStep t mode a n c → QueryStep t mode a m c → n ≡ m
 query_tables t mode (Blocked lock) n m c h k = h.1 ∙ sym k.1
 query_tables t mode Free n m c h k = h.1 ∙ sym k.1
 query_tables t mode _ n m c h k = absurd h
 
-tests_tables : (Answer : LockAnswers) (t : Table) (a : Reply) (n m : Table) (r : Result Target Reply) → ((c : Target) → Answer a n c → Answer a m c → n ≡ m) → AfterTests t r a n (Answer a n) → AfterTests t r a m (Answer a m) → n ≡ m
+tests_tables : (Answer : LockAnswers) (t : Table) (a : Reply) (n m : Table) (r : Result LockTarget Reply) → ((c : LockTarget) → Answer a n c → Answer a m c → n ≡ m) → AfterTests t r a n (Answer a n) → AfterTests t r a m (Answer a m) → n ≡ m
 tests_tables Answer t a n m (Err e) one h k = h.1 ∙ sym k.1
 tests_tables Answer t a n m (Ok c) one h k = one c h k
 
@@ -304,7 +304,7 @@ impossible_never t p (Fork child) reply never new h = never h.0
 impossible_never t p _ reply never new h = never tt
 
 -- a test names no lock
-tests_never : (Answer : Target → Type 0) (t new : Table) (reply : Reply) (r : Result Target Reply) → IsTarget r → ((e : Reply) → IsSure e → reply ≡ e → ⊥) → ((c : Target) → Answer c → ⊥) → AfterTests t r reply new Answer → ⊥
+tests_never : (Answer : LockTarget → Type 0) (t new : Table) (reply : Reply) (r : Result LockTarget Reply) → IsTarget r → ((e : Reply) → IsSure e → reply ≡ e → ⊥) → ((c : LockTarget) → Answer c → ⊥) → AfterTests t r reply new Answer → ⊥
 tests_never Answer t new reply (Err e) is differs none h = differs e is h.0
 tests_never Answer t new reply (Ok c) is differs none h = none c h
 
@@ -335,9 +335,9 @@ query_never-interrupted t p fd kind mode start len new h =
     tests_never (QueryStep t mode Interrupted new) t new Interrupted (target t p None fd kind start len) (target-is t p None fd kind start len) (λ e no is. no.1 is) (λ c k. k) h
 
 -- nor is a call answered so that a test refuses
-refused_names : (Answer : Target → Type 0) (t new : Table) (reply : Reply) (r : Result Target Reply) (e : Reply) → r ≡ Err e → IsTarget r → AfterTests t r reply new Answer → IsSure e × (reply ≡ e)
+refused_names : (Answer : LockTarget → Type 0) (t new : Table) (reply : Reply) (r : Result LockTarget Reply) (e : Reply) → r ≡ Err e → IsTarget r → AfterTests t r reply new Answer → IsSure e × (reply ≡ e)
 refused_names Answer t new reply r e is target h =
-    let P : Result Target Reply → Type 0 = λ x. AfterTests t x reply new Answer in
+    let P : Result LockTarget Reply → Type 0 = λ x. AfterTests t x reply new Answer in
     (subst IsTarget is target, (subst P is h).0)
 
 pub refused_never : (t : Table) (p : Process) (fd : ℕ) (kind : Kind) (mode : Mode) (start len : ℤ) (lock : LockInfo) (e : Reply) → target t p (Some mode) fd kind start len ≡ Err e → NeverAnswers t p (Set fd kind mode start len) (Again lock)
@@ -356,37 +356,37 @@ refused_never-interrupted t p fd kind mode start len e is new h =
     names.0.1 names.1
 
 -- a wait that passes its tests may be interrupted
-pub interrupted-by : (t : Table) (p : Process) (fd : ℕ) (kind : Kind) (mode : Mode) (start len : ℤ) (c : Target) → target t p (Some mode) fd kind start len ≡ Ok c → Step t p (Wait fd kind mode start len) Interrupted t
+pub interrupted-by : (t : Table) (p : Process) (fd : ℕ) (kind : Kind) (mode : Mode) (start len : ℤ) (c : LockTarget) → target t p (Some mode) fd kind start len ≡ Ok c → Step t p (Wait fd kind mode start len) Interrupted t
 interrupted-by t p fd kind mode start len c is =
-    let P : Result Target Reply → Type 0 = λ r. AfterTests t r Interrupted t (WaitStep t mode Interrupted t) in
+    let P : Result LockTarget Reply → Type 0 = λ r. AfterTests t r Interrupted t (WaitStep t mode Interrupted t) in
     subst P (sym is) refl
 
 -- while it is blocked it is answered in no other way
-pub blocked-waits : (t : Table) (p : Process) (fd : ℕ) (kind : Kind) (mode : Mode) (start len : ℤ) (lock : LockInfo) (c : Target) (b : Reply) → target t p (Some mode) fd kind start len ≡ Ok c → BlocksCall t c mode lock → IsSure b → NeverAnswers t p (Wait fd kind mode start len) b
+pub blocked-waits : (t : Table) (p : Process) (fd : ℕ) (kind : Kind) (mode : Mode) (start len : ℤ) (lock : LockInfo) (c : LockTarget) (b : Reply) → target t p (Some mode) fd kind start len ≡ Ok c → BlocksCall t c mode lock → IsSure b → NeverAnswers t p (Wait fd kind mode start len) b
 blocked-waits t p fd kind mode start len lock c b is blocks sure new h =
-    let P : Result Target Reply → Type 0 = λ r. AfterTests t r b new (WaitStep t mode b new) in
+    let P : Result LockTarget Reply → Type 0 = λ r. AfterTests t r b new (WaitStep t mode b new) in
     let span : c.span.lo ≤ c.span.hi = subst IsTarget is (target-is t p (Some mode) fd kind start len) in
     blocked_is_not_free t c mode lock span blocks (settled t mode b new c sure.0 (wait_is_set t mode b new c sure.1 (subst P is h))).0
 
 -- a blocked call is answered by the locks that block it, and by no other
-pub blocked-only_by : (t : Table) (p : Process) (fd : ℕ) (kind : Kind) (mode : Mode) (start len : ℤ) (lock : LockInfo) (c : Target) → target t p (Some mode) fd kind start len ≡ Ok c → (BlocksCall t c mode lock → ⊥) → NeverAnswers t p (Set fd kind mode start len) (Again lock)
+pub blocked-only_by : (t : Table) (p : Process) (fd : ℕ) (kind : Kind) (mode : Mode) (start len : ℤ) (lock : LockInfo) (c : LockTarget) → target t p (Some mode) fd kind start len ≡ Ok c → (BlocksCall t c mode lock → ⊥) → NeverAnswers t p (Set fd kind mode start len) (Again lock)
 blocked-only_by t p fd kind mode start len lock c is none new h =
-    let P : Result Target Reply → Type 0 = λ r. AfterTests t r (Again lock) new (SetStep t mode (Again lock) new) in
+    let P : Result LockTarget Reply → Type 0 = λ r. AfterTests t r (Again lock) new (SetStep t mode (Again lock) new) in
     none (subst P is h).0
 
-pub query_blocked-only_by : (t : Table) (p : Process) (fd : ℕ) (kind : Kind) (mode : Mode) (start len : ℤ) (lock : LockInfo) (c : Target) → target t p None fd kind start len ≡ Ok c → (BlocksCall t c mode lock → ⊥) → NeverAnswers t p (Query fd kind mode start len) (Blocked lock)
+pub query_blocked-only_by : (t : Table) (p : Process) (fd : ℕ) (kind : Kind) (mode : Mode) (start len : ℤ) (lock : LockInfo) (c : LockTarget) → target t p None fd kind start len ≡ Ok c → (BlocksCall t c mode lock → ⊥) → NeverAnswers t p (Query fd kind mode start len) (Blocked lock)
 query_blocked-only_by t p fd kind mode start len lock c is none new h =
-    let P : Result Target Reply → Type 0 = λ r. AfterTests t r (Blocked lock) new (QueryStep t mode (Blocked lock) new) in
+    let P : Result LockTarget Reply → Type 0 = λ r. AfterTests t r (Blocked lock) new (QueryStep t mode (Blocked lock) new) in
     none (subst P is h).0
 
-pub blocked-by : (t : Table) (p : Process) (fd : ℕ) (kind : Kind) (mode : Mode) (start len : ℤ) (lock : LockInfo) (c : Target) → target t p (Some mode) fd kind start len ≡ Ok c → BlocksCall t c mode lock → Step t p (Set fd kind mode start len) (Again lock) t
+pub blocked-by : (t : Table) (p : Process) (fd : ℕ) (kind : Kind) (mode : Mode) (start len : ℤ) (lock : LockInfo) (c : LockTarget) → target t p (Some mode) fd kind start len ≡ Ok c → BlocksCall t c mode lock → Step t p (Set fd kind mode start len) (Again lock) t
 blocked-by t p fd kind mode start len lock c is blocks =
-    let P : Result Target Reply → Type 0 = λ r. AfterTests t r (Again lock) t (SetStep t mode (Again lock) t) in
+    let P : Result LockTarget Reply → Type 0 = λ r. AfterTests t r (Again lock) t (SetStep t mode (Again lock) t) in
     subst P (sym is) (blocks, refl)
 
-pub query_blocked-by : (t : Table) (p : Process) (fd : ℕ) (kind : Kind) (mode : Mode) (start len : ℤ) (lock : LockInfo) (c : Target) → target t p None fd kind start len ≡ Ok c → BlocksCall t c mode lock → Step t p (Query fd kind mode start len) (Blocked lock) t
+pub query_blocked-by : (t : Table) (p : Process) (fd : ℕ) (kind : Kind) (mode : Mode) (start len : ℤ) (lock : LockInfo) (c : LockTarget) → target t p None fd kind start len ≡ Ok c → BlocksCall t c mode lock → Step t p (Query fd kind mode start len) (Blocked lock) t
 query_blocked-by t p fd kind mode start len lock c is blocks =
-    let P : Result Target Reply → Type 0 = λ r. AfterTests t r (Blocked lock) t (QueryStep t mode (Blocked lock) t) in
+    let P : Result LockTarget Reply → Type 0 = λ r. AfterTests t r (Blocked lock) t (QueryStep t mode (Blocked lock) t) in
     subst P (sym is) (blocks, refl)
 
 -- the run at the first byte of a span is the one region there

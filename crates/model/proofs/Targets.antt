@@ -14,7 +14,7 @@ use Rattle.model.specs.declared.process.Process.{Process}
 use Rattle.model.specs.declared.reply.Reply.TheVariants.{NoProcess, BadFd}
 use Rattle.model.specs.Limits.{IsNumber, most_processes, most_descriptions}
 use Rattle.model.specs.Owners.{owner_at, most_owners, process_owner, description_owner}
-use Rattle.model.specs.Table.{Table, Target, is_running, descriptor, target, target_at, owner_of, allows}
+use Rattle.model.specs.Table.{Table, LockTarget, is_running, descriptor, target, target_at, owner_of, allows}
 use Rattle.model.proofs.Refusals.{if_ok, if_then}
 
 -- bytes of a file, at least one
@@ -84,19 +84,19 @@ owner_is p OfProcess o pid_in d_in = process_is p pid_in
 owner_is p OfDescription o pid_in d_in = description_is p o.description d_in
 
 -- what a lock call may be about
-pub record IsTarget (node incarnation : ℕ) (c : Target) : Type 0 where
+pub record IsTarget (node incarnation : ℕ) (c : LockTarget) : Type 0 where
   pub owner : IsOwner node incarnation c.owner
   pub span : IsSpan c.span
 
 -- a call that passes its tests has a descriptor and a segment
-pub record Passes (p : Process) (need : Option Mode) (kind : Kind) (opened : Option Opened) (segment : Result Range SpanError) (c : Target) : Type 0 where
+pub record Passes (p : Process) (need : Option Mode) (kind : Kind) (opened : Option Opened) (segment : Result Range SpanError) (c : LockTarget) : Type 0 where
   pub what : Opened
   pub there : opened ≡ Some what
   pub span : Range
   pub names : segment ≡ Ok span
-  pub is : (let t : Target = record { file = what.file; owner = owner_of p kind what; span = span } in t ≡ c)
+  pub is : (let t : LockTarget = record { file = what.file; owner = owner_of p kind what; span = span } in t ≡ c)
 
-pub passes_at : (p : Process) (need : Option Mode) (kind : Kind) (opened : Option Opened) (segment : Result Range SpanError) (c : Target) → target_at p need kind opened segment ≡ Ok c → Passes p need kind opened segment c
+pub passes_at : (p : Process) (need : Option Mode) (kind : Kind) (opened : Option Opened) (segment : Result Range SpanError) (c : LockTarget) → target_at p need kind opened segment ≡ Ok c → Passes p need kind opened segment c
 passes_at p need kind None segment c h = absurd (cc)
 passes_at p need kind (Some o) (Err Invalid) c h = absurd (cc)
 passes_at p need kind (Some o) (Err Overflow) c h = absurd (cc)
@@ -104,17 +104,17 @@ passes_at p need kind (Some o) (Ok span) c h =
     let both = if_ok (allows o.access need) (record { file = o.file; owner = owner_of p kind o; span = span }) c BadFd h in
     record { what = o; there = refl; span = span; names = refl; is = both.1 }
 
-pub target_is : (t : Table) (p : Process) (need : Option Mode) (fd : ℕ) (kind : Kind) (start len : ℤ) (c : Target) → IsNumber most_processes p.pid → ((o : Opened) → descriptor t p fd ≡ Some o → IsNumber most_descriptions o.description) → target t p need fd kind start len ≡ Ok c → IsTarget p.node p.incarnation c
+pub target_is : (t : Table) (p : Process) (need : Option Mode) (fd : ℕ) (kind : Kind) (start len : ℤ) (c : LockTarget) → IsNumber most_processes p.pid → ((o : Opened) → descriptor t p fd ≡ Some o → IsNumber most_descriptions o.description) → target t p need fd kind start len ≡ Ok c → IsTarget p.node p.incarnation c
 target_is t p need fd kind start len c pid_in numbers h =
     let runs = if_then (is_running t p) (target_at p need kind (descriptor t p fd) (seg start len)) c NoProcess h in
     let passes = passes_at p need kind (descriptor t p fd) (seg start len) c runs.1 in
-    subst (λ (x : Target). IsTarget p.node p.incarnation x) passes.is (record {
+    subst (λ (x : LockTarget). IsTarget p.node p.incarnation x) passes.is (record {
       owner = owner_is p kind passes.what pid_in (numbers passes.what passes.there);
       span = seg_span start len passes.span passes.names;
     })
 
 -- where the process still runs and its descriptors still stand, the call is about the same
-pub target-keeps : (t u : Table) (p : Process) (need : Option Mode) (fd : ℕ) (kind : Kind) (start len : ℤ) (c : Target) → (is_running t p ≡ true → is_running u p ≡ true) → ((o : Opened) → is_running t p ≡ true → descriptor t p fd ≡ Some o → descriptor u p fd ≡ Some o) → target t p need fd kind start len ≡ Ok c → target u p need fd kind start len ≡ Ok c
+pub target-keeps : (t u : Table) (p : Process) (need : Option Mode) (fd : ℕ) (kind : Kind) (start len : ℤ) (c : LockTarget) → (is_running t p ≡ true → is_running u p ≡ true) → ((o : Opened) → is_running t p ≡ true → descriptor t p fd ≡ Some o → descriptor u p fd ≡ Some o) → target t p need fd kind start len ≡ Ok c → target u p need fd kind start len ≡ Ok c
 target-keeps t u p need fd kind start len c runs stands h =
     let before = if_then (is_running t p) (target_at p need kind (descriptor t p fd) (seg start len)) c NoProcess h in
     let passes = passes_at p need kind (descriptor t p fd) (seg start len) c before.1 in
@@ -125,8 +125,8 @@ target-keeps t u p need fd kind start len c runs stands h =
     subst Q (sym (runs before.0)) now
 
 -- what passes its tests is about bytes of a file
-pub target_span : (t : Table) (p : Process) (need : Option Mode) (fd : ℕ) (kind : Kind) (start len : ℤ) (c : Target) → target t p need fd kind start len ≡ Ok c → IsSpan c.span
+pub target_span : (t : Table) (p : Process) (need : Option Mode) (fd : ℕ) (kind : Kind) (start len : ℤ) (c : LockTarget) → target t p need fd kind start len ≡ Ok c → IsSpan c.span
 target_span t p need fd kind start len c h =
     let runs = if_then (is_running t p) (target_at p need kind (descriptor t p fd) (seg start len)) c NoProcess h in
     let passes = passes_at p need kind (descriptor t p fd) (seg start len) c runs.1 in
-    subst (λ (x : Target). IsSpan x.span) passes.is (seg_span start len passes.span passes.names)
+    subst (λ (x : LockTarget). IsSpan x.span) passes.is (seg_span start len passes.span passes.names)

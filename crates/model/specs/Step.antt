@@ -10,41 +10,41 @@ use Rattle.model.specs.declared.reply.Reply.TheVariants.{Done, Again, NoLocks, F
 use Rattle.model.specs.Locks.{IsFree, Blocks}
 use Rattle.model.specs.Limits.{IsNumber, most_processes}
 use Rattle.model.specs.Descriptors.{after_spawn, after_fork, after_open, after_dup}
-use Rattle.model.specs.Table.{Table, Target, around, beside, target, lock_within, after_unlock, after_close, after_exit}
+use Rattle.model.specs.Table.{Table, LockTarget, around, beside, target, lock_within, after_unlock, after_close, after_exit}
 
 -- the answer and the new table are these
 abbrev pub Is : Table × Reply → Reply → Table → Type 0
 Is answer reply new = (reply ≡ answer.1) × (new ≡ answer.0)
 
 -- no other owner blocks the call
-abbrev pub Unblocked : Table → Target → Mode → Type 0
+abbrev pub Unblocked : Table → LockTarget → Mode → Type 0
 Unblocked t c mode = IsFree (t.locks c.file) c.owner c.span mode
 
 -- the lock is a region of another owner that blocks the call
-abbrev pub BlocksCall : Table → Target → Mode → LockInfo → Type 0
+abbrev pub BlocksCall : Table → LockTarget → Mode → LockInfo → Type 0
 BlocksCall t call mode lock = Blocks (t.locks call.file) call.owner call.span mode lock
 
 -- the first test that fails decides; if none does, the call may be answered so
-abbrev pub AfterTests : Table → Result Target Reply → Reply → Table → (Target → Type 0) → Type 0
+abbrev pub AfterTests : Table → Result LockTarget Reply → Reply → Table → (LockTarget → Type 0) → Type 0
 AfterTests old (Err refusal) reply new Answer = Is (old, refusal) reply new
 AfterTests old (Ok c) reply new Answer = Answer c
 
 -- POSIX.1-2017 fcntl(), F_SETLK: where a lock of another owner blocks, one such lock is named; else the bytes are set
-abbrev pub SetStep : Table → Mode → Reply → Table → Target → Type 0
+abbrev pub SetStep : Table → Mode → Reply → Table → LockTarget → Type 0
 SetStep old mode (Again lock) new c = Blocks (old.locks c.file) c.owner c.span mode lock × (new ≡ old)
 SetStep old mode Done new c = Unblocked old c mode × Is (lock_within old c (Some mode)) Done new
 SetStep old mode NoLocks new c = Unblocked old c mode × Is (lock_within old c (Some mode)) NoLocks new
 SetStep old mode _ new c = ⊥
 
 -- POSIX.1-2017 fcntl(), F_SETLKW: as F_SETLK, but where a lock of another owner blocks there is no answer yet; the wait may be interrupted (EINTR) at any time, and then nothing changes
-abbrev pub WaitStep : Table → Mode → Reply → Table → Target → Type 0
+abbrev pub WaitStep : Table → Mode → Reply → Table → LockTarget → Type 0
 WaitStep old mode Interrupted new c = new ≡ old
 WaitStep old mode Done new c = Unblocked old c mode × Is (lock_within old c (Some mode)) Done new
 WaitStep old mode NoLocks new c = Unblocked old c mode × Is (lock_within old c (Some mode)) NoLocks new
 WaitStep old mode _ new c = ⊥
 
 -- POSIX.1-2017 fcntl(), F_GETLK: where a lock of another owner would block, one such lock is named; nothing changes
-abbrev pub QueryStep : Table → Mode → Reply → Table → Target → Type 0
+abbrev pub QueryStep : Table → Mode → Reply → Table → LockTarget → Type 0
 QueryStep old mode (Blocked lock) new c = Blocks (old.locks c.file) c.owner c.span mode lock × (new ≡ old)
 QueryStep old mode Free new c = Unblocked old c mode × (new ≡ old)
 QueryStep old mode _ new c = ⊥

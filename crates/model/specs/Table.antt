@@ -65,35 +65,35 @@ owner_of p OfProcess o = process_owner p
 owner_of p OfDescription o = description_owner p o.description
 
 -- what a lock call is about: a file, the owner of the lock, and the bytes
-pub record Target : Type 0 where
+pub record LockTarget : Type 0 where
   pub file : ℕ
   pub owner : Owner
   pub span : Range
 
 -- a bad descriptor is told before a bad segment, and that before a descriptor that is not open for the mode
-abbrev pub target_at : Process → Option Mode → Kind → Option Opened → Result Range SpanError → Result Target Reply
+abbrev pub target_at : Process → Option Mode → Kind → Option Opened → Result Range SpanError → Result LockTarget Reply
 target_at p need kind None segment = Err BadFd
 target_at p need kind (Some o) (Err Invalid) = Err InvalidReply
 target_at p need kind (Some o) (Err Overflow) = Err OverflowReply
 target_at p need kind (Some o) (Ok span) = if allows o.access need then Ok (record { file = o.file; owner = owner_of p kind o; span = span }) else Err BadFd
 
 -- what a lock call is about, or the first of its tests that fails: the process, the descriptor, the segment, the open mode
-abbrev pub target : Table → Process → Option Mode → ℕ → Kind → ℤ → ℤ → Result Target Reply
+abbrev pub target : Table → Process → Option Mode → ℕ → Kind → ℤ → ℤ → Result LockTarget Reply
 target t p need fd kind start len = if is_running t p then target_at p need kind (descriptor t p fd) (seg start len) else Err NoProcess
 
 -- how many regions the owner would have with the bytes set to the mode, or freed
-abbrev pub regions_with : Table → Target → Option Mode → ℕ
+abbrev pub regions_with : Table → LockTarget → Option Mode → ℕ
 regions_with t c mode = regions (put (t.locks c.file c.owner) c.span mode)
 
 -- the table with these bytes set or freed
-abbrev pub locked : Table → Target → Option Mode → Table
+abbrev pub locked : Table → LockTarget → Option Mode → Table
 locked t c mode = record t { locks = with_lock t.locks c.file c.owner c.span mode }
 
 -- the bytes are set or freed, unless the owner would have too many regions
-abbrev pub lock_within : Table → Target → Option Mode → Table × Reply
+abbrev pub lock_within : Table → LockTarget → Option Mode → Table × Reply
 lock_within t c mode = if nat_le (regions_with t c mode) most_regions then (locked t c mode, Done) else (t, NoLocks)
 
-abbrev pub after_unlock : Table → Result Target Reply → Table × Reply
+abbrev pub after_unlock : Table → Result LockTarget Reply → Table × Reply
 after_unlock t (Err refusal) = (t, refusal)
 after_unlock t (Ok c) = lock_within t c None
 

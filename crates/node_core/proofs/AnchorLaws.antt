@@ -20,7 +20,7 @@ use Rattle.model.specs.Locks.{no_locks, lowest_blocker}
 use Rattle.lock_table.specs.Rows.{held}
 use Rattle.descriptors.specs.Rows.{processes}
 use Rattle.model.specs.Descriptors.{Processes, no_processes, is_of_file, has_open, after_spawn, after_fork, after_open, after_dup}
-use Rattle.model.specs.Table.{Table, Target, empty_table, around, descriptor, is_running, beside, target, target_at, owner_of, lock_within, after_unlock, after_close, after_exit}
+use Rattle.model.specs.Table.{Table, LockTarget, empty_table, around, descriptor, is_running, beside, target, target_at, owner_of, lock_within, after_unlock, after_close, after_exit}
 use Rattle.model.specs.Anchors.{Hangs, IsOwn}
 use Rattle.model.proofs.Refusals.{if_then}
 use Rattle.model.proofs.Targets.{IsOwner, IsTarget, owner_is, passes_at, target_span}
@@ -78,7 +78,7 @@ waits-on t u n i c goes w = record {
 }
 
 -- a call that passes its tests waits
-found-waits : (t : Table) (n i pid number : ℕ) (its : Intent) (mode : Mode) (need : Option Mode) (fd : ℕ) (kind : Kind) (start len : ℤ) (c : Target) → IsNumber most_processes pid → target t (record { node = n; incarnation = i; pid = pid }) need fd kind start len ≡ Ok c → Waits t n i (record { number = number; pid = pid; intent = its; file = c.file; owner = c.owner; mode = mode; span = c.span })
+found-waits : (t : Table) (n i pid number : ℕ) (its : Intent) (mode : Mode) (need : Option Mode) (fd : ℕ) (kind : Kind) (start len : ℤ) (c : LockTarget) → IsNumber most_processes pid → target t (record { node = n; incarnation = i; pid = pid }) need fd kind start len ≡ Ok c → Waits t n i (record { number = number; pid = pid; intent = its; file = c.file; owner = c.owner; mode = mode; span = c.span })
 found-waits t n i pid number its mode need fd kind start len c pid_in found =
     let p : Process = record { node = n; incarnation = i; pid = pid } in
     let runs = if_then (is_running t p) (target_at p need kind (descriptor t p fd) (seg start len)) c NoProcess found in
@@ -90,8 +90,8 @@ found-waits t n i pid number its mode need fd kind start len c pid_in found =
       fd = fd;
       opened = passes.what;
       there = passes.there;
-      file = ap (λ (x : Target). x.file) passes.is;
-      owner = ap (λ (x : Target). x.owner) passes.is;
+      file = ap (λ (x : LockTarget). x.file) passes.is;
+      owner = ap (λ (x : LockTarget). x.owner) passes.is;
       span = record { ordered = span.ordered; ends = span.ends };
     }
 
@@ -140,13 +140,13 @@ shut-anchored s number passes answer h =
     let e = settled s number answer in
     elim (may_free None answer.1) as (λ b. IsAnchored (if b then with_freed_of passes s.shape.files e else e).state) [ true ↦ freed_of-anchored passes s.shape.files e h | false ↦ h ]
 
-locked-anchored : (s : NodeState) (number : ℕ) (c : Target) (mode : Option Mode) → IsAnchored (settled s number (lock_within s.table c mode)).state → IsAnchored (locked_by s number c mode).state
+locked-anchored : (s : NodeState) (number : ℕ) (c : LockTarget) (mode : Option Mode) → IsAnchored (settled s number (lock_within s.table c mode)).state → IsAnchored (locked_by s number c mode).state
 locked-anchored s number c mode h =
     let answer = lock_within s.table c mode in
     let e = settled s number answer in
     elim (may_free mode answer.1) as (λ b. IsAnchored (if b then with_freed c.file e else e).state) [ true ↦ freed-anchored c.file e h | false ↦ h ]
 
-unlocked-anchored : (s : NodeState) (number : ℕ) (found : Result Target Reply) → IsAnchored (settled s number (after_unlock s.table found)).state → IsAnchored (unlock_call s number found).state
+unlocked-anchored : (s : NodeState) (number : ℕ) (found : Result LockTarget Reply) → IsAnchored (settled s number (after_unlock s.table found)).state → IsAnchored (unlock_call s number found).state
 unlocked-anchored s number (Err refusal) h = h
 unlocked-anchored s number (Ok c) h = locked-anchored s number c None h
 
@@ -181,7 +181,7 @@ tried_if-anchored : (s : NodeState) (x : Option OpenCall) → IsAnchored s → I
 tried_if-anchored s None h w = h
 tried_if-anchored s (Some c) h w = tried-anchored s c h w
 
-lock_call-anchored : (s : NodeState) (number pid : ℕ) (its : Intent) (mode : Mode) (found : Result Target Reply) → ((c : Target) → found ≡ Ok c → Waits s.table s.node s.incarnation (record { number = number; pid = pid; intent = its; file = c.file; owner = c.owner; mode = mode; span = c.span })) → IsAnchored s → IsAnchored (lock_call s number pid its mode found).state
+lock_call-anchored : (s : NodeState) (number pid : ℕ) (its : Intent) (mode : Mode) (found : Result LockTarget Reply) → ((c : LockTarget) → found ≡ Ok c → Waits s.table s.node s.incarnation (record { number = number; pid = pid; intent = its; file = c.file; owner = c.owner; mode = mode; span = c.span })) → IsAnchored s → IsAnchored (lock_call s number pid its mode found).state
 lock_call-anchored s number pid its mode (Err refusal) waits h = answered-anchored s number refusal h
 lock_call-anchored s number pid its mode (Ok t) waits h =
     let c : OpenCall = record { number = number; pid = pid; intent = its; file = t.file; owner = t.owner; mode = mode; span = t.span } in

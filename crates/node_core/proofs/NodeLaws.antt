@@ -21,9 +21,9 @@ use Rattle.model.specs.declared.policy.Policy.TheVariants.{Wide, Exact}
 use Rattle.model.specs.Locks.{no_locks, IsFree, IsLowestBlocker, lowest_blocker, IsOfNode}
 use Rattle.model.proofs.BlockerLaws.{is_lowest_blocker}
 use Rattle.model.specs.Descriptors.{Processes, no_processes, with_descriptor, lowest_fd, lowest_description, after_open, after_spawn, with_process, after_fork, after_dup, again_on}
-use Rattle.model.specs.Table.{Target, around, beside, with_processes, target_at}
+use Rattle.model.specs.Table.{LockTarget, around, beside, with_processes, target_at}
 use Rattle.model.proofs.Refusals.{ok_is}
-use Rattle.lock_table.specs.declared.row.Row.{Row as LockRow}
+use Rattle.lock_table.specs.declared.owner_locks.OwnerLocks.{OwnerLocks}
 use Rattle.lock_table.specs.Rows.{held}
 use Rattle.lock_table.specs.Listing.{IsListing}
 use Rattle.token_set.specs.Tokens.{Token, desired, holds_nothing}
@@ -31,7 +31,7 @@ use Rattle.token_set.specs.Releases.{IsRevocable, IsGivenUp, gave_up}
 use Rattle.token_set.specs.declared.gave_up.GaveUp.{GaveUp}
 use Rattle.token_set.proofs.ReleaseLaws.{list_gives_up}
 use Rattle.messages.specs.Shapes.{ShapeFields}
-use Rattle.descriptors.specs.declared.row.Row.{Row as ProcessRow}
+use Rattle.descriptors.specs.declared.process_entry.ProcessEntry.{ProcessEntry}
 use Rattle.descriptors.specs.declared.error.FdError.{FdError}
 use Rattle.node_core.specs.declared.file_row.FileRow.{FileRow}
 use Rattle.node_core.specs.declared.open_call.OpenCall.{OpenCall}
@@ -69,7 +69,7 @@ beside-err p pid refusal f e =
     ∙ ap (beside (node_state p).table (process (node_state p) pid)) e
 
 -- a node that begins
-pub first-state : (shape : ShapeFields) (node incarnation : ℕ) (rows : List ProcessRow) (locks : List LockRow) (files : List FileRow) → processes rows ≡ no_processes → held locks ≡ no_locks → file_state files ≡ (λ file. first_file) → node_state (record { shape = shape; node = node; incarnation = incarnation; calls = 0; processes = rows; locks = locks; pending = []; files = files }) ≡ first_node shape node incarnation
+pub first-state : (shape : ShapeFields) (node incarnation : ℕ) (rows : List ProcessEntry) (locks : List OwnerLocks) (files : List FileRow) → processes rows ≡ no_processes → held locks ≡ no_locks → file_state files ≡ (λ file. first_file) → node_state (record { shape = shape; node = node; incarnation = incarnation; calls = 0; processes = rows; locks = locks; pending = []; files = files }) ≡ first_node shape node incarnation
 unfolding node_state
 first-state shape node incarnation rows locks files none free nothing = λ i. record {
   shape = shape;
@@ -206,7 +206,7 @@ target-found p pid need fd kind segment x opened h e =
     ∙ sym (target-ok (processes p.processes) (process (node_state p) pid) need fd kind x opened h).1
     ∙ ap (λ ps. target_in ps (process (node_state p) pid) need fd kind x) (sym (around-own p pid))
 
-pub target-file : (p : NodeParts) (pid fd : ℕ) (opened : Opened) (r : Result Target Reply) → IsNode p → resolved (processes p.processes) pid fd ≡ Ok opened → IfOk r (λ t. t.file ≡ opened.file) → IfOk r (λ t. IsNumber (node_state p).shape.files t.file)
+pub target-file : (p : NodeParts) (pid fd : ℕ) (opened : Opened) (r : Result LockTarget Reply) → IsNode p → resolved (processes p.processes) pid fd ≡ Ok opened → IfOk r (λ t. t.file ≡ opened.file) → IfOk r (λ t. IsNumber (node_state p).shape.files t.file)
 unfolding node_state
 target-file p pid fd opened (Err e) is h same = tt
 target-file p pid fd opened (Ok t) is h same =

@@ -15,10 +15,10 @@ use Rattle.model.specs.declared.reply.Reply.TheVariants.{Done, NoLocks}
 use Rattle.model.specs.Descriptors.{Processes, no_processes}
 use Rattle.model.specs.Limits.{IsNumber}
 use Rattle.model.specs.Locks.{Locks, replace, with_lock, regions}
-use Rattle.model.specs.Table.{Table, Target, lock_within}
+use Rattle.model.specs.Table.{Table, LockTarget, lock_within}
 use Rattle.fcntl_table.specs.Hosts.{shown}
 use Rattle.fcntl_table.proofs.ExitLaws.{at_node}
-use Rattle.lock_table.specs.declared.row.Row.{Row as LockRow}
+use Rattle.lock_table.specs.declared.owner_locks.OwnerLocks.{OwnerLocks}
 use Rattle.lock_table.specs.declared.lock_table.LockEdit.{LockEdit}
 use Rattle.lock_table.specs.Rows.{held, HasRoom as HasRowRoom}
 use Rattle.messages.specs.declared.message.Message.{Message}
@@ -30,7 +30,7 @@ use Rattle.node_core.specs.declared.event.NodeEvent.{NodeEvent}
 use Rattle.node_core.specs.Anchors.{IsAnchored}
 use Rattle.node_core.specs.Node.{node_rule}
 use Rattle.node_core.proofs.AnchorLaws.{rule-anchored}
-use Rattle.descriptors.specs.declared.row.Row.{Row as ProcessRow}
+use Rattle.descriptors.specs.declared.process_entry.ProcessEntry.{ProcessEntry}
 use Rattle.descriptors.specs.declared.edit.ProcessEdit.{ProcessEdit}
 use Rattle.descriptors.specs.Edits.{edited, Fits as ProcessFits}
 use Rattle.node_core.specs.declared.edit.Edit.{Edit}
@@ -53,13 +53,13 @@ pub on : {A : Type 0} (b : Bool) (x y : A) → b ≡ true → (if b then x else 
 on b x y h = ap (λ (c : Bool). if c then x else y) h
 
 -- the bytes are locked within the regions that an owner may have
-pub lock-planned : (p : NodeParts) (e : LockEdit) (c : Target) (mode : Option Mode) → replace (held p.locks) e.file e.owner (value_at e.spans) ≡ with_lock (held p.locks) c.file c.owner c.span mode → regions (put (held p.locks c.file c.owner) c.span mode) ≤ 1024 → lock_within (node_state p).table c mode ≡ (record (node_state p).table { locks = locks_after (node_state p).table.locks (Some e) }, Done)
+pub lock-planned : (p : NodeParts) (e : LockEdit) (c : LockTarget) (mode : Option Mode) → replace (held p.locks) e.file e.owner (value_at e.spans) ≡ with_lock (held p.locks) c.file c.owner c.span mode → regions (put (held p.locks c.file c.owner) c.span mode) ≤ 1024 → lock_within (node_state p).table c mode ≡ (record (node_state p).table { locks = locks_after (node_state p).table.locks (Some e) }, Done)
 unfolding node_state
 lock-planned p e c mode same few =
     ap (λ (b : Bool). if b then (record (node_state p).table { locks = with_lock (held p.locks) c.file c.owner c.span mode }, Done) else ((node_state p).table, NoLocks)) (le-leb _ _ few)
     ∙ ap (λ (l : Locks). (record (node_state p).table { locks = l }, Done)) (sym same)
 
-pub lock-refused : (p : NodeParts) (c : Target) (mode : Option Mode) → 1024 < regions (put (held p.locks c.file c.owner) c.span mode) → lock_within (node_state p).table c mode ≡ ((node_state p).table, NoLocks)
+pub lock-refused : (p : NodeParts) (c : LockTarget) (mode : Option Mode) → 1024 < regions (put (held p.locks c.file c.owner) c.span mode) → lock_within (node_state p).table c mode ≡ ((node_state p).table, NoLocks)
 unfolding node_state
 lock-refused p c mode many =
     ap (λ (b : Bool). if b then (record (node_state p).table { locks = with_lock (held p.locks) c.file c.owner c.span mode }, Done) else ((node_state p).table, NoLocks)) (lt-leb _ _ many)
@@ -133,10 +133,10 @@ if-if true x y z = refl
 if-if false x y z = refl
 
 -- the parts once the edit is made
-abbrev changed : NodeParts → ℕ → List ProcessRow → List LockRow → List OpenCall → List FileRow → NodeParts
+abbrev changed : NodeParts → ℕ → List ProcessEntry → List OwnerLocks → List OpenCall → List FileRow → NodeParts
 changed p calls rows locks pending files = record p { calls = calls; processes = rows; locks = locks; pending = pending; files = files }
 
-table-changed : (p : NodeParts) (e : Option ProcessEdit) (edit : Option LockEdit) (rows : List ProcessRow) (locks : List LockRow) → processes rows ≡ processes_after (processes p.processes) e → held locks ≡ locks_after (held p.locks) edit → (node_state (record p { processes = rows; locks = locks })).table ≡ record (table_after (node_state p) e) { locks = locks_after (node_state p).table.locks edit }
+table-changed : (p : NodeParts) (e : Option ProcessEdit) (edit : Option LockEdit) (rows : List ProcessEntry) (locks : List OwnerLocks) → processes rows ≡ processes_after (processes p.processes) e → held locks ≡ locks_after (held p.locks) edit → (node_state (record p { processes = rows; locks = locks })).table ≡ record (table_after (node_state p) e) { locks = locks_after (node_state p).table.locks edit }
 unfolding node_state
 table-changed p None edit rows locks same made = λ i. record { on = λ n k. if (n == p.node) && (k == p.incarnation) then same i else no_processes; locks = made i }
 table-changed p (Some e) edit rows locks same made =
@@ -145,10 +145,10 @@ table-changed p (Some e) edit rows locks same made =
     ∙ sym (λ i. record { on = λ n k. if (n == p.node) && (k == p.incarnation) then edited (around-own p 0 i) e else (if (n == p.node) && (k == p.incarnation) then processes p.processes else no_processes); locks = locks_after (held p.locks) edit })
 
 -- what is left of processes and locks where a host closes something
-abbrev pub Shuts : Host → List ProcessRow → List LockRow → Shut → List ProcessRow → List LockRow → Type 0
+abbrev pub Shuts : Host → List ProcessEntry → List OwnerLocks → Shut → List ProcessEntry → List OwnerLocks → Type 0
 Shuts h rows locks shut rows_left locks_left = (on : ℕ → ℕ → Processes) → shown on h rows_left locks_left ≡ shut_after h (shown on h rows locks) shut
 
-pub node-planned : (p : NodeParts) (e : Edit) (calls : ℕ) (rows : List ProcessRow) (locks : List LockRow) (rows_left : List ProcessRow) (locks_left : List LockRow) (pending : List OpenCall) (files : List FileRow) → calls ≡ calls_after p.calls e.draft.numbered → processes rows ≡ processes_after (processes p.processes) e.processes → held locks ≡ locks_after (held p.locks) e.locks → Shuts (host (node_state p)) rows locks e.shut rows_left locks_left → pending ≡ pending_after p.pending e.calls → file_state files ≡ files_told (files_after (file_state p.files) p.files e.draft.command) e.freed → node_state (changed p calls rows_left locks_left pending files) ≡ planned p e
+pub node-planned : (p : NodeParts) (e : Edit) (calls : ℕ) (rows : List ProcessEntry) (locks : List OwnerLocks) (rows_left : List ProcessEntry) (locks_left : List OwnerLocks) (pending : List OpenCall) (files : List FileRow) → calls ≡ calls_after p.calls e.draft.numbered → processes rows ≡ processes_after (processes p.processes) e.processes → held locks ≡ locks_after (held p.locks) e.locks → Shuts (host (node_state p)) rows locks e.shut rows_left locks_left → pending ≡ pending_after p.pending e.calls → file_state files ≡ files_told (files_after (file_state p.files) p.files e.draft.command) e.freed → node_state (changed p calls rows_left locks_left pending files) ≡ planned p e
 unfolding node_state
 node-planned p e calls rows locks rows_left locks_left pending files counted ran held_now shut left known =
     let h : Host = host (node_state p) in
@@ -178,7 +178,7 @@ calls-edited p (Left pid number) fit h =
     All-filter (λ c. not (c.number == number)) (IsOwnCall p.shape.files p.node p.incarnation) (filter theirs p.pending) (All-filter theirs (IsOwnCall p.shape.files p.node p.incarnation) p.pending h.calls_in)
 
 -- what is open still is of files of the shape
-opened-left : (p : NodeParts) (edit : Option ProcessEdit) (rows : List ProcessRow) (locks : List LockRow) (shut : Shut) (rows_left : List ProcessRow) (locks_left : List LockRow) → processes rows ≡ processes_after (processes p.processes) edit → Shuts (host (node_state p)) rows locks shut rows_left locks_left → ProcessesFit p edit → IsNode p → (pid fd : ℕ) (o : Opened) → (processes rows_left).opened pid fd ≡ Some o → IsNumber p.shape.files o.file
+opened-left : (p : NodeParts) (edit : Option ProcessEdit) (rows : List ProcessEntry) (locks : List OwnerLocks) (shut : Shut) (rows_left : List ProcessEntry) (locks_left : List OwnerLocks) → processes rows ≡ processes_after (processes p.processes) edit → Shuts (host (node_state p)) rows locks shut rows_left locks_left → ProcessesFit p edit → IsNode p → (pid fd : ℕ) (o : Opened) → (processes rows_left).opened pid fd ≡ Some o → IsNumber p.shape.files o.file
 opened-left p edit rows locks shut rows_left locks_left made shuts fit h pid fd o is =
     let none : ℕ → ℕ → Processes = λ n k. no_processes in
     let me : Host = host (node_state p) in
@@ -189,7 +189,7 @@ opened-left p edit rows locks shut rows_left locks_left made shuts fit h pid fd 
     opened-edited p edit fit h pid fd o (was ∙ ap (λ (ps : Processes). ps.opened pid fd) (sym (at_node none me (processes rows))) ∙ there)
 
 -- the node stays one
-pub node-edited : (p : NodeParts) (e : Edit) (calls : ℕ) (rows : List ProcessRow) (locks : List LockRow) (rows_left : List ProcessRow) (locks_left : List LockRow) (pending : List OpenCall) (files : List FileRow) → processes rows ≡ processes_after (processes p.processes) e.processes → Shuts (host (node_state p)) rows locks e.shut rows_left locks_left → pending ≡ pending_after p.pending e.calls → length files ≡ length p.files → node_state (changed p calls rows_left locks_left pending files) ≡ planned p e → Fits p e → IsNode p → IsNode (changed p calls rows_left locks_left pending files)
+pub node-edited : (p : NodeParts) (e : Edit) (calls : ℕ) (rows : List ProcessEntry) (locks : List OwnerLocks) (rows_left : List ProcessEntry) (locks_left : List OwnerLocks) (pending : List OpenCall) (files : List FileRow) → processes rows ≡ processes_after (processes p.processes) e.processes → Shuts (host (node_state p)) rows locks e.shut rows_left locks_left → pending ≡ pending_after p.pending e.calls → length files ≡ length p.files → node_state (changed p calls rows_left locks_left pending files) ≡ planned p e → Fits p e → IsNode p → IsNode (changed p calls rows_left locks_left pending files)
 unfolding node_state
 node-edited p e calls rows locks rows_left locks_left pending files ran shuts left count is fit h = record {
   host = h.host;

@@ -21,7 +21,7 @@ use Rattle.model.specs.declared.reply.Reply.{Reply}
 use Rattle.model.specs.declared.reply.Reply.TheVariants.{Done, NoLocks, NoProcess}
 use Rattle.model.specs.Limits.{most_regions}
 use Rattle.model.specs.Locks.{FileLocks, IsRegion, IsFree, IsOfNode, IsClear}
-use Rattle.model.specs.Table.{Table, Target, is_running, descriptor, allows, target_at, target, regions_with, locked, lock_within}
+use Rattle.model.specs.Table.{Table, LockTarget, is_running, descriptor, allows, target_at, target, regions_with, locked, lock_within}
 use Rattle.model.proofs.BlockerLaws.{is_lowest_blocker}
 use Rattle.model.proofs.WayLaws.{clear_has_none}
 use Rattle.token_set.specs.Tokens.{Token, level_conflicts, conflicts, covers}
@@ -77,12 +77,12 @@ seg-span (pos s) (negsuc n) = before (nat_le (suc n) s)
     before false = tt
 
 -- what a call is about: a lock of the process's node, on bytes of a file
-record IsAbout (p : Process) (t : Target) : Type 0 where
+record IsAbout (p : Process) (t : LockTarget) : Type 0 where
   of_node : t.owner.node ≡ p.node
   of_incarnation : t.owner.incarnation ≡ p.incarnation
   span : IsSpan t.span
 
-about_if : (p : Process) (b : Bool) (x y : Result Target Reply) → IfOk x (IsAbout p) → IfOk y (IsAbout p) → IfOk (if b then x else y) (IsAbout p)
+about_if : (p : Process) (b : Bool) (x y : Result LockTarget Reply) → IfOk x (IsAbout p) → IfOk y (IsAbout p) → IfOk (if b then x else y) (IsAbout p)
 about_if p true x y h k = h
 about_if p false x y h k = k
 
@@ -105,13 +105,13 @@ reply_if false x y e = refl
 with_freed-reply : (file : ℕ) (e : Effect) → (with_freed file e).reply ≡ e.reply
 with_freed-reply file e = reply_if (e.state.files file).asked _ e refl
 
-locked_by-reply : (s : NodeState) (number : ℕ) (t : Target) (mode : Option Mode) → (locked_by s number t mode).reply ≡ Some (id_of s number, (lock_within s.table t mode).1)
+locked_by-reply : (s : NodeState) (number : ℕ) (t : LockTarget) (mode : Option Mode) → (locked_by s number t mode).reply ≡ Some (id_of s number, (lock_within s.table t mode).1)
 locked_by-reply s number t mode =
     let answer = lock_within s.table t mode in
     let e : Effect = settled s number answer in
     reply_if (may_free mode answer.1) (with_freed t.file e) e (with_freed-reply t.file e)
 
-lock_within-done : (t : Table) (c : Target) (mode : Option Mode) → regions_with t c mode ≤ 1024 → (lock_within t c mode).1 ≡ Done
+lock_within-done : (t : Table) (c : LockTarget) (mode : Option Mode) → regions_with t c mode ≤ 1024 → (lock_within t c mode).1 ≡ Done
 lock_within-done t c mode h = taken (λ (a : Table × Reply). a.1 ≡ Done) (nat_le (regions_with t c mode) 1024) (locked t c mode, Done) (t, NoLocks) (le-leb _ _ h) refl
 
 -- what asks for a lock that the node's own table then gives
@@ -128,15 +128,15 @@ tried-done s c r none locks covered few =
     ∙ ap (λ (a : Reply). Some (id_of s c.number, a)) (lock_within-done s.table (target_of c) (Some c.mode) few))
 
 -- so such a call for a lock is answered Done
-lock_call-done : (s : NodeState) (number pid : ℕ) (its : Intent) (fd : ℕ) (kind : Kind) (mode : Mode) (start len : ℤ) (t : Target) → Locks its → target s.table (process s pid) (Some mode) fd kind start len ≡ Ok t → IsOfNode (s.table.locks t.file) s.node s.incarnation → IsFree (s.table.locks t.file) t.owner t.span mode → covers (s.files t.file).token t.span mode ≡ true → regions_with s.table t (Some mode) ≤ most_regions → (lock_call s number pid its mode (target s.table (process s pid) (Some mode) fd kind start len)).reply ≡ Some (id_of s number, Done)
+lock_call-done : (s : NodeState) (number pid : ℕ) (its : Intent) (fd : ℕ) (kind : Kind) (mode : Mode) (start len : ℤ) (t : LockTarget) → Locks its → target s.table (process s pid) (Some mode) fd kind start len ≡ Ok t → IsOfNode (s.table.locks t.file) s.node s.incarnation → IsFree (s.table.locks t.file) t.owner t.span mode → covers (s.files t.file).token t.span mode ≡ true → regions_with s.table t (Some mode) ≤ most_regions → (lock_call s number pid its mode (target s.table (process s pid) (Some mode) fd kind start len)).reply ≡ Some (id_of s number, Done)
 lock_call-done s number pid its fd kind mode start len t locks is own free covered few =
-    let about : IsAbout (process s pid) t = subst (λ (r : Result Target Reply). IfOk r (IsAbout (process s pid))) is (target-about s.table (process s pid) (Some mode) fd kind start len) in
+    let about : IsAbout (process s pid) t = subst (λ (r : Result LockTarget Reply). IfOk r (IsAbout (process s pid))) is (target-about s.table (process s pid) (Some mode) fd kind start len) in
     let of_node : IsOfNode (s.table.locks t.file) t.owner.node s.incarnation = subst (λ (n : ℕ). IsOfNode (s.table.locks t.file) n s.incarnation) (sym about.of_node) own in
     let of_host : IsOfNode (s.table.locks t.file) t.owner.node t.owner.incarnation = subst (λ (n : ℕ). IsOfNode (s.table.locks t.file) t.owner.node n) (sym about.of_incarnation) of_node in
     let none = sym (is_lowest_blocker (s.table.locks t.file) t.owner t.span mode None of_host about.span.ordered about.span.ends free) in
     let c : OpenCall = record { number = number; pid = pid; intent = its; file = t.file; owner = t.owner; mode = mode; span = t.span } in
     let opened : NodeState = record s { pending = s.pending ++ c ∷ [] } in
-    ap (λ (r : Result Target Reply). (lock_call s number pid its mode r).reply) is ∙ tried-done opened c _ none locks covered few
+    ap (λ (r : Result LockTarget Reply). (lock_call s number pid its mode r).reply) is ∙ tried-done opened c _ none locks covered few
 
 -- the call of a process that may call is taken
 call-taken : (s : NodeState) (pid : ℕ) (op : Op) (P : NodeState × Outcome → Type 0) → MayCall s pid → is_in_shape s.shape op ≡ true → is_exit op ≡ false → P (after_call s pid op) → IsOkAnd (call_rule s pid op) P

@@ -6,7 +6,7 @@ use Rattle.model.specs.declared.op.Op.TheVariants.{Spawn, Fork, Open, Dup, Close
 use Rattle.model.specs.declared.reply.Reply.{Reply}
 use Rattle.model.specs.Limits.{most_processes}
 use Rattle.model.specs.Descriptors.{is_of_file, has_open, after_spawn, after_fork, after_open, after_dup}
-use Rattle.model.specs.Table.{Table, Target, around, descriptor, beside, target, after_close, after_exit}
+use Rattle.model.specs.Table.{Table, LockTarget, around, descriptor, beside, target, after_close, after_exit}
 use Rattle.messages.specs.Shapes.{ShapeFields}
 use Rattle.messages.specs.declared.refusal.StepError.{StepError}
 use Rattle.messages.specs.declared.refusal.StepError.TheVariants.{Busy, Stranger, Spent}
@@ -29,14 +29,14 @@ is_in_shape shape (Open file access) = is_within shape.files file
 is_in_shape shape _ = true
 
 -- a call about a lock that passes its first tests is open, and is tried
-abbrev pub lock_call : NodeState → ℕ → ℕ → Intent → Mode → Result Target Reply → Effect
+abbrev pub lock_call : NodeState → ℕ → ℕ → Intent → Mode → Result LockTarget Reply → Effect
 lock_call s number pid intent mode (Err refusal) = answered s number refusal
 lock_call s number pid intent mode (Ok target) =
     let c : OpenCall = record { number = number; pid = pid; intent = intent; file = target.file; owner = target.owner; mode = mode; span = target.span } in
     tried (record s { pending = s.pending ++ c ∷ [] }) c
 
 -- the bytes are freed, if the call passes its first tests
-abbrev pub unlock_call : NodeState → ℕ → Result Target Reply → Effect
+abbrev pub unlock_call : NodeState → ℕ → Result LockTarget Reply → Effect
 unlock_call s number (Err refusal) = answered s number refusal
 unlock_call s number (Ok target) = locked_by s number target None
 

@@ -8,7 +8,7 @@ use Rattle.model.specs.declared.op.Op.TheVariants.{Set, Wait}
 use Rattle.model.specs.declared.reply.Reply.TheVariants.{Done}
 use Rattle.model.specs.Limits.{IsNumber, most_processes, most_regions}
 use Rattle.model.specs.Locks.{IsFree, IsOfNode, IsClear}
-use Rattle.model.specs.Table.{Target, target, regions_with}
+use Rattle.model.specs.Table.{LockTarget, target, regions_with}
 use Rattle.token_set.specs.Tokens.{covers, conflicts}
 use Rattle.token_set.specs.Releases.{IsRevocable}
 use Rattle.messages.specs.Messages.{greatest_number}
@@ -28,7 +28,7 @@ pub record MayCall (s : NodeState) (pid : ℕ) : Type 0 where
 -- a set that no lock of another owner of the node blocks, whose bytes the token covers, and that leaves its owner within the limit of regions, is answered Done in its own step
 abbrev pub CoveredSetIsDone : Type 0
 CoveredSetIsDone =
-    (s : NodeState) (pid fd : ℕ) (kind : Kind) (mode : Mode) (start len : ℤ) (t : Target)
+    (s : NodeState) (pid fd : ℕ) (kind : Kind) (mode : Mode) (start len : ℤ) (t : LockTarget)
     → MayCall s pid
     → target s.table (process s pid) (Some mode) fd kind start len ≡ Ok t
     → IsOfNode (s.table.locks t.file) s.node s.incarnation
@@ -40,7 +40,7 @@ CoveredSetIsDone =
 -- and so is a wait
 abbrev pub CoveredWaitIsDone : Type 0
 CoveredWaitIsDone =
-    (s : NodeState) (pid fd : ℕ) (kind : Kind) (mode : Mode) (start len : ℤ) (t : Target)
+    (s : NodeState) (pid fd : ℕ) (kind : Kind) (mode : Mode) (start len : ℤ) (t : LockTarget)
     → MayCall s pid
     → target s.table (process s pid) (Some mode) fd kind start len ≡ Ok t
     → IsOfNode (s.table.locks t.file) s.node s.incarnation

@@ -7,7 +7,7 @@ use Rattle.model.specs.declared.reply.Reply.{Reply}
 use Rattle.model.specs.Limits.{IsHost, IsNumber}
 use Rattle.model.specs.Descriptors.{no_processes, after_spawn, after_fork, after_open, after_dup}
 use Rattle.model.specs.Table.{Table, around, beside}
-use Rattle.lock_table.specs.declared.row.Row.{Row as LockRow}
+use Rattle.lock_table.specs.declared.owner_locks.OwnerLocks.{OwnerLocks}
 use Rattle.lock_table.specs.Rows.{held}
 use Rattle.messages.specs.Shapes.{ShapeFields}
 use Rattle.messages.specs.declared.message.Message.{Message}
@@ -18,7 +18,7 @@ use Rattle.token_set.specs.Releases.{after_giving_up}
 use Rattle.token_set.specs.declared.gave_up.GaveUp.{GaveUp}
 use Rattle.node_core.specs.declared.command.Command.{Command}
 use Rattle.messages.specs.Messages.{addressee, file_of, is_within, greatest_number}
-use Rattle.descriptors.specs.declared.row.Row.{Row as ProcessRow}
+use Rattle.descriptors.specs.declared.process_entry.ProcessEntry.{ProcessEntry}
 use Rattle.node_core.specs.declared.file_row.FileRow.{FileRow}
 use Rattle.node_core.specs.declared.open_call.OpenCall.{OpenCall}
 use Rattle.descriptors.specs.Rows.{processes}
@@ -33,8 +33,8 @@ pub record NodeParts : Type 0 where
   pub node : ℕ
   pub incarnation : ℕ
   pub calls : ℕ
-  pub processes : List ProcessRow
-  pub locks : List LockRow
+  pub processes : List ProcessEntry
+  pub locks : List OwnerLocks
   pub pending : List OpenCall
   pub files : List FileRow
 

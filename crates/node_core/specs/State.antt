@@ -4,7 +4,7 @@ use Rattle.model.specs.declared.process.Process.{Process}
 use Rattle.model.specs.declared.call.CallId.{CallId}
 use Rattle.model.specs.declared.host.Host.{Host}
 use Rattle.model.specs.declared.reply.Reply.{Reply}
-use Rattle.model.specs.Table.{Table, Target, empty_table}
+use Rattle.model.specs.Table.{Table, LockTarget, empty_table}
 use Rattle.token_set.specs.Tokens.{Token, no_token}
 use Rattle.messages.specs.Shapes.{ShapeFields}
 use Rattle.messages.specs.declared.message.Message.{Message}
@@ -65,7 +65,7 @@ abbrev pub id_of : NodeState → ℕ → CallId
 id_of s number = record { node = s.node; incarnation = s.incarnation; number = number }
 
 -- what an open call is about
-abbrev pub target_of : OpenCall → Target
+abbrev pub target_of : OpenCall → LockTarget
 target_of c = record { file = c.file; owner = c.owner; span = c.span }
 
 -- a new state, at most one reply, and messages

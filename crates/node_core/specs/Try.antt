@@ -6,7 +6,7 @@ use Rattle.model.specs.declared.lock_info.LockInfo.{LockInfo}
 use Rattle.model.specs.declared.reply.Reply.{Reply}
 use Rattle.model.specs.declared.reply.Reply.TheVariants.{Done, Again, Free, Blocked}
 use Rattle.model.specs.Locks.{lowest_blocker}
-use Rattle.model.specs.Table.{Table, Target, lock_within}
+use Rattle.model.specs.Table.{Table, LockTarget, lock_within}
 use Rattle.token_set.specs.Tokens.{covers, desired}
 use Rattle.messages.specs.Wants.{Wants}
 use Rattle.messages.specs.declared.message.Urgency.{Urgency}
@@ -64,7 +64,7 @@ with_freed_of passes (suc n) e =
     if passes (suc n) then with_freed (suc n) before else before
 
 -- the bytes are set to the mode or freed, and the server hears of it where that may help others
-abbrev pub locked_by : NodeState → ℕ → Target → Option Mode → Effect
+abbrev pub locked_by : NodeState → ℕ → LockTarget → Option Mode → Effect
 locked_by s number target mode =
     let answer = lock_within s.table target mode in
     if may_free mode answer.1 then with_freed target.file (settled s number answer) else settled s number answer

@@ -11,7 +11,7 @@ ghost use Rattle.node_core.specs.Try.{may_free};
 pub use fcntl_table::locks::lock_reply;
 use lock_table::error::LockError;
 use lock_table::lock_table::{LockEdit, LockTable};
-use model::lock_call::LockCall;
+use model::lock_target::LockTarget;
 use model::mode::Mode;
 use model::reply::Reply;
 
@@ -21,7 +21,7 @@ use model::reply::Reply;
 /// Those of `LockTable::set` and `LockTable::unlock`.
 pub fn change_locks(
     locks: &mut LockTable,
-    target: LockCall,
+    target: LockTarget,
     mode: Option<Mode>,
 ) -> Result<(), LockError>
     ensures ok { OnOk result (held locks.new ≡ with_lock (held locks.old) target.file target.owner target.span mode) }

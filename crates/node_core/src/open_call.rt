@@ -6,7 +6,7 @@ ghost use Rattle.node_core.specs.Interrupts.{interruption_of};
 
 use intervals::span::Span;
 use messages::message::Urgency;
-use model::lock_call::LockCall;
+use model::lock_target::LockTarget;
 use model::lock_info::LockInfo;
 use model::mode::Mode;
 use model::owner::Owner;
@@ -71,10 +71,10 @@ pub struct OpenCall {
 
 impl OpenCall {
     /// What the call is about.
-    pub fn target(&self) -> LockCall
+    pub fn target(&self) -> LockTarget
         ensures { result ≡ target_of self.now }
     {
-        LockCall {
+        LockTarget {
             file: self.file,
             owner: self.owner,
             span: self.span,

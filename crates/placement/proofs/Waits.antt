@@ -8,7 +8,7 @@ use Rattle.model.specs.declared.op.Op.TheVariants.{Spawn, Fork, Open, Dup, Close
 use Rattle.model.specs.declared.process.Process.{Process}
 use Rattle.model.specs.declared.reply.Reply.{Reply}
 use Rattle.model.specs.declared.reply.Reply.TheVariants.{Blocked, Interrupted}
-use Rattle.model.specs.Table.{Table, Target, target}
+use Rattle.model.specs.Table.{Table, LockTarget, target}
 use Rattle.model.specs.Step.{BlocksCall, Step}
 use Rattle.model.specs.Replay.{NeverAnswers, NamesNoLock}
 use Rattle.model.proofs.ReplayLaws.{replies_are_one, blocked-waits, close_never-blocked, close_never-interrupted, dup_never-blocked, dup_never-interrupted, exit_never-blocked, exit_never-interrupted, fork_never-blocked, fork_never-interrupted, open_never-blocked, open_never-interrupted, query_never-interrupted, set_never-blocked, set_never-interrupted, spawn_never-blocked, spawn_never-interrupted, unlock_never-blocked, unlock_never-interrupted, wait_never-blocked}
@@ -46,5 +46,5 @@ only_queries-blocked t p (Unlock fd kind start len) lock none = unlock_never-blo
 only_queries-blocked t p (Query fd kind mode start len) lock none = absurd (none fd kind mode start len refl)
 
 -- a wait that a lock blocks goes on
-pub blocked-goes_on : (t : Table) (p : Process) (fd : ℕ) (kind : Kind) (mode : Mode) (start len : ℤ) (lock : LockInfo) (c : Target) (reply : Reply) → target t p (Some mode) fd kind start len ≡ Ok c → BlocksCall t c mode lock → GoesOn t p (Wait fd kind mode start len) reply
+pub blocked-goes_on : (t : Table) (p : Process) (fd : ℕ) (kind : Kind) (mode : Mode) (start len : ℤ) (lock : LockInfo) (c : LockTarget) (reply : Reply) → target t p (Some mode) fd kind start len ≡ Ok c → BlocksCall t c mode lock → GoesOn t p (Wait fd kind mode start len) reply
 blocked-goes_on t p fd kind mode start len lock c reply is blocks e other none own = blocked-waits t p fd kind mode start len lock c other is blocks (none, own)

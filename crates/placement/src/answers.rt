@@ -10,7 +10,7 @@ ghost use Rattle.placement.specs.Waits.{GoesOn};
 use fcntl_table::table::FcntlTable;
 use intervals::span_map::NoMemory;
 use model::limits::MOST_PROCESSES;
-use model::lock_call::LockCall;
+use model::lock_target::LockTarget;
 use model::lock_info::LockInfo;
 use model::mode::Mode;
 use model::op::Op;
@@ -139,7 +139,7 @@ fn may_interrupt(table: &FcntlTable, process: Process, op: Op) -> bool
 }
 
 // Whether the lock is a region of another owner that blocks the call.
-fn is_blocked_by(table: &FcntlTable, call: LockCall, mode: Mode, lock: &LockInfo) -> bool
+fn is_blocked_by(table: &FcntlTable, call: LockTarget, mode: Mode, lock: &LockInfo) -> bool
     ensures { IsTrue result ↔ BlocksCall (table_of table.now) call mode lock.now }
 {
     if lock.owner == call.owner || !lock.mode.excludes(mode) {

@@ -6,13 +6,13 @@ use Rattle.std.proofs.lemmas.List.Elements.{All-nil, All-cons, All-head, All-tai
 use Rattle.model.specs.declared.call.CallId.{CallId}
 use Rattle.messages.specs.declared.message.Urgency.TheVariants.{Waits}
 use Rattle.messages.specs.Messages.{same_urgency}
-use Rattle.token_server.specs.declared.held.Held.{Held}
+use Rattle.token_server.specs.declared.token_request.TokenRequest.{TokenRequest}
 use Rattle.token_server.specs.State.{Row, ServerState, is_of_call, is_up_to, unless, forgotten, requests, requeued}
 use Rattle.token_server.specs.Serve.{admitted}
 use Rattle.token_server.specs.Server.{with_a_row, is_active, request_of, enqueued_with, enqueued, asked, ended, put_off, postponed, freed}
 
 -- P holds of the requests, of those of each kind
-pub record AreRequests (P : Held → Type 0) (s : ServerState) : Type 0 where
+pub record AreRequests (P : TokenRequest → Type 0) (s : ServerState) : Type 0 where
   pub active : IfSome s.active P
   pub queue : All P s.queue
   pub waiting : All P s.waiting
@@ -27,75 +27,75 @@ All-right P [] ys all = all
 All-right P (x ∷ xs) ys all = All-right P xs ys (All-tail P x (xs ++ ys) all)
 
 -- what holds of all requests holds of one that is found
-pub find-each : (P : Held → Type 0) (test : Held → Bool) (rs : List Held) → All P rs → IfSome (find test rs) P
+pub find-each : (P : TokenRequest → Type 0) (test : TokenRequest → Bool) (rs : List TokenRequest) → All P rs → IfSome (find test rs) P
 find-each P test [] all = tt
 find-each P test (r ∷ rs) all =
     elim (test r) as (λ b. IfSome (cond b (Some r) (find test rs)) P) [ true ↦ All-head P r rs all | false ↦ find-each P test rs (All-tail P r rs all) ]
 
-first-each : (P : Held → Type 0) (active : Option Held) (rest : List Held) → All P (cons_option active rest) → IfSome active P
+first-each : (P : TokenRequest → Type 0) (active : Option TokenRequest) (rest : List TokenRequest) → All P (cons_option active rest) → IfSome active P
 first-each P None rest all = tt
 first-each P (Some r) rest all = All-head P r rest all
 
-rest-each : (P : Held → Type 0) (active : Option Held) (rest : List Held) → All P (cons_option active rest) → All P rest
+rest-each : (P : TokenRequest → Type 0) (active : Option TokenRequest) (rest : List TokenRequest) → All P (cons_option active rest) → All P rest
 rest-each P None rest all = all
 rest-each P (Some r) rest all = All-tail P r rest all
 
-both-each : (P : Held → Type 0) (active : Option Held) (rest : List Held) → IfSome active P → All P rest → All P (cons_option active rest)
+both-each : (P : TokenRequest → Type 0) (active : Option TokenRequest) (rest : List TokenRequest) → IfSome active P → All P rest → All P (cons_option active rest)
 both-each P None rest one all = all
 both-each P (Some r) rest one all = All-cons P r rest one all
 
 -- as one list, and by their kinds
-pub requests-parts : (P : Held → Type 0) (s : ServerState) → All P (requests s) → AreRequests P s
+pub requests-parts : (P : TokenRequest → Type 0) (s : ServerState) → All P (requests s) → AreRequests P s
 requests-parts P s all = record {
   active = first-each P s.active (s.queue ++ s.waiting) all;
   queue = All-left P s.queue s.waiting (rest-each P s.active (s.queue ++ s.waiting) all);
   waiting = All-right P s.queue s.waiting (rest-each P s.active (s.queue ++ s.waiting) all);
 }
 
-pub requests-whole : (P : Held → Type 0) (s : ServerState) → AreRequests P s → All P (requests s)
+pub requests-whole : (P : TokenRequest → Type 0) (s : ServerState) → AreRequests P s → All P (requests s)
 requests-whole P s are = both-each P s.active (s.queue ++ s.waiting) are.active (All-append P s.queue s.waiting are.queue are.waiting)
 
 -- what holds of all of them holds of the one that is served
-pub active-each : (P : Held → Type 0) (s : ServerState) → All P (requests s) → (r : Held) → s.active ≡ Some r → P r
-active-each P s all r is = subst (λ (o : Option Held). IfSome o P) is (requests-parts P s all).active
+pub active-each : (P : TokenRequest → Type 0) (s : ServerState) → All P (requests s) → (r : TokenRequest) → s.active ≡ Some r → P r
+active-each P s all r is = subst (λ (o : Option TokenRequest). IfSome o P) is (requests-parts P s all).active
 
 -- the first of the queue is served
-admitted-parts : (P : Held → Type 0) (s : ServerState) (active : Option Held) (queue : List Held) → All P queue → AreRequests P s → AreRequests P (admitted s active queue)
+admitted-parts : (P : TokenRequest → Type 0) (s : ServerState) (active : Option TokenRequest) (queue : List TokenRequest) → All P queue → AreRequests P s → AreRequests P (admitted s active queue)
 admitted-parts P s (Some r) queue all are = are
 admitted-parts P s None [] all are = are
 admitted-parts P s None (r ∷ rest) all are = record { active = All-head P r rest all; queue = All-tail P r rest all; waiting = are.waiting }
 
-pub admitted-each : (P : Held → Type 0) (s : ServerState) → All P (requests s) → All P (requests (admitted s s.active s.queue))
+pub admitted-each : (P : TokenRequest → Type 0) (s : ServerState) → All P (requests s) → All P (requests (admitted s s.active s.queue))
 admitted-each P s all =
     let are = requests-parts P s all in
     requests-whole P (admitted s s.active s.queue) (admitted-parts P s s.active s.queue are.queue are)
 
 -- what waits is asked for again
-pub requeued-each : (P : Held → Type 0) (s : ServerState) → All P (requests s) → All P (requests (requeued s))
+pub requeued-each : (P : TokenRequest → Type 0) (s : ServerState) → All P (requests s) → All P (requests (requeued s))
 requeued-each P s all =
     let are = requests-parts P s all in
     requests-whole P (requeued s) (record { active = are.active; queue = All-append P s.queue s.waiting are.queue are.waiting; waiting = All-nil P })
 
-pub freed-each : (P : Held → Type 0) (s : ServerState) (row : Option Row) → All P (requests s) → All P (requests (freed s row))
+pub freed-each : (P : TokenRequest → Type 0) (s : ServerState) (row : Option Row) → All P (requests s) → All P (requests (freed s row))
 freed-each P s None all = all
 freed-each P s (Some row) all = requeued-each P s all
 
-unless-each : (P : Held → Type 0) (drops : Held → Bool) (active : Option Held) → IfSome active P → IfSome (unless drops active) P
+unless-each : (P : TokenRequest → Type 0) (drops : TokenRequest → Bool) (active : Option TokenRequest) → IfSome active P → IfSome (unless drops active) P
 unless-each P drops None one = tt
 unless-each P drops (Some r) one = elim (drops r) as (λ b. IfSome (cond b None (Some r)) P) [ true ↦ tt | false ↦ one ]
 
 -- a call's request is served no longer
-pub ended-each : (P : Held → Type 0) (call : CallId) (s : ServerState) → All P (requests s) → All P (requests (ended call s))
+pub ended-each : (P : TokenRequest → Type 0) (call : CallId) (s : ServerState) → All P (requests s) → All P (requests (ended call s))
 ended-each P call s all =
     let are = requests-parts P s all in
     requests-whole P (ended call s) (record { active = unless-each P (is_of_call call) s.active are.active; queue = are.queue; waiting = are.waiting })
 
-put_off-each : (P : Held → Type 0) (call : CallId) (active : Option Held) → IfSome active P → All P (put_off call active)
+put_off-each : (P : TokenRequest → Type 0) (call : CallId) (active : Option TokenRequest) → IfSome active P → All P (put_off call active)
 put_off-each P call None one = All-nil P
 put_off-each P call (Some r) one = elim (is_of_call call r && same_urgency r.urgency Waits) as (λ b. All P (cond b (r ∷ []) [])) [ true ↦ All-cons P r [] one (All-nil P) | false ↦ All-nil P ]
 
 -- or it waits from then on
-pub postponed-each : (P : Held → Type 0) (call : CallId) (s : ServerState) → All P (requests s) → All P (requests (postponed call s))
+pub postponed-each : (P : TokenRequest → Type 0) (call : CallId) (s : ServerState) → All P (requests s) → All P (requests (postponed call s))
 postponed-each P call s all =
     let are = requests-parts P s all in
     requests-whole P (postponed call s) (record {
@@ -105,17 +105,17 @@ postponed-each P call s all =
     })
 
 -- requests of a node's dead incarnations go
-pub forgotten-each : (P : Held → Type 0) (s : ServerState) (node incarnation : ℕ) → All P (requests s) → All P (requests (forgotten s node incarnation))
+pub forgotten-each : (P : TokenRequest → Type 0) (s : ServerState) (node incarnation : ℕ) → All P (requests s) → All P (requests (forgotten s node incarnation))
 forgotten-each P s node incarnation all =
     let are = requests-parts P s all in
-    let stays : Held → Bool = λ r. not (is_up_to node incarnation r) in
+    let stays : TokenRequest → Bool = λ r. not (is_up_to node incarnation r) in
     requests-whole P (forgotten s node incarnation) (record {
       active = unless-each P (is_up_to node incarnation) s.active are.active;
       queue = All-filter stays P s.queue are.queue;
       waiting = All-filter stays P s.waiting are.waiting;
     })
 
-unless-young : (drops : Held → Bool) (active : Option Held) → IfSome (unless drops active) (λ r. not (drops r) ≡ true)
+unless-young : (drops : TokenRequest → Bool) (active : Option TokenRequest) → IfSome (unless drops active) (λ r. not (drops r) ≡ true)
 unless-young drops None = tt
 unless-young drops (Some r) = by (drops r) refl
   where
@@ -126,7 +126,7 @@ unless-young drops (Some r) = by (drops r) refl
 -- and none of them is left
 pub forgotten-young : (s : ServerState) (node incarnation : ℕ) → All (λ r. not (is_up_to node incarnation r) ≡ true) (requests (forgotten s node incarnation))
 forgotten-young s node incarnation =
-    let stays : Held → Bool = λ r. not (is_up_to node incarnation r) in
+    let stays : TokenRequest → Bool = λ r. not (is_up_to node incarnation r) in
     requests-whole (λ r. stays r ≡ true) (forgotten s node incarnation) (record {
       active = unless-young (is_up_to node incarnation) s.active;
       queue = filter_passes stays s.queue;
@@ -134,7 +134,7 @@ forgotten-young s node incarnation =
     })
 
 -- a request comes into the queue, or one that waits does
-enqueued_with-each : (P : Held → Type 0) (s : ServerState) (r : Held) (own : Option Held) → P r → IfSome own P → AreRequests P s → All P (requests (enqueued_with s r own))
+enqueued_with-each : (P : TokenRequest → Type 0) (s : ServerState) (r : TokenRequest) (own : Option TokenRequest) → P r → IfSome own P → AreRequests P s → All P (requests (enqueued_with s r own))
 enqueued_with-each P s r None new old are = requests-whole P (enqueued_with s r None) (record { active = are.active; queue = All-push P s.queue r are.queue new; waiting = are.waiting })
 enqueued_with-each P s r (Some own) new old are = requests-whole P (enqueued_with s r (Some own)) (record {
   active = are.active;
@@ -142,7 +142,7 @@ enqueued_with-each P s r (Some own) new old are = requests-whole P (enqueued_wit
   waiting = All-filter (λ q. not (is_of_call r.call q)) P s.waiting are.waiting;
 })
 
-pub enqueued-each : (P : Held → Type 0) (s : ServerState) (r : Held) → P r → All P (requests s) → All P (requests (enqueued s r))
+pub enqueued-each : (P : TokenRequest → Type 0) (s : ServerState) (r : TokenRequest) → P r → All P (requests s) → All P (requests (enqueued s r))
 enqueued-each P s r new all =
     let are = requests-parts P s all in
     let added = enqueued_with s r (request_of r.call s.waiting) in
@@ -152,11 +152,11 @@ enqueued-each P s r new all =
     ]
 
 -- a new row changes no request
-pub with_a_row-each : (P : Held → Type 0) (s : ServerState) (call : CallId) (row : Option Row) → All P (requests s) → All P (requests (with_a_row s call row))
+pub with_a_row-each : (P : TokenRequest → Type 0) (s : ServerState) (call : CallId) (row : Option Row) → All P (requests s) → All P (requests (with_a_row s call row))
 with_a_row-each P s call None all = all
 with_a_row-each P s call (Some row) all = all
 
-pub asked-each : (P : Held → Type 0) (s : ServerState) (r : Held) → P r → All P (requests s) → All P (requests (asked s r))
+pub asked-each : (P : TokenRequest → Type 0) (s : ServerState) (r : TokenRequest) → P r → All P (requests s) → All P (requests (asked s r))
 asked-each P s r new all =
     let young = forgotten s r.call.node (r.call.incarnation - 1) in
     enqueued-each P (with_a_row young r.call (young.rows r.call.node)) r new (with_a_row-each P young r.call (young.rows r.call.node) (forgotten-each P s r.call.node (r.call.incarnation - 1) all))

@@ -11,20 +11,20 @@ use Rattle.token_set.proofs.SearchLaws.{first-is, some_passes-first}
 use Rattle.token_set.proofs.TokenLaws.{none-conflicts}
 use Rattle.token_set.proofs.AroundLaws.{largest_around-free, largest_around-zero, largest_around-more, largest_around-skip, largest_around-same}
 use Rattle.model.specs.declared.mode.Mode.{Mode}
-use Rattle.token_server.specs.declared.held.Held.{Held}
+use Rattle.token_server.specs.declared.token_request.TokenRequest.{TokenRequest}
 use Rattle.token_server.specs.State.{Row, ServerState}
 use Rattle.token_server.specs.Serve.{row_conflicts, row_conflicts_at, granted_span, conflicting_node}
 
 -- another node's row conflicts with what the request needs
-abbrev pub conflicts_at : ServerState → Held → ℕ → Bool
+abbrev pub conflicts_at : ServerState → TokenRequest → ℕ → Bool
 conflicts_at s r n = not (n == r.call.node) && row_conflicts (s.rows n) r.wanted.required r.mode
 
 -- at the byte
-abbrev pub conflicts_at_byte : ServerState → Held → ℕ → ℕ → Bool
+abbrev pub conflicts_at_byte : ServerState → TokenRequest → ℕ → ℕ → Bool
 conflicts_at_byte s r n b = not (n == r.call.node) && row_conflicts_at (s.rows n) b r.mode
 
 -- the span before the rows of the nodes up to k, and what it stands between
-pub record IsNarrowed (s : ServerState) (r : Held) (k : ℕ) (span : Range) : Type 0 where
+pub record IsNarrowed (s : ServerState) (r : TokenRequest) (k : ℕ) (span : Range) : Type 0 where
   pub order : r.wanted.required.lo ≤ r.wanted.required.hi
   pub starts : r.wanted.desired.lo ≤ r.wanted.required.lo
   pub ends : r.wanted.required.hi ≤ r.wanted.desired.hi
@@ -71,18 +71,18 @@ free_around-exact row required within mode order starts ends free =
     sym (largest_around-free (λ b. row_conflicts_at row b mode) required within order (omega arith) (omega arith) (λ b above below here. row_free row required mode free b (omega arith) (omega arith) here))
 
 -- no row of another node conflicts, where no node is found whose row does
-no_conflict : (s : ServerState) (r : Held) → s.shape.nodes < conflicting_node s r → (n : ℕ) → 1 ≤ n → n ≤ s.shape.nodes → conflicts_at s r n ≡ false
+no_conflict : (s : ServerState) (r : TokenRequest) → s.shape.nodes < conflicting_node s r → (n : ℕ) → 1 ≤ n → n ≤ s.shape.nodes → conflicts_at s r n ≡ false
 no_conflict s r none n above within = (first_is_first (conflicts_at s r) 1 s.shape.nodes).none_before n above (omega arith)
 
 -- nor at any byte of what the request needs
-none_at_byte : (s : ServerState) (r : Held) (n : ℕ) → conflicts_at s r n ≡ false → NoneIn (λ b. conflicts_at_byte s r n b ≡ true) r.wanted.required
+none_at_byte : (s : ServerState) (r : TokenRequest) (n : ℕ) → conflicts_at s r n ≡ false → NoneIn (λ b. conflicts_at_byte s r n b ≡ true) r.wanted.required
 none_at_byte s r n free b above below here =
     elim (not (n == r.call.node)) as (λ t. (t && row_conflicts (s.rows n) r.wanted.required r.mode) ≡ false → (t && row_conflicts_at (s.rows n) b r.mode) ≡ true → ⊥)
     [ true ↦ λ free here. row_free (s.rows n) r.wanted.required r.mode free b above below here | false ↦ λ free here. both_ways _ free here ]
     free here
 
 -- before any row the span is what the request would like to have
-pub narrowed-start : (s : ServerState) (r : Held) → r.wanted.required.lo ≤ r.wanted.required.hi → r.wanted.desired.lo ≤ r.wanted.required.lo → r.wanted.required.hi ≤ r.wanted.desired.hi → IsNarrowed s r 0 r.wanted.desired
+pub narrowed-start : (s : ServerState) (r : TokenRequest) → r.wanted.required.lo ≤ r.wanted.required.hi → r.wanted.desired.lo ≤ r.wanted.required.lo → r.wanted.required.hi ≤ r.wanted.desired.hi → IsNarrowed s r 0 r.wanted.desired
 narrowed-start s r order starts ends = record {
   order = order;
   starts = starts;
@@ -91,7 +91,7 @@ narrowed-start s r order starts ends = record {
 }
 
 -- it still holds what the request needs
-pub narrowed-holds : (s : ServerState) (r : Held) (k : ℕ) (span : Range) → s.shape.nodes < conflicting_node s r → k ≤ s.shape.nodes → IsNarrowed s r k span → (span.lo ≤ r.wanted.required.lo) × (r.wanted.required.hi ≤ span.hi)
+pub narrowed-holds : (s : ServerState) (r : TokenRequest) (k : ℕ) (span : Range) → s.shape.nodes < conflicting_node s r → k ≤ s.shape.nodes → IsNarrowed s r k span → (span.lo ≤ r.wanted.required.lo) × (r.wanted.required.hi ≤ span.hi)
 narrowed-holds s r k span none within n =
     let free : NoneIn (λ b. some_passes (λ n. conflicts_at_byte s r n b) 1 k ≡ true) r.wanted.required = λ b above below some.
     let one = some_passes-first (λ n. conflicts_at_byte s r n b) 1 k some in
@@ -100,7 +100,7 @@ narrowed-holds s r k span none within n =
     rw n.value (l.has_first, l.has_last)
 
 -- one more row of another node
-pub narrowed-more : (s : ServerState) (r : Held) (k : ℕ) (span next : Range) → s.shape.nodes < conflicting_node s r → k < s.shape.nodes → IsNarrowed s r k span → (k + 1 == r.call.node) ≡ false → next ≡ largest_around (λ b. row_conflicts_at (s.rows (k + 1)) b r.mode) r.wanted.required span → IsNarrowed s r (k + 1) next
+pub narrowed-more : (s : ServerState) (r : TokenRequest) (k : ℕ) (span next : Range) → s.shape.nodes < conflicting_node s r → k < s.shape.nodes → IsNarrowed s r k span → (k + 1 == r.call.node) ≡ false → next ≡ largest_around (λ b. row_conflicts_at (s.rows (k + 1)) b r.mode) r.wanted.required span → IsNarrowed s r (k + 1) next
 narrowed-more s r k span next none within n other made = record {
   order = n.order;
   starts = n.starts;
@@ -119,7 +119,7 @@ narrowed-more s r k span next none within n other made = record {
     same b = ap (λ t. not t && row_conflicts_at (s.rows (k + 1)) b r.mode) (sym other) ∙ ap (λ n. conflicts_at_byte s r n b) next_is
 
 -- the row of its own node
-pub narrowed-skip : (s : ServerState) (r : Held) (k : ℕ) (span : Range) → IsNarrowed s r k span → (k + 1 == r.call.node) ≡ true → IsNarrowed s r (k + 1) span
+pub narrowed-skip : (s : ServerState) (r : TokenRequest) (k : ℕ) (span : Range) → IsNarrowed s r k span → (k + 1 == r.call.node) ≡ true → IsNarrowed s r (k + 1) span
 narrowed-skip s r k span n own = record {
   order = n.order;
   starts = n.starts;
@@ -134,10 +134,10 @@ narrowed-skip s r k span n own = record {
     none b = ap (λ n. conflicts_at_byte s r n b) (sym next_is) ∙ ap (λ t. not t && row_conflicts_at (s.rows (k + 1)) b r.mode) own
 
 -- what the next row has to be free of
-pub narrowed-free : (s : ServerState) (r : Held) (k : ℕ) → s.shape.nodes < conflicting_node s r → k < s.shape.nodes → (k + 1 == r.call.node) ≡ false → row_conflicts (s.rows (k + 1)) r.wanted.required r.mode ≡ false
+pub narrowed-free : (s : ServerState) (r : TokenRequest) (k : ℕ) → s.shape.nodes < conflicting_node s r → k < s.shape.nodes → (k + 1 == r.call.node) ≡ false → row_conflicts (s.rows (k + 1)) r.wanted.required r.mode ≡ false
 narrowed-free s r k none within other =
     ap (λ t. not t && row_conflicts (s.rows (k + 1)) r.wanted.required r.mode) (sym other) ∙ no_conflict s r none (k + 1) (omega arith) (omega arith)
 
 -- after the last row it is the granted span
-pub narrowed-end : (s : ServerState) (r : Held) (k : ℕ) (span : Range) → IsNarrowed s r k span → k ≡ s.shape.nodes → span ≡ granted_span s r
+pub narrowed-end : (s : ServerState) (r : TokenRequest) (k : ℕ) (span : Range) → IsNarrowed s r k span → k ≡ s.shape.nodes → span ≡ granted_span s r
 narrowed-end s r k span n end = n.value ∙ ap (λ k. largest_around (λ b. some_passes (λ n. conflicts_at_byte s r n b) 1 k) r.wanted.required r.wanted.desired) end

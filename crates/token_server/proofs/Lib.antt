@@ -1,5 +1,5 @@
 pub mod ClientLaws
-pub mod HeldLaws
+pub mod TokenRequestLaws
 pub mod RequestLaws
 pub mod SketchLaws
 pub mod LoweredLaws

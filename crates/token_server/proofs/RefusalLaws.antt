@@ -4,7 +4,7 @@ use Rattle.std.proofs.Common.{refl, sym, ap, ◌∙◌}
 use Rattle.messages.specs.declared.refusal.StepError.{StepError}
 use Rattle.messages.specs.declared.refusal.StepError.TheVariants.{Spent}
 use Rattle.messages.specs.Messages.{greatest_number}
-use Rattle.token_server.specs.declared.held.Held.{Held}
+use Rattle.token_server.specs.declared.token_request.TokenRequest.{TokenRequest}
 use Rattle.token_server.specs.State.{Row, ServerState}
 use Rattle.token_server.specs.Parts.{next_number}
 use Rattle.token_server.specs.Serve.{admitted, conflicting_node, granted_to, revoked_from, served, serve}
@@ -20,20 +20,20 @@ either-refusal true c x y u v e = refl
 either-refusal false true x y u v e = refl
 either-refusal false false x y u v e = refl
 
-granted-refusal : (s : ServerState) (r : Held) (row : Option Row) → refusal_of (granted_to s r row) ≡ row_refusal row
+granted-refusal : (s : ServerState) (r : TokenRequest) (row : Option Row) → refusal_of (granted_to s r row) ≡ row_refusal row
 granted-refusal s r None = refl
 granted-refusal s r (Some row) = either-refusal (is_some row.outstanding) (nat_lt row.number greatest_number) _ _ _ _ Spent
 
-revoked-refusal : (s : ServerState) (r : Held) (node : ℕ) (row : Option Row) → refusal_of (revoked_from s r node row) ≡ row_refusal row
+revoked-refusal : (s : ServerState) (r : TokenRequest) (node : ℕ) (row : Option Row) → refusal_of (revoked_from s r node row) ≡ row_refusal row
 revoked-refusal s r node None = refl
 revoked-refusal s r node (Some row) = either-refusal (is_some row.outstanding) (nat_lt row.number greatest_number) _ _ _ _ Spent
 
 -- the node to which the next command for a request would go
-abbrev pub sought : Option ℕ → Held → ℕ
+abbrev pub sought : Option ℕ → TokenRequest → ℕ
 sought None r = r.call.node
 sought (Some node) r = node
 
-pub served-refusal : (s : ServerState) (r : Held) → refusal_of (served s (Some r)) ≡ row_refusal (s.rows (sought (opposing s (Some r)) r))
+pub served-refusal : (s : ServerState) (r : TokenRequest) → refusal_of (served s (Some r)) ≡ row_refusal (s.rows (sought (opposing s (Some r)) r))
 served-refusal s r = by (nat_le node s.shape.nodes)
   where
     node : ℕ
@@ -44,13 +44,13 @@ served-refusal s r = by (nat_le node s.shape.nodes)
     by false = granted-refusal s r (s.rows r.call.node)
 
 -- who is served changes neither the node nor the refusal
-pub opposing-admitted : (s : ServerState) (active : Option Held) (queue : List Held) (x : Option Held) → opposing (admitted s active queue) x ≡ opposing s x
+pub opposing-admitted : (s : ServerState) (active : Option TokenRequest) (queue : List TokenRequest) (x : Option TokenRequest) → opposing (admitted s active queue) x ≡ opposing s x
 opposing-admitted s (Some r) queue x = refl
 opposing-admitted s None [] x = refl
 opposing-admitted s None (r ∷ rest) None = refl
 opposing-admitted s None (r ∷ rest) (Some x) = refl
 
-pub refusal-admitted : (s : ServerState) (active : Option Held) (queue : List Held) (x : Option Held) → refusal_of (served (admitted s active queue) x) ≡ refusal_of (served s x)
+pub refusal-admitted : (s : ServerState) (active : Option TokenRequest) (queue : List TokenRequest) (x : Option TokenRequest) → refusal_of (served (admitted s active queue) x) ≡ refusal_of (served s x)
 refusal-admitted s (Some r) queue x = refl
 refusal-admitted s None [] x = refl
 refusal-admitted s None (r ∷ rest) None = refl
@@ -62,21 +62,21 @@ refused-by (Ok x) e is = absurd (cc)
 refused-by (Err x) e is = let same : x ≡ e = cc in ap Err same
 
 -- a refusal to serve that is found
-pub refused-some : (s : ServerState) (x : Option Held) (o : Option StepError) (e : StepError) → x ≡ (admitted s s.active s.queue).active → o ≡ refusal_of (served s x) → o ≡ Some e → serve s ≡ Err e
+pub refused-some : (s : ServerState) (x : Option TokenRequest) (o : Option StepError) (e : StepError) → x ≡ (admitted s s.active s.queue).active → o ≡ refusal_of (served s x) → o ≡ Some e → serve s ≡ Err e
 refused-some s x o e at found is =
-    refused-by (serve s) e (refusal-admitted s s.active s.queue (admitted s s.active s.queue).active ∙ ap (λ (y : Option Held). refusal_of (served s y)) (sym at) ∙ sym found ∙ is)
+    refused-by (serve s) e (refusal-admitted s s.active s.queue (admitted s s.active s.queue).active ∙ ap (λ (y : Option TokenRequest). refusal_of (served s y)) (sym at) ∙ sym found ∙ is)
 
 pub refused-same : (s : ServerState) (e d : StepError) → serve s ≡ Err e → serve s ≡ Err d → e ≡ d
 refused-same s e d one other = let both : Some e ≡ Some d = sym (ap refusal_of one) ∙ ap refusal_of other in cc
 
 -- and that there is none
-pub refused-none : (s : ServerState) (x : Option Held) (o : Option StepError) (e : StepError) → x ≡ (admitted s s.active s.queue).active → o ≡ refusal_of (served s x) → o ≡ None → serve s ≡ Err e → ⊥
+pub refused-none : (s : ServerState) (x : Option TokenRequest) (o : Option StepError) (e : StepError) → x ≡ (admitted s s.active s.queue).active → o ≡ refusal_of (served s x) → o ≡ None → serve s ≡ Err e → ⊥
 refused-none s x o e at found is refused =
-    let none : Some e ≡ None = sym (ap refusal_of refused) ∙ refusal-admitted s s.active s.queue (admitted s s.active s.queue).active ∙ ap (λ (y : Option Held). refusal_of (served s y)) (sym at) ∙ sym found ∙ is in
+    let none : Some e ≡ None = sym (ap refusal_of refused) ∙ refusal-admitted s s.active s.queue (admitted s s.active s.queue).active ∙ ap (λ (y : Option TokenRequest). refusal_of (served s y)) (sym at) ∙ sym found ∙ is in
     absurd (cc)
 
 -- the node to which the next command goes, once the first of the queue is served
-pub opposing-then : (s t u : ServerState) (x : Option Held) → t ≡ s → u ≡ admitted t t.active t.queue → x ≡ (admitted s s.active s.queue).active → opposing s x ≡ opposing u u.active
+pub opposing-then : (s t u : ServerState) (x : Option TokenRequest) → t ≡ s → u ≡ admitted t t.active t.queue → x ≡ (admitted s s.active s.queue).active → opposing s x ≡ opposing u u.active
 opposing-then s t u x settled next at =
     ap (opposing s) at
     ∙ sym (opposing-admitted s s.active s.queue (admitted s s.active s.queue).active)

@@ -10,7 +10,7 @@ use Rattle.model.specs.declared.call.CallId.{CallId}
 use Rattle.model.specs.contracts.call.CallIdPartialEq.TheImpl as derived
 use Rattle.messages.specs.Messages.{same_call}
 use Rattle.indexmap.specs.IndexMap.{IndexMap, IsUnique}
-use Rattle.token_server.specs.declared.held.Held.{Held}
+use Rattle.token_server.specs.declared.token_request.TokenRequest.{TokenRequest}
 use Rattle.token_server.specs.State.{is_of_call}
 
 -- the derived `==` of calls is the test of the definitions
@@ -21,11 +21,11 @@ pub eq-same_call : derived.ghosts.eq ≡ same_call
 eq-same_call i a b = call_eq a b i
 
 -- so calls that are distinct by the one are by the other
-pub unique-same_call : {S : Type 0} (m : IndexMap CallId Held S) → IsUnique derived.ghosts.eq m → IsUnique same_call m
+pub unique-same_call : {S : Type 0} (m : IndexMap CallId TokenRequest S) → IsUnique derived.ghosts.eq m → IsUnique same_call m
 unique-same_call m unique = subst (λ (eq : CallId → CallId → Bool). IsUnique eq m) eq-same_call unique
 
 -- the request is kept at its call
-abbrev pub IsAtCall : CallId × Held → Type 0
+abbrev pub IsAtCall : CallId × TokenRequest → Type 0
 IsAtCall e = e.0 ≡ e.1.call
 
 -- the order of two calls does not matter
@@ -33,11 +33,11 @@ pub same_call-symm : (a b : CallId) → same_call a b ≡ same_call b a
 same_call-symm a b = λ i. nat_eq_equiv.symm a.node b.node i && (nat_eq_equiv.symm a.incarnation b.incarnation i && nat_eq_equiv.symm a.number b.number i)
 
 -- the test of a key is that of its request
-test-is : (call : CallId) (e : CallId × Held) → IsAtCall e → derived.ghosts.eq call e.0 ≡ is_of_call call e.1
+test-is : (call : CallId) (e : CallId × TokenRequest) → IsAtCall e → derived.ghosts.eq call e.0 ≡ is_of_call call e.1
 test-is call e at = call_eq call e.0 ∙ ap (same_call call) at ∙ same_call-symm call e.1.call
 
 -- what a look-up finds
-pub find-by_call : (call : CallId) (es : List (CallId × Held)) → All IsAtCall es → lookup (derived.ghosts.eq call) es ≡ find (is_of_call call) (values_of es)
+pub find-by_call : (call : CallId) (es : List (CallId × TokenRequest)) → All IsAtCall es → lookup (derived.ghosts.eq call) es ≡ find (is_of_call call) (values_of es)
 find-by_call call [] at = refl
 find-by_call call (e ∷ es) at =
     (λ i. cond (test-is call e (All-head IsAtCall e es at) i) (Some e.1) (lookup (derived.ghosts.eq call) es))

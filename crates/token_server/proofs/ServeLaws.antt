@@ -10,14 +10,14 @@ use Rattle.messages.specs.declared.message.Message.{Message}
 use Rattle.messages.specs.declared.message.Message.TheVariants.{Grant}
 use Rattle.messages.specs.Messages.{greatest_number}
 use Rattle.token_set.specs.Tokens.{Token, raised}
-use Rattle.token_server.specs.declared.held.Held.{Held}
+use Rattle.token_server.specs.declared.token_request.TokenRequest.{TokenRequest}
 use Rattle.token_server.specs.State.{Row, ServerState, with_row}
 use Rattle.token_server.specs.Serve.{admitted, row_conflicts, granted_span, conflicting_node, commanded, granted_to, revoked_from, served}
 use Rattle.token_server.specs.Grants.{IsServed, IsUnhindered, GrantsWhatIsFree}
 use Rattle.token_server.proofs.GrantLaws.{conflicts_at, first-none, narrowed-holds}
 
 -- no row conflicts, so no node is found whose row does
-unhindered-none : (s : ServerState) (r : Held) (row : Row) → IsUnhindered s r row → s.shape.nodes < conflicting_node s r
+unhindered-none : (s : ServerState) (r : TokenRequest) (row : Row) → IsUnhindered s r row → s.shape.nodes < conflicting_node s r
 unhindered-none s r row free = first-none (conflicts_at s r) s.shape.nodes s.shape.nodes (omega arith) none
   where
     none : (n : ℕ) → 1 ≤ n → n ≤ s.shape.nodes → conflicts_at s r n ≡ false
@@ -27,7 +27,7 @@ unhindered-none s r row free = first-none (conflicts_at s r) s.shape.nodes s.sha
     ]
 
 -- it is granted where no node is found
-served-granted : (s : ServerState) (r : Held) → s.shape.nodes < conflicting_node s r → served s (Some r) ≡ granted_to s r (s.rows r.call.node)
+served-granted : (s : ServerState) (r : TokenRequest) → s.shape.nodes < conflicting_node s r → served s (Some r) ≡ granted_to s r (s.rows r.call.node)
 served-granted s r none =
     let node = conflicting_node s r in
     ap (λ (b : Bool). cond b (revoked_from s r node (s.rows node)) (granted_to s r (s.rows r.call.node))) (lt-leb node s.shape.nodes none)
@@ -47,14 +47,14 @@ commanded-idle s node row token command idle room =
     ∙ ap (λ (b : Bool). cond b sent spent) (lt-ltb row.number greatest_number room)
 
 -- the answer to a request that nothing hinders
-record Grants (s : ServerState) (r : Held) (row : Row) (answer : Result (ServerState × List Message) StepError) : Type 0 where
+record Grants (s : ServerState) (r : TokenRequest) (row : Row) (answer : Result (ServerState × List Message) StepError) : Type 0 where
   new : ServerState
   span : Range
   starts : span.lo ≤ r.wanted.required.lo
   ends : r.wanted.required.hi ≤ span.hi
   serves : answer ≡ Ok (new, Grant s.file (row.number + 1) r.call r.mode span ∷ [])
 
-served-free : (s : ServerState) (r : Held) (row : Row) → s.rows r.call.node ≡ Some row → r.wanted.required.lo ≤ r.wanted.required.hi → r.wanted.desired.lo ≤ r.wanted.required.lo → r.wanted.required.hi ≤ r.wanted.desired.hi → IsUnhindered s r row → Grants s r row (served s (Some r))
+served-free : (s : ServerState) (r : TokenRequest) (row : Row) → s.rows r.call.node ≡ Some row → r.wanted.required.lo ≤ r.wanted.required.hi → r.wanted.desired.lo ≤ r.wanted.required.lo → r.wanted.required.hi ≤ r.wanted.desired.hi → IsUnhindered s r row → Grants s r row (served s (Some r))
 served-free s r row there ordered starts ends free =
     let none = unhindered-none s r row free in
     let span = granted_span s r in
@@ -70,7 +70,7 @@ served-free s r row there ordered starts ends free =
     }
 
 -- a request that was served before, or is from now on
-admitted-free : (s : ServerState) (r : Held) (row : Row) (active : Option Held) (queue : List Held) → IsServed s r row → IsUnhindered s r row → (admitted s active queue).active ≡ Some r → Grants s r row (served (admitted s active queue) (admitted s active queue).active)
+admitted-free : (s : ServerState) (r : TokenRequest) (row : Row) (active : Option TokenRequest) (queue : List TokenRequest) → IsServed s r row → IsUnhindered s r row → (admitted s active queue).active ≡ Some r → Grants s r row (served (admitted s active queue) (admitted s active queue).active)
 admitted-free s r row (Some x) queue is free e =
     let d = served-free s r row is.row_is is.ordered is.starts is.ends free in
     record { new = d.new; span = d.span; starts = d.starts; ends = d.ends; serves = ap (served s) e ∙ d.serves }

@@ -8,7 +8,7 @@ use Rattle.model.specs.declared.call.CallId.{CallId}
 use Rattle.model.specs.Limits.{HostFields}
 use Rattle.model.specs.Owners.{host_of_call}
 use Rattle.messages.specs.Messages.{same_call}
-use Rattle.token_server.specs.declared.held.Held.{Held}
+use Rattle.token_server.specs.declared.token_request.TokenRequest.{TokenRequest}
 use Rattle.token_server.specs.declared.node_change.NodeChange.TheVariants.{Asked}
 use Rattle.token_server.specs.declared.sketch.Moved.{Moved}
 use Rattle.token_server.specs.declared.sketch.Moved.TheVariants.{Nothing}
@@ -58,7 +58,7 @@ with_a_row-is s call (Some row) is = λ i. record s { rows = (sym (row_there cal
 of_call-young : (own asked : CallId) → 1 ≤ asked.incarnation → same_call own asked ≡ true → not ((own.node == asked.node) && nat_le own.incarnation (asked.incarnation - 1)) ≡ true
 of_call-young own asked counted same = grind (arith, common_steps)
 
-asked-sketched : (p : ServerParts) (r : Held) → 1 ≤ r.call.incarnation → sketched p (record { changed = Some (record { node = r.call.node; change = Asked (host_of_call r.call) }); moved = moved_for r (unless (is_up_to r.call.node (r.call.incarnation - 1)) p.active) p.queue p.waiting; active = unless (is_up_to r.call.node (r.call.incarnation - 1)) p.active }) ≡ asked (server_state p) r
+asked-sketched : (p : ServerParts) (r : TokenRequest) → 1 ≤ r.call.incarnation → sketched p (record { changed = Some (record { node = r.call.node; change = Asked (host_of_call r.call) }); moved = moved_for r (unless (is_up_to r.call.node (r.call.incarnation - 1)) p.active) p.queue p.waiting; active = unless (is_up_to r.call.node (r.call.incarnation - 1)) p.active }) ≡ asked (server_state p) r
 asked-sketched p r counted = moves ∙ same_test ∙ ap (λ (s : ServerState). enqueued s r) (sym rowed)
   where
     node : ℕ
@@ -67,13 +67,13 @@ asked-sketched p r counted = moves ∙ same_test ∙ ap (λ (s : ServerState). e
     old : ℕ
     old = r.call.incarnation - 1
 
-    keeps : Held → Bool
+    keeps : TokenRequest → Bool
     keeps x = not (is_up_to node old x)
 
     young : ServerState
     young = forgotten (server_state p) node old
 
-    active : Option Held
+    active : Option TokenRequest
     active = unless (is_up_to node old) p.active
 
     changed : Option Changed
@@ -88,17 +88,17 @@ asked-sketched p r counted = moves ∙ same_test ∙ ap (λ (s : ServerState). e
     rowed : with_a_row young r.call (young.rows node) ≡ base
     rowed = with_a_row-is young r.call (young.rows node) refl ∙ (λ i. record young { rows = change_twice node (row_or_empty r.call.incarnation) (row_above old) (server_state p).rows i })
 
-    kept : (requests : List Held) → find (is_of_call r.call) (filter keeps requests) ≡ find (is_of_call r.call) requests
+    kept : (requests : List TokenRequest) → find (is_of_call r.call) (filter keeps requests) ≡ find (is_of_call r.call) requests
     kept requests = find-filter (is_of_call r.call) keeps requests (λ x is. of_call-young x.call r.call counted is)
 
     test : Bool
     test = is_active r.call active || is_some (request_of r.call p.queue)
 
-    one : (o : Option Held) → made (moved_with r o) ≡ enqueued_with base r o
+    one : (o : Option TokenRequest) → made (moved_with r o) ≡ enqueued_with base r o
     one None = refl
     one (Some own) = refl
 
-    by : (b : Bool) (o : Option Held) → made (cond b Nothing (moved_with r o)) ≡ cond b base (enqueued_with base r o)
+    by : (b : Bool) (o : Option TokenRequest) → made (cond b Nothing (moved_with r o)) ≡ cond b base (enqueued_with base r o)
     by true o = refl
     by false o = one o
 
@@ -112,7 +112,7 @@ asked-sketched p r counted = moves ∙ same_test ∙ ap (λ (s : ServerState). e
     same_test = λ i. cond (is_active r.call active || tests i) base (enqueued_with base r (sym (kept p.waiting) i))
 
 -- what a request changes
-pub asked-from : (p : ServerParts) (r : Held) (node : ℕ) (host : HostFields) (active : Option Held) (moved : Moved) → 1 ≤ r.call.incarnation → node ≡ r.call.node → host ≡ host_of_call r.call → active ≡ unless (is_up_to r.call.node (r.call.incarnation - 1)) p.active → moved ≡ moved_for r active p.queue p.waiting → sketched p (record { changed = Some (record { node = node; change = Asked host }); moved = moved; active = active }) ≡ asked (server_state p) r
+pub asked-from : (p : ServerParts) (r : TokenRequest) (node : ℕ) (host : HostFields) (active : Option TokenRequest) (moved : Moved) → 1 ≤ r.call.incarnation → node ≡ r.call.node → host ≡ host_of_call r.call → active ≡ unless (is_up_to r.call.node (r.call.incarnation - 1)) p.active → moved ≡ moved_for r active p.queue p.waiting → sketched p (record { changed = Some (record { node = node; change = Asked host }); moved = moved; active = active }) ≡ asked (server_state p) r
 asked-from p r node host active moved counted at by left is =
-    (λ i. sketched p (record { changed = Some (record { node = at i; change = Asked (by i) }); moved = (is ∙ ap (λ (a : Option Held). moved_for r a p.queue p.waiting) left) i; active = left i }))
+    (λ i. sketched p (record { changed = Some (record { node = at i; change = Asked (by i) }); moved = (is ∙ ap (λ (a : Option TokenRequest). moved_for r a p.queue p.waiting) left) i; active = left i }))
     ∙ asked-sketched p r counted

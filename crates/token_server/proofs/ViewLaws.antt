@@ -4,18 +4,18 @@ use Rattle.std.proofs.Common.{refl, ap, ◌∙◌}
 use Rattle.intervals.specs.declared.vec_map.VecMap.{VecMap}
 use Rattle.model.specs.declared.level.Level.{Level}
 use Rattle.model.specs.Limits.{IsNumber}
-use Rattle.token_server.specs.declared.row.Row.{Row as KeptRow}
+use Rattle.token_server.specs.declared.token_holder.TokenHolder.{TokenHolder}
 use Rattle.token_server.specs.declared.client.Client.{Client}
 use Rattle.token_server.specs.declared.row_edits.RowAfter.{RowAfter}
 use Rattle.token_server.specs.declared.row_edits.RowEdit.{RowEdit}
-use Rattle.token_server.specs.declared.row.RowView.{RowView}
+use Rattle.token_server.specs.declared.token_holder.RowView.{RowView}
 use Rattle.token_server.specs.State.{Commands, Row}
 use Rattle.token_server.specs.Parts.{row_state, row_seen, rows_of, client_at}
 use Rattle.token_server.specs.Edits.{seen, seen_row, token_kept, row_with, row_kept, overlaid}
 use Rattle.token_server.proofs.EditLaws.{overlaid-here, overlaid-elsewhere, rows_of-there}
 
 -- a row of the two
-abbrev pub both : Option Commands → Option (VecMap Level) → Option KeptRow
+abbrev pub both : Option Commands → Option (VecMap Level) → Option TokenHolder
 both None token = None
 both (Some commands) None = None
 both (Some commands) (Some token) = Some (record { commands = commands; token = token })
@@ -50,7 +50,7 @@ whole_after (Some after) t e = absurd cc
 
 pub read-here : (clients : List Client) (es : List RowEdit) (e : RowEdit) (node dead : ℕ) (commands : Option Commands) (token : Option (VecMap Level)) → IsNumber (length clients) node → e.place ≡ node - 1 → IsRead clients es node dead commands token → IsRead clients (es ++ e ∷ []) node e.dead (commands_after e.row) (token_after e.row token)
 read-here clients es e node dead commands token within at before = record {
-  client = overlaid-here clients es e node _ within at before.client ∙ ap (λ (row : Option KeptRow). Some (record { dead = e.dead; row = row })) (kept_both e.row commands token before.whole);
+  client = overlaid-here clients es e node _ within at before.client ∙ ap (λ (row : Option TokenHolder). Some (record { dead = e.dead; row = row })) (kept_both e.row commands token before.whole);
   whole = whole_after e.row token;
 }
 

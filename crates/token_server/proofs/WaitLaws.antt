@@ -15,7 +15,7 @@ use Rattle.messages.specs.declared.outcome.Outcome.{Outcome}
 use Rattle.messages.specs.Messages.{addressee, host_of, is_within, same_call, sending}
 use Rattle.token_set.specs.Tokens.{Token}
 use Rattle.token_set.specs.Releases.{lowered}
-use Rattle.token_server.specs.declared.held.Held.{Held}
+use Rattle.token_server.specs.declared.token_request.TokenRequest.{TokenRequest}
 use Rattle.token_server.specs.declared.event.ServerEvent.TheVariants.{Deliver, Resend, Learn}
 use Rattle.token_server.specs.State.{Row, ServerState, is_of_call, is_up_to, forgotten, requests, requeued}
 use Rattle.token_server.specs.Serve.{admitted, conflicting_node, commanded, granted_to, revoked_from, served, serve}
@@ -24,7 +24,7 @@ use Rattle.token_server.specs.Server.{Change, with_a_row, is_active, request_of,
 use Rattle.token_server.specs.Waiting.{KeepsWhatWaits}
 
 -- the call has one of the requests
-abbrev Has : CallId → List Held → Type 0
+abbrev Has : CallId → List TokenRequest → Type 0
 Has call rs = list_any (is_of_call call) rs ≡ true
 
 -- the call has a request at the server, or its node is known as dead
@@ -39,13 +39,13 @@ or-right : (b c : Bool) → c ≡ true → b || c ≡ true
 or-right true c h = refl
 or-right false c h = h
 
-has-front : (call : CallId) (xs ys : List Held) → Has call xs → Has call (xs ++ ys)
+has-front : (call : CallId) (xs ys : List TokenRequest) → Has call xs → Has call (xs ++ ys)
 has-front call xs ys h = list_any-append (is_of_call call) xs ys ∙ or-left (list_any (is_of_call call) xs) (list_any (is_of_call call) ys) h
 
-has-back : (call : CallId) (xs ys : List Held) → Has call ys → Has call (xs ++ ys)
+has-back : (call : CallId) (xs ys : List TokenRequest) → Has call ys → Has call (xs ++ ys)
 has-back call xs ys h = list_any-append (is_of_call call) xs ys ∙ or-right (list_any (is_of_call call) xs) (list_any (is_of_call call) ys) h
 
-has-later : (call : CallId) (active : Option Held) (rest : List Held) → Has call rest → Has call (cons_option active rest)
+has-later : (call : CallId) (active : Option TokenRequest) (rest : List TokenRequest) → Has call rest → Has call (cons_option active rest)
 has-later call None rest h = h
 has-later call (Some r) rest h = or-right (is_of_call call r) (list_any (is_of_call call) rest) h
 
@@ -56,16 +56,16 @@ waiting-kept : (call : CallId) (s : ServerState) → Has call s.waiting → IsKe
 waiting-kept call s h = inl (has-later call s.active (s.queue ++ s.waiting) (has-back call s.queue s.waiting h))
 
 -- a request that passes, and does not stay
-record IsLost (test stays : Held → Bool) : Type 0 where
-  which : Held
+record IsLost (test stays : TokenRequest → Bool) : Type 0 where
+  which : TokenRequest
   passes : test which ≡ true
   goes : stays which ≡ false
 
-kept-or_lost : (test stays : Held → Bool) (rs : List Held) → list_any test rs ≡ true → (list_any test (filter stays rs) ≡ true) ⊎ IsLost test stays
+kept-or_lost : (test stays : TokenRequest → Bool) (rs : List TokenRequest) → list_any test rs ≡ true → (list_any test (filter stays rs) ≡ true) ⊎ IsLost test stays
 kept-or_lost test stays [] h = absurd (cc)
 kept-or_lost test stays (r ∷ rs) h = by (test r) refl (stays r) refl (kept-or_lost test stays rs) h
   where
-    kept : List Held
+    kept : List TokenRequest
     kept = filter stays rs
 
     by : (a : Bool) → test r ≡ a → (b : Bool) → stays r ≡ b → (list_any test rs ≡ true → (list_any test kept ≡ true) ⊎ IsLost test stays) → test r || list_any test rs ≡ true → (list_any test (cond (stays r) (r ∷ kept) kept) ≡ true) ⊎ IsLost test stays
@@ -81,7 +81,7 @@ kept-or_lost test stays (r ∷ rs) h = by (test r) refl (stays r) refl (kept-or_
     ]
 
 -- one that is found passes
-found-passes : (test : Held → Bool) (rs : List Held) (own : Held) → find test rs ≡ Some own → test own ≡ true
+found-passes : (test : TokenRequest → Bool) (rs : List TokenRequest) (own : TokenRequest) → find test rs ≡ Some own → test own ≡ true
 found-passes test [] own h = absurd (cc)
 found-passes test (r ∷ rs) own h = by (test r) refl (found-passes test rs own) h
   where
@@ -108,7 +108,7 @@ forgotten-waiting call s node incarnation h =
     ]
 
 -- a request that is queued
-enqueued_with-kept : (call : CallId) (s : ServerState) (r : Held) (own : Option Held) → request_of r.call s.waiting ≡ own → Has call s.waiting → IsKept call (enqueued_with s r own)
+enqueued_with-kept : (call : CallId) (s : ServerState) (r : TokenRequest) (own : Option TokenRequest) → request_of r.call s.waiting ≡ own → Has call s.waiting → IsKept call (enqueued_with s r own)
 enqueued_with-kept call s r None is h = waiting-kept call (enqueued_with s r None) h
 enqueued_with-kept call s r (Some own) is h =
     elim (kept-or_lost (is_of_call call) (λ q. not (is_of_call r.call q)) s.waiting h) [
@@ -118,14 +118,14 @@ enqueued_with-kept call s r (Some own) is h =
           queued-kept call (enqueued_with s r (Some own)) (has-back call s.queue (own ∷ []) (or-left (is_of_call call own) false same))
     ]
 
-enqueued-kept : (call : CallId) (s : ServerState) (r : Held) → Has call s.waiting → IsKept call (enqueued s r)
+enqueued-kept : (call : CallId) (s : ServerState) (r : TokenRequest) → Has call s.waiting → IsKept call (enqueued s r)
 enqueued-kept call s r h =
     elim (is_active r.call s.active || list_any (is_of_call r.call) s.queue) as (λ b. IsKept call (cond b s (enqueued_with s r (request_of r.call s.waiting)))) [
       | true ↦ waiting-kept call s h
       | false ↦ enqueued_with-kept call s r (request_of r.call s.waiting) refl h
     ]
 
-enqueued-dead : (call : CallId) (s : ServerState) (r : Held) → call.incarnation ≤ s.dead call.node → IsKept call (enqueued s r)
+enqueued-dead : (call : CallId) (s : ServerState) (r : TokenRequest) → call.incarnation ≤ s.dead call.node → IsKept call (enqueued s r)
 enqueued-dead call s r h =
     elim (is_active r.call s.active || list_any (is_of_call r.call) s.queue) as (λ b. IsKept call (cond b s (enqueued_with s r (request_of r.call s.waiting)))) [
       | true ↦ inr h
@@ -133,13 +133,13 @@ enqueued-dead call s r h =
     ]
 
 -- and one whose node gets a row, where it has none
-asked_with-kept : (call : CallId) (young : ServerState) (r : Held) (row : Option Row) → Has call young.waiting ⊎ (call.incarnation ≤ young.dead call.node) → IsKept call (enqueued (with_a_row young r.call row) r)
+asked_with-kept : (call : CallId) (young : ServerState) (r : TokenRequest) (row : Option Row) → Has call young.waiting ⊎ (call.incarnation ≤ young.dead call.node) → IsKept call (enqueued (with_a_row young r.call row) r)
 asked_with-kept call young r None (inl h) = enqueued-kept call (with_a_row young r.call None) r h
 asked_with-kept call young r None (inr h) = enqueued-dead call (with_a_row young r.call None) r h
 asked_with-kept call young r (Some row) (inl h) = enqueued-kept call young r h
 asked_with-kept call young r (Some row) (inr h) = enqueued-dead call young r h
 
-asked-kept : (call : CallId) (s : ServerState) (r : Held) → Has call s.waiting → IsKept call (asked s r)
+asked-kept : (call : CallId) (s : ServerState) (r : TokenRequest) → Has call s.waiting → IsKept call (asked s r)
 asked-kept call s r h =
     let young = forgotten s r.call.node (r.call.incarnation - 1) in
     asked_with-kept call young r (young.rows r.call.node) (forgotten-waiting call s r.call.node (r.call.incarnation - 1) h)
@@ -214,26 +214,26 @@ commanded-stays : (s : ServerState) (node : ℕ) (row : Row) (token : Token) (co
 commanded-stays s node row token command =
     picked-stays s (is_some row.outstanding) _ _ (stays-ok s s [] refl refl) (picked-stays s (nat_lt row.number _) _ _ (stays-ok s _ (command ∷ []) refl refl) (stays-err s _))
 
-granted-stays : (s : ServerState) (r : Held) (row : Option Row) → Stays s (granted_to s r row)
+granted-stays : (s : ServerState) (r : TokenRequest) (row : Option Row) → Stays s (granted_to s r row)
 granted-stays s r None = stays-ok s s [] refl refl
 granted-stays s r (Some row) = commanded-stays s _ row _ _
 
-revoked-stays : (s : ServerState) (r : Held) (node : ℕ) (row : Option Row) → Stays s (revoked_from s r node row)
+revoked-stays : (s : ServerState) (r : TokenRequest) (node : ℕ) (row : Option Row) → Stays s (revoked_from s r node row)
 revoked-stays s r node None = stays-ok s s [] refl refl
 revoked-stays s r node (Some row) = commanded-stays s node row _ _
 
-served-stays : (s : ServerState) (r : Option Held) → Stays s (served s r)
+served-stays : (s : ServerState) (r : Option TokenRequest) → Stays s (served s r)
 served-stays s None = stays-ok s s [] refl refl
 served-stays s (Some r) =
     let node = conflicting_node s r in
     picked-stays s (nat_le node s.shape.nodes) _ _ (revoked-stays s r node (s.rows node)) (granted-stays s r (s.rows r.call.node))
 
-admitted-requests : (s : ServerState) (active : Option Held) (queue : List Held) → s.active ≡ active → s.queue ≡ queue → requests (admitted s active queue) ≡ requests s
+admitted-requests : (s : ServerState) (active : Option TokenRequest) (queue : List TokenRequest) → s.active ≡ active → s.queue ≡ queue → requests (admitted s active queue) ≡ requests s
 admitted-requests s (Some r) queue served line = refl
 admitted-requests s None [] served line = refl
 admitted-requests s None (r ∷ rest) served line = sym (λ i. cons_option (served i) (line i ++ s.waiting))
 
-admitted-dead : (s : ServerState) (active : Option Held) (queue : List Held) → (admitted s active queue).dead ≡ s.dead
+admitted-dead : (s : ServerState) (active : Option TokenRequest) (queue : List TokenRequest) → (admitted s active queue).dead ≡ s.dead
 admitted-dead s (Some r) queue = refl
 admitted-dead s None [] = refl
 admitted-dead s None (r ∷ rest) = refl

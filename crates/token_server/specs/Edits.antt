@@ -7,9 +7,9 @@ use Rattle.intervals.specs.declared.vec_map.VecMap.{VecMap}
 use Rattle.model.specs.declared.level.Level.{Level}
 use Rattle.token_server.specs.declared.queue_edit.QueueEdit.{QueueEdit}
 use Rattle.token_server.specs.declared.queue_edit.QueueEdit.TheVariants.{Same, Taken, Whole}
-use Rattle.token_server.specs.declared.held.Held.{Held}
-use Rattle.token_server.specs.declared.row.Row.{Row as KeptRow}
-use Rattle.token_server.specs.declared.row.RowView.{RowView}
+use Rattle.token_server.specs.declared.token_request.TokenRequest.{TokenRequest}
+use Rattle.token_server.specs.declared.token_holder.TokenHolder.{TokenHolder}
+use Rattle.token_server.specs.declared.token_holder.RowView.{RowView}
 use Rattle.token_server.specs.declared.client.Client.{Client}
 use Rattle.token_server.specs.declared.client.ClientView.{ClientView}
 use Rattle.token_server.specs.declared.row_edits.RowAfter.{RowAfter}
@@ -21,21 +21,21 @@ use Rattle.token_server.specs.State.{Commands, Row, ServerState}
 use Rattle.token_server.specs.Parts.{ServerParts, server_state, row_in, row_seen, rows_of, client_at}
 
 -- a row that is read, as a value
-abbrev pub seen : RowView → KeptRow
+abbrev pub seen : RowView → TokenHolder
 seen r = record { commands = r.commands.now; token = r.token.now }
 
-abbrev pub seen_row : Option RowView → Option KeptRow
+abbrev pub seen_row : Option RowView → Option TokenHolder
 seen_row None = None
 seen_row (Some r) = Some (seen r)
 
 abbrev pub seen_client : ClientView → Client
 seen_client c = record { dead = c.dead; row = seen_row c.row }
 
-abbrev pub commands_in : Option KeptRow → Option Commands
+abbrev pub commands_in : Option TokenHolder → Option Commands
 commands_in None = None
 commands_in (Some row) = Some row.commands
 
-abbrev pub token_in : Option KeptRow → Option (VecMap Level)
+abbrev pub token_in : Option TokenHolder → Option (VecMap Level)
 token_in None = None
 token_in (Some row) = Some row.token
 
@@ -45,13 +45,13 @@ token_kept None token = token
 token_kept (Some new) token = Some new
 
 -- the row with those commands, and that token if there is one
-abbrev pub row_with : Commands → Option (VecMap Level) → Option KeptRow → Option KeptRow
+abbrev pub row_with : Commands → Option (VecMap Level) → Option TokenHolder → Option TokenHolder
 row_with commands (Some token) row = Some (record { commands = commands; token = token })
 row_with commands None None = None
 row_with commands None (Some row) = Some (record { commands = commands; token = row.token })
 
 -- the row after the change
-abbrev pub row_kept : Option RowAfter → Option KeptRow → Option KeptRow
+abbrev pub row_kept : Option RowAfter → Option TokenHolder → Option TokenHolder
 row_kept None row = None
 row_kept (Some after) row = row_with after.commands after.token row
 
@@ -77,7 +77,7 @@ pub record Changes (clients : List Client) (node : ℕ) (f : Option Row → Opti
   pub dead_is : e.dead ≡ g client.dead
 
 -- the queue after the edit, or those that wait
-abbrev pub queue_after : QueueEdit → List Held → List Held
+abbrev pub queue_after : QueueEdit → List TokenRequest → List TokenRequest
 queue_after Same queue = queue
 queue_after Taken queue = drop 1 queue
 queue_after (Whole new) queue = new
@@ -96,10 +96,10 @@ answered_with None row = record row { outstanding = None }
 answered_with (Some token) row = record row { token = token_of token; outstanding = None }
 
 -- the row with those commands, and with its token changed
-abbrev pub given_row : Commands → TokenEdit → KeptRow → Row
+abbrev pub given_row : Commands → TokenEdit → TokenHolder → Row
 given_row commands token row = row_in commands (edited_token token row.token)
 
-abbrev pub given_to_row : Commands → TokenEdit → Option KeptRow → Option Row
+abbrev pub given_to_row : Commands → TokenEdit → Option TokenHolder → Option Row
 given_to_row commands token None = None
 given_to_row commands token (Some row) = Some (given_row commands token row)
 

@@ -11,8 +11,8 @@ use Rattle.messages.specs.declared.refusal.StepError.TheVariants.{Spent}
 use Rattle.messages.specs.declared.message.Message.{Message}
 use Rattle.messages.specs.Messages.{greatest_number}
 use Rattle.messages.specs.Shapes.{ShapeFields}
-use Rattle.token_server.specs.declared.held.Held.{Held}
-use Rattle.token_server.specs.declared.row.Row.{Row as KeptRow}
+use Rattle.token_server.specs.declared.token_request.TokenRequest.{TokenRequest}
+use Rattle.token_server.specs.declared.token_holder.TokenHolder.{TokenHolder}
 use Rattle.token_server.specs.declared.client.Client.{Client}
 use Rattle.token_server.specs.State.{Commands, Row, ServerState}
 
@@ -21,15 +21,15 @@ abbrev pub row_in : Commands → Token → Row
 row_in commands token = record { incarnation = commands.incarnation; token = token; number = commands.number; outstanding = commands.outstanding }
 
 -- the row in the rules
-abbrev pub row_state : KeptRow → Row
+abbrev pub row_state : TokenHolder → Row
 row_state row = row_in row.commands (token_of row.token)
 
-abbrev pub row_seen : Option KeptRow → Option Row
+abbrev pub row_seen : Option TokenHolder → Option Row
 row_seen None = None
 row_seen (Some row) = Some (row_state row)
 
 -- the rows say the same
-abbrev pub SameRow : KeptRow → KeptRow → Type 0
+abbrev pub SameRow : TokenHolder → TokenHolder → Type 0
 SameRow a b = (a.commands ≡ b.commands) × (token_of a.token ≡ token_of b.token)
 
 abbrev pub row_of : Option Client → Option Row
@@ -98,9 +98,9 @@ pub record ServerParts : Type 0 where
   pub shape : ShapeFields
   pub file : ℕ
   pub clients : List Client
-  pub queue : List Held
-  pub active : Option Held
-  pub waiting : List Held
+  pub queue : List TokenRequest
+  pub active : Option TokenRequest
+  pub waiting : List TokenRequest
 
 -- there is a client for each node, and the file is one of the cluster's
 pub record IsServer (p : ServerParts) : Type 0 where

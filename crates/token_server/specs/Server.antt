@@ -18,7 +18,7 @@ use Rattle.messages.specs.declared.outcome.Outcome.{Outcome}
 use Rattle.messages.specs.declared.actor.Actor.{Actor}
 use Rattle.messages.specs.declared.actor.Actor.TheVariants.{Node as ANode, Server as AServer}
 use Rattle.messages.specs.Messages.{addressee, host_of, is_within, same_urgency, sending}
-use Rattle.token_server.specs.declared.held.Held.{Held}
+use Rattle.token_server.specs.declared.token_request.TokenRequest.{TokenRequest}
 use Rattle.token_server.specs.declared.event.ServerEvent.{ServerEvent}
 use Rattle.token_server.specs.declared.event.ServerEvent.TheVariants.{Deliver, Resend, Learn}
 use Rattle.token_server.specs.State.{Row, ServerState, empty_row, with_row, is_of_call, unless, forgotten, requeued}
@@ -33,25 +33,25 @@ abbrev pub with_a_row : ServerState → CallId → Option Row → ServerState
 with_a_row s call None = with_row s call.node (Some (empty_row call.incarnation))
 with_a_row s call (Some row) = s
 
-abbrev pub is_active : CallId → Option Held → Bool
+abbrev pub is_active : CallId → Option TokenRequest → Bool
 is_active call None = false
 is_active call (Some r) = is_of_call call r
 
 -- the first request of the call, if there is one
-abbrev pub request_of : CallId → List Held → Option Held
+abbrev pub request_of : CallId → List TokenRequest → Option TokenRequest
 request_of call requests = find (is_of_call call) requests
 
 -- one that waits comes last in the queue, as it was asked first; a new one comes last
-abbrev pub enqueued_with : ServerState → Held → Option Held → ServerState
+abbrev pub enqueued_with : ServerState → TokenRequest → Option TokenRequest → ServerState
 enqueued_with s r None = record s { queue = s.queue ++ r ∷ [] }
 enqueued_with s r (Some own) = record s { queue = s.queue ++ own ∷ []; waiting = filter (λ q. not (is_of_call r.call q)) s.waiting }
 
 -- a request whose call is queued or served already is not added
-abbrev pub enqueued : ServerState → Held → ServerState
+abbrev pub enqueued : ServerState → TokenRequest → ServerState
 enqueued s r = if is_active r.call s.active || list_any (is_of_call r.call) s.queue then s else enqueued_with s r (request_of r.call s.waiting)
 
 -- a request makes older incarnations of its node known as dead, and makes a row where there is none
-abbrev pub asked : ServerState → Held → ServerState
+abbrev pub asked : ServerState → TokenRequest → ServerState
 asked s r =
     let young = forgotten s r.call.node (r.call.incarnation - 1) in
     enqueued (with_a_row young r.call (young.rows r.call.node)) r
@@ -75,7 +75,7 @@ abbrev pub ended : CallId → ServerState → ServerState
 ended call s = record s { active = unless (is_of_call call) s.active }
 
 -- the one that is served, where it is of the call and may wait
-abbrev pub put_off : CallId → Option Held → List Held
+abbrev pub put_off : CallId → Option TokenRequest → List TokenRequest
 put_off call None = []
 put_off call (Some r) = if is_of_call call r && same_urgency r.urgency Waits then r ∷ [] else []
 
@@ -84,7 +84,7 @@ abbrev pub postponed : CallId → ServerState → ServerState
 postponed call s = record (ended call s) { waiting = s.waiting ++ put_off call s.active }
 
 -- the call is denied, where its request is the one that is served and may not wait
-abbrev pub denial : CallId → Message → Option Held → List Message
+abbrev pub denial : CallId → Message → Option TokenRequest → List Message
 denial call deny None = []
 denial call deny (Some r) = if is_of_call call r && same_urgency r.urgency Now then deny ∷ [] else []
 

@@ -5,7 +5,7 @@ use Rattle.intervals.specs.Bytes.{Range}
 use Rattle.model.specs.declared.mode.Mode.{Mode}
 use Rattle.token_set.specs.Tokens.{Token, level_conflicts}
 use Rattle.messages.specs.declared.refusal.StepError.{StepError}
-use Rattle.token_server.specs.declared.held.Held.{Held}
+use Rattle.token_server.specs.declared.token_request.TokenRequest.{TokenRequest}
 use Rattle.token_server.specs.declared.node_change.NodeChange.{NodeChange}
 use Rattle.token_server.specs.declared.node_change.NodeChange.TheVariants.{Forgotten, Asked, Answered, Relieved}
 use Rattle.token_server.specs.declared.sketch.Moved.{Moved}
@@ -63,31 +63,31 @@ abbrev pub dropped : Option Changed → Option (ℕ × ℕ)
 dropped None = None
 dropped (Some c) = option_map (λ incarnation. (c.node, incarnation)) (dropped_to c.change)
 
-abbrev pub without : Option (ℕ × ℕ) → List Held → List Held
+abbrev pub without : Option (ℕ × ℕ) → List TokenRequest → List TokenRequest
 without None requests = requests
 without (Some d) requests = filter (λ r. not (is_up_to d.0 d.1 r)) requests
 
 -- the queue after the move, and those that wait
-abbrev pub queue_moved : Moved → List Held → List Held → List Held
+abbrev pub queue_moved : Moved → List TokenRequest → List TokenRequest → List TokenRequest
 queue_moved Nothing queue waiting = queue
 queue_moved (New r) queue waiting = queue ++ r ∷ []
 queue_moved (Again call r) queue waiting = queue ++ r ∷ []
 queue_moved Waiting queue waiting = queue ++ waiting
 queue_moved (PutOff r) queue waiting = queue
 
-abbrev pub waiting_moved : Moved → List Held → List Held
+abbrev pub waiting_moved : Moved → List TokenRequest → List TokenRequest
 waiting_moved Nothing waiting = waiting
 waiting_moved (New r) waiting = waiting
 waiting_moved (Again call r) waiting = filter (λ q. not (is_of_call call q)) waiting
 waiting_moved Waiting waiting = []
 waiting_moved (PutOff r) waiting = waiting ++ r ∷ []
 
-abbrev pub moved_with : Held → Option Held → Moved
+abbrev pub moved_with : TokenRequest → Option TokenRequest → Moved
 moved_with r None = New r
 moved_with r (Some own) = Again r.call own
 
 -- what moves for a request: its call's that waits, or the request itself, unless its call has one that is queued or served
-abbrev pub moved_for : Held → Option Held → List Held → List Held → Moved
+abbrev pub moved_for : TokenRequest → Option TokenRequest → List TokenRequest → List TokenRequest → Moved
 moved_for r active queue waiting =
     if is_active r.call active || is_some (request_of r.call queue) then Nothing
     else moved_with r (request_of r.call waiting)
@@ -105,7 +105,7 @@ sketched p k = record {
 }
 
 -- the other node whose token is revoked first, if one is
-abbrev pub opposing : ServerState → Option Held → Option ℕ
+abbrev pub opposing : ServerState → Option TokenRequest → Option ℕ
 opposing s None = None
 opposing s (Some r) = let node = conflicting_node s r in if nat_le node s.shape.nodes then Some node else None
 

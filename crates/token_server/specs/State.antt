@@ -6,7 +6,7 @@ use Rattle.token_set.specs.Tokens.{Token, no_token}
 use Rattle.messages.specs.Shapes.{ShapeFields}
 use Rattle.messages.specs.declared.message.Message.{Message}
 use Rattle.messages.specs.Messages.{same_call}
-use Rattle.token_server.specs.declared.held.Held.{Held}
+use Rattle.token_server.specs.declared.token_request.TokenRequest.{TokenRequest}
 
 -- the commands to a node in one incarnation: the number of the last (0 at first), and that command while no answer has come
 pub record Commands : Type 0 where
@@ -27,9 +27,9 @@ pub record ServerState : Type 0 where
   pub file : ℕ
   pub rows : ℕ → Option Row
   pub dead : ℕ → ℕ
-  pub queue : List Held
-  pub active : Option Held
-  pub waiting : List Held
+  pub queue : List TokenRequest
+  pub active : Option TokenRequest
+  pub waiting : List TokenRequest
 
 abbrev pub first_server : ShapeFields → ℕ → ServerState
 first_server shape file = record { shape = shape; file = file; rows = λ node. None; dead = λ node. 0; queue = []; active = None; waiting = [] }
@@ -41,11 +41,11 @@ abbrev pub with_row : ServerState → ℕ → Option Row → ServerState
 with_row s node row = record s { rows = λ n. if n == node then row else s.rows n }
 
 -- the request is of the call
-abbrev pub is_of_call : CallId → Held → Bool
+abbrev pub is_of_call : CallId → TokenRequest → Bool
 is_of_call call r = same_call r.call call
 
 -- the request is of the node, in that incarnation or an older one
-abbrev pub is_up_to : ℕ → ℕ → Held → Bool
+abbrev pub is_up_to : ℕ → ℕ → TokenRequest → Bool
 is_up_to node incarnation r = (r.call.node == node) && nat_le r.call.incarnation incarnation
 
 abbrev pub row_above : ℕ → Option Row → Option Row
@@ -53,7 +53,7 @@ row_above incarnation None = None
 row_above incarnation (Some row) = if nat_le row.incarnation incarnation then None else Some row
 
 -- the request, unless it passes the test
-abbrev pub unless : (Held → Bool) → Option Held → Option Held
+abbrev pub unless : (TokenRequest → Bool) → Option TokenRequest → Option TokenRequest
 unless drops None = None
 unless drops (Some r) = if drops r then None else Some r
 
@@ -68,7 +68,7 @@ forgotten s node incarnation = record s {
 }
 
 -- the requests of the server: the one that it serves, those that are queued, those that wait
-abbrev pub requests : ServerState → List Held
+abbrev pub requests : ServerState → List TokenRequest
 requests s = cons_option s.active (s.queue ++ s.waiting)
 
 -- those that wait come last in the queue, in their order

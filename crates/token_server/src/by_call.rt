@@ -2,7 +2,7 @@
 ghost use Rattle.std.specs.Prelude.{◌≡◌, ◌++◌, ◌∷◌, [], not, filter, find, drop, slice_get, None, IfOk, OnOk};
 ghost use Rattle.token_server.specs.State.{is_of_call, is_up_to};
 
-use crate::held::Held;
+use crate::token_request::TokenRequest;
 use indexmap::IndexMap;
 use intervals::span_map::NoMemory;
 use model::call::CallId;
@@ -12,14 +12,14 @@ use std::marker::Model;
 /// Requests by their calls, in order of arrival. No two are of one call.
 #[derive(Drop)]
 pub struct ByCall {
-    requests: IndexMap<CallId, Held>,
+    requests: IndexMap<CallId, TokenRequest>,
 }
 
 impl Model for ByCall {
     ghost use Rattle.std.specs.Prelude.{List};
     ghost use Rattle.indexmap.specs.IndexMap.{values};
     ghost use Rattle.token_server.specs.Requests.{IsByCall};
-    ghost use Rattle.token_server.specs.declared.held.Held.{Held as Request};
+    ghost use Rattle.token_server.specs.declared.token_request.TokenRequest.{TokenRequest as Request};
 
     ghost Value = { List Request };
 
@@ -56,14 +56,14 @@ impl ByCall {
     }
 
     /// The requests in order.
-    pub fn as_slice(&self) -> &[Held]
+    pub fn as_slice(&self) -> &[TokenRequest]
         ensures { result.now ≡ self.now }
     {
         self.requests.values().as_slice()
     }
 
     /// The request of the call: a look-up by the call, not a walk.
-    pub fn find(&self, call: CallId) -> Option<Held>
+    pub fn find(&self, call: CallId) -> Option<TokenRequest>
         ensures { result ≡ find (is_of_call call) self.now }
     {
         self.requests.get(&call).copied()
@@ -73,7 +73,7 @@ impl ByCall {
     ///
     /// # Errors
     /// `NoMemory` where a request for memory was refused.
-    pub fn push(&mut self, request: Held) -> Result<(), NoMemory>
+    pub fn push(&mut self, request: TokenRequest) -> Result<(), NoMemory>
         requires { find (is_of_call request.call) self.old ≡ None }
         ensures { OnOk result (self.new ≡ self.old ++ request ∷ []) }
     {
@@ -82,7 +82,7 @@ impl ByCall {
     }
 
     /// Takes the first request out, if there is one. The others keep their order.
-    pub fn take_first(&mut self) -> Option<Held>
+    pub fn take_first(&mut self) -> Option<TokenRequest>
         ensures first { result ≡ slice_get self.old 0 }
         ensures rest { self.new ≡ drop 1 self.old }
     {
@@ -95,7 +95,7 @@ impl ByCall {
         ensures { self.new ≡ filter (λ r. not (is_up_to node incarnation r)) self.old }
     {
         self.requests.retain(
-            |_call: &CallId, request: &mut Held| -> bool
+            |_call: &CallId, request: &mut TokenRequest| -> bool
                 ensures { (result ≡ not (is_up_to node incarnation request.old)) × (request.new ≡ request.old) }
             { !request.is_up_to(node, incarnation) },
         );
@@ -106,7 +106,7 @@ impl ByCall {
         ensures { self.new ≡ filter (λ r. not (is_of_call call r)) self.old }
     {
         self.requests.retain(
-            |_call: &CallId, request: &mut Held| -> bool
+            |_call: &CallId, request: &mut TokenRequest| -> bool
                 ensures { (result ≡ not (is_of_call call request.old)) × (request.new ≡ request.old) }
             { !request.is_of_call(call) },
         );

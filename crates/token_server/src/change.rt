@@ -2,7 +2,7 @@
 ghost use Rattle.std.specs.Prelude.{◌≡◌};
 
 use crate::commands::Commands;
-use crate::held::Held;
+use crate::token_request::TokenRequest;
 use crate::queue_edit::QueueEdit;
 use crate::row_edits::RowEdits;
 use messages::outcome::Outcome;
@@ -14,7 +14,7 @@ use token_set::edit::TokenEdit;
 pub struct Draft {
     pub rows: RowEdits,
     pub queue: QueueEdit,
-    pub active: Option<Held>,
+    pub active: Option<TokenRequest>,
     pub waiting: QueueEdit,
 }
 

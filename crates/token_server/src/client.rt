@@ -7,7 +7,7 @@ ghost use Rattle.token_server.specs.Resends.{outstanding_of};
 ghost use Rattle.token_server.specs.Edits.{seen_row, commands_in, token_in, client_after, row_with, row_kept, given_to_row, answered_with};
 
 use crate::commands::Commands;
-use crate::row::{Row, RowView};
+use crate::token_holder::{TokenHolder, RowView};
 use crate::row_edits::{RowAfter, RowEdit};
 use intervals::span_map::NoMemory;
 use messages::message::Message;
@@ -19,7 +19,7 @@ use token_set::set::TokenSet;
 #[derive(Drop)]
 pub struct Client {
     pub dead: u16,
-    pub row: Option<Row>,
+    pub row: Option<TokenHolder>,
 }
 
 /// A client that is read.
@@ -76,7 +76,7 @@ impl Client {
     {
         let RowAfter { commands, token } = after;
         match token {
-            Some(token) => self.row = Some(Row { commands, token }),
+            Some(token) => self.row = Some(TokenHolder { commands, token }),
             None => {
                 if let Some(row) = &mut self.row {
                     row.commands = commands;

@@ -9,7 +9,7 @@ ghost use Rattle.token_server.specs.Edits.{overlaid, with_given_row};
 
 use crate::change::Given;
 use crate::client::Client;
-use crate::row::Row;
+use crate::token_holder::TokenHolder;
 use crate::row_edits::{RowEdit, RowEdits};
 use intervals::span_map::NoMemory;
 use messages::items::Items;
@@ -120,7 +120,7 @@ impl Clients {
     }
 
     /// The row of a node.
-    pub fn row(&self, node: u8) -> Option<&Row>
+    pub fn row(&self, node: u8) -> Option<&TokenHolder>
         requires { 1 ≤ node }
         ensures { row_seen (option_copied result) ≡ rows_of self.now node }
     {
@@ -134,7 +134,7 @@ impl Clients {
     }
 
     /// The row of a node, if it is of that incarnation.
-    pub fn row_of(&self, host: Host) -> Option<&Row>
+    pub fn row_of(&self, host: Host) -> Option<&TokenHolder>
         ensures row { row_seen (option_copied result) ≡ row_of_incarnation host.incarnation (rows_of self.now host.node) }
         ensures same { IfSome result (λ row. rows_of self.now host.node ≡ Some (row_state row.now)) }
     {

@@ -11,7 +11,7 @@ ghost use Rattle.token_server.specs.Sketches.{row_after, commands_of, dropped_to
 
 use crate::commands::Commands;
 use crate::lowered::conflicts_lowered;
-use crate::row::Row;
+use crate::token_holder::TokenHolder;
 use intervals::span::Span;
 use model::host::Host;
 use model::mode::Mode;
@@ -30,7 +30,7 @@ pub enum NodeChange {
 }
 
 // The commands to a node, if it has a row of a later incarnation.
-fn commands_above(row: Option<&Row>, incarnation: u16) -> Option<Commands>
+fn commands_above(row: Option<&TokenHolder>, incarnation: u16) -> Option<Commands>
     ensures { result ≡ option_map commands_of (row_above incarnation (row_seen (option_copied row.entry))) }
 {
     match row {
@@ -40,7 +40,7 @@ fn commands_above(row: Option<&Row>, incarnation: u16) -> Option<Commands>
 }
 
 // Whether a node's row of a later incarnation, if it has one, conflicts with the mode in the span.
-fn conflicts_above(row: &Row, incarnation: u16, span: Span, mode: Mode) -> bool
+fn conflicts_above(row: &TokenHolder, incarnation: u16, span: Span, mode: Mode) -> bool
     ensures { result ≡ row_conflicts (row_above incarnation (row_seen (Some row.now))) span mode }
 {
     row.commands.incarnation() > incarnation && row.token.conflicts(span, mode)
@@ -48,7 +48,7 @@ fn conflicts_above(row: &Row, incarnation: u16, span: Span, mode: Mode) -> bool
 
 impl NodeChange {
     /// The commands to a node after the change, if it has a row then.
-    pub fn commands(&self, row: Option<&Row>) -> Option<Commands>
+    pub fn commands(&self, row: Option<&TokenHolder>) -> Option<Commands>
         ensures { result ≡ option_map commands_of (row_after self.now (row_seen (option_copied row.entry))) }
     {
         match self {
@@ -77,7 +77,7 @@ impl NodeChange {
 
     /// Whether a node's row after the change, if it has one then, conflicts with the mode at some byte of
     /// the span.
-    pub fn conflicts(&self, row: Option<&Row>, span: Span, mode: Mode) -> bool
+    pub fn conflicts(&self, row: Option<&TokenHolder>, span: Span, mode: Mode) -> bool
         ensures { result ≡ row_conflicts (row_after self.now (row_seen (option_copied row.entry))) span mode }
     {
         let Some(row) = row else {

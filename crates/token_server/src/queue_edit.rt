@@ -6,7 +6,7 @@ ghost use Rattle.token_server.specs.State.{is_of_call, is_up_to};
 ghost use Rattle.token_server.specs.Server.{request_of};
 ghost use Rattle.token_server.specs.Edits.{queue_after};
 
-use crate::held::Held;
+use crate::token_request::TokenRequest;
 use crate::requests::{self, Requests};
 use intervals::span_map::NoMemory;
 use model::call::CallId;
@@ -34,7 +34,7 @@ impl QueueEdit {
     }
 
     /// The requests after the edit, in order.
-    pub fn requests<'a>(&'a self, queue: &'a Requests) -> &'a [Held]
+    pub fn requests<'a>(&'a self, queue: &'a Requests) -> &'a [TokenRequest]
         ensures { result.now ≡ queue_after self.now queue.now }
     {
         match self {
@@ -45,7 +45,7 @@ impl QueueEdit {
     }
 
     /// The first request of the call after the edit.
-    pub fn find(&self, queue: &Requests, call: CallId) -> Option<Held>
+    pub fn find(&self, queue: &Requests, call: CallId) -> Option<TokenRequest>
         ensures { result ≡ request_of call (queue_after self.now queue.now) }
     {
         match self {
@@ -113,7 +113,7 @@ impl QueueEdit {
     }
 
     /// The edit, and then the request comes last.
-    pub fn pushing(self, queue: &Requests, request: Held) -> Result<QueueEdit, NoMemory>
+    pub fn pushing(self, queue: &Requests, request: TokenRequest) -> Result<QueueEdit, NoMemory>
         ensures { IfOk result (λ edit. queue_after edit queue.now ≡ queue_after self queue.now ++ request ∷ []) }
     {
         let mut new = self.into_queue(queue)?;
@@ -122,7 +122,7 @@ impl QueueEdit {
     }
 
     /// The edit, and then the requests come last, in their order.
-    pub fn appending(self, queue: &Requests, more: &[Held]) -> Result<QueueEdit, NoMemory>
+    pub fn appending(self, queue: &Requests, more: &[TokenRequest]) -> Result<QueueEdit, NoMemory>
         ensures { IfOk result (λ edit. queue_after edit queue.now ≡ queue_after self queue.now ++ more.now) }
     {
         let mut new = self.into_queue(queue)?;
@@ -131,7 +131,7 @@ impl QueueEdit {
     }
 
     /// The edit, and then the first request goes, which is answered.
-    pub fn taking(self, queue: &Requests) -> Result<(QueueEdit, Option<Held>), NoMemory>
+    pub fn taking(self, queue: &Requests) -> Result<(QueueEdit, Option<TokenRequest>), NoMemory>
         ensures rest { IfOk result (λ r. queue_after r.0 queue.now ≡ drop 1 (queue_after self queue.now)) }
         ensures first { IfOk result (λ r. r.1 ≡ slice_get (queue_after self queue.now) 0) }
     {

@@ -4,7 +4,7 @@ ghost use Rattle.token_server.specs.State.{is_of_call, is_up_to};
 ghost use Rattle.token_server.specs.Edits.{queue_after};
 
 use crate::by_call::ByCall;
-use crate::held::Held;
+use crate::token_request::TokenRequest;
 use crate::queue_edit::QueueEdit;
 use intervals::span_map::NoMemory;
 use model::call::CallId;
@@ -16,7 +16,7 @@ use std::marker::Model;
 #[derive(Drop)]
 enum Kept {
     ByCall(ByCall),
-    InOrder(Vec<Held>),
+    InOrder(Vec<TokenRequest>),
 }
 
 /// Requests in order.
@@ -28,7 +28,7 @@ pub struct Requests {
 impl Model for Requests {
     ghost use Rattle.std.specs.Prelude.{List};
     ghost use Rattle.token_server.specs.Listed.{listed};
-    ghost use Rattle.token_server.specs.declared.held.Held.{Held as Request};
+    ghost use Rattle.token_server.specs.declared.token_request.TokenRequest.{TokenRequest as Request};
 
     ghost Value = { List Request };
 
@@ -54,7 +54,7 @@ impl Requests {
     }
 
     /// The requests in order.
-    pub fn as_slice(&self) -> &[Held]
+    pub fn as_slice(&self) -> &[TokenRequest]
         ensures { result.now ≡ self.now }
     {
         match &self.kept {
@@ -64,7 +64,7 @@ impl Requests {
     }
 
     /// Those after the first, in order.
-    pub fn rest(&self) -> &[Held]
+    pub fn rest(&self) -> &[TokenRequest]
         ensures { result.now ≡ drop 1 self.now }
     {
         match self.as_slice() {
@@ -74,7 +74,7 @@ impl Requests {
     }
 
     /// The first that is not of the node in that incarnation or an older one.
-    pub fn first_above(&self, node: u8, incarnation: u16) -> Option<Held>
+    pub fn first_above(&self, node: u8, incarnation: u16) -> Option<TokenRequest>
         ensures { result ≡ slice_get (filter (λ r. not (is_up_to node incarnation r)) self.now) 0 }
     {
         self.as_slice()
@@ -100,7 +100,7 @@ impl Requests {
     }
 
     /// The first request of the call: a look-up by the call, not a walk.
-    pub fn find(&self, call: CallId) -> Option<Held>
+    pub fn find(&self, call: CallId) -> Option<TokenRequest>
         ensures { result ≡ find (is_of_call call) self.now }
     {
         match &self.kept {
@@ -110,7 +110,7 @@ impl Requests {
     }
 
     // The request comes last, in a plain list from now on.
-    fn push_in_order(&mut self, request: Held) -> Result<(), NoMemory>
+    fn push_in_order(&mut self, request: TokenRequest) -> Result<(), NoMemory>
         ensures { OnOk result (self.new ≡ self.old ++ request ∷ []) }
     {
         let mut all = Vec::from_slice(self.allocator(), self.as_slice())?;
@@ -123,7 +123,7 @@ impl Requests {
     ///
     /// # Errors
     /// `NoMemory` where a request for memory was refused.
-    pub fn push(&mut self, request: Held) -> Result<(), NoMemory>
+    pub fn push(&mut self, request: TokenRequest) -> Result<(), NoMemory>
         ensures { OnOk result (self.new ≡ self.old ++ request ∷ []) }
     {
         if let Kept::ByCall(requests) = &mut self.kept {
@@ -138,7 +138,7 @@ impl Requests {
     ///
     /// # Errors
     /// `NoMemory` where a request for memory was refused.
-    pub fn append(&mut self, more: &[Held]) -> Result<(), NoMemory>
+    pub fn append(&mut self, more: &[TokenRequest]) -> Result<(), NoMemory>
         ensures { OnOk result (self.new ≡ self.old ++ more.now) }
     {
         for request in more {
@@ -148,7 +148,7 @@ impl Requests {
     }
 
     /// Takes the first request out, if there is one. The others keep their order.
-    pub fn take_first(&mut self) -> Option<Held>
+    pub fn take_first(&mut self) -> Option<TokenRequest>
         ensures first { result ≡ slice_get self.old 0 }
         ensures rest { self.new ≡ drop 1 self.old }
     {
@@ -200,7 +200,7 @@ impl Requests {
 }
 
 /// The first request of the call.
-pub fn find(requests: &[Held], call: CallId) -> Option<Held>
+pub fn find(requests: &[TokenRequest], call: CallId) -> Option<TokenRequest>
     ensures { result ≡ find (is_of_call call) requests.now }
 {
     requests
@@ -210,7 +210,7 @@ pub fn find(requests: &[Held], call: CallId) -> Option<Held>
 }
 
 // Takes the first request out, if there is one.
-fn take_first(requests: &mut Vec<Held>) -> Option<Held>
+fn take_first(requests: &mut Vec<TokenRequest>) -> Option<TokenRequest>
     ensures first { result ≡ slice_get requests.old.items 0 }
     ensures rest { requests.new.items ≡ drop 1 requests.old.items }
 {
@@ -221,14 +221,14 @@ fn take_first(requests: &mut Vec<Held>) -> Option<Held>
 }
 
 // Drops the requests of the node in that incarnation or an older one.
-fn forget(requests: &mut Vec<Held>, node: u8, incarnation: u16)
+fn forget(requests: &mut Vec<TokenRequest>, node: u8, incarnation: u16)
     ensures { requests.new.items ≡ filter (λ r. not (is_up_to node incarnation r)) requests.old.items }
 {
     requests.retain(|request| !request.is_up_to(node, incarnation));
 }
 
 // Drops the requests of the call.
-fn forget_call(requests: &mut Vec<Held>, call: CallId)
+fn forget_call(requests: &mut Vec<TokenRequest>, call: CallId)
     ensures { requests.new.items ≡ filter (λ r. not (is_of_call call r)) requests.old.items }
 {
     requests.retain(|request| !request.is_of_call(call));

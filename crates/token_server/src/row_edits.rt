@@ -14,7 +14,7 @@ use crate::client::ClientView;
 use crate::clients::Clients;
 use crate::commands::Commands;
 use crate::node_change::NodeChange;
-use crate::row::RowView;
+use crate::token_holder::RowView;
 use crate::sketch::Changed;
 use intervals::span::Span;
 use intervals::span_map::NoMemory;

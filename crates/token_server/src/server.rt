@@ -19,7 +19,7 @@ use crate::change::{Change, Draft, Edit, Given};
 use crate::clients::Clients;
 use crate::commands::Commands;
 use crate::event::ServerEvent;
-use crate::held::Held;
+use crate::token_request::TokenRequest;
 use crate::node_change::NodeChange;
 use crate::queue_edit::QueueEdit;
 use crate::requests::Requests;
@@ -50,7 +50,7 @@ pub struct Server {
     file: u16,
     clients: Clients,
     queue: Requests,
-    active: Option<Held>,
+    active: Option<TokenRequest>,
     waiting: Requests,
 }
 
@@ -154,7 +154,7 @@ impl Server {
 
     // What comes last in the queue for a request: its call's that waits, or the request itself, unless its
     // call has one that is queued or served.
-    fn enqueued(&self, active: &Option<Held>, request: Held) -> Moved
+    fn enqueued(&self, active: &Option<TokenRequest>, request: TokenRequest) -> Moved
         ensures { result ≡ moved_for request active.now self.now.queue self.now.waiting }
     {
         let call = request.call;
@@ -168,7 +168,7 @@ impl Server {
     }
 
     // Takes a request: older incarnations of its node are dead, and there is a row from now on.
-    fn ask(&self, request: Held) -> Sketch
+    fn ask(&self, request: TokenRequest) -> Sketch
         requires { IsNumber self.now.shape.nodes request.call.node }
         ensures state { sketched self.now result ≡ asked (server_state self.now) request }
         ensures in_cluster { IfSome result.changed (λ c. IsNumber self.now.shape.nodes c.node) }
@@ -198,7 +198,7 @@ impl Server {
 
     // Takes a node's answer to a Grant: the call's request is served no longer. `None` where the answer
     // doesn't count.
-    fn take_taken(&self, number: u32, call: CallId) -> Option<Sketch>
+    fn on_taken(&self, number: u32, call: CallId) -> Option<Sketch>
         requires { IsNumber self.now.shape.nodes call.node }
         ensures state { taken (server_state self.now) number call (row_of_host (server_state self.now) (host_of_call call)) ≡ option_map (λ k. (sketched self.now k, [])) result }
         ensures in_cluster { IfSome result (λ k. IfSome k.changed (λ c. IsNumber self.now.shape.nodes c.node)) }
@@ -218,7 +218,7 @@ impl Server {
     }
 
     // Takes a holder's answer that it gave up a span. `None` where the answer doesn't count.
-    fn take_released(&self, number: u32, holder: Host, span: Span) -> Option<Sketch>
+    fn on_released(&self, number: u32, holder: Host, span: Span) -> Option<Sketch>
         requires { IsNumber self.now.shape.nodes holder.node }
         ensures state { released (server_state self.now) number holder span (row_of_host (server_state self.now) holder) ≡ option_map (λ k. (sketched self.now k, [])) result }
         ensures in_cluster { IfSome result (λ k. IfSome k.changed (λ c. IsNumber self.now.shape.nodes c.node)) }
@@ -236,7 +236,7 @@ impl Server {
 
     // Takes a holder's answer that a lock is in the way: the call's request is served no longer, and is
     // denied or waits. What is sent, or `None` where the answer doesn't count.
-    fn take_conflict(
+    fn on_conflict(
         &self,
         number: u32,
         holder: Host,
@@ -271,7 +271,7 @@ impl Server {
 
     // Takes that locks of the holder may be gone: where its row is of that incarnation, what waits is asked
     // for again.
-    fn take_freed(&self, holder: Host) -> Sketch
+    fn on_freed(&self, holder: Host) -> Sketch
         ensures state { sketched self.now result ≡ freed (server_state self.now) (row_of_host (server_state self.now) holder) }
         ensures in_cluster { IfSome result.changed (λ c. IsNumber self.now.shape.nodes c.node) }
     {
@@ -282,7 +282,7 @@ impl Server {
     }
 
     // The request that is served from then on: the first of the queue where none is.
-    fn admitted(&self, sketch: &Sketch) -> Option<Held>
+    fn admitted(&self, sketch: &Sketch) -> Option<TokenRequest>
         ensures { result ≡ (admitted (sketched self.now sketch.now) (sketched self.now sketch.now).active (sketched self.now sketch.now).queue).active }
     {
         if sketch.active.is_some() {
@@ -329,7 +329,7 @@ impl Server {
     }
 
     // Whether the row of another node conflicts with what the request needs.
-    fn conflicts_at(&self, sketch: &Sketch, node: u8, request: &Held) -> bool
+    fn conflicts_at(&self, sketch: &Sketch, node: u8, request: &TokenRequest) -> bool
         requires { IsNumber self.now.shape.nodes node }
         ensures { result ≡ (not (node == request.now.call.node) && row_conflicts ((sketched self.now sketch.now).rows node) request.now.wanted.required request.now.mode) }
     {
@@ -338,7 +338,7 @@ impl Server {
     }
 
     // The least other node whose row conflicts with what the request needs.
-    fn conflicting_node(&self, sketch: &Sketch, request: &Held) -> Option<u8>
+    fn conflicting_node(&self, sketch: &Sketch, request: &TokenRequest) -> Option<u8>
         ensures node_in { IfSome result (λ node. IsNumber self.now.shape.nodes node × IsNumber most_nodes node) }
         ensures within { IsSome result ↔ (conflicting_node (sketched self.now sketch.now) request.now ≤ self.now.shape.nodes) }
         ensures value { IfSome result (λ node. node ≡ conflicting_node (sketched self.now sketch.now) request.now) }
@@ -352,7 +352,7 @@ impl Server {
     }
 
     // The other node whose token is revoked first for the request that is served, if one is.
-    fn opposing(&self, sketch: &Sketch, active: &Option<Held>) -> Option<u8>
+    fn opposing(&self, sketch: &Sketch, active: &Option<TokenRequest>) -> Option<u8>
         ensures node_in { IfSome result (λ node. IsNumber self.now.shape.nodes node × IsNumber most_nodes node) }
         ensures value { result ≡ opposing (sketched self.now sketch.now) active.now }
     {
@@ -366,7 +366,7 @@ impl Server {
     fn refusal(
         &self,
         sketch: &Sketch,
-        active: &Option<Held>,
+        active: &Option<TokenRequest>,
         holder: Option<u8>,
     ) -> Option<StepError>
         requires node_in { IfSome holder (λ node. IsNumber self.now.shape.nodes node × IsNumber most_nodes node) }
@@ -384,7 +384,7 @@ impl Server {
     }
 
     // The span that a request is granted: the largest that it would like to have.
-    fn granted_span(&self, draft: &Draft, request: &Held) -> Span
+    fn granted_span(&self, draft: &Draft, request: &TokenRequest) -> Span
         requires { self.now.shape.nodes < conflicting_node (drafted self.now draft.now) request.now }
         ensures { result ≡ granted_span (drafted self.now draft.now) request.now }
     {
@@ -405,7 +405,7 @@ impl Server {
         &self,
         draft: &Draft,
         alloc: Global,
-        request: &Held,
+        request: &TokenRequest,
     ) -> Result<(Option<Given>, Items<Message>), StepError>
         requires { self.now.shape.nodes < conflicting_node (drafted self.now draft.now) request.now }
         ensures ok { IfOk result (λ r. granted_to (drafted self.now draft.now) request.now ((drafted self.now draft.now).rows request.now.call.node) ≡ Ok (with_given r.0 (drafted_parts draft.now self.now), r.1)) }
@@ -435,7 +435,7 @@ impl Server {
         draft: &'a Draft,
         alloc: Global,
         node: u8,
-        request: &Held,
+        request: &TokenRequest,
     ) -> Result<(Option<Given>, Items<Message>), StepError>
         requires node_in { IsNumber self.now.shape.nodes node × IsNumber most_nodes node }
         ensures ok { IfOk result (λ r. revoked_from (drafted self.now draft.now) request.now node ((drafted self.now draft.now).rows node) ≡ Ok (with_given r.0 (drafted_parts draft.now self.now), r.1)) }
@@ -514,22 +514,22 @@ impl Server {
                 mode,
                 wanted,
                 ..
-            } => Some((self.ask(Held::new(call, urgency, mode, wanted)), None)),
-            Message::Taken { number, call, .. } => Some((self.take_taken(number, call)?, None)),
+            } => Some((self.ask(TokenRequest::new(call, urgency, mode, wanted)), None)),
+            Message::Taken { number, call, .. } => Some((self.on_taken(number, call)?, None)),
             Message::Released {
                 number,
                 holder,
                 span,
                 ..
-            } => Some((self.take_released(number, holder, span)?, None)),
+            } => Some((self.on_released(number, holder, span)?, None)),
             Message::Conflict {
                 number,
                 holder,
                 call,
                 lock,
                 ..
-            } => self.take_conflict(number, holder, call, lock),
-            Message::Freed { holder, .. } => Some((self.take_freed(holder), None)),
+            } => self.on_conflict(number, holder, call, lock),
+            Message::Freed { holder, .. } => Some((self.on_freed(holder), None)),
             Message::Grant { .. } | Message::Revoke { .. } | Message::Deny { .. } => None,
         }
     }
@@ -584,7 +584,7 @@ impl Server {
     }
 
     // Takes a message of a node of the cluster to this server.
-    fn take_own(&self, alloc: Global, message: &Message) -> Result<Change, StepError>
+    fn on_own(&self, alloc: Global, message: &Message) -> Result<Change, StepError>
         requires { (is_server self.now.file (addressee message.now) && is_within self.now.shape.nodes (host_of message.now).node) ≡ true }
         ensures ok { IfOk result (λ change. server_rule (server_state self.now) (ServerEvent.Deliver message.now) ≡ Ok (planned self.now change.edit, change.outcome)) }
         ensures err { IfErr result (λ e. e ≢ StepError.NoMemory → server_rule (server_state self.now) (ServerEvent.Deliver message.now) ≡ Err e) }
@@ -609,7 +609,7 @@ impl Server {
         if !self.is_addressed_by(message) {
             return Err(StepError::Stranger);
         }
-        self.take_own(alloc, message)
+        self.on_own(alloc, message)
     }
 
     // The commands that have no answer yet.

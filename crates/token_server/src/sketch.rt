@@ -8,7 +8,7 @@ ghost use Rattle.token_server.specs.Edits.{queue_after};
 
 use crate::clients::Clients;
 use crate::commands::Commands;
-use crate::held::Held;
+use crate::token_request::TokenRequest;
 use crate::node_change::NodeChange;
 use crate::queue_edit::QueueEdit;
 use crate::requests::Requests;
@@ -24,13 +24,13 @@ pub enum Moved {
     /// Nothing.
     Nothing,
     /// The request comes last in the queue.
-    New(Held),
+    New(TokenRequest),
     /// The request comes last in the queue, and those of the call wait no longer.
-    Again { call: CallId, request: Held },
+    Again { call: CallId, request: TokenRequest },
     /// Those that wait come last in the queue, in their order.
     Waiting,
     /// The request comes last of those that wait.
-    PutOff(Held),
+    PutOff(TokenRequest),
 }
 
 /// A node of which the server knows something else, and how.
@@ -47,7 +47,7 @@ pub struct Changed {
 pub struct Sketch {
     pub changed: Option<Changed>,
     pub moved: Moved,
-    pub active: Option<Held>,
+    pub active: Option<TokenRequest>,
 }
 
 impl Sketch {
@@ -95,7 +95,7 @@ impl Sketch {
     }
 
     // The first of the requests that are not dropped.
-    fn first_kept(&self, requests: &Requests) -> Option<Held>
+    fn first_kept(&self, requests: &Requests) -> Option<TokenRequest>
         ensures { result ≡ slice_get (without (dropped self.now.changed) requests.now) 0 }
     {
         match self.dropped() {
@@ -105,7 +105,7 @@ impl Sketch {
     }
 
     /// The first of the queue.
-    pub fn first_queued(&self, queue: &Requests, waiting: &Requests) -> Option<Held>
+    pub fn first_queued(&self, queue: &Requests, waiting: &Requests) -> Option<TokenRequest>
         ensures { result ≡ slice_get (queue_moved self.now.moved (without (dropped self.now.changed) queue.now) (without (dropped self.now.changed) waiting.now)) 0 }
     {
         let first = self.first_kept(queue);

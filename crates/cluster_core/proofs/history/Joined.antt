@@ -18,7 +18,7 @@ use Rattle.model.specs.Limits.{most_descriptors, most_regions}
 use Rattle.model.specs.Owners.{same_owner, process_owner, description_owner}
 use Rattle.model.specs.Locks.{bars, replace, without_owner, without_owner_anywhere, regions, IsFree, Blocks}
 use Rattle.model.specs.Descriptors.{Processes, with_process, with_descriptor, is_open, after_spawn, after_fork, after_open, after_dup}
-use Rattle.model.specs.Table.{Table, Target, around, is_running, descriptor, beside, with_processes, target, target_at, owner_of, locked, lock_within, regions_with, after_unlock, after_last_close, closed, closed_at, closed_if, closed_below, after_close, exited, after_exit}
+use Rattle.model.specs.Table.{Table, LockTarget, around, is_running, descriptor, beside, with_processes, target, target_at, owner_of, locked, lock_within, regions_with, after_unlock, after_last_close, closed, closed_at, closed_if, closed_below, after_close, exited, after_exit}
 use Rattle.model.specs.Step.{Is, AfterTests, SetStep, WaitStep, QueryStep, Step}
 use Rattle.model.proofs.OwnerLaws.{owner_exact}
 use Rattle.cluster_core.specs.Evidence.{IsAbout}
@@ -61,11 +61,11 @@ owner_of_host : (p : Process) (kind : Kind) (o : Opened) → is_of_host p.node p
 owner_of_host p OfProcess o = itself p.node p.incarnation
 owner_of_host p OfDescription o = itself p.node p.incarnation
 
-pub target_of_host : (t : Table) (p : Process) (need : Option Mode) (fd : ℕ) (kind : Kind) (start len : ℤ) (c : Target) → target t p need fd kind start len ≡ Ok c → is_of_host p.node p.incarnation c.owner ≡ true
+pub target_of_host : (t : Table) (p : Process) (need : Option Mode) (fd : ℕ) (kind : Kind) (start len : ℤ) (c : LockTarget) → target t p need fd kind start len ≡ Ok c → is_of_host p.node p.incarnation c.owner ≡ true
 target_of_host t p need fd kind start len c h =
     let runs = if_then (is_running t p) (target_at p need kind (descriptor t p fd) (seg start len)) c NoProcess h in
     let passes = passes_at p need kind (descriptor t p fd) (seg start len) c runs.1 in
-    subst (λ (x : Target). is_of_host p.node p.incarnation x.owner ≡ true) passes.is (owner_of_host p kind passes.what)
+    subst (λ (x : LockTarget). is_of_host p.node p.incarnation x.owner ≡ true) passes.is (owner_of_host p kind passes.what)
 
 module _ (others : Table) (p : Process) where
   -- the tables together
@@ -112,7 +112,7 @@ module _ (others : Table) (p : Process) where
     locks = λ f o. within_part (is_own o) (same_owner owner o) nothing (t.locks f o) (others.locks f o) (same-own owner o true own) i;
   }
 
-  pub joined-locked : (t : Table) (c : Target) (mode : Option Mode) → is_own c.owner ≡ true → all (locked t c mode) ≡ locked (all t) c mode
+  pub joined-locked : (t : Table) (c : LockTarget) (mode : Option Mode) → is_own c.owner ≡ true → all (locked t c mode) ≡ locked (all t) c mode
   joined-locked t c mode own =
       let bytes : (ℕ → Option Mode) → Table = λ f. record (all t) { locks = replace (all t).locks c.file c.owner (put f c.span mode) } in
       joined-replace t c.file c.owner (put (t.locks c.file c.owner) c.span mode) own ∙ ap bytes (sym (locks-joined t c.file c.owner own))
@@ -126,10 +126,10 @@ module _ (others : Table) (p : Process) where
   target-joined t need fd kind start len = ap (λ (ps : Processes). if ps.runs p.pid then target_at p need kind (ps.opened p.pid fd) (seg start len) else Err NoProcess) (around-joined t)
 
   -- what a call is about
-  pub about-joined : (t : Table) (op : Op) (mode : Mode) (c : Target) → IsAbout t p op mode c → IsAbout (all t) p op mode c
+  pub about-joined : (t : Table) (op : Op) (mode : Mode) (c : LockTarget) → IsAbout t p op mode c → IsAbout (all t) p op mode c
   about-joined t op mode c a = about_maps t (all t) p op mode c (λ need fd kind start len h. target-joined t need fd kind start len ∙ h) a
 
-  pub lock_within-joined : (t : Table) (c : Target) (mode : Option Mode) → is_own c.owner ≡ true → lock_within (all t) c mode ≡ answer_of_all (lock_within t c mode)
+  pub lock_within-joined : (t : Table) (c : LockTarget) (mode : Option Mode) → is_own c.owner ≡ true → lock_within (all t) c mode ≡ answer_of_all (lock_within t c mode)
   lock_within-joined t c mode own =
       let same : regions_with (all t) c mode ≡ regions_with t c mode = ap (λ (f : ℕ → Option Mode). regions (put f c.span mode)) (locks-joined t c.file c.owner own) in
       ap (λ (k : ℕ). new (nat_le k most_regions)) same ∙ either (nat_le (regions_with t c mode) most_regions)
@@ -141,7 +141,7 @@ module _ (others : Table) (p : Process) where
       either true = λ i. (sym (joined-locked t c mode own) i, Done)
       either false = refl
 
-  pub after_unlock-joined : (t : Table) (r : Result Target Reply) → ((c : Target) → r ≡ Ok c → is_own c.owner ≡ true) → after_unlock (all t) r ≡ answer_of_all (after_unlock t r)
+  pub after_unlock-joined : (t : Table) (r : Result LockTarget Reply) → ((c : LockTarget) → r ≡ Ok c → is_own c.owner ≡ true) → after_unlock (all t) r ≡ answer_of_all (after_unlock t r)
   after_unlock-joined t (Ok c) own = lock_within-joined t c None (own c refl)
   after_unlock-joined t (Err refusal) own = refl
 
@@ -235,29 +235,29 @@ module _ (others : Table) (p : Process) where
   is-joined answer now reply u same h = (h.0 ∙ ap (λ (a : Table × Reply). a.1) (sym same), ap all h.1 ∙ ap (λ (a : Table × Reply). a.0) (sym same))
 
   -- no lock beside the table is in the way on the bytes
-  abbrev pub IsFreeAt : Mode → Target → Type 0
+  abbrev pub IsFreeAt : Mode → LockTarget → Type 0
   IsFreeAt mode c = (o : Owner) (b : ℕ) → is_own o ≡ false → c.span.lo ≤ b → b ≤ c.span.hi → bars mode (others.locks c.file o b) ≡ false
 
-  set-joined : (t u : Table) (mode : Mode) (reply : Reply) (c : Target) → IsOwn t p.node p.incarnation → is_own c.owner ≡ true → (IsUnhindered reply → IsFreeAt mode c) → SetStep t mode reply u c → SetStep (all t) mode reply (all u) c
+  set-joined : (t u : Table) (mode : Mode) (reply : Reply) (c : LockTarget) → IsOwn t p.node p.incarnation → is_own c.owner ≡ true → (IsUnhindered reply → IsFreeAt mode c) → SetStep t mode reply u c → SetStep (all t) mode reply (all u) c
   set-joined t u mode (Again lock) c own of elsewhere h = (blocks-joined t c.file c.owner c.span mode lock own h.0, ap all h.1)
   set-joined t u mode Done c own of elsewhere h = (free-joined t c.file c.owner c.span mode (elsewhere tt) h.0, is-joined (lock_within t c (Some mode)) (lock_within (all t) c (Some mode)) Done u (lock_within-joined t c (Some mode) of) h.1)
   set-joined t u mode NoLocks c own of elsewhere h = (free-joined t c.file c.owner c.span mode (elsewhere tt) h.0, is-joined (lock_within t c (Some mode)) (lock_within (all t) c (Some mode)) NoLocks u (lock_within-joined t c (Some mode) of) h.1)
   set-joined t u mode _ c own of elsewhere h = absurd h
 
-  wait-joined : (t u : Table) (mode : Mode) (reply : Reply) (c : Target) → IsOwn t p.node p.incarnation → is_own c.owner ≡ true → (IsUnhindered reply → IsFreeAt mode c) → WaitStep t mode reply u c → WaitStep (all t) mode reply (all u) c
+  wait-joined : (t u : Table) (mode : Mode) (reply : Reply) (c : LockTarget) → IsOwn t p.node p.incarnation → is_own c.owner ≡ true → (IsUnhindered reply → IsFreeAt mode c) → WaitStep t mode reply u c → WaitStep (all t) mode reply (all u) c
   wait-joined t u mode Interrupted c own of elsewhere h = ap all h
   wait-joined t u mode Done c own of elsewhere h = set-joined t u mode Done c own of elsewhere h
   wait-joined t u mode NoLocks c own of elsewhere h = set-joined t u mode NoLocks c own of elsewhere h
   wait-joined t u mode _ c own of elsewhere h = absurd h
 
-  query-joined : (t u : Table) (mode : Mode) (reply : Reply) (c : Target) → IsOwn t p.node p.incarnation → (IsUnhindered reply → IsFreeAt mode c) → QueryStep t mode reply u c → QueryStep (all t) mode reply (all u) c
+  query-joined : (t u : Table) (mode : Mode) (reply : Reply) (c : LockTarget) → IsOwn t p.node p.incarnation → (IsUnhindered reply → IsFreeAt mode c) → QueryStep t mode reply u c → QueryStep (all t) mode reply (all u) c
   query-joined t u mode (Blocked lock) c own elsewhere h = (blocks-joined t c.file c.owner c.span mode lock own h.0, ap all h.1)
   query-joined t u mode Free c own elsewhere h = (free-joined t c.file c.owner c.span mode (elsewhere tt) h.0, ap all h.1)
   query-joined t u mode _ c own elsewhere h = absurd h
 
   -- where a call goes unhindered, no lock beside the table is in its way
   abbrev pub IsFreeBeside : Table → Op → Reply → Type 0
-  IsFreeBeside t op reply = (mode : Mode) (c : Target) → IsUnhindered reply → IsAbout t p op mode c → IsFreeAt mode c
+  IsFreeBeside t op reply = (mode : Mode) (c : LockTarget) → IsUnhindered reply → IsAbout t p op mode c → IsFreeAt mode c
 
   -- a step of the node's table is a step of all together
   pub step-joined : (t u : Table) (op : Op) (reply : Reply) → IsOwn t p.node p.incarnation → IsFreeBeside t op reply → Step t p op reply u → Step (all t) p op reply (all u)
@@ -277,7 +277,7 @@ module _ (others : Table) (p : Process) where
   step-joined t u Exit reply own elsewhere h = is-joined (after_exit t p) (after_exit (all t) p) reply u (after_exit-joined t) h
   step-joined t u (Set fd kind mode start len) reply own elsewhere h =
       let found = target t p (Some mode) fd kind start len in
-      let P : Result Target Reply → Type 0 = λ x. AfterTests (all t) x reply (all u) (SetStep (all t) mode reply (all u)) in
+      let P : Result LockTarget Reply → Type 0 = λ x. AfterTests (all t) x reply (all u) (SetStep (all t) mode reply (all u)) in
       subst P (sym (target-joined t (Some mode) fd kind start len))
       (elim found as (λ x. found ≡ x → AfterTests t x reply u (SetStep t mode reply u) → P x) [
         | Err refusal ↦ λ is step. (step.0, ap all step.1)
@@ -285,7 +285,7 @@ module _ (others : Table) (p : Process) where
       ] refl h)
   step-joined t u (Wait fd kind mode start len) reply own elsewhere h =
       let found = target t p (Some mode) fd kind start len in
-      let P : Result Target Reply → Type 0 = λ x. AfterTests (all t) x reply (all u) (WaitStep (all t) mode reply (all u)) in
+      let P : Result LockTarget Reply → Type 0 = λ x. AfterTests (all t) x reply (all u) (WaitStep (all t) mode reply (all u)) in
       subst P (sym (target-joined t (Some mode) fd kind start len))
       (elim found as (λ x. found ≡ x → AfterTests t x reply u (WaitStep t mode reply u) → P x) [
         | Err refusal ↦ λ is step. (step.0, ap all step.1)
@@ -293,7 +293,7 @@ module _ (others : Table) (p : Process) where
       ] refl h)
   step-joined t u (Query fd kind mode start len) reply own elsewhere h =
       let found = target t p None fd kind start len in
-      let P : Result Target Reply → Type 0 = λ x. AfterTests (all t) x reply (all u) (QueryStep (all t) mode reply (all u)) in
+      let P : Result LockTarget Reply → Type 0 = λ x. AfterTests (all t) x reply (all u) (QueryStep (all t) mode reply (all u)) in
       subst P (sym (target-joined t None fd kind start len))
       (elim found as (λ x. found ≡ x → AfterTests t x reply u (QueryStep t mode reply u) → P x) [
         | Err refusal ↦ λ is step. (step.0, ap all step.1)

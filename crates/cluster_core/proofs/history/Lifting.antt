@@ -8,7 +8,7 @@ use Rattle.model.specs.declared.op.Op.{Op}
 use Rattle.model.specs.declared.reply.Reply.{Reply}
 use Rattle.model.specs.Locks.{bars}
 use Rattle.model.specs.Descriptors.{no_processes}
-use Rattle.model.specs.Table.{Table, Target}
+use Rattle.model.specs.Table.{Table, LockTarget}
 use Rattle.model.specs.Step.{Step}
 use Rattle.messages.specs.Shapes.{ShapeFields}
 use Rattle.messages.specs.Messages.{is_within}
@@ -23,12 +23,12 @@ use Rattle.cluster_core.proofs.history.Unions.{live_at}
 use Rattle.cluster_core.proofs.history.Joined.{IsFreeBeside, is_of_host, of_host, joined, step-joined, about-joined}
 
 -- no lock of another node is in the way of a lock of that mode on these bytes
-abbrev pub IsFreeOfOthers : WorldState → ℕ → Mode → Target → Type 0
+abbrev pub IsFreeOfOthers : WorldState → ℕ → Mode → LockTarget → Type 0
 IsFreeOfOthers w n mode c = (m : ℕ) (o : Owner) (b : ℕ) → has_node w m ≡ true → (m ≡ n → ⊥) → c.span.lo ≤ b → b ≤ c.span.hi → bars mode ((w.nodes m).table.locks c.file o b) ≡ false
 
 -- where a call of a process of the node goes unhindered, no lock of another node is in its way
 abbrev pub IsFreeElsewhere : WorldState → ℕ → ℕ → Op → Reply → Type 0
-IsFreeElsewhere w n pid op reply = (mode : Mode) (c : Target) → IsUnhindered reply → IsAbout (w.nodes n).table (process (w.nodes n) pid) op mode c → IsFreeOfOthers w n mode c
+IsFreeElsewhere w n pid op reply = (mode : Mode) (c : LockTarget) → IsUnhindered reply → IsAbout (w.nodes n).table (process (w.nodes n) pid) op mode c → IsFreeOfOthers w n mode c
 
 -- the worlds differ in the state of one node alone, which stays in its incarnation
 pub record DiffersAt (w v : WorldState) (n : ℕ) : Type 0 where
@@ -109,7 +109,7 @@ step_lifts w v n pid op reply there named own differs free step =
     subst P (sym old) (subst Q (sym new) (step-joined (union w) p s.table (v.nodes n).table op reply own (free_beside w n pid op reply named free) step))
 
 -- what a call of a process of the node is about in the node's table it is about in the union
-pub about_lifts : (w : WorldState) (n pid : ℕ) (op : Op) (mode : Mode) (c : Target) → has_node w n ≡ true → (w.nodes n).node ≡ n → IsAbout (w.nodes n).table (process (w.nodes n) pid) op mode c → IsAbout (union w) (process (w.nodes n) pid) op mode c
+pub about_lifts : (w : WorldState) (n pid : ℕ) (op : Op) (mode : Mode) (c : LockTarget) → has_node w n ≡ true → (w.nodes n).node ≡ n → IsAbout (w.nodes n).table (process (w.nodes n) pid) op mode c → IsAbout (union w) (process (w.nodes n) pid) op mode c
 about_lifts w n pid op mode c there named about =
     let s = w.nodes n in
     let same : union w ≡ joined (union w) s.node s.incarnation s.table = union_joined w w n there named (record { shape = refl; incarnation = refl; others = λ m other. refl }) in

@@ -9,7 +9,7 @@ use Rattle.model.specs.declared.op.Op.{Op}
 use Rattle.model.specs.declared.process.Process.{Process}
 use Rattle.model.specs.declared.reply.Reply.{Reply}
 use Rattle.model.specs.Limits.{IsProcess}
-use Rattle.model.specs.Table.{Table, Target}
+use Rattle.model.specs.Table.{Table, LockTarget}
 use Rattle.model.specs.Step.{Step}
 use Rattle.messages.specs.declared.message.Message.TheVariants.{Deny}
 use Rattle.messages.specs.declared.event.Event.{Event}
@@ -57,7 +57,7 @@ open-push past e s c other o = record {
 }
 
 -- what a call is about it stays about while its process goes on
-about_goes_on : (t u : Table) (node incarnation pid : ℕ) (op : Op) (mode : Mode) (c : Target) → GoesOn (t.on node incarnation) (u.on node incarnation) pid → IsAbout t (record { node = node; incarnation = incarnation; pid = pid }) op mode c → IsAbout u (record { node = node; incarnation = incarnation; pid = pid }) op mode c
+about_goes_on : (t u : Table) (node incarnation pid : ℕ) (op : Op) (mode : Mode) (c : LockTarget) → GoesOn (t.on node incarnation) (u.on node incarnation) pid → IsAbout t (record { node = node; incarnation = incarnation; pid = pid }) op mode c → IsAbout u (record { node = node; incarnation = incarnation; pid = pid }) op mode c
 about_goes_on t u node incarnation pid op mode c g a = about_maps t u (record { node = node; incarnation = incarnation; pid = pid }) op mode c (λ need fd kind start len h. target_goes_on t u node incarnation pid need fd kind start len c g h) a
 
 -- and while its node goes on

@@ -11,7 +11,7 @@ use Rattle.model.specs.declared.op.Op.{Op}
 use Rattle.model.specs.declared.op.Op.TheVariants.{Spawn, Set, Wait, Query}
 use Rattle.model.specs.declared.process.Process.{Process}
 use Rattle.model.specs.declared.reply.Reply.{Reply}
-use Rattle.model.specs.Table.{Table, Target}
+use Rattle.model.specs.Table.{Table, LockTarget}
 use Rattle.model.specs.Step.{Step}
 use Rattle.messages.specs.Shapes.{ShapeFields}
 use Rattle.messages.specs.Messages.{same_urgency}
@@ -28,7 +28,7 @@ use Rattle.node_core.specs.declared.open_call.Intent.TheVariants as intent
 use Rattle.node_core.specs.declared.open_call.OpenCall.{OpenCall}
 use Rattle.node_core.specs.State.{NodeState, id_of}
 use Rattle.node_core.specs.Try.{urgency_of, refusal_of}
-use Rattle.token_server.specs.declared.held.Held.{Held}
+use Rattle.token_server.specs.declared.token_request.TokenRequest.{TokenRequest}
 use Rattle.token_server.specs.State.{is_of_call}
 use Rattle.cluster_core.specs.World.{WorldState, first_world}
 use Rattle.cluster_core.specs.Union.{union}
@@ -42,17 +42,17 @@ use Rattle.cluster_core.proofs.history.Prefixes.{leads_one, after-keeps}
 use Rattle.cluster_core.proofs.history.Slots.{entry_at-one, revoked-keeps}
 
 -- what a call is about: bytes of a file, and an owner of the caller's node
-pub about_span : (t : Table) (p : Process) (op : Op) (mode : Mode) (c : Target) → IsAbout t p op mode c → IsSpan c.span
+pub about_span : (t : Table) (p : Process) (op : Op) (mode : Mode) (c : LockTarget) → IsAbout t p op mode c → IsSpan c.span
 about_span t p op mode c a =
     let f = about_finds t p op mode c a in
     target_span t p f.need f.fd f.kind f.start f.len c f.found
 
-pub about_host : (t : Table) (p : Process) (op : Op) (mode : Mode) (c : Target) → IsAbout t p op mode c → is_of_host p.node p.incarnation c.owner ≡ true
+pub about_host : (t : Table) (p : Process) (op : Op) (mode : Mode) (c : LockTarget) → IsAbout t p op mode c → is_of_host p.node p.incarnation c.owner ≡ true
 about_host t p op mode c a =
     let f = about_finds t p op mode c a in
     target_of_host t p f.need f.fd f.kind f.start f.len c f.found
 
-pub about_node : (t : Table) (p : Process) (op : Op) (mode : Mode) (c : Target) → IsAbout t p op mode c → c.owner.node ≡ p.node
+pub about_node : (t : Table) (p : Process) (op : Op) (mode : Mode) (c : LockTarget) → IsAbout t p op mode c → c.owner.node ≡ p.node
 about_node t p op mode c a = eqb-true c.owner.node p.node (and_parts (c.owner.node == p.node) (c.owner.incarnation == p.incarnation) (about_host t p op mode c a)).0
 
 -- a call is made at one entry
@@ -92,9 +92,9 @@ asked_one shape es call file other mode another span also one a b =
     let R : Op → Type 0 = λ o. IsAbout (union b.world) (caller call b.pid) o mode a.about in
     let same = about_one (union b.world) (caller call b.pid) b.op mode another a.about b.about (subst R c.op_is (subst Q c.pid_is (subst P world a.asks))) b.asks in
     record {
-      file_is = sym a.file_is ∙ (ap (λ (t : Target). t.file) same.1 ∙ b.file_is);
+      file_is = sym a.file_is ∙ (ap (λ (t : LockTarget). t.file) same.1 ∙ b.file_is);
       mode_is = same.0;
-      span_is = sym a.span_is ∙ (ap (λ (t : Target). t.span) same.1 ∙ b.span_is);
+      span_is = sym a.span_is ∙ (ap (λ (t : LockTarget). t.span) same.1 ∙ b.span_is);
     }
 
 -- the run goes on
@@ -172,7 +172,7 @@ is_now : (u : Urgency) → same_urgency u Now ≡ true → u ≡ Now
 is_now Now h = refl
 is_now Waits h = absurd (false≢true h)
 
-pub urgent : (past : List Entry) (call : CallId) (r : Held) → is_of_call call r ≡ true → same_urgency r.urgency Now ≡ true → IsOfUrgency past r.call r.urgency → IsOfUrgency past call Now
+pub urgent : (past : List Entry) (call : CallId) (r : TokenRequest) → is_of_call call r ≡ true → same_urgency r.urgency Now ≡ true → IsOfUrgency past r.call r.urgency → IsOfUrgency past call Now
 urgent past call r its now h =
     subst (IsOfUrgency past call) (is_now r.urgency now) (subst (λ (id : CallId). IsOfUrgency past id r.urgency) (call_exact r.call call its) h)
 
@@ -193,10 +193,10 @@ Backed shape past w (Released file number holder call span) = Unit {0}
 Backed shape past w (Freed file holder) = Unit {0}
 
 -- and behind a request that a server keeps
-abbrev pub HeldFor : ShapeFields → List Entry → ℕ → Held → Type 0
+abbrev pub HeldFor : ShapeFields → List Entry → ℕ → TokenRequest → Type 0
 HeldFor shape past file r = IsAsked shape past file r.call r.mode r.wanted.required × IsOfUrgency past r.call r.urgency
 
-pub held-keeps : (shape : ShapeFields) (past : List Entry) (e : Entry) (file : ℕ) (r : Held) → HeldFor shape past file r → HeldFor shape (past ++ e ∷ []) file r
+pub held-keeps : (shape : ShapeFields) (past : List Entry) (e : Entry) (file : ℕ) (r : TokenRequest) → HeldFor shape past file r → HeldFor shape (past ++ e ∷ []) file r
 held-keeps shape past e file r h = (asked-keeps shape past e file r.call r.mode r.wanted.required h.0, urgency-keeps past e r.call r.urgency h.1)
 
 -- each open call was open before under its name, or is new

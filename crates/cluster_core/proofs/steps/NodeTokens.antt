@@ -13,7 +13,7 @@ use Rattle.model.specs.declared.op.Op.TheVariants.{Spawn, Fork, Open, Dup, Close
 use Rattle.model.specs.declared.reply.Reply.{Reply}
 use Rattle.model.specs.Locks.{lowest_blocker}
 use Rattle.model.specs.Descriptors.{is_of_file, has_open}
-use Rattle.model.specs.Table.{Table, Target, around, descriptor, target, lock_within, after_close, after_exit}
+use Rattle.model.specs.Table.{Table, LockTarget, around, descriptor, target, lock_within, after_close, after_exit}
 use Rattle.token_set.specs.Tokens.{Token, covers, raised}
 use Rattle.token_set.specs.Releases.{gave_up, after_giving_up}
 use Rattle.token_set.specs.declared.gave_up.GaveUp.{GaveUp}
@@ -139,7 +139,7 @@ with_freed_asks s file e asks = elim ((e.state.files file).asked) as (λ b. Asks
     }
 
 -- bytes are locked or freed
-locked_by_asks : (s : NodeState) (number : ℕ) (about : Target) (mode : Option Mode) → AsksFrom s (locked_by s number about mode)
+locked_by_asks : (s : NodeState) (number : ℕ) (about : LockTarget) (mode : Option Mode) → AsksFrom s (locked_by s number about mode)
 locked_by_asks s number about mode =
     let answer = lock_within s.table about mode in
     let e = after_settling s number answer in
@@ -170,14 +170,14 @@ pub tried_if_asks : (s : NodeState) (o : Option OpenCall) → AsksFrom s (tried_
 tried_if_asks s None = quiet_asks s
 tried_if_asks s (Some c) = tried_asks s c
 
-abbrev made : ℕ → ℕ → Intent → Mode → Target → OpenCall
+abbrev made : ℕ → ℕ → Intent → Mode → LockTarget → OpenCall
 made number pid i mode t = record { number = number; pid = pid; intent = i; file = t.file; owner = t.owner; mode = mode; span = t.span }
 
-lock_call_asks : (s : NodeState) (number pid : ℕ) (i : Intent) (mode : Mode) (r : Result Target Reply) → AsksFrom s (lock_call s number pid i mode r)
+lock_call_asks : (s : NodeState) (number pid : ℕ) (i : Intent) (mode : Mode) (r : Result LockTarget Reply) → AsksFrom s (lock_call s number pid i mode r)
 lock_call_asks s number pid i mode (Err refusal) = answered_asks s number refusal
 lock_call_asks s number pid i mode (Ok t) = tried_asks (record s { pending = s.pending ++ made number pid i mode t ∷ [] }) (made number pid i mode t)
 
-unlock_call_asks : (s : NodeState) (number : ℕ) (r : Result Target Reply) → AsksFrom s (unlock_call s number r)
+unlock_call_asks : (s : NodeState) (number : ℕ) (r : Result LockTarget Reply) → AsksFrom s (unlock_call s number r)
 unlock_call_asks s number (Err refusal) = answered_asks s number refusal
 unlock_call_asks s number (Ok t) = locked_by_asks s number t None
 

@@ -21,7 +21,7 @@ use Rattle.messages.specs.declared.outcome.Outcome.{Outcome}
 use Rattle.messages.specs.declared.refusal.StepError.{StepError}
 use Rattle.messages.specs.declared.refusal.StepError.TheVariants.{Stranger, Spent}
 use Rattle.messages.specs.Messages.{addressee, host_of, is_within, greatest_number, same_urgency, sending}
-use Rattle.token_server.specs.declared.held.Held.{Held}
+use Rattle.token_server.specs.declared.token_request.TokenRequest.{TokenRequest}
 use Rattle.token_server.specs.declared.event.ServerEvent.TheVariants.{Deliver, Resend, Learn}
 use Rattle.token_server.specs.State.{Row, ServerState, empty_row, with_row, is_of_call, row_above, unless, forgotten, requests, requeued}
 use Rattle.token_server.specs.Serve.{admitted, row_conflicts, conflicting_node, granted_span, commanded, granted_to, revoked_from, served, serve}
@@ -43,7 +43,7 @@ change_done t m o h =
     (is.1, elim is.2 [ inl dead ↦ inl dead.1 | inr live ↦ inr live ])
 
 -- the node that is to give up is another than that of the call
-other_node : (s : ServerState) (r : Held) → nat_le (conflicting_node s r) s.shape.nodes ≡ true → conflicting_node s r ≡ r.call.node → ⊥
+other_node : (s : ServerState) (r : TokenRequest) → nat_le (conflicting_node s r) s.shape.nodes ≡ true → conflicting_node s r ≡ r.call.node → ⊥
 other_node s r some same =
     let test : ℕ → Bool = λ n. not (n == r.call.node) && row_conflicts (s.rows n) r.wanted.required r.mode in
     let le = leb-true (conflicting_node s r) s.shape.nodes some in
@@ -58,12 +58,12 @@ mapped C f (n ∷ ns) each =
     elim (f n) as (λ o. f n ≡ o → All C (cons_option o (filter_map f ns))) [ None ↦ λ h. rest | Some m ↦ λ h. All-cons C m (filter_map f ns) (each n m h) rest ] refl
 
 -- the requests that a server keeps are of one kind, its commands of another
-pub record Comes (file : ℕ) (H : Held → Type 0) (C : Message → Type 0) (t : ServerState) : Type 0 where
+pub record Comes (file : ℕ) (H : TokenRequest → Type 0) (C : Message → Type 0) (t : ServerState) : Type 0 where
   pub file_is : t.file ≡ file
   pub held : All H (requests t)
   pub outstanding : (n : ℕ) (row : Row) (m : Message) → t.rows n ≡ Some row → row.outstanding ≡ Some m → C m
 
-pub comes-weaker : (file : ℕ) (H G : Held → Type 0) (C D : Message → Type 0) (t : ServerState) → ((r : Held) → H r → G r) → ((m : Message) → C m → D m) → Comes file H C t → Comes file G D t
+pub comes-weaker : (file : ℕ) (H G : TokenRequest → Type 0) (C D : Message → Type 0) (t : ServerState) → ((r : TokenRequest) → H r → G r) → ((m : Message) → C m → D m) → Comes file H C t → Comes file G D t
 comes-weaker file H G C D t to told c = record {
   file_is = c.file_is;
   held = All-weaker H G to (requests t) c.held;
@@ -71,21 +71,21 @@ comes-weaker file H G C D t to told c = record {
 }
 
 -- the commands that it may make of them
-pub record Makes (file : ℕ) (H : Held → Type 0) (C : Message → Type 0) : Type 0 where
+pub record Makes (file : ℕ) (H : TokenRequest → Type 0) (C : Message → Type 0) : Type 0 where
   pub grants : (number : ℕ) (call : CallId) (mode : Mode) (span : Range) → C (Grant file number call mode span)
-  pub revokes : (number : ℕ) (holder : Host) (r : Held) → H r → (holder.node ≡ r.call.node → ⊥) → C (Revoke file number holder r.call r.mode r.wanted)
+  pub revokes : (number : ℕ) (holder : Host) (r : TokenRequest) → H r → (holder.node ≡ r.call.node → ⊥) → C (Revoke file number holder r.call r.mode r.wanted)
 
 -- it may send the denial of a call whose request it serves, where that may not wait
-abbrev pub MayDeny : (Held → Type 0) → (Message → Type 0) → CallId → Message → Type 0
-MayDeny H C call deny = (r : Held) → H r → is_of_call call r ≡ true → same_urgency r.urgency Now ≡ true → C deny
+abbrev pub MayDeny : (TokenRequest → Type 0) → (Message → Type 0) → CallId → Message → Type 0
+MayDeny H C call deny = (r : TokenRequest) → H r → is_of_call call r ≡ true → same_urgency r.urgency Now ≡ true → C deny
 
 -- what a message tells it
-abbrev pub Tells : ℕ → (Held → Type 0) → (Message → Type 0) → Message → Type 0
+abbrev pub Tells : ℕ → (TokenRequest → Type 0) → (Message → Type 0) → Message → Type 0
 Tells file H C (Request f call urgency mode wanted) = H (record { call = call; urgency = urgency; mode = mode; wanted = wanted })
 Tells file H C (Conflict f number holder call lock) = MayDeny H C call (Deny file call holder number lock)
 Tells file H C _ = Unit {0}
 
-module _ (file : ℕ) (H : Held → Type 0) (C : Message → Type 0) (makes : Makes file H C) where
+module _ (file : ℕ) (H : TokenRequest → Type 0) (C : Message → Type 0) (makes : Makes file H C) where
   -- other requests of that kind
   abbrev Holds : ServerState → Type 0
   Holds u = All H (requests u) → Comes file H C u
@@ -117,10 +117,10 @@ module _ (file : ℕ) (H : Held → Type 0) (C : Message → Type 0) (makes : Ma
   with_a_row-comes t call None c = with_row-comes t call.node (empty_row call.incarnation) (λ m h. absurd (none-some m h)) c
   with_a_row-comes t call (Some row) c = c
 
-  enqueued-comes : (t : ServerState) (r : Held) → H r → Comes file H C t → Comes file H C (enqueued t r)
+  enqueued-comes : (t : ServerState) (r : TokenRequest) → H r → Comes file H C t → Comes file H C (enqueued t r)
   enqueued-comes t r held c = enqueued-stays Holds t (moved-comes t c) r (enqueued-each H t r held c.held)
 
-  asked-comes : (t : ServerState) (r : Held) → H r → Comes file H C t → Comes file H C (asked t r)
+  asked-comes : (t : ServerState) (r : TokenRequest) → H r → Comes file H C t → Comes file H C (asked t r)
   asked-comes t r held c =
       let young = forgotten t r.call.node (r.call.incarnation - 1) in
       enqueued-comes (with_a_row young r.call (young.rows r.call.node)) r held (with_a_row-comes young r.call (young.rows r.call.node) (forgotten-comes t r.call.node (r.call.incarnation - 1) c))
@@ -168,7 +168,7 @@ module _ (file : ℕ) (H : Held → Type 0) (C : Message → Type 0) (makes : Ma
         | Some mode ↦ changes_one (next mode) (acknowledged-comes t holder.node row (lowered row.token span mode) c, All-nil C)
       ]
 
-  denial-sends : (call : CallId) (deny : Message) (o : Option Held) → IfSome o H → MayDeny H C call deny → All C (denial call deny o)
+  denial-sends : (call : CallId) (deny : Message) (o : Option TokenRequest) → IfSome o H → MayDeny H C call deny → All C (denial call deny o)
   denial-sends call deny None held told = All-nil C
   denial-sends call deny (Some r) held told =
       let test : Bool = is_of_call call r && same_urgency r.urgency Now in
@@ -191,7 +191,7 @@ module _ (file : ℕ) (H : Held → Type 0) (C : Message → Type 0) (makes : Ma
 
   delivered-changes : (t : ServerState) (m : Message) → Tells file H C m → Comes file H C t → Changes (delivered t m)
   delivered-changes t (Request f call urgency mode wanted) told c =
-      let r : Held = record { call = call; urgency = urgency; mode = mode; wanted = wanted } in
+      let r : TokenRequest = record { call = call; urgency = urgency; mode = mode; wanted = wanted } in
       changes_one (asked t r, []) (asked-comes t r told c, All-nil C)
   delivered-changes t (Taken f number call) told c = taken-changes t number call (row_of_host t (host_of_call call)) c
   delivered-changes t (Released f number holder call span) told c = released-changes t number holder span (row_of_host t holder) c
@@ -219,19 +219,19 @@ module _ (file : ℕ) (H : Held → Type 0) (C : Message → Type 0) (makes : Ma
       if_either Serves (is_some row.outstanding) _ _ (serves_one (t, []) (c, All-nil C))
       (if_either Serves (nat_lt row.number greatest_number) _ _ (serves_one (with_row t node (Some next), command ∷ []) (with_row-comes t node next (λ m h. subst C (same_Some command m h) told) c, All-cons C command [] told (All-nil C))) (serves_none Spent))
 
-  granted-serves : (t : ServerState) (r : Held) (o : Option Row) → Comes file H C t → Serves (granted_to t r o)
+  granted-serves : (t : ServerState) (r : TokenRequest) (o : Option Row) → Comes file H C t → Serves (granted_to t r o)
   granted-serves t r None c = serves_one (t, []) (c, All-nil C)
   granted-serves t r (Some row) c =
       let span = granted_span t r in
       commanded-serves t r.call.node row (raised row.token span r.mode) (Grant t.file (row.number + 1) r.call r.mode span) (subst (λ (f : ℕ). C (Grant f (row.number + 1) r.call r.mode span)) (sym c.file_is) (makes.grants (row.number + 1) r.call r.mode span)) c
 
-  revoked-serves : (t : ServerState) (r : Held) (node : ℕ) (o : Option Row) → H r → (node ≡ r.call.node → ⊥) → Comes file H C t → Serves (revoked_from t r node o)
+  revoked-serves : (t : ServerState) (r : TokenRequest) (node : ℕ) (o : Option Row) → H r → (node ≡ r.call.node → ⊥) → Comes file H C t → Serves (revoked_from t r node o)
   revoked-serves t r node None held other c = serves_one (t, []) (c, All-nil C)
   revoked-serves t r node (Some row) held other c =
       let holder : Host = record { node = node; incarnation = row.incarnation } in
       commanded-serves t node row row.token (Revoke t.file (row.number + 1) holder r.call r.mode r.wanted) (subst (λ (f : ℕ). C (Revoke f (row.number + 1) holder r.call r.mode r.wanted)) (sym c.file_is) (makes.revokes (row.number + 1) holder r held other)) c
 
-  served-serves : (t : ServerState) (o : Option Held) → t.active ≡ o → Comes file H C t → Serves (served t o)
+  served-serves : (t : ServerState) (o : Option TokenRequest) → t.active ≡ o → Comes file H C t → Serves (served t o)
   served-serves t None is c = serves_one (t, []) (c, All-nil C)
   served-serves t (Some r) is c =
       let node = conflicting_node t r in

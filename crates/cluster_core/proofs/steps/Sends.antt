@@ -12,7 +12,7 @@ use Rattle.model.specs.declared.op.Op.TheVariants.{Spawn, Fork, Open, Dup, Close
 use Rattle.model.specs.declared.reply.Reply.{Reply}
 use Rattle.model.specs.Locks.{lowest_blocker, lowest_in_way}
 use Rattle.model.specs.Descriptors.{is_of_file, has_open}
-use Rattle.model.specs.Table.{Table, Target, around, descriptor, target, lock_within, after_close, after_exit}
+use Rattle.model.specs.Table.{Table, LockTarget, around, descriptor, target, lock_within, after_close, after_exit}
 use Rattle.token_set.specs.Tokens.{covers, desired, raised}
 use Rattle.token_set.specs.Releases.{given_up_span, answer_of}
 use Rattle.messages.specs.Wants.{Wants}
@@ -55,7 +55,7 @@ module _ (P : Message → Type 0) (free : IsFreely P) where
       (λ asks. All-push P e.sends (Freed file (host e.state)) (so_far asks) (free.freed file (host e.state)))
       so_far
 
-  locked_by-sends : (s : NodeState) (number : ℕ) (c : Target) (mode : Option Mode) → SendsOnly (locked_by s number c mode)
+  locked_by-sends : (s : NodeState) (number : ℕ) (c : LockTarget) (mode : Option Mode) → SendsOnly (locked_by s number c mode)
   locked_by-sends s number c mode =
       let answer = lock_within s.table c mode in
       if_either SendsOnly (may_free mode answer.1) (with_freed c.file (settled s number answer)) (settled s number answer)
@@ -86,13 +86,13 @@ module _ (P : Message → Type 0) (free : IsFreely P) where
   tried_if-sends s None there = λ asks. All-nil P
   tried_if-sends s (Some c) there = tried-sends s c (there c refl)
 
-  lock_call-sends : (s : NodeState) (number pid : ℕ) (i : Intent) (mode : Mode) (found : Result Target Reply) → SendsOnly (lock_call s number pid i mode found)
+  lock_call-sends : (s : NodeState) (number pid : ℕ) (i : Intent) (mode : Mode) (found : Result LockTarget Reply) → SendsOnly (lock_call s number pid i mode found)
   lock_call-sends s number pid i mode (Err refusal) = λ asks. All-nil P
   lock_call-sends s number pid i mode (Ok about) =
       let c : OpenCall = record { number = number; pid = pid; intent = i; file = about.file; owner = about.owner; mode = mode; span = about.span } in
       tried-sends (record s { pending = s.pending ++ c ∷ [] }) c (Contains-push s.pending c)
 
-  unlock_call-sends : (s : NodeState) (number : ℕ) (found : Result Target Reply) → SendsOnly (unlock_call s number found)
+  unlock_call-sends : (s : NodeState) (number : ℕ) (found : Result LockTarget Reply) → SendsOnly (unlock_call s number found)
   unlock_call-sends s number (Err refusal) = λ asks. All-nil P
   unlock_call-sends s number (Ok c) = locked_by-sends s number c None
 

@@ -1,7 +1,7 @@
 -- A token server moves its requests about: the rest of it stays.
 use Rattle.std.specs.Prelude.{◌||◌, List, [], ◌∷◌, Option, Some, None}
 use Rattle.std.specs.List.{list_any}
-use Rattle.token_server.specs.declared.held.Held.{Held}
+use Rattle.token_server.specs.declared.token_request.TokenRequest.{TokenRequest}
 use Rattle.token_server.specs.State.{Row, ServerState, is_of_call}
 use Rattle.token_server.specs.Serve.{admitted}
 use Rattle.token_server.specs.Server.{is_active, request_of, enqueued_with, enqueued, freed}
@@ -9,19 +9,19 @@ use Rattle.cluster_core.proofs.common.Choices.{if_either}
 
 -- P holds of the server whatever requests it has
 abbrev pub WhateverRequests : (ServerState → Type 0) → ServerState → Type 0
-WhateverRequests P s = (active : Option Held) (queue waiting : List Held) → P (record s { active = active; queue = queue; waiting = waiting })
+WhateverRequests P s = (active : Option TokenRequest) (queue waiting : List TokenRequest) → P (record s { active = active; queue = queue; waiting = waiting })
 
 module _ (P : ServerState → Type 0) (s : ServerState) (each : WhateverRequests P s) where
   -- as it is
   unmoved : P s
   unmoved = each s.active s.queue s.waiting
 
-  enqueued_with-stays : (r : Held) (own : Option Held) → P (enqueued_with s r own)
+  enqueued_with-stays : (r : TokenRequest) (own : Option TokenRequest) → P (enqueued_with s r own)
   enqueued_with-stays r None = each s.active _ s.waiting
   enqueued_with-stays r (Some own) = each s.active _ _
 
   -- a request is added, or one that waits is asked for again
-  pub enqueued-stays : (r : Held) → P (enqueued s r)
+  pub enqueued-stays : (r : TokenRequest) → P (enqueued s r)
   enqueued-stays r = if_either P (is_active r.call s.active || list_any (is_of_call r.call) s.queue) _ _ unmoved (enqueued_with-stays r (request_of r.call s.waiting))
 
   -- all that wait are
@@ -30,7 +30,7 @@ module _ (P : ServerState → Type 0) (s : ServerState) (each : WhateverRequests
   freed-stays (Some row) = each s.active _ []
 
   -- the first of the queue is served
-  pub admitted-stays : (active : Option Held) (queue : List Held) → P (admitted s active queue)
+  pub admitted-stays : (active : Option TokenRequest) (queue : List TokenRequest) → P (admitted s active queue)
   admitted-stays (Some r) queue = unmoved
   admitted-stays None [] = unmoved
   admitted-stays None (r ∷ rest) = each (Some r) rest s.waiting

@@ -26,7 +26,7 @@ use Rattle.messages.specs.declared.outcome.Outcome.{Outcome}
 use Rattle.messages.specs.Messages.{addressee, host_of, same_urgency, greatest_number, is_within, sending}
 use Rattle.messages.specs.Shapes.{ShapeFields}
 use Rattle.node_core.specs.State.{NodeState}
-use Rattle.token_server.specs.declared.held.Held.{Held}
+use Rattle.token_server.specs.declared.token_request.TokenRequest.{TokenRequest}
 use Rattle.token_server.specs.declared.event.ServerEvent.TheVariants.{Deliver}
 use Rattle.token_server.specs.State.{Row, ServerState, empty_row, with_row, is_of_call, is_up_to, row_above, unless, forgotten, requests, requeued}
 use Rattle.token_server.specs.Serve.{admitted, row_conflicts, row_conflicts_at, is_taken, granted_span, conflicting_node, commanded, granted_to, revoked_from, served, serve}
@@ -49,7 +49,7 @@ abbrev pub TalkOf : Sent → (ℕ → NodeState) → ℕ → ServerState → ℕ
 TalkOf was nodes file t n = Talk was file n (nodes n).incarnation (unasked ((nodes n).files file)) (t.rows n) (t.dead n)
 
 -- the request is of the incarnation after those that are known as dead, of a node of the shape that has a row
-pub record IsCurrent (t : ServerState) (r : Held) : Type 0 where
+pub record IsCurrent (t : ServerState) (r : TokenRequest) : Type 0 where
   pub of : r.call.incarnation ≡ t.dead r.call.node + 1
   pub within : is_within t.shape.nodes r.call.node ≡ true
   pub has_row : is_some (t.rows r.call.node) ≡ true
@@ -130,7 +130,7 @@ above_stays j (Some x) r h above =
 module _ (was : Sent) (nodes : ℕ → NodeState) (shape : ShapeFields) (file : ℕ) (t : ServerState) (serves : Serves was nodes shape file t) where
   module _ (n j : ℕ) (older : j < (nodes n).incarnation) where
     -- a request that is not forgotten is still of the incarnation after the dead ones
-    current_forgets : (r : Held) → IsCurrent t r → is_up_to n j r ≡ false → IsCurrent (forgotten t n j) r
+    current_forgets : (r : TokenRequest) → IsCurrent t r → is_up_to n j r ≡ false → IsCurrent (forgotten t n j) r
     current_forgets r c young = record {
       of = at_number r.call.node n (λ b. r.call.incarnation ≡ (if b then max (t.dead r.call.node) j else t.dead r.call.node) + 1)
           (λ same. let above = kept same in let of = c.of in omega arith)
@@ -165,7 +165,7 @@ module _ (was : Sent) (nodes : ℕ → NodeState) (shape : ShapeFields) (file : 
     }
 
   -- another row of a node keeps its requests
-  pub current_row : (n : ℕ) (row : Row) (r : Held) → IsCurrent t r → IsCurrent (with_row t n (Some row)) r
+  pub current_row : (n : ℕ) (row : Row) (r : TokenRequest) → IsCurrent t r → IsCurrent (with_row t n (Some row)) r
   current_row n row r c = record {
     of = c.of;
     within = c.within;
@@ -205,7 +205,7 @@ module _ (was : Sent) (nodes : ℕ → NodeState) (shape : ShapeFields) (file : 
       }
 
   -- one more request
-  pub queues : (r : Held) → IsCurrent t r → Serves was nodes shape file (enqueued t r)
+  pub queues : (r : TokenRequest) → IsCurrent t r → Serves was nodes shape file (enqueued t r)
   queues r current = enqueued-stays Holds t moves r (enqueued-each (IsCurrent t) t r current serves.held)
 
   -- what waits is asked for again
@@ -231,7 +231,7 @@ module _ (was : Sent) (nodes : ℕ → NodeState) (shape : ShapeFields) (file : 
   postpones call = moves (unless (is_of_call call) t.active) t.queue (t.waiting ++ put_off call t.active) (postponed-each (IsCurrent t) call t serves.held)
 
   -- a denial is of a call of a live incarnation
-  denies : (call : CallId) (holder : Host) (number : ℕ) (lock : LockInfo) (active : Option Held) → t.active ≡ active → Only (IsDenial nodes) (denial call (Deny t.file call holder number lock) active)
+  denies : (call : CallId) (holder : Host) (number : ℕ) (lock : LockInfo) (active : Option TokenRequest) → t.active ≡ active → Only (IsDenial nodes) (denial call (Deny t.file call holder number lock) active)
   denies call holder number lock None is = only_none (IsDenial nodes)
   denies call holder number lock (Some r) is =
       let deny = Deny t.file call holder number lock in
@@ -275,7 +275,7 @@ IsServing was nodes shape file x = Serves was nodes shape file x.0 × Only (IsDe
 
 module _ (was : Sent) (nodes : ℕ → NodeState) (shape : ShapeFields) (file : ℕ) (t : ServerState) (serves : Serves was nodes shape file t) where
   -- a Request of an incarnation that is not known as dead
-  pub asks : (r : Held) → is_within t.shape.nodes r.call.node ≡ true → t.dead r.call.node < r.call.incarnation → r.call.incarnation ≤ (nodes r.call.node).incarnation → Serves was nodes shape file (asked t r)
+  pub asks : (r : TokenRequest) → is_within t.shape.nodes r.call.node ≡ true → t.dead r.call.node < r.call.incarnation → r.call.incarnation ≤ (nodes r.call.node).incarnation → Serves was nodes shape file (asked t r)
   asks r within alive known =
       let young = forgotten t r.call.node (r.call.incarnation - 1) in
       let first : Serves was nodes shape file young = forgets was nodes shape file t serves r.call.node (r.call.incarnation - 1) (omega arith) in
@@ -336,7 +336,7 @@ module _ (was : Sent) (nodes : ℕ → NodeState) (shape : ShapeFields) (file : 
   -- what a message changes
   pub changes : (m : Message) → was m → addressee m ≡ AServer file → (host_of m).incarnation ≤ (nodes (host_of m).node).incarnation → is_within t.shape.nodes (host_of m).node ≡ true → t.dead (host_of m).node < (host_of m).incarnation → (x : Change) → delivered t m ≡ Some x → IsServing was nodes shape file x
   changes (Request f call urgency mode wanted) told to known within alive x h =
-      let r : Held = record { call = call; urgency = urgency; mode = mode; wanted = wanted } in
+      let r : TokenRequest = record { call = call; urgency = urgency; mode = mode; wanted = wanted } in
       subst (IsServing was nodes shape file) (same_Some (asked t r, []) x h) (asks r within alive known, only_none (IsDenial nodes))
   changes (Taken f number call) told to known within alive x h =
       let same : f ≡ file = cc in
@@ -357,7 +357,7 @@ module _ (was : Sent) (nodes : ℕ → NodeState) (shape : ShapeFields) (file : 
   admits = admitted-stays (Holds was nodes shape file t serves) t (moves was nodes shape file t serves) t.active t.queue (admitted-each (IsCurrent t) t serves.held)
 
 -- no byte of the span that is granted is one on which another node's row conflicts
-module _ (t : ServerState) (r : Held) (unblocked : nat_le (conflicting_node t r) t.shape.nodes ≡ false) where
+module _ (t : ServerState) (r : TokenRequest) (unblocked : nat_le (conflicting_node t r) t.shape.nodes ≡ false) where
   free_row : (n : ℕ) → 1 ≤ n → n ≤ t.shape.nodes → conflicts_at t r n ≡ false
   free_row n least most =
       let past = leb-false (conflicting_node t r) t.shape.nodes unblocked in
@@ -449,18 +449,18 @@ module _ (was : Sent) (nodes : ℕ → NodeState) (shape : ShapeFields) (file : 
         ] h
       ] refl h
 
-  grants : (r : Held) → IsCurrent t r → nat_le (conflicting_node t r) t.shape.nodes ≡ false → (row : Option Row) → t.rows r.call.node ≡ row → granted_to t r row ≡ Ok (v, sends) → Served was nodes shape file v sends
+  grants : (r : TokenRequest) → IsCurrent t r → nat_le (conflicting_node t r) t.shape.nodes ≡ false → (row : Option Row) → t.rows r.call.node ≡ row → granted_to t r row ≡ Ok (v, sends) → Served was nodes shape file v sends
   grants r current unblocked None there h = still h
   grants r current unblocked (Some row) there h =
       let aged = (serves.talks r.call.node).aged row there in
       commands r.call.node row (Grant t.file (row.number + 1) r.call r.mode (granted_span t r)) there (serves.file_is, refl, refl, current.of ∙ sym aged) (span_free t r unblocked) h
 
-  revokes_from : (r : Held) (n : ℕ) (row : Option Row) → t.rows n ≡ row → revoked_from t r n row ≡ Ok (v, sends) → Served was nodes shape file v sends
+  revokes_from : (r : TokenRequest) (n : ℕ) (row : Option Row) → t.rows n ≡ row → revoked_from t r n row ≡ Ok (v, sends) → Served was nodes shape file v sends
   revokes_from r n None there h = still h
   revokes_from r n (Some row) there h =
       commands n row (Revoke t.file (row.number + 1) (record { node = n; incarnation = row.incarnation }) r.call r.mode r.wanted) there (serves.file_is, refl, refl, refl) tt h
 
-  serves_one : (o : Option Held) → t.active ≡ o → served t o ≡ Ok (v, sends) → Served was nodes shape file v sends
+  serves_one : (o : Option TokenRequest) → t.active ≡ o → served t o ≡ Ok (v, sends) → Served was nodes shape file v sends
   serves_one None is h = still h
   serves_one (Some r) is h =
       let R : Type 0 = Result (ServerState × List Message) StepError in

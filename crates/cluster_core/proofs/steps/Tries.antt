@@ -21,7 +21,7 @@ use Rattle.model.proofs.Hanging.{target_hangs}
 use Rattle.model.proofs.NodeTables.{GoesOn, same_goes_on, Follows, spawn_follows, fork_follows, open_follows, dup_follows, unlock_follows, lock_processes, lock_own, target_own}
 use Rattle.model.proofs.Closings.{close_follows, exit_follows}
 use Rattle.model.specs.Descriptors.{Processes, is_of_file, has_open, after_spawn, after_fork, after_open, after_dup}
-use Rattle.model.specs.Table.{Table, Target, around, descriptor, beside, target, lock_within, locked, regions_with, after_unlock, after_close, after_exit}
+use Rattle.model.specs.Table.{Table, LockTarget, around, descriptor, beside, target, lock_within, locked, regions_with, after_unlock, after_close, after_exit}
 use Rattle.model.specs.Step.{Step, SetStep, WaitStep, QueryStep, Is, AfterTests, Unblocked}
 use Rattle.token_set.specs.Tokens.{Token, covers}
 use Rattle.messages.specs.declared.message.Message.TheVariants.{Freed}
@@ -52,7 +52,7 @@ pub record IsReady (t : Table) (p : Process) (op : Op) (c : OpenCall) : Type 0 w
   pub passes : IsAbout t p op c.mode (target_of c)
 
 -- a call is about one thing
-pub about_one : (t : Table) (p : Process) (op : Op) (m n : Mode) (c d : Target) → IsAbout t p op m c → IsAbout t p op n d → (m ≡ n) × (c ≡ d)
+pub about_one : (t : Table) (p : Process) (op : Op) (m n : Mode) (c d : LockTarget) → IsAbout t p op m c → IsAbout t p op n d → (m ≡ n) × (c ≡ d)
 about_one t p (Set fd kind mode start len) m n c d a b = (sym a.0 ∙ b.0, ok_is c d (sym a.1 ∙ b.1))
 about_one t p (Wait fd kind mode start len) m n c d a b = (sym a.0 ∙ b.0, ok_is c d (sym a.1 ∙ b.1))
 about_one t p (Query fd kind mode start len) m n c d a b = (sym a.0 ∙ b.0, ok_is c d (sym a.1 ∙ b.1))
@@ -65,7 +65,7 @@ about_one t p Exit m n c d a b = absurd a
 about_one t p (Unlock fd kind start len) m n c d a b = absurd a
 
 -- what a call is about its process finds in the table
-pub record Finds (t : Table) (p : Process) (c : Target) : Type 0 where
+pub record Finds (t : Table) (p : Process) (c : LockTarget) : Type 0 where
   pub need : Option Mode
   pub fd : ℕ
   pub kind : Kind
@@ -73,7 +73,7 @@ pub record Finds (t : Table) (p : Process) (c : Target) : Type 0 where
   pub len : ℤ
   pub found : target t p need fd kind start len ≡ Ok c
 
-pub about_finds : (t : Table) (p : Process) (op : Op) (mode : Mode) (c : Target) → IsAbout t p op mode c → Finds t p c
+pub about_finds : (t : Table) (p : Process) (op : Op) (mode : Mode) (c : LockTarget) → IsAbout t p op mode c → Finds t p c
 about_finds t p (Set fd kind m start len) mode c a = record { need = Some m; fd = fd; kind = kind; start = start; len = len; found = a.1 }
 about_finds t p (Wait fd kind m start len) mode c a = record { need = Some m; fd = fd; kind = kind; start = start; len = len; found = a.1 }
 about_finds t p (Query fd kind m start len) mode c a = record { need = None; fd = fd; kind = kind; start = start; len = len; found = a.1 }
@@ -86,7 +86,7 @@ about_finds t p Exit mode c a = absurd a
 about_finds t p (Unlock fd kind start len) mode c a = absurd a
 
 -- and it is about the same where the process finds the same
-pub about_maps : (t u : Table) (p : Process) (op : Op) (mode : Mode) (c : Target) → ((need : Option Mode) (fd : ℕ) (kind : Kind) (start len : ℤ) → target t p need fd kind start len ≡ Ok c → target u p need fd kind start len ≡ Ok c) → IsAbout t p op mode c → IsAbout u p op mode c
+pub about_maps : (t u : Table) (p : Process) (op : Op) (mode : Mode) (c : LockTarget) → ((need : Option Mode) (fd : ℕ) (kind : Kind) (start len : ℤ) → target t p need fd kind start len ≡ Ok c → target u p need fd kind start len ≡ Ok c) → IsAbout t p op mode c → IsAbout u p op mode c
 about_maps t u p (Set fd kind m start len) mode c same a = (a.0, same (Some m) fd kind start len a.1)
 about_maps t u p (Wait fd kind m start len) mode c same a = (a.0, same (Some m) fd kind start len a.1)
 about_maps t u p (Query fd kind m start len) mode c same a = (a.0, same None fd kind start len a.1)
@@ -99,24 +99,24 @@ about_maps t u p Exit mode c same a = absurd a
 about_maps t u p (Unlock fd kind start len) mode c same a = absurd a
 
 -- what the one table may answer to it
-abbrev pub LockStep : Table → Intent → Mode → Reply → Table → Target → Type 0
+abbrev pub LockStep : Table → Intent → Mode → Reply → Table → LockTarget → Type 0
 LockStep t intent.Set = SetStep t
 LockStep t intent.Wait = WaitStep t
 LockStep t intent.Query = QueryStep t
 
 -- a call that passes its tests is answered as its answer says
-pub about_step : (t : Table) (p : Process) (op : Op) (i : Intent) (mode : Mode) (c : Target) (reply : Reply) (u : Table) → IsFor i op → IsAbout t p op mode c → LockStep t i mode reply u c → Step t p op reply u
+pub about_step : (t : Table) (p : Process) (op : Op) (i : Intent) (mode : Mode) (c : LockTarget) (reply : Reply) (u : Table) → IsFor i op → IsAbout t p op mode c → LockStep t i mode reply u c → Step t p op reply u
 about_step t p (Set fd kind m start len) intent.Set mode c reply u f a step =
     let P : Mode → Type 0 = λ k. SetStep t k reply u c in
-    let Q : Result Target Reply → Type 0 = λ x. AfterTests t x reply u (SetStep t m reply u) in
+    let Q : Result LockTarget Reply → Type 0 = λ x. AfterTests t x reply u (SetStep t m reply u) in
     subst Q (sym a.1) (subst P (sym a.0) step)
 about_step t p (Wait fd kind m start len) intent.Wait mode c reply u f a step =
     let P : Mode → Type 0 = λ k. WaitStep t k reply u c in
-    let Q : Result Target Reply → Type 0 = λ x. AfterTests t x reply u (WaitStep t m reply u) in
+    let Q : Result LockTarget Reply → Type 0 = λ x. AfterTests t x reply u (WaitStep t m reply u) in
     subst Q (sym a.1) (subst P (sym a.0) step)
 about_step t p (Query fd kind m start len) intent.Query mode c reply u f a step =
     let P : Mode → Type 0 = λ k. QueryStep t k reply u c in
-    let Q : Result Target Reply → Type 0 = λ x. AfterTests t x reply u (QueryStep t m reply u) in
+    let Q : Result LockTarget Reply → Type 0 = λ x. AfterTests t x reply u (QueryStep t m reply u) in
     subst Q (sym a.1) (subst P (sym a.0) step)
 about_step t p (Set fd kind m start len) i mode c reply u f a step = absurd f
 about_step t p (Wait fd kind m start len) i mode c reply u f a step = absurd f
@@ -130,7 +130,7 @@ about_step t p Exit i mode c reply u f a step = absurd a
 about_step t p (Unlock fd kind start len) i mode c reply u f a step = absurd a
 
 -- a lock in the way is named, but to a call that waits
-pub blocked_step : (t : Table) (i : Intent) (mode : Mode) (lock : LockInfo) (c : Target) (reply : Reply) → refusal_of i lock ≡ Some reply → Blocks (t.locks c.file) c.owner c.span mode lock → LockStep t i mode reply t c
+pub blocked_step : (t : Table) (i : Intent) (mode : Mode) (lock : LockInfo) (c : LockTarget) (reply : Reply) → refusal_of i lock ≡ Some reply → Blocks (t.locks c.file) c.owner c.span mode lock → LockStep t i mode reply t c
 blocked_step t intent.Set mode lock c reply is b = subst (λ (r : Reply). SetStep t mode r t c) (same_Some (Again lock) reply is) (b, refl)
 blocked_step t intent.Wait mode lock c reply is b = absurd (none-some reply is)
 blocked_step t intent.Query mode lock c reply is b = subst (λ (r : Reply). QueryStep t mode r t c) (same_Some (Blocked lock) reply is) (b, refl)
@@ -165,7 +165,7 @@ IsIdle calls pid _ = All (λ (c : OpenCall). c.pid ≡ pid → ⊥) calls
 
 -- where the reply tells that no lock is in the way, the token covers the bytes
 abbrev pub IsServed : Table → Process → Op → Reply → NodeState → Type 0
-IsServed t p op reply u = (mode : Mode) (c : Target) → IsUnhindered reply → IsAbout t p op mode c → covers (u.files c.file).token c.span mode ≡ true
+IsServed t p op reply u = (mode : Mode) (c : LockTarget) → IsUnhindered reply → IsAbout t p op mode c → covers (u.files c.file).token c.span mode ≡ true
 
 -- the call is answered as the node's table and token may answer it, and is open no longer
 pub record IsAnswered (s : NodeState) (number pid : ℕ) (op : Op) (u : NodeState) (o : Option (CallId × Reply)) : Type 0 where
@@ -246,7 +246,7 @@ freed_settles s number answer file e h =
     token : (f : ℕ) → (if f == file then record (e.state.files file) { asked = false } else e.state.files f).token ≡ (e.state.files f).token
     token f = at_number f file (λ b. (if b then record (e.state.files file) { asked = false } else e.state.files f).token ≡ (e.state.files f).token) (λ same. ap (λ (k : ℕ). (e.state.files k).token) (sym same)) (λ other. refl)
 
-pub locked_by_settles : (s : NodeState) (number : ℕ) (c : Target) (mode : Option Mode) → Settles s number (lock_within s.table c mode) (locked_by s number c mode)
+pub locked_by_settles : (s : NodeState) (number : ℕ) (c : LockTarget) (mode : Option Mode) → Settles s number (lock_within s.table c mode) (locked_by s number c mode)
 locked_by_settles s number c mode =
     let answer = lock_within s.table c mode in
     elim (may_free mode answer.1) as (λ b. Settles s number answer (if b then with_freed c.file (settled s number answer) else settled s number answer)) [
@@ -254,7 +254,7 @@ locked_by_settles s number c mode =
       | false ↦ settled_settles s number answer
     ]
 
-unlock_settles : (s : NodeState) (number : ℕ) (found : Result Target Reply) → Settles s number (after_unlock s.table found) (unlock_call s number found)
+unlock_settles : (s : NodeState) (number : ℕ) (found : Result LockTarget Reply) → Settles s number (after_unlock s.table found) (unlock_call s number found)
 unlock_settles s number (Err refusal) = record { node = refl; incarnation = refl; calls = refl; table = refl; is_reply = refl; closed = refl; tokens = λ file. refl }
 unlock_settles s number (Ok c) = locked_by_settles s number c None
 
@@ -291,13 +291,13 @@ module _ (s : NodeState) (number : ℕ) (answer : Table × Reply) (e : Effect) (
   settles_taken pid op step served follows idle = record { continues = others_go_on pid follows idle; calls = h.calls; ends = inl (settles_answers pid op step served) }
 
 -- what the token covers is served
-served_by : (t : Table) (p : Process) (op : Op) (m : Mode) (c : Target) (reply : Reply) (u : NodeState) → IsAbout t p op m c → covers (u.files c.file).token c.span m ≡ true → IsServed t p op reply u
+served_by : (t : Table) (p : Process) (op : Op) (m : Mode) (c : LockTarget) (reply : Reply) (u : NodeState) → IsAbout t p op m c → covers (u.files c.file).token c.span m ≡ true → IsServed t p op reply u
 served_by t p op m c reply u about given mode d free other =
     let same = about_one t p op m mode c d about other in
-    subst (λ (x : Target). covers (u.files x.file).token x.span mode ≡ true) same.1 (subst (λ (k : Mode). covers (u.files c.file).token c.span k ≡ true) same.0 given)
+    subst (λ (x : LockTarget). covers (u.files x.file).token x.span mode ≡ true) same.1 (subst (λ (k : Mode). covers (u.files c.file).token c.span k ≡ true) same.0 given)
 
 -- where no other lock is in the way the table answers by itself, whether the call may wait or not
-lock_step : (t : Table) (c : Target) (mode : Mode) → Unblocked t c mode → (let answer = lock_within t c (Some mode) in SetStep t mode answer.1 answer.0 c × WaitStep t mode answer.1 answer.0 c)
+lock_step : (t : Table) (c : LockTarget) (mode : Mode) → Unblocked t c mode → (let answer = lock_within t c (Some mode) in SetStep t mode answer.1 answer.0 c × WaitStep t mode answer.1 answer.0 c)
 lock_step t c mode free =
     let few = nat_le (regions_with t c (Some mode)) most_regions in
     let out : Bool → Table × Reply = λ b. if b then (locked t c (Some mode), Done) else (t, NoLocks) in
@@ -312,12 +312,12 @@ of_owner t node incarnation file n i same_node same_incarnation own =
     subst (λ (k : ℕ). IsOfNode (t.locks file) k i) (sym same_node) (subst (λ (k : ℕ). IsOfNode (t.locks file) node k) (sym same_incarnation) (own.locks file))
 
 -- what a call of the node is about
-pub about_own : (t : Table) (node incarnation pid : ℕ) (op : Op) (mode : Mode) (c : Target) → IsNumber most_processes pid → IsOwn t node incarnation → IsAbout t (record { node = node; incarnation = incarnation; pid = pid }) op mode c → IsTarget node incarnation c
+pub about_own : (t : Table) (node incarnation pid : ℕ) (op : Op) (mode : Mode) (c : LockTarget) → IsNumber most_processes pid → IsOwn t node incarnation → IsAbout t (record { node = node; incarnation = incarnation; pid = pid }) op mode c → IsTarget node incarnation c
 about_own t node incarnation pid op mode c pid_in own a =
     let f = about_finds t (record { node = node; incarnation = incarnation; pid = pid }) op mode c a in
     target_own t node incarnation pid f.need f.fd f.kind f.start f.len c pid_in own f.found
 
-pub about_hangs : (t : Table) (p : Process) (op : Op) (mode : Mode) (c : Target) → IsAbout t p op mode c → Hangs (t.on p.node p.incarnation) c.file c.owner.kind c.owner.number
+pub about_hangs : (t : Table) (p : Process) (op : Op) (mode : Mode) (c : LockTarget) → IsAbout t p op mode c → Hangs (t.on p.node p.incarnation) c.file c.owner.kind c.owner.number
 about_hangs t p op mode c a =
     let f = about_finds t p op mode c a in
     target_hangs t p f.need f.fd f.kind f.start f.len c f.found
@@ -419,10 +419,10 @@ closed_again pending after c = All-weaker (Stays (pending ++ c ∷ []) c.number)
 -- a call that fails a test is refused by the one table too, and is about nothing
 pub record IsRefused (t : Table) (p : Process) (op : Op) (refusal : Reply) : Type 0 where
   pub step : Step t p op refusal t
-  pub about_none : (mode : Mode) (c : Target) → IsAbout t p op mode c → ⊥
+  pub about_none : (mode : Mode) (c : LockTarget) → IsAbout t p op mode c → ⊥
 
 -- a call about a lock
-lock_taken : (s : NodeState) (number pid : ℕ) (op : Op) (i : Intent) (mode : Mode) (found : Result Target Reply) → IsNumber most_processes pid → IsOwn s.table s.node s.incarnation → ((refusal : Reply) → found ≡ Err refusal → IsRefused s.table (process s pid) op refusal) → ((c : Target) → found ≡ Ok c → IsFor i op × IsAbout s.table (process s pid) op mode c) → Taken s number pid op (lock_call s number pid i mode found).state (lock_call s number pid i mode found).reply
+lock_taken : (s : NodeState) (number pid : ℕ) (op : Op) (i : Intent) (mode : Mode) (found : Result LockTarget Reply) → IsNumber most_processes pid → IsOwn s.table s.node s.incarnation → ((refusal : Reply) → found ≡ Err refusal → IsRefused s.table (process s pid) op refusal) → ((c : LockTarget) → found ≡ Ok c → IsFor i op × IsAbout s.table (process s pid) op mode c) → Taken s number pid op (lock_call s number pid i mode found).state (lock_call s number pid i mode found).reply
 lock_taken s number pid op i mode (Err refusal) pid_in own fails passes =
     let refused = fails refusal refl in
     record {
@@ -449,7 +449,7 @@ found_err : {A E : Type 0} (x : Result A E) (e : E) (a : A) → x ≡ Err e → 
 found_err {A = A} {E = E} x e a fails passes = let both : ◌≡◌ {A = Result A E} (Err e) (Ok a) = sym fails ∙ passes in absurd (cc)
 
 -- a call that concerns processes and descriptors alone, and leaves all descriptors
-beside_taken : (s : NodeState) (number pid : ℕ) (op : Op) (answer : Table × Reply) → Step s.table (process s pid) op answer.1 answer.0 → ((mode : Mode) (c : Target) → IsAbout s.table (process s pid) op mode c → ⊥) → Follows s.table answer.0 s.node s.incarnation pid → All (λ (c : OpenCall). c.pid ≡ pid → ⊥) s.pending → Taken s number pid op (settled s number answer).state (settled s number answer).reply
+beside_taken : (s : NodeState) (number pid : ℕ) (op : Op) (answer : Table × Reply) → Step s.table (process s pid) op answer.1 answer.0 → ((mode : Mode) (c : LockTarget) → IsAbout s.table (process s pid) op mode c → ⊥) → Follows s.table answer.0 s.node s.incarnation pid → All (λ (c : OpenCall). c.pid ≡ pid → ⊥) s.pending → Taken s number pid op (settled s number answer).state (settled s number answer).reply
 beside_taken s number pid op answer step about_none follows idle =
     settles_taken s number answer (settled s number answer) (settled_settles s number answer) pid op step (λ mode c free about. absurd (about_none mode c about)) follows idle
 
@@ -496,21 +496,21 @@ called_ends s number pid Exit pid_in known idle own =
 called_ends s number pid (Set fd kind mode start len) pid_in known idle own =
     let p = process s pid in
     let found = target s.table p (Some mode) fd kind start len in
-    let Q : Reply → Result Target Reply → Type 0 = λ reply x. AfterTests s.table x reply s.table (SetStep s.table mode reply s.table) in
+    let Q : Reply → Result LockTarget Reply → Type 0 = λ reply x. AfterTests s.table x reply s.table (SetStep s.table mode reply s.table) in
     lock_taken s number pid (Set fd kind mode start len) intent.Set mode found pid_in own
     (λ refusal h. record { step = subst (Q refusal) (sym h) (refl, refl); about_none = λ m c a. found_err found refusal c h a.1 })
     (λ c h. (tt, (refl, h)))
 called_ends s number pid (Wait fd kind mode start len) pid_in known idle own =
     let p = process s pid in
     let found = target s.table p (Some mode) fd kind start len in
-    let Q : Reply → Result Target Reply → Type 0 = λ reply x. AfterTests s.table x reply s.table (WaitStep s.table mode reply s.table) in
+    let Q : Reply → Result LockTarget Reply → Type 0 = λ reply x. AfterTests s.table x reply s.table (WaitStep s.table mode reply s.table) in
     lock_taken s number pid (Wait fd kind mode start len) intent.Wait mode found pid_in own
     (λ refusal h. record { step = subst (Q refusal) (sym h) (refl, refl); about_none = λ m c a. found_err found refusal c h a.1 })
     (λ c h. (tt, (refl, h)))
 called_ends s number pid (Query fd kind mode start len) pid_in known idle own =
     let p = process s pid in
     let found = target s.table p None fd kind start len in
-    let Q : Reply → Result Target Reply → Type 0 = λ reply x. AfterTests s.table x reply s.table (QueryStep s.table mode reply s.table) in
+    let Q : Reply → Result LockTarget Reply → Type 0 = λ reply x. AfterTests s.table x reply s.table (QueryStep s.table mode reply s.table) in
     lock_taken s number pid (Query fd kind mode start len) intent.Query mode found pid_in own
     (λ refusal h. record { step = subst (Q refusal) (sym h) (refl, refl); about_none = λ m c a. found_err found refusal c h a.1 })
     (λ c h. (tt, (refl, h)))

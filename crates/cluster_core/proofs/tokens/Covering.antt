@@ -19,7 +19,7 @@ use Rattle.model.specs.Limits.{most_regions}
 use Rattle.model.specs.Owners.{same_owner}
 use Rattle.model.specs.Locks.{FileLocks, Locks, IsOfNode, bars, with_lock, lowest_blocker}
 use Rattle.model.specs.Descriptors.{Processes, is_of_file, has_open, after_spawn, after_fork, after_open, after_dup}
-use Rattle.model.specs.Table.{Table, Target, around, descriptor, beside, target, lock_within, locked, regions_with, after_close, after_exit}
+use Rattle.model.specs.Table.{Table, LockTarget, around, descriptor, beside, target, lock_within, locked, regions_with, after_close, after_exit}
 use Rattle.model.proofs.Closings.{AreFewer, fewer_after_close, fewer_after_exit}
 use Rattle.token_set.specs.Tokens.{Token, serves, covers, raised, raised_level}
 use Rattle.token_set.specs.Releases.{gave_up, after_giving_up}
@@ -124,7 +124,7 @@ module _ (files : ℕ → FileState) where
       ] refl h
 
   -- bytes are locked or freed, within the regions that an owner may have
-  pub lock_within_covered : (t : Table) (c : Target) (mode : Option Mode) → IsGiven (files c.file).token c.span mode → AllCovered t.locks → AllCovered (lock_within t c mode).0.locks
+  pub lock_within_covered : (t : Table) (c : LockTarget) (mode : Option Mode) → IsGiven (files c.file).token c.span mode → AllCovered t.locks → AllCovered (lock_within t c mode).0.locks
   lock_within_covered t c mode given old =
       let out : Bool → Table × Reply = λ x. if x then (locked t c mode, Done) else (t, NoLocks) in
       elim (nat_le (regions_with t c mode) most_regions) as (λ x. AllCovered (out x).0.locks) [ true ↦ with_lock_covered t.locks c.file c.owner c.span mode given old | false ↦ old ]
@@ -139,7 +139,7 @@ pub first_covered : (shape : ShapeFields) (node incarnation : ℕ) → Covered (
 first_covered shape node incarnation file o b mode h = absurd (none-some mode h)
 
 -- bytes are locked, of which the token covers each, or freed
-locked_by_covered : (s : NodeState) (number : ℕ) (about : Target) (mode : Option Mode) → IsGiven (s.files about.file).token about.span mode → Covered s → Covered (locked_by s number about mode).state
+locked_by_covered : (s : NodeState) (number : ℕ) (about : LockTarget) (mode : Option Mode) → IsGiven (s.files about.file).token about.span mode → Covered s → Covered (locked_by s number about mode).state
 locked_by_covered s number about mode given old file o b m held =
     let settles = locked_by_settles s number about mode in
     subst (λ (t : Token). serves (t b) m ≡ true) (sym (settles.tokens file))
@@ -169,13 +169,13 @@ pub tried_if_covered : (s : NodeState) (c : Option OpenCall) → Covered s → C
 tried_if_covered s None old = old
 tried_if_covered s (Some c) old = tried_covered s c old
 
-lock_call_covered : (s : NodeState) (number pid : ℕ) (i : Intent) (mode : Mode) (found : Result Target Reply) → Covered s → Covered (lock_call s number pid i mode found).state
+lock_call_covered : (s : NodeState) (number pid : ℕ) (i : Intent) (mode : Mode) (found : Result LockTarget Reply) → Covered s → Covered (lock_call s number pid i mode found).state
 lock_call_covered s number pid i mode (Err refusal) old = old
 lock_call_covered s number pid i mode (Ok about) old =
     let c : OpenCall = record { number = number; pid = pid; intent = i; file = about.file; owner = about.owner; mode = mode; span = about.span } in
     tried_covered (record s { pending = s.pending ++ c ∷ [] }) c old
 
-unlock_call_covered : (s : NodeState) (number : ℕ) (found : Result Target Reply) → Covered s → Covered (unlock_call s number found).state
+unlock_call_covered : (s : NodeState) (number : ℕ) (found : Result LockTarget Reply) → Covered s → Covered (unlock_call s number found).state
 unlock_call_covered s number (Err refusal) old = old
 unlock_call_covered s number (Ok about) old = locked_by_covered s number about None tt old
 

@@ -1,7 +1,7 @@
 //! Locks of a node.
 use intervals::span::Span;
 use lock_table::lock_table::LockTable;
-use model::lock_call::LockCall;
+use model::lock_target::LockTarget;
 use model::mode::Mode;
 use model::owner::{Kind, Owner};
 use node_core::locks::change_locks;
@@ -23,7 +23,7 @@ fn locks_and_frees_bytes(rt: HostRuntime) -> Result<(), Fail> {
         (None, 0, 7, 8, 1),
     ] {
         let span = Span { lo, hi };
-        let call = LockCall {
+        let call = LockTarget {
             file: 1,
             owner,
             span,

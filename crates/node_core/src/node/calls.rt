@@ -22,7 +22,7 @@ use fcntl_table::target::target_at;
 use intervals::span::Span;
 use messages::refusal::StepError;
 use model::access::Access;
-use model::lock_call::LockCall;
+use model::lock_target::LockTarget;
 use model::mode::Mode;
 use model::op::Op;
 use model::owner::Kind;
@@ -138,7 +138,7 @@ impl Node {
         kind: Kind,
         start: i64,
         len: i64,
-    ) -> Result<LockCall, Reply>
+    ) -> Result<LockTarget, Reply>
         requires { IsNumber most_processes pid }
         ensures value { result ≡ target (node_state self.now).table (process (node_state self.now) pid) need fd kind start len }
         ensures own { IfOk result (λ target. IsOwn (node_state self.now).node (node_state self.now).incarnation target.owner) }
@@ -226,7 +226,7 @@ impl Node {
         pid: u16,
         intent: Intent,
         mode: Mode,
-        target: Result<LockCall, Reply>,
+        target: Result<LockTarget, Reply>,
     ) -> Result<Effect, AllocError>
         requires left { (node_state self.now).calls < greatest_number }
         requires own { IfOk target (λ t. IsOwn (node_state self.now).node (node_state self.now).incarnation t.owner) }
@@ -257,7 +257,7 @@ impl Node {
     fn call_unlock(
         &self,
         alloc: Global,
-        target: Result<LockCall, Reply>,
+        target: Result<LockTarget, Reply>,
     ) -> Result<Effect, AllocError>
         requires left { (node_state self.now).calls < greatest_number }
         requires own { IfOk target (λ t. IsOwn (node_state self.now).node (node_state self.now).incarnation t.owner) }

@@ -53,7 +53,7 @@ impl Node {
     }
 
     // A command that is not the next one: the last one done is answered again, others do nothing.
-    fn take_out_of_order(&self, alloc: Global, command: &Command) -> Result<Effect, AllocError>
+    fn on_out_of_order(&self, alloc: Global, command: &Command) -> Result<Effect, AllocError>
         requires { IsNumber (node_state self.now).shape.files command.now.file }
         ensures value { IfOk result (λ effect. out_of_order (node_state self.now) command.now.file command.now.number ≡ effect_of self.now effect) }
         ensures fits { IfOk result (λ effect. PartsFit self.now effect.edit) }
@@ -102,7 +102,7 @@ impl Node {
         ensures fits { IfOk result (λ effect. PartsFit self.now effect.edit) }
     {
         if !self.is_next(command) {
-            return self.take_out_of_order(alloc, command);
+            return self.on_out_of_order(alloc, command);
         }
         self.grant(alloc, command, span)
     }
@@ -152,7 +152,7 @@ impl Node {
         ensures fits { IfOk result (λ effect. PartsFit self.now effect.edit) }
     {
         if !self.is_next(command) {
-            return self.take_out_of_order(alloc, command);
+            return self.on_out_of_order(alloc, command);
         }
         self.revoke(alloc, command, wanted)
     }
@@ -220,7 +220,7 @@ impl Node {
     }
 
     // A message comes. One for another incarnation of the node does nothing.
-    fn take_message(&self, alloc: Global, message: &Message) -> Result<Effect, AllocError>
+    fn on_message(&self, alloc: Global, message: &Message) -> Result<Effect, AllocError>
         requires { is_within (node_state self.now).shape.files (file_of message.now) ≡ true }
         ensures value { IfOk result (λ effect. (if (host_of message.now).incarnation == (node_state self.now).incarnation then delivered (node_state self.now) message.now else quiet (node_state self.now)) ≡ effect_of self.now effect) }
         ensures fits { IfOk result (λ effect. PartsFit self.now effect.edit) }
@@ -241,7 +241,7 @@ impl Node {
         if !self.is_for_me(message) {
             return Err(StepError::Stranger);
         }
-        let effect = self.take_message(alloc, message)?;
+        let effect = self.on_message(alloc, message)?;
         Ok(effect.change(None))
     }
 }

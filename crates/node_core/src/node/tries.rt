@@ -20,7 +20,7 @@ use lock_table::error::LockError;
 use lock_table::lock_table::LockEdit;
 use messages::message::Message;
 use messages::wanted::Wanted;
-use model::lock_call::LockCall;
+use model::lock_target::LockTarget;
 use model::lock_info::LockInfo;
 use model::mode::Mode;
 use model::reply::Reply;
@@ -186,7 +186,7 @@ impl Node {
     // What locks or frees the bytes, unless their owner would have too many regions, and the reply.
     fn plan_lock(
         &self,
-        target: LockCall,
+        target: LockTarget,
         mode: Option<Mode>,
     ) -> Result<(Option<LockEdit>, Reply), AllocError>
         requires own { IsOwn (node_state self.now).node (node_state self.now).incarnation target.owner }
@@ -228,7 +228,7 @@ impl Node {
         alloc: Global,
         draft: Draft,
         number: u32,
-        target: LockCall,
+        target: LockTarget,
         mode: Option<Mode>,
     ) -> Result<Effect, AllocError>
         requires number { 1 ≤ number }

@@ -2,7 +2,7 @@
 use fcntl_table::target::target_at;
 use intervals::span::{Span, SpanError};
 use model::access::Access;
-use model::lock_call::LockCall;
+use model::lock_target::LockTarget;
 use model::mode::Mode;
 use model::opened::Opened;
 use model::owner::{Kind, Owner};
@@ -25,7 +25,7 @@ const READER: Opened = Opened {
 const SPAN: Span = Span { lo: 0, hi: 9 };
 
 // What a call on those bytes is about.
-const TARGET: LockCall = LockCall {
+const TARGET: LockTarget = LockTarget {
     file: 4,
     owner: Owner {
         node: 2,

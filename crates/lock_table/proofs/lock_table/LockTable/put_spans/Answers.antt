@@ -2,7 +2,7 @@ use Rattle.std.proofs.Common.{◌≡◌, ◌∙◌, ℕ, Option, Some, None, set
 use Rattle.std.specs.List.{insert}
 use Rattle.intervals.specs.Runs.{value_at}
 use Rattle.model.specs.declared.mode.Mode.{Mode}
-use Rattle.lock_table.specs.declared.row.Row.{Row}
+use Rattle.lock_table.specs.declared.owner_locks.OwnerLocks.{OwnerLocks}
 use Rattle.lock_table.specs.Rows.{held, IsRowAt, IsGap}
 use Rattle.lock_table.proofs.RowLemmas.{held-at, held-set, held-insert, rows-set, rows-insert, place_below, gap_within, place_of}
 use Rattle.lock_table.proofs.PageLemmas.{covers-changed}
@@ -19,7 +19,7 @@ invariant_of-self c =
     let at : IsRowAt c.self.inside.rows.items c.in-Ok.i c.args.file c.args.owner = rw (← c.deref.ensures.value) c.in-Ok.ensures in
     let place = place_of _ _ _ _ c.index_mut-row.result.now at c.index_mut-row.ensures.value in
     let rows = c.self.inside.rows.items in
-    let row : Row = record c.index_mut-row.result.now { spans = c.args.spans } in
+    let row : OwnerLocks = record c.index_mut-row.result.now { spans = c.args.spans } in
     let before = held-at rows c.in-Ok.i c.args.file c.args.owner _ at c.index.ensures in
     let noted = c.note_change.ensures in (
       rows-set rows c.in-Ok.i c.args.file c.args.owner row at place.0 place.1 c.requires.some c.self.invariant.0,
@@ -41,7 +41,7 @@ pub invariant_of-self-in-Err : goal.invariant_of-self-in-Err
 invariant_of-self-in-Err c =
     let gap : IsGap c.self.inside.rows.items c.in-Err.i c.args.file c.args.owner = rw (← c.deref.ensures.value) c.in-Err.ensures in
     let rows = c.self.inside.rows.items in
-    let row : Row = record { file = c.args.file; owner = c.args.owner; spans = c.args.spans } in
+    let row : OwnerLocks = record { file = c.args.file; owner = c.args.owner; spans = c.args.spans } in
     let noted = c.note_change-in-Err.ensures in
     rw (c.insert_row.ensures, c.move_rows.ensures.items) (
       rows-insert rows c.in-Err.i row gap c.requires.some c.self.invariant.0,

@@ -3,7 +3,7 @@ use Rattle.std.proofs.Common.{◌≡◌, ap, subst}
 use Rattle.intervals.specs.Bytes.{put}
 use Rattle.intervals.specs.Runs.{value_at}
 use Rattle.model.specs.Locks.{replace, with_lock, regions}
-use Rattle.model.specs.Table.{Target}
+use Rattle.model.specs.Table.{LockTarget}
 use Rattle.lock_table.specs.Rows.{held}
 use Rattle.node_core.proofs.PlanLaws.{lock-planned, lock-refused}
 use Rattle.node_core.proofs.node.Node.plan_lock.Goals as goal
@@ -12,8 +12,8 @@ pub returns-in-Ok-clause-locked : goal.returns-in-Ok-clause-locked
 returns-in-Ok-clause-locked c =
     let h = held c.self.inside.locks in
     let e = c.in-Ok.edit in
-    let ok = subst (λ (t : Target). replace h e.file e.owner (value_at e.spans) ≡ with_lock h t.file t.owner t.span c.args.mode) c.target.view_is c.in-Ok.ensures.ok in
-    let few = subst (λ (t : Target). regions (put (h t.file t.owner) t.span c.args.mode) ≤ 1024) c.target.view_is c.in-Ok.ensures.few in
+    let ok = subst (λ (t : LockTarget). replace h e.file e.owner (value_at e.spans) ≡ with_lock h t.file t.owner t.span c.args.mode) c.target.view_is c.in-Ok.ensures.ok in
+    let few = subst (λ (t : LockTarget). regions (put (h t.file t.owner) t.span c.args.mode) ≤ 1024) c.target.view_is c.in-Ok.ensures.few in
     rw (← c.self.view_is) (lock-planned _ e c.args.target c.args.mode ok few)
 
 pub returns-in-Ok-clause-fits : goal.returns-in-Ok-clause-fits
@@ -22,5 +22,5 @@ returns-in-Ok-clause-fits c = rw (← c.self.view_is) (c.in-Ok.ensures.empty, c.
 pub returns-in-Err-NoLocks-clause-locked : goal.returns-in-Err-NoLocks-clause-locked
 returns-in-Err-NoLocks-clause-locked c =
     let h = held c.self.inside.locks in
-    let many = subst (λ (t : Target). 1024 < regions (put (h t.file t.owner) t.span c.args.mode)) c.target.view_is (c.in-Err-NoLocks.ensures.many (ap Err c.in-Err-NoLocks.field-0-is)) in
+    let many = subst (λ (t : LockTarget). 1024 < regions (put (h t.file t.owner) t.span c.args.mode)) c.target.view_is (c.in-Err-NoLocks.ensures.many (ap Err c.in-Err-NoLocks.field-0-is)) in
     rw (← c.self.view_is) (lock-refused _ c.args.target c.args.mode many)

@@ -1,5 +1,5 @@
 use Rattle.std.proofs.lemmas.Slice.Eq.{slice_eq-Decides}
-use Rattle.token_server.proofs.HeldLaws.{held_eq-Decides}
+use Rattle.token_server.proofs.TokenRequestLaws.{held_eq-Decides}
 use Rattle.token_server.proofs.requests.Requests.same.Goals as goal
 
 pub returns : goal.returns

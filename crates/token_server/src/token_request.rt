@@ -10,18 +10,18 @@ use model::mode::Mode;
 
 /// A request that the server holds: the call that asks, and for what.
 #[derive(Clone, Copy, Debug, PartialEq, Eq)]
-pub struct Held {
+pub struct TokenRequest {
     pub call: CallId,
     pub urgency: Urgency,
     pub mode: Mode,
     pub wanted: Wanted,
 }
 
-impl Held {
-    pub(crate) fn new(call: CallId, urgency: Urgency, mode: Mode, wanted: Wanted) -> Held
+impl TokenRequest {
+    pub(crate) fn new(call: CallId, urgency: Urgency, mode: Mode, wanted: Wanted) -> TokenRequest
         ensures { result ≡ record { call = call; urgency = urgency; mode = mode; wanted = wanted } }
     {
-        Held {
+        TokenRequest {
             call,
             urgency,
             mode,

@@ -12,7 +12,7 @@ use token_set::set::TokenSet;
 
 /// What a server keeps of a node that asked: the commands to it, and its token.
 #[derive(Drop)]
-pub struct Row {
+pub struct TokenHolder {
     pub commands: Commands,
     pub token: TokenSet,
 }
@@ -24,13 +24,13 @@ pub struct RowView<'a> {
     pub token: &'a TokenSet,
 }
 
-impl Row {
+impl TokenHolder {
     /// The row of a node that has got no command yet.
-    pub fn new(alloc: Global, incarnation: u16) -> Row
+    pub fn new(alloc: Global, incarnation: u16) -> TokenHolder
         requires { 1 ≤ incarnation }
         ensures { row_state result ≡ empty_row incarnation }
     {
-        Row {
+        TokenHolder {
             commands: Commands::new(incarnation),
             token: TokenSet::new(alloc),
         }
@@ -48,17 +48,17 @@ impl Row {
     ///
     /// # Errors
     /// `NoMemory` where a request for memory was refused.
-    pub fn copy(&self) -> Result<Row, NoMemory>
+    pub fn copy(&self) -> Result<TokenHolder, NoMemory>
         ensures { IfOk result (λ copy. copy ≡ self.now) }
     {
-        Ok(Row {
+        Ok(TokenHolder {
             commands: self.commands,
             token: self.token.copy()?,
         })
     }
 
     /// Whether both are the same row.
-    pub fn same(&self, other: &Row) -> bool
+    pub fn same(&self, other: &TokenHolder) -> bool
         ensures { IsTrue result ↔ SameRow self.now other.now }
     {
         self.commands.same(&other.commands) && self.token.same(&other.token)

@@ -20,7 +20,7 @@ pub(crate) type Spans = VecMap<Mode>;
 
 /// What one owner holds in one file.
 #[derive(Drop)]
-pub struct Row {
+pub struct OwnerLocks {
     pub(crate) file: u16,
     pub(crate) owner: Owner,
     pub(crate) spans: Spans,
@@ -33,7 +33,7 @@ fn is_found(found: Option<(Span, Mode)>, span: Span, mode: Mode) -> bool
     found == Some((span, mode))
 }
 
-impl Row {
+impl OwnerLocks {
     /// Where the row stands to the place of an owner in a file: by file, then by owner.
     pub(crate) fn cmp_place(&self, file: u16, owner: Owner) -> Ordering
         ensures { result ≡ row_cmp self.now file owner }
@@ -48,7 +48,7 @@ impl Row {
     pub(crate) fn copy(&self) -> Result<Self, NoMemory>
         ensures { IfOk result (λ copy. copy ≡ self.now) }
     {
-        Ok(Row {
+        Ok(OwnerLocks {
             file: self.file,
             owner: self.owner,
             spans: self.spans.copy()?,

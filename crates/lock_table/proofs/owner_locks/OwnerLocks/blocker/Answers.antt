@@ -3,7 +3,7 @@ use Rattle.std.proofs.lemmas.Bool.{both_ways}
 use Rattle.model.specs.Owners.{same_owner}
 use Rattle.lock_table.proofs.Orders.{owner_refl}
 use Rattle.lock_table.proofs.BlockerLemmas.{row_blocker}
-use Rattle.lock_table.proofs.row.Row.blocker.Goals as goal
+use Rattle.lock_table.proofs.owner_locks.OwnerLocks.blocker.Goals as goal
 
 pub returns : goal.returns
 returns c =

@@ -5,16 +5,16 @@ use std::marker::Model;
 
 /// What a lock call is about: a file, the owner of the lock, and the bytes.
 #[derive(Clone, Copy, Debug, PartialEq, Eq)]
-pub struct LockCall {
+pub struct LockTarget {
     pub file: u16,
     pub owner: Owner,
     pub span: Span,
 }
 
-impl Model for LockCall {
-    ghost use Rattle.model.specs.Table.{Target};
+impl Model for LockTarget {
+    ghost use Rattle.model.specs.Table.{LockTarget as LockTargetFields};
 
-    ghost Value = { Target };
+    ghost Value = { LockTargetFields };
 
     ghost view = { λ c. record { file = c.file; owner = c.owner; span = c.span } };
 

@@ -1,7 +1,7 @@
 use Rattle.std.proofs.Common.{refl}
 use Rattle.intervals.specs.Runs.{value_at}
 use Rattle.model.proofs.ReplayLaws.{found_where_region}
-use Rattle.lock_table.proofs.row.Row.has_run.Goals as goal
+use Rattle.lock_table.proofs.owner_locks.OwnerLocks.has_run.Goals as goal
 
 pub returns : goal.returns
 returns c =

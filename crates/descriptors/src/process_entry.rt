@@ -8,7 +8,7 @@ use model::opened::Opened;
 
 /// Whether a process runs, and what each of its descriptors refers to.
 #[derive(Clone, Copy, Debug, PartialEq, Eq)]
-pub struct Row {
+pub struct ProcessEntry {
     pub runs: bool,
     pub opened: [Option<Opened>; 64],
 }
@@ -34,13 +34,13 @@ pub(crate) fn is_of_file(file: u16, opened: Option<Opened>) -> bool
     opened.is_some_and(|opened| opened.file == file)
 }
 
-impl Row {
+impl ProcessEntry {
     /// A process with no descriptors.
-    pub fn new(runs: bool) -> Row
+    pub fn new(runs: bool) -> ProcessEntry
         ensures runs { result.runs ≡ runs }
         ensures opened { (fd : ℕ) → slot result.opened fd ≡ None }
     {
-        Row {
+        ProcessEntry {
             runs,
             opened: [None; 64],
         }
@@ -79,7 +79,7 @@ impl Row {
     }
 
     /// Whether both run or don't, and have the same descriptors.
-    pub fn same(&self, other: &Row) -> bool
+    pub fn same(&self, other: &ProcessEntry) -> bool
         ensures { IsTrue result ↔ IsSameRow self.now other.now }
     {
         if self.runs != other.runs {

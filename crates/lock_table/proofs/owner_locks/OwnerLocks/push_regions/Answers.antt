@@ -1,7 +1,7 @@
 use Rattle.std.proofs.Common.{◌≡◌, ap}
 use Rattle.intervals.specs.Bytes.{Range}
 use Rattle.lock_table.proofs.ListingLemmas.{listed-start, listed-more, listed-end}
-use Rattle.lock_table.proofs.row.Row.push_regions.Goals as goal
+use Rattle.lock_table.proofs.owner_locks.OwnerLocks.push_regions.Goals as goal
 
 pub loop-region-init : goal.loop-region-init
 loop-region-init c = listed-start _ _

@@ -1,6 +1,6 @@
 use Rattle.std.proofs.Common.{ap, sym, ◌∙◌}
 use Rattle.std.proofs.lemmas.Bool.{iff_false, false≢true}
-use Rattle.descriptors.proofs.row.Row.same.Goals as goal
+use Rattle.descriptors.proofs.process_entry.ProcessEntry.same.Goals as goal
 
 pub returns-then-not-same_opened : goal.returns-then-not-same_opened
 returns-then-not-same_opened c =

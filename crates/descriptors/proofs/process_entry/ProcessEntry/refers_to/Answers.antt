@@ -2,7 +2,7 @@ use Rattle.std.proofs.Common.{◌≡◌, ◌∙◌, ap, sym, arith}
 use Rattle.model.specs.Descriptors.{is_of}
 use Rattle.model.proofs.SearchLaws.{failed-start, failed-more, some_passes-found, some_passes-none}
 use Rattle.descriptors.specs.Rows.{slot}
-use Rattle.descriptors.proofs.row.Row.refers_to.Goals as goal
+use Rattle.descriptors.proofs.process_entry.ProcessEntry.refers_to.Goals as goal
 
 pub loop-fd-init : goal.loop-fd-init
 loop-fd-init c = failed-start _ _
