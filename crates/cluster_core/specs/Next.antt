@@ -1,8 +1,8 @@
 -- What an event does to the cluster.
-use Rattle.std.specs.Prelude.{◌≡◌, ℕ, ◌+◌, ⊤, Bool, true, false, not, ◌&&◌, ◌==◌, nat_le, if◌then◌else◌, [], ◌++◌, Result, Ok, Err}
+use Rattle.std.specs.Prelude.{ℕ, ◌+◌, Bool, true, false, not, ◌&&◌, ◌==◌, nat_le, if◌then◌else◌, [], ◌++◌, Result, Ok, Err}
 use Rattle.messages.specs.declared.refusal.StepError.{StepError}
 use Rattle.messages.specs.declared.refusal.Refused.{Refused}
-use Rattle.messages.specs.declared.refusal.Refused.TheVariants.{Stranger, JournalFull, Spent, NotAlive, NotDead, TooManyRestarts, Fenced}
+use Rattle.messages.specs.declared.refusal.Refused.TheVariants.{Stranger, JournalFull, NotAlive, NotDead, TooManyRestarts, Fenced}
 use Rattle.messages.specs.Refusals.{refused_by}
 use Rattle.messages.specs.declared.message.Message.{Message}
 use Rattle.messages.specs.declared.event.Event.{Event}
@@ -121,19 +121,3 @@ next w event =
     else (if not (is_known w event) then Err Stranger
     else (if is_fenced w event then Err Fenced
     else taken w event))
-
-abbrev pub is_a_server : Actor → Bool
-is_a_server (ANode n) = false
-is_a_server (AServer file) = true
-
--- a server takes the event
-abbrev pub is_at_server : Event → Bool
-is_at_server (Deliver m) = is_a_server (addressee m)
-is_at_server (Resend file) = true
-is_at_server (Learn file n incarnation) = true
-is_at_server _ = false
-
--- a refusal that always comes, for want of memory never stands in its place: any, but that a server has no number left
-abbrev pub IsCertain : Event → Refused → Type 0
-IsCertain event Spent = is_at_server event ≡ false
-IsCertain event _ = ⊤

@@ -5,7 +5,7 @@ ghost use Rattle.messages.specs.declared.refusal.Refused.{Refused};
 ghost use Rattle.messages.specs.declared.refusal.Refused.TheVariants.{NoMemory};
 ghost use Rattle.messages.specs.Shapes.{IsShape};
 ghost use Rattle.cluster_core.specs.World.{first_world};
-ghost use Rattle.cluster_core.specs.Next.{next, IsCertain};
+ghost use Rattle.cluster_core.specs.Next.{next};
 ghost use Rattle.cluster_core.specs.Parts.{world_state};
 ghost use Rattle.cluster_core.specs.Runs.{Leads};
 ghost use Rattle.cluster_core.specs.Journals.{journal_of, GoesOn};
@@ -65,8 +65,8 @@ impl Run {
         ensures ok { OnOk result (GoesOn self.old event self.new) }
         ensures err { IfErr result (λ e. e ≢ NoMemory → next (world_state self.old.world) event ≡ Err e) }
 
-        // Want of memory never stands in the place of a refusal, but that a server has no number left.
-        ensures refused { (e : Refused) → IsCertain event e → next (world_state self.old.world) event ≡ Err e → result ≡ Err e }
+        // Want of memory never stands in the place of a refusal.
+        ensures refused { (e : Refused) → next (world_state self.old.world) event ≡ Err e → result ≡ Err e }
         ensures unchanged { OnErr result (self.new ≡ self.old) }
     {
         let change = self.world.plan(alloc, &event)?;

@@ -1,13 +1,11 @@
 -- What an actor's own step refuses, the world refuses.
-use Rattle.std.proofs.Common.{◌≡◌, ◌≢◌, ℕ, refl, sym, ◌∙◌, ap, Result, Ok, Err}
+use Rattle.std.proofs.Common.{◌≡◌, ℕ, refl, sym, ◌∙◌, ap, Result, Ok, Err}
 use Rattle.messages.specs.Refusals.{refused_by}
 use Rattle.messages.specs.declared.event.Event.{Event}
 use Rattle.messages.specs.declared.entry.Entry.{Entry}
 use Rattle.messages.specs.declared.outcome.Outcome.{Outcome}
 use Rattle.messages.specs.declared.refusal.Refused.{Refused}
 use Rattle.messages.specs.declared.refusal.StepError.{StepError}
-use Rattle.messages.specs.declared.refusal.StepError.TheVariants.{Spent}
-use Rattle.messages.specs.declared.refusal.Refused.TheVariants.{Spent as AnySpent}
 use Rattle.node_core.specs.State.{NodeState}
 use Rattle.token_server.specs.State.{ServerState}
 use Rattle.cluster_core.specs.World.{WorldState}
@@ -25,10 +23,6 @@ node_refused w event n (Err e) r refused = (e, refl, err_is {A = WorldState × E
 pub server_refused : (w : WorldState) (event : Event) (file : ℕ) (x : Result (ServerState × Outcome) StepError) (r : Refused) → after_server w event file x ≡ Err r → (e : StepError) × (x ≡ Err e) × (refused_by e ≡ r)
 server_refused w event file (Ok done) r refused = absurd (cc)
 server_refused w event file (Err e) r refused = (e, refl, err_is {A = WorldState × Entry} (refused_by e) r refused)
-
--- where a server has a number left if the world says so
-pub refused-unspent : (e : StepError) (r : Refused) → refused_by e ≡ r → r ≢ AnySpent → e ≢ Spent
-refused-unspent e r same unspent is = unspent (sym same ∙ ap refused_by is)
 
 -- a step of its actor that is done is not refused
 pub node_goes : (w : WorldState) (event : Event) (n : ℕ) (x : Result (NodeState × Outcome) StepError) (done : NodeState × Outcome) (q : Result (WorldState × Entry) Refused) (r : Refused) → x ≡ Ok done → q ≡ after_node w event n x → q ≡ Err r → ⊥
