@@ -1,9 +1,9 @@
 -- What is known of a text of which some lines of a journal were read.
-use Rattle.std.proofs.Common.{◌≡◌, ℕ, ◌+◌, ◌≤◌, List, [], ◌∷◌, ◌++◌, length, map, Option, Some, None, refl, sym, ap, subst, ◌∙◌, arith, append_assoc, length-append}
+use Rattle.std.proofs.Common.{◌≡◌, ℕ, ◌+◌, List, [], ◌∷◌, ◌++◌, length, map, Option, Some, None, refl, sym, ap, subst, ◌∙◌, arith, append_assoc, length-append}
 use Rattle.std.specs.List.{All, flat_map}
 use Rattle.std.proofs.lemmas.Grind.{flat_map-append}
 use Rattle.std.proofs.lemmas.List.{append-nil, map-append}
-use Rattle.std.proofs.lemmas.List.Elements.{All-append, All-cons, All-head, All-nil, All-push, All-tail}
+use Rattle.std.proofs.lemmas.List.Elements.{All-cons, All-head, All-nil, All-push, All-tail}
 use Rattle.model.specs.declared.policy.Policy.TheVariants.{Wide}
 use Rattle.messages.specs.Shapes.{IsShape, ShapeFields}
 use Rattle.lockscript.specs.LineFeeds.{line_feed, line_feeds, BeginsWithLine}
@@ -16,12 +16,12 @@ use Rattle.journal_text.specs.declared.place.Phase.TheVariants.{Ended}
 use Rattle.journal_text.specs.declared.place.Place.{Place}
 use Rattle.journal_text.specs.Journals.{head_text}
 use Rattle.journal_text.specs.Lines.{IsCount, IsServedLine, line_text}
-use Rattle.journal_text.specs.Places.{IsMisplaced, IsStuck, StandsNext, next_place, place, start}
+use Rattle.journal_text.specs.Places.{IsMisplaced, IsStuck, StandsNext, place, start}
 use Rattle.journal_text.specs.Places.IsStuck.{misplaced, no_line}
-use Rattle.journal_text.specs.Readings.{BeginsJournal, HasJournal, IsBad, IsFirstBad, IsJournalText, Passes, Writes, body_lines}
+use Rattle.journal_text.specs.Readings.{BeginsJournal, IsBad, IsFirstBad, IsJournalText, Passes, Writes, body_lines}
 use Rattle.journal_text.specs.Readings.IsBad.{has_no_line, stands_wrong}
 use Rattle.journal_text.proofs.LineKinds.{apart-line}
-use Rattle.journal_text.proofs.Runs.{next, run, run-append, run-journal, run-none}
+use Rattle.journal_text.proofs.Runs.{run, run-append, run-journal, run-none}
 use Rattle.journal_text.proofs.Steps.{Further, Reading, empty-open, entries, named, none-some, phase_of-open, place_of, read_lines, some-same}
 use Rattle.journal_text.proofs.Steps.Reading.{nothing, some, whole}
 
@@ -113,14 +113,14 @@ good-begun text s (whole es) rest taken begun = record {
   writes = record { texts = append-nil (texts_of s (body_lines es)); shape_in = begun.shape_in; lines_in = begun.lines_in };
 }
 
-heads : (x y : List ℕ) (xs ys : List (List ℕ)) → x ∷ xs ≡ y ∷ ys → x ≡ y
+pub heads : (x y : List ℕ) (xs ys : List (List ℕ)) → x ∷ xs ≡ y ∷ ys → x ≡ y
 heads x y xs ys e = cc
 
-tails : (x y : List ℕ) (xs ys : List (List ℕ)) → x ∷ xs ≡ y ∷ ys → xs ≡ ys
+pub tails : (x y : List ℕ) (xs ys : List (List ℕ)) → x ∷ xs ≡ y ∷ ys → xs ≡ ys
 tails x y xs ys e = cc
 
 -- lines that are written alike
-lines-same : (js ks : List JournalLine) → All IsServedLine js → All IsServedLine ks → map line_text js ≡ map line_text ks → js ≡ ks
+pub lines-same : (js ks : List JournalLine) → All IsServedLine js → All IsServedLine ks → map line_text js ≡ map line_text ks → js ≡ ks
 lines-same [] [] js_in ks_in e = refl
 lines-same [] (k ∷ ks) js_in ks_in e = absurd (cc)
 lines-same (j ∷ js) [] js_in ks_in e = absurd (cc)

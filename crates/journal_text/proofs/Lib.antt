@@ -11,3 +11,11 @@ pub mod Runs
 pub mod Begun
 pub mod Standing
 pub mod Stuck
+pub mod Feedless
+pub mod FeedlessOps
+pub mod FeedlessMessages
+pub mod FeedlessReplies
+pub mod FeedlessEvents
+pub mod FeedlessLines
+pub mod Printed
+pub mod OneReading

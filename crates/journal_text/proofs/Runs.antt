@@ -1,16 +1,16 @@
 -- Lines one after the other, each where it may stand: those of a journal lead to its end.
-use Rattle.std.proofs.Common.{◌≡◌, ℕ, ◌+◌, Bool, true, if◌then◌else◌, List, [], ◌∷◌, ◌++◌, length, map, Option, Some, None, refl, sym, ap, ◌∙◌, arith, eqb, append_assoc}
+use Rattle.std.proofs.Common.{◌≡◌, ℕ, ◌+◌, Bool, if◌then◌else◌, List, [], ◌∷◌, ◌++◌, length, map, Option, Some, None, refl, sym, ap, ◌∙◌, arith, append_assoc}
 use Rattle.std.proofs.lemmas.Bool.{eq-eqb}
 use Rattle.model.specs.declared.call.CallId.{CallId}
 use Rattle.model.specs.declared.reply.Reply.{Reply}
 use Rattle.messages.specs.declared.message.Message.{Message}
 use Rattle.journal_text.specs.declared.lines.JournalLine.{JournalLine}
-use Rattle.journal_text.specs.declared.lines.JournalLine.TheVariants.{Entry, Answer, Send, End}
+use Rattle.journal_text.specs.declared.lines.JournalLine.TheVariants.{Entry, Send, End}
 use Rattle.journal_text.specs.declared.named_entry.NamedEntry.{NamedEntry}
 use Rattle.journal_text.specs.declared.place.Phase.{Phase}
 use Rattle.journal_text.specs.declared.place.Phase.TheVariants.{Empty, Begun, Sending, Ended}
 use Rattle.journal_text.specs.declared.place.Place.{Place}
-use Rattle.journal_text.specs.Places.{after_end, next_place, place, start}
+use Rattle.journal_text.specs.Places.{next_place, place, start}
 use Rattle.journal_text.specs.Readings.{answer_lines, body_lines, entry_lines, lines_of}
 use Rattle.journal_text.proofs.Steps.{empty-open, end-open, entry-open, phase_of, phase_of-open}
 

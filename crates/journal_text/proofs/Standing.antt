@@ -1,5 +1,5 @@
 -- Where the reader of a journal stands, and what it has built.
-use Rattle.std.proofs.Common.{◌≡◌, ℕ, ◌+◌, List, [], Option, Some, None, map, refl, sym, ap, subst, ◌∙◌}
+use Rattle.std.proofs.Common.{◌≡◌, ℕ, ◌+◌, List, [], map, refl, sym, ap, subst, ◌∙◌}
 use Rattle.messages.specs.Shapes.{IsShape, ShapeFields}
 use Rattle.lockscript.specs.LineFeeds.{BeginsWithLine}
 use Rattle.journal_text.specs.declared.error.JournalError.{JournalError}

@@ -12,7 +12,7 @@ use Rattle.journal_text.specs.Served.{IsHolder}
 use Rattle.journal_text.specs.Texts.{holder_text, urgency_text}
 
 -- two texts without a byte are one without it
-lacks-append : (c : ℕ) (x y : List ℕ) → Lacks c x → Lacks c y → Lacks c (x ++ y)
+pub lacks-append : (c : ℕ) (x y : List ℕ) → Lacks c x → Lacks c y → Lacks c (x ++ y)
 lacks-append c [] y no_x no_y i lt = no_y i lt
 lacks-append c (b ∷ x) y no_x no_y zero lt = no_x 0 (omega arith)
 lacks-append c (b ∷ x) y no_x no_y (suc i) lt = lacks-append c x y (λ j l. no_x (suc j) (omega (arith, l))) no_y i (omega (arith, lt))

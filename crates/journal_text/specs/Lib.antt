@@ -7,3 +7,4 @@ pub mod Journals
 pub mod Places
 pub mod Readings
 pub mod Built
+pub mod OneText

@@ -6,6 +6,7 @@ pub mod error;
 pub mod events;
 pub mod head;
 pub mod journal;
+pub mod laws;
 pub mod lines;
 pub mod message;
 pub mod named_entry;

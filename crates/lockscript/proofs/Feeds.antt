@@ -5,7 +5,7 @@ use Rattle.std.proofs.lemmas.List.Sums.{sum_by-append, sum_by-cons}
 use Rattle.lockscript.specs.LineFeeds.{line_feed, line_feeds, BeginsWithLine}
 
 -- a text has no line feed where no byte of it is one
-none_is-line_feeds : (bs : List ℕ) → ((i : ℕ) → i < length bs → get_or bs i 0 ≢ line_feed) → line_feeds bs ≡ 0
+pub none_is-line_feeds : (bs : List ℕ) → ((i : ℕ) → i < length bs → get_or bs i 0 ≢ line_feed) → line_feeds bs ≡ 0
 none_is-line_feeds [] none = refl
 none_is-line_feeds (b ∷ bs) none = grind (arith, none 0, none_is-line_feeds bs (λ i lt. none (suc i) (omega (arith, lt))))
 

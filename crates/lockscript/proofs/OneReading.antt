@@ -25,22 +25,22 @@ lacks-feed (b ∷ bytes) none (suc i) lt =
     lacks-feed bytes rest i (omega (arith, lt))
 
 -- the first line of two that begin one text
-line-same : (text line rest line' rest' : List ℕ) → BeginsWithLine text line rest → BeginsWithLine text line' rest' → (line ≡ line') × (rest ≡ rest')
+pub line-same : (text line rest line' rest' : List ℕ) → BeginsWithLine text line rest → BeginsWithLine text line' rest' → (line ≡ line') × (rest ≡ rest')
 line-same text line rest line' rest' a b = same-split line_feed line line' rest rest' (lacks-feed line a.one_line) (lacks-feed line' b.one_line) (sym a.parts ∙ b.parts)
 
 -- lines of a text begin with its first line
 front : (line : List ℕ) (lines : List (List ℕ)) (rest : List ℕ) → flat_map ended (line ∷ lines) ++ rest ≡ line ++ line_feed ∷ (flat_map ended lines ++ rest)
 front line lines rest = append_assoc (ended line) (flat_map ended lines) rest ∙ append_assoc line (line_feed ∷ []) (flat_map ended lines ++ rest)
 
-begins-front : (text line : List ℕ) (lines : List (List ℕ)) (rest : List ℕ) → text ≡ flat_map ended (line ∷ lines) ++ rest → All IsSingle (line ∷ lines) → BeginsWithLine text line (flat_map ended lines ++ rest)
+pub begins-front : (text line : List ℕ) (lines : List (List ℕ)) (rest : List ℕ) → text ≡ flat_map ended (line ∷ lines) ++ rest → All IsSingle (line ∷ lines) → BeginsWithLine text line (flat_map ended lines ++ rest)
 begins-front text line lines rest e single = record { parts = e ∙ front line lines rest; one_line = All-head IsSingle line lines single }
 
 -- the second reading of a text went some lines further than the first
-record Further (xs ys : List (List ℕ)) (rest rest' : List ℕ) : Type 0 where
-  between : List (List ℕ)
-  lines : ys ≡ xs ++ between
-  single : All IsSingle between
-  parts : rest ≡ flat_map ended between ++ rest'
+pub record Further (xs ys : List (List ℕ)) (rest rest' : List ℕ) : Type 0 where
+  pub between : List (List ℕ)
+  pub lines : ys ≡ xs ++ between
+  pub single : All IsSingle between
+  pub parts : rest ≡ flat_map ended between ++ rest'
 
 further-line : (x y : List ℕ) (xs ys : List (List ℕ)) (rest rest' : List ℕ) → x ≡ y → Further xs ys rest rest' → Further (x ∷ xs) (y ∷ ys) rest rest'
 further-line x y xs ys rest rest' e f = record {
@@ -56,7 +56,7 @@ further-lines x y xs ys rest rest' e (inl f) = inl (further-line x y xs ys rest 
 further-lines x y xs ys rest rest' e (inr f) = inr (further-line y x ys xs rest' rest (sym e) f)
 
 -- one of two readings of a text went further
-further : (xs ys : List (List ℕ)) (rest rest' : List ℕ) → All IsSingle xs → All IsSingle ys → flat_map ended xs ++ rest ≡ flat_map ended ys ++ rest'
+pub further : (xs ys : List (List ℕ)) (rest rest' : List ℕ) → All IsSingle xs → All IsSingle ys → flat_map ended xs ++ rest ≡ flat_map ended ys ++ rest'
     → Further xs ys rest rest' ⊎ Further ys xs rest' rest
 further [] ys rest rest' xs_in ys_in e = inl (record { between = ys; lines = refl; single = ys_in; parts = e })
 further (x ∷ xs) [] rest rest' xs_in ys_in e = inr (record { between = x ∷ xs; lines = refl; single = xs_in; parts = sym e })
@@ -145,7 +145,7 @@ stops kept number passed rest (line ∷ lines) rest' bad counted parts single sc
     absurd (not-past kept number passed rest line lines (flat_map ended lines ++ rest') bad counted (begins-front rest line lines rest' parts single) script)
 
 -- no line stands after the end
-ends : (lines : List (List ℕ)) (rest : List ℕ) → [] ≡ flat_map ended lines ++ rest → All IsSingle lines → lines ≡ []
+pub ends : (lines : List (List ℕ)) (rest : List ℕ) → [] ≡ flat_map ended lines ++ rest → All IsSingle lines → lines ≡ []
 ends [] rest e single = refl
 ends (line ∷ lines) rest e single =
     let begins = begins-front [] line lines rest e single in

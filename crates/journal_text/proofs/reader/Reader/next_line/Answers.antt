@@ -1,4 +1,3 @@
-use Rattle.std.proofs.Common.{◌≡◌, ◌+◌, arith}
 use Rattle.std.proofs.lemmas.Result.{err_from_is_err_and}
 use Rattle.journal_text.specs.Places.IsStuck.{misplaced}
 use Rattle.journal_text.proofs.Stuck.{refusal-is}

@@ -1,0 +1,43 @@
+-- Lines of journals are single lines.
+use Rattle.std.proofs.Common.{refl, arith, decimal}
+use Rattle.model.specs.Limits.{IsCall}
+use Rattle.messages.specs.Shapes.{IsShape, ShapeFields}
+use Rattle.lockscript.specs.LineFeeds.{line_feed}
+use Rattle.lockscript.specs.Reads.{Lacks}
+use Rattle.lockscript.specs.Texts.{call_text, reply_text}
+use Rattle.lockscript.proofs.Feeds.{none_is-line_feeds}
+use Rattle.lockscript.proofs.Passes.{IsSingle}
+use Rattle.lockscript.proofs.SingleWords.{lacks-tested}
+use Rattle.journal_text.specs.declared.lines.JournalLine.{JournalLine}
+use Rattle.journal_text.specs.Events.{IsServedEvent, named_text}
+use Rattle.journal_text.specs.Journals.{head_text}
+use Rattle.journal_text.specs.Lines.{IsCount, IsPosition, IsServedLine, line_text}
+use Rattle.journal_text.specs.Served.{IsServedReply}
+use Rattle.journal_text.proofs.Feedless.{HasNone, commands, heads, named_calls, number, of_kinds, pair}
+use Rattle.journal_text.proofs.FeedlessEvents.{feedless-event}
+use Rattle.journal_text.proofs.FeedlessMessages.{feedless-message}
+use Rattle.journal_text.proofs.FeedlessReplies.{feedless-reply}
+use Rattle.journal_text.proofs.LineKinds.{Fit, LineKind, front, lines, rest}
+use Rattle.journal_text.proofs.LineKinds.LineKind.{answers, ends, entries, sends}
+
+fronts : (k : LineKind) → Lacks line_feed (front k)
+fronts entries = lacks-tested line_feed (front entries) refl
+fronts k = lacks-tested line_feed (front k) refl
+
+counts : HasNone decimal IsCount
+counts n fits = number n (omega (arith, fits))
+
+rests : (k : LineKind) → HasNone (rest k) (Fit k)
+rests entries = pair decimal named_text IsPosition IsServedEvent commands feedless-event
+rests answers = pair call_text reply_text IsCall IsServedReply named_calls feedless-reply
+rests sends = feedless-message
+rests ends = counts
+
+feedless-line : HasNone line_text IsServedLine
+feedless-line = of_kinds lines fronts rests
+
+pub line-single : (j : JournalLine) → IsServedLine j → IsSingle (line_text j)
+line-single j fits = none_is-line_feeds (line_text j) (feedless-line j fits)
+
+pub head-single : (s : ShapeFields) → IsShape s → IsSingle (head_text s)
+head-single s fits = none_is-line_feeds (head_text s) (heads s fits)

@@ -1,0 +1,92 @@
+-- A journal that a text writes is printed as that text.
+use Rattle.std.proofs.Common.{◌≡◌, ℕ, ◌+◌, List, [], ◌∷◌, ◌++◌, length, map, Option, Some, None, refl, sym, ap, ◌∙◌, append_assoc, codes, decimal}
+use Rattle.std.specs.List.{All, flat_map}
+use Rattle.std.proofs.lemmas.Grind.{flat_map-append}
+use Rattle.std.proofs.lemmas.List.{append-nil, length-map, map-append}
+use Rattle.std.proofs.lemmas.List.Elements.{All-cons, All-head, All-nil, All-tail}
+use Rattle.model.specs.declared.call.CallId.{CallId}
+use Rattle.model.specs.declared.reply.Reply.{Reply}
+use Rattle.messages.specs.Entries.{EntryFields}
+use Rattle.messages.specs.Shapes.{ShapeFields}
+use Rattle.messages.specs.declared.message.Message.{Message}
+use Rattle.lockscript.specs.Texts.{call_text, reply_text}
+use Rattle.lockscript.proofs.Passes.{IsSingle, ended}
+use Rattle.journal_text.specs.declared.lines.JournalLine.{JournalLine}
+use Rattle.journal_text.specs.declared.lines.JournalLine.TheVariants.{End, Send}
+use Rattle.journal_text.specs.declared.named_entry.NamedEntry.{NamedEntry}
+use Rattle.journal_text.specs.Events.{named_text}
+use Rattle.journal_text.specs.Journals.{end_text, entries_text, entry_text, head_text, journal_text, reply_line, send_line}
+use Rattle.journal_text.specs.Lines.{IsServedLine, line_text}
+use Rattle.journal_text.specs.OneText.{IsServedJournal}
+use Rattle.journal_text.specs.Readings.{IsJournalText, WritesJournal, answer_lines, body_lines, entry_in, entry_lines, lines_of}
+use Rattle.journal_text.proofs.FeedlessLines.{head-single, line-single}
+
+-- lines, each with its line feed
+abbrev lines_text : List JournalLine → List ℕ
+lines_text js = flat_map ended (map line_text js)
+
+lines_text-append : (js ks : List JournalLine) → lines_text (js ++ ks) ≡ lines_text js ++ lines_text ks
+lines_text-append js ks = ap (flat_map ended) (map-append line_text js ks) ∙ flat_map-append ended (map line_text js) (map line_text ks)
+
+answer-parts : (front call reply : List ℕ) → ((front ++ (call ++ 32 ∷ reply)) ++ 10 ∷ []) ++ [] ≡ front ++ call ++ (32 ∷ []) ++ reply ++ (10 ∷ [])
+answer-parts front call reply = simp (append_assoc, append-nil)
+
+answer-printed : (reply : Option (CallId × Reply)) → lines_text (answer_lines reply) ≡ reply_line reply
+answer-printed None = refl
+answer-printed (Some answer) = answer-parts (codes "reply ") (call_text answer.0) (reply_text answer.1)
+
+sends-printed : (sends : List Message) → lines_text (map Send sends) ≡ flat_map send_line sends
+sends-printed [] = refl
+sends-printed (m ∷ ms) = ap (λ (t : List ℕ). send_line m ++ t) (sends-printed ms)
+
+entry-parts : (front position event reply sends : List ℕ) → ((front ++ (position ++ 32 ∷ event)) ++ 10 ∷ []) ++ (reply ++ sends) ≡ front ++ position ++ (32 ∷ []) ++ event ++ (10 ∷ []) ++ reply ++ sends
+entry-parts front position event reply sends = simp append_assoc
+
+entry-printed : (position : ℕ) (e : NamedEntry) → lines_text (entry_lines position e) ≡ entry_text position (entry_in e)
+entry-printed position e =
+    let first = ended (codes "entry " ++ (decimal position ++ 32 ∷ named_text e.event)) in
+    ap (λ (t : List ℕ). first ++ t) (lines_text-append (answer_lines e.reply) (map Send e.sends))
+    ∙ ap (λ (t : List ℕ). first ++ (t ++ lines_text (map Send e.sends))) (answer-printed e.reply)
+    ∙ ap (λ (t : List ℕ). first ++ (reply_line e.reply ++ t)) (sends-printed e.sends)
+    ∙ entry-parts (codes "entry ") (decimal position) (named_text e.event) (reply_line e.reply) (flat_map send_line e.sends)
+
+entries-printed : (position : ℕ) (es : List NamedEntry) → lines_text (lines_of position es) ≡ entries_text position (map entry_in es)
+entries-printed position [] = refl
+entries-printed position (e ∷ es) =
+    lines_text-append (entry_lines position e) (lines_of (position + 1) es)
+    ∙ ap (λ (t : List ℕ). t ++ lines_text (lines_of (position + 1) es)) (entry-printed position e)
+    ∙ ap (λ (t : List ℕ). entry_text position (entry_in e) ++ t) (entries-printed (position + 1) es)
+
+journal-parts : (first entries last : List ℕ) → ((first ++ 10 ∷ []) ++ (entries ++ ((last ++ 10 ∷ []) ++ []))) ++ [] ≡ first ++ (10 ∷ []) ++ entries ++ last ++ (10 ∷ [])
+journal-parts first entries last = simp (append_assoc, append-nil)
+
+-- whole lines are a printed journal
+pub lines-printed : (s : ShapeFields) (es : List NamedEntry) → flat_map ended (head_text s ∷ map line_text (body_lines es)) ++ [] ≡ journal_text s (map entry_in es)
+lines-printed s es =
+    let entries = entries_text 1 (map entry_in es) in
+    let body = lines_text-append (lines_of 1 es) (End (length es) ∷ []) ∙ ap (λ (t : List ℕ). t ++ lines_text (End (length es) ∷ [])) (entries-printed 1 es) in
+    ap (λ (t : List ℕ). (ended (head_text s) ++ t) ++ []) body
+    ∙ journal-parts (head_text s) entries (end_text (length es))
+    ∙ ap (λ (n : ℕ). head_text s ++ codes "\n" ++ entries ++ end_text n ++ codes "\n") (sym (length-map es entry_in))
+
+pub journal-printed : (text : List ℕ) (s : ShapeFields) (es : List NamedEntry) → IsJournalText text s es → text ≡ journal_text s (map entry_in es)
+journal-printed text s es j = j.whole.parts ∙ ap (λ (ls : List (List ℕ)). flat_map ended ls ++ []) j.writes.texts ∙ lines-printed s es
+
+lines-single : (js : List JournalLine) → All IsServedLine js → All IsSingle (map line_text js)
+lines-single [] served = All-nil IsSingle
+lines-single (j ∷ js) served = All-cons IsSingle (line_text j) (map line_text js) (line-single j (All-head IsServedLine j js served)) (lines-single js (All-tail IsServedLine j js served))
+
+-- a journal within the limits is read of the text that it is printed as
+pub read-printed : (s : ShapeFields) (es : List EntryFields) → IsServedJournal s es → WritesJournal (journal_text s es) s es
+read-printed s es j = record {
+  named = j.named;
+  same = j.same;
+  written = record {
+    lines = head_text s ∷ map line_text (body_lines j.named);
+    whole = record {
+      parts = ap (journal_text s) j.same ∙ sym (lines-printed s j.named);
+      single = All-cons IsSingle (head_text s) (map line_text (body_lines j.named)) (head-single s j.shape_in) (lines-single (body_lines j.named) j.lines_in);
+    };
+    writes = record { texts = refl; shape_in = j.shape_in; lines_in = j.lines_in };
+  };
+}

@@ -1,0 +1,45 @@
+-- One text writes one value.
+use Rattle.std.specs.Prelude.{◌≡◌, ℕ, List, All, map}
+use Rattle.lockscript.specs.Texts.{reply_text}
+use Rattle.messages.specs.Entries.{EntryFields}
+use Rattle.messages.specs.Shapes.{IsShape, ShapeFields}
+use Rattle.journal_text.specs.declared.named_entry.NamedEntry.{NamedEntry}
+use Rattle.journal_text.specs.Events.{IsServedEvent, named_text}
+use Rattle.journal_text.specs.Journals.{journal_text}
+use Rattle.journal_text.specs.Lines.{IsServedLine, line_text}
+use Rattle.journal_text.specs.Readings.{IsFirstBad, WritesJournal, body_lines, entry_in}
+use Rattle.journal_text.specs.Served.{IsServedMessage, IsServedReply}
+use Rattle.journal_text.specs.Texts.{message_text}
+
+-- two values that fit and have one text are one
+abbrev pub HasOneValue : {A : Type 0} → (A → List ℕ) → (A → Type 0) → Type 0
+HasOneValue text Fits = (x y : _) → Fits x → Fits y → text x ≡ text y → x ≡ y
+
+-- a journal whose numbers are within their limits, in each of its lines
+pub record IsServedJournal (s : ShapeFields) (es : List EntryFields) : Type 0 where
+  pub named : List NamedEntry
+  pub same : es ≡ map entry_in named
+  pub shape_in : IsShape s
+  pub lines_in : All IsServedLine (body_lines named)
+
+-- the texts of journals, and of what stands in them
+pub record EachTextHasOneValue : Type 0 where
+  pub messages : HasOneValue message_text IsServedMessage
+  pub events : HasOneValue named_text IsServedEvent
+  pub replies : HasOneValue reply_text IsServedReply
+  pub lines : HasOneValue line_text IsServedLine
+  pub journals : (s t : ShapeFields) (es fs : List EntryFields) → IsServedJournal s es → IsServedJournal t fs → journal_text s es ≡ journal_text t fs → (s ≡ t) × (es ≡ fs)
+
+-- what is printed of a journal within the limits is read as that journal
+abbrev pub EveryJournalIsRead : Type 0
+EveryJournalIsRead = (s : ShapeFields) (es : List EntryFields) → IsServedJournal s es → WritesJournal (journal_text s es) s es
+
+-- the text writes at most one journal, and is what is printed of it, or has one first bad line
+pub record HasOneReading (text : List ℕ) : Type 0 where
+  pub one_journal : (s t : ShapeFields) (es fs : List EntryFields) → WritesJournal text s es → WritesJournal text t fs → (s ≡ t) × (es ≡ fs)
+  pub one_bad_line : (m n : ℕ) → IsFirstBad text m → IsFirstBad text n → m ≡ n
+  pub not_both : (s : ShapeFields) (es : List EntryFields) (n : ℕ) → WritesJournal text s es → IsFirstBad text n → ⊥
+  pub as_printed : (s : ShapeFields) (es : List EntryFields) → WritesJournal text s es → text ≡ journal_text s es
+
+abbrev pub EveryTextHasOneReading : Type 0
+EveryTextHasOneReading = (text : List ℕ) → HasOneReading text
