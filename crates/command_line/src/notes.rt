@@ -63,3 +63,12 @@ A line that is refused is listed with its number and a code, and the run goes on
                                         19  the actor ran out of numbers
 These refusals end the run (see the exit status):
    3  no memory       9  bad line       16  journal full";
+
+
+/// What stands under the options of `audit`.
+pub(crate) const AUDIT_NOTES: &str = "\
+See the exit status of 'lockreplay'.";
+
+/// What stands under the options of `history`.
+pub(crate) const HISTORY_NOTES: &str = "\
+See the exit status of 'lockreplay'.";
