@@ -1,13 +1,14 @@
 -- What clap makes of plain words.
-use Rattle.std.proofs.Common.{refl, sym, subst, ap, codes, true, false, ℕ, List, Option, Some, None, [], ◌∷◌, ◌≡◌, ◌≢◌}
+use Rattle.std.proofs.Common.{arith, refl, sym, subst, ap, codes, true, false, ℕ, List, Option, Some, None, [], ◌∷◌, ◌≡◌, ◌≢◌}
 use Rattle.std.specs.Prelude.{slice_get}
 use Rattle.std.specs.Str.{bytes_eq}
+use Rattle.std.specs.List.{All}
 use Rattle.std.proofs.lemmas.Bool.{ne_eqb}
 use Rattle.clap.specs.Lexer.{strip_byte}
 use Rattle.clap.specs.Words.{Text, fault_of, is_simple, is_simple_and_free, subcommand_of}
 use Rattle.clap.proofs.OnLiterals.{clap_on_literals}
 use Rattle.command_line.specs.Program.{program_app, IsMet}
-use Rattle.command_line.specs.Tasks.{Task, run, audit, history, plain_words_of}
+use Rattle.command_line.specs.Tasks.{Task, run, audit, history, paths_of, plain_words_of}
 use Rattle.command_line.specs.Words.{AsksFor, IsPlain}
 
 pub is_simple_program : is_simple program_app ≡ true
@@ -57,7 +58,7 @@ unfolding clap_on_literals
 history_taken program journal no_minus no_dashes = rw (no_dashes, no_minus, no_minus) refl
 
 module _ (program script file : Text) (script_minus : strip_byte 45 script ≡ None) (script_dashes : bytes_eq script (45 ∷ 45 ∷ []) ≡ false)
-  (file_minus : strip_byte 45 file ≡ None) (file_dashes : bytes_eq file (45 ∷ 45 ∷ []) ≡ false) where
+    (file_minus : strip_byte 45 file ≡ None) (file_dashes : bytes_eq file (45 ∷ 45 ∷ []) ≡ false) where
   run_to_met : IsMet (subcommand_of program_app (words_of program (run script (Some file)))) (run script (Some file))
   unfolding clap_on_literals
   run_to_met = rw (script_dashes, script_minus, script_minus, file_dashes, file_minus, file_minus) refl
@@ -65,3 +66,23 @@ module _ (program script file : Text) (script_minus : strip_byte 45 script ≡ N
   run_to_taken : fault_of program_app (words_of program (run script (Some file))) ≡ []
   unfolding clap_on_literals
   run_to_taken = rw (script_dashes, script_minus, script_minus, file_dashes, file_minus, file_minus) refl
+
+plain_task : (program : Text) (task : Task) → All (λ path. slice_get path 0 ≢ Some 45) (paths_of task) → AsksFor (words_of program task) task
+plain_task program (run script None) plain =
+    let p = is_path script (plain 0 [] (omega arith)) in
+    record { taken = run_taken program script p.no_minus p.no_dashes; met = run_met program script p.no_minus p.no_dashes }
+plain_task program (run script (Some file)) plain =
+    let p = is_path script (plain 0 [] (omega arith)) in
+    let q = is_path file (plain 1 [] (omega arith)) in
+    record { taken = run_to_taken program script file p.no_minus p.no_dashes q.no_minus q.no_dashes; met = run_to_met program script file p.no_minus p.no_dashes q.no_minus q.no_dashes }
+plain_task program (audit journal) plain =
+    let p = is_path journal (plain 0 [] (omega arith)) in
+    record { taken = audit_taken program journal p.no_minus p.no_dashes; met = audit_met program journal p.no_minus p.no_dashes }
+plain_task program (history journal) plain =
+    let p = is_path journal (plain 0 [] (omega arith)) in
+    record { taken = history_taken program journal p.no_minus p.no_dashes; met = history_met program journal p.no_minus p.no_dashes }
+
+pub plain_asks : (words : List Text) (task : Task) → IsPlain words task → AsksFor words task
+plain_asks words task plain =
+    let P : List Text → Type 0 = λ ws. AsksFor ws task in
+    subst P (sym plain.words_are) (plain_task plain.program task plain.no_option)
