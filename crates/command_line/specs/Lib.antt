@@ -1,3 +1,4 @@
+pub mod Tasks
 pub mod Program
 pub mod Words
 pub mod Kinds

@@ -1,22 +1,35 @@
 //! The lines that words may ask for.
-ghost use Rattle.std.specs.Prelude.{◌≡◌, ℕ, List, codes, map, IfErr, IfOk, MatchOption, Some};
-ghost use Rattle.clap.specs.Words.{app_of, kind_of, subcommand_rows_of};
-ghost use Rattle.command_line.specs.Kinds.{IsKindOf};
-ghost use Rattle.command_line.specs.Program.{program_app, value_in};
-ghost use Rattle.command_line.specs.Words.{path_of, AsksToRun, IsRefusal};
+ghost use Rattle.std.specs.Prelude.{◌≡◌, codes, List, map, IfErr, IfOk, Some};
+ghost use Rattle.clap.specs.Words.{app_of, found_of, kind_of, rows_of, rule_of, subcommand_rows_of};
+ghost use Rattle.command_line.specs.Kinds.{IsKindOf, IsLineOf};
+ghost use Rattle.command_line.specs.Program.{audit_app, history_app, path_rule, program_app, run_app};
+ghost use Rattle.command_line.specs.Tasks.{task_of};
+ghost use Rattle.command_line.specs.Words.{AsksFor, IsRefusal};
 
-use crate::notes::{PROGRAM_NOTES, RUN_NOTES, VERSION};
+use crate::notes::{AUDIT_NOTES, HISTORY_NOTES, PROGRAM_NOTES, RUN_NOTES, VERSION};
 use crate::refusal::Refusal;
 use clap::error::ErrorKind;
 use clap::{Arg, ArgMatches, Command, Error};
 use std::alloc::{AllocError, Global};
 use std::convert::AsStr;
 
-/// What the words of a command line ask for.
+/// What the words of a command line ask for. Each value is a path.
 #[derive(Clone, Copy, Debug, PartialEq, Eq)]
 pub enum Line<'a> {
-    /// `run SCRIPT`: to run each line of the script in order and print the listing.
-    Run { script: &'a str },
+    /// `run SCRIPT [--journal FILE]`: to run each line of the script in order and print the listing,
+    /// and first to write the journal of the run to the file, if there is one.
+    Run {
+        script: &'a str,
+        journal: Option<&'a str>,
+    },
+    /// `audit JOURNAL`: to say whether the journal is one of a run.
+    Audit {
+        journal: &'a str,
+    },
+    /// `history JOURNAL`: to print the history of the journal.
+    History {
+        journal: &'a str,
+    },
 }
 
 impl<'a> Line<'a> {
@@ -26,7 +39,7 @@ impl<'a> Line<'a> {
     /// What is shown in its place: what is wrong with the words, or the help or the version that they
     /// ask for; `NoMemory` where a request for memory was refused.
     pub fn read<S: AsStr>(alloc: Global, words: &'a [S]) -> Result<Line<'a>, Refusal>
-        ensures asked { IfOk result (λ line. AsksToRun (map S.text words.entry.now) (path_of line)) }
+        ensures asked { IfOk result (λ line. AsksFor (map S.text words.entry.now) (task_of line)) }
         ensures refused { IfErr result (IsRefusal (map S.text words.entry.now)) }
     {
         match line_in(alloc, words) {
@@ -38,45 +51,105 @@ impl<'a> Line<'a> {
 
 // The line, or the parser's error.
 fn line_in<'a, S: AsStr>(alloc: Global, words: &'a [S]) -> Result<Line<'a>, Error>
-    ensures asked { IfOk result (λ line. AsksToRun (map S.text words.entry.now) (path_of line)) }
+    ensures asked { IfOk result (λ line. AsksFor (map S.text words.entry.now) (task_of line)) }
     ensures kind { IfErr result (λ error. IsKindOf (map S.text words.entry.now) (kind_of error)) }
 {
     let mut command = program(alloc)?;
     let matches = command.try_get_matches_from_mut(words)?;
-    match script_in(&matches) {
-        Some(script) => Ok(Line::Run { script }),
+    match line_of(&matches) {
+        Some(line) => Ok(line),
         None => Err(command.error(ErrorKind::MissingSubcommand, "no command is given")?),
     }
 }
 
-// The script that is to be run.
-fn script_in<'a>(matches: &ArgMatches<'a>) -> Option<&'a str>
-    ensures { MatchOption result
-        ((path : List ℕ) → value_in (subcommand_rows_of matches.now) ≡ Some (codes "run", Some path) → ⊥)
-        (λ script. value_in (subcommand_rows_of matches.now) ≡ Some (codes "run", Some script.now)) }
+// The line that the words came to.
+fn line_of<'a>(matches: &ArgMatches<'a>) -> Option<Line<'a>>
+    ensures { IsLineOf (subcommand_rows_of matches.now) result }
 {
-    let (name, run) = matches.subcommand()?;
-    if name != "run" {
-        return None;
+    let (name, values) = matches.subcommand()?;
+    match name {
+        "run" => run_in(values),
+        "audit" => audit_in(values),
+        "history" => history_in(values),
+        _ => None,
     }
-    run.get_str("SCRIPT")
+}
+
+fn run_in<'a>(values: &ArgMatches<'a>) -> Option<Line<'a>>
+    ensures { IsLineOf (Some (codes "run", rows_of (found_of values.now))) result }
+{
+    let script = values.get_str("SCRIPT")?;
+    let journal = values.get_str("FILE");
+    Some(Line::Run { script, journal })
+}
+
+fn audit_in<'a>(values: &ArgMatches<'a>) -> Option<Line<'a>>
+    ensures { IsLineOf (Some (codes "audit", rows_of (found_of values.now))) result }
+{
+    let journal = values.get_str("JOURNAL")?;
+    Some(Line::Audit { journal })
+}
+
+fn history_in<'a>(values: &ArgMatches<'a>) -> Option<Line<'a>>
+    ensures { IsLineOf (Some (codes "history", rows_of (found_of values.now))) result }
+{
+    let journal = values.get_str("JOURNAL")?;
+    Some(Line::History { journal })
 }
 
 fn program<'a>(alloc: Global) -> Result<Command<'a>, AllocError>
     ensures { IfOk result (λ command. app_of command ≡ program_app) }
 {
-    let script = Arg::new(alloc, "SCRIPT")
-        .required(true)
-        .help("The script: a file of lines, or /dev/stdin");
-    let run = Command::new(alloc, "run")
-        .about("Run each line of a script in order and print the listing")
-        .after_long_help(RUN_NOTES)
-        .arg(script)?;
     Command::new(alloc, "lockreplay")
         .about("Run scripts of record locks in a cluster, and print what came of them")
         .after_long_help(PROGRAM_NOTES)
         .version(VERSION)
         .subcommand_required(true)
         .arg_required_else_help(true)
-        .subcommand(run)
+        .subcommand(run_command(alloc)?)?
+        .subcommand(audit_command(alloc)?)?
+        .subcommand(history_command(alloc)?)
+}
+
+fn run_command<'a>(alloc: Global) -> Result<Command<'a>, AllocError>
+    ensures { IfOk result (λ command. app_of command ≡ run_app) }
+{
+    let script = Arg::new(alloc, "SCRIPT")
+        .required(true)
+        .help("The script: a file of lines, or /dev/stdin");
+    let file = Arg::new(alloc, "FILE")
+        .long("journal")
+        .help("Write the journal of the run to FILE");
+    Command::new(alloc, "run")
+        .about("Run each line of a script in order and print the listing")
+        .after_long_help(RUN_NOTES)
+        .arg(script)?
+        .arg(file)
+}
+
+fn audit_command<'a>(alloc: Global) -> Result<Command<'a>, AllocError>
+    ensures { IfOk result (λ command. app_of command ≡ audit_app) }
+{
+    Command::new(alloc, "audit")
+        .about("Say whether a journal is one of a run")
+        .after_long_help(AUDIT_NOTES)
+        .arg(journal_argument(alloc))
+}
+
+fn history_command<'a>(alloc: Global) -> Result<Command<'a>, AllocError>
+    ensures { IfOk result (λ command. app_of command ≡ history_app) }
+{
+    Command::new(alloc, "history")
+        .about("Print the history of a journal")
+        .after_long_help(HISTORY_NOTES)
+        .arg(journal_argument(alloc))
+}
+
+// The path of a journal, which must be there.
+fn journal_argument<'a>(alloc: Global) -> Arg<'a>
+    ensures { rule_of result ≡ path_rule (codes "JOURNAL") }
+{
+    Arg::new(alloc, "JOURNAL")
+        .required(true)
+        .help("The journal: a file of lines, or /dev/stdin")
 }

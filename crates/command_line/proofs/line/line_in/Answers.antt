@@ -1,8 +1,10 @@
-use Rattle.std.proofs.Common.{ap, sym, subst, inr, ◌∙◌, map}
+use Rattle.std.proofs.Common.{ap, sym, subst, inr, ◌∙◌, map, Option, List}
 use Rattle.std.proofs.lemmas.Result.{err_from_is_err_and}
-use Rattle.clap.specs.Words.{App, HasKind, fault_of, is_simple, is_simple_and_free, subcommand_of}
-use Rattle.command_line.specs.Program.{value_in}
-use Rattle.command_line.proofs.CommandLine.{fails_so, is_free_program, is_simple_program, not_shown}
+use Rattle.clap.specs.Words.{App, HasKind, Row, Text, fault_of, is_simple, is_simple_and_free, subcommand_of}
+use Rattle.command_line.specs.Program.{IsMet}
+use Rattle.command_line.specs.Tasks.{task_of}
+use Rattle.command_line.proofs.CommandLine.{fails_so, not_shown}
+use Rattle.command_line.proofs.PlainWords.{is_free_program, is_simple_program}
 use Rattle.command_line.proofs.line.line_in.Goals as goal
 
 pub returns-in_err-matches-clause-kind : goal.returns-in_err-matches-clause-kind
@@ -18,9 +20,10 @@ returns-in-Some-clause-asked g c =
     let app = c.in_ok-command.ensures in
     let words = map g.S.AsStr.text c.args.words.now in
     let rows_are = (c.in_ok-matches.ensures.ok.2 (ap is_simple app ∙ is_simple_program)).1 in
+    let P : Option (Text × List Row) → Type 0 = λ met. IsMet met (task_of c.in-Some.line) in
     record {
       taken = ap (λ (a : App). fault_of a words) (sym app) ∙ c.in_ok-matches.ensures.kinds (ap is_simple_and_free app ∙ is_free_program);
-      value = sym (ap value_in (rows_are ∙ ap (λ (a : App). subcommand_of a words) app)) ∙ c.in-Some.ensures;
+      met = subst P (rows_are ∙ ap (λ (a : App). subcommand_of a words) app) c.in-Some.ensures;
     }
 
 pub returns-clause-kind : goal.returns-clause-kind
@@ -29,4 +32,12 @@ returns-clause-kind g c =
     let words = map g.S.AsStr.text c.args.words.now in
     let rows_are = (c.in_ok-matches.ensures.ok.2 (ap is_simple app ∙ is_simple_program)).1 in
     let taken = ap (λ (a : App). fault_of a words) (sym app) ∙ c.in_ok-matches.ensures.kinds (ap is_simple_and_free app ∙ is_free_program) in
-    inr (inr (not_shown _ c.in_ok-error-in-None.ensures.kind, (taken, λ path asks. c.in-None.ensures path (ap value_in (rows_are ∙ ap (λ (a : App). subcommand_of a words) app) ∙ asks.value))))
+    inr (inr (
+      not_shown _ c.in_ok-error-in-None.ensures.kind,
+      (
+        taken,
+        λ task asks.
+            let P : Option (Text × List Row) → Type 0 = λ met. IsMet met task in
+            c.in-None.ensures task (subst P (sym (rows_are ∙ ap (λ (a : App). subcommand_of a words) app)) asks.met),
+      ),
+    ))
