@@ -11,4 +11,4 @@ pub returns-clause-ok : goal.returns-clause-ok
 returns-clause-ok c =
     let number : is_within c.args.self.now.shape.nodes c.args.node ≡ true = search rules in
     let P : WorldParts → Type 0 = λ q. (is_within q.shape.nodes c.args.node ≡ true) × (made : WorldState × Entry) × (restart_rule (world_state q) c.args.node ≡ Ok made) in
-    opened P _ _ c.args.node c.self.view_is number (λ before. (before, restart_is _ c.self.invariant c.args.node before _ _ c.in_ok-next.ensures.ok))
+    opened P _ _ c.args.node c.self.view_is number (λ before. let is = restart_is _ c.self.invariant c.args.node before _ _ c.in_ok-next.ensures.ok in (before, is.0, is.1))
