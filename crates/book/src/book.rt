@@ -1,5 +1,5 @@
 //! The book.
-ghost use Rattle.std.specs.Prelude.{◌≡◌, ◌≢◌, ◌+◌, ◌-◌, ◌<◌, ◌≤◌, ◌++◌, ◌∷◌, [], ℕ, Ok, Err, Some, true, length, slice_get, IfOk, IfErr, OnOk, OnErr, MatchResult, MatchBool, All, option_copied};
+ghost use Rattle.std.specs.Prelude.{◌≡◌, ◌≢◌, ◌+◌, ◌-◌, ◌<◌, ◌≤◌, ◌++◌, ◌∷◌, [], ℕ, Ok, Err, Some, true, length, slice_get, IfOk, IfErr, OnOk, OnErr, MatchResult, MatchBool, option_copied};
 ghost use Rattle.messages.specs.declared.event.Event.TheVariants.{Declare, Restart};
 ghost use Rattle.messages.specs.declared.refusal.Refused.{Refused};
 ghost use Rattle.messages.specs.Shapes.{ShapeFields};
@@ -11,11 +11,13 @@ ghost use Rattle.cluster_core.specs.Journals.{RunFields, journal_of};
 ghost use Rattle.cluster_core.specs.Actors.{Records};
 ghost use Rattle.cluster_core.specs.Histories.{HasOneHistory};
 ghost use Rattle.book.specs.Fields.{SeatFields, StampFields};
-ghost use Rattle.book.specs.States.{MayStep, made_by, SameState, HasState};
+ghost use Rattle.book.specs.States.{actor_of, MayStep, made_by, HasState};
 ghost use Rattle.book.specs.Receipts.{Holds, IsStampOf, IsReceiptOf};
 ghost use Rattle.book.specs.Commits.{Names, IsStepFrom, IsSeatOf, Accepts, Refuses, Commits, seen_at};
 ghost use Rattle.book.specs.Turns.{Declared, Restarted};
-ghost use Rattle.book.specs.Seats.{IsFirstSeat};
+ghost use Rattle.book.specs.Seats.{IsFirstSeat, AreFirst};
+ghost use Rattle.model.specs.Limits.{IsNumber};
+ghost use Rattle.messages.specs.declared.actor.Actor.TheVariants.{Node as ANode, Server as AServer};
 
 use crate::commit_error::CommitError;
 use crate::holds::holds;
@@ -89,20 +91,25 @@ fn first_server_state(alloc: Global, shape: Shape, file: u16) -> Result<State, N
     Ok(State::OfServer { file, server })
 }
 
-// Puts the seats of the nodes at the end.
-fn push_nodes(alloc: Global, shape: Shape, seats: &mut Vec<Seat>) -> Result<(), NoMemory>
-    ensures count { OnOk result (length seats.new.items ≡ length seats.old.items + shape.nodes) }
+// The seats of the nodes.
+fn node_seats(alloc: Global, shape: Shape) -> Result<Vec<Seat>, NoMemory>
+    ensures seats { IfOk result (λ seats. AreFirst shape seats.items) }
+    ensures count { IfOk result (λ seats. length seats.items ≡ shape.nodes) }
 {
+    let mut seats = Vec::new(alloc);
     for index in 0..shape.nodes() {
         let state = first_node_state(alloc, shape, index + 1)?;
         seats.push(Seat::new(state))?;
     }
-    Ok(())
+    Ok(seats)
 }
 
-// Puts the seats of the servers at the end.
+// Puts the seats of the servers after those of the nodes.
 fn push_servers(alloc: Global, shape: Shape, seats: &mut Vec<Seat>) -> Result<(), NoMemory>
-    ensures count { OnOk result (length seats.new.items ≡ length seats.old.items + shape.files) }
+    requires first { AreFirst shape seats.old.items }
+    requires nodes { length seats.old.items ≡ shape.nodes }
+    ensures seats { OnOk result (AreFirst shape seats.new.items) }
+    ensures count { OnOk result (length seats.new.items ≡ shape.nodes + shape.files) }
 {
     for index in 0..shape.files() {
         let state = first_server_state(alloc, shape, index + 1)?;
@@ -124,13 +131,12 @@ impl Book {
         ensures seats { IfOk result (λ r. (k : ℕ) (s : SeatFields) → slice_get r.1.items k ≡ Some s → IsFirstSeat shape k s × IsSeatOf r.0 s) }
     {
         let run = Run::new(alloc, shape)?;
-        let mut seats = Vec::new(alloc);
-        push_nodes(alloc, shape, &mut seats)?;
+        let mut seats = node_seats(alloc, shape)?;
         push_servers(alloc, shape, &mut seats)?;
         Ok((Book { run }, seats))
     }
 
-    /// The shape of the book's cluster, and how many entries its journal has.
+    /// How many entries the journal has, which are a run that leads to the book's copies.
     pub fn len(&self) -> u32
         ensures value { result ≡ length self.now.entries }
         ensures within { result ≤ journal_limit }
@@ -180,10 +186,10 @@ impl Book {
         ensures refused { (e : Refused) → next (world_state self.old.world) (Declare node) ≡ Err e → result ≡ Err e }
         ensures unchanged { OnErr result (self.new ≡ self.old) }
     {
-        let event = Event::Declare { node };
-        self.run.take(alloc, event)?;
+        self.run.take(alloc, Event::Declare { node })?;
         let outcome = Outcome::sending(Items::new(alloc));
-        Ok(Stamp::new(self.run.len(), event, outcome, 0))
+        let position = self.run.len();
+        Ok(Stamp::new(position, Event::Declare { node }, outcome, 0))
     }
 
     /// The node, which was declared failed, begins again: empty, in its next incarnation, whose seat this

@@ -1,10 +1,8 @@
 //! Whether entries hold a receipt.
-ghost use Rattle.std.specs.Prelude.{◌≡◌, ◌<◌, ◌-◌, ◌↔◌, IsTrue, IfSome, MatchOption, MatchBool, Some, None, slice_get};
-ghost use Rattle.model.specs.declared.call.CallId.{CallId};
-ghost use Rattle.model.specs.declared.op.Op.{Op};
+ghost use Rattle.std.specs.Prelude.{◌≡◌, ◌<◌, ◌≤◌, ◌-◌, ◌↔◌, IsTrue, IfSome, MatchOption, MatchBool, Some, None, slice_get};
 ghost use Rattle.book.specs.Receipts.{Holds, call_in};
 
-use crate::receipt::{Receipt, call_in};
+use crate::receipt::{Receipt, call_in, same_id};
 use messages::entry::Entry;
 use model::call::CallId;
 use model::op::Op;
@@ -18,8 +16,8 @@ fn entry_at(entries: &[Entry], position: u32) -> Option<&Entry>
     entries.get(position as usize - 1)
 }
 
-// Whether both are the same call, or none.
-fn same_calls(one: &Option<(CallId, u16, Op)>, other: &Option<(CallId, u16, Op)>) -> bool
+// Whether both ask the same.
+fn same_op(one: &Op, other: &Op) -> bool
     ensures { IsTrue result ↔ (one.now ≡ other.now) }
 {
     one == other
@@ -36,8 +34,10 @@ fn same_replies(one: &Option<(CallId, Reply)>, other: &Option<(CallId, Reply)>) 
 fn is_its_call(entry: &Entry, receipt: &Receipt) -> bool
     ensures { IsTrue result ↔ (call_in entry.now.event entry.now.call ≡ Some (receipt.now.call, receipt.now.pid, receipt.now.op)) }
 {
-    let made = call_in(&entry.event(), entry.call());
-    same_calls(&made, &Some((receipt.call(), receipt.pid(), receipt.op())))
+    let Some((id, pid, op)) = call_in(&entry.event(), entry.call()) else {
+        return false;
+    };
+    same_id(&id, &receipt.call()) && pid == receipt.pid() && same_op(&op, &receipt.op())
 }
 
 // Whether the entry has the receipt's reply.
@@ -49,12 +49,14 @@ fn is_its_reply(entry: &Entry, receipt: &Receipt) -> bool
 
 /// Whether the entries have the receipt's call and its reply at the receipt's positions.
 pub(crate) fn holds(entries: &[Entry], receipt: &Receipt) -> bool
-    ensures { MatchBool result (Holds entries.now receipt.now) (Holds entries.now receipt.now → ⊥) }
+    ensures exact { MatchBool result (Holds entries.now receipt.now) (Holds entries.now receipt.now → ⊥) }
+    ensures ordered { (receipt.now.seen < receipt.now.call_at) × (receipt.now.call_at ≤ receipt.now.reply_at) }
 {
-    let Some(first) = entry_at(entries, receipt.call_at()) else {
+    let (call_at, reply_at) = (receipt.call_at(), receipt.reply_at());
+    let Some(first) = entry_at(entries, call_at) else {
         return false;
     };
-    let Some(last) = entry_at(entries, receipt.reply_at()) else {
+    let Some(last) = entry_at(entries, reply_at) else {
         return false;
     };
     is_its_call(first, receipt) && is_its_reply(last, receipt)

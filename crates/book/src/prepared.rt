@@ -25,6 +25,7 @@ pub struct Prepared {
 }
 
 impl Model for Prepared {
+    ghost use Rattle.std.specs.Prelude.{◌≡◌, ◌<◌};
     ghost use Rattle.book.specs.Fields.{PreparedFields};
     ghost use Rattle.book.specs.States.{SameState};
 

@@ -25,6 +25,7 @@ pub struct Receipt {
 }
 
 impl Model for Receipt {
+    ghost use Rattle.std.specs.Prelude.{◌<◌, ◌≤◌};
     ghost use Rattle.book.specs.Fields.{ReceiptFields};
 
     ghost Value = { ReceiptFields };
@@ -49,8 +50,8 @@ pub(crate) fn call_in(event: &Event, call: Option<CallId>) -> Option<(CallId, u1
     }
 }
 
-// Whether both are one and the same call.
-fn same_id(one: &CallId, other: &CallId) -> bool
+/// Whether both are one and the same call.
+pub(crate) fn same_id(one: &CallId, other: &CallId) -> bool
     ensures { IsTrue result ↔ (one.now ≡ other.now) }
 {
     one == other

@@ -17,6 +17,7 @@ pub struct Stamp {
 }
 
 impl Model for Stamp {
+    ghost use Rattle.std.specs.Prelude.{◌<◌};
     ghost use Rattle.book.specs.Fields.{StampFields};
 
     ghost Value = { StampFields };

@@ -1,9 +1,11 @@
 //! States of actors.
-ghost use Rattle.std.specs.Prelude.{◌≡◌, ◌≢◌, ◌↔◌, Ok, Err, IfOk, IfErr, IsTrue};
+ghost use Rattle.std.specs.Prelude.{◌≡◌, ◌≢◌, ◌↔◌, if◌then◌else◌, Some, None, Ok, Err, IfOk, IfErr, IsTrue};
 ghost use Rattle.node_core.specs.Parts.{node_state};
 ghost use Rattle.token_server.specs.Parts.{server_state};
 ghost use Rattle.cluster_core.specs.Parts.{world_state};
-ghost use Rattle.cluster_core.specs.Actors.{node_event, server_event, node_step, server_step};
+ghost use Rattle.node_core.specs.Commands.{is_node};
+ghost use Rattle.token_server.specs.Server.{is_server};
+ghost use Rattle.cluster_core.specs.Actors.{node_event, server_event, node_at, server_at};
 
 use cluster_core::world::World;
 use messages::actor::Actor;
@@ -29,22 +31,53 @@ pub(crate) enum State {
     },
 }
 
+// Whether the actor is the node with the number.
+fn is_node(number: u8, actor: Actor) -> bool
+    ensures { result ≡ is_node number actor }
+{
+    match actor {
+        Actor::Node(node) => node == number,
+        Actor::Server(_) => false,
+    }
+}
+
+// Whether the actor is the server of the file.
+fn is_server(number: u16, actor: Actor) -> bool
+    ensures { result ≡ is_server number actor }
+{
+    match actor {
+        Actor::Node(_) => false,
+        Actor::Server(file) => file == number,
+    }
+}
+
+// The event where it is the actor's own, or none.
+fn own<T: Copy>(is_own: bool, event: T) -> Option<T>
+    ensures { result ≡ (if is_own then Some event else None) }
+{
+    if is_own { Some(event) } else { None }
+}
+
 // The event as the node with the number takes it, or none.
 fn node_event(number: u8, event: &Event) -> Option<NodeEvent>
     ensures { result ≡ node_event number event.now }
 {
     match event {
-        Event::Call { node, pid, op } if *node == number => {
-            Some(NodeEvent::Call { pid: *pid, op: *op })
+        Event::Call { node, pid, op } => {
+            own(*node == number, NodeEvent::Call { pid: *pid, op: *op })
         }
-        Event::Deliver(message) if message.addressee() == Actor::Node(number) => {
-            Some(NodeEvent::Deliver(*message))
+        Event::Deliver(message) => own(
+            is_node(number, message.addressee()),
+            NodeEvent::Deliver(*message),
+        ),
+        Event::Interrupt { node, pid } => {
+            own(*node == number, NodeEvent::Interrupt { pid: *pid })
         }
-        Event::Interrupt { node, pid } if *node == number => {
-            Some(NodeEvent::Interrupt { pid: *pid })
-        }
-        Event::Retry { node, pid } if *node == number => Some(NodeEvent::Retry { pid: *pid }),
-        _ => None,
+        Event::Retry { node, pid } => own(*node == number, NodeEvent::Retry { pid: *pid }),
+        Event::Resend { .. } => None,
+        Event::Declare { .. } => None,
+        Event::Restart { .. } => None,
+        Event::Learn { .. } => None,
     }
 }
 
@@ -53,52 +86,58 @@ fn server_event(number: u16, event: &Event) -> Option<ServerEvent>
     ensures { result ≡ server_event number event.now }
 {
     match event {
-        Event::Deliver(message) if message.addressee() == Actor::Server(number) => {
-            Some(ServerEvent::Deliver(*message))
-        }
-        Event::Resend { file } if *file == number => Some(ServerEvent::Resend),
+        Event::Deliver(message) => own(
+            is_server(number, message.addressee()),
+            ServerEvent::Deliver(*message),
+        ),
+        Event::Resend { file } => own(*file == number, ServerEvent::Resend),
         Event::Learn {
             file,
             node,
             incarnation,
-        } if *file == number => Some(ServerEvent::Learn {
-            node: *node,
-            incarnation: *incarnation,
-        }),
-        _ => None,
+        } => own(
+            *file == number,
+            ServerEvent::Learn {
+                node: *node,
+                incarnation: *incarnation,
+            },
+        ),
+        Event::Call { .. } => None,
+        Event::Interrupt { .. } => None,
+        Event::Retry { .. } => None,
+        Event::Declare { .. } => None,
+        Event::Restart { .. } => None,
     }
 }
 
-// The step of a node at an event: its next state, and what it gives.
-fn node_step(
+// The step of a node at its own event: its next state, and what it gives.
+fn node_at(
     alloc: Global,
-    number: u8,
     node: &Node,
-    event: &Event,
+    event: Option<NodeEvent>,
 ) -> Result<(Box<Node>, Outcome), StepError>
-    ensures ok { IfOk result (λ r. node_step number (node_state node.now) event.now ≡ Ok (node_state r.0.value, r.1)) }
-    ensures err { IfErr result (λ e. e ≢ StepError.NoMemory → node_step number (node_state node.now) event.now ≡ Err e) }
-    ensures refused { (r : StepError) → node_step number (node_state node.now) event.now ≡ Err r → result ≡ Err r }
+    ensures ok { IfOk result (λ r. node_at (node_state node.now) event ≡ Ok (node_state r.0.value, r.1)) }
+    ensures err { IfErr result (λ e. e ≢ StepError.NoMemory → node_at (node_state node.now) event ≡ Err e) }
+    ensures refused { (r : StepError) → node_at (node_state node.now) event ≡ Err r → result ≡ Err r }
 {
-    let Some(own) = node_event(number, event) else {
+    let Some(own) = event else {
         return Err(StepError::Stranger);
     };
     let (next, outcome) = node.step(alloc, &own)?;
     Ok((Box::new(alloc, next)?, outcome))
 }
 
-// The step of a server at an event.
-fn server_step(
+// The step of a server at its own event.
+fn server_at(
     alloc: Global,
-    file: u16,
     server: &Server,
-    event: &Event,
+    event: Option<ServerEvent>,
 ) -> Result<(Box<Server>, Outcome), StepError>
-    ensures ok { IfOk result (λ r. server_step file (server_state server.now) event.now ≡ Ok (server_state r.0.value, r.1)) }
-    ensures err { IfErr result (λ e. e ≢ StepError.NoMemory → server_step file (server_state server.now) event.now ≡ Err e) }
-    ensures refused { (r : StepError) → r ≢ StepError.Spent → server_step file (server_state server.now) event.now ≡ Err r → result ≡ Err r }
+    ensures ok { IfOk result (λ r. server_at (server_state server.now) event ≡ Ok (server_state r.0.value, r.1)) }
+    ensures err { IfErr result (λ e. e ≢ StepError.NoMemory → server_at (server_state server.now) event ≡ Err e) }
+    ensures refused { (r : StepError) → r ≢ StepError.Spent → server_at (server_state server.now) event ≡ Err r → result ≡ Err r }
 {
-    let Some(own) = server_event(file, event) else {
+    let Some(own) = event else {
         return Err(StepError::Stranger);
     };
     let (next, outcome) = server.step(alloc, &own)?;
@@ -155,12 +194,12 @@ impl State {
     {
         match self {
             State::OfNode { number, node } => {
-                let (node, outcome) = node_step(alloc, *number, node, event)?;
+                let (node, outcome) = node_at(alloc, node, node_event(*number, event))?;
                 let number = *number;
                 Ok((State::OfNode { number, node }, outcome))
             }
             State::OfServer { file, server } => {
-                let (server, outcome) = server_step(alloc, *file, server, event)?;
+                let (server, outcome) = server_at(alloc, server, server_event(*file, event))?;
                 let file = *file;
                 Ok((State::OfServer { file, server }, outcome))
             }

@@ -30,7 +30,7 @@ pub(crate) fn accepts(
     prepared: &Prepared,
     seen: u32,
 ) -> Result<(), CommitError>
-    ensures { MatchResult result (λ _. Accepts run.now seat.now prepared.now seen) (λ e. Refuses run.now seat.now prepared.now seen e) }
+    ensures tests { MatchResult result (λ _. Accepts run.now seat.now prepared.now seen) (λ e. Refuses run.now seat.now prepared.now seen e) }
     ensures definite { result ≢ Err CommitError.NoMemory }
 {
     if run.len() >= JOURNAL_LIMIT {
