@@ -1,7 +1,7 @@
-use Rattle.std.proofs.Common.{◌≡◌, ℕ, ap, ◌∙◌, subst}
+use Rattle.std.proofs.Common.{◌≡◌, ℕ, ap, ◌∙◌, subst, option_copied}
 use Rattle.cluster_core.specs.Journals.{RunFields}
 use Rattle.book.specs.Fields.{SeatFields, StampFields}
-use Rattle.book.specs.Commits.{IsStepFrom, Commits}
+use Rattle.book.specs.Commits.{IsStepFrom, Commits, seen_at}
 use Rattle.book.proofs.Committed.{committed}
 use Rattle.book.proofs.book.Book.commit.Goals as goal
 
@@ -25,5 +25,5 @@ returns-clause-outcome c =
     let commits = ap (λ (x : SeatFields). x.commits) c.advance.ensures in
     let made : Commits b s p c.seen_of-seen.result d r t =
         committed b d s r p c.seen_of-seen.result t parts.result.copy parts.result.event parts.result.outcome parts.ensures.event parts.ensures.outcome accepted step parts.ensures.copy c.in_ok-put.ensures.ok state commits position said gave seen_is in
-    let seen : Commits b s p _ d r t = subst (λ (n : ℕ). Commits b s p n d r t) c.seen_of-seen.ensures made in
-    subst (λ (x : RunFields). Commits x s p _ d r t) c.self.view_is seen
+    let seen : Commits b s p (seen_at (option_copied c.args.seen)) d r t = subst (λ (n : ℕ). Commits b s p n d r t) c.seen_of-seen.ensures made in
+    subst (λ (x : RunFields). Commits x s p (seen_at (option_copied c.args.seen)) d r t) c.self.view_is seen
