@@ -15,3 +15,4 @@ pub mod ServerRows
 pub mod FailuresRow
 pub mod MemberSteps
 pub mod CertainRefusals
+pub mod Actors

@@ -13,3 +13,4 @@ pub mod Evidence
 pub mod Listings
 pub mod Safe
 pub mod Numbers
+pub mod Actors

@@ -25,6 +25,8 @@ use messages::shape::Shape;
 use std::alloc::Global;
 use std::marker::Model;
 
+mod states;
+
 /// A run of a cluster that goes on: the entries so far, and the world to which they lead.
 #[derive(Drop)]
 pub struct Run {

@@ -50,6 +50,7 @@ use token_server::server::Server;
 
 pub(crate) mod change;
 mod listings;
+mod states;
 
 /// The most entries of a journal.
 pub const JOURNAL_LIMIT: u32 = 1_048_576;

@@ -70,7 +70,7 @@ let_through false true false x p a b c h = (refl, h)
 let_through false true true x p a b c h = absurd (cc)
 let_through false false fenced x p a b c h = absurd (cc)
 
-grows : (w v : WorldState) (event : Event) (e : Entry) → next w event ≡ Ok (v, e) → (w.length < journal_limit) × (v.length ≡ w.length + 1)
+pub grows : (w v : WorldState) (event : Event) (e : Entry) → next w event ≡ Ok (v, e) → (w.length < journal_limit) × (v.length ≡ w.length + 1)
 grows w v event e step =
     let through = let_through (nat_le journal_limit w.length) (is_known w event) (is_fenced w event) (taken w event) (v, e) JournalFull Stranger Fenced step in
     (room w.length through.0, taken-grows w event (v, e) through.1)
@@ -90,3 +90,11 @@ leads-length w v (e ∷ es) within leads =
 -- a run has no more entries than a journal may have
 pub run-length : (shape : ShapeFields) (es : List Entry) → IsRun shape es → length es ≤ journal_limit
 run-length shape es run = let all = leads-length (first_world shape) run.0 es (omega arith) run.1 in omega arith
+
+-- a run makes as many entries as it has
+pub leads-count : (w v : WorldState) (es : List Entry) → Leads w es v → v.length ≡ w.length + length es
+leads-count w v [] leads = ap (λ (x : WorldState). x.length) (sym leads) ∙ omega arith
+leads-count w v (e ∷ es) leads =
+    let one = (grows w leads.0 e.event e leads.1).1 in
+    let rest = leads-count leads.0 v es leads.2 in
+    omega arith

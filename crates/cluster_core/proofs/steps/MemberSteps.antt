@@ -209,6 +209,9 @@ module _ (p : WorldParts) (world : IsWorld p) (n : ℕ) (number : is_within p.sh
   pub restart_goes : (s : MembersState) (k : ℕ) (e : Refused) → member.restarted (members_state p.members) n ≡ Ok (s, k) → restart_rule (world_state p) n ≡ Err e → ⊥
   restart_goes s k e goes refused = let both : ◌≡◌ {A = Result (WorldState × Entry) Refused} (Ok (silent (restarted (world_state p) n) (Restart n) k)) (Err e) = sym (restarts ∙ ap (after_restart (world_state p) n) goes) ∙ refused in absurd (cc)
 
+  pub restart_is : (s : MembersState) (k : ℕ) → member.restarted (members_state p.members) n ≡ Ok (s, k) → (made : WorldState × Entry) × (restart_rule (world_state p) n ≡ Ok made)
+  restart_is s k goes = (silent (restarted (world_state p) n) (Restart n) k, restarts ∙ ap (after_restart (world_state p) n) goes)
+
   few_is : (k : ℕ) → nat_le k 65535 ≡ true → k ≤ 65535
   few_is k h = grind (arith, nat_tests, h)
 

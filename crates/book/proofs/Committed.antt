@@ -1,0 +1,79 @@
+-- What a commit, a declaration and a restart do, put together.
+use Rattle.std.proofs.Common.{◌≡◌, ◌≢◌, ℕ, ◌+◌, List, [], ◌∷◌, ◌++◌, length, refl, sym, ap, ◌∙◌, subst, Ok}
+use Rattle.messages.specs.Messages.{sending}
+use Rattle.messages.specs.declared.actor.Actor.TheVariants.{Node as ANode}
+use Rattle.messages.specs.declared.event.Event.{Event}
+use Rattle.messages.specs.declared.event.Event.TheVariants.{Declare, Restart}
+use Rattle.messages.specs.declared.entry.Entry.{Entry}
+use Rattle.messages.specs.declared.outcome.Outcome.{Outcome}
+use Rattle.cluster_core.specs.World.{WorldState}
+use Rattle.cluster_core.specs.Next.{entry}
+use Rattle.cluster_core.specs.Parts.{world_state}
+use Rattle.cluster_core.specs.Journals.{RunFields, GoesOn}
+use Rattle.cluster_core.specs.Actors.{Records}
+use Rattle.book.specs.declared.state.State.{State}
+use Rattle.book.specs.States.{actor_of, SameState, StepsTo, HasState, made_by}
+use Rattle.book.specs.Fields.{SeatFields, PreparedFields, StampFields}
+use Rattle.book.specs.Commits.{IsStepFrom, IsSeatOf, Accepts, Commits}
+use Rattle.book.specs.Turns.{Declared, Restarted}
+use Rattle.book.proofs.Stamps.{stays, new_stamp}
+use Rattle.book.proofs.Steps.{actor_kept, made_same, made_entry, may_step, mine, others}
+use Rattle.book.proofs.Turns.{declared_entry, declared_others, declared_fences, restarted_others}
+
+pub committed : (b d : RunFields) (s r : SeatFields) (p : PreparedFields) (seen : ℕ) (t : StampFields) (copy : State) (event : Event) (o : Outcome)
+    → event ≡ p.event → o ≡ p.outcome → Accepts b s p seen → IsStepFrom s p → SameState p.state copy
+    → Records b event (made_by (world_state b.world) event copy o) d
+    → r.state ≡ p.state → r.commits ≡ s.commits + 1
+    → t.position ≡ length d.entries → t.event ≡ p.event → t.outcome ≡ p.outcome → t.seen ≡ seen
+    → Commits b s p seen d r t
+committed b d s r p seen t copy event o event_is o_is accepted step same put state commits position said gave seen_is =
+    let w = world_state b.world in
+    let v = world_state d.world in
+    let M : Event → Outcome → Type 0 = λ e x. Records b e (made_by w e copy x) d in
+    let there : M p.event p.outcome = subst (λ (x : Outcome). M p.event x) o_is (subst (λ (e : Event). M e o) event_is put) in
+    let goes : Records b p.event (made_by w p.event p.state p.outcome) d = subst (λ (m : WorldState × Entry). Records b p.event m d) (made_same w p.event p.state copy p.outcome same) there in
+    let k = made_entry w p.event p.state p.outcome in
+    let stands : HasState v p.state = mine w v p.event p.state p.outcome goes.world (may_step w s.state p.event p.state p.outcome accepted.1 step) in
+    record {
+      accepted = accepted;
+      goes = goes;
+      step = subst (λ (x : State). StepsTo s.state p.event x p.outcome) (sym state) step;
+      commits = commits;
+      position = position;
+      event = said;
+      outcome = gave;
+      seen_is = seen_is;
+      mine = subst (λ (x : State). HasState v x) (sym state) stands;
+      others = λ x ne has. others w v p.event p.state p.outcome x.state goes.world (λ e. ne (e ∙ actor_kept s.state p.event p.state p.outcome step)) has;
+      stamped = new_stamp b.entries d.entries (made_by w p.event p.state p.outcome).1 k.0 t goes.entries (k.1 ∙ (λ i. entry (sym said i) k.0 (sym gave i))) position;
+      stamps = λ x h. stays b.entries d.entries (made_by w p.event p.state p.outcome).1 x goes.entries h;
+    }
+
+pub declared : (b d : RunFields) (n : ℕ) (t : StampFields) → GoesOn b (Declare n) d → t.position ≡ length d.entries → t.event ≡ Declare n → t.outcome ≡ sending [] → t.seen ≡ 0 → Declared b n d t
+declared b d n t went position said gave seen_is =
+    let w = world_state b.world in
+    let q : WorldState × Entry = (world_state d.world, went.0) in
+    let k = declared_entry w n q went.1 in
+    record {
+      goes = went;
+      position = position;
+      event = said;
+      seen_is = seen_is;
+      stamped = new_stamp b.entries d.entries went.0 k.0 t went.2 (k.1 ∙ (λ i. entry (sym said i) k.0 (sym gave i))) position;
+      stamps = λ x h. stays b.entries d.entries went.0 x went.2 h;
+      fenced = λ s has is least. declared_fences w n q s.state went.1 has is least;
+      others = λ x ne has. declared_others w n q x.state went.1 ne has;
+    }
+
+pub restarted : (b d : RunFields) (n : ℕ) (s : SeatFields) → GoesOn b (Restart n) d → actor_of s.state ≡ ANode n → s.commits ≡ 0 → IsSeatOf d s → Restarted b n d s
+restarted b d n s went actor commits stands =
+    let w = world_state b.world in
+    let q : WorldState × Entry = (world_state d.world, went.0) in
+    record {
+      goes = went;
+      actor = actor;
+      commits = commits;
+      mine = stands;
+      stamps = λ x h. stays b.entries d.entries went.0 x went.2 h;
+      others = λ x ne has. restarted_others w n q x.state went.1 ne has;
+    }

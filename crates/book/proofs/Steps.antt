@@ -1,0 +1,90 @@
+-- What a step of one actor leaves of the others.
+use Rattle.std.proofs.Common.{◌≡◌, ◌≢◌, ℕ, ◌+◌, Bool, true, false, if◌then◌else◌, refl, sym, ap, ◌∙◌, subst, Ok}
+use Rattle.std.specs.Prelude.{◌==◌}
+use Rattle.messages.specs.declared.actor.Actor.TheVariants.{Node as ANode, Server as AServer}
+use Rattle.messages.specs.declared.event.Event.{Event}
+use Rattle.messages.specs.declared.entry.Entry.{Entry}
+use Rattle.messages.specs.declared.outcome.Outcome.{Outcome}
+use Rattle.node_core.specs.State.{NodeState}
+use Rattle.node_core.specs.Parts.{node_state}
+use Rattle.token_server.specs.State.{ServerState}
+use Rattle.token_server.specs.Parts.{server_state}
+use Rattle.cluster_core.specs.World.{WorldState, has_node, has_file}
+use Rattle.cluster_core.specs.Next.{entry, named_incarnation}
+use Rattle.cluster_core.specs.Actors.{HasNode, HasServer, node_step, server_step, NodeSteps, ServerSteps, made_by_node, made_by_server}
+use Rattle.cluster_core.proofs.common.Choices.{at_number}
+use Rattle.book.specs.declared.state.State.{State}
+use Rattle.book.specs.declared.state.State.TheVariants.{OfNode, OfServer}
+use Rattle.book.specs.States.{actor_of, SameState, StepsTo, HasState, MayStep, made_by}
+
+-- a step keeps its actor
+pub actor_kept : (s : State) (event : Event) (t : State) (o : Outcome) → StepsTo s event t o → actor_of t ≡ actor_of s
+actor_kept (OfNode n s) event (OfNode m t) o h = ap ANode h.0
+actor_kept (OfServer f s) event (OfServer g t) o h = ap AServer h.0
+actor_kept (OfNode n s) event (OfServer g t) o h = absurd h
+actor_kept (OfServer f s) event (OfNode m t) o h = absurd h
+
+-- it leads to any equal state
+pub steps_copy : (s : State) (event : Event) (t c : State) (o : Outcome) → StepsTo s event t o → SameState t c → StepsTo s event c o
+steps_copy (OfNode n s) event (OfNode m t) (OfNode k c) o h same = (same.0 ∙ h.0, h.1 ∙ ap (λ (x : NodeState). Ok (x, o)) (sym same.1))
+steps_copy (OfServer f s) event (OfServer g t) (OfServer k c) o h same = (same.0 ∙ h.0, h.1 ∙ ap (λ (x : ServerState). Ok (x, o)) (sym same.1))
+steps_copy (OfNode n s) event (OfServer g t) c o h same = absurd h
+steps_copy (OfServer f s) event (OfNode m t) c o h same = absurd h
+steps_copy (OfNode n s) event (OfNode m t) (OfServer k c) o h same = absurd same
+steps_copy (OfServer f s) event (OfServer g t) (OfNode k c) o h same = absurd same
+
+pub made_same : (w : WorldState) (event : Event) (t c : State) (o : Outcome) → SameState t c → made_by w event c o ≡ made_by w event t o
+made_same w event (OfNode m t) (OfNode k c) o same = λ i. made_by_node w event (same.0 i) (same.1 i) o
+made_same w event (OfServer g t) (OfServer k c) o same = λ i. made_by_server w event (same.0 i) (same.1 i) o
+made_same w event (OfNode m t) (OfServer k c) o same = absurd same
+made_same w event (OfServer g t) (OfNode k c) o same = absurd same
+
+-- where its state stands, it may be taken
+pub may_step : (w : WorldState) (s : State) (event : Event) (t : State) (o : Outcome) → HasState w s → StepsTo s event t o → MayStep w event t o
+may_step w (OfNode n s) event (OfNode m t) o has h =
+    let F : ℕ → Type 0 = λ k. NodeSteps w event k (node_state t.value) o in
+    let here : F n = record { number = has.number; alive = has.alive; done = ap (λ (x : NodeState). node_step n x event) has.state ∙ h.1 } in
+    subst F (sym h.0) here
+may_step w (OfServer f s) event (OfServer g t) o has h =
+    let F : ℕ → Type 0 = λ k. ServerSteps w event k (server_state t.value) o in
+    let here : F f = record { number = has.number; done = ap (λ (x : ServerState). server_step f x event) has.state ∙ h.1 } in
+    subst F (sym h.0) here
+may_step w (OfNode n s) event (OfServer g t) o has h = absurd h
+may_step w (OfServer f s) event (OfNode m t) o has h = absurd h
+
+-- its entry is of its event and outcome
+pub made_entry : (w : WorldState) (event : Event) (t : State) (o : Outcome) → (k : ℕ) × ((made_by w event t o).1 ≡ entry event k o)
+made_entry w event (OfNode n t) o = (named_incarnation (w.nodes n) event, refl)
+made_entry w event (OfServer f t) o = (0, refl)
+
+-- the next state stands there then
+stands : (w : WorldState) (event : Event) (t : State) (o : Outcome) → MayStep w event t o → HasState (made_by w event t o).0 t
+stands w event (OfNode m t) o may = record {
+  number = may.number;
+  alive = may.alive;
+  state = at_number m m (λ b. (if b then node_state t.value else w.nodes m) ≡ node_state t.value) (λ same. refl) (λ other. absurd (other refl));
+}
+stands w event (OfServer g t) o may = record {
+  number = may.number;
+  state = at_number g g (λ b. (if b then server_state t.value else w.servers g) ≡ server_state t.value) (λ same. refl) (λ other. absurd (other refl));
+}
+
+pub mine : (w v : WorldState) (event : Event) (t : State) (o : Outcome) → v ≡ (made_by w event t o).0 → MayStep w event t o → HasState v t
+mine w v event t o is may = let P : WorldState → Type 0 = λ x. HasState x t in subst P (sym is) (stands w event t o may)
+
+-- and those of other actors as before
+others_stand : (w : WorldState) (event : Event) (t : State) (o : Outcome) (x : State) → actor_of x ≢ actor_of t → HasState w x → HasState (made_by w event t o).0 x
+others_stand w event (OfNode m t) o (OfNode k x) ne has = record {
+  number = has.number;
+  alive = has.alive;
+  state = at_number k m (λ b. (if b then node_state t.value else w.nodes k) ≡ node_state x.value) (λ same. absurd (ne (ap ANode same))) (λ other. has.state);
+}
+others_stand w event (OfNode m t) o (OfServer f x) ne has = record { number = has.number; state = has.state }
+others_stand w event (OfServer g t) o (OfNode k x) ne has = record { number = has.number; alive = has.alive; state = has.state }
+others_stand w event (OfServer g t) o (OfServer f x) ne has = record {
+  number = has.number;
+  state = at_number f g (λ b. (if b then server_state t.value else w.servers f) ≡ server_state x.value) (λ same. absurd (ne (ap AServer same))) (λ other. has.state);
+}
+
+pub others : (w v : WorldState) (event : Event) (t : State) (o : Outcome) (x : State) → v ≡ (made_by w event t o).0 → actor_of x ≢ actor_of t → HasState w x → HasState v x
+others w v event t o x is ne has = let P : WorldState → Type 0 = λ y. HasState y x in subst P (sym is) (others_stand w event t o x ne has)

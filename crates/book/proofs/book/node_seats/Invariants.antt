@@ -1,0 +1,9 @@
+use Rattle.std.proofs.Common.{◌≡◌, ◌+◌, length}
+use Rattle.book.specs.Seats.{AreFirst}
+use Rattle.book.proofs.book.node_seats.Given as goal
+
+abbrev pub invariant-loop-index : goal.invariant-loop-index
+invariant-loop-index l = record {
+  count : length l.seats.items ≡ l.index;
+  first : AreFirst l.shape l.seats.items;
+}

@@ -1,0 +1,7 @@
+pub mod States
+pub mod Fields
+pub mod Receipts
+pub mod Commits
+pub mod Seats
+pub mod Turns
+pub mod Numbers

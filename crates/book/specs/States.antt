@@ -1,0 +1,66 @@
+-- The state of one actor, a node by its number or the server of a file.
+use Rattle.std.specs.Prelude.{◌≡◌, ◌≢◌, ⊤, ℕ, Bool, false, ◌&&◌, Ok, Err}
+use Rattle.messages.specs.declared.actor.Actor.{Actor}
+use Rattle.messages.specs.declared.actor.Actor.TheVariants.{Node as ANode, Server as AServer}
+use Rattle.messages.specs.declared.event.Event.{Event}
+use Rattle.messages.specs.declared.entry.Entry.{Entry}
+use Rattle.messages.specs.declared.outcome.Outcome.{Outcome}
+use Rattle.messages.specs.declared.refusal.StepError.{StepError}
+use Rattle.messages.specs.declared.refusal.StepError.TheVariants.{Spent}
+use Rattle.node_core.specs.Parts.{node_state}
+use Rattle.token_server.specs.Parts.{server_state}
+use Rattle.cluster_core.specs.World.{WorldState, has_node, was_declared}
+use Rattle.cluster_core.specs.Actors.{HasNode, HasServer, node_step, server_step, NodeSteps, ServerSteps, made_by_node, made_by_server}
+use Rattle.book.specs.declared.state.State.{State}
+use Rattle.book.specs.declared.state.State.TheVariants.{OfNode, OfServer}
+
+abbrev pub actor_of : State → Actor
+actor_of (OfNode n s) = ANode n
+actor_of (OfServer f s) = AServer f
+
+-- the incarnation of a node, 0 of a server
+abbrev pub incarnation_of : State → ℕ
+incarnation_of (OfNode n s) = (node_state s.value).incarnation
+incarnation_of (OfServer f s) = 0
+
+-- both are the same state of the same actor
+abbrev pub SameState : State → State → Type 0
+SameState (OfNode n s) (OfNode m t) = (m ≡ n) × (node_state t.value ≡ node_state s.value)
+SameState (OfServer f s) (OfServer g t) = (g ≡ f) × (server_state t.value ≡ server_state s.value)
+SameState _ _ = ⊥
+
+-- the event leads from the one state to the other, with this outcome
+abbrev pub StepsTo : State → Event → State → Outcome → Type 0
+StepsTo (OfNode n s) event (OfNode m t) o = (m ≡ n) × (node_step n (node_state s.value) event ≡ Ok (node_state t.value, o))
+StepsTo (OfServer f s) event (OfServer g t) o = (g ≡ f) × (server_step f (server_state s.value) event ≡ Ok (server_state t.value, o))
+StepsTo _ event _ o = ⊥
+
+-- the actor refuses the event so
+abbrev pub Rejects : State → Event → StepError → Type 0
+Rejects (OfNode n s) event e = node_step n (node_state s.value) event ≡ Err e
+Rejects (OfServer f s) event e = server_step f (server_state s.value) event ≡ Err e
+
+-- a refusal that want of memory never stands in place of: any, but that a server has no number left
+abbrev pub IsDefinite : State → StepError → Type 0
+IsDefinite (OfNode n s) e = ⊤
+IsDefinite (OfServer f s) e = e ≢ Spent
+
+-- the actor is in this state, and alive
+abbrev pub HasState : WorldState → State → Type 0
+HasState w (OfNode n s) = HasNode w n (node_state s.value)
+HasState w (OfServer f s) = HasServer w f (server_state s.value)
+
+-- the actor is a node, and the incarnation was declared failed
+abbrev pub is_declared : WorldState → State → Bool
+is_declared w (OfNode n s) = has_node w n && was_declared w n (node_state s.value).incarnation
+is_declared w (OfServer f s) = false
+
+-- the actor, which is alive, makes this state and outcome of the event
+abbrev pub MayStep : WorldState → Event → State → Outcome → Type 0
+MayStep w event (OfNode n s) o = NodeSteps w event n (node_state s.value) o
+MayStep w event (OfServer f s) o = ServerSteps w event f (server_state s.value) o
+
+-- the world and the entry that come of that
+abbrev pub made_by : WorldState → Event → State → Outcome → WorldState × Entry
+made_by w event (OfNode n s) o = made_by_node w event n (node_state s.value) o
+made_by w event (OfServer f s) o = made_by_server w event f (server_state s.value) o

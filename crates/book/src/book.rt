@@ -1,0 +1,231 @@
+//! The book.
+ghost use Rattle.std.specs.Prelude.{◌≡◌, ◌≢◌, ◌+◌, ◌-◌, ◌<◌, ◌≤◌, ◌++◌, ◌∷◌, [], ℕ, Ok, Err, Some, true, length, slice_get, IfOk, IfErr, OnOk, OnErr, MatchResult, MatchBool, option_copied};
+ghost use Rattle.messages.specs.declared.event.Event.TheVariants.{Declare, Restart};
+ghost use Rattle.messages.specs.declared.refusal.Refused.{Refused};
+ghost use Rattle.messages.specs.Shapes.{ShapeFields};
+ghost use Rattle.cluster_core.specs.World.{first_world, journal_limit};
+ghost use Rattle.cluster_core.specs.Next.{is_known, next};
+ghost use Rattle.cluster_core.specs.Parts.{world_state};
+ghost use Rattle.cluster_core.specs.Runs.{Leads};
+ghost use Rattle.cluster_core.specs.Journals.{RunFields, journal_of};
+ghost use Rattle.cluster_core.specs.Actors.{Records};
+ghost use Rattle.cluster_core.specs.Histories.{HasOneHistory};
+ghost use Rattle.book.specs.Fields.{SeatFields, StampFields};
+ghost use Rattle.book.specs.States.{actor_of, MayStep, made_by, HasState};
+ghost use Rattle.book.specs.Receipts.{Holds, IsStampOf, IsReceiptOf};
+ghost use Rattle.book.specs.Commits.{Names, IsStepFrom, IsSeatOf, Accepts, Refuses, Commits, seen_at};
+ghost use Rattle.book.specs.Turns.{Declared, Restarted};
+ghost use Rattle.book.specs.Seats.{IsFirstSeat, AreFirst};
+ghost use Rattle.model.specs.Limits.{IsNumber};
+ghost use Rattle.messages.specs.declared.actor.Actor.TheVariants.{Node as ANode, Server as AServer};
+
+use crate::commit_error::CommitError;
+use crate::holds::holds;
+use crate::mark::Mark;
+use crate::prepared::Prepared;
+use crate::receipt::Receipt;
+use crate::seat::Seat;
+use crate::stamp::Stamp;
+use crate::state::State;
+use crate::tests_of::{accepts, seen_of};
+use cluster_core::journal::Journal;
+use cluster_core::run::Run;
+use intervals::span_map::NoMemory;
+use messages::event::Event;
+use messages::items::Items;
+use messages::outcome::Outcome;
+use messages::refusal::Refused;
+use messages::shape::Shape;
+use node_core::node::Node;
+use std::alloc::{AllocError, Global};
+use std::marker::Model;
+use token_server::server::Server;
+
+/// The journal that the actors of a cluster share, and a copy of each actor's state after it: always a
+/// run.
+#[derive(Drop)]
+pub struct Book {
+    run: Run,
+}
+
+impl Model for Book {
+    ghost use Rattle.cluster_core.specs.Journals.{RunFields};
+
+    ghost Value = { RunFields };
+
+    ghost view = { λ b. b.run };
+}
+
+// The run goes on by a step that was computed from its actor's state.
+fn put(run: &mut Run, event: Event, state: State, outcome: Outcome) -> Result<(), NoMemory>
+    requires room { length run.old.entries < journal_limit }
+    requires known { is_known (world_state run.old.world) event ≡ true }
+    requires step { MayStep (world_state run.old.world) event state outcome }
+    ensures ok { OnOk result (Records run.old event (made_by (world_state run.old.world) event state outcome) run.new) }
+    ensures unchanged { OnErr result (run.new ≡ run.old) }
+{
+    let _ = run.len(); // tells the proof that the world counts the entries
+    match state {
+        State::OfNode { number, node } => run.put_node(event, number, node, outcome),
+        State::OfServer { file, server } => run.put_server(event, file, server, outcome),
+    }
+}
+
+// The state of a node that begins.
+fn first_node_state(alloc: Global, shape: Shape, number: u8) -> Result<State, NoMemory>
+    requires { IsNumber shape.nodes number }
+    ensures { IfOk result (λ state. HasState (first_world shape) state × (actor_of state ≡ ANode number)) }
+{
+    let node = Node::new(alloc, shape, number, 1)?;
+    let node = Box::new(alloc, node)?;
+    Ok(State::OfNode { number, node })
+}
+
+// The state of a server that begins.
+fn first_server_state(alloc: Global, shape: Shape, file: u16) -> Result<State, NoMemory>
+    requires { IsNumber shape.files file }
+    ensures { IfOk result (λ state. HasState (first_world shape) state × (actor_of state ≡ AServer file)) }
+{
+    let server = Server::new(alloc, shape, file)?;
+    let server = Box::new(alloc, server)?;
+    Ok(State::OfServer { file, server })
+}
+
+// The seats of the nodes.
+fn node_seats(alloc: Global, shape: Shape) -> Result<Vec<Seat>, NoMemory>
+    ensures seats { IfOk result (λ seats. AreFirst shape seats.items) }
+    ensures count { IfOk result (λ seats. length seats.items ≡ shape.nodes) }
+{
+    let mut seats = Vec::new(alloc);
+    for index in 0..shape.nodes() {
+        let state = first_node_state(alloc, shape, index + 1)?;
+        seats.push(Seat::new(state))?;
+    }
+    Ok(seats)
+}
+
+// Puts the seats of the servers after those of the nodes.
+fn push_servers(alloc: Global, shape: Shape, seats: &mut Vec<Seat>) -> Result<(), NoMemory>
+    requires first { AreFirst shape seats.old.items }
+    requires nodes { length seats.old.items ≡ shape.nodes }
+    ensures seats { OnOk result (AreFirst shape seats.new.items) }
+    ensures count { OnOk result (length seats.new.items ≡ shape.nodes + shape.files) }
+{
+    for index in 0..shape.files() {
+        let state = first_server_state(alloc, shape, index + 1)?;
+        seats.push(Seat::new(state))?;
+    }
+    Ok(())
+}
+
+impl Book {
+    /// A book with an empty journal, and the seats of its nodes and then of its servers, each by number
+    /// from 1.
+    ///
+    /// # Errors
+    /// `NoMemory` where a request for memory was refused.
+    pub fn new(alloc: Global, shape: Shape) -> Result<(Book, Vec<Seat>), NoMemory>
+        ensures world { IfOk result (λ r. world_state r.0.world ≡ first_world shape) }
+        ensures entries { IfOk result (λ r. r.0.entries ≡ []) }
+        ensures count { IfOk result (λ r. length r.1.items ≡ shape.nodes + shape.files) }
+        ensures seats { IfOk result (λ r. (k : ℕ) (s : SeatFields) → slice_get r.1.items k ≡ Some s → IsFirstSeat shape k s × IsSeatOf r.0 s) }
+    {
+        let run = Run::new(alloc, shape)?;
+        let mut seats = node_seats(alloc, shape)?;
+        push_servers(alloc, shape, &mut seats)?;
+        Ok((Book { run }, seats))
+    }
+
+    /// How many entries the journal has, which are a run that leads to the book's copies.
+    pub fn len(&self) -> u32
+        ensures value { result ≡ length self.now.entries }
+        ensures within { result ≤ journal_limit }
+        ensures leads { Leads (first_world self.now.world.shape) self.now.entries (world_state self.now.world) }
+    {
+        let _ = self.run.world(); // tells the proof that the entries lead to the world
+        self.run.len()
+    }
+
+    /// The step that was prepared from the seat is the next of the journal: its entry comes last, and
+    /// the seat's state and the book's copy of it are the step's. That other seats committed since is no
+    /// hindrance. `seen` is up to where the actor had seen the journal, if at all.
+    ///
+    /// # Errors
+    /// In this order: `JournalFull` where the journal has 1,048,576 entries; `Stale` where the step names
+    /// another actor, incarnation or number of commits than the seat has; `Stranger` where the event names
+    /// what the cluster doesn't have, a message that was never sent, or an incarnation that wasn't
+    /// declared; `Fenced` where the seat's incarnation was declared failed; `Stale` where the seat's state
+    /// isn't the book's copy, or `seen` is past the last entry; `NoMemory` where a request for memory was
+    /// refused. The book and the seat are then as they were.
+    pub fn commit(
+        &mut self,
+        seat: &mut Seat,
+        prepared: Prepared,
+        seen: Option<&Mark>,
+    ) -> Result<Stamp, CommitError>
+        requires { Names prepared seat.old → IsStepFrom seat.old prepared }
+        ensures outcome { MatchResult result (λ t. Commits self.old seat.old prepared (seen_at (option_copied seen.entry)) self.new seat.new t) (λ e. Refuses self.old seat.old prepared (seen_at (option_copied seen.entry)) e) }
+        ensures unchanged { OnErr result ((self.new ≡ self.old) × (seat.new ≡ seat.old)) }
+    {
+        let seen = seen_of(seen);
+        accepts(&self.run, seat, &prepared, seen)?;
+        let parts = prepared.into_parts();
+        put(&mut self.run, parts.event, parts.copy, parts.outcome)?;
+        seat.advance(parts.state);
+        Ok(Stamp::new(self.run.len(), parts.event, parts.said, seen))
+    }
+
+    /// The node is declared failed: from here on each commit of its incarnation is refused.
+    ///
+    /// # Errors
+    /// In this order: `JournalFull`; `Stranger` where there is no such node; `NotAlive` where it was
+    /// declared; `NoMemory`. The book is then as it was.
+    pub fn declare(&mut self, alloc: Global, node: u8) -> Result<Stamp, Refused>
+        ensures ok { IfOk result (λ t. Declared self.old node self.new t) }
+        ensures err { IfErr result (λ e. e ≢ Refused.NoMemory → next (world_state self.old.world) (Declare node) ≡ Err e) }
+        ensures refused { (e : Refused) → next (world_state self.old.world) (Declare node) ≡ Err e → result ≡ Err e }
+        ensures unchanged { OnErr result (self.new ≡ self.old) }
+    {
+        self.run.take(alloc, Event::Declare { node })?;
+        let outcome = Outcome::sending(Items::new(alloc));
+        let position = self.run.len();
+        Ok(Stamp::new(position, Event::Declare { node }, outcome, 0))
+    }
+
+    /// The node, which was declared failed, begins again: empty, in its next incarnation, whose seat this
+    /// is.
+    ///
+    /// # Errors
+    /// In this order: `JournalFull`; `Stranger` where there is no such node; `NotDead` where it is alive;
+    /// `TooManyRestarts` where it had 65,535 incarnations; `NoMemory`. The book is then as it was.
+    pub fn restart(&mut self, alloc: Global, node: u8) -> Result<Seat, Refused>
+        ensures ok { IfOk result (λ s. Restarted self.old node self.new s) }
+        ensures err { IfErr result (λ e. e ≢ Refused.NoMemory → next (world_state self.old.world) (Restart node) ≡ Err e) }
+        ensures refused { (e : Refused) → next (world_state self.old.world) (Restart node) ≡ Err e → result ≡ Err e }
+        ensures unchanged { OnErr result (self.new ≡ self.old) }
+    {
+        let begun = self.run.restart(alloc, node)?;
+        Ok(Seat::new(State::OfNode {
+            number: node,
+            node: begun,
+        }))
+    }
+
+    /// Whether the journal holds the receipt, as it does each that was made of two stamps of this book.
+    pub fn confirm(&self, receipt: &Receipt) -> bool
+        ensures exact { MatchBool result (Holds self.now.entries receipt.now) (Holds self.now.entries receipt.now → ⊥) }
+        ensures made { (call reply : StampFields) → IsStampOf self.now.entries call → IsStampOf self.now.entries reply → IsReceiptOf call reply receipt.now → result ≡ true }
+    {
+        holds(self.run.entries(), receipt)
+    }
+
+    /// The journal, which is a run, and so has one history.
+    pub fn into_journal(self) -> Journal
+        ensures value { result ≡ journal_of self }
+        ensures leads { Leads (first_world result.shape) result.entries (world_state self.world) }
+        ensures one_table { HasOneHistory result.shape result.entries }
+    {
+        let (journal, _) = self.run.into_journal();
+        journal
+    }
+}

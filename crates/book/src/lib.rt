@@ -1,0 +1,14 @@
+//! The journal that the actors of a cluster share, and the seats from which they commit their steps.
+#![tactic(auto)]
+
+pub mod book;
+pub mod commit_error;
+pub mod confirms;
+mod holds;
+pub mod mark;
+pub mod prepared;
+pub mod receipt;
+pub mod seat;
+pub mod stamp;
+mod state;
+mod tests_of;

@@ -1,0 +1,134 @@
+-- What an actor's own step at an event makes of a world.
+use Rattle.std.proofs.Common.{◌≡◌, ℕ, ◌<◌, Bool, true, false, not, nat_le, if◌then◌else◌, refl, sym, ◌∙◌, ap, arith, Option, Some, None, Result, Ok, Err}
+use Rattle.std.proofs.lemmas.Bool.{eqb-true}
+use Rattle.std.proofs.lemmas.Bool.Decides.{nat_tests}
+use Rattle.std.specs.Prelude.{◌==◌}
+use Rattle.messages.specs.Messages.{addressee}
+use Rattle.messages.specs.declared.actor.Actor.{Actor}
+use Rattle.messages.specs.declared.actor.Actor.TheVariants.{Node as ANode, Server as AServer}
+use Rattle.messages.specs.declared.message.Message.{Message}
+use Rattle.messages.specs.declared.event.Event.{Event}
+use Rattle.messages.specs.declared.event.Event.TheVariants.{Call, Deliver, Interrupt, Retry, Resend, Declare, Restart, Learn}
+use Rattle.messages.specs.declared.entry.Entry.{Entry}
+use Rattle.messages.specs.declared.outcome.Outcome.{Outcome}
+use Rattle.messages.specs.declared.refusal.Refused.{Refused}
+use Rattle.messages.specs.declared.refusal.Refused.TheVariants.{Stranger, JournalFull, Fenced}
+use Rattle.messages.specs.declared.refusal.StepError.{StepError}
+use Rattle.node_core.specs.declared.event.NodeEvent.{NodeEvent}
+use Rattle.node_core.specs.declared.event.NodeEvent.TheVariants as node
+use Rattle.node_core.specs.State.{NodeState}
+use Rattle.node_core.specs.Commands.{is_node}
+use Rattle.node_core.specs.Node.{node_rule}
+use Rattle.token_server.specs.declared.event.ServerEvent.{ServerEvent}
+use Rattle.token_server.specs.declared.event.ServerEvent.TheVariants as server
+use Rattle.token_server.specs.State.{ServerState}
+use Rattle.token_server.specs.Server.{server_rule, is_server}
+use Rattle.cluster_core.specs.World.{WorldState, journal_limit}
+use Rattle.cluster_core.specs.Next.{is_known, is_stopped, is_fenced, after_node, after_server, delivered, taken, next}
+use Rattle.cluster_core.specs.Parts.{IsStepOf, IsServerStepOf}
+use Rattle.cluster_core.proofs.steps.Steps.{next_taken, restart_step}
+use Rattle.cluster_core.specs.Actors.{node_event, server_event, node_at, server_at, NodeSteps, ServerSteps, made_by_node, made_by_server}
+
+-- one event, or none
+one_event : {A : Type 0} (b : Bool) (x y : A) → ◌≡◌ {A = Option A} (if b then Some x else None) (Some y) → (b ≡ true) × (y ≡ x)
+one_event true x y e = (refl, cc)
+one_event false x y e = absurd (cc)
+
+-- a node that takes an event takes it in the world
+pub record NodeTakes (w : WorldState) (event : Event) (n : ℕ) (step : NodeEvent) : Type 0 where
+  pub same : IsStepOf event n step
+  pub fenced : is_fenced w event ≡ not (w.alive n)
+  pub takes : taken w event ≡ after_node w event n (node_rule (w.nodes n) step)
+
+to_node : (w : WorldState) (m : Message) (n : ℕ) (step : NodeEvent) (to : Actor) → is_node n to ≡ true → step ≡ node.Deliver m → (is_stopped w to ≡ not (w.alive n)) × (delivered w m to ≡ after_node w (Deliver m) n (node_rule (w.nodes n) step))
+to_node w m n step (ANode k) ours is =
+    let same : k ≡ n = eqb-true k n ours in
+    (ap (λ (j : ℕ). not (w.alive j)) same, λ i. after_node w (Deliver m) (same i) (node_rule (w.nodes (same i)) (sym is i)))
+to_node w m n step (AServer file) ours is = absurd (cc)
+
+pub node_takes : (w : WorldState) (event : Event) (n : ℕ) (step : NodeEvent) → node_event n event ≡ Some step → NodeTakes w event n step
+node_takes w (Call k pid op) n step e =
+    let one = one_event (k == n) (node.Call pid op) step e in
+    let same : k ≡ n = eqb-true k n one.0 in
+    record { same = (same, one.1); fenced = ap (λ (j : ℕ). not (w.alive j)) same; takes = λ i. after_node w (Call k pid op) (same i) (node_rule (w.nodes (same i)) (sym one.1 i)) }
+node_takes w (Deliver m) n step e =
+    let one = one_event (is_node n (addressee m)) (node.Deliver m) step e in
+    let to = to_node w m n step (addressee m) one.0 one.1 in
+    record { same = one.1; fenced = to.0; takes = to.1 }
+node_takes w (Interrupt k pid) n step e =
+    let one = one_event (k == n) (node.Interrupt pid) step e in
+    let same : k ≡ n = eqb-true k n one.0 in
+    record { same = (same, one.1); fenced = ap (λ (j : ℕ). not (w.alive j)) same; takes = λ i. after_node w (Interrupt k pid) (same i) (node_rule (w.nodes (same i)) (sym one.1 i)) }
+node_takes w (Retry k pid) n step e =
+    let one = one_event (k == n) (node.Retry pid) step e in
+    let same : k ≡ n = eqb-true k n one.0 in
+    record { same = (same, one.1); fenced = ap (λ (j : ℕ). not (w.alive j)) same; takes = λ i. after_node w (Retry k pid) (same i) (node_rule (w.nodes (same i)) (sym one.1 i)) }
+node_takes w (Resend file) n step e = absurd (cc)
+node_takes w (Declare k) n step e = absurd (cc)
+node_takes w (Restart k) n step e = absurd (cc)
+node_takes w (Learn file k incarnation) n step e = absurd (cc)
+
+-- and so does a server
+pub record ServerTakes (w : WorldState) (event : Event) (f : ℕ) (step : ServerEvent) : Type 0 where
+  pub same : IsServerStepOf event step
+  pub fenced : is_fenced w event ≡ false
+  pub takes : taken w event ≡ after_server w event f (server_rule (w.servers f) step)
+
+to_server : (w : WorldState) (m : Message) (f : ℕ) (step : ServerEvent) (to : Actor) → is_server f to ≡ true → step ≡ server.Deliver m → (is_stopped w to ≡ false) × (delivered w m to ≡ after_server w (Deliver m) f (server_rule (w.servers f) step))
+to_server w m f step (ANode n) ours is = absurd (cc)
+to_server w m f step (AServer g) ours is =
+    let same : g ≡ f = eqb-true g f ours in
+    (refl, λ i. after_server w (Deliver m) (same i) (server_rule (w.servers (same i)) (sym is i)))
+
+pub server_takes : (w : WorldState) (event : Event) (f : ℕ) (step : ServerEvent) → server_event f event ≡ Some step → ServerTakes w event f step
+server_takes w (Call n pid op) f step e = absurd (cc)
+server_takes w (Deliver m) f step e =
+    let one = one_event (is_server f (addressee m)) (server.Deliver m) step e in
+    let to = to_server w m f step (addressee m) one.0 one.1 in
+    record { same = one.1; fenced = to.0; takes = to.1 }
+server_takes w (Interrupt n pid) f step e = absurd (cc)
+server_takes w (Retry n pid) f step e = absurd (cc)
+server_takes w (Resend g) f step e =
+    let one = one_event (g == f) server.Resend step e in
+    let same : g ≡ f = eqb-true g f one.0 in
+    record { same = one.1; fenced = refl; takes = λ i. after_server w (Resend g) (same i) (server_rule (w.servers (same i)) (sym one.1 i)) }
+server_takes w (Declare n) f step e = absurd (cc)
+server_takes w (Restart n) f step e = absurd (cc)
+server_takes w (Learn g n incarnation) f step e =
+    let one = one_event (g == f) (server.Learn n incarnation) step e in
+    let same : g ≡ f = eqb-true g f one.0 in
+    record { same = one.1; fenced = refl; takes = λ i. after_server w (Learn g n incarnation) (same i) (server_rule (w.servers (same i)) (sym one.1 i)) }
+
+-- a step that is done is of an event that the actor takes
+pub node_done_by : (s : NodeState) (event : Option NodeEvent) (done : NodeState × Outcome) → node_at s event ≡ Ok done → (step : NodeEvent) × (event ≡ Some step) × (node_rule s step ≡ Ok done)
+node_done_by s None done e = absurd (cc)
+node_done_by s (Some step) done e = (step, refl, e)
+
+pub server_done_by : (s : ServerState) (event : Option ServerEvent) (done : ServerState × Outcome) → server_at s event ≡ Ok done → (step : ServerEvent) × (event ≡ Some step) × (server_rule s step ≡ Ok done)
+server_done_by s None done e = absurd (cc)
+server_done_by s (Some step) done e = (step, refl, e)
+
+has_room : (n : ℕ) → n < journal_limit → nat_le journal_limit n ≡ false
+has_room n h = grind (arith, nat_tests, h)
+
+-- what is taken from an actor that may step is the next of the world
+goes : (w : WorldState) (event : Event) (r : Result (WorldState × Entry) Refused) → w.length < journal_limit → is_known w event ≡ true → is_fenced w event ≡ false → taken w event ≡ r → next w event ≡ r
+goes w event r room known free is =
+    let roomy = has_room w.length room in
+    λ i. if roomy i then Err JournalFull else (if not (known i) then Err Stranger else (if free i then Err Fenced else is i))
+
+pub node_next : (w : WorldState) (event : Event) (n : ℕ) (s : NodeState) (o : Outcome) → w.length < journal_limit → is_known w event ≡ true → NodeSteps w event n s o → next w event ≡ Ok (made_by_node w event n s o)
+node_next w event n s o room known steps =
+    let by = node_done_by (w.nodes n) (node_event n event) (s, o) steps.done in
+    let takes = node_takes w event n by.0 by.1 in
+    goes w event _ room known (takes.fenced ∙ ap not steps.alive) (takes.takes ∙ ap (after_node w event n) by.2)
+
+pub server_next : (w : WorldState) (event : Event) (f : ℕ) (s : ServerState) (o : Outcome) → w.length < journal_limit → is_known w event ≡ true → ServerSteps w event f s o → next w event ≡ Ok (made_by_server w event f s o)
+server_next w event f s o room known steps =
+    let by = server_done_by (w.servers f) (server_event f event) (s, o) steps.done in
+    let takes = server_takes w event f by.0 by.1 in
+    goes w event _ room known takes.fenced (takes.takes ∙ ap (after_server w event f) by.2)
+
+-- a node that begins again is as it was
+pub restart_keeps : (w : WorldState) (n : ℕ) (q : WorldState × Entry) → next w (Restart n) ≡ Ok q → q.0.nodes n ≡ w.nodes n
+restart_keeps w n q h = restart_step w (λ p. p.0.nodes n ≡ w.nodes n) n q (λ m is dead few. refl) (next_taken w (Restart n) q h).1

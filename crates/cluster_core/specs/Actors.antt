@@ -1,0 +1,88 @@
+-- What one actor makes of an event of the cluster, and runs that go on by it.
+use Rattle.std.specs.Prelude.{◌≡◌, ℕ, ◌==◌, if◌then◌else◌, true, List, [], ◌∷◌, ◌++◌, Option, Some, None, Result, Ok, Err}
+use Rattle.messages.specs.declared.refusal.StepError.{StepError}
+use Rattle.messages.specs.declared.refusal.StepError.TheVariants.{Stranger}
+use Rattle.messages.specs.declared.event.Event.{Event}
+use Rattle.messages.specs.declared.event.Event.TheVariants.{Call, Deliver, Interrupt, Retry, Resend, Learn}
+use Rattle.messages.specs.declared.outcome.Outcome.{Outcome}
+use Rattle.messages.specs.declared.entry.Entry.{Entry}
+use Rattle.messages.specs.Messages.{addressee}
+use Rattle.node_core.specs.declared.event.NodeEvent.{NodeEvent}
+use Rattle.node_core.specs.declared.event.NodeEvent.TheVariants as node
+use Rattle.node_core.specs.State.{NodeState}
+use Rattle.node_core.specs.Commands.{is_node}
+use Rattle.node_core.specs.Node.{node_rule}
+use Rattle.token_server.specs.declared.event.ServerEvent.{ServerEvent}
+use Rattle.token_server.specs.declared.event.ServerEvent.TheVariants as server
+use Rattle.token_server.specs.State.{ServerState}
+use Rattle.token_server.specs.Server.{server_rule, is_server}
+use Rattle.cluster_core.specs.World.{WorldState, has_node, has_file}
+use Rattle.cluster_core.specs.Next.{named_incarnation, with_node, with_server, recorded, next}
+use Rattle.cluster_core.specs.Parts.{world_state}
+use Rattle.cluster_core.specs.Journals.{RunFields}
+
+-- the event as the node with the number takes it, or none
+abbrev pub node_event : ℕ → Event → Option NodeEvent
+node_event n (Call k pid op) = if k == n then Some (node.Call pid op) else None
+node_event n (Deliver m) = if is_node n (addressee m) then Some (node.Deliver m) else None
+node_event n (Interrupt k pid) = if k == n then Some (node.Interrupt pid) else None
+node_event n (Retry k pid) = if k == n then Some (node.Retry pid) else None
+node_event n _ = None
+
+-- and as the server of the file does
+abbrev pub server_event : ℕ → Event → Option ServerEvent
+server_event f (Deliver m) = if is_server f (addressee m) then Some (server.Deliver m) else None
+server_event f (Resend file) = if file == f then Some server.Resend else None
+server_event f (Learn file n incarnation) = if file == f then Some (server.Learn n incarnation) else None
+server_event f _ = None
+
+abbrev pub node_at : NodeState → Option NodeEvent → Result (NodeState × Outcome) StepError
+node_at s None = Err Stranger
+node_at s (Some event) = node_rule s event
+
+abbrev pub server_at : ServerState → Option ServerEvent → Result (ServerState × Outcome) StepError
+server_at s None = Err Stranger
+server_at s (Some event) = server_rule s event
+
+-- what the node with the number does at an event: one that it doesn't take is strange to it
+abbrev pub node_step : ℕ → NodeState → Event → Result (NodeState × Outcome) StepError
+node_step n s event = node_at s (node_event n event)
+
+-- and the server of the file
+abbrev pub server_step : ℕ → ServerState → Event → Result (ServerState × Outcome) StepError
+server_step f s event = server_at s (server_event f event)
+
+-- the node with the number is alive, and in this state
+pub record HasNode (w : WorldState) (n : ℕ) (s : NodeState) : Type 0 where
+  pub number : has_node w n ≡ true
+  pub alive : w.alive n ≡ true
+  pub state : w.nodes n ≡ s
+
+-- the server of the file is in this state
+pub record HasServer (w : WorldState) (f : ℕ) (s : ServerState) : Type 0 where
+  pub number : has_file w f ≡ true
+  pub state : w.servers f ≡ s
+
+-- the node, which is alive, makes this state and outcome of the event
+pub record NodeSteps (w : WorldState) (event : Event) (n : ℕ) (s : NodeState) (o : Outcome) : Type 0 where
+  pub number : has_node w n ≡ true
+  pub alive : w.alive n ≡ true
+  pub done : node_step n (w.nodes n) event ≡ Ok (s, o)
+
+-- the server makes this state and outcome of the event
+pub record ServerSteps (w : WorldState) (event : Event) (f : ℕ) (s : ServerState) (o : Outcome) : Type 0 where
+  pub number : has_file w f ≡ true
+  pub done : server_step f (w.servers f) event ≡ Ok (s, o)
+
+-- the world and the entry that come of that
+abbrev pub made_by_node : WorldState → Event → ℕ → NodeState → Outcome → WorldState × Entry
+made_by_node w event n s o = recorded (with_node w n s) event (named_incarnation (w.nodes n) event) o
+
+abbrev pub made_by_server : WorldState → Event → ℕ → ServerState → Outcome → WorldState × Entry
+made_by_server w event f s o = recorded (with_server w f s) event 0 o
+
+-- the run goes on by the event, which makes this world and this entry
+pub record Records (r : RunFields) (event : Event) (made : WorldState × Entry) (s : RunFields) : Type 0 where
+  pub step : next (world_state r.world) event ≡ Ok made
+  pub world : world_state s.world ≡ made.0
+  pub entries : s.entries ≡ r.entries ++ made.1 ∷ []

@@ -1,0 +1,176 @@
+//! The states of a world's actors: compared with others, and followed by their next.
+ghost use Rattle.std.specs.Prelude.{◌≡◌, ◌≢◌, ◌↔◌, ◌<◌, true, Ok, Err, ◌++◌, ◌&&◌, IsTrue, IfOk, IfErr, OnOk, OnErr, length, slice_set};
+ghost use Rattle.messages.specs.declared.event.Event.TheVariants.{Restart};
+ghost use Rattle.messages.specs.declared.entry.Entry.{Entry};
+ghost use Rattle.messages.specs.declared.refusal.Refused.{Refused};
+ghost use Rattle.messages.specs.Messages.{is_within};
+ghost use Rattle.node_core.specs.Parts.{node_state};
+ghost use Rattle.token_server.specs.Parts.{server_state};
+ghost use Rattle.cluster_core.specs.World.{WorldState, journal_limit, has_node, was_declared};
+ghost use Rattle.cluster_core.specs.Next.{is_known, next, restart_rule};
+ghost use Rattle.cluster_core.specs.Parts.{world_state};
+ghost use Rattle.cluster_core.specs.Actors.{HasNode, HasServer, NodeSteps, ServerSteps, made_by_node, made_by_server};
+
+use super::{JOURNAL_LIMIT, World, is_number};
+use crate::sent::Sent;
+use intervals::span_map::NoMemory as NoRoom;
+use messages::entry::Entry;
+use messages::event::Event;
+use messages::message::Message;
+use messages::outcome::Outcome;
+use messages::refusal::Refused;
+use node_core::node::Node;
+use std::alloc::Global;
+use token_server::server::Server;
+
+impl World {
+    /// Whether the event names nodes, processes and files of the shape, a message that was sent to one
+    /// of its actors, or an incarnation that was declared failed.
+    pub fn knows(&self, event: &Event) -> bool
+        ensures { result ≡ is_known (world_state self.now) event.now }
+    {
+        self.is_known(event)
+    }
+
+    /// Whether the node is one of the shape, and that incarnation of it was declared failed.
+    pub fn has_declared(&self, node: u8, incarnation: u16) -> bool
+        ensures { result ≡ (has_node (world_state self.now) node && was_declared (world_state self.now) node incarnation) }
+    {
+        is_number(u16::from(self.shape.nodes()), u16::from(node))
+            && self.was_declared(node, incarnation)
+    }
+
+    /// Whether the node with the number is alive, and in the same state as that one.
+    pub fn has_node(&self, number: u8, node: &Node) -> bool
+        ensures { IsTrue result ↔ HasNode (world_state self.now) number (node_state node.now) }
+    {
+        if !is_number(u16::from(self.shape.nodes()), u16::from(number)) {
+            return false;
+        }
+        if !self.is_alive(number) {
+            return false;
+        }
+        self.node(number).same(node)
+    }
+
+    // The server of the file.
+    fn server(&self, file: u16) -> &Server
+        requires { is_within self.now.shape.files file ≡ true }
+        ensures { server_state result.now ≡ (world_state self.now).servers file }
+    {
+        &self.servers[file as usize - 1]
+    }
+
+    /// Whether the server of the file is in the same state as that one.
+    pub fn has_server(&self, file: u16, server: &Server) -> bool
+        ensures { IsTrue result ↔ HasServer (world_state self.now) file (server_state server.now) }
+    {
+        if !is_number(self.shape.files(), file) {
+            return false;
+        }
+        self.server(file).same(server)
+    }
+
+    /// The node does a step that was computed from its state: this is its next state, with what the
+    /// step gave. The messages are put among those that were sent, which is all that may take memory.
+    ///
+    /// # Errors
+    /// `NoMemory` where a request for memory was refused. The world is then as it was.
+    pub(crate) fn put_node(
+        &mut self,
+        event: Event,
+        node: u8,
+        state: Box<Node>,
+        outcome: Outcome,
+    ) -> Result<Entry, NoRoom>
+        requires room { self.old.length < journal_limit }
+        requires known { is_known (world_state self.old) event ≡ true }
+        requires step { NodeSteps (world_state self.old) event node (node_state state.value) outcome }
+        ensures next { next (world_state self.old) event ≡ Ok (made_by_node (world_state self.old) event node (node_state state.value) outcome) }
+        ensures ok { IfOk result (λ entry. (world_state self.new, entry) ≡ made_by_node (world_state self.old) event node (node_state state.value) outcome) }
+        ensures unchanged { OnErr result (self.new ≡ self.old) }
+    {
+        let incarnation = self.named_incarnation(&event, node);
+        let sends = outcome.sends.as_slice();
+        put_in(&mut self.nodes, node as usize - 1, state, &mut self.sent, sends)?;
+        self.length += 1;
+        Ok(Entry::at_node(event, incarnation, outcome))
+    }
+
+    /// The server does a step that was computed from its state, as `put_node` says of a node.
+    ///
+    /// # Errors
+    /// `NoMemory` where a request for memory was refused. The world is then as it was.
+    pub(crate) fn put_server(
+        &mut self,
+        event: Event,
+        file: u16,
+        state: Box<Server>,
+        outcome: Outcome,
+    ) -> Result<Entry, NoRoom>
+        requires room { self.old.length < journal_limit }
+        requires known { is_known (world_state self.old) event ≡ true }
+        requires step { ServerSteps (world_state self.old) event file (server_state state.value) outcome }
+        ensures next { next (world_state self.old) event ≡ Ok (made_by_server (world_state self.old) event file (server_state state.value) outcome) }
+        ensures ok { IfOk result (λ entry. (world_state self.new, entry) ≡ made_by_server (world_state self.old) event file (server_state state.value) outcome) }
+        ensures unchanged { OnErr result (self.new ≡ self.old) }
+    {
+        let sends = outcome.sends.as_slice();
+        put_in(&mut self.servers, file as usize - 1, state, &mut self.sent, sends)?;
+        self.length += 1;
+        Ok(Entry::new(event, outcome))
+    }
+
+    /// Whether the node may begin again now.
+    ///
+    /// # Errors
+    /// In this order: `JournalFull`, `Stranger`, `NotDead`, `TooManyRestarts`, as `step` says.
+    pub(crate) fn may_restart(&self, node: u8) -> Result<(), Refused>
+        ensures ok { OnOk result ((is_within self.now.shape.nodes node ≡ true) × (made : WorldState × Entry) × (restart_rule (world_state self.now) node ≡ Ok made)) }
+        ensures goes { OnOk result ((e : Refused) → next (world_state self.now) (Restart node) ≢ Err e) }
+        ensures err { IfErr result (λ e. next (world_state self.now) (Restart node) ≡ Err e) }
+    {
+        if self.length >= JOURNAL_LIMIT {
+            return Err(Refused::JournalFull);
+        }
+        if !is_number(u16::from(self.shape.nodes()), u16::from(node)) {
+            return Err(Refused::Stranger);
+        }
+        self.members.next(node)?;
+        Ok(())
+    }
+
+    /// The node as it begins again: one that was declared failed, and may restart.
+    ///
+    /// # Errors
+    /// `NoMemory` where a request for memory was refused.
+    pub(crate) fn begun(&self, alloc: Global, node: u8) -> Result<Box<Node>, NoRoom>
+        requires node { is_within self.now.shape.nodes node ≡ true }
+        requires may { (made : WorldState × Entry) × (restart_rule (world_state self.now) node ≡ Ok made) }
+        ensures { IfOk result (λ begun. node_state begun.value ≡ (world_state self.now).nodes node) }
+    {
+        let Ok(incarnation) = self.members.next(node) else {
+            unreachable!()
+        };
+        let first = Node::new(alloc, self.shape, node, incarnation)?;
+        Ok(Box::new(alloc, first)?)
+    }
+}
+
+// Puts another item at an index, once the messages are sent.
+fn put_in<T: Drop>(
+    items: &mut Vec<T>,
+    index: usize,
+    next: Box<T>,
+    sent: &mut Sent,
+    messages: &[Message],
+) -> Result<(), NoRoom>
+    requires { index < length items.old.items }
+    ensures items { OnOk result (items.new.items ≡ slice_set items.old.items index next.value) }
+    ensures sent { OnOk result (sent.new ≡ sent.old ++ messages.now) }
+    ensures unchanged { OnErr result ((items.new.items ≡ items.old.items) × (sent.new ≡ sent.old)) }
+{
+    sent.extend(messages)?;
+    items[index] = Box::into_inner(next);
+    Ok(())
+}
