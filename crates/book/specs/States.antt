@@ -1,12 +1,11 @@
 -- The state of one actor, a node by its number or the server of a file.
-use Rattle.std.specs.Prelude.{◌≡◌, ◌≢◌, ⊤, ℕ, Bool, false, ◌&&◌, Ok, Err}
+use Rattle.std.specs.Prelude.{◌≡◌, ℕ, Bool, false, ◌&&◌, Ok, Err}
 use Rattle.messages.specs.declared.actor.Actor.{Actor}
 use Rattle.messages.specs.declared.actor.Actor.TheVariants.{Node as ANode, Server as AServer}
 use Rattle.messages.specs.declared.event.Event.{Event}
 use Rattle.messages.specs.declared.entry.Entry.{Entry}
 use Rattle.messages.specs.declared.outcome.Outcome.{Outcome}
 use Rattle.messages.specs.declared.refusal.StepError.{StepError}
-use Rattle.messages.specs.declared.refusal.StepError.TheVariants.{Spent}
 use Rattle.node_core.specs.Parts.{node_state}
 use Rattle.token_server.specs.Parts.{server_state}
 use Rattle.cluster_core.specs.World.{WorldState, has_node, was_declared}
@@ -39,11 +38,6 @@ StepsTo _ event _ o = ⊥
 abbrev pub Rejects : State → Event → StepError → Type 0
 Rejects (OfNode n s) event e = node_step n (node_state s.value) event ≡ Err e
 Rejects (OfServer f s) event e = server_step f (server_state s.value) event ≡ Err e
-
--- a refusal that want of memory never stands in place of: any, but that a server has no number left
-abbrev pub IsDefinite : State → StepError → Type 0
-IsDefinite (OfNode n s) e = ⊤
-IsDefinite (OfServer f s) e = e ≢ Spent
 
 -- the actor is in this state, and alive
 abbrev pub HasState : WorldState → State → Type 0

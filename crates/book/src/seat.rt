@@ -1,7 +1,7 @@
 //! Seats.
 ghost use Rattle.std.specs.Prelude.{◌≡◌, ◌≢◌, ◌<◌, ◌+◌, IfOk, IfErr, Err};
 ghost use Rattle.book.specs.Commits.{Names, IsStepFrom};
-ghost use Rattle.book.specs.States.{actor_of, incarnation_of, Rejects, IsDefinite};
+ghost use Rattle.book.specs.States.{actor_of, incarnation_of, Rejects};
 
 use crate::prepared::Prepared;
 use crate::state::State;
@@ -87,8 +87,8 @@ impl Seat {
         ensures spent { self.now.commits ≡ 18446744073709551615 → result ≡ Err StepError.Spent }
         ensures err { self.now.commits < 18446744073709551615 → IfErr result (λ e. e ≢ StepError.NoMemory → Rejects self.now.state event e) }
 
-        // Want of memory never stands in the place of a refusal, but that a server has no number left.
-        ensures refused { self.now.commits < 18446744073709551615 → (r : StepError) → IsDefinite self.now.state r → Rejects self.now.state event r → result ≡ Err r }
+        // Want of memory never stands in the place of a refusal.
+        ensures refused { self.now.commits < 18446744073709551615 → (r : StepError) → Rejects self.now.state event r → result ≡ Err r }
     {
         if self.commits == u64::MAX {
             return Err(StepError::Spent);
