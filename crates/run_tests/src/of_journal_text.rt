@@ -1,3 +1,4 @@
 //! Journals as text.
+mod parsed;
 mod printed;
 mod read;
