@@ -16,7 +16,7 @@ use Rattle.lockscript.specs.Reads.{Both, Lacks, after_text, joined_text, pair_te
 use Rattle.lockscript.specs.Scripts.{counts_text}
 use Rattle.lockscript.specs.Served.{AreOffsets, IsAskedLock, IsDescriptor}
 use Rattle.lockscript.specs.Texts.{access_text, asked_lock_text, call_text, kind_text, lock_text, mode_text, owner_text, policy_text, segment_text}
-use Rattle.lockscript.proofs.Clusters.{IsCounts, counts_of}
+use Rattle.lockscript.proofs.Clusters.{IsCounts, counts-fit, counts-parts, counts_of, parts_text}
 use Rattle.lockscript.proofs.Fronts.{Kinds}
 use Rattle.lockscript.proofs.Pairs.{AllLack}
 use Rattle.lockscript.proofs.SingleWords.{decimal-lacks, lacks-tested}
@@ -146,7 +146,7 @@ asked_locks = pair decimal (pair_text kind_text (pair_text mode_text segment_tex
     (pair kind_text (pair_text mode_text segment_text) (λ _. ⊤) (Both (λ _. ⊤) AreOffsets) kinds_of_owners
     (pair mode_text segment_text (λ _. ⊤) AreOffsets modes segments))
 
-counts : HasNone counts_text IsCounts
+counts : HasNone parts_text IsCounts
 counts = pair decimal (after_text (codes "files ") (pair_text decimal (after_text (codes "policy ") policy_text))) (IsNumber most_nodes) (Both (IsNumber most_files) (λ _. ⊤)) (numbers most_nodes (omega arith))
     (after (codes "files ") (pair_text decimal (after_text (codes "policy ") policy_text)) (Both (IsNumber most_files) (λ _. ⊤)) (lacks-tested line_feed (codes "files ") refl)
     (pair decimal (after_text (codes "policy ") policy_text) (IsNumber most_files) (λ _. ⊤) files
@@ -154,4 +154,5 @@ counts = pair decimal (after_text (codes "files ") (pair_text decimal (after_tex
 
 pub heads : HasNone head_text IsShape
 heads s fits =
-    lacks-append line_feed (codes "journal 1 nodes ") (counts_text (counts_of s)) (lacks-tested line_feed (codes "journal 1 nodes ") refl) (counts (counts_of s) (fits.nodes_in, (fits.files_in, tt)))
+    lacks-append line_feed (codes "journal 1 nodes ") (counts_text s) (lacks-tested line_feed (codes "journal 1 nodes ") refl)
+    (subst (Lacks line_feed) (sym (counts-parts s)) (counts (counts_of s) (counts-fit s fits)))

@@ -33,10 +33,10 @@ counts_of s = (s.nodes, (s.files, s.policy))
 abbrev pub shape_with : ℕ × (ℕ × Policy) → ShapeFields
 shape_with c = record { nodes = c.0; files = c.1.0; policy = c.1.1 }
 
-counts-parts : (s : ShapeFields) → counts_text s ≡ parts_text (counts_of s)
+pub counts-parts : (s : ShapeFields) → counts_text s ≡ parts_text (counts_of s)
 counts-parts s = simp append_assoc refl
 
-counts-fit : (s : ShapeFields) → IsShape s → IsCounts (counts_of s)
+pub counts-fit : (s : ShapeFields) → IsShape s → IsCounts (counts_of s)
 counts-fit s fits = ((fits.nodes_in.0, omega (arith, fits.nodes_in.1)), (fits.files_in, tt))
 
 -- no line names two clusters
