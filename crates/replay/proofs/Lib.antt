@@ -1,4 +1,5 @@
 pub mod Sections
+pub mod Stores
 pub mod Faults
 pub mod Marks
 pub mod OneOutcome

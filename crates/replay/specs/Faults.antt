@@ -47,7 +47,7 @@ IsScriptFault Holds RanShort path fault = ⊥
 abbrev pub IsJournalFault : (Option (List ℕ) → Type 0) → Type 0 → List ℕ → Fault → Type 0
 IsJournalFault Holds RanShort path (BadLine line) = HasText Holds (λ text. readings.IsFirstBad text line)
 IsJournalFault Holds RanShort path (CannotRead named) = (named.now ≡ path) × HasNoText Holds
-IsJournalFault Holds RanShort path NoMemory = RanShort ⊎ HasText Holds readings.HasJournal
+IsJournalFault Holds RanShort path NoMemory = RanShort ⊎ ((j : JournalFields) × HasEntries Holds j)
 IsJournalFault Holds RanShort path JournalFull = (j : JournalFields) × HasEntries Holds j × (journal_limit < length j.entries)
 IsJournalFault Holds RanShort path fault = ⊥
 

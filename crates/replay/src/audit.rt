@@ -58,7 +58,10 @@ pub(crate) fn history<'a, S: Store>(
         × IsFault (S.holds store.old) (S.ran_short store.new) (S.refuses store.new) (history path.now) (S.holds store.new) fault) }
 {
     match checked(alloc, store, path)? {
-        Audited::Run(journal) => Ok(Shown::Text(history_of(alloc, journal)?)),
+        Audited::Run(journal) => match history_of(alloc, journal) {
+            Ok(text) => Ok(Shown::Text(text)),
+            Err(_) => Err(Fault::NoMemory),
+        },
         Audited::Wrong(position) => Ok(Shown::No(position)),
     }
 }

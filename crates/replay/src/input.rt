@@ -14,7 +14,10 @@ pub(crate) fn text_of<'a, S: Store>(alloc: Global, store: &mut S, path: &'a str)
     ensures files { SameFiles (S.holds store.old) (S.holds store.new) }
 {
     match store.read(alloc, path) {
-        Ok(bytes) => String::from_utf8(bytes).map_err(|_| Fault::CannotRead(path)),
+        Ok(bytes) => match String::from_utf8(bytes) {
+            Ok(text) => Ok(text),
+            Err(_) => Err(Fault::CannotRead(path)),
+        },
         Err(StoreError::NoMemory) => Err(Fault::NoMemory),
         Err(StoreError::Failed) => Err(Fault::CannotRead(path)),
     }
