@@ -6,3 +6,8 @@ pub mod MessageKinds
 pub mod EventKinds
 pub mod ReplyKinds
 pub mod LineKinds
+pub mod Steps
+pub mod Runs
+pub mod Begun
+pub mod Standing
+pub mod Stuck

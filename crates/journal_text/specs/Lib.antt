@@ -4,3 +4,6 @@ pub mod Parts
 pub mod Events
 pub mod Lines
 pub mod Journals
+pub mod Places
+pub mod Readings
+pub mod Built

@@ -1,14 +1,20 @@
 //! Journals as text.
 #![tactic(auto)]
 
+mod builder;
+pub mod error;
 pub mod events;
 pub mod head;
 pub mod journal;
 pub mod lines;
 pub mod message;
+pub mod named_entry;
 pub mod named_event;
 mod operands;
+pub mod parse;
 mod parts;
+pub mod place;
+mod reader;
 pub mod replies;
 mod spans;
 pub mod texts;

@@ -1,0 +1,226 @@
+-- What is known of a text of which some lines of a journal were read.
+use Rattle.std.proofs.Common.{◌≡◌, ℕ, ◌+◌, ◌≤◌, List, [], ◌∷◌, ◌++◌, length, map, Option, Some, None, refl, sym, ap, subst, ◌∙◌, arith, append_assoc, length-append}
+use Rattle.std.specs.List.{All, flat_map}
+use Rattle.std.proofs.lemmas.Grind.{flat_map-append}
+use Rattle.std.proofs.lemmas.List.{append-nil, map-append}
+use Rattle.std.proofs.lemmas.List.Elements.{All-append, All-cons, All-head, All-nil, All-push, All-tail}
+use Rattle.model.specs.declared.policy.Policy.TheVariants.{Wide}
+use Rattle.messages.specs.Shapes.{IsShape, ShapeFields}
+use Rattle.lockscript.specs.LineFeeds.{line_feed, line_feeds, BeginsWithLine}
+use Rattle.lockscript.specs.Reads.{Reads}
+use Rattle.lockscript.proofs.Passes.{IsSingle, ended}
+use Rattle.journal_text.specs.declared.lines.JournalLine.{JournalLine}
+use Rattle.journal_text.specs.declared.lines.JournalLine.TheVariants.{End}
+use Rattle.journal_text.specs.declared.named_entry.NamedEntry.{NamedEntry}
+use Rattle.journal_text.specs.declared.place.Phase.TheVariants.{Ended}
+use Rattle.journal_text.specs.declared.place.Place.{Place}
+use Rattle.journal_text.specs.Journals.{head_text}
+use Rattle.journal_text.specs.Lines.{IsCount, IsServedLine, line_text}
+use Rattle.journal_text.specs.Places.{IsMisplaced, IsStuck, StandsNext, next_place, place, start}
+use Rattle.journal_text.specs.Places.IsStuck.{misplaced, no_line}
+use Rattle.journal_text.specs.Readings.{BeginsJournal, HasJournal, IsBad, IsFirstBad, IsJournalText, Passes, Writes, body_lines}
+use Rattle.journal_text.specs.Readings.IsBad.{has_no_line, stands_wrong}
+use Rattle.journal_text.proofs.LineKinds.{apart-line}
+use Rattle.journal_text.proofs.Runs.{next, run, run-append, run-journal, run-none}
+use Rattle.journal_text.proofs.Steps.{Further, Reading, empty-open, entries, named, none-some, phase_of-open, place_of, read_lines, some-same}
+use Rattle.journal_text.proofs.Steps.Reading.{nothing, some, whole}
+
+-- the texts of lines, behind the first line
+abbrev pub texts_of : ShapeFields → List JournalLine → List (List ℕ)
+texts_of s js = head_text s ∷ map line_text js
+
+-- the text begins with these lines of a journal
+pub record Begun (text : List ℕ) (s : ShapeFields) (r : Reading) (rest : List ℕ) (taken : ℕ) : Type 0 where
+  pub passes : Passes text (texts_of s (read_lines r)) rest
+  pub counted : taken ≡ length (texts_of s (read_lines r))
+  pub shape_in : IsShape s
+  pub lines_in : All IsServedLine (read_lines r)
+  pub fits : IsCount (place_of r).count
+  pub ran : run (Some start) (read_lines r) ≡ Some (place_of r)
+
+-- no line, and one line more
+pub passes-none : (text : List ℕ) → Passes text [] text
+passes-none text = record { parts = refl; single = All-nil IsSingle }
+
+pub passes-line : (text : List ℕ) (lines : List (List ℕ)) (rest line after : List ℕ) → Passes text lines rest → BeginsWithLine rest line after → Passes text (lines ++ line ∷ []) after
+passes-line text lines rest line after passes begins = record {
+  parts = passes.parts ∙ ap (λ (t : List ℕ). flat_map ended lines ++ t) (begins.parts ∙ sym (append_assoc line (line_feed ∷ []) after) ∙ ap (λ (t : List ℕ). t ++ after) (sym (append-nil (ended line))))
+      ∙ sym (append_assoc (flat_map ended lines) (flat_map ended (line ∷ [])) after)
+      ∙ ap (λ (t : List ℕ). t ++ after) (sym (flat_map-append ended lines (line ∷ [])));
+  single = All-push IsSingle lines line passes.single begins.one_line;
+}
+
+pub begun-first : (text : List ℕ) (s : ShapeFields) (rest : List ℕ) → BeginsWithLine text (head_text s) rest → IsShape s → Begun text s nothing rest 1
+begun-first text s rest begins shape_in = record {
+  passes = passes-line text [] text (head_text s) rest (passes-none text) begins;
+  counted = omega arith;
+  shape_in = shape_in;
+  lines_in = All-nil IsServedLine;
+  fits = omega arith;
+  ran = refl;
+}
+
+texts-push : (s : ShapeFields) (js : List JournalLine) (j : JournalLine) → texts_of s js ++ line_text j ∷ [] ≡ texts_of s (js ++ j ∷ [])
+texts-push s js j = ap (λ (ls : List (List ℕ)). head_text s ∷ ls) (sym (map-append line_text js (j ∷ [])))
+
+pub begun-line : (text : List ℕ) (s : ShapeFields) (r : Reading) (rest : List ℕ) (taken : ℕ) (j : JournalLine) (q : Place) (after : List ℕ)
+    → Begun text s r rest taken → StandsNext (place_of r) rest j q after → (f : Further r j q) → Begun text s f.reading after (taken + 1)
+begun-line text s r rest taken j q after begun stands f =
+    let texts = texts-push s (read_lines r) j ∙ ap (texts_of s) (sym f.lines) in
+    let passes = passes-line text (texts_of s (read_lines r)) rest (line_text j) after begun.passes stands.begins in
+    record {
+      passes = subst (λ (ls : List (List ℕ)). Passes text ls after) texts passes;
+      counted = omega (arith, begun.counted, ap length texts, length-append (texts_of s (read_lines r)) (line_text j ∷ []));
+      shape_in = begun.shape_in;
+      lines_in = subst (All IsServedLine) (sym f.lines) (All-push IsServedLine (read_lines r) j begun.lines_in stands.served);
+      fits = f.fits stands.served begun.fits;
+      ran = ap (run (Some start)) f.lines ∙ run-append (Some start) (read_lines r) (j ∷ []) ∙ ap (λ (p : Option Place). run p (j ∷ [])) begun.ran ∙ stands.next ∙ ap (λ (p : Place). Some p) (sym f.stands);
+    }
+
+-- behind the last line the text is a journal
+pub journal-begun : (text : List ℕ) (s : ShapeFields) (r : Reading) (taken : ℕ) → Begun text s r [] taken → (place_of r).phase ≡ Ended → IsJournalText text s (entries r)
+journal-begun text s nothing taken begun e = absurd (empty-open e)
+journal-begun text s (some es event reply sends) taken begun e = absurd (phase_of-open reply sends e)
+journal-begun text s (whole es) taken begun e = record {
+  lines = texts_of s (body_lines es);
+  whole = begun.passes;
+  writes = record { texts = refl; shape_in = begun.shape_in; lines_in = begun.lines_in };
+}
+
+-- the last line is enough for a journal
+begins-end : (s : ShapeFields) (es : List NamedEntry) (js : List JournalLine) → body_lines es ≡ js ++ End (length es) ∷ [] → IsShape s → All IsServedLine js → IsCount (length es) → BeginsJournal (texts_of s js)
+begins-end s es js e shape_in lines_in fits = record {
+  shape = s;
+  entries = es;
+  more = line_text (End (length es)) ∷ [];
+  writes = record {
+    texts = texts-push s js (End (length es)) ∙ ap (texts_of s) (sym e);
+    shape_in = shape_in;
+    lines_in = subst (All IsServedLine) (sym e) (All-push IsServedLine js (End (length es)) lines_in fits);
+  };
+}
+
+pub good-begun : (text : List ℕ) (s : ShapeFields) (r : Reading) (rest : List ℕ) (taken : ℕ) → Begun text s r rest taken → BeginsJournal (texts_of s (read_lines r))
+good-begun text s nothing rest taken begun = begins-end s [] [] refl begun.shape_in begun.lines_in (omega arith)
+good-begun text s (some es event reply sends) rest taken begun =
+    let last = named event reply sends in
+    let counted : length (es ++ last ∷ []) ≡ length es + 1 = omega (arith, length-append es (last ∷ [])) in
+    begins-end s (es ++ last ∷ []) (read_lines (some es event reply sends)) refl begun.shape_in begun.lines_in (omega (arith, counted, begun.fits))
+good-begun text s (whole es) rest taken begun = record {
+  shape = s;
+  entries = es;
+  more = [];
+  writes = record { texts = append-nil (texts_of s (body_lines es)); shape_in = begun.shape_in; lines_in = begun.lines_in };
+}
+
+heads : (x y : List ℕ) (xs ys : List (List ℕ)) → x ∷ xs ≡ y ∷ ys → x ≡ y
+heads x y xs ys e = cc
+
+tails : (x y : List ℕ) (xs ys : List (List ℕ)) → x ∷ xs ≡ y ∷ ys → xs ≡ ys
+tails x y xs ys e = cc
+
+-- lines that are written alike
+lines-same : (js ks : List JournalLine) → All IsServedLine js → All IsServedLine ks → map line_text js ≡ map line_text ks → js ≡ ks
+lines-same [] [] js_in ks_in e = refl
+lines-same [] (k ∷ ks) js_in ks_in e = absurd (cc)
+lines-same (j ∷ js) [] js_in ks_in e = absurd (cc)
+lines-same (j ∷ js) (k ∷ ks) js_in ks_in e =
+    let one = apart-line j k (All-head IsServedLine j js js_in) (All-head IsServedLine k ks ks_in) (heads (line_text j) (line_text k) (map line_text js) (map line_text ks) e) in
+    let rest = lines-same js ks (All-tail IsServedLine j js js_in) (All-tail IsServedLine k ks ks_in) (tails (line_text j) (line_text k) (map line_text js) (map line_text ks) e) in
+    ap (λ (x : JournalLine). x ∷ js) one ∙ ap (λ (xs : List JournalLine). k ∷ xs) rest
+
+-- lines that begin as others do, with one line behind them
+record Continues (js ks : List JournalLine) (line : List ℕ) : Type 0 where
+  next_line : JournalLine
+  behind : List JournalLine
+  same : ks ≡ js ++ next_line ∷ behind
+  text : line ≡ line_text next_line
+  served : IsServedLine next_line
+
+continues : (js ks : List JournalLine) (line : List ℕ) (more : List (List ℕ)) → All IsServedLine js → All IsServedLine ks → map line_text js ++ line ∷ more ≡ map line_text ks → Continues js ks line
+continues [] [] line more js_in ks_in e = absurd (cc)
+continues [] (k ∷ ks) line more js_in ks_in e = record {
+  next_line = k;
+  behind = ks;
+  same = refl;
+  text = heads line (line_text k) more (map line_text ks) e;
+  served = All-head IsServedLine k ks ks_in;
+}
+continues (j ∷ js) [] line more js_in ks_in e = absurd (cc)
+continues (j ∷ js) (k ∷ ks) line more js_in ks_in e =
+    let one = apart-line j k (All-head IsServedLine j js js_in) (All-head IsServedLine k ks ks_in) (heads (line_text j) (line_text k) (map line_text js ++ line ∷ more) (map line_text ks) e) in
+    let rest = continues js ks line more (All-tail IsServedLine j js js_in) (All-tail IsServedLine k ks ks_in) (tails (line_text j) (line_text k) (map line_text js ++ line ∷ more) (map line_text ks) e) in
+    record {
+      next_line = rest.next_line;
+      behind = rest.behind;
+      same = ap (λ (xs : List JournalLine). k ∷ xs) rest.same ∙ ap (λ (x : JournalLine). x ∷ (js ++ rest.next_line ∷ rest.behind)) (sym one);
+      text = rest.text;
+      served = rest.served;
+    }
+
+-- no journal goes on with a line that may not stand there
+not-next : (js : List JournalLine) (p : Place) (es : List NamedEntry) (line : List ℕ) → run (Some start) js ≡ Some p → IsMisplaced p line → Continues js (body_lines es) line → ⊥
+not-next js p es line ran wrong c =
+    let stopped = run-append (Some start) js (c.next_line ∷ c.behind) ∙ ap (λ (q : Option Place). run q (c.next_line ∷ c.behind)) ran
+    ∙ ap (λ (q : Option Place). run q c.behind) (wrong c.next_line c.served c.text) ∙ run-none c.behind in
+    let ends = sym (run-journal es) ∙ ap (run (Some start)) c.same ∙ stopped in
+    none-some (place (length es) Ended) (sym ends)
+
+not-begun : (s : ShapeFields) (js : List JournalLine) (p : Place) (line : List ℕ) → All IsServedLine js → run (Some start) js ≡ Some p → IsMisplaced p line → BeginsJournal (texts_of s js ++ line ∷ []) → ⊥
+not-begun s js p line js_in ran wrong b =
+    let e = sym (append_assoc (texts_of s js) (line ∷ []) b.more) ∙ b.writes.texts in
+    let rest = tails (head_text s) (head_text b.shape) (map line_text js ++ line ∷ b.more) (map line_text (body_lines b.entries)) e in
+    not-next js p b.entries line ran wrong (continues js (body_lines b.entries) line b.more js_in b.writes.lines_in rest)
+
+-- lines behind which the last one may stand are no journal
+not-whole : (s t : ShapeFields) (js : List JournalLine) (p : Place) (es : List NamedEntry) → All IsServedLine js → run (Some start) js ≡ Some p → (p.phase ≡ Ended → ⊥) → Writes (texts_of s js) t es → ⊥
+not-whole s t js p es js_in ran unended w =
+    let same = lines-same js (body_lines es) js_in w.lines_in (tails (head_text s) (head_text t) (map line_text js) (map line_text (body_lines es)) w.texts) in
+    let ends = sym ran ∙ ap (run (Some start)) same ∙ run-journal es in
+    let here = some-same p (place (length es) Ended) ends in
+    unended (ap (λ (q : Place). q.phase) here)
+
+bad-begun : (s : ShapeFields) (js : List JournalLine) (p : Place) (rest : List ℕ) → All IsServedLine js → run (Some start) js ≡ Some p → IsStuck p rest → IsBad (texts_of s js) rest
+bad-begun s js p rest js_in ran (no_line none unended) = has_no_line none (λ gone t es w. not-whole s t js p es js_in ran (unended gone) w)
+bad-begun s js p rest js_in ran (misplaced line after begins wrong) = stands_wrong line after begins (not-begun s js p line js_in ran wrong)
+
+pub stuck-begun : (text : List ℕ) (s : ShapeFields) (r : Reading) (rest : List ℕ) (taken : ℕ) → Begun text s r rest taken → IsStuck (place_of r) rest → IsFirstBad text (taken + 1)
+stuck-begun text s r rest taken begun stuck = record {
+  lines = texts_of s (read_lines r);
+  rest = rest;
+  before = begun.passes;
+  counted = ap (λ (k : ℕ). k + 1) begun.counted;
+  good = good-begun text s r rest taken begun;
+  bad = bad-begun s (read_lines r) (place_of r) rest begun.lines_in begun.ran stuck;
+}
+
+-- some journal begins with no line
+abbrev smallest : ShapeFields
+smallest = record { nodes = 1; files = 1; policy = Wide }
+
+some-journal : BeginsJournal []
+some-journal = record {
+  shape = smallest;
+  entries = [];
+  more = texts_of smallest (body_lines []);
+  writes = record {
+    texts = refl;
+    shape_in = record { nodes_in = (omega arith, omega arith); files_in = (omega arith, omega arith) };
+    lines_in = All-cons IsServedLine (End 0) [] (omega arith) (All-nil IsServedLine);
+  };
+}
+
+bad-at-first : (text : List ℕ) → IsBad [] text → IsFirstBad text 1
+bad-at-first text bad = record { lines = []; rest = text; before = passes-none text; counted = omega arith; good = some-journal; bad = bad }
+
+no-lines : (s : ShapeFields) (js : List JournalLine) → [] ≡ texts_of s js → ⊥
+no-lines s js e = absurd (cc)
+
+-- there is no first line
+pub bad-no_line : (text : List ℕ) → line_feeds text ≡ 0 → IsFirstBad text 1
+bad-no_line text none = bad-at-first text (has_no_line none (λ gone s es w. no-lines s (body_lines es) w.texts))
+
+-- the first line names no shape
+pub bad-first : (text line after : List ℕ) → BeginsWithLine text line after → Reads head_text IsShape line None → IsFirstBad text 1
+bad-first text line after begins none =
+    bad-at-first text (stands_wrong line after begins (λ b. none b.shape b.writes.shape_in (heads line (head_text b.shape) b.more (map line_text (body_lines b.entries)) b.writes.texts)))

@@ -1,0 +1,75 @@
+-- Where the reader of a journal stands, and what it has built.
+use Rattle.std.proofs.Common.{◌≡◌, ℕ, ◌+◌, List, [], Option, Some, None, map, refl, sym, ap, subst, ◌∙◌}
+use Rattle.messages.specs.Shapes.{IsShape, ShapeFields}
+use Rattle.lockscript.specs.LineFeeds.{BeginsWithLine}
+use Rattle.journal_text.specs.declared.error.JournalError.{JournalError}
+use Rattle.journal_text.specs.declared.error.JournalError.TheVariants.{NoMemory, BadLine}
+use Rattle.journal_text.specs.declared.lines.JournalLine.{JournalLine}
+use Rattle.journal_text.specs.declared.place.Phase.TheVariants.{Ended}
+use Rattle.journal_text.specs.declared.place.Place.{Place}
+use Rattle.journal_text.specs.Built.{BuilderFields, built}
+use Rattle.journal_text.specs.Journals.{head_text}
+use Rattle.journal_text.specs.Places.{IsStuck, StandsNext, start}
+use Rattle.journal_text.specs.Readings.{HasJournal, IsBadLine, IsFirstBad, IsRefused, WritesJournal, entry_in}
+use Rattle.journal_text.proofs.Begun.{Begun, begun-first, begun-line, journal-begun, stuck-begun}
+use Rattle.journal_text.proofs.Steps.{Reading, built_of, entries, further, phase_of-open, place_of}
+use Rattle.journal_text.proofs.Steps.Reading.{nothing, some, whole}
+
+-- the text begins with so many lines of a journal, which lead to this place and build this
+pub record Standing (text : List ℕ) (s : ShapeFields) (rest : List ℕ) (taken : ℕ) (p : Place) (b : BuilderFields) : Type 0 where
+  pub reading : Reading
+  pub begun : Begun text s reading rest taken
+  pub here : place_of reading ≡ p
+  pub made : built_of reading ≡ b
+
+-- behind the first line
+pub standing-first : (text from : List ℕ) (s : ShapeFields) (rest : List ℕ) (taken : ℕ) (p : Place) (b : BuilderFields) → from ≡ text → BeginsWithLine from (head_text s) rest → IsShape s → taken ≡ 1 → p ≡ start → b ≡ built_of nothing
+    → Standing text s rest taken p b
+standing-first text from s rest taken p b same begins shape_in one first empty =
+    let begun = begun-first text s rest (subst (λ (t : List ℕ). BeginsWithLine t (head_text s) rest) same begins) shape_in in
+    record { reading = nothing; begun = subst (λ (n : ℕ). Begun text s nothing rest n) (sym one) begun; here = sym first; made = sym empty }
+
+-- behind one line more
+pub standing-line : (text : List ℕ) (s : ShapeFields) (rest : List ℕ) (taken : ℕ) (p : Place) (b : BuilderFields) (j : JournalLine) (q : Place) (after : List ℕ) (passed : ℕ) (c : BuilderFields)
+    → Standing text s rest taken p b → StandsNext p rest j q after → passed ≡ taken + 1 → c ≡ built b j → Standing text s after passed q c
+standing-line text s rest taken p b j q after passed c a stands counted same =
+    let here = subst (λ (x : Place). StandsNext x rest j q after) (sym a.here) stands in
+    let f = further a.reading j q here.next in
+    record {
+      reading = f.reading;
+      begun = subst (λ (n : ℕ). Begun text s f.reading after n) (sym counted) (begun-line text s a.reading rest taken j q after a.begun here f);
+      here = f.stands;
+      made = f.made ∙ ap (λ (x : BuilderFields). built x j) a.made ∙ sym same;
+    }
+
+pub standing-passed : (text : List ℕ) (s : ShapeFields) (rest : List ℕ) (taken : ℕ) (p : Place) (b : BuilderFields) (j : JournalLine) (q : Place) (after : List ℕ) (passed : ℕ)
+    → Standing text s rest taken p b → StandsNext p rest j q after → passed ≡ taken + 1 → (c : BuilderFields) × Standing text s after passed q c
+standing-passed text s rest taken p b j q after passed a stands counted = (built b j, standing-line text s rest taken p b j q after passed (built b j) a stands counted refl)
+
+pub standing-stuck : (text : List ℕ) (s : ShapeFields) (rest : List ℕ) (taken : ℕ) (p : Place) (b : BuilderFields) → Standing text s rest taken p b → IsStuck p rest → IsFirstBad text (taken + 1)
+standing-stuck text s rest taken p b a stuck = stuck-begun text s a.reading rest taken a.begun (subst (λ (x : Place). IsStuck x rest) (sym a.here) stuck)
+
+built-whole : (r : Reading) → (place_of r).phase ≡ Ended → (built_of r).entries ≡ map entry_in (entries r)
+built-whole nothing e = refl
+built-whole (some es event reply sends) e = absurd (phase_of-open reply sends e)
+built-whole (whole es) e = refl
+
+-- behind the last line nothing is left
+pub standing-whole : (text : List ℕ) (s : ShapeFields) (rest : List ℕ) (taken : ℕ) (p : Place) (b : BuilderFields) → Standing text s rest taken p b → rest ≡ [] → p.phase ≡ Ended → WritesJournal text s b.entries
+standing-whole text s rest taken p b a gone ends =
+    let phase = ap (λ (x : Place). x.phase) a.here ∙ ends in
+    record {
+      named = entries a.reading;
+      same = ap (λ (x : BuilderFields). x.entries) (sym a.made) ∙ built-whole a.reading phase;
+      written = journal-begun text s a.reading taken (subst (λ (x : List ℕ). Begun text s a.reading x taken) gone a.begun) phase;
+    }
+
+pub standing-has : (text : List ℕ) (s : ShapeFields) (rest : List ℕ) (taken : ℕ) (p : Place) (b : BuilderFields) → Standing text s rest taken p b → rest ≡ [] → p.phase ≡ Ended → HasJournal text
+standing-has text s rest taken p b a gone ends =
+    let journal = standing-whole text s rest taken p b a gone ends in
+    (s, (journal.named, journal.written))
+
+-- a bad line refuses the text
+pub bad-refused : (text : List ℕ) (error : JournalError) → IsBadLine text error → IsRefused text error
+bad-refused text NoMemory bad = absurd bad
+bad-refused text (BadLine number) bad = bad

@@ -1,0 +1,32 @@
+-- What the next line of a journal is, or why it may not stand there.
+use Rattle.std.proofs.Common.{◌≡◌, List, ℕ, Option, Some, None, Result, Err, ok_or, sym, subst, ◌∙◌}
+use Rattle.lockscript.specs.LineFeeds.{BeginsWithLine}
+use Rattle.lockscript.specs.Reads.{Reads}
+use Rattle.journal_text.specs.declared.error.JournalError.{JournalError}
+use Rattle.journal_text.specs.declared.lines.JournalLine.{JournalLine}
+use Rattle.journal_text.specs.declared.place.Place.{Place}
+use Rattle.journal_text.specs.Lines.{IsServedLine, line_text}
+use Rattle.journal_text.specs.Places.{IsMisplaced, StandsNext, next_place}
+use Rattle.journal_text.proofs.LineKinds.{apart-line}
+
+-- no line
+pub misplaced-none : (p : Place) (bytes : List ℕ) → Reads line_text IsServedLine bytes None → IsMisplaced p bytes
+misplaced-none p bytes none j served e = absurd (none j served e)
+
+-- a line that may not stand here
+pub misplaced-line : (p : Place) (bytes : List ℕ) (j : JournalLine) → IsServedLine j → bytes ≡ line_text j → next_place p.count p.phase j ≡ None → IsMisplaced p bytes
+misplaced-line p bytes j j_in text none k k_in e =
+    subst (λ (x : JournalLine). next_place p.count p.phase x ≡ None) (apart-line j k j_in k_in (sym text ∙ e)) none
+
+-- a line that may
+pub stands-next : (p : Place) (rest bytes after : List ℕ) (j : JournalLine) (q : Place) → BeginsWithLine rest bytes after → IsServedLine j → bytes ≡ line_text j → next_place p.count p.phase j ≡ Some q → StandsNext p rest j q after
+stands-next p rest bytes after j q begins j_in text next = record {
+  begins = subst (λ (x : List ℕ). BeginsWithLine rest x after) text begins;
+  served = j_in;
+  next = next;
+}
+
+-- the error that stands for what is not there
+pub refusal-is : {A : Type 0} (found : Option A) (bad error : JournalError) → ◌≡◌ {A = Result A JournalError} (Err error) (ok_or found bad) → found ≡ None → error ≡ bad
+refusal-is None bad error e none = cc
+refusal-is (Some x) bad error e none = absurd (cc)

@@ -1,0 +1,94 @@
+-- What a text says of a journal: that it is one, or which line is the first bad one.
+use Rattle.std.specs.Prelude.{◌≡◌, ℕ, ◌+◌, List, [], ◌∷◌, ◌++◌, All, flat_map, length, map, Option, Some, None}
+use Rattle.model.specs.declared.call.CallId.{CallId}
+use Rattle.model.specs.declared.reply.Reply.{Reply}
+use Rattle.messages.specs.Entries.{EntryFields}
+use Rattle.messages.specs.Shapes.{IsShape, ShapeFields}
+use Rattle.lockscript.specs.LineFeeds.{line_feed, line_feeds, BeginsWithLine}
+use Rattle.journal_text.specs.declared.error.JournalError.{JournalError}
+use Rattle.journal_text.specs.declared.error.JournalError.TheVariants.{NoMemory, BadLine}
+use Rattle.journal_text.specs.declared.named_entry.NamedEntry.{NamedEntry}
+use Rattle.journal_text.specs.declared.lines.JournalLine.{JournalLine}
+use Rattle.journal_text.specs.declared.lines.JournalLine.TheVariants.{Entry, Answer, Send, End}
+use Rattle.journal_text.specs.Events.{call_of, event_of, incarnation_of}
+use Rattle.journal_text.specs.Journals.{head_text}
+use Rattle.journal_text.specs.Lines.{IsServedLine, line_text}
+
+-- as an entry of a journal
+abbrev pub entry_in : NamedEntry → EntryFields
+entry_in e = record { event = event_of e.event; incarnation = incarnation_of e.event; call = call_of e.event; reply = e.reply; sends = e.sends }
+
+abbrev pub answer_lines : Option (CallId × Reply) → List JournalLine
+answer_lines None = []
+answer_lines (Some answer) = Answer answer.0 answer.1 ∷ []
+
+-- the lines of an entry at this position
+abbrev pub entry_lines : ℕ → NamedEntry → List JournalLine
+entry_lines position e = Entry position e.event ∷ (answer_lines e.reply ++ map Send e.sends)
+
+-- the lines of entries, the first at this position
+abbrev pub lines_of : ℕ → List NamedEntry → List JournalLine
+lines_of position [] = []
+lines_of position (e ∷ es) = entry_lines position e ++ lines_of (position + 1) es
+
+-- the lines behind the first
+abbrev pub body_lines : List NamedEntry → List JournalLine
+body_lines es = lines_of 1 es ++ End (length es) ∷ []
+
+-- the lines, without their line feeds, are a journal of these entries
+pub record Writes (lines : List (List ℕ)) (s : ShapeFields) (es : List NamedEntry) : Type 0 where
+  pub texts : lines ≡ head_text s ∷ map line_text (body_lines es)
+  pub shape_in : IsShape s
+  pub lines_in : All IsServedLine (body_lines es)
+
+-- the text is whole lines, and then the rest
+pub record Passes (text : List ℕ) (lines : List (List ℕ)) (rest : List ℕ) : Type 0 where
+  pub parts : text ≡ flat_map (λ line. line ++ line_feed ∷ []) lines ++ rest
+  pub single : All (λ line. line_feeds line ≡ 0) lines
+
+-- the text writes a journal of these entries
+pub record IsJournalText (text : List ℕ) (s : ShapeFields) (es : List NamedEntry) : Type 0 where
+  pub lines : List (List ℕ)
+  pub whole : Passes text lines []
+  pub writes : Writes lines s es
+
+-- the same of the entries without the names in their events
+pub record WritesJournal (text : List ℕ) (s : ShapeFields) (entries : List EntryFields) : Type 0 where
+  pub named : List NamedEntry
+  pub same : entries ≡ map entry_in named
+  pub written : IsJournalText text s named
+
+-- the text writes some journal
+abbrev pub HasJournal : List ℕ → Type 0
+HasJournal text = (s : ShapeFields) × ((es : List NamedEntry) × IsJournalText text s es)
+
+-- some journal begins with these lines
+pub record BeginsJournal (lines : List (List ℕ)) : Type 0 where
+  pub shape : ShapeFields
+  pub entries : List NamedEntry
+  pub more : List (List ℕ)
+  pub writes : Writes (lines ++ more) shape entries
+
+-- why the next line is bad: there is none, and no journal ends here, or no journal goes on with it
+pub data IsBad (lines : List (List ℕ)) (rest : List ℕ) : Type 0 where
+  has_no_line : line_feeds rest ≡ 0 → (rest ≡ [] → (s : ShapeFields) (es : List NamedEntry) → Writes lines s es → ⊥) → IsBad lines rest
+  stands_wrong : (line after : List ℕ) → BeginsWithLine rest line after → (BeginsJournal (lines ++ line ∷ []) → ⊥) → IsBad lines rest
+
+-- some journal begins with the lines before this one, and it is bad behind them
+pub record IsFirstBad (text : List ℕ) (number : ℕ) : Type 0 where
+  pub lines : List (List ℕ)
+  pub rest : List ℕ
+  pub before : Passes text lines rest
+  pub counted : number ≡ length lines + 1
+  pub good : BeginsJournal lines
+  pub bad : IsBad lines rest
+
+-- the first bad line is told
+abbrev pub IsBadLine : List ℕ → JournalError → Type 0
+IsBadLine text NoMemory = ⊥
+IsBadLine text (BadLine number) = IsFirstBad text number
+
+-- why the text is no journal, or for what journal there was no memory
+abbrev pub IsRefused : List ℕ → JournalError → Type 0
+IsRefused text NoMemory = HasJournal text
+IsRefused text (BadLine number) = IsFirstBad text number

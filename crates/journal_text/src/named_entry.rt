@@ -1,0 +1,14 @@
+//! Entries with the names that their lines give them.
+use crate::named_event::NamedEvent;
+use messages::items::Items;
+use messages::message::Message;
+use model::call::CallId;
+use model::reply::Reply;
+
+/// An entry of a journal, whose event has its names in it.
+#[derive(Drop)]
+pub struct NamedEntry {
+    pub event: NamedEvent,
+    pub reply: Option<(CallId, Reply)>,
+    pub sends: Items<Message>,
+}

@@ -1,0 +1,113 @@
+//! Places in journals, between two lines behind the first.
+ghost use Rattle.std.specs.Prelude.{◌≡◌, ◌↔◌, IsTrue};
+ghost use Rattle.journal_text.specs.declared.place.Phase.TheVariants as phase;
+ghost use Rattle.journal_text.specs.Places.{after_answer, after_end, after_entry, after_send, next_place, place, start};
+
+use crate::lines::JournalLine;
+
+/// What stands before a place.
+#[derive(Clone, Copy)]
+pub enum Phase {
+    /// No entry.
+    Empty,
+    /// The line of an event.
+    Begun,
+    /// A reply or a message.
+    Sending,
+    /// The last line.
+    Ended,
+}
+
+/// How many entries began before a place, and what stands before it.
+#[derive(Clone, Copy)]
+pub struct Place {
+    pub count: u32,
+    pub phase: Phase,
+}
+
+impl Place {
+    /// Behind the first line.
+    pub(crate) fn start() -> Place
+        ensures { result ≡ start }
+    {
+        Place {
+            count: 0,
+            phase: Phase::Empty,
+        }
+    }
+
+    /// Whether the last line stands before it.
+    pub(crate) fn is_end(self) -> bool
+        ensures { IsTrue result ↔ (self.phase ≡ phase.Ended) }
+    {
+        matches!(self.phase, Phase::Ended)
+    }
+
+    /// The place behind a line, if the line may stand here.
+    pub(crate) fn behind(self, line: &JournalLine) -> Option<Place>
+        ensures { result ≡ next_place self.count self.phase line.now }
+    {
+        match line {
+            JournalLine::Entry { position, .. } => self.behind_entry(*position),
+            JournalLine::Answer { .. } => self.behind_answer(),
+            JournalLine::Send(_) => self.behind_send(),
+            JournalLine::End { count } => self.behind_end(*count),
+        }
+    }
+
+    // The place behind the first line of an entry.
+    fn behind_entry(self, position: u32) -> Option<Place>
+        ensures { result ≡ after_entry self.count self.phase position }
+    {
+        if self.is_end() || position as u64 != self.count as u64 + 1 {
+            return None;
+        }
+        Some(Place {
+            count: position,
+            phase: Phase::Begun,
+        })
+    }
+
+    // The place behind a reply.
+    fn behind_answer(self) -> Option<Place>
+        ensures { result ≡ after_answer self.count self.phase }
+    {
+        match self.phase {
+            Phase::Begun => Some(self.sending()),
+            Phase::Empty | Phase::Sending | Phase::Ended => None,
+        }
+    }
+
+    // The place behind a message.
+    fn behind_send(self) -> Option<Place>
+        ensures { result ≡ after_send self.count self.phase }
+    {
+        match self.phase {
+            Phase::Begun | Phase::Sending => Some(self.sending()),
+            Phase::Empty | Phase::Ended => None,
+        }
+    }
+
+    // The place behind a reply or a message of the entry.
+    fn sending(self) -> Place
+        ensures { result ≡ place self.count phase.Sending }
+    {
+        Place {
+            count: self.count,
+            phase: Phase::Sending,
+        }
+    }
+
+    // The place behind the last line.
+    fn behind_end(self, told: u32) -> Option<Place>
+        ensures { result ≡ after_end self.count self.phase told }
+    {
+        if self.is_end() || told != self.count {
+            return None;
+        }
+        Some(Place {
+            count: told,
+            phase: Phase::Ended,
+        })
+    }
+}

@@ -1,0 +1,111 @@
+//! Reading a journal line by line.
+ghost use Rattle.std.specs.Prelude.{◌≡◌, ◌+◌, ◌<◌, ◌^◌, [], Some, length, IfErr, IfOk, MatchOption};
+ghost use Rattle.messages.specs.Shapes.{IsShape};
+ghost use Rattle.lockscript.specs.LineFeeds.{line_feeds, BeginsWithLine};
+ghost use Rattle.journal_text.specs.declared.error.JournalError.TheVariants.{BadLine};
+ghost use Rattle.journal_text.specs.declared.place.Phase.TheVariants as phase;
+ghost use Rattle.journal_text.specs.Journals.{head_text};
+ghost use Rattle.journal_text.specs.Lines.{IsServedLine, line_text};
+ghost use Rattle.journal_text.specs.Places.{IsMisplaced, IsStuck, StandsNext, next_place, start};
+ghost use Rattle.journal_text.specs.Readings.{IsBadLine};
+
+use crate::error::JournalError;
+use crate::head::head_of;
+use crate::lines::{JournalLine, line_of};
+use crate::place::Place;
+use messages::shape::Shape;
+
+/// What is left of a journal, how many of its lines were read, and the place behind them.
+#[derive(Drop)]
+pub(crate) struct Reader<'a> {
+    rest: &'a str,
+    taken: u64,
+    place: Place,
+    ghost countable: { taken + length rest.now < 2 ^ 63 },
+}
+
+impl<'a> Reader<'a> {
+    /// Before the first line.
+    pub(crate) fn new(text: &'a str) -> Reader<'a>
+        ensures rest { result.rest.now ≡ text.entry.now }
+        ensures place { result.place ≡ start }
+    {
+        Reader {
+            rest: text,
+            taken: 0,
+            place: Place::start(),
+        }
+    }
+
+    /// The shape that the first line names.
+    ///
+    /// # Errors
+    /// `BadLine` with 1 where it names none.
+    pub(crate) fn first_line(&mut self) -> Result<Shape, JournalError>
+        ensures begins { IfOk result (λ shape. BeginsWithLine self.old.rest.now (head_text shape) self.new.rest.now × (self.new.taken ≡ 1) × IsShape shape) }
+        ensures place { self.new.place ≡ self.old.place }
+        ensures bad { IfErr result (IsBadLine self.old.rest.now) }
+    {
+        let Some((line, rest)) = split_line(self.rest) else {
+            return Err(JournalError::BadLine(1));
+        };
+        let Some(shape) = head_of(line) else {
+            return Err(JournalError::BadLine(1));
+        };
+        self.rest = rest;
+        self.taken = 1;
+        Ok(shape)
+    }
+
+    /// How many entries were read.
+    pub(crate) fn count(&self) -> u32
+        ensures { result ≡ self.now.place.count }
+    {
+        self.place.count
+    }
+
+    /// The next line, or `None` behind the last one.
+    ///
+    /// # Errors
+    /// `BadLine` with its number where it is missing, has no line feed or may not stand there.
+    pub(crate) fn next_line(&mut self) -> Result<Option<JournalLine>, JournalError>
+        ensures line { IfOk result (λ found. MatchOption found
+            ((self.new.rest.now ≡ []) × (self.new.place.phase ≡ phase.Ended) × (self.new.rest.now ≡ self.old.rest.now) × (self.new.place ≡ self.old.place))
+            (λ line. StandsNext self.old.place self.old.rest.now line self.new.place self.new.rest.now × (self.new.taken ≡ self.old.taken + 1))) }
+        ensures stuck { IfErr result (λ error. (error ≡ BadLine (self.old.taken + 1)) × IsStuck self.old.place self.old.rest.now) }
+    {
+        let bad = JournalError::BadLine(self.taken + 1);
+        match split_line(self.rest) {
+            Some((text, rest)) => {
+                let (line, place) = line_at(self.place, text).ok_or(bad)?;
+                self.rest = rest;
+                self.taken += 1;
+                self.place = place;
+                Ok(Some(line))
+            }
+            None => {
+                if self.rest.is_empty() && self.place.is_end() {
+                    return Ok(None);
+                }
+                Err(bad)
+            }
+        }
+    }
+}
+
+// The line that the text writes, and the place behind it, if it may stand at this place.
+fn line_at(place: Place, text: &str) -> Option<(JournalLine, Place)>
+    ensures { MatchOption result (IsMisplaced place text.now)
+        (λ found. IsServedLine found.0 × (text.now ≡ line_text found.0) × (next_place place.count place.phase found.0 ≡ Some found.1)) }
+{
+    let line = line_of(text)?;
+    let behind = place.behind(&line)?;
+    Some((line, behind))
+}
+
+// The first line of a text, and what stands after its line feed.
+fn split_line(text: &str) -> Option<(&str, &str)>
+    ensures { MatchOption result (line_feeds text.now ≡ 0) (λ parts. BeginsWithLine text.now parts.0.now parts.1.now) }
+{
+    text.split_once('\n')
+}
