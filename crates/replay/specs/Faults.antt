@@ -1,5 +1,5 @@
 -- What a fault of a part is to the command, what it says of a file, and the line that tells of it.
-use Rattle.std.specs.Prelude.{◌≡◌, ℕ, ◌<◌, ◌⊎◌, List, ◌++◌, codes, decimal, length, Option}
+use Rattle.std.specs.Prelude.{◌≡◌, ℕ, ◌<◌, ◌⊎◌, List, ◌++◌, codes, decimal, length, Option, None}
 use Rattle.cluster_core.specs.Journals.{JournalFields}
 use Rattle.cluster_core.specs.World.{journal_limit}
 use Rattle.journal_text.specs.declared.error.JournalError.{JournalError}
@@ -29,9 +29,9 @@ abbrev pub fault_of_journal : JournalError → Fault
 fault_of_journal journal.NoMemory = NoMemory
 fault_of_journal (journal.BadLine line) = BadLine line
 
--- why the text of the file of this path is not there: it can't be read, or not as text, or memory is short
+-- why the bytes of the file of this path are not there: it can't be read, or memory is short
 abbrev pub IsUnread : (Option (List ℕ) → Type 0) → Type 0 → List ℕ → Fault → Type 0
-IsUnread Holds RanShort path (CannotRead named) = (named.now ≡ path) × HasNoText Holds
+IsUnread Holds RanShort path (CannotRead named) = (named.now ≡ path) × Holds None
 IsUnread Holds RanShort path NoMemory = RanShort
 IsUnread Holds RanShort path fault = ⊥
 

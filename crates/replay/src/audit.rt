@@ -9,7 +9,7 @@ ghost use Rattle.replay.specs.Faults.{IsJournalFault};
 ghost use Rattle.replay.specs.Stores.{SameFiles};
 
 use crate::fault::Fault;
-use crate::input::text_of;
+use crate::input::bytes_of;
 use crate::shown::Shown;
 use crate::store::Store;
 use cluster_core::check_error::CheckError;
@@ -95,8 +95,11 @@ fn entries_of<'a, S: Store>(
     ensures fault { IfErr result (IsJournalFault (S.holds store.old path.now) (S.ran_short store.new) path.now) }
     ensures files { SameFiles (S.holds store.old) (S.holds store.new) }
 {
-    let text = text_of(alloc, store, path)?;
-    Ok(parse(alloc, text.as_str())?)
+    let bytes = bytes_of(alloc, store, path)?;
+    match str::from_utf8(bytes.as_slice()) {
+        Ok(text) => Ok(parse(alloc, text)?),
+        Err(_) => Err(Fault::CannotRead(path)),
+    }
 }
 
 // The history of a run as text.

@@ -14,7 +14,7 @@ ghost use Rattle.replay.specs.Scripts.{HasRun, HasScript, IsListing, Lists};
 ghost use Rattle.replay.specs.Stores.{SameFiles};
 
 use crate::fault::Fault;
-use crate::input::text_of;
+use crate::input::bytes_of;
 use crate::play::play;
 use crate::played::Played;
 use crate::store::Store;
@@ -76,8 +76,11 @@ fn script_of<'a, S: Store>(alloc: Global, store: &mut S, path: &'a str) -> Resul
     ensures fault { IfErr result (IsScriptFault (S.holds store.old path.now) (S.ran_short store.new) path.now) }
     ensures files { SameFiles (S.holds store.old) (S.holds store.new) }
 {
-    let text = text_of(alloc, store, path)?;
-    Ok(Script::parse(alloc, text.as_str())?)
+    let bytes = bytes_of(alloc, store, path)?;
+    match str::from_utf8(bytes.as_slice()) {
+        Ok(text) => Ok(Script::parse(alloc, text)?),
+        Err(_) => Err(Fault::CannotRead(path)),
+    }
 }
 
 // The listing of a run. What is no longer needed goes as soon as it can: the journal before the
