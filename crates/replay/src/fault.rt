@@ -36,7 +36,10 @@ impl Fault<'_> {
         ensures { result ≡ status_of self.now }
     {
         match self {
-            Fault::BadLine(_) | Fault::CannotRead(_) | Fault::CannotWrite(_) | Fault::CannotWriteOutput => 3,
+            Fault::BadLine(_)
+            | Fault::CannotRead(_)
+            | Fault::CannotWrite(_)
+            | Fault::CannotWriteOutput => 3,
             Fault::NoMemory | Fault::JournalFull => 4,
         }
     }

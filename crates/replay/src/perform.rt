@@ -80,11 +80,7 @@ fn done<'a, S: Store, O: Output>(
 }
 
 // What is shown of the line, once all else that it asks for is done.
-fn shown_of<'a, S: Store>(
-    alloc: Global,
-    line: &Line<'a>,
-    store: &mut S,
-) -> Result<Shown, Fault<'a>>
+fn shown_of<'a, S: Store>(alloc: Global, line: &Line<'a>, store: &mut S) -> Result<Shown, Fault<'a>>
     ensures done { IfOk result (Does (S.holds store.old) (task_of line.now) (S.holds store.new)) }
     ensures fault { IfErr result (λ fault. (fault ≢ CannotWriteOutput)
         × IsFault (S.holds store.old) (S.ran_short store.new) (S.refuses store.new) (task_of line.now) (S.holds store.new) fault) }

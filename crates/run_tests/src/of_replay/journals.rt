@@ -66,7 +66,10 @@ fn writes_the_journal_before_the_listing(rt: HostRuntime) {
     };
     let status = respond(alloc, &RUN_WITH_JOURNAL, &mut desk, &mut Full, &mut err);
     assert_eq!(rt; desk.written.as_slice(), JOURNAL);
-    assert_eq!(rt; err.as_slice(), b"cannot write standard output\n".as_slice());
+    assert_eq!(rt;
+        err.as_slice(),
+        b"cannot write standard output\n".as_slice()
+    );
     assert_eq!(rt; status, 3);
 }
 
@@ -127,7 +130,10 @@ fn shows_what_a_command_comes_to(rt: HostRuntime) -> Result<(), Fail> {
     let mut out = Vec::new(alloc);
     Shown::Yes.show(&mut out)?;
     Shown::No(4294967295).show(&mut out)?;
-    assert_eq!(rt; out.as_slice(), b"audit yes\naudit no 4294967295\n".as_slice());
+    assert_eq!(rt;
+        out.as_slice(),
+        b"audit yes\naudit no 4294967295\n".as_slice()
+    );
     assert_eq!(rt; Shown::Yes.status(), 0);
     assert_eq!(rt; Shown::No(1).status(), 1);
     Ok(())

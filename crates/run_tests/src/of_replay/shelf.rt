@@ -46,6 +46,8 @@ impl Store for Desk<'_> {
             return Err(StoreError::Failed);
         }
         self.written.clear();
-        self.written.extend_from_slice(bytes).map_err(|_| StoreError::NoMemory)
+        self.written
+            .extend_from_slice(bytes)
+            .map_err(|_| StoreError::NoMemory)
     }
 }
