@@ -1,0 +1,3 @@
+pub mod PlainWords
+pub mod CommandLine
+pub mod Tables

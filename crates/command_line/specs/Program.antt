@@ -28,12 +28,12 @@ bare_app = on_top (λ s. record s { has_version = true; subcommand_required = tr
 abbrev pub program_app : App
 program_app = with_subcommand (with_subcommand (with_subcommand bare_app run_app.top) audit_app.top) history_app.top
 
--- the command that is met has this name, and its arguments have these values
-abbrev pub HasValues : Option (Text × List Row) → Text → List (Text × Option Text) → Type 0
-HasValues met name values = option_map (λ p. (p.0, map (λ v. (v.0, first_of v.0 p.1)) values)) met ≡ Some (name, values)
+-- the command that is met, with the values of the arguments of these names
+abbrev pub values_in : List Text → Option (Text × List Row) → Option (Text × List (Option Text))
+values_in ids = option_map (λ p. (p.0, map (λ id. first_of id p.1) ids))
 
 -- it is the command of the task, with its paths
 abbrev pub IsMet : Option (Text × List Row) → Task → Type 0
-IsMet met (run script journal) = HasValues met (codes "run") ((codes "SCRIPT", Some script) ∷ (codes "FILE", journal) ∷ [])
-IsMet met (audit journal) = HasValues met (codes "audit") ((codes "JOURNAL", Some journal) ∷ [])
-IsMet met (history journal) = HasValues met (codes "history") ((codes "JOURNAL", Some journal) ∷ [])
+IsMet met (run script journal) = values_in (codes "SCRIPT" ∷ codes "FILE" ∷ []) met ≡ Some (codes "run", Some script ∷ journal ∷ [])
+IsMet met (audit journal) = values_in (codes "JOURNAL" ∷ []) met ≡ Some (codes "audit", Some journal ∷ [])
+IsMet met (history journal) = values_in (codes "JOURNAL" ∷ []) met ≡ Some (codes "history", Some journal ∷ [])

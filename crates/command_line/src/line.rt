@@ -1,9 +1,9 @@
 //! The lines that words may ask for.
-ghost use Rattle.std.specs.Prelude.{◌≡◌, codes, List, map, IfErr, IfOk, MatchOption};
-ghost use Rattle.clap.specs.Words.{app_of, kind_of, subcommand_rows_of};
-ghost use Rattle.command_line.specs.Kinds.{IsKindOf};
-ghost use Rattle.command_line.specs.Program.{audit_app, history_app, path_rule, program_app, run_app, IsMet};
-ghost use Rattle.command_line.specs.Tasks.{task_of, Task};
+ghost use Rattle.std.specs.Prelude.{◌≡◌, codes, List, map, IfErr, IfOk, Some};
+ghost use Rattle.clap.specs.Words.{app_of, found_of, kind_of, rows_of, rule_of, subcommand_rows_of};
+ghost use Rattle.command_line.specs.Kinds.{IsKindOf, IsLineOf};
+ghost use Rattle.command_line.specs.Program.{audit_app, history_app, path_rule, program_app, run_app};
+ghost use Rattle.command_line.specs.Tasks.{task_of};
 ghost use Rattle.command_line.specs.Words.{AsksFor, IsRefusal};
 
 use crate::notes::{AUDIT_NOTES, HISTORY_NOTES, PROGRAM_NOTES, RUN_NOTES, VERSION};
@@ -23,9 +23,13 @@ pub enum Line<'a> {
         journal: Option<&'a str>,
     },
     /// `audit JOURNAL`: to say whether the journal is one of a run.
-    Audit { journal: &'a str },
+    Audit {
+        journal: &'a str,
+    },
     /// `history JOURNAL`: to print the history of the journal.
-    History { journal: &'a str },
+    History {
+        journal: &'a str,
+    },
 }
 
 impl<'a> Line<'a> {
@@ -60,25 +64,37 @@ fn line_in<'a, S: AsStr>(alloc: Global, words: &'a [S]) -> Result<Line<'a>, Erro
 
 // The line that the words came to.
 fn line_of<'a>(matches: &ArgMatches<'a>) -> Option<Line<'a>>
-    ensures { MatchOption result
-        ((task : Task) → IsMet (subcommand_rows_of matches.now) task → ⊥)
-        (λ line. IsMet (subcommand_rows_of matches.now) (task_of line)) }
+    ensures { IsLineOf (subcommand_rows_of matches.now) result }
 {
     let (name, values) = matches.subcommand()?;
-    if name == "run" {
-        let script = values.get_str("SCRIPT")?;
-        let journal = values.get_str("FILE");
-        return Some(Line::Run { script, journal });
+    match name {
+        "run" => run_in(values),
+        "audit" => audit_in(values),
+        "history" => history_in(values),
+        _ => None,
     }
-    if name == "audit" {
-        let journal = values.get_str("JOURNAL")?;
-        return Some(Line::Audit { journal });
-    }
-    if name == "history" {
-        let journal = values.get_str("JOURNAL")?;
-        return Some(Line::History { journal });
-    }
-    None
+}
+
+fn run_in<'a>(values: &ArgMatches<'a>) -> Option<Line<'a>>
+    ensures { IsLineOf (Some (codes "run", rows_of (found_of values.now))) result }
+{
+    let script = values.get_str("SCRIPT")?;
+    let journal = values.get_str("FILE");
+    Some(Line::Run { script, journal })
+}
+
+fn audit_in<'a>(values: &ArgMatches<'a>) -> Option<Line<'a>>
+    ensures { IsLineOf (Some (codes "audit", rows_of (found_of values.now))) result }
+{
+    let journal = values.get_str("JOURNAL")?;
+    Some(Line::Audit { journal })
+}
+
+fn history_in<'a>(values: &ArgMatches<'a>) -> Option<Line<'a>>
+    ensures { IsLineOf (Some (codes "history", rows_of (found_of values.now))) result }
+{
+    let journal = values.get_str("JOURNAL")?;
+    Some(Line::History { journal })
 }
 
 fn program<'a>(alloc: Global) -> Result<Command<'a>, AllocError>
@@ -131,6 +147,7 @@ fn history_command<'a>(alloc: Global) -> Result<Command<'a>, AllocError>
 
 // The path of a journal, which must be there.
 fn journal_argument<'a>(alloc: Global) -> Arg<'a>
+    ensures { rule_of result ≡ path_rule (codes "JOURNAL") }
 {
     Arg::new(alloc, "JOURNAL")
         .required(true)

@@ -6,11 +6,20 @@ pub(crate) const VERSION: &str = "0.1.0";
 /// What stands under the options of the program.
 pub(crate) const PROGRAM_NOTES: &str = "\
 Exit status:
-  0  done
+  0  done; of audit and history: the journal is one of a run
+  1  audit or history: the journal is not one of a run
   2  the words of the command line are refused
-  3  SCRIPT has a bad line or can't be read, or the listing can't be written
+  3  SCRIPT or JOURNAL has a bad line or can't be read, or FILE or the text can't be
+     written
   4  no memory, or more entries than a journal may have (1048576)
-A line on standard error says which.
+A line on standard error says which, of 2 to 4.
+
+A journal is a file that holds the entries of a run in their order, each with its reply
+and the messages that it sends. To keep the journal of a run, to see later whether its
+entries are a run, and to print their history:
+  lockreplay run SCRIPT --journal FILE
+  lockreplay audit FILE
+  lockreplay history FILE
 
 'lockreplay help run' tells how a script is written and what the listing shows.";
 
@@ -62,13 +71,23 @@ A line that is refused is listed with its number and a code, and the run goes on
   12  the node restarted too often      15  the node is declared failed
                                         19  the actor ran out of numbers
 These refusals end the run (see the exit status):
-   3  no memory       9  bad line       16  journal full";
+   3  no memory       9  bad line       16  journal full
 
+With --journal FILE the journal of the run is written to FILE, in the place of what was
+there, before the listing is printed. A run that fails before that leaves FILE as it was.";
 
 /// What stands under the options of `audit`.
 pub(crate) const AUDIT_NOTES: &str = "\
-See the exit status of 'lockreplay'.";
+The entries are taken as a run of the cluster of the first line, one step after the
+other. The text is one of these:
+  audit yes      the entries are a run (exit status 0)
+  audit no K     entry K, counted from 1, is the first that is not the next step
+                 of a run (exit status 1)
+Every run has a history, in which one table of locks gives each reply of the run.
+'lockreplay history' prints it.";
 
 /// What stands under the options of `history`.
 pub(crate) const HISTORY_NOTES: &str = "\
-See the exit status of 'lockreplay'.";
+The journal is audited first. Where its entries are a run, the section 'history' of the
+listing of the run is printed (exit status 0): every call at its place in one table of
+locks. Else the text is 'audit no K', as of 'lockreplay audit' (exit status 1).";

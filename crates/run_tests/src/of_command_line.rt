@@ -3,13 +3,67 @@ use command_line::line::Line;
 use command_line::refusal::Refusal;
 use std::alloc::Global;
 
+// Whether the words, behind the program's name, are taken for the line.
+fn is_line(alloc: Global, words: &[&str], line: &Line<'_>) -> bool {
+    match Line::read(alloc, words) {
+        Ok(read) => read == *line,
+        Err(_) => false,
+    }
+}
+
 #[test]
-fn reads_a_command_line(rt: HostRuntime) {
-    let words = ["lockreplay", "run", "a.lock"];
-    assert_eq!(rt;
-        Line::read(rt.alloc(), &words),
-        Ok(Line::Run { script: "a.lock" })
-    );
+fn reads_a_run(rt: HostRuntime) {
+    let alloc = rt.alloc();
+    let run = Line::Run {
+        script: "a.lock",
+        journal: None,
+    };
+    let cases = [
+        ["lockreplay", "run", "a.lock"].as_slice(),
+        ["lockreplay", "run", "--", "a.lock"].as_slice(),
+        ["", "run", "a.lock"].as_slice(),
+    ];
+    for words in cases {
+        assert!(rt; is_line(alloc, words, &run), "{words:?}");
+    }
+    let words = ["lockreplay", "run", "--", "--journal"];
+    let dashed = Line::Run {
+        script: "--journal",
+        journal: None,
+    };
+    assert!(rt; is_line(alloc, &words, &dashed));
+}
+
+#[test]
+fn reads_a_run_with_its_journal(rt: HostRuntime) {
+    let alloc = rt.alloc();
+    let run = Line::Run {
+        script: "a.lock",
+        journal: Some("a.journal"),
+    };
+    let cases = [
+        ["lockreplay", "run", "a.lock", "--journal", "a.journal"].as_slice(),
+        ["lockreplay", "run", "--journal", "a.journal", "a.lock"].as_slice(),
+        ["lockreplay", "run", "--journal=a.journal", "a.lock"].as_slice(),
+        ["lockreplay", "run", "a.lock", "--journal=a.journal"].as_slice(),
+    ];
+    for words in cases {
+        assert!(rt; is_line(alloc, words, &run), "{words:?}");
+    }
+}
+
+#[test]
+fn reads_an_audit_and_a_history(rt: HostRuntime) {
+    let alloc = rt.alloc();
+    let audit = Line::Audit {
+        journal: "a.journal",
+    };
+    let history = Line::History {
+        journal: "a.journal",
+    };
+    assert!(rt; is_line(alloc, &["lockreplay", "audit", "a.journal"], &audit));
+    assert!(rt; is_line(alloc, &["lockreplay", "audit", "--", "a.journal"], &audit));
+    assert!(rt; is_line(alloc, &["lockreplay", "history", "a.journal"], &history));
 }
 
 // Whether the words are refused with this in the text.
@@ -28,11 +82,35 @@ fn says_what_is_wrong(rt: HostRuntime) {
         ["lockreplay", "run"].as_slice(),
         ["lockreplay", "run", "a.lock", "b.lock"].as_slice(),
         ["lockreplay", "run", "--fast", "a.lock"].as_slice(),
+        ["lockreplay", "run", "--journal", "a.journal"].as_slice(),
+        ["lockreplay", "audit"].as_slice(),
+        ["lockreplay", "audit", "a.journal", "b.journal"].as_slice(),
+        ["lockreplay", "audit", "--journal", "a.journal"].as_slice(),
+        ["lockreplay", "history"].as_slice(),
+        ["lockreplay", "history", "a.journal", "b.journal"].as_slice(),
+        ["lockreplay", "--journal", "a.journal", "run", "a.lock"].as_slice(),
         ["lockreplay"].as_slice(),
     ];
     for words in cases {
         assert!(rt; is_wrong(alloc, words, "Usage: lockreplay"), "{words:?}");
     }
+}
+
+#[test]
+fn takes_one_file_for_the_journal(rt: HostRuntime) {
+    let alloc = rt.alloc();
+    let twice = [
+        "lockreplay",
+        "run",
+        "--journal",
+        "a.journal",
+        "--journal",
+        "b.journal",
+        "a.lock",
+    ];
+    assert!(rt; is_wrong(alloc, &twice, "'--journal <FILE>' cannot be used multiple times"));
+    let none = ["lockreplay", "run", "a.lock", "--journal"];
+    assert!(rt; is_wrong(alloc, &none, "a value is required for '--journal <FILE>'"));
 }
 
 // Whether the words get help with this in its text.
@@ -49,4 +127,14 @@ fn helps(rt: HostRuntime) {
     let words = ["lockreplay", "--help"];
     assert!(rt; is_help(alloc, &words, "Usage: lockreplay"));
     assert!(rt; is_help(alloc, &words, "Exit status:"));
+    assert!(rt; is_help(alloc, &words, "lockreplay run SCRIPT --journal FILE"));
+    let cases = ["run", "audit", "history"];
+    for command in cases {
+        let words = ["lockreplay", "help", command];
+        assert!(rt; is_help(alloc, &words, "Usage: lockreplay "), "{command}");
+    }
+    let words = ["lockreplay", "audit", "--help"];
+    assert!(rt; is_help(alloc, &words, "audit no K"));
+    let words = ["lockreplay", "history", "--help"];
+    assert!(rt; is_help(alloc, &words, "Usage: lockreplay history"));
 }

@@ -1,0 +1,88 @@
+-- What clap makes of plain words.
+use Rattle.std.proofs.Common.{arith, refl, sym, subst, ap, codes, true, false, ℕ, List, Option, Some, None, [], ◌∷◌, ◌≡◌, ◌≢◌}
+use Rattle.std.specs.Prelude.{slice_get}
+use Rattle.std.specs.Str.{bytes_eq}
+use Rattle.std.specs.List.{All}
+use Rattle.std.proofs.lemmas.Bool.{ne_eqb}
+use Rattle.clap.specs.Lexer.{strip_byte}
+use Rattle.clap.specs.Words.{Text, fault_of, is_simple, is_simple_and_free, subcommand_of}
+use Rattle.clap.proofs.OnLiterals.{clap_on_literals}
+use Rattle.command_line.specs.Program.{program_app, IsMet}
+use Rattle.command_line.specs.Tasks.{Task, run, audit, history, paths_of, plain_words_of}
+use Rattle.command_line.specs.Words.{AsksFor, IsPlain}
+
+pub is_simple_program : is_simple program_app ≡ true
+unfolding clap_on_literals
+is_simple_program = refl
+
+pub is_free_program : is_simple_and_free program_app ≡ true
+unfolding clap_on_literals
+is_free_program = refl
+
+-- the path is read as no option
+record IsPath (path : Text) : Type 0 where
+  pub no_minus : strip_byte 45 path ≡ None
+  pub no_dashes : bytes_eq path (45 ∷ 45 ∷ []) ≡ false
+
+is_path : (path : Text) → slice_get path 0 ≢ Some 45 → IsPath path
+is_path [] plain = record { no_minus = refl; no_dashes = refl }
+is_path (x ∷ xs) plain =
+    let differs : x ≢ 45 = λ is. plain (ap (λ (y : ℕ). Some y) is) in
+    record { no_minus = rw (ne_eqb x 45 differs) refl; no_dashes = rw (ne_eqb x 45 differs) refl }
+
+abbrev words_of : Text → Task → List Text
+words_of program task = program ∷ plain_words_of task
+
+run_met : (program script : Text) → strip_byte 45 script ≡ None → bytes_eq script (45 ∷ 45 ∷ []) ≡ false → IsMet (subcommand_of program_app (words_of program (run script None))) (run script None)
+unfolding clap_on_literals
+run_met program script no_minus no_dashes = rw (no_dashes, no_minus, no_minus) refl
+
+run_taken : (program script : Text) → strip_byte 45 script ≡ None → bytes_eq script (45 ∷ 45 ∷ []) ≡ false → fault_of program_app (words_of program (run script None)) ≡ []
+unfolding clap_on_literals
+run_taken program script no_minus no_dashes = rw (no_dashes, no_minus, no_minus) refl
+
+audit_met : (program journal : Text) → strip_byte 45 journal ≡ None → bytes_eq journal (45 ∷ 45 ∷ []) ≡ false → IsMet (subcommand_of program_app (words_of program (audit journal))) (audit journal)
+unfolding clap_on_literals
+audit_met program journal no_minus no_dashes = rw (no_dashes, no_minus, no_minus) refl
+
+audit_taken : (program journal : Text) → strip_byte 45 journal ≡ None → bytes_eq journal (45 ∷ 45 ∷ []) ≡ false → fault_of program_app (words_of program (audit journal)) ≡ []
+unfolding clap_on_literals
+audit_taken program journal no_minus no_dashes = rw (no_dashes, no_minus, no_minus) refl
+
+history_met : (program journal : Text) → strip_byte 45 journal ≡ None → bytes_eq journal (45 ∷ 45 ∷ []) ≡ false → IsMet (subcommand_of program_app (words_of program (history journal))) (history journal)
+unfolding clap_on_literals
+history_met program journal no_minus no_dashes = rw (no_dashes, no_minus, no_minus) refl
+
+history_taken : (program journal : Text) → strip_byte 45 journal ≡ None → bytes_eq journal (45 ∷ 45 ∷ []) ≡ false → fault_of program_app (words_of program (history journal)) ≡ []
+unfolding clap_on_literals
+history_taken program journal no_minus no_dashes = rw (no_dashes, no_minus, no_minus) refl
+
+module _ (program script file : Text) (script_minus : strip_byte 45 script ≡ None) (script_dashes : bytes_eq script (45 ∷ 45 ∷ []) ≡ false)
+    (file_minus : strip_byte 45 file ≡ None) (file_dashes : bytes_eq file (45 ∷ 45 ∷ []) ≡ false) where
+  run_to_met : IsMet (subcommand_of program_app (words_of program (run script (Some file)))) (run script (Some file))
+  unfolding clap_on_literals
+  run_to_met = rw (script_dashes, script_minus, script_minus, file_dashes, file_minus, file_minus) refl
+
+  run_to_taken : fault_of program_app (words_of program (run script (Some file))) ≡ []
+  unfolding clap_on_literals
+  run_to_taken = rw (script_dashes, script_minus, script_minus, file_dashes, file_minus, file_minus) refl
+
+plain_task : (program : Text) (task : Task) → All (λ path. slice_get path 0 ≢ Some 45) (paths_of task) → AsksFor (words_of program task) task
+plain_task program (run script None) plain =
+    let p = is_path script (plain 0 [] (omega arith)) in
+    record { taken = run_taken program script p.no_minus p.no_dashes; met = run_met program script p.no_minus p.no_dashes }
+plain_task program (run script (Some file)) plain =
+    let p = is_path script (plain 0 [] (omega arith)) in
+    let q = is_path file (plain 1 [] (omega arith)) in
+    record { taken = run_to_taken program script file p.no_minus p.no_dashes q.no_minus q.no_dashes; met = run_to_met program script file p.no_minus p.no_dashes q.no_minus q.no_dashes }
+plain_task program (audit journal) plain =
+    let p = is_path journal (plain 0 [] (omega arith)) in
+    record { taken = audit_taken program journal p.no_minus p.no_dashes; met = audit_met program journal p.no_minus p.no_dashes }
+plain_task program (history journal) plain =
+    let p = is_path journal (plain 0 [] (omega arith)) in
+    record { taken = history_taken program journal p.no_minus p.no_dashes; met = history_met program journal p.no_minus p.no_dashes }
+
+pub plain_asks : (words : List Text) (task : Task) → IsPlain words task → AsksFor words task
+plain_asks words task plain =
+    let P : List Text → Type 0 = λ ws. AsksFor ws task in
+    subst P (sym plain.words_are) (plain_task plain.program task plain.no_option)

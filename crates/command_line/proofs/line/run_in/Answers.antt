@@ -1,0 +1,18 @@
+use Rattle.std.proofs.Common.{rules, ap₂, codes, Option, None, Some, [], ◌∷◌, ◌≡◌}
+use Rattle.clap.specs.Words.{Text, found_of, rows_of}
+use Rattle.command_line.proofs.CommandLine.{no_script}
+use Rattle.command_line.proofs.Tables.{no_value, same_value, value_is}
+use Rattle.command_line.proofs.line.run_in.Goals as goal
+
+pub returns-in_err-script : goal.returns-in_err-script
+returns-in_err-script c =
+    let none : c.from_residual.result ≡ None = search rules in
+    let found = found_of c.args.values.now in
+    rw none (no_script (rows_of found) (no_value found (codes "SCRIPT") c.get_str.result c.get_str.ensures (search rules)))
+
+pub returns : goal.returns
+returns c =
+    let found = found_of c.args.values.now in
+    ap₂ (λ (script file : Option Text). Some (codes "run", script ∷ file ∷ []))
+    (value_is found (codes "SCRIPT") c.get_str.result c.in_ok-script.script c.get_str.ensures (search rules))
+    (same_value found (codes "FILE") c.get_str-journal.result c.get_str-journal.ensures)
