@@ -1,10 +1,12 @@
 #!/usr/bin/env bash
 # Runs the program as a user does, and looks at its status, its standard output and its standard error: words left out
-# and added, files that can't be read, outputs that can't be written, little memory, a full journal, and the help.
+# and added, files that can't be read, outputs that can't be written, little memory, a full journal, journals that are
+# written, changed and cut, and the help.
 # Prints a line for each case that failed, and last `N passed, M failed`. The status is 0 where none failed.
 # usage: tests/program.sh PROGRAM
 program=$(readlink -f -- "${1:?usage: tests/program.sh PROGRAM}") || exit 2
-data=$(readlink -f -- "$(dirname -- "$0")/../crates/lockreplay") || exit 2
+tests=$(readlink -f -- "$(dirname -- "$0")") || exit 2
+data=$(readlink -f -- "$tests/../crates/lockreplay") || exit 2
 if [ ! -x "$program" ]; then
     echo "tests/program.sh: there is no program $1"
     echo "0 passed, 1 failed"
@@ -148,6 +150,160 @@ judge 'little memory for a bad script' 3 $? none came.out last-bad came.err
 echo 'call 1 1 spawn' >>full.lock
 echo 'journal full' >no-room
 try 'a full journal' 4 none no-room run full.lock
+
+# Journals that are written.
+cp "$tests/first-run.journal" first.journal
+sed -n '/^history$/,$p' first.listing >first.history
+echo 'audit yes' >yes
+try 'a run with its journal' 0 first.listing none run first.lock --journal written.journal
+cmp -s first.journal written.journal
+judge 'the journal that it writes' 0 $? none none none none
+rm written.journal
+try 'the option before the script' 0 first.listing none run --journal written.journal first.lock
+cmp -s first.journal written.journal
+judge 'the journal that it writes then' 0 $? none none none none
+try 'an audit of it' 0 yes none audit written.journal
+try 'its history' 0 first.history none history written.journal
+cat first.journal first.journal >written.journal
+try 'a run with its journal in the place of a longer file' 0 first.listing none run first.lock --journal written.journal
+cmp -s first.journal written.journal
+judge 'the journal in the place of a longer file' 0 $? none none none none
+cp first.lock both.lock
+try 'a run with its journal in the place of its script' 0 first.listing none run both.lock --journal both.lock
+cmp -s first.journal both.lock
+judge 'the journal in the place of the script' 0 $? none none none none
+rm written.journal
+timeout 120 "$program" run first.lock --journal written.journal >/dev/full 2>came.err
+judge 'a run with its journal where standard output is full' 3 $? none none no-output came.err
+cmp -s first.journal written.journal
+judge 'the journal where standard output is full' 0 $? none none none none
+echo 'cannot write folder' >no-folder-journal
+try 'a journal in the place of a folder' 3 none no-folder-journal run first.lock --journal folder
+echo 'cannot write missing/first.journal' >no-place
+try 'a journal in a missing folder' 3 none no-place run first.lock --journal missing/first.journal
+echo 'cannot write /dev/full' >no-device
+try 'a journal on a full device' 3 none no-device run first.lock --journal /dev/full
+cp first.journal closed.journal
+chmod 000 closed.journal
+if [ ! -w closed.journal ]; then
+    echo 'cannot write closed.journal' >no-leave
+    try 'a journal that may not be written' 3 none no-leave run first.lock --journal closed.journal
+fi
+
+# A file is as it was where the run fails before its journal is written.
+echo 'the only copy' >kept.journal
+cp kept.journal kept
+try 'a journal of a missing script' 3 none no-file run missing.lock --journal kept.journal
+try 'a journal of a bad script' 3 none bad-line run bad.lock --journal kept.journal
+try 'a journal that is full' 4 none no-room run full.lock --journal kept.journal
+(
+    ulimit -v 40000
+    exec timeout 120 "$program" run full.lock --journal kept.journal >came.out 2>came.err
+)
+judge 'little memory for a journal' 4 $? none came.out no-memory came.err
+judge 'the file that was there before' 0 0 kept kept.journal none none
+
+# Journals that are read. Where an entry is wrong, `audit` and `history` say so alike.
+try_journal() {
+    try "an audit of $1" "$2" "$3" "$4" audit changed.journal
+    try "the history of $1" "$2" "$3" "$4" history changed.journal
+}
+echo 'audit no 1' >no-1
+{
+    sed -n 1p first.journal
+    sed -n 4,5p first.journal | sed 's/^entry 2 /entry 1 /'
+    sed -n 2,3p first.journal | sed 's/^entry 1 /entry 2 /'
+    sed -n '6,$p' first.journal
+} >changed.journal
+try_journal 'a journal with an entry out of place' 1 no-1 none
+echo 'bad line 2' >bad-2
+{
+    sed -n 1p first.journal
+    sed -n 4,5p first.journal
+    sed -n 2,3p first.journal
+    sed -n '6,$p' first.journal
+} >changed.journal
+try_journal 'a journal with its numbers out of order' 3 none bad-2
+echo 'audit no 6' >no-6
+sed 's/^entry 6 .*/entry 6 deliver grant 1 2 1.1.3 write 0 9223372036854775807/' first.journal >changed.journal
+try_journal 'a journal with a command that was never sent' 1 no-6 none
+echo 'audit no 4' >no-4
+sed 's/^send grant 1 1 1.1.3 write /send grant 1 1 1.1.3 read /' first.journal >changed.journal
+try_journal 'a journal with another grant' 1 no-4 none
+sed 's/^reply 1.1.4 done/reply 1.1.4 no-locks/' first.journal >changed.journal
+echo 'audit no 7' >no-7
+try_journal 'a journal with another reply' 1 no-7 none
+echo 'bad line 16' >bad-16
+sed 's/^end 7/end 6/' first.journal >changed.journal
+try_journal 'a journal with a wrong count' 3 none bad-16
+{ sed -n 1,13p first.journal; echo 'end 6'; } >changed.journal
+try 'an audit of a journal cut behind an entry, with its count' 0 yes none audit changed.journal
+sed '$d' first.history >cut.history
+try 'the history of a journal cut behind an entry, with its count' 0 cut.history none history changed.journal
+head -c -2 first.journal >changed.journal
+try_journal 'a journal cut inside its last line' 3 none bad-16
+sed '$d' first.journal >changed.journal
+try_journal 'a journal without its last line' 3 none bad-16
+{ cat first.journal; echo; } >changed.journal
+echo 'bad line 17' >bad-17
+try_journal 'a journal with a line behind its last' 3 none bad-17
+: >changed.journal
+try_journal 'an empty journal' 3 none first-bad
+cp first.lock changed.journal
+try_journal 'a script in the place of a journal' 3 none first-bad
+printf 'journal 1 nodes 1 files 1 policy wide\n# \xff\n' >changed.journal
+echo 'cannot read changed.journal' >no-text
+try_journal 'a journal that is not UTF-8' 3 none no-text
+rm changed.journal
+try_journal 'a missing journal' 3 none no-text
+timeout 120 "$program" audit /dev/stdin <first.journal >came.out 2>came.err
+judge 'a journal from standard input' 0 $? yes came.out none came.err
+timeout 120 "$program" audit first.journal >/dev/full 2>came.err
+judge 'an audit where standard output is full' 3 $? none none no-output came.err
+timeout 120 "$program" history first.journal >/dev/full 2>came.err
+judge 'a history where standard output is full' 3 $? none none no-output came.err
+
+# A journal that is cut anywhere is bad at the first line that is not whole.
+wrong=
+size=$(wc -c <first.journal)
+for length in $(seq 0 $((size - 1))); do
+    head -c "$length" first.journal >cut.journal
+    echo "bad line $(($(wc -l <cut.journal) + 1))" >bad-cut
+    timeout 120 "$program" audit cut.journal >came.out 2>came.err
+    [ $? = 3 ] && cmp -s none came.out && cmp -s bad-cut came.err || wrong="$wrong $length"
+done
+echo "$wrong" >came.out
+echo >nothing-wrong
+judge 'a journal cut at each byte' 0 0 nothing-wrong came.out none none
+
+# A journal in which a line is left out, stands twice, or changes its place with the next has one answer.
+wrong=
+for line in $(seq 1 16); do
+    for edit in "${line}d" "${line}p" "${line}{h;n;G}"; do
+        if [ "${edit: -1}" = '}' ]; then sed -n "$edit;p" first.journal; else sed "$edit" first.journal; fi >changed.journal
+        timeout 120 "$program" audit changed.journal >came.out 2>came.err
+        case $? in
+            0 | 1) grep -q -x -E 'audit (yes|no [1-9][0-9]*)' came.out && [ "$(wc -l <came.out)" = 1 ] && cmp -s none came.err ;;
+            3) grep -q -x -E 'bad line [1-9][0-9]*' came.err && [ "$(wc -l <came.err)" = 1 ] && cmp -s none came.out ;;
+            *) false ;;
+        esac || wrong="$wrong $edit"
+    done
+done
+echo "$wrong" >came.out
+judge 'a journal with a line out of place' 0 0 nothing-wrong came.out none none
+
+# Large journals.
+large() {
+    awk -v count="$1" 'BEGIN {
+        print "journal 1 nodes 1 files 1 policy wide"
+        for (i = 1; i <= count; i++) print "entry " i " call 1.1." i " 1 spawn\nreply 1.1." i (i == 1 ? " done" : " exists")
+        print "end " count
+    }'
+}
+large 1048576 >large.journal
+try 'an audit of a journal with all the entries that one may have' 0 yes none audit large.journal
+large 1048577 >large.journal
+try 'an audit of a journal with an entry more' 4 none no-room audit large.journal
 
 # The scripts are as they were.
 cmp -s first.lock "$data/data/first.lock"

@@ -116,7 +116,7 @@ entries-same es fs e =
 
 apart-head : AreApart head_text IsShape
 apart-head s t s_in t_in e =
-    let counts = cancel-front (codes "journal 1 nodes ") (counts_text (s.nodes, (s.files, s.policy))) (counts_text (t.nodes, (t.files, t.policy))) e in
+    let counts = cancel-front (codes "journal 1 nodes ") (counts_text s) (counts_text t) e in
     apart-shape s t s_in t_in (ap (λ (c : List ℕ). codes "cluster nodes " ++ c) counts)
 
 written-same : (lines : List (List ℕ)) (s t : ShapeFields) (es fs : List NamedEntry) → Writes lines s es → Writes lines t fs → (s ≡ t) × (map entry_in es ≡ map entry_in fs)

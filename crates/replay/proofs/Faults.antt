@@ -1,14 +1,45 @@
 -- Lemmas on faults of commands.
 use Rattle.std.proofs.Common.{ℕ, List, Option, inl}
 use Rattle.std.specs.Prelude.{⊤}
+use Rattle.command_line.specs.Tasks.{Task, run, audit, history}
 use Rattle.replay.specs.declared.fault.Fault.{Fault}
-use Rattle.replay.specs.declared.fault.Fault.TheVariants.{BadLine, CannotRead, CannotWriteOutput, NoMemory, JournalFull}
-use Rattle.replay.specs.Commands.{IsFault}
+use Rattle.replay.specs.declared.fault.Fault.TheVariants.{BadLine, CannotRead, CannotWrite, CannotWriteOutput, NoMemory, JournalFull}
+use Rattle.replay.specs.Commands.{IsFault, IsInputFault}
+use Rattle.replay.specs.Faults.{IsJournalFault, IsScriptFault}
+use Rattle.replay.specs.Stores.{Files}
+
+script-weaker : (Holds : Option (List ℕ) → Type 0) (RanShort : Type 0) (path : List ℕ) (fault : Fault) → IsScriptFault Holds RanShort path fault → IsScriptFault Holds ⊤ path fault
+script-weaker Holds RanShort path (BadLine line) is = is
+script-weaker Holds RanShort path (CannotRead named) is = is
+script-weaker Holds RanShort path (CannotWrite named) is = is
+script-weaker Holds RanShort path CannotWriteOutput is = is
+script-weaker Holds RanShort path NoMemory is = inl tt
+script-weaker Holds RanShort path JournalFull is = is
+
+journal-weaker : (Holds : Option (List ℕ) → Type 0) (RanShort : Type 0) (path : List ℕ) (fault : Fault) → IsJournalFault Holds RanShort path fault → IsJournalFault Holds ⊤ path fault
+journal-weaker Holds RanShort path (BadLine line) is = is
+journal-weaker Holds RanShort path (CannotRead named) is = is
+journal-weaker Holds RanShort path (CannotWrite named) is = is
+journal-weaker Holds RanShort path CannotWriteOutput is = is
+journal-weaker Holds RanShort path NoMemory is = inl tt
+journal-weaker Holds RanShort path JournalFull is = is
+
+input-weaker : (old : Files) (RanShort : Type 0) (task : Task) (fault : Fault) → IsInputFault old RanShort task fault → IsInputFault old ⊤ task fault
+input-weaker old RanShort (run script to) fault is = script-weaker (old script) RanShort script fault is
+input-weaker old RanShort (audit journal) fault is = journal-weaker (old journal) RanShort journal fault is
+input-weaker old RanShort (history journal) fault is = journal-weaker (old journal) RanShort journal fault is
 
 -- memory may be short before
-pub fault-weaker : (Holds : Option (List ℕ) → Type 0) (RanShort : Type 0) (path : List ℕ) (fault : Fault) → IsFault Holds RanShort path fault → IsFault Holds ⊤ path fault
-fault-weaker Holds RanShort path (BadLine line) is = is
-fault-weaker Holds RanShort path (CannotRead named) is = is
-fault-weaker Holds RanShort path CannotWriteOutput is = is
-fault-weaker Holds RanShort path NoMemory is = inl tt
-fault-weaker Holds RanShort path JournalFull is = is
+pub fault-weaker : (old new : Files) (RanShort : Type 0) (Refuses : List ℕ → Type 0) (task : Task) (fault : Fault) → IsFault old RanShort Refuses task new fault → IsFault old ⊤ Refuses task new fault
+fault-weaker old new RanShort Refuses task (BadLine line) is = (input-weaker old RanShort task (BadLine line) is.0, is.1)
+fault-weaker old new RanShort Refuses task (CannotRead named) is = (input-weaker old RanShort task (CannotRead named) is.0, is.1)
+fault-weaker old new RanShort Refuses task (CannotWrite named) is = is
+fault-weaker old new RanShort Refuses task CannotWriteOutput is = is
+fault-weaker old new RanShort Refuses task NoMemory is = (input-weaker old RanShort task NoMemory is.0, is.1)
+fault-weaker old new RanShort Refuses task JournalFull is = (input-weaker old RanShort task JournalFull is.0, is.1)
+
+-- where memory may be short
+pub short-memory : (old : Files) (task : Task) → IsInputFault old ⊤ task NoMemory
+short-memory old (run script to) = inl tt
+short-memory old (audit journal) = inl tt
+short-memory old (history journal) = inl tt

@@ -1,11 +1,21 @@
--- What a fault of a part is to the command, and the line that tells of it.
-use Rattle.std.specs.Prelude.{ℕ, List, ◌++◌, codes, decimal}
+-- What a fault of a part is to the command, what it says of a file, and the line that tells of it.
+use Rattle.std.specs.Prelude.{◌≡◌, ℕ, ◌<◌, ◌⊎◌, List, ◌++◌, codes, decimal, length, Option, None}
+use Rattle.cluster_core.specs.Journals.{JournalFields}
+use Rattle.cluster_core.specs.World.{journal_limit}
+use Rattle.journal_text.specs.declared.error.JournalError.{JournalError}
+use Rattle.journal_text.specs.declared.error.JournalError.TheVariants as journal
+use Rattle.journal_text.specs.Readings as readings
 use Rattle.lockscript.specs.declared.error.ParseError.{ParseError}
 use Rattle.lockscript.specs.declared.error.ParseError.TheVariants as parse
+use Rattle.lockscript.specs.Scripts as scripts
 use Rattle.replay.specs.declared.play.PlayError.{PlayError}
 use Rattle.replay.specs.declared.play.PlayError.TheVariants as play
 use Rattle.replay.specs.declared.fault.Fault.{Fault}
-use Rattle.replay.specs.declared.fault.Fault.TheVariants.{BadLine, CannotRead, CannotWriteOutput, NoMemory, JournalFull}
+use Rattle.replay.specs.declared.fault.Fault.TheVariants.{BadLine, CannotRead, CannotWrite, CannotWriteOutput, NoMemory, JournalFull}
+use Rattle.replay.specs.Audits.{HasEntries}
+use Rattle.replay.specs.Played.{FillsJournal}
+use Rattle.replay.specs.Scripts.{HasScript}
+use Rattle.replay.specs.Stores.{HasNoText, HasText}
 
 abbrev pub fault_of_parse : ParseError → Fault
 fault_of_parse parse.NoMemory = NoMemory
@@ -15,10 +25,37 @@ abbrev pub fault_of_play : PlayError → Fault
 fault_of_play play.NoMemory = NoMemory
 fault_of_play play.JournalFull = JournalFull
 
+abbrev pub fault_of_journal : JournalError → Fault
+fault_of_journal journal.NoMemory = NoMemory
+fault_of_journal (journal.BadLine line) = BadLine line
+
+-- why the bytes of the file of this path are not there: it can't be read, or memory is short
+abbrev pub IsUnread : (Option (List ℕ) → Type 0) → Type 0 → List ℕ → Fault → Type 0
+IsUnread Holds RanShort path (CannotRead named) = (named.now ≡ path) × Holds None
+IsUnread Holds RanShort path NoMemory = RanShort
+IsUnread Holds RanShort path fault = ⊥
+
+-- why the script of the file is not run to its end: no text, a bad line, a full journal; memory is short where `RanShort` says it, or for the run of a script
+abbrev pub IsScriptFault : (Option (List ℕ) → Type 0) → Type 0 → List ℕ → Fault → Type 0
+IsScriptFault Holds RanShort path (BadLine line) = HasText Holds (λ text. scripts.IsFirstBad text line)
+IsScriptFault Holds RanShort path (CannotRead named) = (named.now ≡ path) × HasNoText Holds
+IsScriptFault Holds RanShort path NoMemory = RanShort ⊎ ((script : scripts.ScriptFields) × HasScript Holds script)
+IsScriptFault Holds RanShort path JournalFull = (script : scripts.ScriptFields) × HasScript Holds script × FillsJournal script.shape script.lines
+IsScriptFault Holds RanShort path fault = ⊥
+
+-- why the journal of the file is not audited: no text, a bad line, too many entries; memory is short where `RanShort` says it, or for the audit of a journal
+abbrev pub IsJournalFault : (Option (List ℕ) → Type 0) → Type 0 → List ℕ → Fault → Type 0
+IsJournalFault Holds RanShort path (BadLine line) = HasText Holds (λ text. readings.IsFirstBad text line)
+IsJournalFault Holds RanShort path (CannotRead named) = (named.now ≡ path) × HasNoText Holds
+IsJournalFault Holds RanShort path NoMemory = RanShort ⊎ ((j : JournalFields) × HasEntries Holds j)
+IsJournalFault Holds RanShort path JournalFull = (j : JournalFields) × HasEntries Holds j × (journal_limit < length j.entries)
+IsJournalFault Holds RanShort path fault = ⊥
+
 -- its number or its path, as the user gave it
 abbrev pub fault_line : Fault → List ℕ
 fault_line (BadLine line) = codes "bad line " ++ decimal line ++ codes "\n"
 fault_line (CannotRead path) = codes "cannot read " ++ path.now ++ codes "\n"
+fault_line (CannotWrite path) = codes "cannot write " ++ path.now ++ codes "\n"
 fault_line CannotWriteOutput = codes "cannot write standard output\n"
 fault_line NoMemory = codes "no memory\n"
 fault_line JournalFull = codes "journal full\n"

@@ -2,10 +2,13 @@ pub mod Outputs
 pub mod Stores
 pub mod Statuses
 pub mod Refusals
-pub mod Faults
+pub mod Showing
 pub mod Progress
 pub mod Settled
 pub mod Played
 pub mod Laws
 pub mod Parts
+pub mod Scripts
+pub mod Audits
+pub mod Faults
 pub mod Commands

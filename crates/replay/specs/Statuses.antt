@@ -1,16 +1,17 @@
 -- Exit statuses.
 use Rattle.std.specs.Prelude.{◌≡◌, ℕ, ◌⊎◌}
 use Rattle.replay.specs.declared.fault.Fault.{Fault}
-use Rattle.replay.specs.declared.fault.Fault.TheVariants.{BadLine, CannotRead, CannotWriteOutput, NoMemory, JournalFull}
+use Rattle.replay.specs.declared.fault.Fault.TheVariants.{BadLine, CannotRead, CannotWrite, CannotWriteOutput, NoMemory, JournalFull}
 
 -- 3: the input or the output is at fault; 4: the run needs more than there is
 abbrev pub status_of : Fault → ℕ
 status_of (BadLine line) = 3
 status_of (CannotRead path) = 3
+status_of (CannotWrite path) = 3
 status_of CannotWriteOutput = 3
 status_of NoMemory = 4
 status_of JournalFull = 4
 
 -- a status of a command whose words were taken
 abbrev pub IsStatus : ℕ → Type 0
-IsStatus status = (status ≡ 0) ⊎ ((status ≡ 3) ⊎ (status ≡ 4))
+IsStatus status = (status ≡ 0) ⊎ ((status ≡ 1) ⊎ ((status ≡ 3) ⊎ (status ≡ 4)))

@@ -1,6 +1,22 @@
 -- What stores hold.
-use Rattle.std.specs.Prelude.{ℕ, ◌↔◌, List, Option}
+use Rattle.std.specs.Prelude.{◌≡◌, ◌≢◌, ℕ, ◌⊎◌, ◌↔◌, List, IsUtf8, Option, Some, None}
+
+-- what a store tells of the file of each path: its bytes, or that it can't be read
+abbrev pub Files : Type 1
+Files = List ℕ → Option (List ℕ) → Type 0
 
 -- the file of each path is as it was
-abbrev pub SameFiles : (List ℕ → Option (List ℕ) → Type 0) → (List ℕ → Option (List ℕ) → Type 0) → Type 0
+abbrev pub SameFiles : Files → Files → Type 0
 SameFiles old new = (path : List ℕ) (file : Option (List ℕ)) → new path file ↔ old path file
+
+-- the file of each other path is
+abbrev pub SameOthers : Files → Files → List ℕ → Type 0
+SameOthers old new path = (other : List ℕ) (file : Option (List ℕ)) → other ≢ path → new other file ↔ old other file
+
+-- the file has text, and this holds of it; `Holds` says what bytes it has, or that it can't be read
+abbrev pub HasText : (Option (List ℕ) → Type 0) → (List ℕ → Type 0) → Type 0
+HasText Holds Is = (bytes : List ℕ) × Holds (Some bytes) × IsUtf8 bytes × Is bytes
+
+-- the file can't be read, or not as text
+abbrev pub HasNoText : (Option (List ℕ) → Type 0) → Type 0
+HasNoText Holds = Holds None ⊎ ((bytes : List ℕ) × Holds (Some bytes) × ¬ (IsUtf8 bytes))

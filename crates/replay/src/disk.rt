@@ -26,6 +26,10 @@ impl<R: Files + AllocGlobal> Store for Disk<'_, R> {
     fn read(&mut self, _alloc: Global, path: &str) -> Result<Vec<u8>, StoreError> {
         fs::read(self.rt, path).map_err(|error| reason_of(&error))
     }
+
+    fn write(&mut self, path: &str, bytes: &[u8]) -> Result<(), StoreError> {
+        fs::write(self.rt, path, bytes).map_err(|error| reason_of(&error))
+    }
 }
 
 fn reason_of(error: &Error) -> StoreError

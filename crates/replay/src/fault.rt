@@ -1,28 +1,31 @@
 //! Why a command was not done.
 ghost use Rattle.std.specs.Prelude.{◌≡◌};
 ghost use Rattle.replay.specs.declared.fault.Fault.TheVariants.{NoMemory};
-ghost use Rattle.replay.specs.Faults.{fault_line, fault_of_parse, fault_of_play};
+ghost use Rattle.replay.specs.Faults.{fault_line, fault_of_journal, fault_of_parse, fault_of_play};
 ghost use Rattle.replay.specs.Outputs.{Writes};
 ghost use Rattle.replay.specs.Statuses.{status_of};
 
 use crate::output::{Output, WriteFailed, put_line};
 use crate::play::PlayError;
 use itoa::Buffer;
+use journal_text::error::JournalError;
 use lockscript::error::ParseError;
 use std::alloc::{AllocError, AllocFailed};
 
 /// Why a command was not done.
 #[derive(Clone, Copy, Debug, PartialEq, Eq)]
 pub enum Fault<'a> {
-    /// The first line of the script that may not stand there, by its number, from 1.
+    /// The first line of the script or the journal that may not stand there, by its number, from 1.
     BadLine(u64),
     /// A file, by its path, that can't be read, or that isn't UTF-8.
     CannotRead(&'a str),
+    /// A file, by its path, that can't be written.
+    CannotWrite(&'a str),
     /// Standard output didn't take all of the text.
     CannotWriteOutput,
     /// A request for memory was refused.
     NoMemory,
-    /// The run needs more entries than a journal may have.
+    /// The run needs more entries than a journal may have, or the journal has more.
     JournalFull,
 }
 
@@ -33,7 +36,10 @@ impl Fault<'_> {
         ensures { result ≡ status_of self.now }
     {
         match self {
-            Fault::BadLine(_) | Fault::CannotRead(_) | Fault::CannotWriteOutput => 3,
+            Fault::BadLine(_)
+            | Fault::CannotRead(_)
+            | Fault::CannotWrite(_)
+            | Fault::CannotWriteOutput => 3,
             Fault::NoMemory | Fault::JournalFull => 4,
         }
     }
@@ -49,6 +55,7 @@ impl Fault<'_> {
         match self {
             Fault::BadLine(line) => put_line(err, "bad line ", digits.format(*line)),
             Fault::CannotRead(path) => put_line(err, "cannot read ", path),
+            Fault::CannotWrite(path) => put_line(err, "cannot write ", path),
             Fault::CannotWriteOutput => put_line(err, "cannot write standard output", ""),
             Fault::NoMemory => put_line(err, "no memory", ""),
             Fault::JournalFull => put_line(err, "journal full", ""),
@@ -79,6 +86,17 @@ impl From<ParseError> for Fault<'_> {
         match error {
             ParseError::NoMemory => Fault::NoMemory,
             ParseError::BadLine(line) => Fault::BadLine(line),
+        }
+    }
+}
+
+impl From<JournalError> for Fault<'_> {
+    ghost from_gives = { λ error made. made ≡ fault_of_journal error };
+
+    fn from(error: JournalError) -> Self {
+        match error {
+            JournalError::NoMemory => Fault::NoMemory,
+            JournalError::BadLine(line) => Fault::BadLine(line),
         }
     }
 }

@@ -1,8 +1,10 @@
 //! Running scripts: the files, the run and what is printed of it.
 #![tactic(auto)]
 
+mod audit;
 pub mod disk;
 pub mod fault;
+mod input;
 pub mod laws;
 pub mod output;
 pub mod perform;
@@ -10,6 +12,8 @@ pub mod play;
 pub mod played;
 mod player;
 pub mod respond;
+mod run;
 mod settled;
+pub mod shown;
 pub mod store;
 pub mod words;

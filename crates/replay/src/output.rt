@@ -1,7 +1,7 @@
 //! Where texts are written.
 ghost use Rattle.std.specs.Prelude.{◌++◌, ◌≤◌, ⊤, ℕ, List, Option, None, codes, length, take, IfOk, OnErr, OnOk};
 ghost use Rattle.std.specs.Io.KnownBytes.{Appends, Keeps};
-ghost use Rattle.replay.specs.Outputs.{Writes};
+ghost use Rattle.replay.specs.Outputs.{AppendsPart, Writes};
 
 use std::io::{ErrorKind, Write};
 use thiserror::Error;
@@ -84,4 +84,17 @@ pub(crate) fn put_line<O: Output>(out: &mut O, start: &str, end: &str) -> Result
     out.put(start.as_bytes())?;
     out.put(end.as_bytes())?;
     out.put(b"\n")
+}
+
+/// Writes all of the text, and sends it on.
+///
+/// # Errors
+/// Where the writer fails, which took a beginning of the text.
+pub(crate) fn put_all<O: Output>(out: &mut O, text: &str) -> Result<(), WriteFailed>
+    ensures shown { OnOk result (Appends (O.taken out.old) (O.taken out.new) text.now) }
+    ensures flushed { OnOk result (O.is_flushed out.new) }
+    ensures part { OnErr result (AppendsPart (O.taken out.old) (O.taken out.new) text.now × O.has_failed out.new) }
+{
+    out.put(text.as_bytes())?;
+    out.finish()
 }

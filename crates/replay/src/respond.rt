@@ -1,19 +1,19 @@
 //! The program as a function of its words.
-ghost use Rattle.std.specs.Prelude.{◌≡◌, ◌≢◌, ◌⊎◌, ℕ, ⊤, List, map};
+ghost use Rattle.std.specs.Prelude.{◌≡◌, ◌≤◌, ◌<◌, ◌↔◌, ◌⊎◌, ℕ, ⊤, List, Option, Some, map};
 ghost use Rattle.std.specs.Io.KnownBytes.{Appends};
-ghost use Rattle.command_line.specs.Words.{AreWrong, AsksForHelp, AsksToRun};
+ghost use Rattle.command_line.specs.Tasks.{run, Task};
+ghost use Rattle.command_line.specs.Words.{AreWrong, AsksFor, AsksForHelp};
 ghost use Rattle.replay.specs.declared.fault.Fault.{Fault};
 ghost use Rattle.replay.specs.declared.fault.Fault.TheVariants.{CannotWriteOutput};
-ghost use Rattle.replay.specs.Commands.{HasListing, IsFault, Leaves, ShowsListing, TellsFault};
+ghost use Rattle.replay.specs.Commands.{Does, IsFault, Leaves, Shows, TellsFault};
 ghost use Rattle.replay.specs.Faults.{fault_line};
 ghost use Rattle.replay.specs.Outputs.{AppendsPart, WritesOrFails};
 ghost use Rattle.replay.specs.Refusals.{IsHelp, refusal_status, refusal_text};
-ghost use Rattle.replay.specs.Stores.{SameFiles};
 ghost use Rattle.replay.specs.Statuses.{status_of, IsStatus};
 
 use crate::fault::Fault;
-use crate::output::{Output, put_line};
-use crate::perform::{perform, report, show};
+use crate::output::{Output, put_all, put_line};
+use crate::perform::{perform, report};
 use crate::store::Store;
 use command_line::line::Line;
 use command_line::refusal::Refusal;
@@ -32,23 +32,26 @@ pub fn respond<W: AsStr, S: Store, O: Output, E: Output>(
 ) -> u8
     ensures status { (result ≡ 2) ⊎ IsStatus result }
 
-    // Words that ask for a run, by the program's table, are done as `perform` does it, unless memory
+    // Words that ask for something, by the program's table, are done as `perform` does it, unless memory
     // is short before.
-    ensures done { (path : List ℕ) → AsksToRun (map W.text words.now) path
-        → result ≡ 0 → ShowsListing (S.holds store.old path) (O.taken out.old) (O.taken out.new) }
-    ensures fault { (path : List ℕ) → AsksToRun (map W.text words.now) path
-        → result ≢ 0 → TellsFault (IsFault (S.holds store.old path) ⊤ path)
-        (Leaves (HasListing (S.holds store.old path)) O.taken O.has_failed out.old out.new)
+    ensures done { (task : Task) → AsksFor (map W.text words.now) task
+        → result ≤ 1 → Shows (Does (S.holds store.old) task (S.holds store.new)) (O.taken out.old) (O.taken out.new) result }
+    ensures fault { (task : Task) → AsksFor (map W.text words.now) task
+        → 2 < result → TellsFault (IsFault (S.holds store.old) ⊤ (S.refuses store.new) task (S.holds store.new))
+        (Leaves (Does (S.holds store.old) task (S.holds store.new)) O.taken O.has_failed out.old out.new)
         (λ fault. WritesOrFails (E.taken err.old) (E.taken err.new) (E.has_failed err.new) (fault_line fault)) result }
 
     // The status tells what the words are, and a fault is told by its line.
-    ensures zero { result ≡ 0 → AsksForHelp (map W.text words.now) ⊎ ((path : List ℕ) × AsksToRun (map W.text words.now) path) }
-    ensures shown { result ≡ 0 → O.is_flushed out.new × (err.new ≡ err.old) }
+    ensures zero { result ≡ 0 → AsksForHelp (map W.text words.now) ⊎ ((task : Task) × AsksFor (map W.text words.now) task) }
+    ensures one { result ≡ 1 → (task : Task) × AsksFor (map W.text words.now) task }
+    ensures shown { result ≤ 1 → O.is_flushed out.new × (err.new ≡ err.old) }
     ensures wrong { result ≡ 2 → AreWrong (map W.text words.now) × (out.new ≡ out.old) }
-    ensures told { IsStatus result → result ≢ 0 → (fault : Fault) × (result ≡ status_of fault)
+    ensures told { 2 < result → (fault : Fault) × (result ≡ status_of fault)
         × WritesOrFails (E.taken err.old) (E.taken err.new) (E.has_failed err.new) (fault_line fault) }
 
-    ensures files { SameFiles (S.holds store.old) (S.holds store.new) }
+    // No file changes but that of the journal that the words ask for.
+    ensures files { (path : List ℕ) (file : Option (List ℕ)) → ((script : List ℕ) → ¬ (AsksFor (map W.text words.now) (run script (Some path))))
+        → S.holds store.new path file ↔ S.holds store.old path file }
 {
     match Line::read(alloc, words) {
         Ok(line) => perform(alloc, &line, store, out, err),
@@ -69,7 +72,7 @@ pub fn refuse<O: Output, E: Output>(refusal: &Refusal, out: &mut O, err: &mut E)
         × WritesOrFails (E.taken err.old) (E.taken err.new) (E.has_failed err.new) (refusal_text refusal.now) }
 {
     match refusal {
-        Refusal::Help(help) => match show(out, help.as_str()) {
+        Refusal::Help(help) => match put_all(out, help.as_str()) {
             Ok(()) => 0,
             Err(_) => report(&Fault::CannotWriteOutput, err),
         },

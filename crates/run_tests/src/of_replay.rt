@@ -1,3 +1,4 @@
 //! What the program prints.
+mod journals;
 mod programs;
 mod shelf;

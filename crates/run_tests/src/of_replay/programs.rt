@@ -19,6 +19,10 @@ impl Store for Large {
     fn read(&mut self, _alloc: Global, _path: &str) -> Result<Vec<u8>, StoreError> {
         Err(StoreError::NoMemory)
     }
+
+    fn write(&mut self, _path: &str, _bytes: &[u8]) -> Result<(), StoreError> {
+        Err(StoreError::NoMemory)
+    }
 }
 
 // A full device.
@@ -81,6 +85,7 @@ fn plays_a_script(rt: HostRuntime) -> Result<(), Fail> {
 fn tells_faults_apart(rt: HostRuntime) {
     assert_eq!(rt; Fault::BadLine(7).status(), 3);
     assert_eq!(rt; Fault::CannotRead(PATH).status(), 3);
+    assert_eq!(rt; Fault::CannotWrite(PATH).status(), 3);
     assert_eq!(rt; Fault::JournalFull.status(), 4);
 }
 

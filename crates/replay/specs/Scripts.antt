@@ -1,0 +1,36 @@
+-- What the script of a file comes to.
+use Rattle.std.specs.Prelude.{◌≡◌, ℕ, List, Option}
+use Rattle.cluster_core.specs.declared.held_lock.HeldLock.{HeldLock}
+use Rattle.cluster_core.specs.declared.item.Item.{Item}
+use Rattle.cluster_core.specs.declared.token_run.TokenRun.{TokenRun}
+use Rattle.cluster_core.specs.Histories.{HasHistory, EachAtItsPlace}
+use Rattle.cluster_core.specs.Listings.{IsTokenListing, IsLockListing}
+use Rattle.cluster_core.specs.Safe.{IsSafe}
+use Rattle.lockscript.specs.Listing.{listing_text}
+use Rattle.lockscript.specs.Scripts.{ScriptFields, IsScript}
+use Rattle.replay.specs.Played.{PlayedState, ComesTo}
+use Rattle.replay.specs.Stores.{HasText}
+
+-- the file writes this script
+abbrev pub HasScript : (Option (List ℕ) → Type 0) → ScriptFields → Type 0
+HasScript Holds script = HasText Holds (λ text. IsScript text script)
+
+-- and the script comes to this
+abbrev pub HasRun : (Option (List ℕ) → Type 0) → PlayedState → Type 0
+HasRun Holds played = (script : ScriptFields) × HasScript Holds script × ComesTo script.shape script.lines played
+
+-- what a listing of a run tells: the tokens and the locks at its end, which is safe, and a history of one table, each call of it at its place
+pub record Lists (played : PlayedState) (tokens : List TokenRun) (locks : List HeldLock) (history : List Item) : Type 0 where
+  pub tokens_at_end : IsTokenListing played.world tokens
+  pub locks_at_end : IsLockListing played.world locks
+  pub safe_at_end : IsSafe played.world
+  pub one_table : HasHistory played.journal.shape played.journal.entries history
+  pub at_places : EachAtItsPlace played.journal.entries history
+
+-- the listing of a run, with its refused lines and its entries
+pub record IsListing (played : PlayedState) (text : List ℕ) : Type 0 where
+  pub tokens : List TokenRun
+  pub locks : List HeldLock
+  pub history : List Item
+  pub lists : Lists played tokens locks history
+  pub sections : text ≡ listing_text played.refused played.journal.entries tokens locks history

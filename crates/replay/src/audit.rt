@@ -1,0 +1,110 @@
+//! Whether the journal of a file is one of a run, and its history.
+ghost use Rattle.std.specs.Prelude.{◌≡◌, ◌≢◌, string_bytes, IfErr, IfOk};
+ghost use Rattle.cluster_core.specs.Journals.{JournalFields};
+ghost use Rattle.command_line.specs.Tasks.{audit, history};
+ghost use Rattle.replay.specs.declared.fault.Fault.TheVariants.{CannotWriteOutput};
+ghost use Rattle.replay.specs.Audits.{HasEntries, HasJournal, IsAudited, IsHistoryText};
+ghost use Rattle.replay.specs.Commands.{Does, IsFault};
+ghost use Rattle.replay.specs.Faults.{IsJournalFault};
+ghost use Rattle.replay.specs.Stores.{SameFiles};
+
+use crate::fault::Fault;
+use crate::input::bytes_of;
+use crate::shown::Shown;
+use crate::store::Store;
+use cluster_core::check_error::CheckError;
+use cluster_core::journal::Journal;
+use intervals::span_map::NoMemory;
+use journal_text::parse::parse;
+use lockscript::listing::push_history;
+use messages::entry::Entry;
+use messages::shape::Shape;
+use placement::placed::placed;
+use std::alloc::Global;
+
+// What an audit of the entries of a journal comes to.
+#[derive(Drop)]
+pub(crate) enum Audited {
+    // They are a run, of which this is the journal.
+    Run(Journal),
+    // The first that is not the next step, by its position, from 1.
+    Wrong(u32),
+}
+
+// Whether the journal of a file is one of a run.
+pub(crate) fn audit<'a, S: Store>(
+    alloc: Global,
+    store: &mut S,
+    path: &'a str,
+) -> Result<Shown, Fault<'a>>
+    ensures done { IfOk result (Does (S.holds store.old) (audit path.now) (S.holds store.new)) }
+    ensures fault { IfErr result (λ fault. (fault ≢ CannotWriteOutput)
+        × IsFault (S.holds store.old) (S.ran_short store.new) (S.refuses store.new) (audit path.now) (S.holds store.new) fault) }
+{
+    match checked(alloc, store, path)? {
+        Audited::Run(_journal) => Ok(Shown::Yes),
+        Audited::Wrong(position) => Ok(Shown::No(position)),
+    }
+}
+
+// The history of the journal of a file, where it is one of a run.
+pub(crate) fn history<'a, S: Store>(
+    alloc: Global,
+    store: &mut S,
+    path: &'a str,
+) -> Result<Shown, Fault<'a>>
+    ensures done { IfOk result (Does (S.holds store.old) (history path.now) (S.holds store.new)) }
+    ensures fault { IfErr result (λ fault. (fault ≢ CannotWriteOutput)
+        × IsFault (S.holds store.old) (S.ran_short store.new) (S.refuses store.new) (history path.now) (S.holds store.new) fault) }
+{
+    match checked(alloc, store, path)? {
+        Audited::Run(journal) => match history_of(alloc, journal) {
+            Ok(text) => Ok(Shown::Text(text)),
+            Err(_) => Err(Fault::NoMemory),
+        },
+        Audited::Wrong(position) => Ok(Shown::No(position)),
+    }
+}
+
+// What an audit of the journal of a file comes to.
+fn checked<'a, S: Store>(alloc: Global, store: &mut S, path: &'a str) -> Result<Audited, Fault<'a>>
+    ensures audited { IfOk result (λ audited. (j : JournalFields) × HasJournal (S.holds store.old path.now) j × IsAudited j audited) }
+    ensures fault { IfErr result (IsJournalFault (S.holds store.old path.now) (S.ran_short store.new) path.now) }
+    ensures files { SameFiles (S.holds store.old) (S.holds store.new) }
+{
+    let (shape, entries) = entries_of(alloc, store, path)?;
+    match Journal::check(alloc, shape, entries) {
+        Ok(journal) => Ok(Audited::Run(journal)),
+        Err(CheckError::NotARun(position)) => Ok(Audited::Wrong(position)),
+        Err(CheckError::JournalFull) => Err(Fault::JournalFull),
+        Err(CheckError::NoMemory) => Err(Fault::NoMemory),
+    }
+}
+
+// The shape and the entries of the journal that a file writes. Its text goes.
+fn entries_of<'a, S: Store>(
+    alloc: Global,
+    store: &mut S,
+    path: &'a str,
+) -> Result<(Shape, Vec<Entry>), Fault<'a>>
+    ensures entries { IfOk result (λ made. HasEntries (S.holds store.old path.now) (record { shape = made.0; entries = made.1.items })) }
+    ensures fault { IfErr result (IsJournalFault (S.holds store.old path.now) (S.ran_short store.new) path.now) }
+    ensures files { SameFiles (S.holds store.old) (S.holds store.new) }
+{
+    let bytes = bytes_of(alloc, store, path)?;
+    match str::from_utf8(bytes.as_slice()) {
+        Ok(text) => Ok(parse(alloc, text)?),
+        Err(_) => Err(Fault::CannotRead(path)),
+    }
+}
+
+// The history of a run as text.
+fn history_of(alloc: Global, journal: Journal) -> Result<String, NoMemory>
+    ensures { IfOk result (λ text. IsHistoryText journal (string_bytes text)) }
+{
+    let history = placed(alloc, &journal)?;
+    drop(journal);
+    let mut text = String::new(alloc);
+    push_history(&mut text, history.items())?;
+    Ok(text)
+}

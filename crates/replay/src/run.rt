@@ -1,0 +1,130 @@
+//! Running the script of a file.
+ghost use Rattle.std.specs.Prelude.{◌≡◌, ◌≢◌, List, None, Some, string_bytes, IfErr, IfOk};
+ghost use Rattle.cluster_core.specs.declared.held_lock.HeldLock.{HeldLock};
+ghost use Rattle.cluster_core.specs.declared.token_run.TokenRun.{TokenRun};
+ghost use Rattle.command_line.specs.Tasks.{run};
+ghost use Rattle.journal_text.specs.Journals.{journal_text};
+ghost use Rattle.lockscript.specs.Listing.{listing_start};
+ghost use Rattle.replay.specs.declared.fault.Fault.TheVariants.{CannotWriteOutput};
+ghost use Rattle.replay.specs.declared.shown.Shown.TheVariants.{Text};
+ghost use Rattle.replay.specs.Commands.{Does, IsFault};
+ghost use Rattle.replay.specs.Faults.{IsScriptFault};
+ghost use Rattle.replay.specs.Parts.{state_of};
+ghost use Rattle.replay.specs.Scripts.{HasRun, HasScript, IsListing, Lists};
+ghost use Rattle.replay.specs.Stores.{SameFiles};
+
+use crate::fault::Fault;
+use crate::input::bytes_of;
+use crate::play::play;
+use crate::played::Played;
+use crate::store::Store;
+use cluster_core::journal::Journal;
+use intervals::span_map::NoMemory;
+use journal_text::journal::print;
+use lockscript::listing::{listing_start, push_history};
+use lockscript::script::Script;
+use placement::history::History;
+use placement::placed::placed;
+use std::alloc::Global;
+
+// The listing of what the script of a file comes to.
+pub(crate) fn run_script<'a, S: Store>(
+    alloc: Global,
+    store: &mut S,
+    path: &'a str,
+) -> Result<String, Fault<'a>>
+    ensures done { IfOk result (λ text. Does (S.holds store.old) (run path.now None) (S.holds store.new) (Text text)) }
+    ensures fault { IfErr result (λ fault. (fault ≢ CannotWriteOutput)
+        × IsFault (S.holds store.old) (S.ran_short store.new) (S.refuses store.new) (run path.now None) (S.holds store.new) fault) }
+{
+    let played = played_of(alloc, store, path)?;
+    Ok(listing_of(alloc, played)?)
+}
+
+// The same, with the journal of the run written to a file. All that needs memory is done before.
+pub(crate) fn run_with_journal<'a, S: Store>(
+    alloc: Global,
+    store: &mut S,
+    path: &'a str,
+    file: &'a str,
+) -> Result<String, Fault<'a>>
+    ensures done { IfOk result (λ text. Does (S.holds store.old) (run path.now (Some file.now)) (S.holds store.new) (Text text)) }
+    ensures fault { IfErr result (λ fault. (fault ≢ CannotWriteOutput)
+        × IsFault (S.holds store.old) (S.ran_short store.new) (S.refuses store.new) (run path.now (Some file.now)) (S.holds store.new) fault) }
+{
+    let played = played_of(alloc, store, path)?;
+    let (listing, journal) = listing_and_journal(alloc, played)?;
+    match store.write(file, journal.as_bytes()) {
+        Ok(()) => Ok(listing),
+        Err(_) => Err(Fault::CannotWrite(file)),
+    }
+}
+
+// What the script of a file comes to.
+fn played_of<'a, S: Store>(alloc: Global, store: &mut S, path: &'a str) -> Result<Played, Fault<'a>>
+    ensures run { IfOk result (λ played. HasRun (S.holds store.old path.now) (state_of played)) }
+    ensures fault { IfErr result (IsScriptFault (S.holds store.old path.now) (S.ran_short store.new) path.now) }
+    ensures files { SameFiles (S.holds store.old) (S.holds store.new) }
+{
+    let script = script_of(alloc, store, path)?;
+    Ok(play(alloc, &script)?)
+}
+
+// The script that a file writes.
+fn script_of<'a, S: Store>(alloc: Global, store: &mut S, path: &'a str) -> Result<Script, Fault<'a>>
+    ensures script { IfOk result (HasScript (S.holds store.old path.now)) }
+    ensures fault { IfErr result (IsScriptFault (S.holds store.old path.now) (S.ran_short store.new) path.now) }
+    ensures files { SameFiles (S.holds store.old) (S.holds store.new) }
+{
+    let bytes = bytes_of(alloc, store, path)?;
+    match str::from_utf8(bytes.as_slice()) {
+        Ok(text) => Ok(Script::parse(alloc, text)?),
+        Err(_) => Err(Fault::CannotRead(path)),
+    }
+}
+
+// The listing of a run. What is no longer needed goes as soon as it can: the journal before the
+// history is written.
+#[tactic(auto, using(crate::proofs::Sections::whole_listing))]
+fn listing_of(alloc: Global, played: Played) -> Result<String, NoMemory>
+    ensures { IfOk result (λ text. IsListing (state_of played) (string_bytes text)) }
+{
+    let (mut text, journal, history) = listing_begun(alloc, played)?;
+    drop(journal);
+    push_history(&mut text, history.items())?;
+    Ok(text)
+}
+
+// The listing of a run, and its journal as text.
+#[tactic(auto, using(crate::proofs::Sections::whole_listing))]
+fn listing_and_journal(alloc: Global, played: Played) -> Result<(String, String), NoMemory>
+    ensures listing { IfOk result (λ texts. IsListing (state_of played) (string_bytes texts.0)) }
+    ensures journal { IfOk result (λ texts. string_bytes texts.1 ≡ journal_text played.journal.shape played.journal.entries) }
+{
+    let (mut text, journal, history) = listing_begun(alloc, played)?;
+    let printed = print(alloc, &journal.shape(), journal.entries())?;
+    drop(journal);
+    push_history(&mut text, history.items())?;
+    Ok((text, printed))
+}
+
+// The listing of a run up to its history, its journal, and the history. The world goes once its
+// tokens and locks are listed.
+fn listing_begun(alloc: Global, played: Played) -> Result<(String, Journal, History), NoMemory>
+    ensures journal { IfOk result (λ begun. begun.1 ≡ played.journal) }
+    ensures listing { IfOk result (λ begun. (tokens : List TokenRun) × (locks : List HeldLock) × Lists (state_of played) tokens locks begun.2
+        × (string_bytes begun.0 ≡ listing_start played.refused played.journal.entries tokens locks)) }
+{
+    let tokens = played.world().tokens(alloc)?;
+    let locks = played.world().locks(alloc)?;
+    let (journal, refused) = played.into_journal();
+    let history = placed(alloc, &journal)?;
+    let text = listing_start(
+        alloc,
+        refused.as_slice(),
+        journal.entries(),
+        tokens.as_slice(),
+        locks.as_slice(),
+    )?;
+    Ok((text, journal, history))
+}

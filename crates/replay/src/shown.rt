@@ -1,0 +1,54 @@
+//! What is shown of a command that is done.
+ghost use Rattle.std.specs.Prelude.{◌≡◌, OnErr, OnOk};
+ghost use Rattle.std.specs.Io.KnownBytes.{Appends};
+ghost use Rattle.replay.specs.Outputs.{AppendsPart, Writes};
+ghost use Rattle.replay.specs.Showing.{shown_status, shown_text};
+
+use crate::output::{Output, WriteFailed, put_line};
+use itoa::Buffer;
+
+/// What is shown of a command that is done.
+#[derive(Drop)]
+pub enum Shown {
+    /// A listing, or a history.
+    Text(String),
+    /// `audit yes`: the entries of the journal are a run.
+    Yes,
+    /// `audit no K`: the entry at this position, from 1, is the first that is not the next step.
+    No(u32),
+}
+
+impl Shown {
+    /// The exit status: 1 where a journal is none of a run, else 0.
+    pub fn status(&self) -> u8
+        ensures { result ≡ shown_status self.now }
+    {
+        match self {
+            Shown::Text(_) | Shown::Yes => 0,
+            Shown::No(_) => 1,
+        }
+    }
+
+    /// Writes all of it, and sends it on.
+    ///
+    /// # Errors
+    /// Where the writer fails, which took a beginning of it.
+    pub fn show<O: Output>(&self, out: &mut O) -> Result<(), WriteFailed>
+        ensures shown { OnOk result (Appends (O.taken out.old) (O.taken out.new) (shown_text self.now)) }
+        ensures flushed { OnOk result (O.is_flushed out.new) }
+        ensures part { OnErr result (AppendsPart (O.taken out.old) (O.taken out.new) (shown_text self.now) × O.has_failed out.new) }
+    {
+        self.write(out)?;
+        out.finish()
+    }
+
+    fn write<O: Output>(&self, out: &mut O) -> Result<(), WriteFailed>
+        ensures { Writes (O.taken out.old) (O.taken out.new) (O.has_failed out.new) (shown_text self.now) result }
+    {
+        match self {
+            Shown::Text(text) => out.put(text.as_bytes()),
+            Shown::Yes => put_line(out, "audit yes", ""),
+            Shown::No(position) => put_line(out, "audit no ", Buffer::new().format(*position)),
+        }
+    }
+}
