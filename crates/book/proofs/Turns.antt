@@ -11,8 +11,7 @@ use Rattle.node_core.specs.State.{NodeState, first_node}
 use Rattle.node_core.specs.Parts.{node_state}
 use Rattle.cluster_core.specs.World.{WorldState, has_node, was_declared}
 use Rattle.messages.specs.declared.refusal.Refused.{Refused}
-use Rattle.messages.specs.declared.refusal.Refused.TheVariants.{NoMemory, Busy, Stranger, JournalFull, Spent, NotAlive, NotDead, TooManyRestarts, Fenced}
-use Rattle.cluster_core.specs.Next.{entry, next, IsCertain}
+use Rattle.cluster_core.specs.Next.{entry, next}
 use Rattle.cluster_core.specs.Actors.{HasNode}
 use Rattle.cluster_core.proofs.common.Choices.{at_number}
 use Rattle.cluster_core.proofs.steps.Steps.{next_taken, declare_step, restart_step}
@@ -25,18 +24,6 @@ same_node n m e = cc
 
 same_again : (n m : ℕ) → ◌≡◌ {A = Event} (Restart n) (Restart m) → n ≡ m
 same_again n m e = cc
-
--- want of memory stands in the place of no refusal of a declaration
-pub certain : (n : ℕ) (e : Refused) → IsCertain (Declare n) e
-certain n NoMemory = tt
-certain n Busy = tt
-certain n Stranger = tt
-certain n JournalFull = tt
-certain n Spent = refl
-certain n NotAlive = tt
-certain n NotDead = tt
-certain n TooManyRestarts = tt
-certain n Fenced = tt
 
 -- the entry of a declaration
 pub declared_entry : (w : WorldState) (n : ℕ) (q : WorldState × Entry) → next w (Declare n) ≡ Ok q → (k : ℕ) × (q.1 ≡ entry (Declare n) k (sending []))
