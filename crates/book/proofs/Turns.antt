@@ -34,12 +34,12 @@ pub declared_others : (w : WorldState) (n : ℕ) (q : WorldState × Entry) (x : 
 declared_others w n q (OfServer f x) h ne has = declare_step w (λ p. HasState p.0 (OfServer f x)) n q (λ m is alive. record { number = has.number; state = has.state }) (next_taken w (Declare n) q h).1
 declared_others w n q (OfNode k x) h ne has =
     declare_step w (λ p. HasState p.0 (OfNode k x)) n q (λ m is alive.
-        let other : k ≡ m → ⊥ = λ e. ne (ap ANode (e ∙ sym (same_node n m is))) in
-        record {
-          number = has.number;
-          alive = at_number k m (λ b. (if b then false else w.alive k) ≡ true) (λ same. absurd (other same)) (λ _. has.alive);
-          state = at_number k m (λ b. (if b then first_node w.shape m ((w.nodes m).incarnation + 1) else w.nodes k) ≡ node_state x.value) (λ same. absurd (other same)) (λ _. has.state);
-        })
+    let other : k ≡ m → ⊥ = λ e. ne (ap ANode (e ∙ sym (same_node n m is))) in
+    record {
+      number = has.number;
+      alive = at_number k m (λ b. (if b then false else w.alive k) ≡ true) (λ same. absurd (other same)) (λ _. has.alive);
+      state = at_number k m (λ b. (if b then first_node w.shape m ((w.nodes m).incarnation + 1) else w.nodes k) ≡ node_state x.value) (λ same. absurd (other same)) (λ _. has.state);
+    })
     (next_taken w (Declare n) q h).1
 
 below_next : (i : ℕ) → 1 ≤ i → (nat_le 1 i && nat_lt i (i + 1)) ≡ true
@@ -52,12 +52,12 @@ declared_fences w n q (OfNode k x) h has is least =
     let here : k ≡ n = cc in
     let i = (node_state x.value).incarnation in
     declare_step w (λ p. is_declared p.0 (OfNode k x) ≡ true) n q (λ m same alive.
-        let at : k ≡ m = here ∙ same_node n m same in
-        let grows : (if k == m then first_node w.shape m ((w.nodes m).incarnation + 1) else w.nodes k).incarnation ≡ i + 1 =
-            at_number k m (λ b. (if b then first_node w.shape m ((w.nodes m).incarnation + 1) else w.nodes k).incarnation ≡ i + 1)
-            (λ _. ap (λ (j : ℕ). (w.nodes j).incarnation + 1) (sym at) ∙ ap (λ (s : NodeState). s.incarnation + 1) has.state)
-            (λ other. absurd (other at)) in
-        (λ j. has.number j && (nat_le 1 i && nat_lt i (grows j))) ∙ below_next i least)
+    let at : k ≡ m = here ∙ same_node n m same in
+    let grows : (if k == m then first_node w.shape m ((w.nodes m).incarnation + 1) else w.nodes k).incarnation ≡ i + 1 =
+    at_number k m (λ b. (if b then first_node w.shape m ((w.nodes m).incarnation + 1) else w.nodes k).incarnation ≡ i + 1)
+    (λ _. ap (λ (j : ℕ). (w.nodes j).incarnation + 1) (sym at) ∙ ap (λ (s : NodeState). s.incarnation + 1) has.state)
+    (λ other. absurd (other at)) in
+    (λ j. has.number j && (nat_le 1 i && nat_lt i (grows j))) ∙ below_next i least)
     (next_taken w (Declare n) q h).1
 
 -- a restart leaves other actors as they are

@@ -21,14 +21,8 @@ use token_server::server::Server;
 /// The state of one actor: a node by its number from 1, or the token server of a file by the file's.
 #[derive(Drop)]
 pub(crate) enum State {
-    OfNode {
-        number: u8,
-        node: Box<Node>,
-    },
-    OfServer {
-        file: u16,
-        server: Box<Server>,
-    },
+    OfNode { number: u8, node: Box<Node> },
+    OfServer { file: u16, server: Box<Server> },
 }
 
 // Whether the actor is the node with the number.

@@ -50,7 +50,10 @@ fn grow(rows: &mut Vec<ProcessEntry>, pid: usize) -> Result<(), AllocError>
 }
 
 /// The rows and more, up to that of the process with that number, where there is none for it yet.
-pub fn with_place(rows: &Vec<ProcessEntry>, pid: usize) -> Result<Option<Vec<ProcessEntry>>, AllocError>
+pub fn with_place(
+    rows: &Vec<ProcessEntry>,
+    pid: usize,
+) -> Result<Option<Vec<ProcessEntry>>, AllocError>
     requires number { pid < 65536 }
     requires rows { AreRows rows.now.items }
     ensures { IfOk result (HasPlace rows.now.items pid) }

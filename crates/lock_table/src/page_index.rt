@@ -7,8 +7,8 @@ ghost use Rattle.lock_table.specs.Rows.{held, AreRows, IsBounded};
 ghost use Rattle.lock_table.specs.Pages.{Has, HasFlag, HasFile, MayHold, HasPage, IsKept, Covers, slot_of};
 
 use crate::flag_set::FlagSet;
-use crate::owner_set::{OwnerSet, flag_of};
 use crate::owner_locks::{OwnerLocks, Spans};
+use crate::owner_set::{OwnerSet, flag_of};
 use intervals::run::Run;
 use intervals::span::{GREATEST, Span};
 use intervals::span_map::NoMemory;

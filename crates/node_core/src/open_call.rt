@@ -6,8 +6,8 @@ ghost use Rattle.node_core.specs.Interrupts.{interruption_of};
 
 use intervals::span::Span;
 use messages::message::Urgency;
-use model::lock_target::LockTarget;
 use model::lock_info::LockInfo;
+use model::lock_target::LockTarget;
 use model::mode::Mode;
 use model::owner::Owner;
 use model::reply::Reply;

@@ -108,7 +108,13 @@ fn takes_one_file_for_the_journal(rt: HostRuntime) {
         "b.journal",
         "a.lock",
     ];
-    assert!(rt; is_wrong(alloc, &twice, "'--journal <FILE>' cannot be used multiple times"));
+    assert!(rt;
+        is_wrong(
+            alloc,
+            &twice,
+            "'--journal <FILE>' cannot be used multiple times"
+        )
+    );
     let none = ["lockreplay", "run", "a.lock", "--journal"];
     assert!(rt; is_wrong(alloc, &none, "a value is required for '--journal <FILE>'"));
 }

@@ -16,7 +16,11 @@ pub(crate) fn same_request(one: &Option<TokenRequest>, other: &Option<TokenReque
 }
 
 /// The request, unless it is of the node in that incarnation or an older one.
-pub(crate) fn unless_up_to(active: Option<TokenRequest>, node: u8, incarnation: u16) -> Option<TokenRequest>
+pub(crate) fn unless_up_to(
+    active: Option<TokenRequest>,
+    node: u8,
+    incarnation: u16,
+) -> Option<TokenRequest>
     ensures { result ≡ unless (is_up_to node incarnation) active }
 {
     match active {

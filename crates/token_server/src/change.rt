@@ -2,9 +2,9 @@
 ghost use Rattle.std.specs.Prelude.{◌≡◌};
 
 use crate::commands::Commands;
-use crate::token_request::TokenRequest;
 use crate::queue_edit::QueueEdit;
 use crate::row_edits::RowEdits;
+use crate::token_request::TokenRequest;
 use messages::outcome::Outcome;
 use token_set::edit::TokenEdit;
 

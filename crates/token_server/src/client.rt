@@ -7,8 +7,8 @@ ghost use Rattle.token_server.specs.Resends.{outstanding_of};
 ghost use Rattle.token_server.specs.Edits.{seen_row, commands_in, token_in, client_after, row_with, row_kept, given_to_row, answered_with};
 
 use crate::commands::Commands;
-use crate::token_holder::{TokenHolder, RowView};
 use crate::row_edits::{RowAfter, RowEdit};
+use crate::token_holder::{RowView, TokenHolder};
 use intervals::span_map::NoMemory;
 use messages::message::Message;
 use token_set::edit::TokenEdit;

@@ -9,8 +9,8 @@ ghost use Rattle.token_server.specs.Edits.{overlaid, with_given_row};
 
 use crate::change::Given;
 use crate::client::Client;
-use crate::token_holder::TokenHolder;
 use crate::row_edits::{RowEdit, RowEdits};
+use crate::token_holder::TokenHolder;
 use intervals::span_map::NoMemory;
 use messages::items::Items;
 use messages::message::Message;

@@ -6,8 +6,8 @@ ghost use Rattle.token_server.specs.State.{is_of_call, is_up_to};
 ghost use Rattle.token_server.specs.Server.{request_of};
 ghost use Rattle.token_server.specs.Edits.{queue_after};
 
-use crate::token_request::TokenRequest;
 use crate::requests::{self, Requests};
+use crate::token_request::TokenRequest;
 use intervals::span_map::NoMemory;
 use model::call::CallId;
 

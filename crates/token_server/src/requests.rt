@@ -4,8 +4,8 @@ ghost use Rattle.token_server.specs.State.{is_of_call, is_up_to};
 ghost use Rattle.token_server.specs.Edits.{queue_after};
 
 use crate::by_call::ByCall;
-use crate::token_request::TokenRequest;
 use crate::queue_edit::QueueEdit;
+use crate::token_request::TokenRequest;
 use intervals::span_map::NoMemory;
 use model::call::CallId;
 use std::alloc::Global;

@@ -19,12 +19,12 @@ use crate::change::{Change, Draft, Edit, Given};
 use crate::clients::Clients;
 use crate::commands::Commands;
 use crate::event::ServerEvent;
-use crate::token_request::TokenRequest;
 use crate::node_change::NodeChange;
 use crate::queue_edit::QueueEdit;
 use crate::requests::Requests;
 use crate::row_edits::RowEdits;
 use crate::sketch::{Changed, Moved, Sketch};
+use crate::token_request::TokenRequest;
 use intervals::span::Span;
 use intervals::span_map::NoMemory;
 use messages::actor::Actor;
@@ -514,7 +514,10 @@ impl Server {
                 mode,
                 wanted,
                 ..
-            } => Some((self.ask(TokenRequest::new(call, urgency, mode, wanted)), None)),
+            } => Some((
+                self.ask(TokenRequest::new(call, urgency, mode, wanted)),
+                None,
+            )),
             Message::Taken { number, call, .. } => Some((self.on_taken(number, call)?, None)),
             Message::Released {
                 number,

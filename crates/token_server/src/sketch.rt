@@ -8,10 +8,10 @@ ghost use Rattle.token_server.specs.Edits.{queue_after};
 
 use crate::clients::Clients;
 use crate::commands::Commands;
-use crate::token_request::TokenRequest;
 use crate::node_change::NodeChange;
 use crate::queue_edit::QueueEdit;
 use crate::requests::Requests;
+use crate::token_request::TokenRequest;
 use intervals::span::Span;
 use intervals::span_map::NoMemory;
 use model::call::CallId;

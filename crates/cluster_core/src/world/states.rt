@@ -92,7 +92,13 @@ impl World {
     {
         let incarnation = self.named_incarnation(&event, node);
         let sends = outcome.sends.as_slice();
-        put_in(&mut self.nodes, node as usize - 1, state, &mut self.sent, sends)?;
+        put_in(
+            &mut self.nodes,
+            node as usize - 1,
+            state,
+            &mut self.sent,
+            sends,
+        )?;
         self.length += 1;
         Ok(Entry::at_node(event, incarnation, outcome))
     }
@@ -116,7 +122,13 @@ impl World {
         ensures unchanged { OnErr result (self.new ≡ self.old) }
     {
         let sends = outcome.sends.as_slice();
-        put_in(&mut self.servers, file as usize - 1, state, &mut self.sent, sends)?;
+        put_in(
+            &mut self.servers,
+            file as usize - 1,
+            state,
+            &mut self.sent,
+            sends,
+        )?;
         self.length += 1;
         Ok(Entry::new(event, outcome))
     }

@@ -24,6 +24,6 @@ returns-clause-outcome c =
     let state = ap (λ (x : SeatFields). x.state) c.advance.ensures ∙ parts.ensures.state in
     let commits = ap (λ (x : SeatFields). x.commits) c.advance.ensures in
     let made : Commits b s p c.seen_of-seen.result d r t =
-        committed b d s r p c.seen_of-seen.result t parts.result.copy parts.result.event parts.result.outcome parts.ensures.event parts.ensures.outcome accepted step parts.ensures.copy c.in_ok-put.ensures.ok state commits position said gave seen_is in
+    committed b d s r p c.seen_of-seen.result t parts.result.copy parts.result.event parts.result.outcome parts.ensures.event parts.ensures.outcome accepted step parts.ensures.copy c.in_ok-put.ensures.ok state commits position said gave seen_is in
     let seen : Commits b s p (seen_at (option_copied c.args.seen)) d r t = subst (λ (n : ℕ). Commits b s p n d r t) c.seen_of-seen.ensures made in
     subst (λ (x : RunFields). Commits x s p (seen_at (option_copied c.args.seen)) d r t) c.self.view_is seen

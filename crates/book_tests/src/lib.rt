@@ -1,0 +1,5 @@
+//! Tests of `book`, through its public calls.
+#![tactic(auto)]
+
+#[cfg(test)]
+mod commits;
