@@ -11,6 +11,7 @@ if [ -z "$folder" ]; then
     trap 'rm -rf "$folder"' EXIT
 fi
 [ $# -gt 0 ] || set -- covered lossy fight storm
+mkdir -p "$folder" || exit 1
 "$here/../lockreplay" --help >/dev/null || exit 1
 program=$here/../crates/lockreplay/out/lockreplay
 
