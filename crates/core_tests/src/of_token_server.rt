@@ -1,7 +1,11 @@
 //! Servers, by hand-made messages.
 ghost use Rattle.std.specs.Prelude.{◌≤◌};
+ghost use Rattle.model.specs.Limits.{IsNumber};
+ghost use Rattle.messages.specs.Shapes.{most_files};
 
 use intervals::span::{GREATEST, Span};
+use messages::command_number::CommandNumber;
+use messages::file_number::FileNumber;
 use messages::message::{Message, Urgency};
 use messages::outcome::Outcome;
 use messages::refusal::StepError;
@@ -95,9 +99,11 @@ fn call(incarnation: u16, number: u32) -> CallId
 }
 
 // A request of the whole file for bytes 10 to 19.
-fn request(file: u16, call: CallId) -> ServerEvent {
+fn request(file: u16, call: CallId) -> ServerEvent
+    requires { IsNumber most_files file }
+{
     ServerEvent::Deliver(Message::Request {
-        file,
+        file: FileNumber::of(file),
         call,
         urgency: Urgency::Now,
         mode: Mode::Write,
@@ -111,10 +117,12 @@ fn request(file: u16, call: CallId) -> ServerEvent {
     })
 }
 
-fn grant(number: u32, call: CallId) -> Message {
+fn grant(number: u32, call: CallId) -> Message
+    requires { 1 ≤ number }
+{
     Message::Grant {
-        file: 2,
-        number,
+        file: FileNumber::of(2),
+        number: CommandNumber::of(number),
         call,
         mode: Mode::Write,
         span: Span {
@@ -124,10 +132,12 @@ fn grant(number: u32, call: CallId) -> Message {
     }
 }
 
-fn taken(number: u32, call: CallId) -> ServerEvent {
+fn taken(number: u32, call: CallId) -> ServerEvent
+    requires { 1 ≤ number }
+{
     ServerEvent::Deliver(Message::Taken {
-        file: 2,
-        number,
+        file: FileNumber::of(2),
+        number: CommandNumber::of(number),
         call,
     })
 }
@@ -236,7 +246,7 @@ fn grants_one_request_after_the_other(rt: HostRuntime) -> Result<(), Fail> {
 fn asks(call: CallId, mode: Mode, required: Span) -> ServerEvent {
     let _ = &required.lo; // tells the proof that the span ends by the greatest offset
     ServerEvent::Deliver(Message::Request {
-        file: 2,
+        file: FileNumber::of(2),
         call,
         urgency: Urgency::Now,
         mode,
@@ -251,7 +261,7 @@ fn asks(call: CallId, mode: Mode, required: Span) -> ServerEvent {
 fn waits(call: CallId, mode: Mode, required: Span) -> ServerEvent {
     let _ = &required.lo; // tells the proof that the span ends by the greatest offset
     ServerEvent::Deliver(Message::Request {
-        file: 2,
+        file: FileNumber::of(2),
         call,
         urgency: Urgency::Waits,
         mode,
@@ -262,21 +272,25 @@ fn waits(call: CallId, mode: Mode, required: Span) -> ServerEvent {
     })
 }
 
-fn given(number: u32, call: CallId, mode: Mode, span: Span) -> Message {
+fn given(number: u32, call: CallId, mode: Mode, span: Span) -> Message
+    requires { 1 ≤ number }
+{
     Message::Grant {
-        file: 2,
-        number,
+        file: FileNumber::of(2),
+        number: CommandNumber::of(number),
         call,
         mode,
         span,
     }
 }
 
-fn revoke(number: u32, call: CallId, mode: Mode, required: Span) -> Message {
+fn revoke(number: u32, call: CallId, mode: Mode, required: Span) -> Message
+    requires { 1 ≤ number }
+{
     let _ = &required.lo; // tells the proof that the span ends by the greatest offset
     Message::Revoke {
-        file: 2,
-        number,
+        file: FileNumber::of(2),
+        number: CommandNumber::of(number),
         holder: HOLDER,
         call,
         mode,
@@ -287,38 +301,47 @@ fn revoke(number: u32, call: CallId, mode: Mode, required: Span) -> Message {
     }
 }
 
-fn released(number: u32, call: CallId, span: Span) -> ServerEvent {
+fn released(number: u32, call: CallId, span: Span) -> ServerEvent
+    requires { 1 ≤ number }
+{
     ServerEvent::Deliver(Message::Released {
-        file: 2,
-        number,
+        file: FileNumber::of(2),
+        number: CommandNumber::of(number),
         holder: HOLDER,
         call,
         span,
     })
 }
 
-fn conflict(number: u32, call: CallId) -> ServerEvent {
+fn conflict(number: u32, call: CallId) -> ServerEvent
+    requires { 1 ≤ number }
+{
     ServerEvent::Deliver(Message::Conflict {
-        file: 2,
-        number,
+        file: FileNumber::of(2),
+        number: CommandNumber::of(number),
         holder: HOLDER,
         call,
         lock: LOCK,
     })
 }
 
-fn deny(call: CallId, number: u32) -> Message {
+fn deny(call: CallId, number: u32) -> Message
+    requires { 1 ≤ number }
+{
     Message::Deny {
-        file: 2,
+        file: FileNumber::of(2),
         call,
         holder: HOLDER,
-        number,
+        number: CommandNumber::of(number),
         lock: LOCK,
     }
 }
 
 fn freed(holder: Host) -> ServerEvent {
-    ServerEvent::Deliver(Message::Freed { file: 2, holder })
+    ServerEvent::Deliver(Message::Freed {
+        file: FileNumber::of(2),
+        holder,
+    })
 }
 
 #[test]
@@ -484,7 +507,9 @@ fn a_conflict_denies_no_other_call(rt: HostRuntime) -> Result<(), Fail> {
 }
 
 // What tells the holder to give up what the waiting call needs.
-fn revokes(number: u32) -> Message {
+fn revokes(number: u32) -> Message
+    requires { 1 ≤ number }
+{
     revoke(number, ASKS, Mode::Write, LOW)
 }
 

@@ -1,10 +1,10 @@
 //! The table of a single machine.
-ghost use Rattle.std.specs.Prelude.{◌≡◌, ◌≢◌, None, IfOk, IsOk, IsTrue, ◌↔◌, OnOk, OnErr, MatchOption, MatchResult, Result, Ok, Err};
+ghost use Rattle.std.specs.Prelude.{◌≡◌, ◌≢◌, ◌<◌, None, IfOk, IsOk, IsTrue, ◌↔◌, OnOk, OnErr, MatchOption, MatchResult, Result, Ok, Err};
 ghost use Rattle.model.specs.Locks.{IsRegion, IsLowestBlocker};
 ghost use Rattle.model.specs.Descriptors.{Processes, after_spawn, after_fork, after_open, after_dup};
 ghost use Rattle.model.specs.declared.reply.Reply.{Reply};
-ghost use Rattle.model.specs.Limits.{IsNumber, most_processes};
-ghost use Rattle.model.specs.Table.{empty_table, around, beside, target, lock_within, after_close, after_exit};
+ghost use Rattle.model.specs.Limits.{IsNumber, most_processes, most_regions};
+ghost use Rattle.model.specs.Table.{empty_table, around, beside, target, regions_with, lock_within, after_close, after_exit};
 ghost use Rattle.model.specs.Step.{Is, Unblocked};
 ghost use Rattle.descriptors.specs.Rows.{Refuses};
 ghost use Rattle.fcntl_table.specs.declared.edit.TableEdit.TheVariants.{Nothing};
@@ -260,10 +260,11 @@ impl FcntlTable {
     /// than 1,024 regions in the file.
     ///
     /// # Errors
-    /// `NoMemory`.
+    /// `NoMemory`, never in place of `NoLocks`.
     #[tactic(auto, unfolding(crate::specs::Tables::table_of))]
     pub fn plan_lock(&self, call: LockTarget, mode: Option<Mode>) -> Result<Planned, NoMemory>
         ensures ok { IfOk result (λ planned. Is (lock_within (table_of self.now) call mode) planned.reply (edited (table_of self.now) planned.edit)) }
+        ensures refused { most_regions < regions_with (table_of self.now) call mode → result ≡ Ok (record { edit = Nothing; reply = Reply.NoLocks }) }
         ensures fits { IfOk result (λ planned. Fits self.now planned.edit) }
     {
         match self.locks.plan(call.owner, call.file, call.span, mode) {
@@ -375,9 +376,10 @@ impl FcntlTable {
     /// would have more than 1,024 regions in the file (ENOLCK).
     ///
     /// # Errors
-    /// `NoMemory`.
+    /// `NoMemory`, never in place of `NoLocks`.
     pub fn lock_within(&mut self, call: LockTarget, mode: Option<Mode>) -> Result<Reply, NoMemory>
         ensures ok { IfOk result (λ reply. Is (lock_within (table_of self.old) call mode) reply (table_of self.new)) }
+        ensures refused { most_regions < regions_with (table_of self.old) call mode → result ≡ Ok Reply.NoLocks }
         ensures unchanged { OnErr result (table_of self.new ≡ table_of self.old) }
     {
         let Planned { edit, reply } = self.plan_lock(call, mode)?;

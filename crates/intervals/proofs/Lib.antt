@@ -10,3 +10,4 @@ pub mod SearchLaws
 pub mod SpanLaws
 pub mod SpanSearch
 pub mod Differences
+pub mod StartsWith

@@ -13,7 +13,7 @@ begins_at [] n = false
 begins_at (r ∷ rest) n = eqb r.lo n || begins_at rest n
 
 -- how many runs of the list begin below n
-abbrev begin_below : {V : Type 0} → List (Run V) → ℕ → ℕ
+abbrev pub begin_below : {V : Type 0} → List (Run V) → ℕ → ℕ
 begin_below [] n = 0
 begin_below (r ∷ rest) n = (if ltb r.lo n then 1 else 0) + begin_below rest n
 
@@ -91,7 +91,7 @@ module _ {V : Type 0} (eq : V → V → Bool) (exact : (a b : V) → eq a b ≡ 
             ]
       ]
 
-  starts_below_are : (l : List (Run V)) (n : ℕ) → AreRuns l → starts_below eq (value_at l) n ≡ begin_below l n
+  pub starts_below_are : (l : List (Run V)) (n : ℕ) → AreRuns l → starts_below eq (value_at l) n ≡ begin_below l n
   unfolding starts_below
   starts_below_are l zero runs = sym (begin_below_none l)
   starts_below_are l (suc n) runs = rw (starts_below_are l n runs, starts_are l n runs) (sym (begin_below_more l n runs))

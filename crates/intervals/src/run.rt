@@ -1,7 +1,7 @@
 //! Runs of bytes that have one value, and what is searched and made in vectors of them.
-ghost use Rattle.std.specs.Prelude.{◌≡◌, ◌≤◌, ◌<◌, ◌+◌, ◌++◌, [], take, length, ℕ, Some, IsTrue, ◌↔◌};
+ghost use Rattle.std.specs.Prelude.{◌≡◌, ◌≤◌, ◌<◌, ◌+◌, ◌++◌, [], take, length, ℕ, if◌then◌else◌, Some, IsTrue, ◌↔◌};
 ghost use Rattle.std.specs.Vec.{vec_len, vec_capacity};
-ghost use Rattle.intervals.specs.Bytes.{greatest, put, IsBarred};
+ghost use Rattle.intervals.specs.Bytes.{greatest, put, begins_after, starts_below, IsBarred};
 ghost use Rattle.intervals.specs.Runs.{bytes_of, value_at, IsBarredValue, AreRuns, EndsBelow, EndsFrom, IsLowestFree, IsHighestFree};
 
 use crate::span::{GREATEST, Span};
@@ -25,6 +25,25 @@ pub(crate) fn split_before<V>(runs: &[Run<V>], byte: u64) -> (&[Run<V>], &[Run<V
     ensures reached { EndsFrom result.1.now byte }
 {
     runs.split_at(runs.partition_point(|run| run.hi < byte))
+}
+
+// How many runs begin below the byte. It halves what is left at each step.
+pub(crate) fn begin_below<V: Exact>(runs: &[Run<V>], byte: u64) -> usize
+    requires { AreRuns runs.now }
+    ensures count { result ≡ starts_below V.PartialEq.eq (value_at runs.now) byte }
+    ensures within { result ≤ length runs.now }
+{
+    runs.partition_point(|run| run.lo < byte)
+}
+
+// How many runs of the value, 1 or none, begin right after a byte that has `before`.
+pub(crate) fn begin_after<V: Exact>(before: Option<V>, value: Option<V>) -> usize
+    ensures { result ≡ (if begins_after V.PartialEq.eq before value then 1 else 0) }
+{
+    if value.is_none() || before == value {
+        return 0;
+    }
+    1
 }
 
 // Whether a value is the barred one, or any is.

@@ -1,11 +1,13 @@
 //! A span map as a sorted vector of runs.
 ghost use Rattle.std.specs.Prelude.{◌≡◌, ◌≤◌, ◌<◌, ◌+◌, ℕ, nat_le, length, IfOk, OnOk, OnErr, IsTrue, ◌↔◌, MatchOption, Some, None};
-ghost use Rattle.intervals.specs.Bytes.{greatest, put, IsBarred, NoneIn, IsFirstIn, IsLargest, IsRun, IsSameOutOf};
+ghost use Rattle.intervals.specs.Bytes.{greatest, number_of_runs, put, IsBarred, NoneIn, IsFirstIn, IsLargest, IsRun, IsSameOutOf};
 ghost use Rattle.intervals.specs.Runs.{bytes_of, value_at};
 ghost use Rattle.intervals.specs.Edits.{written};
 
 use crate::difference::difference;
-use crate::run::{Run, highest_free, is_barred, lowest_free, split_before, write};
+use crate::run::{
+    Run, begin_after, begin_below, highest_free, is_barred, lowest_free, split_before, write,
+};
 use crate::span::Span;
 use crate::span_edit::SpanEdit;
 use crate::span_map::{Exact, NoMemory, SpanMap};
@@ -40,7 +42,10 @@ impl<V: Exact> VecMap<V> {
     /// # Errors
     /// `NoMemory` where a request for memory was refused.
     pub fn plan(&self, span: Span, value: Option<V>) -> Result<SpanEdit<V>, NoMemory>
-        ensures { IfOk result (λ edit. written edit self.now ≡ put (value_at self.now) span value) }
+        ensures written { IfOk result (λ edit. written edit self.now ≡ put (value_at self.now) span value) }
+        ensures span { IfOk result (λ edit. edit.span ≡ span) }
+        ensures value { IfOk result (λ edit. edit.value ≡ value) }
+        ensures enough { IfOk result (λ edit. length self.now ≤ edit.runs) }
     {
         let runs = self.runs.len();
         let most = runs.saturating_mul(2).saturating_add(2);
@@ -91,6 +96,29 @@ impl<V: Exact> VecMap<V> {
             Some(run) if run.lo <= byte => Some(*run),
             _ => None,
         }
+    }
+
+    // The value of the byte before this one, if there is one.
+    fn before(&self, byte: u64) -> Option<V>
+        ensures first { byte ≡ 0 → result ≡ None }
+        ensures other { (b : ℕ) → b + 1 ≡ byte → result ≡ value_at self.now b }
+    {
+        if byte == 0 {
+            return None;
+        }
+        self.get(byte - 1)
+    }
+
+    /// The number of bytes at which a longest run would begin with the value at each byte of the span, or
+    /// with none there. Takes no memory.
+    pub fn starts_with(&self, span: Span, value: Option<V>) -> usize
+        ensures { result ≡ number_of_runs V.PartialEq.eq (put (value_at self.now) span value) }
+    {
+        let below = begin_below(&self.runs, span.lo);
+        let above = self.runs.len() - begin_below(&self.runs, span.hi + 2);
+        let first = begin_after(self.before(span.lo), value);
+        let next = begin_after(value, self.get(span.hi + 1));
+        below + above + first + next
     }
 
     /// A span out of which both maps have the same at each byte; `None` where they have it everywhere.

@@ -6,11 +6,13 @@ ghost use Rattle.lockscript.specs.Texts.{call_text, lock_text, mode_text};
 ghost use Rattle.journal_text.specs.Served.{AreServedWants, IsCommandNumber, IsFile, IsHolder, IsServedLock, IsServedSpan};
 ghost use Rattle.journal_text.specs.Texts.{holder_text, span_text, urgency_text, wants_text};
 
-use crate::parts::{call_of, counted_of, host_of, urgency_of};
+use crate::parts::{call_of, command_of, file_of, host_of, urgency_of};
 use crate::spans::{lock_of, span_of, wants_of};
 use intervals::span::Span;
-use lockscript::fields::{file_of, split_field};
+use lockscript::fields::split_field;
 use lockscript::words::mode_of;
+use messages::command_number::CommandNumber;
+use messages::file_number::FileNumber;
 use messages::message::Urgency;
 use messages::wanted::Wanted;
 use model::call::CallId;
@@ -19,7 +21,9 @@ use model::lock_info::LockInfo;
 use model::mode::Mode;
 
 /// The operands of `request F CALL KIND MODE R D`.
-pub(crate) fn request_operands(text: &str) -> Option<(u16, (CallId, (Urgency, (Mode, Wanted))))>
+pub(crate) fn request_operands(
+    text: &str,
+) -> Option<(FileNumber, (CallId, (Urgency, (Mode, Wanted))))>
     ensures { Reads (pair_text decimal (pair_text call_text (pair_text urgency_text (pair_text mode_text wants_text)))) (Both IsFile (Both IsCall (Both (λ _. ⊤) (Both (λ _. ⊤) AreServedWants)))) text.now result }
 {
     match split_field(text) {
@@ -59,7 +63,9 @@ fn mode_wants(text: &str) -> Option<(Mode, Wanted)>
 }
 
 /// The operands of `grant F K CALL MODE LO HI`.
-pub(crate) fn grant_operands(text: &str) -> Option<(u16, (u32, (CallId, (Mode, Span))))>
+pub(crate) fn grant_operands(
+    text: &str,
+) -> Option<(FileNumber, (CommandNumber, (CallId, (Mode, Span))))>
     ensures { Reads (pair_text decimal (pair_text decimal (pair_text call_text (pair_text mode_text span_text)))) (Both IsFile (Both IsCommandNumber (Both IsCall (Both (λ _. ⊤) IsServedSpan)))) text.now result }
 {
     match split_field(text) {
@@ -69,11 +75,11 @@ pub(crate) fn grant_operands(text: &str) -> Option<(u16, (u32, (CallId, (Mode, S
 }
 
 // `K CALL MODE LO HI`.
-fn number_call_mode_span(text: &str) -> Option<(u32, (CallId, (Mode, Span)))>
+fn number_call_mode_span(text: &str) -> Option<(CommandNumber, (CallId, (Mode, Span)))>
     ensures { Reads (pair_text decimal (pair_text call_text (pair_text mode_text span_text))) (Both IsCommandNumber (Both IsCall (Both (λ _. ⊤) IsServedSpan))) text.now result }
 {
     match split_field(text) {
-        Some((number, rest)) => counted_of(number).zip(call_mode_span(rest)),
+        Some((number, rest)) => command_of(number).zip(call_mode_span(rest)),
         None => None,
     }
 }
@@ -99,7 +105,14 @@ fn mode_span(text: &str) -> Option<(Mode, Span)>
 }
 
 /// The operands of `revoke F K H CALL MODE R D`.
-pub(crate) fn revoke_operands(text: &str) -> Option<(u16, (u32, (Host, (CallId, (Mode, Wanted)))))>
+pub(crate) fn revoke_operands(
+    text: &str,
+) -> Option<
+    (
+        FileNumber,
+        (CommandNumber, (Host, (CallId, (Mode, Wanted)))),
+    ),
+>
     ensures { Reads (pair_text decimal (pair_text decimal (pair_text holder_text (pair_text call_text (pair_text mode_text wants_text))))) (Both IsFile (Both IsCommandNumber (Both IsHolder (Both IsCall (Both (λ _. ⊤) AreServedWants))))) text.now result }
 {
     match split_field(text) {
@@ -109,11 +122,13 @@ pub(crate) fn revoke_operands(text: &str) -> Option<(u16, (u32, (Host, (CallId, 
 }
 
 // `K H CALL MODE R D`.
-fn number_holder_call_mode_wants(text: &str) -> Option<(u32, (Host, (CallId, (Mode, Wanted))))>
+fn number_holder_call_mode_wants(
+    text: &str,
+) -> Option<(CommandNumber, (Host, (CallId, (Mode, Wanted))))>
     ensures { Reads (pair_text decimal (pair_text holder_text (pair_text call_text (pair_text mode_text wants_text)))) (Both IsCommandNumber (Both IsHolder (Both IsCall (Both (λ _. ⊤) AreServedWants)))) text.now result }
 {
     match split_field(text) {
-        Some((number, rest)) => counted_of(number).zip(holder_call_mode_wants(rest)),
+        Some((number, rest)) => command_of(number).zip(holder_call_mode_wants(rest)),
         None => None,
     }
 }
@@ -139,7 +154,7 @@ fn call_mode_wants(text: &str) -> Option<(CallId, (Mode, Wanted))>
 }
 
 /// The operands of `taken F K CALL`.
-pub(crate) fn taken_operands(text: &str) -> Option<(u16, (u32, CallId))>
+pub(crate) fn taken_operands(text: &str) -> Option<(FileNumber, (CommandNumber, CallId))>
     ensures { Reads (pair_text decimal (pair_text decimal call_text)) (Both IsFile (Both IsCommandNumber IsCall)) text.now result }
 {
     match split_field(text) {
@@ -149,17 +164,19 @@ pub(crate) fn taken_operands(text: &str) -> Option<(u16, (u32, CallId))>
 }
 
 // `K CALL`.
-fn number_call(text: &str) -> Option<(u32, CallId)>
+fn number_call(text: &str) -> Option<(CommandNumber, CallId)>
     ensures { Reads (pair_text decimal call_text) (Both IsCommandNumber IsCall) text.now result }
 {
     match split_field(text) {
-        Some((number, call)) => counted_of(number).zip(call_of(call)),
+        Some((number, call)) => command_of(number).zip(call_of(call)),
         None => None,
     }
 }
 
 /// The operands of `released F K H CALL LO HI`.
-pub(crate) fn released_operands(text: &str) -> Option<(u16, (u32, (Host, (CallId, Span))))>
+pub(crate) fn released_operands(
+    text: &str,
+) -> Option<(FileNumber, (CommandNumber, (Host, (CallId, Span))))>
     ensures { Reads (pair_text decimal (pair_text decimal (pair_text holder_text (pair_text call_text span_text)))) (Both IsFile (Both IsCommandNumber (Both IsHolder (Both IsCall IsServedSpan)))) text.now result }
 {
     match split_field(text) {
@@ -169,11 +186,11 @@ pub(crate) fn released_operands(text: &str) -> Option<(u16, (u32, (Host, (CallId
 }
 
 // `K H CALL LO HI`.
-fn number_holder_call_span(text: &str) -> Option<(u32, (Host, (CallId, Span)))>
+fn number_holder_call_span(text: &str) -> Option<(CommandNumber, (Host, (CallId, Span)))>
     ensures { Reads (pair_text decimal (pair_text holder_text (pair_text call_text span_text))) (Both IsCommandNumber (Both IsHolder (Both IsCall IsServedSpan))) text.now result }
 {
     match split_field(text) {
-        Some((number, rest)) => counted_of(number).zip(holder_call_span(rest)),
+        Some((number, rest)) => command_of(number).zip(holder_call_span(rest)),
         None => None,
     }
 }
@@ -199,7 +216,9 @@ fn call_span(text: &str) -> Option<(CallId, Span)>
 }
 
 /// The operands of `conflict F K H CALL LOCK`.
-pub(crate) fn conflict_operands(text: &str) -> Option<(u16, (u32, (Host, (CallId, LockInfo))))>
+pub(crate) fn conflict_operands(
+    text: &str,
+) -> Option<(FileNumber, (CommandNumber, (Host, (CallId, LockInfo))))>
     ensures { Reads (pair_text decimal (pair_text decimal (pair_text holder_text (pair_text call_text lock_text)))) (Both IsFile (Both IsCommandNumber (Both IsHolder (Both IsCall IsServedLock)))) text.now result }
 {
     match split_field(text) {
@@ -209,11 +228,11 @@ pub(crate) fn conflict_operands(text: &str) -> Option<(u16, (u32, (Host, (CallId
 }
 
 // `K H CALL LOCK`.
-fn number_holder_call_lock(text: &str) -> Option<(u32, (Host, (CallId, LockInfo)))>
+fn number_holder_call_lock(text: &str) -> Option<(CommandNumber, (Host, (CallId, LockInfo)))>
     ensures { Reads (pair_text decimal (pair_text holder_text (pair_text call_text lock_text))) (Both IsCommandNumber (Both IsHolder (Both IsCall IsServedLock))) text.now result }
 {
     match split_field(text) {
-        Some((number, rest)) => counted_of(number).zip(holder_call_lock(rest)),
+        Some((number, rest)) => command_of(number).zip(holder_call_lock(rest)),
         None => None,
     }
 }
@@ -239,7 +258,9 @@ fn call_lock(text: &str) -> Option<(CallId, LockInfo)>
 }
 
 /// The operands of `deny F CALL H K LOCK`.
-pub(crate) fn deny_operands(text: &str) -> Option<(u16, (CallId, (Host, (u32, LockInfo))))>
+pub(crate) fn deny_operands(
+    text: &str,
+) -> Option<(FileNumber, (CallId, (Host, (CommandNumber, LockInfo))))>
     ensures { Reads (pair_text decimal (pair_text call_text (pair_text holder_text (pair_text decimal lock_text)))) (Both IsFile (Both IsCall (Both IsHolder (Both IsCommandNumber IsServedLock)))) text.now result }
 {
     match split_field(text) {
@@ -249,7 +270,7 @@ pub(crate) fn deny_operands(text: &str) -> Option<(u16, (CallId, (Host, (u32, Lo
 }
 
 // `CALL H K LOCK`.
-fn call_holder_number_lock(text: &str) -> Option<(CallId, (Host, (u32, LockInfo)))>
+fn call_holder_number_lock(text: &str) -> Option<(CallId, (Host, (CommandNumber, LockInfo)))>
     ensures { Reads (pair_text call_text (pair_text holder_text (pair_text decimal lock_text))) (Both IsCall (Both IsHolder (Both IsCommandNumber IsServedLock))) text.now result }
 {
     match split_field(text) {
@@ -259,7 +280,7 @@ fn call_holder_number_lock(text: &str) -> Option<(CallId, (Host, (u32, LockInfo)
 }
 
 // `H K LOCK`.
-fn holder_number_lock(text: &str) -> Option<(Host, (u32, LockInfo))>
+fn holder_number_lock(text: &str) -> Option<(Host, (CommandNumber, LockInfo))>
     ensures { Reads (pair_text holder_text (pair_text decimal lock_text)) (Both IsHolder (Both IsCommandNumber IsServedLock)) text.now result }
 {
     match split_field(text) {
@@ -269,17 +290,17 @@ fn holder_number_lock(text: &str) -> Option<(Host, (u32, LockInfo))>
 }
 
 // `K LOCK`.
-fn number_lock(text: &str) -> Option<(u32, LockInfo)>
+fn number_lock(text: &str) -> Option<(CommandNumber, LockInfo)>
     ensures { Reads (pair_text decimal lock_text) (Both IsCommandNumber IsServedLock) text.now result }
 {
     match split_field(text) {
-        Some((number, lock)) => counted_of(number).zip(lock_of(lock)),
+        Some((number, lock)) => command_of(number).zip(lock_of(lock)),
         None => None,
     }
 }
 
 /// The operands of `freed F H`.
-pub(crate) fn freed_operands(text: &str) -> Option<(u16, Host)>
+pub(crate) fn freed_operands(text: &str) -> Option<(FileNumber, Host)>
     ensures { Reads (pair_text decimal holder_text) (Both IsFile IsHolder) text.now result }
 {
     match split_field(text) {

@@ -4,11 +4,14 @@ ghost use Rattle.model.specs.Limits.{IsCall, IsNumber, IsOwner, most_description
 ghost use Rattle.lockscript.specs.Reads.{Lacks, Reads};
 ghost use Rattle.lockscript.specs.Texts.{call_text, owner_text};
 ghost use Rattle.journal_text.specs.Parts.{AreCallParts, AreCounted, AreNodeParts, AreNumbered, at_sign, call_parts_text, counted_text, dot, node_parts_text, numbered_text};
-ghost use Rattle.journal_text.specs.Served.{IsCommandNumber, IsHolder};
+ghost use Rattle.journal_text.specs.Served.{IsCommandNumber, IsFile, IsHolder};
 ghost use Rattle.journal_text.specs.Texts.{holder_text, urgency_text};
 
+use lockscript::fields;
 use lockscript::fields::{after, incarnation_of, node_of, pid_of};
 use lockscript::number::number_of;
+use messages::command_number::CommandNumber;
+use messages::file_number::FileNumber;
 use messages::message::Urgency;
 use model::call::CallId;
 use model::host::Host;
@@ -17,6 +20,26 @@ use model::owner::{Kind, Owner};
 
 /// The greatest number of a call or a command.
 const GREATEST_NUMBER: u64 = 4_294_967_295;
+
+/// The number of a file.
+pub(crate) fn file_of(word: &str) -> Option<FileNumber>
+    ensures { Reads decimal IsFile word.now result }
+{
+    match fields::file_of(word) {
+        Some(number) => Some(FileNumber::of(number)),
+        None => None,
+    }
+}
+
+/// The number of a command.
+pub(crate) fn command_of(word: &str) -> Option<CommandNumber>
+    ensures { Reads decimal IsCommandNumber word.now result }
+{
+    match counted_of(word) {
+        Some(number) => Some(CommandNumber::of(number)),
+        None => None,
+    }
+}
 
 /// The number of a call or a command.
 pub(crate) fn counted_of(word: &str) -> Option<u32>

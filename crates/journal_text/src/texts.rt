@@ -82,14 +82,14 @@ pub fn push_message(out: &mut String, message: &Message) -> Result<(), AllocErro
             urgency,
             mode,
             wanted,
-        } => push_request(out, *file, call, *urgency, *mode, wanted),
+        } => push_request(out, file.get(), call, *urgency, *mode, wanted),
         Message::Grant {
             file,
             number,
             call,
             mode,
             span,
-        } => push_grant(out, *file, *number, call, *mode, span),
+        } => push_grant(out, file.get(), number.get(), call, *mode, span),
         Message::Revoke {
             file,
             number,
@@ -97,30 +97,30 @@ pub fn push_message(out: &mut String, message: &Message) -> Result<(), AllocErro
             call,
             mode,
             wanted,
-        } => push_revoke(out, *file, *number, holder, call, *mode, wanted),
-        Message::Taken { file, number, call } => push_taken(out, *file, *number, call),
+        } => push_revoke(out, file.get(), number.get(), holder, call, *mode, wanted),
+        Message::Taken { file, number, call } => push_taken(out, file.get(), number.get(), call),
         Message::Released {
             file,
             number,
             holder,
             call,
             span,
-        } => push_released(out, *file, *number, holder, call, span),
+        } => push_released(out, file.get(), number.get(), holder, call, span),
         Message::Conflict {
             file,
             number,
             holder,
             call,
             lock,
-        } => push_conflict(out, *file, *number, holder, call, lock),
+        } => push_conflict(out, file.get(), number.get(), holder, call, lock),
         Message::Deny {
             file,
             call,
             holder,
             number,
             lock,
-        } => push_deny(out, *file, call, holder, *number, lock),
-        Message::Freed { file, holder } => push_freed(out, *file, holder),
+        } => push_deny(out, file.get(), call, holder, number.get(), lock),
+        Message::Freed { file, holder } => push_freed(out, file.get(), holder),
     }
 }
 

@@ -7,3 +7,4 @@ pub mod ListingLemmas
 pub mod ListingParts
 pub mod FlagLemmas
 pub mod PageLemmas
+pub mod Regions

@@ -173,12 +173,13 @@ impl LockTable {
     /// asks `blocker` first.
     ///
     /// # Errors
-    /// `NoLocks` where the owner would then have more than 1,024 regions in the file (ENOLCK);
-    /// `NoMemory`.
+    /// `NoLocks` where the owner would then have more than 1,024 regions in the file (ENOLCK), which is
+    /// tested before memory is asked for; `NoMemory`.
     pub fn set(&mut self, owner: Owner, file: u16, span: Span, mode: Mode) -> Result<(), LockError>
         ensures ok { OnOk result (held self.new ≡ with_lock (held self.old) file owner span (Some mode)) }
         ensures few { OnOk result (regions (put (held self.old file owner) span (Some mode)) ≤ most_regions) }
         ensures many { result ≡ Err NoLocks → most_regions < regions (put (held self.old file owner) span (Some mode)) }
+        ensures refused { most_regions < regions (put (held self.old file owner) span (Some mode)) → result ≡ Err NoLocks }
         ensures err { OnErr result (self.new ≡ self.old) }
     {
         let edit = self.plan(owner, file, span, Some(mode))?;
@@ -190,16 +191,31 @@ impl LockTable {
     ///
     /// # Errors
     /// `NoLocks` where the owner would then have more than 1,024 regions in the file (ENOLCK), since
-    /// a region can be cut in two; `NoMemory`.
+    /// a region can be cut in two; that is tested before memory is asked for; `NoMemory`.
     pub fn unlock(&mut self, owner: Owner, file: u16, span: Span) -> Result<(), LockError>
         ensures ok { OnOk result (held self.new ≡ with_lock (held self.old) file owner span None) }
         ensures few { OnOk result (regions (put (held self.old file owner) span None) ≤ most_regions) }
         ensures many { result ≡ Err NoLocks → most_regions < regions (put (held self.old file owner) span None) }
+        ensures refused { most_regions < regions (put (held self.old file owner) span None) → result ≡ Err NoLocks }
         ensures err { OnErr result (self.new ≡ self.old) }
     {
         let edit = self.plan(owner, file, span, None)?;
         self.apply(edit);
         Ok(())
+    }
+
+    // How many regions the owner would have in the file with the bytes in the mode, or freed. Takes no
+    // memory.
+    fn regions_with(&self, file: u16, owner: Owner, span: Span, mode: Option<Mode>) -> usize
+        ensures { result ≡ regions (put (held self.now file owner) span mode) }
+    {
+        match position(&self.rows, file, owner) {
+            Ok(i) => self.rows[i].spans.starts_with(span, mode),
+            Err(_) => {
+                let nothing = Spans::new(*self.rows.allocator());
+                nothing.starts_with(span, mode)
+            }
+        }
     }
 
     // An empty list with room for all rows and one more, where the owner has no row in the file.
@@ -240,17 +256,18 @@ impl LockTable {
         ensures ok { IfOk result (λ e. replace (held self.now) e.file e.owner (value_at e.spans) ≡ with_lock (held self.now) file owner span mode) }
         ensures few { OnOk result (regions (put (held self.now file owner) span mode) ≤ most_regions) }
         ensures many { result ≡ Err NoLocks → most_regions < regions (put (held self.now file owner) span mode) }
+        ensures refused { most_regions < regions (put (held self.now file owner) span mode) → result ≡ Err NoLocks }
         ensures room { IfOk result (λ e. HasRoom self.now e.file e.owner (vec_capacity e.room)) }
         ensures empty { IfOk result (λ e. e.room.items ≡ []) }
         ensures of_owner { IfOk result (λ e. e.owner ≡ owner) }
     {
+        if self.regions_with(file, owner, span, mode) > MOST_REGIONS {
+            return Err(LockError::NoLocks);
+        }
         let mut spans = self.spans_of(file, owner)?;
         match mode {
             Some(mode) => spans.set(span, mode)?,
             None => spans.clear(span)?,
-        }
-        if spans.starts() > MOST_REGIONS {
-            return Err(LockError::NoLocks);
         }
         let room = self.room_for(file, owner)?;
         let index = self.index_for()?;

@@ -2,8 +2,10 @@
 #![tactic(auto)]
 
 pub mod actor;
+pub mod command_number;
 pub mod entry;
 pub mod event;
+pub mod file_number;
 pub mod items;
 pub mod message;
 pub mod outcome;

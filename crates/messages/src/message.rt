@@ -1,8 +1,12 @@
 //! Messages between nodes and token servers.
 ghost use Rattle.std.specs.Prelude.{◌≡◌, ◌↔◌, IsTrue};
+ghost use Rattle.model.specs.Limits.{IsNumber};
 ghost use Rattle.messages.specs.Messages.{addressee, host_of, file_of, SameMessageIsEquality};
+ghost use Rattle.messages.specs.Shapes.{most_files};
 
 use crate::actor::Actor;
+use crate::command_number::CommandNumber;
+use crate::file_number::FileNumber;
 use crate::wanted::Wanted;
 use intervals::span::Span;
 use model::call::CallId;
@@ -17,14 +21,14 @@ pub enum Urgency {
     Waits,
 }
 
-/// A message, with the file that it is about. `call` is the call of the node that asks, `number` the
-/// number of a command of the server to a node, from 1; of a revoke and its answers the command is
-/// the one to the `holder`, the node whose token is in the way.
+/// A message, with the file that it is about, 1 to 256. `call` is the call of the node that asks,
+/// `number` the number of a command of the server to a node, from 1; of a revoke and its answers the
+/// command is the one to the `holder`, the node whose token is in the way.
 #[derive(Clone, Copy, Debug, PartialEq, Eq, Hash)]
 pub enum Message {
     /// A node asks the server for a token.
     Request {
-        file: u16,
+        file: FileNumber,
         call: CallId,
         urgency: Urgency,
         mode: Mode,
@@ -32,16 +36,16 @@ pub enum Message {
     },
     /// The server gives it.
     Grant {
-        file: u16,
-        number: u32,
+        file: FileNumber,
+        number: CommandNumber,
         call: CallId,
         mode: Mode,
         span: Span,
     },
     /// The server takes a token back, as far as the mode needs it.
     Revoke {
-        file: u16,
-        number: u32,
+        file: FileNumber,
+        number: CommandNumber,
         holder: Host,
         call: CallId,
         mode: Mode,
@@ -49,37 +53,37 @@ pub enum Message {
     },
     /// The node has what it was granted.
     Taken {
-        file: u16,
-        number: u32,
+        file: FileNumber,
+        number: CommandNumber,
         call: CallId,
     },
     /// The holder gave the span up.
     Released {
-        file: u16,
-        number: u32,
+        file: FileNumber,
+        number: CommandNumber,
         holder: Host,
         call: CallId,
         span: Span,
     },
     /// A lock of the holder is in the way.
     Conflict {
-        file: u16,
-        number: u32,
+        file: FileNumber,
+        number: CommandNumber,
         holder: Host,
         call: CallId,
         lock: LockInfo,
     },
     /// The server denies the call, for the lock that the holder named in its answer to that command.
     Deny {
-        file: u16,
+        file: FileNumber,
         call: CallId,
         holder: Host,
-        number: u32,
+        number: CommandNumber,
         lock: LockInfo,
     },
     /// Locks of a holder that were in the way may be gone.
     Freed {
-        file: u16,
+        file: FileNumber,
         holder: Host,
     },
 }
@@ -94,7 +98,7 @@ impl Message {
             | Message::Taken { file, .. }
             | Message::Released { file, .. }
             | Message::Conflict { file, .. }
-            | Message::Freed { file, .. } => Actor::Server(*file),
+            | Message::Freed { file, .. } => Actor::Server(file.get()),
             Message::Grant { call, .. } | Message::Deny { call, .. } => Actor::Node(call.node),
             Message::Revoke { holder, .. } => Actor::Node(holder.node),
         }
@@ -116,9 +120,10 @@ impl Message {
         }
     }
 
-    /// The file that the message is about.
+    /// The file that the message is about, 1 to 256.
     pub fn file(&self) -> u16
-        ensures { result ≡ file_of self.now }
+        ensures value { result ≡ file_of self.now }
+        ensures within { IsNumber most_files result }
     {
         match self {
             Message::Request { file, .. }
@@ -128,7 +133,7 @@ impl Message {
             | Message::Released { file, .. }
             | Message::Conflict { file, .. }
             | Message::Deny { file, .. }
-            | Message::Freed { file, .. } => *file,
+            | Message::Freed { file, .. } => file.get(),
         }
     }
 

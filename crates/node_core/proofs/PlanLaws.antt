@@ -15,10 +15,12 @@ use Rattle.model.specs.declared.reply.Reply.TheVariants.{Done, NoLocks}
 use Rattle.model.specs.Descriptors.{Processes, no_processes}
 use Rattle.model.specs.Limits.{IsNumber}
 use Rattle.model.specs.Locks.{Locks, replace, with_lock, regions}
-use Rattle.model.specs.Table.{Table, LockTarget, lock_within}
+use Rattle.model.specs.Table.{Table, LockTarget, regions_with, lock_within}
 use Rattle.fcntl_table.specs.Hosts.{shown}
 use Rattle.fcntl_table.proofs.ExitLaws.{at_node}
 use Rattle.lock_table.specs.declared.owner_locks.OwnerLocks.{OwnerLocks}
+use Rattle.lock_table.specs.declared.error.LockError.{LockError}
+use Rattle.lock_table.specs.declared.error.LockError.TheVariants as lock
 use Rattle.lock_table.specs.declared.lock_table.LockEdit.{LockEdit}
 use Rattle.lock_table.specs.Rows.{held, HasRoom as HasRowRoom}
 use Rattle.messages.specs.declared.message.Message.{Message}
@@ -63,6 +65,15 @@ pub lock-refused : (p : NodeParts) (c : LockTarget) (mode : Option Mode) → 102
 unfolding node_state
 lock-refused p c mode many =
     ap (λ (b : Bool). if b then (record (node_state p).table { locks = with_lock (held p.locks) c.file c.owner c.span mode }, Done) else ((node_state p).table, NoLocks)) (lt-leb _ _ many)
+
+-- one that wants memory does not tell of too many regions
+pub no-memory-told : {A : Type 0} (x : Result A LockError) (e : LockError) → x ≡ Err e → x ≡ Err lock.NoLocks → e ≡ lock.NoMemory → ⊥
+no-memory-told {A = A} x e fails told memory = let both : ◌≡◌ {A = Result A LockError} (Err lock.NoMemory) (Err lock.NoLocks) = sym (fails ∙ ap Err memory) ∙ told in absurd (cc)
+
+-- too many regions by the node's state are too many by its rows
+pub regions-held : (p : NodeParts) (c : LockTarget) (mode : Option Mode) → 1024 < regions_with (node_state p).table c mode → 1024 < regions (put (held p.locks c.file c.owner) c.span mode)
+unfolding node_state
+regions-held p c mode many = many
 
 pub room-fits : (p : NodeParts) (edit : Option LockEdit) → LocksFit p edit → IfSome edit (λ e. HasRowRoom p.locks e.file e.owner (vec_capacity e.room))
 room-fits p None fit = tt

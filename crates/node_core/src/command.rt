@@ -3,6 +3,8 @@ ghost use Rattle.std.specs.Prelude.{◌≡◌};
 ghost use Rattle.messages.specs.declared.message.Message.TheVariants.{Taken};
 ghost use Rattle.node_core.specs.Commands.{answer_to};
 
+use messages::command_number::CommandNumber;
+use messages::file_number::FileNumber;
 use messages::message::Message;
 use model::call::CallId;
 use model::host::Host;
@@ -13,14 +15,14 @@ use token_set::gave_up::GaveUp;
 /// call of the node that asks, and its mode.
 #[derive(Clone, Copy, Debug, PartialEq, Eq)]
 pub struct Command {
-    pub file: u16,
-    pub number: u32,
+    pub file: FileNumber,
+    pub number: CommandNumber,
     pub call: CallId,
     pub mode: Mode,
 }
 
 impl Command {
-    pub(crate) fn new(file: u16, number: u32, call: CallId, mode: Mode) -> Command
+    pub(crate) fn new(file: FileNumber, number: CommandNumber, call: CallId, mode: Mode) -> Command
         ensures { result ≡ record { file = file; number = number; call = call; mode = mode } }
     {
         Command {

@@ -82,9 +82,9 @@ impl FileRow {
         ensures state { IfOk result (λ edit. file_after self.now edit ≡ granted_file (state_of self.now) command.now span) }
     {
         Ok(FileEdit {
-            file: command.file,
+            file: command.file.get(),
             token: self.token.plan_grant(span, command.mode)?,
-            last: command.number,
+            last: command.number.get(),
             answer: command.taken(),
             asked: self.asked,
         })
@@ -110,9 +110,9 @@ impl FileRow {
             .token
             .plan_give_up(command.mode, wanted.required, wanted.desired, locks)?;
         let edit = FileEdit {
-            file: command.file,
+            file: command.file.get(),
             token,
-            last: command.number,
+            last: command.number.get(),
             answer: command.answer(holder, gives),
             asked: is_conflict(&gives) || self.asked,
         };

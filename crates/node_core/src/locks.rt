@@ -27,6 +27,7 @@ pub fn change_locks(
     ensures ok { OnOk result (held locks.new ≡ with_lock (held locks.old) target.file target.owner target.span mode) }
     ensures few { OnOk result (regions (put (held locks.old target.file target.owner) target.span mode) ≤ most_regions) }
     ensures many { result ≡ Err LockError.NoLocks → most_regions < regions (put (held locks.old target.file target.owner) target.span mode) }
+    ensures refused { most_regions < regions (put (held locks.old target.file target.owner) target.span mode) → result ≡ Err LockError.NoLocks }
     ensures err { OnErr result (locks.new ≡ locks.old) }
 {
     match mode {

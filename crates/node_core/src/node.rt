@@ -19,6 +19,7 @@ use crate::open_call::OpenCall;
 use crate::open_calls::OpenCalls;
 use descriptors::processes::Processes;
 use lock_table::lock_table::LockTable;
+use messages::file_number::FileNumber;
 use messages::outcome::Outcome;
 use messages::refusal::StepError;
 use messages::shape::Shape;
@@ -182,6 +183,16 @@ impl Node {
         ensures row { slice_get self.now.files (file - 1) ≡ Some result.now }
     {
         file_of(&self.files, file)
+    }
+
+    // The number of a file of the shape, as messages have it.
+    #[tactic(auto, unfolding(crate::specs::Parts::node_state))]
+    fn file_number(&self, file: u16) -> FileNumber
+        requires { IsNumber (node_state self.now).shape.files file }
+        ensures { result ≡ file }
+    {
+        let _ = self.shape.files(); // tells the proof how many files there may be
+        FileNumber::of(file)
     }
 
     /// What the node will do at an event, as `step` says. It costs what the parts that the event

@@ -3,6 +3,7 @@ mod entry;
 mod event;
 mod items;
 mod message;
+mod numbers;
 mod outcome;
 mod refusal;
 mod shape;

@@ -1,11 +1,13 @@
 //! Names of revokes.
+use messages::command_number::CommandNumber;
+use messages::file_number::FileNumber;
 use model::host::Host;
 
 /// A revoke, by its file, its number among the commands of that file's token server to the holder
 /// (from 1), and the holder, the node whose token it takes back.
 #[derive(Clone, Copy, Debug, PartialEq, Eq, Hash)]
 pub(crate) struct RevokeId {
-    pub(crate) file: u16,
-    pub(crate) number: u32,
+    pub(crate) file: FileNumber,
+    pub(crate) number: CommandNumber,
     pub(crate) holder: Host,
 }

@@ -6,3 +6,4 @@ pub mod Marks
 pub mod OneOutcome
 pub mod Outputs
 pub mod Progresses
+pub mod Refused

@@ -23,3 +23,10 @@ refusal_status (Help text) = 0
 refusal_status (Wrong text) = 2
 refusal_status NotText = 2
 refusal_status NoMemory = 4
+
+-- why the words could not be read; what they say is not known then
+abbrev pub AreUnread : Refusal → Type 0
+AreUnread (Help text) = ⊥
+AreUnread (Wrong text) = ⊥
+AreUnread NotText = ⊤
+AreUnread NoMemory = ⊤

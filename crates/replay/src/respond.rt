@@ -4,7 +4,7 @@ ghost use Rattle.std.specs.Io.KnownBytes.{Appends};
 ghost use Rattle.command_line.specs.Tasks.{run, Task};
 ghost use Rattle.command_line.specs.Words.{AreWrong, AsksFor, AsksForHelp};
 ghost use Rattle.replay.specs.declared.fault.Fault.{Fault};
-ghost use Rattle.replay.specs.declared.fault.Fault.TheVariants.{CannotWriteOutput};
+ghost use Rattle.replay.specs.declared.fault.Fault.TheVariants.{CannotWriteOutput, NoMemory};
 ghost use Rattle.replay.specs.Commands.{Does, IsFault, Leaves, Shows, TellsFault};
 ghost use Rattle.replay.specs.Faults.{fault_line};
 ghost use Rattle.replay.specs.Outputs.{AppendsPart, WritesOrFails};
@@ -48,6 +48,14 @@ pub fn respond<W: AsStr, S: Store, O: Output, E: Output>(
     ensures wrong { result ≡ 2 → AreWrong (map W.text words.now) × (out.new ≡ out.old) }
     ensures told { 2 < result → (fault : Fault) × (result ≡ status_of fault)
         × WritesOrFails (E.taken err.old) (E.taken err.new) (E.has_failed err.new) (fault_line fault) }
+
+    // Words that ask for nothing to be done end so only where the help that they ask for could not be
+    // written, or where memory was short for them.
+    ensures unshown { result ≡ 3 → ((task : Task) × AsksFor (map W.text words.now) task)
+        ⊎ (AsksForHelp (map W.text words.now) × O.has_failed out.new
+        × WritesOrFails (E.taken err.old) (E.taken err.new) (E.has_failed err.new) (fault_line CannotWriteOutput)) }
+    ensures short { result ≡ 4 → (out.new ≡ out.old) × (((task : Task) × AsksFor (map W.text words.now) task)
+        ⊎ WritesOrFails (E.taken err.old) (E.taken err.new) (E.has_failed err.new) (fault_line NoMemory)) }
 
     // No file changes but that of the journal that the words ask for.
     ensures files { (path : List ℕ) (file : Option (List ℕ)) → ((script : List ℕ) → ¬ (AsksFor (map W.text words.now) (run script (Some path))))

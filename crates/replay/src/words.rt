@@ -1,7 +1,8 @@
 //! The words that the program was given.
-ghost use Rattle.std.specs.Prelude.{◌≡◌, ◌≢◌};
+ghost use Rattle.std.specs.Prelude.{◌≡◌, ◌≢◌, IfErr};
 ghost use Rattle.std.specs.IoError.{error_kind};
 ghost use Rattle.command_line.specs.declared.refusal.Refusal.TheVariants.{NoMemory, NotText};
+ghost use Rattle.replay.specs.Refusals.{AreUnread};
 
 use command_line::refusal::Refusal;
 use std::env;
@@ -12,13 +13,16 @@ use std::rt::Env;
 ///
 /// # Errors
 /// `NotText` where one of them is not UTF-8; `NoMemory` where a request for memory was refused.
-pub fn read_words<R: Env + AllocGlobal>(rt: &R) -> Result<Vec<String>, Refusal> {
+pub fn read_words<R: Env + AllocGlobal>(rt: &R) -> Result<Vec<String>, Refusal>
+    ensures { IfErr result AreUnread }
+{
     let words = env::args(rt).map_err(|error| refusal_of(&error))?;
     words.collect(rt.alloc()).map_err(|_| Refusal::NoMemory)
 }
 
 // Words are read but for memory, or for one that is not UTF-8.
 fn refusal_of(error: &Error) -> Refusal
+    ensures unread { AreUnread result }
     ensures memory { error_kind error.now ≡ ErrorKind.OutOfMemory → result ≡ NoMemory }
     ensures text { error_kind error.now ≢ ErrorKind.OutOfMemory → result ≡ NotText }
 {

@@ -4,6 +4,7 @@ ghost use Rattle.messages.specs.Messages.{greatest_number};
 ghost use Rattle.token_server.specs.Server.{is_grant, revoked_mode};
 ghost use Rattle.token_server.specs.Parts.{next_number, told_commands, answered_commands};
 
+use messages::command_number::CommandNumber;
 use messages::message::Message;
 use messages::refusal::StepError;
 use model::mode::Mode;
@@ -56,7 +57,7 @@ impl Commands {
     ///
     /// # Errors
     /// `Spent` where it would be past 4,294,967,295.
-    pub fn next_number(&self) -> Result<Option<u32>, StepError>
+    pub fn next_number(&self) -> Result<Option<CommandNumber>, StepError>
         ensures { result ≡ next_number self.now }
     {
         if self.outstanding.is_some() {
@@ -65,7 +66,7 @@ impl Commands {
         if self.number == u32::MAX {
             return Err(StepError::Spent);
         }
-        Ok(Some(self.number + 1))
+        Ok(Some(CommandNumber::of(self.number + 1)))
     }
 
     /// Whether the Grant with that number is under way.
@@ -73,7 +74,7 @@ impl Commands {
         ensures { result ≡ is_grant number self.now.outstanding }
     {
         match &self.outstanding {
-            Some(Message::Grant { number: own, .. }) => *own == number,
+            Some(Message::Grant { number: own, .. }) => own.get() == number,
             _ => false,
         }
     }
@@ -89,7 +90,7 @@ impl Commands {
                     mode,
                     ..
                 },
-            ) if *own == number => Some(*mode),
+            ) if own.get() == number => Some(*mode),
             _ => None,
         }
     }

@@ -28,6 +28,8 @@ use crate::token_request::TokenRequest;
 use intervals::span::Span;
 use intervals::span_map::NoMemory;
 use messages::actor::Actor;
+use messages::command_number::CommandNumber;
+use messages::file_number::FileNumber;
 use messages::items::Items;
 use messages::message::{Message, Urgency};
 use messages::outcome::Outcome;
@@ -234,11 +236,19 @@ impl Server {
         })
     }
 
+    // The number of the file.
+    fn file_number(&self) -> FileNumber
+        ensures { result ≡ self.now.file }
+    {
+        let _ = self.shape.files(); // tells the proof how many files there may be
+        FileNumber::of(self.file)
+    }
+
     // Takes a holder's answer that a lock is in the way: the call's request is served no longer, and is
     // denied or waits. What is sent, or `None` where the answer doesn't count.
     fn on_conflict(
         &self,
-        number: u32,
+        number: CommandNumber,
         holder: Host,
         call: CallId,
         lock: LockInfo,
@@ -247,9 +257,9 @@ impl Server {
         ensures state { in_conflict (server_state self.now) number holder call lock (row_of_host (server_state self.now) holder) ≡ option_map (λ d. (sketched self.now d.0, option_to_list d.1)) result }
         ensures in_cluster { IfSome result (λ d. IfSome d.0.changed (λ c. IsNumber self.now.shape.nodes c.node)) }
     {
-        self.revoked_mode(number, holder)?;
+        self.revoked_mode(number.get(), holder)?;
         let deny = Message::Deny {
-            file: self.file,
+            file: self.file_number(),
             call,
             holder,
             number,
@@ -419,7 +429,7 @@ impl Server {
         };
         let span = self.granted_span(draft, request);
         let command = Message::Grant {
-            file: self.file,
+            file: self.file_number(),
             number,
             call: request.call,
             mode: request.mode,
@@ -449,7 +459,7 @@ impl Server {
         };
         let incarnation = row.commands.incarnation();
         let command = Message::Revoke {
-            file: self.file,
+            file: self.file_number(),
             number,
             holder: Host { node, incarnation },
             call: request.call,
@@ -518,13 +528,13 @@ impl Server {
                 self.ask(TokenRequest::new(call, urgency, mode, wanted)),
                 None,
             )),
-            Message::Taken { number, call, .. } => Some((self.on_taken(number, call)?, None)),
+            Message::Taken { number, call, .. } => Some((self.on_taken(number.get(), call)?, None)),
             Message::Released {
                 number,
                 holder,
                 span,
                 ..
-            } => Some((self.on_released(number, holder, span)?, None)),
+            } => Some((self.on_released(number.get(), holder, span)?, None)),
             Message::Conflict {
                 number,
                 holder,

@@ -1,7 +1,11 @@
 //! Nodes, by hand-made calls and messages.
 ghost use Rattle.std.specs.Prelude.{◌≤◌};
+ghost use Rattle.model.specs.Limits.{IsNumber};
+ghost use Rattle.messages.specs.Shapes.{most_files};
 
 use intervals::span::{GREATEST, Span};
+use messages::command_number::CommandNumber;
+use messages::file_number::FileNumber;
 use messages::message::{Message, Urgency};
 use messages::outcome::Outcome;
 use messages::refusal::StepError;
@@ -149,7 +153,7 @@ fn request_with(number: u32, urgency: Urgency, wanted: Wanted) -> Message
     requires { 1 ≤ number }
 {
     Message::Request {
-        file: 1,
+        file: FileNumber::of(1),
         call: id(number),
         urgency,
         mode: Mode::Write,
@@ -158,17 +162,18 @@ fn request_with(number: u32, urgency: Urgency, wanted: Wanted) -> Message
 }
 
 fn grant(command: u32, number: u32, span: Span) -> NodeEvent
-    requires { 1 ≤ number }
+    requires { (1 ≤ command) × (1 ≤ number) }
 {
     grant_of(1, command, number, span)
 }
 
 fn grant_of(file: u16, command: u32, number: u32, span: Span) -> NodeEvent
-    requires { 1 ≤ number }
+    requires numbers { (1 ≤ command) × (1 ≤ number) }
+    requires file { IsNumber most_files file }
 {
     NodeEvent::Deliver(Message::Grant {
-        file,
-        number: command,
+        file: FileNumber::of(file),
+        number: CommandNumber::of(command),
         call: id(number),
         mode: Mode::Write,
         span,
@@ -176,29 +181,30 @@ fn grant_of(file: u16, command: u32, number: u32, span: Span) -> NodeEvent
 }
 
 fn taken(command: u32, number: u32) -> Message
-    requires { 1 ≤ number }
+    requires { (1 ≤ command) × (1 ≤ number) }
 {
     Message::Taken {
-        file: 1,
-        number: command,
+        file: FileNumber::of(1),
+        number: CommandNumber::of(command),
         call: id(number),
     }
 }
 
 // The server revokes the span for write from the node in its incarnation.
 fn revoke(command: u32, incarnation: u16, required: Span) -> NodeEvent
-    requires { 1 ≤ incarnation }
+    requires { (1 ≤ command) × (1 ≤ incarnation) }
 {
     revoke_of(1, command, incarnation, required)
 }
 
 fn revoke_of(file: u16, command: u32, incarnation: u16, required: Span) -> NodeEvent
-    requires { 1 ≤ incarnation }
+    requires numbers { (1 ≤ command) × (1 ≤ incarnation) }
+    requires file { IsNumber most_files file }
 {
     let _ = &required.lo; // tells the proof what each span keeps
     NodeEvent::Deliver(Message::Revoke {
-        file,
-        number: command,
+        file: FileNumber::of(file),
+        number: CommandNumber::of(command),
         holder: Host {
             node: 1,
             incarnation,
@@ -209,20 +215,24 @@ fn revoke_of(file: u16, command: u32, incarnation: u16, required: Span) -> NodeE
     })
 }
 
-fn released(command: u32, span: Span) -> Message {
+fn released(command: u32, span: Span) -> Message
+    requires { 1 ≤ command }
+{
     Message::Released {
-        file: 1,
-        number: command,
+        file: FileNumber::of(1),
+        number: CommandNumber::of(command),
         holder: HERE,
         call: OTHER_CALL,
         span,
     }
 }
 
-fn conflict(command: u32, lock: LockInfo) -> Message {
+fn conflict(command: u32, lock: LockInfo) -> Message
+    requires { 1 ≤ command }
+{
     Message::Conflict {
-        file: 1,
-        number: command,
+        file: FileNumber::of(1),
+        number: CommandNumber::of(command),
         holder: HERE,
         call: OTHER_CALL,
         lock,
@@ -234,21 +244,23 @@ fn deny(number: u32, lock: LockInfo) -> NodeEvent
     requires { 1 ≤ number }
 {
     NodeEvent::Deliver(Message::Deny {
-        file: 1,
+        file: FileNumber::of(1),
         call: id(number),
         holder: Host {
             node: 2,
             incarnation: 1,
         },
-        number: 1,
+        number: CommandNumber::of(1),
         lock,
     })
 }
 
-const FREED: Message = Message::Freed {
-    file: 1,
-    holder: HERE,
-};
+fn freed_message() -> Message {
+    Message::Freed {
+        file: FileNumber::of(1),
+        holder: HERE,
+    }
+}
 
 // An event, and what it must come to: the call that it makes, the reply, the one message that is
 // sent, and whether the node is another after it.
@@ -308,7 +320,7 @@ fn freed(event: NodeEvent, number: u32) -> Move
         event,
         call: Some(id(number)),
         reply: Some((id(number), Reply::Done)),
-        message: Some(FREED),
+        message: Some(freed_message()),
         changes: true,
     }
 }
@@ -471,7 +483,6 @@ fn does_each_command_once_and_in_order(rt: HostRuntime) -> Result<(), Fail> {
         quiet(grant(2, 3, HUNDRED), None),
         finished(grant(1, 3, HUNDRED), 3, taken(1, 3)),
         quiet(grant(1, 3, HUNDRED), Some(taken(1, 3))),
-        quiet(grant(0, 3, HUNDRED), None),
     ];
     let mut node = opens(alloc, Policy::Exact, 2)?;
     assert_eq!(rt; first_wrong(alloc, &mut node, &moves)?, None);
@@ -658,10 +669,10 @@ fn locks_two(alloc: Global) -> Result<Box<Node>, Fail> {
 fn exit_tells_both(alloc: Global, node: &Node) -> Result<bool, StepError> {
     let (_, outcome) = stepped(alloc, node, call(1, Op::Exit))?;
     let second = Message::Freed {
-        file: 2,
+        file: FileNumber::of(2),
         holder: HERE,
     };
-    let told = outcome.sends.as_slice() == [FREED, second].as_slice();
+    let told = outcome.sends.as_slice() == [freed_message(), second].as_slice();
     Ok(told && outcome.reply == Some((id(6), Reply::Done)))
 }
 
@@ -712,7 +723,7 @@ fn refuses_events_of_strangers(rt: HostRuntime) -> Result<(), Fail> {
         interrupt(0),
         interrupt(257),
         NodeEvent::Deliver(taken(1, 1)),
-        NodeEvent::Deliver(FREED),
+        NodeEvent::Deliver(freed_message()),
     ];
     let node = begins(alloc, Policy::Wide)?;
     assert!(rt; refuses(alloc, &node, &events));

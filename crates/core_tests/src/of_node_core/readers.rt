@@ -2,6 +2,8 @@
 use super::node::{boxed, goes_on};
 use intervals::span::{GREATEST, Span};
 use intervals::span_map::NoMemory;
+use messages::command_number::CommandNumber;
+use messages::file_number::FileNumber;
 use messages::message::Message;
 use messages::refusal::StepError;
 use messages::shape::Shape;
@@ -35,8 +37,8 @@ fn grant() -> NodeEvent {
         number: 3,
     };
     NodeEvent::Deliver(Message::Grant {
-        file: 2,
-        number: 1,
+        file: FileNumber::of(2),
+        number: CommandNumber::of(1),
         call,
         mode: Mode::Write,
         span: WHOLE,

@@ -49,7 +49,7 @@ impl Node {
         requires { IsNumber (node_state self.now).shape.files command.now.file }
         ensures { result ≡ (command.now.number == ((node_state self.now).files command.now.file).last + 1) }
     {
-        command.number as u64 == self.last(command.file) as u64 + 1
+        command.number.get() as u64 == self.last(command.file.get()) as u64 + 1
     }
 
     // A command that is not the next one: the last one done is answered again, others do nothing.
@@ -58,8 +58,8 @@ impl Node {
         ensures value { IfOk result (λ effect. out_of_order (node_state self.now) command.now.file command.now.number ≡ effect_of self.now effect) }
         ensures fits { IfOk result (λ effect. PartsFit self.now effect.edit) }
     {
-        if command.number == self.last(command.file) && command.number >= 1 {
-            return self.remembered(alloc, command.file);
+        if command.number.get() == self.last(command.file.get()) && command.number.get() >= 1 {
+            return self.remembered(alloc, command.file.get());
         }
         Ok(Effect::quiet(alloc, Edit::none(alloc)))
     }
@@ -71,7 +71,7 @@ impl Node {
         ensures old { IfOk result (λ draft. draft.numbered ≡ false) }
         ensures fits { IfOk result (DraftFits self.now) }
     {
-        let edit = self.file(command.file).plan_grant(command, span)?;
+        let edit = self.file(command.file.get()).plan_grant(command, span)?;
         Ok(Draft {
             numbered: false,
             command: Some(edit),
@@ -116,8 +116,9 @@ impl Node {
         ensures fits { IfOk result (λ r. DraftFits self.now r.1) }
     {
         let _ = &wanted.required.lo; // tells the proof what each span keeps
-        let locks = self.locks.locks(command.file)?;
-        let row = self.file(command.file);
+        let file = command.file.get();
+        let locks = self.locks.locks(file)?;
+        let row = self.file(file);
         let (gives, edit) = row.plan_revoke(command, self.host(), wanted, &locks)?;
         let draft = Draft {
             numbered: false,

@@ -1,11 +1,13 @@
 //! A node tries an open call about a lock.
-ghost use Rattle.std.specs.Prelude.{◌≡◌, ◌≤◌, ◌<◌, ◌+◌, false, [], All, IfOk, IfSome};
-ghost use Rattle.model.specs.Limits.{IsNumber};
+ghost use Rattle.std.specs.Prelude.{◌≡◌, ◌≤◌, ◌<◌, ◌+◌, false, None, Ok, [], All, IfOk, IfSome};
+ghost use Rattle.model.specs.Limits.{IsNumber, most_regions};
 ghost use Rattle.model.specs.Locks.{lowest_blocker};
-ghost use Rattle.model.specs.Table.{lock_within};
+ghost use Rattle.model.specs.declared.reply.Reply.{Reply};
+ghost use Rattle.model.specs.Table.{regions_with, lock_within};
 ghost use Rattle.token_set.specs.Sets.{token_of};
 ghost use Rattle.token_set.specs.Tokens.{covers, desired};
-ghost use Rattle.node_core.specs.State.{answered};
+ghost use Rattle.messages.specs.declared.message.Message.TheVariants.{Freed};
+ghost use Rattle.node_core.specs.State.{answered, host};
 ghost use Rattle.node_core.specs.Try.{requested, answered_if, with_freed, locked_by, answered_here, tried, tried_if};
 ghost use Rattle.node_core.specs.Parts.{node_state, IsOwn, IsSpan, IsCallOf};
 ghost use Rattle.node_core.specs.Plans.{drafted, trying, opened_if, pending_after, locks_after, with_locks, effect_of, DraftFits, LocksFit, CallsFit, PartsFit};
@@ -109,7 +111,7 @@ impl Node {
         ensures fits { IfOk result (λ effect. PartsFit self.now effect.edit) }
     {
         let request = Message::Request {
-            file: call.file,
+            file: self.file_number(call.file),
             call: self.id(call.number),
             urgency: call.intent.urgency(),
             mode: call.mode,
@@ -183,7 +185,8 @@ impl Node {
         Ok(Effect::quiet(alloc, edit))
     }
 
-    // What locks or frees the bytes, unless their owner would have too many regions, and the reply.
+    // What locks or frees the bytes, unless their owner would have too many regions, and the reply. That
+    // there would be too many is told without memory.
     fn plan_lock(
         &self,
         target: LockTarget,
@@ -192,6 +195,7 @@ impl Node {
         requires own { IsOwn (node_state self.now).node (node_state self.now).incarnation target.owner }
         requires span { IsSpan target.span }
         ensures locked { IfOk result (λ r. lock_within (node_state self.now).table target mode ≡ (record (node_state self.now).table { locks = locks_after (node_state self.now).table.locks r.0 }, r.1)) }
+        ensures refused { most_regions < regions_with (node_state self.now).table target mode → result ≡ Ok (None, Reply.NoLocks) }
         ensures fits { IfOk result (λ r. LocksFit self.now r.0) }
     {
         match self
@@ -201,6 +205,17 @@ impl Node {
             Ok(edit) => Ok((Some(edit), Reply::Done)),
             Err(LockError::NoLocks) => Ok((None, Reply::NoLocks)),
             Err(LockError::NoMemory) => Err(AllocError),
+        }
+    }
+
+    // Tells the server of the file that locks of the node may be gone.
+    fn freed(&self, file: u16) -> Message
+        requires { IsNumber (node_state self.now).shape.files file }
+        ensures { result ≡ Freed file (host (node_state self.now)) }
+    {
+        Message::Freed {
+            file: self.file_number(file),
+            holder: self.host(),
         }
     }
 
@@ -217,8 +232,7 @@ impl Node {
         if !self.is_asked(&effect.edit.draft, file) {
             return Ok(effect);
         }
-        let holder = self.host();
-        effect.before(file, Message::Freed { file, holder })
+        effect.before(file, self.freed(file))
     }
 
     // The bytes are set to the mode or freed, and the call is answered; the server hears of it where

@@ -215,3 +215,23 @@ fn a_write_that_was_planned_for_fewer_runs_changes_nothing(rt: HostRuntime) -> R
     assert_eq!(rt; map.get(10), Some(B));
     Ok(())
 }
+
+#[test]
+fn runs_are_counted_before_a_write_is_made(rt: HostRuntime) -> Result<(), Fail> {
+    let whole = Span {
+        lo: 0,
+        hi: GREATEST,
+    };
+    let mut map = VecMap::new(rt.alloc());
+    assert_eq!(rt; map.starts_with(whole, Some(A)), 1);
+    map.set(Span { lo: 10, hi: 19 }, A)?;
+    map.set(Span { lo: 30, hi: 39 }, B)?;
+    assert_eq!(rt; map.starts_with(Span { lo: 12, hi: 15 }, Some(A)), 2);
+    assert_eq!(rt; map.starts_with(Span { lo: 12, hi: 15 }, Some(B)), 4);
+    assert_eq!(rt; map.starts_with(Span { lo: 12, hi: 15 }, None), 3);
+    assert_eq!(rt; map.starts_with(Span { lo: 20, hi: 29 }, Some(A)), 2);
+    assert_eq!(rt; map.starts_with(Span { lo: 21, hi: 28 }, Some(A)), 3);
+    assert_eq!(rt; map.starts_with(whole, None), 0);
+    assert_eq!(rt; map.starts(), 2);
+    Ok(())
+}

@@ -1,6 +1,8 @@
 //! Entries of the journal.
+use messages::command_number::CommandNumber;
 use messages::entry::Entry;
 use messages::event::Event;
+use messages::file_number::FileNumber;
 use messages::items::Items;
 use messages::message::Message;
 use messages::outcome::Outcome;
@@ -22,8 +24,8 @@ fn spawned(alloc: Global, pid: u16) -> Result<Entry, AllocError> {
         op: Op::Spawn,
     };
     let taken = Message::Taken {
-        file: 2,
-        number: 5,
+        file: FileNumber::of(2),
+        number: CommandNumber::of(5),
         call,
     };
     let outcome = Outcome {

@@ -1,6 +1,10 @@
 //! Messages between nodes and token servers.
+ghost use Rattle.std.specs.Prelude.{◌≤◌};
+
 use intervals::span::Span;
 use messages::actor::Actor;
+use messages::command_number::CommandNumber;
+use messages::file_number::FileNumber;
 use messages::message::{Message, Urgency};
 use messages::wanted::Wanted;
 use model::call::CallId;
@@ -33,10 +37,12 @@ const LOCK: LockInfo = LockInfo {
     span: Span { lo: 8, hi: 9 },
 };
 
-fn grant(number: u32) -> Message {
+fn grant(number: u32) -> Message
+    requires { 1 ≤ number }
+{
     Message::Grant {
-        file: 7,
-        number,
+        file: FileNumber::of(7),
+        number: CommandNumber::of(number),
         call: CALL,
         mode: Mode::Write,
         span: Span { lo: 0, hi: 9 },
@@ -45,10 +51,10 @@ fn grant(number: u32) -> Message {
 
 fn denial(span: Span) -> Message {
     Message::Deny {
-        file: 7,
+        file: FileNumber::of(7),
         call: CALL,
         holder: HOLDER,
-        number: 1,
+        number: CommandNumber::of(1),
         lock: LockInfo { span, ..LOCK },
     }
 }
@@ -63,15 +69,15 @@ fn of_a_node_that_asks(rt: HostRuntime) {
     let asks = CALL.host();
     let span = Span { lo: 0, hi: 9 };
     let request = Message::Request {
-        file: 7,
+        file: FileNumber::of(7),
         call: CALL,
         urgency: Urgency::Now,
         mode: Mode::Write,
         wanted: Wanted::new(span, span),
     };
     let taken = Message::Taken {
-        file: 7,
-        number: 1,
+        file: FileNumber::of(7),
+        number: CommandNumber::of(1),
         call: CALL,
     };
     assert!(rt; goes(request, Actor::Server(7), asks));
@@ -84,29 +90,29 @@ fn of_a_node_that_asks(rt: HostRuntime) {
 fn of_a_node_whose_token_is_in_the_way(rt: HostRuntime) {
     let span = Span { lo: 0, hi: 9 };
     let revoke = Message::Revoke {
-        file: 7,
-        number: 1,
+        file: FileNumber::of(7),
+        number: CommandNumber::of(1),
         holder: HOLDER,
         call: CALL,
         mode: Mode::Write,
         wanted: Wanted::new(span, span),
     };
     let released = Message::Released {
-        file: 7,
-        number: 1,
+        file: FileNumber::of(7),
+        number: CommandNumber::of(1),
         holder: HOLDER,
         call: CALL,
         span,
     };
     let conflict = Message::Conflict {
-        file: 7,
-        number: 1,
+        file: FileNumber::of(7),
+        number: CommandNumber::of(1),
         holder: HOLDER,
         call: CALL,
         lock: LOCK,
     };
     let freed = Message::Freed {
-        file: 7,
+        file: FileNumber::of(7),
         holder: HOLDER,
     };
     assert!(rt; goes(revoke, Actor::Node(5), HOLDER));

@@ -7,7 +7,9 @@ use cluster_core::journal::{Journal, run};
 use cluster_core::token_run::TokenRun;
 use cluster_core::world::World;
 use intervals::span::{GREATEST, Span};
+use messages::command_number::CommandNumber;
 use messages::event::Event;
+use messages::file_number::FileNumber;
 use messages::message::{Message, Urgency};
 use messages::shape::Shape;
 use messages::wanted::Wanted;
@@ -66,7 +68,7 @@ fn set_call() -> CallId {
 
 fn request() -> Event {
     Event::Deliver(Message::Request {
-        file: 1,
+        file: FileNumber::of(1),
         call: set_call(),
         urgency: Urgency::Now,
         mode: Mode::Write,
@@ -76,8 +78,8 @@ fn request() -> Event {
 
 fn grant() -> Event {
     Event::Deliver(Message::Grant {
-        file: 1,
-        number: 1,
+        file: FileNumber::of(1),
+        number: CommandNumber::of(1),
         call: set_call(),
         mode: Mode::Write,
         span: WHOLE,

@@ -1,5 +1,7 @@
 //! Messages that were sent.
 use cluster_core::sent::Sent;
+use messages::command_number::CommandNumber;
+use messages::file_number::FileNumber;
 use messages::message::Message;
 use model::call::CallId;
 use std::test::Fail;
@@ -12,13 +14,13 @@ fn knows_what_was_sent(rt: HostRuntime) -> Result<(), Fail> {
         number: 3,
     };
     let taken = Message::Taken {
-        file: 1,
-        number: 1,
+        file: FileNumber::of(1),
+        number: CommandNumber::of(1),
         call,
     };
     let other = Message::Taken {
-        file: 1,
-        number: 2,
+        file: FileNumber::of(1),
+        number: CommandNumber::of(2),
         call,
     };
     let mut sent = Sent::new(rt.alloc());

@@ -1,8 +1,10 @@
 //! Journals that are printed.
 use intervals::span::{GREATEST, Span};
 use journal_text::journal::print;
+use messages::command_number::CommandNumber;
 use messages::entry::Entry;
 use messages::event::Event;
+use messages::file_number::FileNumber;
 use messages::items::Items;
 use messages::message::{Message, Urgency};
 use messages::outcome::Outcome;
@@ -91,20 +93,20 @@ fn revoked(alloc: Global) -> Result<Entry, Fail> {
     let mut sends = Items::one(
         alloc,
         Message::Conflict {
-            file: 1,
-            number: 2,
+            file: FileNumber::of(1),
+            number: CommandNumber::of(2),
             holder: HOLDER,
             call: ASKS,
             lock: LOCK,
         },
     )?;
     sends.push(Message::Freed {
-        file: 1,
+        file: FileNumber::of(1),
         holder: HOLDER,
     })?;
     let revoke = Message::Revoke {
-        file: 1,
-        number: 2,
+        file: FileNumber::of(1),
+        number: CommandNumber::of(2),
         holder: HOLDER,
         call: ASKS,
         mode: Mode::Read,
@@ -115,7 +117,7 @@ fn revoked(alloc: Global) -> Result<Entry, Fail> {
 
 fn retried(alloc: Global) -> Result<Entry, Fail> {
     let request = Message::Request {
-        file: 1,
+        file: FileNumber::of(1),
         call: ASKS,
         urgency: Urgency::Waits,
         mode: Mode::Read,

@@ -11,4 +11,4 @@ returns-in-None c = reads-pair_none decimal call_text IsCommandNumber IsCall c.a
 
 pub returns-in-Some : goal.returns-in-Some
 returns-in-Some c =
-    rw c.zip.ensures (reads-pair decimal call_text IsCommandNumber IsCall c.args.text.now c.in-Some.number.now c.in-Some.call.now message_words c.in-Some.ensures.0 c.in-Some.ensures.1 c.counted_of.result c.call_of.result c.counted_of.ensures c.call_of.ensures)
+    rw c.zip.ensures (reads-pair decimal call_text IsCommandNumber IsCall c.args.text.now c.in-Some.number.now c.in-Some.call.now message_words c.in-Some.ensures.0 c.in-Some.ensures.1 c.command_of.result c.call_of.result c.command_of.ensures c.call_of.ensures)

@@ -14,4 +14,4 @@ returns-in-None c = reads-pair_none decimal (pair_text holder_text (pair_text ca
 
 pub returns-in-Some : goal.returns-in-Some
 returns-in-Some c =
-    rw c.zip.ensures (reads-pair decimal (pair_text holder_text (pair_text call_text (pair_text mode_text wants_text))) IsCommandNumber (Both IsHolder (Both IsCall (Both (λ _. ⊤) AreServedWants))) c.args.text.now c.in-Some.number.now c.in-Some.rest.now message_words c.in-Some.ensures.0 c.in-Some.ensures.1 c.counted_of.result c.holder_call_mode_wants.result c.counted_of.ensures c.holder_call_mode_wants.ensures)
+    rw c.zip.ensures (reads-pair decimal (pair_text holder_text (pair_text call_text (pair_text mode_text wants_text))) IsCommandNumber (Both IsHolder (Both IsCall (Both (λ _. ⊤) AreServedWants))) c.args.text.now c.in-Some.number.now c.in-Some.rest.now message_words c.in-Some.ensures.0 c.in-Some.ensures.1 c.command_of.result c.holder_call_mode_wants.result c.command_of.ensures c.holder_call_mode_wants.ensures)

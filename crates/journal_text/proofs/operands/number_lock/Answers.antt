@@ -10,4 +10,4 @@ returns-in-None c = reads-pair_none decimal lock_text IsCommandNumber IsServedLo
 
 pub returns-in-Some : goal.returns-in-Some
 returns-in-Some c =
-    rw c.zip.ensures (reads-pair decimal lock_text IsCommandNumber IsServedLock c.args.text.now c.in-Some.number.now c.in-Some.lock.now message_words c.in-Some.ensures.0 c.in-Some.ensures.1 c.counted_of.result c.lock_of.result c.counted_of.ensures c.lock_of.ensures)
+    rw c.zip.ensures (reads-pair decimal lock_text IsCommandNumber IsServedLock c.args.text.now c.in-Some.number.now c.in-Some.lock.now message_words c.in-Some.ensures.0 c.in-Some.ensures.1 c.command_of.result c.lock_of.result c.command_of.ensures c.lock_of.ensures)

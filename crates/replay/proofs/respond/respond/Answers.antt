@@ -1,16 +1,18 @@
-use Rattle.std.proofs.Common.{◌≡◌, ◌<◌, ℕ, List, map, Some, arith, subst, sym}
+use Rattle.std.proofs.Common.{◌≡◌, ◌<◌, ℕ, List, map, Some, arith, inl, inr, subst, sym, ◌∙◌}
 use Rattle.std.specs.Prelude.{⊤}
+use Rattle.std.specs.Io.KnownBytes.{Appends}
 use Rattle.command_line.specs.Tasks.{Task, task_of, run}
 use Rattle.command_line.specs.Words.{AsksFor}
 use Rattle.command_line.specs.declared.refusal.Refusal.{Refusal}
 use Rattle.command_line.proofs.CommandLine.{asks_one, asks_refused}
 use Rattle.replay.specs.declared.fault.Fault.{Fault}
-use Rattle.replay.specs.declared.fault.Fault.TheVariants.{NoMemory}
+use Rattle.replay.specs.declared.fault.Fault.TheVariants.{CannotWriteOutput, NoMemory}
 use Rattle.replay.specs.Commands.{Does, IsFault, Leaves, Shows, TellsFault}
 use Rattle.replay.specs.Faults.{fault_line}
-use Rattle.replay.specs.Outputs.{WritesOrFails}
+use Rattle.replay.specs.Outputs.{AppendsPart, WritesOrFails}
 use Rattle.replay.specs.Refusals.{IsHelp, refusal_status, refusal_text}
 use Rattle.replay.proofs.Faults.{fault-weaker, short-memory}
+use Rattle.replay.proofs.Refused.{refused-short, refused-unshown, short-leaves}
 use Rattle.replay.proofs.Stores.{same, same-unless}
 use Rattle.replay.proofs.respond.respond.Goals as goal
 
@@ -47,3 +49,31 @@ returns-in-Err-clause-fault g c = λ task asks failed.
     × WritesOrFails (g.E.Output.taken c.args.err.now) (g.E.Output.taken c.refuse.new.err) (g.E.Output.has_failed c.refuse.new.err) (refusal_text r) in
     let told = subst P (asks_refused words task c.in-Err.refusal asks c.in-Err.ensures.refused) c.refuse.ensures.refused (λ help. help) in
     (NoMemory, (short-memory old task, same old), told.1, told.2, told.0)
+
+pub returns-in-Ok-clause-unshown : goal.returns-in-Ok-clause-unshown
+returns-in-Ok-clause-unshown g c = λ three. inl (task_of c.in-Ok.line, c.in-Ok.ensures.asked)
+
+pub returns-in-Ok-clause-short : goal.returns-in-Ok-clause-short
+returns-in-Ok-clause-short g c = λ four.
+    let old = g.S.Store.holds c.args.store.now in
+    let new = g.S.Store.holds c.perform.new.store in
+    let asked = task_of c.in-Ok.line in
+    let told = c.perform.ensures.fault (omega (arith, four)) in
+    (short-leaves (Does old asked new) g.O.Output.taken g.O.Output.has_failed c.args.out.now c.perform.new.out told.0 (sym told.4 ∙ four) told.2, inl (asked, c.in-Ok.ensures.asked))
+
+pub returns-in-Err-clause-unshown : goal.returns-in-Err-clause-unshown
+returns-in-Err-clause-unshown g c = λ three.
+    let words = map g.W.AsStr.text c.args.words.now in
+    let taken = g.O.Output.taken in
+    let text = refusal_text c.in-Err.refusal in
+    let T : List ℕ → Type 0 = λ t. WritesOrFails (g.E.Output.taken c.args.err.now) (g.E.Output.taken c.refuse.new.err) (g.E.Output.has_failed c.refuse.new.err) t in
+    inr (refused-unshown words c.in-Err.refusal c.refuse.result (Appends (taken c.args.out.now) (taken c.refuse.new.out) text) (g.O.Output.is_flushed c.refuse.new.out) (c.refuse.new.err ≡ c.args.err.now) (AppendsPart (taken c.args.out.now) (taken c.refuse.new.out) text) (g.O.Output.has_failed c.refuse.new.out) (T (fault_line CannotWriteOutput)) (c.refuse.new.out ≡ c.args.out.now) (T text) c.in-Err.ensures.refused c.refuse.ensures.help c.refuse.ensures.refused three)
+
+pub returns-in-Err-clause-short : goal.returns-in-Err-clause-short
+returns-in-Err-clause-short g c = λ four.
+    let words = map g.W.AsStr.text c.args.words.now in
+    let taken = g.O.Output.taken in
+    let text = refusal_text c.in-Err.refusal in
+    let T : List ℕ → Type 0 = λ t. WritesOrFails (g.E.Output.taken c.args.err.now) (g.E.Output.taken c.refuse.new.err) (g.E.Output.has_failed c.refuse.new.err) t in
+    let told = refused-short words c.in-Err.refusal c.refuse.result (Appends (taken c.args.out.now) (taken c.refuse.new.out) text) (g.O.Output.is_flushed c.refuse.new.out) (c.refuse.new.err ≡ c.args.err.now) (AppendsPart (taken c.args.out.now) (taken c.refuse.new.out) text) (g.O.Output.has_failed c.refuse.new.out) (T (fault_line CannotWriteOutput)) (c.refuse.new.out ≡ c.args.out.now) T c.in-Err.ensures.refused c.refuse.ensures.help c.refuse.ensures.refused four in
+    (told.0, inr told.1)

@@ -18,4 +18,4 @@ returns-clause-answer c =
       starts = rw (← c.wanted.view_is) c.wanted.invariant.0;
       ends = rw (← c.wanted.view_is) c.wanted.invariant.1;
     } in
-    rw (← c.self.view_is) (node-gives _ c.args.command.now.file c.in_ok-locks.locks.items mode w.required w.desired gives c.self.invariant c.in_ok-locks.ensures revocable given)
+    rw (← c.self.view_is) (node-gives _ c.args.command.now.file c.in_ok-locks.locks.items mode w.required w.desired gives c.self.invariant (rw (← c.get-file.ensures.value) c.in_ok-locks.ensures) revocable given)

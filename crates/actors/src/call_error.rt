@@ -1,0 +1,85 @@
+//! Why a call has no receipt.
+ghost use Rattle.std.specs.Prelude.{◌≡◌};
+ghost use Rattle.actors.specs.Numbers.{number_of, rejected_by, refused_by};
+
+use book::commit_error::CommitError;
+use messages::refusal::StepError;
+use thiserror::Error;
+
+/// Why a call of a client has no receipt.
+#[derive(Clone, Copy, Debug, PartialEq, Eq, Error)]
+pub enum CallError {
+    /// A request for memory was refused.
+    #[error("no memory")]
+    NoMemory,
+    /// The process has an open call, or another client.
+    #[error("the process has an open call or another client")]
+    Busy,
+    /// A number outside the shape of the cluster.
+    #[error("not of this cluster")]
+    Stranger,
+    /// The node was declared failed before it took the call.
+    #[error("the node was declared failed")]
+    Fenced,
+    /// The journal has as many entries as it may.
+    #[error("the journal is full")]
+    JournalFull,
+    /// The node was declared failed or the process ended while the call was open.
+    #[error("the call ended without a reply")]
+    Killed,
+    /// The worker ended before it took the call.
+    #[error("the worker has ended")]
+    Closed,
+    /// The node has no number left.
+    #[error("no number is left")]
+    Spent,
+    /// What the client was told stands past the end of the journal: it is of another one.
+    #[error("told of another journal")]
+    Stale,
+}
+
+impl From<StepError> for CallError {
+    ghost from_gives = { λ error made. made ≡ rejected_by error };
+
+    fn from(error: StepError) -> CallError {
+        match error {
+            StepError::NoMemory => CallError::NoMemory,
+            StepError::Busy => CallError::Busy,
+            StepError::Stranger => CallError::Stranger,
+            StepError::Spent => CallError::Spent,
+        }
+    }
+}
+
+impl From<CommitError> for CallError {
+    ghost from_gives = { λ error made. made ≡ refused_by error };
+
+    fn from(error: CommitError) -> CallError {
+        match error {
+            CommitError::NoMemory => CallError::NoMemory,
+            CommitError::Stranger => CallError::Stranger,
+            CommitError::Fenced => CallError::Fenced,
+            CommitError::JournalFull => CallError::JournalFull,
+            CommitError::Stale => CallError::Stale,
+        }
+    }
+}
+
+impl CallError {
+    /// The number by which listings know the refusal: 3 or 13 to 20.
+    pub fn number(self) -> u16
+        ensures { result ≡ number_of self }
+    {
+        match self {
+            CallError::NoMemory => 3,
+            CallError::Busy => 13,
+            CallError::Stranger => 14,
+            CallError::Fenced => 15,
+            CallError::JournalFull => 16,
+            CallError::Killed => 17,
+            CallError::Closed => 18,
+            CallError::Spent => 19,
+            CallError::Stale => 20,
+        }
+    }
+}

@@ -1,0 +1,160 @@
+//! Clients.
+ghost use Rattle.std.specs.Prelude.{◌≡◌, ◌↔◌, IsTrue, true, IfOk, OnErr, max, unwrap_or};
+ghost use Rattle.actors.specs.Clients.{ClientFields, IsMadeBy};
+
+use crate::call_error::CallError;
+use crate::letter::{Answer, Letter, Question};
+use book::mark::Mark;
+use book::receipt::Receipt;
+use crossbeam_channel::{Receiver, SendError, Sender, bounded};
+use model::op::Op;
+use model::process::Process;
+use std::alloc::Global;
+use std::marker::Model;
+use std::sync::Wait;
+
+/// A process of a cluster that runs, as one who makes its calls, one after the other.
+#[derive(Drop)]
+pub struct Client<'a> {
+    process: Process,
+    last: Option<Mark>,
+    alloc: Global,
+    mailbox: &'a Sender<Letter>,
+}
+
+impl<'a> Model for Client<'a> {
+    ghost use Rattle.std.specs.Prelude.{unwrap_or};
+    ghost use Rattle.actors.specs.Clients.{ClientFields};
+
+    ghost Value = { ClientFields };
+
+    ghost view = { λ c. record { process = c.process; last = unwrap_or c.last 0 } };
+}
+
+impl<'a> Client<'a> {
+    /// A client of the process that has seen nothing of the journal.
+    pub(crate) fn new(alloc: Global, process: Process, mailbox: &'a Sender<Letter>) -> Client<'a>
+        ensures { result ≡ record { process = process; last = 0 } }
+    {
+        Client {
+            process,
+            last: None,
+            alloc,
+            mailbox,
+        }
+    }
+
+    /// The process that makes the calls.
+    pub fn process(&self) -> Process
+        ensures { result ≡ self.now.process }
+    {
+        self.process
+    }
+
+    /// Whether the client is of that process of the node, in whatever incarnation.
+    pub(crate) fn is_of(&self, node: u8, pid: u16) -> bool {
+        self.process.node == node && self.process.pid == pid
+    }
+
+    /// The position of the last reply that the client has got or was told of, from 1; 0 with none.
+    pub fn last(&self) -> u32
+        ensures { result ≡ self.now.last }
+    {
+        match &self.last {
+            Some(mark) => mark.position(),
+            None => 0,
+        }
+    }
+
+    /// Tells the client of a receipt of this cluster: its calls stand after that reply.
+    pub fn told(&mut self, receipt: &Receipt)
+        ensures { self.new ≡ record self.old { last = max self.old.last receipt.now.reply_at } }
+    {
+        if receipt.reply_at() > self.last() {
+            self.last = Some(receipt.mark());
+        }
+    }
+
+    // The call, with what the client has seen.
+    fn question(&self, op: Op, back: Sender<Answer>) -> Question
+        ensures process { result.process ≡ self.now.process }
+        ensures operation { result.op ≡ op }
+        ensures seen { unwrap_or result.seen 0 ≡ self.now.last }
+    {
+        Question {
+            process: self.process,
+            op,
+            seen: self.last,
+            back,
+        }
+    }
+
+    /// Makes a call and waits for its reply. The receipt is of this process and this operation, its
+    /// call stands after all that the client has seen, and the client has then seen its reply.
+    ///
+    /// # Errors
+    /// `NoMemory` where a request for memory was refused; `JournalFull` where the journal has 1,048,576
+    /// entries; `Stranger` where the operation names a file outside the shape or a process outside 1 to
+    /// 256; `Fenced` where the incarnation of the process was declared failed before its node took the
+    /// call; `Busy` where the process has an open call; `Spent` where the node has no number left;
+    /// `Stale` where the client was told of another cluster's receipt; `Killed` where the node was
+    /// declared failed or the process ended while the call was open; `Closed` where the worker ended
+    /// before it took the call. The client has then seen no more than before.
+    pub fn call<R: Wait>(&mut self, rt: &R, op: Op) -> Result<Receipt, CallError>
+        ensures made { IfOk result (IsMadeBy self.old op) }
+        ensures seen { IfOk result (λ receipt. self.new ≡ record self.old { last = receipt.reply_at }) }
+        ensures unchanged { OnErr result (self.new ≡ self.old) }
+    {
+        let Ok((back, answers)) = bounded(self.alloc, 1) else {
+            return Err(CallError::NoMemory);
+        };
+        let letter = Letter::Ask(self.question(op, back));
+        match self.mailbox.send(rt, letter) {
+            Ok(()) => {}
+            Err(SendError::Disconnected(_)) => return Err(CallError::Closed),
+            Err(SendError::OutOfMemory(_)) => return Err(CallError::NoMemory),
+        }
+        let receipt = self.wait_for_answer(rt, &answers, op)?;
+        self.last = Some(receipt.mark());
+        Ok(receipt)
+    }
+
+    // The receipt of the call, or why there is none. Other receipts are passed over.
+    fn wait_for_answer<R: Wait>(&self, rt: &R, answers: &Receiver<Answer>, op: Op) -> Answer
+        ensures { IfOk result (IsMadeBy self.now op) }
+    {
+        for _ in rt.forever() {
+            match answers.recv(rt) {
+                Ok(Ok(receipt)) => {
+                    if self.has_made(&receipt, op) {
+                        return Ok(receipt);
+                    }
+                }
+                Ok(Err(why)) => return Err(why),
+                Err(_) => return Err(CallError::Closed),
+            }
+        }
+        unreachable!()
+    }
+
+    // Whether the receipt is of a call of this process with this operation, made with what was seen.
+    fn has_made(&self, receipt: &Receipt, op: Op) -> bool
+        ensures { result ≡ true → IsMadeBy self.now op receipt.now }
+    {
+        let call = receipt.call();
+        if call.node != self.process.node || call.incarnation != self.process.incarnation {
+            return false;
+        }
+        if receipt.pid() != self.process.pid || !same_op(&receipt.op(), &op) {
+            return false;
+        }
+        receipt.seen() == self.last()
+    }
+}
+
+// Whether both ask the same.
+fn same_op(one: &Op, other: &Op) -> bool
+    ensures { IsTrue result ↔ (one.now ≡ other.now) }
+{
+    one == other
+}

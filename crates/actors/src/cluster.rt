@@ -1,0 +1,234 @@
+//! A cluster on threads.
+ghost use Rattle.std.specs.Prelude.{◌≡◌, ◌+◌, IfOk, length};
+ghost use Rattle.messages.specs.declared.event.Event.TheVariants.{Declare};
+
+use crate::call_error::CallError;
+use crate::client::Client;
+use crate::gate::Gate;
+use crate::letter::Letter;
+use crate::pacer::pace;
+use crate::place::Place;
+use crate::run_error::RunError;
+use crate::shared::{Mailbox, Shared};
+use crate::weather::Weather;
+use crate::worker::Worker;
+use book::book::Book;
+use book::seat::Seat;
+use book::stamp::Stamp;
+use cluster_core::journal::Journal;
+use crossbeam_channel::unbounded;
+use messages::refusal::Refused;
+use messages::shape::Shape;
+use model::limits::{MOST_NODES, MOST_PROCESSES};
+use model::process::Process;
+use std::alloc::{AllocError, Global};
+use std::sync::atomic::{AtomicU64, Ordering};
+use std::sync::{Mutex, Wait};
+use std::thread;
+use std::thread::{Scope, Threads};
+use std::time::Clock;
+
+/// A cluster that runs on threads.
+#[derive(Drop)]
+pub struct Cluster<'a> {
+    alloc: Global,
+    nodes: u8,
+    book: &'a Mutex<Book>,
+    mailboxes: &'a [Mailbox],
+    places: &'a [Mutex<Place>],
+}
+
+impl<'a> Cluster<'a> {
+    // The place of the node.
+    fn place(&self, node: u8) -> Option<&'a Mutex<Place>> {
+        self.places.get(usize::from(node).checked_sub(1)?)
+    }
+
+    /// A client of a process of the node's live incarnation, which has seen nothing.
+    ///
+    /// # Errors
+    /// In this order: `Stranger` where the node is outside the shape or the process outside 1 to 256;
+    /// `Fenced` while the node is declared failed; `Busy` where a client of that process of this
+    /// incarnation was handed out already; `NoMemory` where a request for memory was refused.
+    pub fn client<R: Wait>(&self, rt: &R, node: u8, pid: u16) -> Result<Client<'a>, CallError>
+        ensures process { IfOk result (λ client. (client.process.node ≡ node) × (client.process.pid ≡ pid)) }
+        ensures fresh { IfOk result (λ client. client.last ≡ 0) }
+    {
+        if node < 1 || node > MOST_NODES || pid < 1 || pid > MOST_PROCESSES {
+            return Err(CallError::Stranger);
+        }
+        let Some(place) = self.place(node) else {
+            return Err(CallError::Stranger);
+        };
+        let Some(mailbox) = self.mailboxes.get(usize::from(node) - 1) else {
+            return Err(CallError::Stranger);
+        };
+        let incarnation = place.lock(rt).hand_out(pid)?;
+        let process = Process {
+            node,
+            incarnation,
+            pid,
+        };
+        Ok(Client::new(self.alloc, process, &mailbox.letters))
+    }
+
+    /// Declares the node failed, and each server is sent word of it.
+    ///
+    /// # Errors
+    /// Those of `Book::declare`.
+    pub fn declare<R: Wait>(&self, rt: &R, node: u8) -> Result<Stamp, Refused>
+        ensures { IfOk result (λ stamp. stamp.event ≡ Declare node) }
+    {
+        let Some(place) = self.place(node) else {
+            return self.book.lock(rt).declare(self.alloc, node);
+        };
+        let mut place = place.lock(rt);
+        let stamp = self.book.lock(rt).declare(self.alloc, node)?;
+        let incarnation = place.end();
+        for mailbox in self.mailboxes.iter().skip(usize::from(self.nodes)) {
+            mailbox.send_surely(rt, Letter::Learn { node, incarnation });
+        }
+        Ok(stamp)
+    }
+
+    /// The node that was declared failed begins again. Its worker takes the new seat before its next
+    /// letter.
+    ///
+    /// # Errors
+    /// Those of `Book::restart`.
+    pub fn restart<R: Wait>(&self, rt: &R, node: u8) -> Result<(), Refused> {
+        let Some(place) = self.place(node) else {
+            self.book.lock(rt).restart(self.alloc, node)?;
+            return Ok(());
+        };
+        let mut place = place.lock(rt);
+        let seat = self.book.lock(rt).restart(self.alloc, node)?;
+        place.begin(seat);
+        Ok(())
+    }
+}
+
+/// Runs a cluster of the shape on threads for as long as the body does, which is lent it. Each actor
+/// has a thread, a mailbox and a weather, nodes first. The body's result comes with the journal.
+///
+/// # Errors
+/// `NoMemory` where a request for memory or for a thread was refused.
+pub fn with_cluster<
+    G: Gate + Sync,
+    W: Weather + Send,
+    R: Threads + Wait + Clock + Sync,
+    T,
+    F: FnOnce(&Cluster<'_>) -> T,
+>(
+    rt: &R,
+    alloc: Global,
+    shape: Shape,
+    gate: &G,
+    weathers: Vec<W>,
+    body: F,
+) -> Result<(T, Journal), RunError>
+    requires each { length weathers.items ≡ shape.nodes + shape.files }
+    requires body { F.IsAlwaysCallable body }
+{
+    let (book, seats) = Book::new(alloc, shape)?;
+    let (workers, mailboxes) = workers_of(alloc, seats, weathers)?;
+    let places = places_of(alloc, shape.nodes())?;
+    let book = Mutex::new(book);
+    let stop = AtomicU64::new(0);
+    let working = AtomicU64::new(0);
+    let shared = Shared {
+        alloc,
+        book: &book,
+        gate,
+        nodes: shape.nodes(),
+        mailboxes: mailboxes.as_slice(),
+        places: places.as_slice(),
+        stop: &stop,
+        working: &working,
+    };
+    let cluster = Cluster {
+        alloc,
+        nodes: shape.nodes(),
+        book: &book,
+        mailboxes: mailboxes.as_slice(),
+        places: places.as_slice(),
+    };
+    let made = run_scope(rt, &shared, workers, &cluster, body);
+    match made {
+        Some(made) => Ok((made, book.into_inner().into_journal())),
+        None => Err(RunError::NoMemory),
+    }
+}
+
+// Starts the threads, calls the body and stops the threads.
+fn run_scope<
+    G: Gate + Sync,
+    W: Weather + Send,
+    R: Threads + Wait + Clock + Sync,
+    T,
+    F: FnOnce(&Cluster<'_>) -> T,
+>(
+    rt: &R,
+    shared: &Shared<'_, G>,
+    workers: Vec<Worker<W>>,
+    cluster: &Cluster<'_>,
+    body: F,
+) -> Option<T>
+    requires { F.IsAlwaysCallable body }
+{
+    thread::scope(thread::scope_env(), rt, |scope| {
+        let all = start_all(scope, rt, shared, workers);
+        let made = if all { Some(body(cluster)) } else { None };
+        shared.stop.store(1, Ordering::SeqCst);
+        made
+    })
+}
+
+// Starts the pacer and the workers. False where a thread can't be made.
+fn start_all<
+    's,
+    'b: 's,
+    E,
+    G: Gate + Sync,
+    W: Weather + Send + 's,
+    R: Threads + Wait + Clock + Sync,
+>(scope: &Scope<'s, E>, rt: &'s R, shared: &'s Shared<'b, G>, workers: Vec<Worker<W>>) -> bool {
+    if scope.spawn(move || pace(rt, shared)).is_err() {
+        return false;
+    }
+    let mut all = true;
+    for worker in workers {
+        shared.working.fetch_add(1, Ordering::SeqCst);
+        let started = scope.spawn(move || worker.work(rt, shared));
+        if started.is_err() {
+            shared.working.fetch_sub(1, Ordering::SeqCst);
+            all = false;
+        }
+    }
+    all
+}
+
+// A worker for each seat, with its weather, and their mailboxes.
+fn workers_of<W: Weather>(
+    alloc: Global,
+    seats: Vec<Seat>,
+    weathers: Vec<W>,
+) -> Result<(Vec<Worker<W>>, Vec<Mailbox>), AllocError> {
+    let mut workers = Vec::new(alloc);
+    let mut mailboxes = Vec::new(alloc);
+    for (seat, weather) in seats.into_iter().zip(weathers) {
+        let (letters, inbox) = unbounded(alloc)?;
+        workers.push(Worker::new(alloc, seat, weather, inbox))?;
+        mailboxes.push(Mailbox::new(letters))?;
+    }
+    Ok((workers, mailboxes))
+}
+
+// The places of so many nodes that begin.
+fn places_of(alloc: Global, nodes: u8) -> Result<Vec<Mutex<Place>>, AllocError> {
+    let mut places = Vec::new(alloc);
+    for _ in 0..nodes {
+        places.push(Mutex::new(Place::new(alloc)))?;
+    }
+    Ok(places)
+}

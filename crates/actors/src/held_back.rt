@@ -1,0 +1,52 @@
+//! Messages that are held back.
+use messages::message::Message;
+use std::alloc::{AllocError, Global};
+
+// A message, and after how many ticks it goes.
+#[derive(Clone, Copy)]
+struct Held {
+    ticks: u32,
+    message: Message,
+}
+
+/// The messages of an actor that its weather holds back, in the order in which they were sent.
+#[derive(Drop)]
+pub(crate) struct HeldBack {
+    messages: Vec<Held>,
+}
+
+impl HeldBack {
+    /// No message is held back.
+    pub(crate) fn new(alloc: Global) -> HeldBack {
+        HeldBack {
+            messages: Vec::new(alloc),
+        }
+    }
+
+    /// Holds a message back for so many ticks.
+    pub(crate) fn hold(&mut self, ticks: u32, message: Message) -> Result<(), AllocError> {
+        self.messages.push(Held { ticks, message })?;
+        Ok(())
+    }
+
+    /// A tick has passed.
+    pub(crate) fn pass_tick(&mut self) {
+        for held in self.messages.iter_mut() {
+            held.ticks = held.ticks.saturating_sub(1);
+        }
+    }
+
+    pub(crate) fn len(&self) -> usize {
+        self.messages.len()
+    }
+
+    pub(crate) fn is_empty(&self) -> bool {
+        self.messages.is_empty()
+    }
+
+    /// Takes out the first message whose ticks have passed.
+    pub(crate) fn take_due(&mut self) -> Option<Message> {
+        let index = self.messages.iter().position(|held| held.ticks == 0)?;
+        Some(self.messages.remove(index).message)
+    }
+}

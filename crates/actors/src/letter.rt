@@ -1,0 +1,33 @@
+//! Letters: what the mailbox of an actor takes, and what comes back.
+use crate::call_error::CallError;
+use book::mark::Mark;
+use book::receipt::Receipt;
+use crossbeam_channel::Sender;
+use messages::message::Message;
+use model::op::Op;
+use model::process::Process;
+
+/// What the mailbox of an actor takes.
+#[derive(Drop)]
+pub(crate) enum Letter {
+    /// A process of the node makes a call.
+    Ask(Question),
+    /// A message comes.
+    Deliver(Message),
+    /// An incarnation of a node was declared failed.
+    Learn { node: u8, incarnation: u16 },
+    /// A turn has passed.
+    Tick,
+}
+
+/// A call, with what its client has seen of the journal, and where the answer goes.
+#[derive(Drop)]
+pub(crate) struct Question {
+    pub(crate) process: Process,
+    pub(crate) op: Op,
+    pub(crate) seen: Option<Mark>,
+    pub(crate) back: Sender<Answer>,
+}
+
+/// What comes of a call.
+pub(crate) type Answer = Result<Receipt, CallError>;

@@ -1,0 +1,171 @@
+//! The open calls of a node's clients.
+ghost use Rattle.std.specs.Prelude.{◌≡◌, ◌<◌, ◌≤◌, vec_len, OnOk};
+ghost use Rattle.std.specs.Vec.{vec_capacity};
+
+use crate::letter::Answer;
+use crate::patience::Patience;
+use book::receipt::Receipt;
+use book::stamp::Stamp;
+use crossbeam_channel::Sender;
+use messages::event::Event;
+use messages::message::Message;
+use std::alloc::{AllocError, Global};
+use std::mem;
+
+/// A call that its node took and has not answered, where the answer goes, when it is tried again, and
+/// whether its last try asked for no token: then a lock of its own node is in the way.
+#[derive(Drop)]
+pub(crate) struct OpenCall {
+    pid: u16,
+    stamp: Stamp,
+    pub(crate) back: Sender<Answer>,
+    patience: Patience,
+    blocked_here: bool,
+}
+
+impl OpenCall {
+    /// A call of the process that its node has just taken.
+    pub(crate) fn new(pid: u16, stamp: Stamp, back: Sender<Answer>) -> OpenCall {
+        let blocked_here = stamp.outcome().sends.is_empty();
+        OpenCall {
+            pid,
+            stamp,
+            back,
+            patience: Patience::new(),
+            blocked_here,
+        }
+    }
+
+    // Whether this is the number of the call.
+    fn has_number(&self, number: u32) -> bool {
+        match self.stamp.outcome().call {
+            Some(name) => name.number == number,
+            None => false,
+        }
+    }
+
+    // The step may have tried the call again.
+    fn note(&mut self, step: &Stamp) {
+        let event = step.event();
+        if retried(&event) == Some(self.pid) {
+            self.blocked_here = step.outcome().sends.is_empty();
+        }
+        if let Some(number) = granted(&event) {
+            self.blocked_here = self.blocked_here || self.has_number(number);
+        }
+    }
+}
+
+// The process whose call is tried again at the event.
+fn retried(event: &Event) -> Option<u16> {
+    match event {
+        Event::Retry { pid, .. } => Some(*pid),
+        _ => None,
+    }
+}
+
+// The number of the call for which the event brings a token.
+fn granted(event: &Event) -> Option<u32> {
+    match event {
+        Event::Deliver(message) => asker(message),
+        _ => None,
+    }
+}
+
+// The number of the call for which the message is a grant.
+fn asker(message: &Message) -> Option<u32> {
+    match message {
+        Message::Grant { call, .. } => Some(call.number),
+        _ => None,
+    }
+}
+
+/// The open calls of the clients of a node, in the order in which the node took them.
+#[derive(Drop)]
+pub(crate) struct OpenCalls {
+    calls: Vec<OpenCall>,
+}
+
+impl OpenCalls {
+    /// No call is open.
+    pub(crate) fn new(alloc: Global) -> OpenCalls {
+        OpenCalls {
+            calls: Vec::new(alloc),
+        }
+    }
+
+    /// Makes room for one more call.
+    pub(crate) fn reserve(&mut self) -> Result<(), AllocError>
+        ensures { OnOk result (vec_len self.new.calls < vec_capacity self.new.calls) }
+    {
+        self.calls.reserve(1)
+    }
+
+    /// The call is open from here on.
+    pub(crate) fn add(&mut self, call: OpenCall)
+        requires { vec_len self.old.calls < vec_capacity self.old.calls }
+    {
+        self.calls.push_reserved(call);
+    }
+
+    /// Takes out the call that the step answers, and makes its receipt.
+    pub(crate) fn take_answered(&mut self, reply: &Stamp) -> Option<(OpenCall, Receipt)> {
+        for index in 0..self.calls.len() {
+            if let Some(receipt) = Receipt::of(&self.calls[index].stamp, reply) {
+                return Some((self.calls.remove(index), receipt));
+            }
+        }
+        None
+    }
+
+    /// Takes out the call of the process. There is then as much room as before.
+    pub(crate) fn take_of(&mut self, pid: u16) -> Option<OpenCall>
+        ensures fewer { vec_len self.new.calls ≤ vec_len self.old.calls }
+        ensures room { vec_capacity self.new.calls ≡ vec_capacity self.old.calls }
+    {
+        let index = self.calls.iter().position(|call| call.pid == pid)?;
+        Some(self.calls.remove(index))
+    }
+
+    /// Takes out all calls.
+    pub(crate) fn take_all(&mut self, alloc: Global) -> Vec<OpenCall> {
+        mem::replace(&mut self.calls, Vec::new(alloc))
+    }
+
+    pub(crate) fn len(&self) -> usize {
+        self.calls.len()
+    }
+
+    pub(crate) fn is_empty(&self) -> bool {
+        self.calls.is_empty()
+    }
+
+    /// The node has done this step, which may have tried calls again.
+    pub(crate) fn note(&mut self, step: &Stamp) {
+        for call in self.calls.iter_mut() {
+            call.note(step);
+        }
+    }
+
+    /// A tick has passed for the call at the index. Whether it is time to try it again.
+    pub(crate) fn pass_tick(&mut self, index: usize) -> bool {
+        match self.calls.get_mut(index) {
+            Some(call) => call.patience.pass_tick(),
+            None => false,
+        }
+    }
+
+    /// Whether a lock of its own node is in the way of the call at the index.
+    pub(crate) fn is_blocked_here(&self, index: usize) -> bool {
+        match self.calls.get(index) {
+            Some(call) => call.blocked_here,
+            None => false,
+        }
+    }
+
+    /// The process whose call stands at the index.
+    pub(crate) fn pid_at(&self, index: usize) -> Option<u16> {
+        let call = self.calls.get(index)?;
+        Some(call.pid)
+    }
+}

@@ -1,0 +1,62 @@
+//! Messages of an actor on their way.
+use crate::held_back::HeldBack;
+use crate::shared::Shared;
+use crate::weather::{Fate, Weather};
+use book::stamp::Stamp;
+use messages::message::Message;
+use std::alloc::Global;
+use std::sync::Wait;
+
+/// The messages of an actor on their way: the weather that they meet, and those that are held back.
+#[derive(Drop)]
+pub(crate) struct Outgoing<W: Weather> {
+    weather: W,
+    held: HeldBack,
+}
+
+impl<W: Weather> Outgoing<W> {
+    /// No message is on its way.
+    pub(crate) fn new(alloc: Global, weather: W) -> Outgoing<W> {
+        Outgoing {
+            weather,
+            held: HeldBack::new(alloc),
+        }
+    }
+
+    /// Whether no message is held back.
+    pub(crate) fn is_empty(&self) -> bool {
+        self.held.is_empty()
+    }
+
+    /// Sends the messages of a step, each as the weather has it.
+    pub(crate) fn send_all<G, R: Wait>(&mut self, rt: &R, shared: &Shared<'_, G>, stamp: &Stamp) {
+        for message in stamp.outcome().sends.as_slice() {
+            self.send(rt, shared, *message);
+        }
+    }
+
+    // Sends a message as the weather has it. One for which there is no memory is lost.
+    fn send<G, R: Wait>(&mut self, rt: &R, shared: &Shared<'_, G>, message: Message) {
+        match self.weather.fate(&message) {
+            Fate::Pass | Fate::Hold(0) => shared.deliver(rt, message),
+            Fate::Drop => {}
+            Fate::Twice => {
+                shared.deliver(rt, message);
+                shared.deliver(rt, message);
+            }
+            Fate::Hold(ticks) => {
+                let _ = self.held.hold(ticks, message);
+            }
+        }
+    }
+
+    /// A tick has passed: the messages whose ticks are over go.
+    pub(crate) fn pass_tick<G, R: Wait>(&mut self, rt: &R, shared: &Shared<'_, G>) {
+        self.held.pass_tick();
+        for _ in 0..self.held.len() {
+            if let Some(message) = self.held.take_due() {
+                shared.deliver(rt, message);
+            }
+        }
+    }
+}

@@ -1,0 +1,69 @@
+//! Places of nodes.
+ghost use Rattle.std.specs.Prelude.{◌≤◌, IfOk};
+
+use crate::call_error::CallError;
+use book::seat::Seat;
+use std::alloc::Global;
+
+/// What a cluster that runs knows of a node: its last incarnation and whether that one is alive, the
+/// processes of it that have a client, and the seat of an incarnation that the worker has not taken.
+#[derive(Drop)]
+pub(crate) struct Place {
+    incarnation: u16,
+    alive: bool,
+    clients: Vec<u16>,
+    seat: Option<Seat>,
+    ghost from_one: { 1 ≤ incarnation },
+}
+
+impl Place {
+    /// The place of a node in its first incarnation, whose worker has its seat.
+    pub(crate) fn new(alloc: Global) -> Place {
+        Place {
+            incarnation: 1,
+            alive: true,
+            clients: Vec::new(alloc),
+            seat: None,
+        }
+    }
+
+    /// The process has a client from here on, of the incarnation that is answered.
+    pub(crate) fn hand_out(&mut self, pid: u16) -> Result<u16, CallError>
+        ensures { IfOk result (λ incarnation. 1 ≤ incarnation) }
+    {
+        if !self.alive {
+            return Err(CallError::Fenced);
+        }
+        if self.clients.contains(&pid) {
+            return Err(CallError::Busy);
+        }
+        if self.clients.push(pid).is_err() {
+            return Err(CallError::NoMemory);
+        }
+        Ok(self.incarnation)
+    }
+
+    /// The node is declared failed in the incarnation that is answered.
+    pub(crate) fn end(&mut self) -> u16 {
+        self.alive = false;
+        self.incarnation
+    }
+
+    /// The node begins again, on this seat, and no process has a client. A server's seat, which has no
+    /// incarnation, begins no node.
+    pub(crate) fn begin(&mut self, seat: Seat) {
+        let incarnation = seat.incarnation();
+        if incarnation < 1 {
+            return;
+        }
+        self.incarnation = incarnation;
+        self.alive = true;
+        self.clients.clear();
+        self.seat = Some(seat);
+    }
+
+    /// The seat that waits for the worker.
+    pub(crate) fn take_seat(&mut self) -> Option<Seat> {
+        self.seat.take()
+    }
+}

@@ -1,0 +1,56 @@
+//! When a server sends again.
+use crate::patience::Patience;
+use messages::event::Event;
+use messages::message::Message;
+
+/// When a server sends again what has no answer: not before a step of it may have sent something, and
+/// then when it has waited long enough for an answer.
+#[derive(Clone, Copy)]
+pub(crate) struct Resends {
+    needed: bool,
+    patience: Patience,
+}
+
+impl Resends {
+    /// Nothing was sent.
+    pub(crate) fn new() -> Resends {
+        Resends {
+            needed: false,
+            patience: Patience::new(),
+        }
+    }
+
+    /// Whether there may be something to send again.
+    pub(crate) fn are_needed(&self) -> bool {
+        self.needed
+    }
+
+    /// The server has done a step at this event. An answer to it lets it wait anew.
+    pub(crate) fn note(&mut self, event: &Event) {
+        if !self.needed || is_answer(event) {
+            self.patience = Patience::new();
+        }
+        self.needed = true;
+    }
+
+    /// A tick has passed. Whether it is time to send again.
+    pub(crate) fn pass_tick(&mut self) -> bool {
+        self.needed && self.patience.pass_tick()
+    }
+
+    /// There is nothing to send again before the next step.
+    pub(crate) fn end(&mut self) {
+        self.needed = false;
+    }
+}
+
+// Whether the event brings a node's answer to a command.
+fn is_answer(event: &Event) -> bool {
+    match event {
+        Event::Deliver(message) => matches!(
+            message,
+            Message::Taken { .. } | Message::Released { .. } | Message::Conflict { .. }
+        ),
+        _ => false,
+    }
+}

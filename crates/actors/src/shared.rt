@@ -1,0 +1,105 @@
+//! What the threads of a cluster share.
+use crate::letter::Letter;
+use crate::place::Place;
+use book::book::Book;
+use book::seat::Seat;
+use crossbeam_channel::{SendError, Sender};
+use messages::actor::Actor;
+use messages::message::Message;
+use std::alloc::Global;
+use std::sync::atomic::{AtomicU64, Ordering};
+use std::sync::{Mutex, Wait};
+use std::thread;
+
+/// The mailbox of an actor, and whether it takes a tick: 0 where its worker waits for one, and 1 where
+/// one is on its way or the worker needs none.
+#[derive(Drop)]
+pub(crate) struct Mailbox {
+    pub(crate) letters: Sender<Letter>,
+    ticks: AtomicU64,
+}
+
+impl Mailbox {
+    /// A mailbox whose worker needs no tick.
+    pub(crate) fn new(letters: Sender<Letter>) -> Mailbox {
+        Mailbox {
+            letters,
+            ticks: AtomicU64::new(1),
+        }
+    }
+
+    /// Sends a tick if the worker waits for one, or if all workers are to stop. One whose sending is
+    /// refused is sent at the next call.
+    pub(crate) fn tick<R: Wait>(&self, rt: &R, stops: bool) {
+        if self.ticks.swap(1, Ordering::SeqCst) == 1 && !stops {
+            return;
+        }
+        if self.letters.send(rt, Letter::Tick).is_err() {
+            self.ticks.store(0, Ordering::SeqCst);
+        }
+    }
+
+    /// The worker waits for a tick.
+    pub(crate) fn take_ticks(&self) {
+        self.ticks.store(0, Ordering::SeqCst);
+    }
+
+    /// Sends a letter, again for as long as memory for it is refused.
+    pub(crate) fn send_surely<R: Wait>(&self, rt: &R, letter: Letter) {
+        let mut letter = letter;
+        for _ in rt.forever() {
+            match self.letters.send(rt, letter) {
+                Err(SendError::OutOfMemory(back)) => letter = back,
+                _ => return,
+            }
+            thread::yield_now();
+        }
+    }
+}
+
+/// What the threads of a cluster share: the book under its lock, the gate, and for each actor, nodes
+/// first, its mailbox; for each node its place; whether the workers are to stop; and how many work.
+#[derive(Drop)]
+pub(crate) struct Shared<'a, G> {
+    pub(crate) alloc: Global,
+    pub(crate) book: &'a Mutex<Book>,
+    pub(crate) gate: &'a G,
+    pub(crate) nodes: u8,
+    pub(crate) mailboxes: &'a [Mailbox],
+    pub(crate) places: &'a [Mutex<Place>],
+    pub(crate) stop: &'a AtomicU64,
+    pub(crate) working: &'a AtomicU64,
+}
+
+impl<G> Shared<'_, G> {
+    /// The mailbox of the actor.
+    pub(crate) fn mailbox(&self, actor: Actor) -> Option<&Mailbox> {
+        self.mailboxes.get(index_of(self.nodes, actor)?)
+    }
+
+    /// Puts the message into the mailbox of its addressee. One for which there is no memory is lost.
+    pub(crate) fn deliver<R: Wait>(&self, rt: &R, message: Message) {
+        if let Some(mailbox) = self.mailbox(message.addressee()) {
+            let _ = mailbox.letters.send(rt, Letter::Deliver(message));
+        }
+    }
+
+    /// The seat of a new incarnation of the actor, which no worker has taken.
+    pub(crate) fn new_seat<R: Wait>(&self, rt: &R, actor: Actor) -> Option<Seat> {
+        match actor {
+            Actor::Node(node) => {
+                let index = usize::from(node).checked_sub(1)?;
+                self.places.get(index)?.lock(rt).take_seat()
+            }
+            Actor::Server(_) => None,
+        }
+    }
+}
+
+/// The index of the actor among the mailboxes of a cluster with so many nodes.
+pub(crate) fn index_of(nodes: u8, actor: Actor) -> Option<usize> {
+    match actor {
+        Actor::Node(node) => usize::from(node).checked_sub(1),
+        Actor::Server(file) => (usize::from(nodes) + usize::from(file)).checked_sub(1),
+    }
+}

@@ -1,0 +1,115 @@
+//! Scripts on threads.
+ghost use Rattle.std.specs.Prelude.{◌≡◌, ◌↔◌, Some, IsErrOf, IfOk, length};
+ghost use Rattle.actors.specs.Lines.{bad_line, is_for_threads};
+ghost use Rattle.actors.specs.declared.run_error.RunError.{RunError};
+
+use crate::cluster::{Cluster, with_cluster};
+use crate::gate::Gate;
+use crate::outcomes::Outcomes;
+use crate::phases::Phases;
+use crate::run_error::RunError;
+use crate::stop::Stop;
+use crate::thread_run::ThreadRun;
+use crate::weather::Fair;
+use lockscript::script::Script;
+use lockscript::script_line::{Command, ScriptLine};
+use std::alloc::{AllocError, Global};
+use std::sync::Wait;
+use std::thread::Threads;
+use std::time::Clock;
+
+/// Runs a script on threads. Its lines are `call`, `settle`, `declare` and `restart`; the calls between
+/// two of the other lines form a phase. In a phase each process has a client of its own, which makes
+/// its calls in order and waits for each reply. `settle` joins the clients; `declare` and `restart` join
+/// them first, and so does the end. A line that is refused, but for want of memory or of room in the
+/// journal, is listed and the run goes on.
+///
+/// # Errors
+/// `BadLine` with the number of the first line that is another, before anything runs; `NoMemory` where
+/// a request for memory or for a thread was refused; `JournalFull` where the run needs more entries than
+/// a journal may have.
+pub fn run_threads<G: Gate + Sync, R: Threads + Wait + Clock + Sync>(
+    rt: &R,
+    alloc: Global,
+    script: &Script,
+    gate: &G,
+    _seed: u32,
+) -> Result<ThreadRun, RunError>
+    ensures bad_line { (number : _) → IsErrOf result (RunError.BadLine number) ↔ (bad_line script.now.lines ≡ Some number) }
+{
+    if let Some(number) = bad_line(script.lines()) {
+        return Err(RunError::BadLine(number));
+    }
+    match run_script(rt, alloc, script, gate) {
+        Ok(run) => Ok(run),
+        Err(Stop::NoMemory) => Err(RunError::NoMemory),
+        Err(Stop::JournalFull) => Err(RunError::JournalFull),
+    }
+}
+
+// Runs a script that has no line of another kind.
+fn run_script<G: Gate + Sync, R: Threads + Wait + Clock + Sync>(
+    rt: &R,
+    alloc: Global,
+    script: &Script,
+    gate: &G,
+) -> Result<ThreadRun, Stop> {
+    let shape = script.shape();
+    let actors = usize::from(shape.nodes()) + usize::from(shape.files());
+    let weathers = fair_weathers(alloc, actors)?;
+    let run = with_cluster(rt, alloc, shape, gate, weathers, |cluster| {
+        run_lines(rt, alloc, cluster, script.lines())
+    });
+    match run {
+        Ok((outcomes, journal)) => ThreadRun::new(alloc, outcomes?, journal),
+        Err(_) => Err(Stop::NoMemory),
+    }
+}
+
+// The number of the first line that threads don't take.
+fn bad_line(lines: &[ScriptLine]) -> Option<u32>
+    ensures { result ≡ bad_line lines.now }
+{
+    let line = lines.iter().find(|line| !is_for_threads(&line.command()))?;
+    Some(line.number())
+}
+
+// Whether threads take a line that asks for this.
+fn is_for_threads(command: &Command) -> bool
+    ensures { result ≡ is_for_threads command.now }
+{
+    match command {
+        Command::Call { .. } => true,
+        Command::Settle => true,
+        Command::Declare { .. } => true,
+        Command::Restart { .. } => true,
+        Command::Deliver { .. } => false,
+        Command::Lose { .. } => false,
+        Command::Interrupt { .. } => false,
+        Command::Retry { .. } => false,
+        Command::Resend { .. } => false,
+        Command::Learn { .. } => false,
+    }
+}
+
+// So many weathers under which each message goes at once.
+fn fair_weathers(alloc: Global, count: usize) -> Result<Vec<Fair>, AllocError>
+    ensures { IfOk result (λ weathers. length weathers.items ≡ count) }
+{
+    vec![in alloc; Fair; count]
+}
+
+// Runs the lines in order on a cluster that runs.
+fn run_lines<R: Threads + Wait + Sync>(
+    rt: &R,
+    alloc: Global,
+    cluster: &Cluster<'_>,
+    lines: &[ScriptLine],
+) -> Result<Outcomes, Stop> {
+    let mut phases = Phases::new(alloc, cluster);
+    for line in lines {
+        phases.take(rt, line)?;
+    }
+    phases.join(rt)?;
+    Ok(phases.into_outcomes())
+}

@@ -1,0 +1,340 @@
+//! Workers.
+ghost use Rattle.std.specs.Prelude.{◌<◌, vec_len, OnOk};
+ghost use Rattle.std.specs.Vec.{vec_capacity};
+ghost use Rattle.book.specs.Commits.{Names, IsStepFrom};
+
+use crate::call_error::CallError;
+use crate::gate::{Gate, Point};
+use crate::letter::{Answer, Letter, Question};
+use crate::open_calls::{OpenCall, OpenCalls};
+use crate::outgoing::Outgoing;
+use crate::resends::Resends;
+use crate::shared::Shared;
+use crate::weather::Weather;
+use book::mark::Mark;
+use book::prepared::Prepared;
+use book::receipt::Receipt;
+use book::seat::Seat;
+use book::stamp::Stamp;
+use crossbeam_channel::{Receiver, Sender};
+use messages::actor::Actor;
+use messages::event::Event;
+use model::mode::Mode;
+use model::op::Op;
+use model::process::Process;
+use std::alloc::Global;
+use std::sync::Wait;
+use std::sync::atomic::Ordering;
+
+/// An actor at work: its seat, and why no step of it is taken any more, if that was met; its messages on
+/// their way; its mailbox, and whether the last tick has not been given back; of a node the open calls of
+/// its clients; and of a server when it sends again.
+#[derive(Drop)]
+pub(crate) struct Worker<W: Weather> {
+    seat: Seat,
+    over: Option<CallError>,
+    outgoing: Outgoing<W>,
+    inbox: Receiver<Letter>,
+    has_tick: bool,
+    waiting: OpenCalls,
+    resends: Resends,
+}
+
+// Why open calls are tried again.
+#[derive(Clone, Copy)]
+enum Cause {
+    // A tick: those for which it is time.
+    Tick,
+    // The node may have given up a lock: those that a lock of it was in the way of.
+    Release,
+}
+
+impl<W: Weather> Worker<W> {
+    /// A worker that has done nothing.
+    pub(crate) fn new(alloc: Global, seat: Seat, weather: W, inbox: Receiver<Letter>) -> Worker<W> {
+        Worker {
+            seat,
+            over: None,
+            outgoing: Outgoing::new(alloc, weather),
+            inbox,
+            has_tick: true,
+            waiting: OpenCalls::new(alloc),
+            resends: Resends::new(),
+        }
+    }
+
+    /// Takes letters until the workers are to stop.
+    pub(crate) fn work<G: Gate, R: Wait>(self, rt: &R, shared: &Shared<'_, G>) {
+        let mut worker = self;
+        for _ in rt.forever() {
+            let Ok(letter) = worker.inbox.recv(rt) else {
+                break;
+            };
+            if shared.stop.load(Ordering::SeqCst) != 0 {
+                break;
+            }
+            worker.change_seats(rt, shared);
+            worker.take(rt, shared, letter);
+            worker.ask_for_tick(shared);
+        }
+        shared.working.fetch_sub(1, Ordering::SeqCst);
+    }
+
+    // Takes the seat of a new incarnation, if there is one.
+    fn change_seats<G: Gate, R: Wait>(&mut self, rt: &R, shared: &Shared<'_, G>) {
+        if let Some(seat) = shared.new_seat(rt, self.seat.actor()) {
+            self.end_all(rt, shared.alloc, CallError::Killed);
+            self.seat = seat;
+            self.over = None;
+        }
+    }
+
+    // Does what the letter asks for.
+    fn take<G: Gate, R: Wait>(&mut self, rt: &R, shared: &Shared<'_, G>, letter: Letter) {
+        match letter {
+            Letter::Ask(question) => self.take_question(rt, shared, question),
+            Letter::Deliver(message) => {
+                let _ = self.step(rt, shared, Event::Deliver(message));
+            }
+            Letter::Learn { node, incarnation } => self.learn(rt, shared, node, incarnation),
+            Letter::Tick => self.take_tick(rt, shared),
+        }
+    }
+
+    // Gives the last tick back if there is something to do at the next.
+    fn ask_for_tick<G>(&mut self, shared: &Shared<'_, G>) {
+        let waits = !self.waiting.is_empty() || self.resends.are_needed();
+        if !self.has_tick || (!waits && self.outgoing.is_empty()) {
+            return;
+        }
+        if let Some(mailbox) = shared.mailbox(self.seat.actor()) {
+            mailbox.take_ticks();
+            self.has_tick = false;
+        }
+    }
+
+    // Whether the node may take a call of the process, for which there is room then.
+    fn admit(&mut self, process: Process) -> Result<(), CallError>
+        ensures { OnOk result (vec_len self.new.waiting.calls < vec_capacity self.new.waiting.calls) }
+    {
+        if process.incarnation != self.seat.incarnation() {
+            return Err(CallError::Fenced);
+        }
+        if let Some(why) = self.over {
+            return Err(why);
+        }
+        if self.waiting.reserve().is_err() {
+            return Err(CallError::NoMemory);
+        }
+        Ok(())
+    }
+
+    // The node does the call of a question.
+    fn take_question<G: Gate, R: Wait>(
+        &mut self,
+        rt: &R,
+        shared: &Shared<'_, G>,
+        question: Question,
+    ) {
+        let Question {
+            process,
+            op,
+            seen,
+            back,
+        } = question;
+        if let Err(why) = self.admit(process) {
+            answer(rt, &back, Err(why));
+            return;
+        }
+        let event = Event::Call {
+            node: process.node,
+            pid: process.pid,
+            op,
+        };
+        let stamp = match commit_step(rt, shared, &mut self.seat, event, seen.as_ref()) {
+            Ok(stamp) => stamp,
+            Err(why) => {
+                answer(rt, &back, Err(why));
+                return;
+            }
+        };
+        self.outgoing.send_all(rt, shared, &stamp);
+        // A process that has an open call only exits, which ends the call without a reply.
+        if let Some(ended) = self.waiting.take_of(process.pid) {
+            answer(rt, &ended.back, Err(CallError::Killed));
+        }
+        match Receipt::of(&stamp, &stamp) {
+            Some(receipt) => answer(rt, &back, Ok(receipt)),
+            None => self.waiting.add(OpenCall::new(process.pid, stamp, back)),
+        }
+        if may_release(&op) {
+            self.retry_all(rt, shared, process.node, Cause::Release);
+        }
+    }
+
+    // The server learns of a declaration. One that is refused for want of memory comes again.
+    fn learn<G: Gate, R: Wait>(
+        &mut self,
+        rt: &R,
+        shared: &Shared<'_, G>,
+        node: u8,
+        incarnation: u16,
+    ) {
+        let Actor::Server(file) = self.seat.actor() else {
+            return;
+        };
+        let event = Event::Learn {
+            file,
+            node,
+            incarnation,
+        };
+        let learned = self.step(rt, shared, event);
+        if learned == Err(CallError::NoMemory) {
+            if let Some(mailbox) = shared.mailbox(self.seat.actor()) {
+                mailbox.send_surely(rt, Letter::Learn { node, incarnation });
+            }
+        }
+    }
+
+    // A turn has passed: messages that were held back go, a node tries open calls again, and a server
+    // sends again what has no answer, as far as it is time.
+    fn take_tick<G: Gate, R: Wait>(&mut self, rt: &R, shared: &Shared<'_, G>) {
+        self.has_tick = true;
+        self.outgoing.pass_tick(rt, shared);
+        match self.seat.actor() {
+            Actor::Node(node) => self.retry_all(rt, shared, node, Cause::Tick),
+            Actor::Server(file) => self.resend(rt, shared, file),
+        }
+    }
+
+    // The node tries open calls again, in the order in which it took them.
+    fn retry_all<G: Gate, R: Wait>(
+        &mut self,
+        rt: &R,
+        shared: &Shared<'_, G>,
+        node: u8,
+        cause: Cause,
+    ) {
+        let mut index = 0;
+        for _ in 0..self.waiting.len() {
+            let Some(pid) = self.waiting.pid_at(index) else {
+                break;
+            };
+            let due = match cause {
+                Cause::Tick => self.waiting.pass_tick(index),
+                Cause::Release => self.waiting.is_blocked_here(index),
+            };
+            if due {
+                self.retry(rt, shared, node, pid);
+            }
+            if self.waiting.pid_at(index) == Some(pid) {
+                index = index.saturating_add(1);
+            }
+        }
+    }
+
+    // The node tries an open call again. Where no step of this incarnation is taken any more, all end.
+    fn retry<G: Gate, R: Wait>(&mut self, rt: &R, shared: &Shared<'_, G>, node: u8, pid: u16) {
+        if let Err(why) = self.step(rt, shared, Event::Retry { node, pid }) {
+            self.end_at(rt, shared.alloc, why);
+        }
+    }
+
+    // The server sends again what has no answer, if there is any and it is time.
+    fn resend<G: Gate, R: Wait>(&mut self, rt: &R, shared: &Shared<'_, G>, file: u16) {
+        if !self.resends.pass_tick() {
+            return;
+        }
+        let Ok(prepared) = self.seat.prepare(shared.alloc, Event::Resend { file }) else {
+            return;
+        };
+        if prepared.outcome().sends.is_empty() {
+            self.resends.end();
+            return;
+        }
+        if let Ok(stamp) = commit(rt, shared, &mut self.seat, prepared, None) {
+            self.outgoing.send_all(rt, shared, &stamp);
+        }
+    }
+
+    // The actor does a step; its messages are sent, and the call that it answers gets its receipt.
+    fn step<G: Gate, R: Wait>(
+        &mut self,
+        rt: &R,
+        shared: &Shared<'_, G>,
+        event: Event,
+    ) -> Result<(), CallError> {
+        let stamp = commit_step(rt, shared, &mut self.seat, event, None)?;
+        self.outgoing.send_all(rt, shared, &stamp);
+        if let Some((call, receipt)) = self.waiting.take_answered(&stamp) {
+            answer(rt, &call.back, Ok(receipt));
+        }
+        match self.seat.actor() {
+            Actor::Node(_) => self.waiting.note(&stamp),
+            Actor::Server(_) => self.resends.note(&event),
+        }
+        Ok(())
+    }
+
+    // Each open call ends where the refusal says that no step of the seat is taken any more.
+    fn end_at<R: Wait>(&mut self, rt: &R, alloc: Global, refusal: CallError) {
+        let why = match refusal {
+            CallError::Fenced => CallError::Killed,
+            CallError::JournalFull => CallError::JournalFull,
+            _ => return,
+        };
+        self.over = Some(refusal);
+        self.end_all(rt, alloc, why);
+    }
+
+    // Each open call ends without a reply.
+    fn end_all<R: Wait>(&mut self, rt: &R, alloc: Global, why: CallError) {
+        for call in self.waiting.take_all(alloc) {
+            answer(rt, &call.back, Err(why));
+        }
+    }
+}
+
+// Whether a call that asks this may give up a lock.
+fn may_release(op: &Op) -> bool {
+    match op {
+        Op::Unlock { .. } | Op::Close { .. } | Op::Exit => true,
+        Op::Set { mode, .. } | Op::Wait { mode, .. } => *mode == Mode::Read,
+        _ => false,
+    }
+}
+
+// Answers a client. One that is gone needs no answer.
+fn answer<R: Wait>(rt: &R, back: &Sender<Answer>, answer: Answer) {
+    let _ = back.send(rt, answer);
+}
+
+// Prepares a step of the seat with no lock, and commits it.
+fn commit_step<G: Gate, R: Wait>(
+    rt: &R,
+    shared: &Shared<'_, G>,
+    seat: &mut Seat,
+    event: Event,
+    seen: Option<&Mark>,
+) -> Result<Stamp, CallError> {
+    let prepared = seat.prepare(shared.alloc, event)?;
+    commit(rt, shared, seat, prepared, seen)
+}
+
+// Commits a step that the seat prepared, under the lock of the book.
+fn commit<G: Gate, R: Wait>(
+    rt: &R,
+    shared: &Shared<'_, G>,
+    seat: &mut Seat,
+    prepared: Prepared,
+    seen: Option<&Mark>,
+) -> Result<Stamp, CallError>
+    requires { Names prepared seat.old → IsStepFrom seat.old prepared }
+{
+    let actor = seat.actor();
+    shared.gate.at(Point::Prepared(actor));
+    let committed = shared.book.lock(rt).commit(seat, prepared, seen);
+    let stamp = committed?;
+    shared.gate.at(Point::Committed(actor, stamp.position()));
+    Ok(stamp)
+}
