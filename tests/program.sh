@@ -86,6 +86,14 @@ try_text 'long help' 0 out 'Exit status:' --help
 try_text 'help on run' 0 out 'cluster nodes N files F policy P' help run
 try_text 'long help on run' 0 out 'cluster nodes N files F policy P' run --help
 try_text 'short help on run' 0 out 'Usage: lockreplay run' run -h
+try_text 'help on threads' 0 out 'receipts K' help threads
+try_text 'no script for threads' 2 err 'Usage: lockreplay threads' threads
+try_text 'two scripts for threads' 2 err 'Usage: lockreplay threads' threads first.lock first.lock
+try_text 'a seed below 0' 2 err "'-1'" threads first.lock --seed -1
+try_text 'a seed that is too great' 2 err "'--seed <N>'" threads first.lock --seed 4294967296
+try_text 'a seed that is no number' 2 err "'--seed <N>'" threads first.lock --seed many
+try_text 'a seed left out' 2 err "'--seed <N>'" threads first.lock --seed
+try_text 'a seed for run' 2 err 'Usage: lockreplay run' run first.lock --seed 1
 try_text 'the version' 0 out 'lockreplay 0.1.0' --version
 
 # The input.
@@ -202,6 +210,56 @@ try 'a journal that is full' 4 none no-room run full.lock --journal kept.journal
 )
 judge 'little memory for a journal' 4 $? none came.out no-memory came.err
 judge 'the file that was there before' 0 0 kept kept.journal none none
+
+# Scripts on threads. What one client is answered, and where it stands in the history, does not depend on the schedule; the
+# positions do, since a node may ask its server again.
+replies_of() {
+    sed -n '/^replies$/,/^tokens$/p' "$1" | sed 's/^ *[0-9]* //'
+}
+try_threads() {
+    local name=$1
+    shift
+    timeout 120 "$program" threads "$@" >threads.out 2>came.err </dev/null
+    local came=$?
+    tail -n 2 threads.out >came.out
+    judge "$name" 0 "$came" four-held came.out none came.err
+}
+printf 'receipts 4\naudit yes\n' >four-held
+try_threads 'a script on threads' first.lock
+replies_of first.listing >wanted
+replies_of threads.out >came.out
+judge 'what its client is answered' 0 0 wanted came.out none none
+sed -n '/^tokens$/,/^history$/p' first.listing >wanted
+sed -n '/^tokens$/,/^history$/p' threads.out >came.out
+judge 'what its node holds at the end' 0 0 wanted came.out none none
+try_threads 'a script on threads with the least seed' first.lock --seed 0
+try_threads 'a script on threads with the greatest seed' first.lock --seed=4294967295
+try_threads 'a script on threads with its journal' --journal threads.journal first.lock
+try 'an audit of its journal' 0 yes none audit threads.journal
+sed -n '/^history$/,/^receipts /p' threads.out | sed '$d' >threads.history
+try 'the history of its journal' 0 threads.history none history threads.journal
+sed -n '$p' threads.journal | grep -q -x -E 'end [1-9][0-9]*'
+judge 'the last line of its journal' 0 $? none none none none
+cp "$tests/../examples/on-threads.lock" two.lock
+timeout 120 "$program" threads two.lock >threads.out 2>came.err </dev/null
+came=$?
+tail -n 2 threads.out >came.out
+printf 'receipts 7\naudit yes\n' >seven-held
+judge 'two clients on threads' 0 "$came" seven-held came.out none came.err
+sed -n '/^tokens$/,/^history$/p' "$tests/../examples/on-threads.listing" >wanted
+sed -n '/^tokens$/,/^history$/p' threads.out >came.out
+judge 'what their nodes hold at the end' 0 0 wanted came.out none none
+sed 's/^settle$/resend 1/' first.lock >resend.lock
+echo 'bad line 5' >bad-resend
+try 'a line that threads do not take' 3 none bad-resend threads resend.lock --journal kept.journal
+echo settled >>resend.lock
+try 'a line that threads do not take, before a bad one' 3 none bad-resend threads resend.lock
+try 'a bad script on threads' 3 none bad-line threads bad.lock
+try 'a missing script on threads' 3 none no-file threads missing.lock
+try 'a journal of threads in the place of a folder' 3 none no-folder-journal threads first.lock --journal folder
+timeout 120 "$program" threads first.lock >/dev/full 2>came.err
+judge 'a script on threads where standard output is full' 3 $? none none no-output came.err
+judge 'the file that was there before, on threads' 0 0 kept kept.journal none none
 
 # Journals that are read. Where an entry is wrong, `audit` and `history` say so alike.
 try_journal() {

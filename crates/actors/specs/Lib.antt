@@ -1,3 +1,2 @@
 pub mod Numbers
 pub mod Clients
-pub mod Lines

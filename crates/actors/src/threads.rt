@@ -1,7 +1,7 @@
 //! Scripts on threads.
 ghost use Rattle.std.specs.Prelude.{◌≡◌, ◌↔◌, Some, IsErrOf, IfOk, length};
-ghost use Rattle.actors.specs.Lines.{bad_line, is_for_threads};
 ghost use Rattle.actors.specs.declared.run_error.RunError.{RunError};
+ghost use Rattle.lockscript.specs.ThreadLines.{bad_line};
 
 use crate::cluster::{Cluster, with_cluster};
 use crate::gate::Gate;
@@ -12,7 +12,7 @@ use crate::stop::Stop;
 use crate::thread_run::ThreadRun;
 use crate::weather::Fair;
 use lockscript::script::Script;
-use lockscript::script_line::{Command, ScriptLine};
+use lockscript::script_line::ScriptLine;
 use std::alloc::{AllocError, Global};
 use std::sync::Wait;
 use std::thread::Threads;
@@ -37,7 +37,7 @@ pub fn run_threads<G: Gate + Sync, R: Threads + Wait + Clock + Sync>(
 ) -> Result<ThreadRun, RunError>
     ensures bad_line { (number : _) → IsErrOf result (RunError.BadLine number) ↔ (bad_line script.now.lines ≡ Some number) }
 {
-    if let Some(number) = bad_line(script.lines()) {
+    if let Some(number) = script.bad_line_on_threads() {
         return Err(RunError::BadLine(number));
     }
     match run_script(rt, alloc, script, gate) {
@@ -63,32 +63,6 @@ fn run_script<G: Gate + Sync, R: Threads + Wait + Clock + Sync>(
     match run {
         Ok((outcomes, journal)) => ThreadRun::new(alloc, outcomes?, journal),
         Err(_) => Err(Stop::NoMemory),
-    }
-}
-
-// The number of the first line that threads don't take.
-fn bad_line(lines: &[ScriptLine]) -> Option<u32>
-    ensures { result ≡ bad_line lines.now }
-{
-    let line = lines.iter().find(|line| !is_for_threads(&line.command()))?;
-    Some(line.number())
-}
-
-// Whether threads take a line that asks for this.
-fn is_for_threads(command: &Command) -> bool
-    ensures { result ≡ is_for_threads command.now }
-{
-    match command {
-        Command::Call { .. } => true,
-        Command::Settle => true,
-        Command::Declare { .. } => true,
-        Command::Restart { .. } => true,
-        Command::Deliver { .. } => false,
-        Command::Lose { .. } => false,
-        Command::Interrupt { .. } => false,
-        Command::Retry { .. } => false,
-        Command::Resend { .. } => false,
-        Command::Learn { .. } => false,
     }
 }
 

@@ -1,3 +1,4 @@
 pub mod PlainWords
 pub mod CommandLine
+pub mod Seeds
 pub mod Tables

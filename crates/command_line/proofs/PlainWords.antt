@@ -1,15 +1,18 @@
 -- What clap makes of plain words.
-use Rattle.std.proofs.Common.{arith, refl, sym, subst, ap, codes, true, false, ℕ, List, Option, Some, None, [], ◌∷◌, ◌≡◌, ◌≢◌}
-use Rattle.std.specs.Prelude.{slice_get}
+use Rattle.std.proofs.Common.{arith, refl, sym, subst, ap, codes, true, false, ℕ, ◌≤◌, List, Option, Some, None, [], ◌∷◌, ◌≡◌, ◌≢◌}
+use Rattle.std.specs.Prelude.{decimal, pos, slice_get}
 use Rattle.std.specs.Str.{bytes_eq}
 use Rattle.std.specs.List.{All}
 use Rattle.std.proofs.lemmas.Bool.{ne_eqb}
 use Rattle.clap.specs.Lexer.{strip_byte}
+use Rattle.clap.specs.ValueTests.{accepts}
+use Rattle.clap.specs.declared.builder.value_parser.ValueParser.TheVariants.{Signed}
 use Rattle.clap.specs.Words.{Text, fault_of, is_simple, is_simple_and_free, subcommand_of}
 use Rattle.clap.proofs.OnLiterals.{clap_on_literals}
-use Rattle.command_line.specs.Program.{program_app, IsMet}
-use Rattle.command_line.specs.Tasks.{Task, run, audit, history, paths_of, plain_words_of}
+use Rattle.command_line.specs.Program.{program_app, IsMet, IsSeed}
+use Rattle.command_line.specs.Tasks.{Task, run, threads, audit, history, greatest_seed, HasPlainWords, paths_of, plain_words_of}
 use Rattle.command_line.specs.Words.{AsksFor, IsPlain}
+use Rattle.command_line.proofs.Seeds.{one_writes, seed_text}
 
 pub is_simple_program : is_simple program_app ≡ true
 unfolding clap_on_literals
@@ -67,22 +70,58 @@ module _ (program script file : Text) (script_minus : strip_byte 45 script ≡ N
   unfolding clap_on_literals
   run_to_taken = rw (script_dashes, script_minus, script_minus, file_dashes, file_minus, file_minus) refl
 
-plain_task : (program : Text) (task : Task) → All (λ path. slice_get path 0 ≢ Some 45) (paths_of task) → AsksFor (words_of program task) task
-plain_task program (run script None) plain =
+-- `threads SCRIPT`, of which the seed is 1
+module _ (program script : Text) (no_minus : strip_byte 45 script ≡ None) (no_dashes : bytes_eq script (45 ∷ 45 ∷ []) ≡ false) where
+  bare_met : IsMet (subcommand_of program_app (program ∷ codes "threads" ∷ script ∷ [])) (threads script 1 None)
+  unfolding clap_on_literals
+  bare_met = (codes "1", rw (no_dashes, no_minus, no_minus) refl, one_writes)
+
+  bare_taken : fault_of program_app (program ∷ codes "threads" ∷ script ∷ []) ≡ []
+  unfolding clap_on_literals
+  bare_taken = rw (no_dashes, no_minus, no_minus) refl
+
+pub bare_asks : (program script : Text) → slice_get script 0 ≢ Some 45 → AsksFor (program ∷ codes "threads" ∷ script ∷ []) (threads script 1 None)
+bare_asks program script plain =
+    let p = is_path script plain in
+    record { taken = bare_taken program script p.no_minus p.no_dashes; met = bare_met program script p.no_minus p.no_dashes }
+
+-- `threads SCRIPT --seed N`
+module _ (program script number : Text) (seed : ℕ) (script_minus : strip_byte 45 script ≡ None) (script_dashes : bytes_eq script (45 ∷ 45 ∷ []) ≡ false)
+    (number_minus : strip_byte 45 number ≡ None) (number_dashes : bytes_eq number (45 ∷ 45 ∷ []) ≡ false)
+    (fits : accepts false (Signed (pos 0) (pos greatest_seed)) number ≡ true) (writes : IsSeed number seed) where
+  seeded_met : IsMet (subcommand_of program_app (program ∷ codes "threads" ∷ script ∷ codes "--seed" ∷ number ∷ [])) (threads script seed None)
+  unfolding clap_on_literals
+  seeded_met = (number, rw (script_dashes, script_minus, script_minus, number_dashes, number_minus, number_minus, number_minus) refl, writes)
+
+  seeded_taken : fault_of program_app (program ∷ codes "threads" ∷ script ∷ codes "--seed" ∷ number ∷ []) ≡ []
+  unfolding clap_on_literals
+  seeded_taken = rw (script_dashes, script_minus, script_minus, number_dashes, number_minus, number_minus, fits) refl
+
+plain_task : (program : Text) (task : Task) → All (λ path. slice_get path 0 ≢ Some 45) (paths_of task) → HasPlainWords task → AsksFor (words_of program task) task
+plain_task program (run script None) plain within =
     let p = is_path script (plain 0 [] (omega arith)) in
     record { taken = run_taken program script p.no_minus p.no_dashes; met = run_met program script p.no_minus p.no_dashes }
-plain_task program (run script (Some file)) plain =
+plain_task program (run script (Some file)) plain within =
     let p = is_path script (plain 0 [] (omega arith)) in
     let q = is_path file (plain 1 [] (omega arith)) in
     record { taken = run_to_taken program script file p.no_minus p.no_dashes q.no_minus q.no_dashes; met = run_to_met program script file p.no_minus p.no_dashes q.no_minus q.no_dashes }
-plain_task program (audit journal) plain =
+plain_task program (threads script seed None) plain within =
+    let p = is_path script (plain 0 [] (omega arith)) in
+    let n = seed_text seed within in
+    let q = is_path (decimal seed) n.no_option in
+    record {
+      taken = seeded_taken program script (decimal seed) seed p.no_minus p.no_dashes q.no_minus q.no_dashes n.fits n.writes;
+      met = seeded_met program script (decimal seed) seed p.no_minus p.no_dashes q.no_minus q.no_dashes n.fits n.writes;
+    }
+plain_task program (threads script seed (Some file)) plain within = absurd within
+plain_task program (audit journal) plain within =
     let p = is_path journal (plain 0 [] (omega arith)) in
     record { taken = audit_taken program journal p.no_minus p.no_dashes; met = audit_met program journal p.no_minus p.no_dashes }
-plain_task program (history journal) plain =
+plain_task program (history journal) plain within =
     let p = is_path journal (plain 0 [] (omega arith)) in
     record { taken = history_taken program journal p.no_minus p.no_dashes; met = history_met program journal p.no_minus p.no_dashes }
 
 pub plain_asks : (words : List Text) (task : Task) → IsPlain words task → AsksFor words task
 plain_asks words task plain =
     let P : List Text → Type 0 = λ ws. AsksFor ws task in
-    subst P (sym plain.words_are) (plain_task plain.program task plain.no_option)
+    subst P (sym plain.words_are) (plain_task plain.program task plain.no_option plain.has_words)

@@ -1,8 +1,10 @@
 -- The command line as clap reads it.
-use Rattle.std.specs.Prelude.{◌≡◌, true, codes, List, [], ◌∷◌, map, option_map, Option, Some}
-use Rattle.clap.specs.Words.{App, Row, Rule, Text, first_of, new_app, new_rule, with_rule, with_subcommand}
+use Rattle.std.specs.Prelude.{◌≡◌, ◌≤◌, ℕ, pos, true, codes, List, [], ◌∷◌, map, option_map, Option, Some}
+use Rattle.std.specs.Str.Parse.{IsNumeral, digits_value, without_leading_plus}
+use Rattle.clap.specs.Words.{App, Row, Rule, Text, first_of, one_of, new_app, new_rule, with_rule, with_subcommand}
 use Rattle.clap.specs.Simple.{on_top}
-use Rattle.command_line.specs.Tasks.{Task, run, audit, history}
+use Rattle.clap.specs.declared.builder.value_parser.ValueParser.TheVariants.{Signed}
+use Rattle.command_line.specs.Tasks.{Task, run, threads, audit, history, greatest_seed}
 
 -- a path that must be there
 abbrev pub path_rule : Text → Rule
@@ -12,8 +14,15 @@ path_rule id = record (new_rule id) { required = true }
 abbrev pub file_rule : Rule
 file_rule = record (new_rule (codes "FILE")) { long = Some (codes "journal") }
 
+-- `--seed N`, a number from 0 to the greatest seed, and 1 if it is left out
+abbrev pub seed_rule : Rule
+seed_rule = record (new_rule (codes "N")) { long = Some (codes "seed"); defaults = codes "1" ∷ []; parser = Some (Signed (pos 0) (pos greatest_seed)) }
+
 abbrev pub run_app : App
 run_app = with_rule (with_rule (new_app (codes "run")) (path_rule (codes "SCRIPT"))) file_rule
+
+abbrev pub threads_app : App
+threads_app = with_rule (with_rule (with_rule (new_app (codes "threads")) (path_rule (codes "SCRIPT"))) seed_rule) file_rule
 
 abbrev pub audit_app : App
 audit_app = with_rule (new_app (codes "audit")) (path_rule (codes "JOURNAL"))
@@ -26,14 +35,25 @@ abbrev pub bare_app : App
 bare_app = on_top (λ s. record s { has_version = true; subcommand_required = true; arg_required_else_help = true }) (new_app (codes "lockreplay"))
 
 abbrev pub program_app : App
-program_app = with_subcommand (with_subcommand (with_subcommand bare_app run_app.top) audit_app.top) history_app.top
+program_app = with_subcommand (with_subcommand (with_subcommand (with_subcommand bare_app run_app.top) threads_app.top) audit_app.top) history_app.top
 
 -- the command that is met, with the values of the arguments of these names
 abbrev pub values_in : List Text → Option (Text × List Row) → Option (Text × List (Option Text))
 values_in ids = option_map (λ p. (p.0, map (λ id. first_of id p.1) ids))
 
--- it is the command of the task, with its paths
+-- the same of `threads`, with the seed as a number is read
+abbrev pub threads_values_in : Option (Text × List Row) → Option (Text × List (Option Text))
+threads_values_in = option_map (λ p. (p.0, first_of (codes "SCRIPT") p.1 ∷ one_of (codes "N") p.1 ∷ first_of (codes "FILE") p.1 ∷ []))
+
+-- the text writes this seed
+pub record IsSeed (text : Text) (seed : ℕ) : Type 0 where
+  pub digits : IsNumeral 10 (without_leading_plus text)
+  pub value : seed ≡ digits_value 10 (without_leading_plus text)
+  pub within : seed ≤ greatest_seed
+
+-- it is the command of the task, with its paths and its seed
 abbrev pub IsMet : Option (Text × List Row) → Task → Type 0
 IsMet met (run script journal) = values_in (codes "SCRIPT" ∷ codes "FILE" ∷ []) met ≡ Some (codes "run", Some script ∷ journal ∷ [])
+IsMet met (threads script seed journal) = (text : Text) × (threads_values_in met ≡ Some (codes "threads", Some script ∷ Some text ∷ journal ∷ [])) × IsSeed text seed
 IsMet met (audit journal) = values_in (codes "JOURNAL" ∷ []) met ≡ Some (codes "audit", Some journal ∷ [])
 IsMet met (history journal) = values_in (codes "JOURNAL" ∷ []) met ≡ Some (codes "history", Some journal ∷ [])

@@ -1,13 +1,15 @@
 -- What a line may ask for.
-use Rattle.std.specs.Prelude.{List, Option, Some, None, [], ◌∷◌, codes, option_map}
+use Rattle.std.specs.Prelude.{ℕ, ◌≤◌, ⊤, List, Option, Some, None, [], ◌∷◌, codes, decimal, option_map}
 use Rattle.clap.specs.Words.{Text}
 use Rattle.command_line.specs.declared.line.Line.{Line}
-use Rattle.command_line.specs.declared.line.Line.TheVariants.{Run, Audit, History}
+use Rattle.command_line.specs.declared.line.Line.TheVariants.{Run, Threads, Audit, History}
 
 -- what is to be done, with the paths of the files that are named
 pub data Task : Type 0 where
   -- to run the script of the first path, and to write the journal to the second, if there is one
   run : Text → Option Text → Task
+  -- to run the script of the first path on threads, with this seed, and to write the journal to the second, if there is one
+  threads : Text → ℕ → Option Text → Task
   -- to say whether the journal is one of a run
   audit : Text → Task
   -- to print the history of the journal
@@ -15,18 +17,42 @@ pub data Task : Type 0 where
 
 abbrev pub task_of : Line → Task
 task_of (Run script journal) = run script.now (option_map (λ file. file.now) journal)
+task_of (Threads script seed journal) = threads script.now seed (option_map (λ file. file.now) journal)
 task_of (Audit journal) = audit journal.now
 task_of (History journal) = history journal.now
 
 abbrev pub paths_of : Task → List Text
 paths_of (run script None) = script ∷ []
 paths_of (run script (Some file)) = script ∷ file ∷ []
+paths_of (threads script seed None) = script ∷ []
+paths_of (threads script seed (Some file)) = script ∷ file ∷ []
 paths_of (audit journal) = journal ∷ []
 paths_of (history journal) = journal ∷ []
+
+-- the path of the file to which the journal of a run is written
+abbrev pub journal_path : Task → Option Text
+journal_path (run script to) = to
+journal_path (threads script seed to) = to
+journal_path (audit journal) = None
+journal_path (history journal) = None
 
 -- the words that ask for it, in their usual order
 abbrev pub plain_words_of : Task → List Text
 plain_words_of (run script None) = codes "run" ∷ script ∷ []
 plain_words_of (run script (Some file)) = codes "run" ∷ script ∷ codes "--journal" ∷ file ∷ []
+plain_words_of (threads script seed None) = codes "threads" ∷ script ∷ codes "--seed" ∷ decimal seed ∷ []
+plain_words_of (threads script seed (Some file)) = codes "threads" ∷ script ∷ codes "--seed" ∷ decimal seed ∷ codes "--journal" ∷ file ∷ []
 plain_words_of (audit journal) = codes "audit" ∷ journal ∷ []
 plain_words_of (history journal) = codes "history" ∷ journal ∷ []
+
+-- the greatest seed, which has 32 bits
+abbrev pub greatest_seed : ℕ
+greatest_seed = 4294967295
+
+-- of what is run on threads, the words are those of a seed in its range and of no journal
+abbrev pub HasPlainWords : Task → Type 0
+HasPlainWords (run script journal) = ⊤
+HasPlainWords (threads script seed None) = seed ≤ greatest_seed
+HasPlainWords (threads script seed (Some file)) = ⊥
+HasPlainWords (audit journal) = ⊤
+HasPlainWords (history journal) = ⊤

@@ -5,7 +5,7 @@ use Rattle.clap.specs.Words.{IsAmong, Text, fault_of, subcommand_of}
 use Rattle.clap.specs.declared.error.kind.ErrorKind.{ErrorKind}
 use Rattle.clap.specs.declared.error.kind.ErrorKind.TheVariants.{DisplayHelp, DisplayVersion}
 use Rattle.command_line.specs.Program.{program_app, IsMet}
-use Rattle.command_line.specs.Tasks.{Task, paths_of, plain_words_of}
+use Rattle.command_line.specs.Tasks.{Task, HasPlainWords, paths_of, plain_words_of}
 use Rattle.command_line.specs.declared.refusal.Refusal.{Refusal}
 use Rattle.command_line.specs.declared.refusal.Refusal.TheVariants.{Help, Wrong, NotText, NoMemory}
 
@@ -14,8 +14,9 @@ pub record IsPlain (words : List Text) (task : Task) : Type 0 where
   pub program : Text
   pub words_are : words ≡ program ∷ plain_words_of task
   pub no_option : All (λ path. slice_get path 0 ≢ Some 45) (paths_of task)
+  pub has_words : HasPlainWords task
 
--- by the program's table of arguments nothing is wrong with the words, and they are the command of the task, with its paths
+-- by the program's table of arguments nothing is wrong with the words, and they are the command of the task, with its paths and its seed
 pub record AsksFor (words : List Text) (task : Task) : Type 0 where
   pub taken : fault_of program_app words ≡ []
   pub met : IsMet (subcommand_of program_app words) task

@@ -2,24 +2,32 @@
 ghost use Rattle.std.specs.Prelude.{◌≡◌, codes, List, map, IfErr, IfOk, Some};
 ghost use Rattle.clap.specs.Words.{app_of, found_of, kind_of, rows_of, rule_of, subcommand_rows_of};
 ghost use Rattle.command_line.specs.Kinds.{IsKindOf, IsLineOf};
-ghost use Rattle.command_line.specs.Program.{audit_app, history_app, path_rule, program_app, run_app};
+ghost use Rattle.command_line.specs.Program.{audit_app, file_rule, history_app, path_rule, program_app, run_app, threads_app};
 ghost use Rattle.command_line.specs.Tasks.{task_of};
 ghost use Rattle.command_line.specs.Words.{AsksFor, IsRefusal};
 
-use crate::notes::{AUDIT_NOTES, HISTORY_NOTES, PROGRAM_NOTES, RUN_NOTES, VERSION};
+use crate::notes::{AUDIT_NOTES, HISTORY_NOTES, PROGRAM_NOTES, RUN_NOTES, THREADS_NOTES, VERSION};
 use crate::refusal::Refusal;
 use clap::error::ErrorKind;
-use clap::{Arg, ArgMatches, Command, Error};
+use clap::{Arg, ArgMatches, Command, Error, value_parser};
 use std::alloc::{AllocError, Global};
 use std::convert::AsStr;
 
-/// What the words of a command line ask for. Each value is a path.
+/// What the words of a command line ask for. Each text is a path.
 #[derive(Clone, Copy, Debug, PartialEq, Eq)]
 pub enum Line<'a> {
     /// `run SCRIPT [--journal FILE]`: to run each line of the script in order and print the listing,
     /// and first to write the journal of the run to the file, if there is one.
     Run {
         script: &'a str,
+        journal: Option<&'a str>,
+    },
+    /// `threads SCRIPT [--seed N] [--journal FILE]`: to run the script on threads, with this seed or 1, to
+    /// print the listing, how many receipts its journal holds and whether that is one of a run, and first
+    /// to write it to the file, if there is one.
+    Threads {
+        script: &'a str,
+        seed: u32,
         journal: Option<&'a str>,
     },
     /// `audit JOURNAL`: to say whether the journal is one of a run.
@@ -69,6 +77,7 @@ fn line_of<'a>(matches: &ArgMatches<'a>) -> Option<Line<'a>>
     let (name, values) = matches.subcommand()?;
     match name {
         "run" => run_in(values),
+        "threads" => threads_in(values),
         "audit" => audit_in(values),
         "history" => history_in(values),
         _ => None,
@@ -81,6 +90,19 @@ fn run_in<'a>(values: &ArgMatches<'a>) -> Option<Line<'a>>
     let script = values.get_str("SCRIPT")?;
     let journal = values.get_str("FILE");
     Some(Line::Run { script, journal })
+}
+
+fn threads_in<'a>(values: &ArgMatches<'a>) -> Option<Line<'a>>
+    ensures { IsLineOf (Some (codes "threads", rows_of (found_of values.now))) result }
+{
+    let script = values.get_str("SCRIPT")?;
+    let seed = values.get_one::<u32>("N")?;
+    let file = values.get_str("FILE");
+    Some(Line::Threads {
+        script,
+        seed,
+        journal: file,
+    })
 }
 
 fn audit_in<'a>(values: &ArgMatches<'a>) -> Option<Line<'a>>
@@ -107,6 +129,7 @@ fn program<'a>(alloc: Global) -> Result<Command<'a>, AllocError>
         .subcommand_required(true)
         .arg_required_else_help(true)
         .subcommand(run_command(alloc)?)?
+        .subcommand(threads_command(alloc)?)?
         .subcommand(audit_command(alloc)?)?
         .subcommand(history_command(alloc)?)
 }
@@ -114,17 +137,27 @@ fn program<'a>(alloc: Global) -> Result<Command<'a>, AllocError>
 fn run_command<'a>(alloc: Global) -> Result<Command<'a>, AllocError>
     ensures { IfOk result (λ command. app_of command ≡ run_app) }
 {
-    let script = Arg::new(alloc, "SCRIPT")
-        .required(true)
-        .help("The script: a file of lines, or /dev/stdin");
-    let file = Arg::new(alloc, "FILE")
-        .long("journal")
-        .help("Write the journal of the run to FILE");
     Command::new(alloc, "run")
         .about("Run each line of a script in order and print the listing")
         .after_long_help(RUN_NOTES)
-        .arg(script)?
-        .arg(file)
+        .arg(script_argument(alloc))?
+        .arg(file_argument(alloc))
+}
+
+fn threads_command<'a>(alloc: Global) -> Result<Command<'a>, AllocError>
+    ensures { IfOk result (λ command. app_of command ≡ threads_app) }
+{
+    let seed = Arg::new(alloc, "N")
+        .long("seed")
+        .default_value("1")
+        .value_parser(value_parser!(u32))
+        .help("The seed of the run, up to 4294967295");
+    Command::new(alloc, "threads")
+        .about("Run a script on threads and print the listing")
+        .after_long_help(THREADS_NOTES)
+        .arg(script_argument(alloc))?
+        .arg(seed)?
+        .arg(file_argument(alloc))
 }
 
 fn audit_command<'a>(alloc: Global) -> Result<Command<'a>, AllocError>
@@ -143,6 +176,24 @@ fn history_command<'a>(alloc: Global) -> Result<Command<'a>, AllocError>
         .about("Print the history of a journal")
         .after_long_help(HISTORY_NOTES)
         .arg(journal_argument(alloc))
+}
+
+// The path of a script, which must be there.
+fn script_argument<'a>(alloc: Global) -> Arg<'a>
+    ensures { rule_of result ≡ path_rule (codes "SCRIPT") }
+{
+    Arg::new(alloc, "SCRIPT")
+        .required(true)
+        .help("The script: a file of lines, or /dev/stdin")
+}
+
+// The path of the file for the journal of a run.
+fn file_argument<'a>(alloc: Global) -> Arg<'a>
+    ensures { rule_of result ≡ file_rule }
+{
+    Arg::new(alloc, "FILE")
+        .long("journal")
+        .help("Write the journal of the run to FILE")
 }
 
 // The path of a journal, which must be there.

@@ -7,7 +7,7 @@ pub(crate) const VERSION: &str = "0.1.0";
 pub(crate) const PROGRAM_NOTES: &str = "\
 Exit status:
   0  done; of audit and history: the journal is one of a run
-  1  audit or history: the journal is not one of a run
+  1  audit or history: the journal is not one of a run; threads: it lacks a receipt
   2  the words of the command line are refused
   3  SCRIPT or JOURNAL has a bad line or can't be read, or FILE or the text can't be
      written
@@ -72,6 +72,27 @@ A line that is refused is listed with its number and a code, and the run goes on
                                         19  the actor ran out of numbers
 These refusals end the run (see the exit status):
    3  no memory       9  bad line       16  journal full
+
+With --journal FILE the journal of the run is written to FILE, in the place of what was
+there, before the listing is printed. A run that fails before that leaves FILE as it was.";
+
+/// What stands under the options of `threads`.
+pub(crate) const THREADS_NOTES: &str = "\
+The script is written as for 'lockreplay run', but of the lines 'cluster', 'call',
+'settle', 'declare' and 'restart' alone; another is a bad line. Each node and each server
+has a thread, and messages go from one to the other by themselves. The calls between two
+other lines happen side by side: each process makes its own in their order, and waits for
+each reply. 'settle', 'declare', 'restart' and the end wait until all are answered. A
+'wait' for a lock that nobody gives up keeps the run going until its journal is full.
+
+The listing is that of the journal of this run, which depends on the schedule. The codes
+of refused lines are those of 'lockreplay run'. Two lines stand behind it:
+  receipts K     K calls were answered, and the journal has each with its reply where the
+                 process was told that they stand; where it lacks another that was
+                 answered, the exit status is 1
+  audit yes      the journal is one of a run
+The seed is for messages that are lost or repeated by chance. None are so far, and it
+changes nothing.
 
 With --journal FILE the journal of the run is written to FILE, in the place of what was
 there, before the listing is printed. A run that fails before that leaves FILE as it was.";

@@ -5,6 +5,7 @@ use replay::disk::Disk;
 use replay::respond::{refuse, respond};
 use replay::words::read_words;
 use std::process::ExitCode;
+use thread_replay::host_threads::HostThreads;
 
 fn main(rt: HostRuntime) -> ExitCode {
     let mut out = rt.stdout();
@@ -12,7 +13,15 @@ fn main(rt: HostRuntime) -> ExitCode {
     let status = match read_words(&rt) {
         Ok(words) => {
             let mut disk = Disk::new(&rt);
-            respond(rt.alloc(), words.as_slice(), &mut disk, &mut out, &mut err)
+            respond(
+                &rt,
+                rt.alloc(),
+                words.as_slice(),
+                &HostThreads,
+                &mut disk,
+                &mut out,
+                &mut err,
+            )
         }
         Err(refusal) => refuse(&refusal, &mut out, &mut err),
     };

@@ -2,6 +2,7 @@
 ghost use Rattle.std.specs.Prelude.{◌≡◌, ◌≤◌, [], IfErr, IfOk, OnOk};
 ghost use Rattle.lockscript.specs.declared.error.ParseError.TheVariants.{BadLine};
 ghost use Rattle.lockscript.specs.Scripts.{Begun, HasScript, IsBadLine, IsLine, IsNoLine, IsRefused, IsScript, line_text, script_of};
+ghost use Rattle.lockscript.specs.ThreadLines.{bad_line};
 
 use crate::cluster_line::shape_of;
 use crate::commands::command_of;
@@ -73,6 +74,17 @@ impl Script {
         ensures { result.now ≡ self.now.lines }
     {
         self.lines.as_slice()
+    }
+
+    /// The number of the first line that threads don't take, if there is one.
+    pub fn bad_line_on_threads(&self) -> Option<u32>
+        ensures { result ≡ bad_line self.now.lines }
+    {
+        let line = self
+            .lines
+            .iter()
+            .find(|line| !line.command().is_for_threads())?;
+        Some(line.number())
     }
 }
 

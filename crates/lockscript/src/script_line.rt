@@ -51,6 +51,30 @@ pub enum Command {
     },
 }
 
+impl Command {
+    ghost use Rattle.std.specs.Prelude.{◌≡◌};
+    ghost use Rattle.lockscript.specs.ThreadLines.{is_for_threads};
+
+    /// Whether a script that runs on threads may have a line that asks for this: a call, `settle`, `declare`
+    /// or `restart`. On threads it is no line that says which message is delivered or lost, and when.
+    pub fn is_for_threads(&self) -> bool
+        ensures { result ≡ is_for_threads self.now }
+    {
+        match self {
+            Command::Call { .. } => true,
+            Command::Settle => true,
+            Command::Declare { .. } => true,
+            Command::Restart { .. } => true,
+            Command::Deliver { .. } => false,
+            Command::Lose { .. } => false,
+            Command::Interrupt { .. } => false,
+            Command::Retry { .. } => false,
+            Command::Resend { .. } => false,
+            Command::Learn { .. } => false,
+        }
+    }
+}
+
 /// A line of a script that asks for something, by its number in the text, from 1. The numbers in it
 /// are within the limits of lock calls: nodes 1 to 64, processes 1 to 256, files 1 to 256, messages 1
 /// to 4294967295, incarnations 1 to 65535.

@@ -1,11 +1,11 @@
 -- Lemmas on faults of commands.
 use Rattle.std.proofs.Common.{ℕ, List, Option, inl}
 use Rattle.std.specs.Prelude.{⊤}
-use Rattle.command_line.specs.Tasks.{Task, run, audit, history}
+use Rattle.command_line.specs.Tasks.{Task, run, threads, audit, history}
 use Rattle.replay.specs.declared.fault.Fault.{Fault}
 use Rattle.replay.specs.declared.fault.Fault.TheVariants.{BadLine, CannotRead, CannotWrite, CannotWriteOutput, NoMemory, JournalFull}
 use Rattle.replay.specs.Commands.{IsFault, IsInputFault}
-use Rattle.replay.specs.Faults.{IsJournalFault, IsScriptFault}
+use Rattle.replay.specs.Faults.{IsJournalFault, IsScriptFault, IsThreadsFault}
 use Rattle.replay.specs.Stores.{Files}
 
 script-weaker : (Holds : Option (List ℕ) → Type 0) (RanShort : Type 0) (path : List ℕ) (fault : Fault) → IsScriptFault Holds RanShort path fault → IsScriptFault Holds ⊤ path fault
@@ -15,6 +15,14 @@ script-weaker Holds RanShort path (CannotWrite named) is = is
 script-weaker Holds RanShort path CannotWriteOutput is = is
 script-weaker Holds RanShort path NoMemory is = inl tt
 script-weaker Holds RanShort path JournalFull is = is
+
+threads-weaker : (Holds : Option (List ℕ) → Type 0) (RanShort : Type 0) (path : List ℕ) (fault : Fault) → IsThreadsFault Holds RanShort path fault → IsThreadsFault Holds ⊤ path fault
+threads-weaker Holds RanShort path (BadLine line) is = is
+threads-weaker Holds RanShort path (CannotRead named) is = is
+threads-weaker Holds RanShort path (CannotWrite named) is = is
+threads-weaker Holds RanShort path CannotWriteOutput is = is
+threads-weaker Holds RanShort path NoMemory is = inl tt
+threads-weaker Holds RanShort path JournalFull is = is
 
 journal-weaker : (Holds : Option (List ℕ) → Type 0) (RanShort : Type 0) (path : List ℕ) (fault : Fault) → IsJournalFault Holds RanShort path fault → IsJournalFault Holds ⊤ path fault
 journal-weaker Holds RanShort path (BadLine line) is = is
@@ -26,6 +34,7 @@ journal-weaker Holds RanShort path JournalFull is = is
 
 input-weaker : (old : Files) (RanShort : Type 0) (task : Task) (fault : Fault) → IsInputFault old RanShort task fault → IsInputFault old ⊤ task fault
 input-weaker old RanShort (run script to) fault is = script-weaker (old script) RanShort script fault is
+input-weaker old RanShort (threads script seed to) fault is = threads-weaker (old script) RanShort script fault is
 input-weaker old RanShort (audit journal) fault is = journal-weaker (old journal) RanShort journal fault is
 input-weaker old RanShort (history journal) fault is = journal-weaker (old journal) RanShort journal fault is
 
@@ -41,5 +50,6 @@ fault-weaker old new RanShort Refuses task JournalFull is = (input-weaker old Ra
 -- where memory may be short
 pub short-memory : (old : Files) (task : Task) → IsInputFault old ⊤ task NoMemory
 short-memory old (run script to) = inl tt
+short-memory old (threads script seed to) = inl tt
 short-memory old (audit journal) = inl tt
 short-memory old (history journal) = inl tt

@@ -1,5 +1,6 @@
 pub mod Sections
 pub mod Stores
+pub mod ThreadLines
 pub mod Faults
 pub mod Journals
 pub mod Marks

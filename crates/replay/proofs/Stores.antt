@@ -1,7 +1,7 @@
 -- Lemmas on what stores hold.
-use Rattle.std.proofs.Common.{◌≡◌, ℕ, List, Option, Some, None, sym, ap}
+use Rattle.std.proofs.Common.{◌≡◌, ◌≢◌, ℕ, List, Option, Some, None, sym, ap}
 use Rattle.std.specs.Prelude.{◌↔◌}
-use Rattle.command_line.specs.Tasks.{Task, run, audit, history}
+use Rattle.command_line.specs.Tasks.{Task, run, threads, audit, history, journal_path}
 use Rattle.replay.specs.Commands.{SameButJournal}
 use Rattle.replay.specs.Stores.{Files, SameFiles, SameOthers}
 
@@ -16,8 +16,10 @@ others-after old mid new path first second = λ other file differs.
     (λ holds. here.0 (there.0 holds), λ holds. there.1 (here.1 holds))
 
 -- a file that is not that of the journal is as it was
-pub same-unless : (old new : Files) (task : Task) (path : List ℕ) (file : Option (List ℕ)) → SameButJournal task old new → ((script : List ℕ) → task ≡ run script (Some path) → ⊥) → new path file ↔ old path file
+pub same-unless : (old new : Files) (task : Task) (path : List ℕ) (file : Option (List ℕ)) → SameButJournal task old new → journal_path task ≢ Some path → new path file ↔ old path file
 same-unless old new (run script None) path file kept unasked = kept path file
-same-unless old new (run script (Some other)) path file kept unasked = kept path file (λ is. unasked script (ap (λ (p : List ℕ). run script (Some p)) (sym is)))
+same-unless old new (run script (Some other)) path file kept unasked = kept path file (λ is. unasked (ap (λ (p : List ℕ). Some p) (sym is)))
+same-unless old new (threads script seed None) path file kept unasked = kept path file
+same-unless old new (threads script seed (Some other)) path file kept unasked = kept path file (λ is. unasked (ap (λ (p : List ℕ). Some p) (sym is)))
 same-unless old new (audit journal) path file kept unasked = kept path file
 same-unless old new (history journal) path file kept unasked = kept path file

@@ -2,35 +2,38 @@
 use Rattle.std.specs.Prelude.{◌≡◌, ℕ, List, string_bytes, Option, Some, None}
 use Rattle.std.specs.Io.KnownBytes.{Appends}
 use Rattle.cluster_core.specs.Journals.{JournalFields}
-use Rattle.command_line.specs.Tasks.{Task, run, audit, history}
+use Rattle.command_line.specs.Tasks.{Task, run, threads, audit, history}
 use Rattle.journal_text.specs.Journals.{journal_text}
 use Rattle.replay.specs.declared.fault.Fault.{Fault}
 use Rattle.replay.specs.declared.fault.Fault.TheVariants.{CannotWrite, CannotWriteOutput}
 use Rattle.replay.specs.declared.shown.Shown.{Shown}
-use Rattle.replay.specs.declared.shown.Shown.TheVariants.{Text, Yes, No}
+use Rattle.replay.specs.declared.shown.Shown.TheVariants.{Text, Lacking, Yes, No}
 use Rattle.replay.specs.Audits.{HasJournal, IsAudit, IsHistory}
-use Rattle.replay.specs.Faults.{IsJournalFault, IsScriptFault}
+use Rattle.replay.specs.Faults.{IsJournalFault, IsScriptFault, IsThreadsFault}
 use Rattle.replay.specs.Outputs.{AppendsPart}
 use Rattle.replay.specs.Played.{PlayedState}
 use Rattle.replay.specs.Scripts.{HasRun, IsListing}
 use Rattle.replay.specs.Showing.{shown_status, shown_text}
 use Rattle.replay.specs.Statuses.{status_of}
+use Rattle.replay.specs.Threads.{IsTaken, IsThreaded, ShowsThreads, ThreadedFields}
 use Rattle.replay.specs.Stores.{Files, SameFiles, SameOthers}
 
--- the journal of the run is in the file of this path, and no other file changed; with no path none did
-abbrev pub KeepsJournal : Files → Option (List ℕ) → PlayedState → Files → Type 0
-KeepsJournal old None played new = SameFiles old new
-KeepsJournal old (Some path) played new = new path (Some (journal_text played.journal.shape played.journal.entries)) × SameOthers old new path
+-- the text of a journal is in the file of this path, and no other file changed; with no path none did
+abbrev pub KeepsJournal : Files → Option (List ℕ) → List ℕ → Files → Type 0
+KeepsJournal old None text new = SameFiles old new
+KeepsJournal old (Some path) text new = new path (Some text) × SameOthers old new path
 
 -- what is shown of a run is its listing
 abbrev pub ShowsRun : PlayedState → Shown → Type 0
+ShowsRun played (Lacking text) = ⊥
 ShowsRun played Yes = ⊥
 ShowsRun played (No position) = ⊥
 ShowsRun played (Text text) = IsListing played (string_bytes text)
 
 -- what is shown of a task that is done, by the file that it reads, and the files that it leaves
 abbrev pub Does : Files → Task → Files → Shown → Type 0
-Does old (run script to) new shown = (played : PlayedState) × HasRun (old script) played × ShowsRun played shown × KeepsJournal old to played new
+Does old (run script to) new shown = (played : PlayedState) × HasRun (old script) played × ShowsRun played shown × KeepsJournal old to (journal_text played.journal.shape played.journal.entries) new
+Does old (threads script seed to) new shown = (t : ThreadedFields) × IsThreaded t × IsTaken (old script) × ShowsThreads t shown × KeepsJournal old to t.journal new
 Does old (audit path) new shown = (j : JournalFields) × HasJournal (old path) j × IsAudit j shown × SameFiles old new
 Does old (history path) new shown = (j : JournalFields) × HasJournal (old path) j × IsHistory j shown × SameFiles old new
 
@@ -41,17 +44,20 @@ Shows IsDone old new status = (shown : Shown) × IsDone shown × (status ≡ sho
 -- no file but the one of the journal that is asked for changed
 abbrev pub SameButJournal : Task → Files → Files → Type 0
 SameButJournal (run script (Some path)) old new = SameOthers old new path
+SameButJournal (threads script seed (Some path)) old new = SameOthers old new path
 SameButJournal task old new = SameFiles old new
 
 -- the fault is in the file that the task reads, or memory is short where `RanShort` says it or for what the file holds
 abbrev pub IsInputFault : Files → Type 0 → Task → Fault → Type 0
 IsInputFault old RanShort (run script to) fault = IsScriptFault (old script) RanShort script fault
+IsInputFault old RanShort (threads script seed to) fault = IsThreadsFault (old script) RanShort script fault
 IsInputFault old RanShort (audit path) fault = IsJournalFault (old path) RanShort path fault
 IsInputFault old RanShort (history path) fault = IsJournalFault (old path) RanShort path fault
 
 -- a run has a journal for the file of this path
 abbrev pub HasJournalFor : Files → Task → List ℕ → Type 0
 HasJournalFor old (run script (Some path)) named = (named ≡ path) × ((played : PlayedState) × HasRun (old script) played)
+HasJournalFor old (threads script seed (Some path)) named = (named ≡ path) × IsTaken (old script)
 HasJournalFor old task named = ⊥
 
 -- the fault is there, and none that is looked for before it, with the files that it leaves: those that were there, but for the journal of a run, which is written before standard output

@@ -9,6 +9,7 @@ pub mod Played
 pub mod Laws
 pub mod Parts
 pub mod Scripts
+pub mod Threads
 pub mod Audits
 pub mod Faults
 pub mod Commands

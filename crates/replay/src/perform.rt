@@ -9,23 +9,36 @@ ghost use Rattle.replay.specs.Statuses.{status_of, IsStatus};
 
 use crate::audit::{audit, history};
 use crate::fault::Fault;
+use crate::on_threads::OnThreads;
 use crate::output::Output;
 use crate::run::{run_script, run_with_journal};
 use crate::shown::Shown;
 use crate::store::Store;
+use crate::threads::play_on_threads;
 use command_line::line::Line;
 use std::alloc::Global;
+use std::sync::Wait;
+use std::thread::Threads;
+use std::time::Clock;
 
 /// Does what the line asks for, and answers the exit status: 0 where it was done; 1 where the journal
-/// that it names is none of a run, which it then shows; 3 where the input or the output is at fault; 4
+/// that it names is none of a run, or that of a run on threads lacks a receipt, which it then shows; 3 where the input or the output is at fault; 4
 /// where memory or the journal was too small. At 3 and 4 one line on the second writer says why, and the
 /// first has got nothing, but for a beginning of what is shown where it failed. Faults are looked for in
 /// this order: the file is read, its bytes are UTF-8, its lines are good, the run or the audit has room,
 /// the journal is written, what is shown is written. No file is changed but that of the journal that a
 /// run is asked for, once it comes to that.
-pub fn perform<S: Store, O: Output, E: Output>(
+pub fn perform<
+    R: Threads + Wait + Clock + Sync,
+    T: OnThreads,
+    S: Store,
+    O: Output,
+    E: Output,
+>(
+    rt: &R,
     alloc: Global,
     line: &Line<'_>,
+    on_threads: &T,
     store: &mut S,
     out: &mut O,
     err: &mut E,
@@ -45,7 +58,7 @@ pub fn perform<S: Store, O: Output, E: Output>(
 
     ensures files { SameButJournal (task_of line.now) (S.holds store.old) (S.holds store.new) }
 {
-    match done(alloc, line, store, out) {
+    match done(rt, alloc, line, on_threads, store, out) {
         Ok(status) => status,
         Err(fault) => report(&fault, err),
     }
@@ -61,9 +74,11 @@ pub(crate) fn report<E: Output>(fault: &Fault<'_>, err: &mut E) -> u8
 }
 
 // Does what the line asks for, and answers the status.
-fn done<'a, S: Store, O: Output>(
+fn done<'a, R: Threads + Wait + Clock + Sync, T: OnThreads, S: Store, O: Output>(
+    rt: &R,
     alloc: Global,
     line: &Line<'a>,
+    on_threads: &T,
     store: &mut S,
     out: &mut O,
 ) -> Result<u8, Fault<'a>>
@@ -72,7 +87,7 @@ fn done<'a, S: Store, O: Output>(
     ensures fault { IfErr result (λ fault. IsFault (S.holds store.old) (S.ran_short store.new) (S.refuses store.new) (task_of line.now) (S.holds store.new) fault
         × Leaves (Does (S.holds store.old) (task_of line.now) (S.holds store.new)) O.taken O.has_failed out.old out.new fault) }
 {
-    let shown = shown_of(alloc, line, store)?;
+    let shown = shown_of(rt, alloc, line, on_threads, store)?;
     match shown.show(out) {
         Ok(()) => Ok(shown.status()),
         Err(_) => Err(Fault::CannotWriteOutput),
@@ -80,7 +95,13 @@ fn done<'a, S: Store, O: Output>(
 }
 
 // What is shown of the line, once all else that it asks for is done.
-fn shown_of<'a, S: Store>(alloc: Global, line: &Line<'a>, store: &mut S) -> Result<Shown, Fault<'a>>
+fn shown_of<'a, R: Threads + Wait + Clock + Sync, T: OnThreads, S: Store>(
+    rt: &R,
+    alloc: Global,
+    line: &Line<'a>,
+    on_threads: &T,
+    store: &mut S,
+) -> Result<Shown, Fault<'a>>
     ensures done { IfOk result (Does (S.holds store.old) (task_of line.now) (S.holds store.new)) }
     ensures fault { IfErr result (λ fault. (fault ≢ CannotWriteOutput)
         × IsFault (S.holds store.old) (S.ran_short store.new) (S.refuses store.new) (task_of line.now) (S.holds store.new) fault) }
@@ -94,6 +115,11 @@ fn shown_of<'a, S: Store>(alloc: Global, line: &Line<'a>, store: &mut S) -> Resu
             script,
             journal: Some(file),
         } => Ok(Shown::Text(run_with_journal(alloc, store, script, file)?)),
+        Line::Threads {
+            script,
+            seed,
+            journal,
+        } => play_on_threads(rt, alloc, on_threads, store, script, seed, journal),
         Line::Audit { journal } => audit(alloc, store, journal),
         Line::History { journal } => history(alloc, store, journal),
     }

@@ -67,16 +67,18 @@ impl Played {
         self.refused.as_slice()
     }
 
-    /// What happened, and the lines that were refused, without the world.
-    pub fn into_journal(self) -> (Journal, Vec<RefusedLine>)
+    /// What happened, the world at the end, and the lines that were refused.
+    pub fn into_parts(self) -> (Journal, World, Vec<RefusedLine>)
         ensures journal { result.0 ≡ self.journal }
-        ensures refused { result.1.items ≡ self.refused }
+        ensures world { result.1 ≡ self.world }
+        ensures refused { result.2.items ≡ self.refused }
+        ensures ends { EndsIn self.journal (world_state self.world) }
     {
         let Played {
             journal,
+            world,
             refused,
-            ..
         } = self;
-        (journal, refused)
+        (journal, world, refused)
     }
 }

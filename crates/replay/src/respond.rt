@@ -1,7 +1,7 @@
 //! The program as a function of its words.
-ghost use Rattle.std.specs.Prelude.{◌≡◌, ◌≤◌, ◌<◌, ◌↔◌, ◌⊎◌, ℕ, ⊤, List, Option, Some, map};
+ghost use Rattle.std.specs.Prelude.{◌≡◌, ◌≢◌, ◌≤◌, ◌<◌, ◌↔◌, ◌⊎◌, ℕ, ⊤, List, Option, Some, map};
 ghost use Rattle.std.specs.Io.KnownBytes.{Appends};
-ghost use Rattle.command_line.specs.Tasks.{run, Task};
+ghost use Rattle.command_line.specs.Tasks.{journal_path, Task};
 ghost use Rattle.command_line.specs.Words.{AreWrong, AsksFor, AsksForHelp};
 ghost use Rattle.replay.specs.declared.fault.Fault.{Fault};
 ghost use Rattle.replay.specs.declared.fault.Fault.TheVariants.{CannotWriteOutput, NoMemory};
@@ -12,6 +12,7 @@ ghost use Rattle.replay.specs.Refusals.{IsHelp, refusal_status, refusal_text};
 ghost use Rattle.replay.specs.Statuses.{status_of, IsStatus};
 
 use crate::fault::Fault;
+use crate::on_threads::OnThreads;
 use crate::output::{Output, put_all, put_line};
 use crate::perform::{perform, report};
 use crate::store::Store;
@@ -19,13 +20,25 @@ use command_line::line::Line;
 use command_line::refusal::Refusal;
 use std::alloc::Global;
 use std::convert::AsStr;
+use std::sync::Wait;
+use std::thread::Threads;
+use std::time::Clock;
 
 /// Does what the words ask for, the first of them being the program's name, and answers the exit
 /// status: that of `perform`; 0 where they ask for help or for the version, which the first writer
 /// gets; 2 where they are wrong, which the second writer is told; 4 where memory was short for them.
-pub fn respond<W: AsStr, S: Store, O: Output, E: Output>(
+pub fn respond<
+    R: Threads + Wait + Clock + Sync,
+    W: AsStr,
+    T: OnThreads,
+    S: Store,
+    O: Output,
+    E: Output,
+>(
+    rt: &R,
     alloc: Global,
     words: &[W],
+    on_threads: &T,
     store: &mut S,
     out: &mut O,
     err: &mut E,
@@ -58,11 +71,11 @@ pub fn respond<W: AsStr, S: Store, O: Output, E: Output>(
         ⊎ WritesOrFails (E.taken err.old) (E.taken err.new) (E.has_failed err.new) (fault_line NoMemory)) }
 
     // No file changes but that of the journal that the words ask for.
-    ensures files { (path : List ℕ) (file : Option (List ℕ)) → ((script : List ℕ) → ¬ (AsksFor (map W.text words.now) (run script (Some path))))
+    ensures files { (path : List ℕ) (file : Option (List ℕ)) → ((task : Task) → AsksFor (map W.text words.now) task → journal_path task ≢ Some path)
         → S.holds store.new path file ↔ S.holds store.old path file }
 {
     match Line::read(alloc, words) {
-        Ok(line) => perform(alloc, &line, store, out, err),
+        Ok(line) => perform(rt, alloc, &line, on_threads, store, out, err),
         Err(refusal) => refuse(&refusal, out, err),
     }
 }

@@ -15,16 +15,16 @@ ghost use Rattle.replay.specs.Stores.{SameFiles};
 
 use crate::fault::Fault;
 use crate::input::bytes_of;
+use crate::listing::listing_begun;
 use crate::play::play;
 use crate::played::Played;
 use crate::store::Store;
 use cluster_core::journal::Journal;
 use intervals::span_map::NoMemory;
 use journal_text::journal::print;
-use lockscript::listing::{listing_start, push_history};
+use lockscript::listing::push_history;
 use lockscript::script::Script;
 use placement::history::History;
-use placement::placed::placed;
 use std::alloc::Global;
 
 // The listing of what the script of a file comes to.
@@ -89,7 +89,7 @@ fn script_of<'a, S: Store>(alloc: Global, store: &mut S, path: &'a str) -> Resul
 fn listing_of(alloc: Global, played: Played) -> Result<String, NoMemory>
     ensures { IfOk result (λ text. IsListing (state_of played) (string_bytes text)) }
 {
-    let (mut text, journal, history) = listing_begun(alloc, played)?;
+    let (mut text, journal, history) = listing_of_played(alloc, played)?;
     drop(journal);
     push_history(&mut text, history.items())?;
     Ok(text)
@@ -101,30 +101,20 @@ fn listing_and_journal(alloc: Global, played: Played) -> Result<(String, String)
     ensures listing { IfOk result (λ texts. IsListing (state_of played) (string_bytes texts.0)) }
     ensures journal { IfOk result (λ texts. string_bytes texts.1 ≡ journal_text played.journal.shape played.journal.entries) }
 {
-    let (mut text, journal, history) = listing_begun(alloc, played)?;
+    let (mut text, journal, history) = listing_of_played(alloc, played)?;
     let printed = print(alloc, &journal.shape(), journal.entries())?;
     drop(journal);
     push_history(&mut text, history.items())?;
     Ok((text, printed))
 }
 
-// The listing of a run up to its history, its journal, and the history. The world goes once its
-// tokens and locks are listed.
-fn listing_begun(alloc: Global, played: Played) -> Result<(String, Journal, History), NoMemory>
+// The listing of a run up to its history, its journal, and the history.
+fn listing_of_played(alloc: Global, played: Played) -> Result<(String, Journal, History), NoMemory>
     ensures journal { IfOk result (λ begun. begun.1 ≡ played.journal) }
     ensures listing { IfOk result (λ begun. (tokens : List TokenRun) × (locks : List HeldLock) × Lists (state_of played) tokens locks begun.2
         × (string_bytes begun.0 ≡ listing_start played.refused played.journal.entries tokens locks)) }
 {
-    let tokens = played.world().tokens(alloc)?;
-    let locks = played.world().locks(alloc)?;
-    let (journal, refused) = played.into_journal();
-    let history = placed(alloc, &journal)?;
-    let text = listing_start(
-        alloc,
-        refused.as_slice(),
-        journal.entries(),
-        tokens.as_slice(),
-        locks.as_slice(),
-    )?;
+    let (journal, world, refused) = played.into_parts();
+    let (text, history) = listing_begun(alloc, &journal, world, refused.as_slice())?;
     Ok((text, journal, history))
 }

@@ -12,6 +12,8 @@ use itoa::Buffer;
 pub enum Shown {
     /// A listing, or a history.
     Text(String),
+    /// The same of a run on threads, whose journal lacks a receipt.
+    Lacking(String),
     /// `audit yes`: the entries of the journal are a run.
     Yes,
     /// `audit no K`: the entry at this position, from 1, is the first that is not the next step.
@@ -19,13 +21,13 @@ pub enum Shown {
 }
 
 impl Shown {
-    /// The exit status: 1 where a journal is none of a run, else 0.
+    /// The exit status: 1 where a journal is none of a run or lacks a receipt, else 0.
     pub fn status(&self) -> u8
         ensures { result ≡ shown_status self.now }
     {
         match self {
             Shown::Text(_) | Shown::Yes => 0,
-            Shown::No(_) => 1,
+            Shown::Lacking(_) | Shown::No(_) => 1,
         }
     }
 
@@ -46,7 +48,7 @@ impl Shown {
         ensures { Writes (O.taken out.old) (O.taken out.new) (O.has_failed out.new) (shown_text self.now) result }
     {
         match self {
-            Shown::Text(text) => out.put(text.as_bytes()),
+            Shown::Text(text) | Shown::Lacking(text) => out.put(text.as_bytes()),
             Shown::Yes => put_line(out, "audit yes", ""),
             Shown::No(position) => put_line(out, "audit no ", Buffer::new().format(*position)),
         }

@@ -53,6 +53,40 @@ fn reads_a_run_with_its_journal(rt: HostRuntime) {
 }
 
 #[test]
+fn reads_a_run_on_threads(rt: HostRuntime) {
+    let alloc = rt.alloc();
+    let alone = Line::Threads {
+        script: "a.lock",
+        seed: 1,
+        journal: None,
+    };
+    assert!(rt; is_line(alloc, &["lockreplay", "threads", "a.lock"], &alone));
+    let words = ["lockreplay", "threads", "a.lock", "--seed", "1"];
+    assert!(rt; is_line(alloc, &words, &alone));
+    let least = Line::Threads {
+        script: "a.lock",
+        seed: 0,
+        journal: None,
+    };
+    assert!(rt; is_line(alloc, &["lockreplay", "threads", "a.lock", "--seed=0"], &least));
+    let whole = Line::Threads {
+        script: "a.lock",
+        seed: 4294967295,
+        journal: Some("a.journal"),
+    };
+    let words = [
+        "lockreplay",
+        "threads",
+        "--journal",
+        "a.journal",
+        "--seed",
+        "4294967295",
+        "a.lock",
+    ];
+    assert!(rt; is_line(alloc, &words, &whole));
+}
+
+#[test]
 fn reads_an_audit_and_a_history(rt: HostRuntime) {
     let alloc = rt.alloc();
     let audit = Line::Audit {
@@ -83,6 +117,9 @@ fn says_what_is_wrong(rt: HostRuntime) {
         ["lockreplay", "run", "a.lock", "b.lock"].as_slice(),
         ["lockreplay", "run", "--fast", "a.lock"].as_slice(),
         ["lockreplay", "run", "--journal", "a.journal"].as_slice(),
+        ["lockreplay", "threads"].as_slice(),
+        ["lockreplay", "threads", "a.lock", "b.lock"].as_slice(),
+        ["lockreplay", "run", "a.lock", "--seed", "1"].as_slice(),
         ["lockreplay", "audit"].as_slice(),
         ["lockreplay", "audit", "a.journal", "b.journal"].as_slice(),
         ["lockreplay", "audit", "--journal", "a.journal"].as_slice(),
@@ -119,6 +156,19 @@ fn takes_one_file_for_the_journal(rt: HostRuntime) {
     assert!(rt; is_wrong(alloc, &none, "a value is required for '--journal <FILE>'"));
 }
 
+#[test]
+fn takes_a_seed_of_32_bits(rt: HostRuntime) {
+    let alloc = rt.alloc();
+    for seed in ["4294967296", "x", "", "1.5"] {
+        let words = ["lockreplay", "threads", "a.lock", "--seed", seed];
+        assert!(rt; is_wrong(alloc, &words, "for '--seed <N>'"), "{seed}");
+    }
+    let below = ["lockreplay", "threads", "a.lock", "--seed", "-1"];
+    assert!(rt; is_wrong(alloc, &below, "'-1'"));
+    let none = ["lockreplay", "threads", "a.lock", "--seed"];
+    assert!(rt; is_wrong(alloc, &none, "a value is required for '--seed <N>'"));
+}
+
 // Whether the words get help with this in its text.
 fn is_help(alloc: Global, words: &[&str], part: &str) -> bool {
     match Line::read(alloc, words) {
@@ -134,7 +184,7 @@ fn helps(rt: HostRuntime) {
     assert!(rt; is_help(alloc, &words, "Usage: lockreplay"));
     assert!(rt; is_help(alloc, &words, "Exit status:"));
     assert!(rt; is_help(alloc, &words, "lockreplay run SCRIPT --journal FILE"));
-    let cases = ["run", "audit", "history"];
+    let cases = ["run", "threads", "audit", "history"];
     for command in cases {
         let words = ["lockreplay", "help", command];
         assert!(rt; is_help(alloc, &words, "Usage: lockreplay "), "{command}");

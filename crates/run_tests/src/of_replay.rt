@@ -1,4 +1,6 @@
 //! What the program prints.
+mod crews;
 mod journals;
 mod programs;
 mod shelf;
+mod threads;

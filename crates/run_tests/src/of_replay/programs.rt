@@ -1,4 +1,5 @@
 //! What the program prints where no script of `tests/` can lead, and its status.
+use crate::of_replay::crews::NOBODY;
 use crate::of_replay::shelf::{PATH, RUN, Shelf};
 use lockscript::refused_line::RefusedLine;
 use lockscript::script::Script;
@@ -95,10 +96,7 @@ fn names_a_file_that_is_not_there(rt: HostRuntime) {
     let mut out = Vec::new(alloc);
     let mut err = Vec::new(alloc);
     let words = ["lockreplay", "run", "b.lock"];
-    let status = respond(
-        alloc,
-        &words,
-        &mut Shelf { bytes: EMPTY },
+    let status = respond(&rt, alloc, &words, &NOBODY, &mut Shelf { bytes: EMPTY },
         &mut out,
         &mut err,
     );
@@ -113,10 +111,7 @@ fn refuses_words(rt: HostRuntime) -> Result<(), Fail> {
     let mut out = Vec::new(alloc);
     let mut err = Vec::new(alloc);
     let words = ["lockreplay", "walk", "a.lock"];
-    let status = respond(
-        alloc,
-        &words,
-        &mut Shelf { bytes: EMPTY },
+    let status = respond(&rt, alloc, &words, &NOBODY, &mut Shelf { bytes: EMPTY },
         &mut out,
         &mut err,
     );
@@ -133,10 +128,7 @@ fn helps(rt: HostRuntime) -> Result<(), Fail> {
     let mut out = Vec::new(alloc);
     let mut err = Vec::new(alloc);
     let words = ["lockreplay", "--help"];
-    let status = respond(
-        alloc,
-        &words,
-        &mut Shelf { bytes: EMPTY },
+    let status = respond(&rt, alloc, &words, &NOBODY, &mut Shelf { bytes: EMPTY },
         &mut out,
         &mut err,
     );
@@ -147,7 +139,7 @@ fn helps(rt: HostRuntime) -> Result<(), Fail> {
     );
     assert_eq!(rt; err.as_slice(), b"".as_slice());
     assert_eq!(rt; status, 0);
-    let status = respond(alloc, &words, &mut Large, &mut Full, &mut err);
+    let status = respond(&rt, alloc, &words, &NOBODY, &mut Large, &mut Full, &mut err);
     assert_eq!(rt; status, 3);
     Ok(())
 }
@@ -156,10 +148,7 @@ fn helps(rt: HostRuntime) -> Result<(), Fail> {
 fn says_where_there_is_no_room(rt: HostRuntime) {
     let alloc = rt.alloc();
     let mut err = Vec::new(alloc);
-    let status = respond(
-        alloc,
-        &RUN,
-        &mut Shelf { bytes: EMPTY },
+    let status = respond(&rt, alloc, &RUN, &NOBODY, &mut Shelf { bytes: EMPTY },
         &mut Full,
         &mut err,
     );
@@ -170,10 +159,7 @@ fn says_where_there_is_no_room(rt: HostRuntime) {
     assert_eq!(rt; status, 3);
 
     let mut err = Vec::new(alloc);
-    let status = respond(
-        alloc,
-        &RUN,
-        &mut Shelf { bytes: EMPTY },
+    let status = respond(&rt, alloc, &RUN, &NOBODY, &mut Shelf { bytes: EMPTY },
         &mut Lossy,
         &mut err,
     );
@@ -185,11 +171,11 @@ fn says_where_there_is_no_room(rt: HostRuntime) {
 
     let mut out = Vec::new(alloc);
     let mut err = Vec::new(alloc);
-    let status = respond(alloc, &RUN, &mut Large, &mut out, &mut err);
+    let status = respond(&rt, alloc, &RUN, &NOBODY, &mut Large, &mut out, &mut err);
     assert_eq!(rt; err.as_slice(), b"no memory\n".as_slice());
     assert_eq!(rt; out.as_slice(), b"".as_slice());
     assert_eq!(rt; status, 4);
 
-    let status = respond(alloc, &RUN, &mut Large, &mut Full, &mut Full);
+    let status = respond(&rt, alloc, &RUN, &NOBODY, &mut Large, &mut Full, &mut Full);
     assert_eq!(rt; status, 4);
 }

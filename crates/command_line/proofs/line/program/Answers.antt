@@ -3,7 +3,7 @@ use Rattle.std.proofs.lemmas.Result.{IfOk-weaker}
 use Rattle.clap.specs.Words.{App, app_of, new_app, with_subcommand}
 use Rattle.clap.specs.Simple.{app_of_fields, on_top}
 use Rattle.clap.specs.declared.builder.command.Command.{Command}
-use Rattle.command_line.specs.Program.{audit_app, bare_app, history_app, run_app}
+use Rattle.command_line.specs.Program.{audit_app, bare_app, history_app, run_app, threads_app}
 use Rattle.command_line.proofs.Tables.{no_globals}
 use Rattle.command_line.proofs.line.program.Goals as goal
 
@@ -18,8 +18,10 @@ returns c =
     let bare_is : app_of c.arg_required_else_help.result ≡ bare_app =
     ap app_of_fields c.arg_required_else_help.ensures ∙ ap (on_top (λ s. record s { arg_required_else_help = true })) needs_command in
     let runs = c.in_ok-run_command.ensures in
+    let threaded = c.in_ok-threads_command.ensures in
     let audits = c.in_ok-audit_command.ensures in
     let histories = c.in_ok-history_command.ensures in
     let first = c.in_ok-subcommand.ensures.shape (no_globals c.in_ok-run_command.field-0 run_app runs refl) ∙ ap₂ with_subcommand bare_is (ap (λ (a : App). a.top) runs) in
-    let second = c.in_ok-subcommand-2.ensures.shape (no_globals c.in_ok-audit_command.field-0 audit_app audits refl) ∙ ap₂ with_subcommand first (ap (λ (a : App). a.top) audits) in
-    IfOk-weaker c.subcommand-3.result _ _ (λ r adds. adds.shape (no_globals c.in_ok-history_command.field-0 history_app histories refl) ∙ ap₂ with_subcommand second (ap (λ (a : App). a.top) histories)) c.subcommand-3.ensures
+    let second = c.in_ok-subcommand-2.ensures.shape (no_globals c.in_ok-threads_command.field-0 threads_app threaded refl) ∙ ap₂ with_subcommand first (ap (λ (a : App). a.top) threaded) in
+    let third = c.in_ok-subcommand-3.ensures.shape (no_globals c.in_ok-audit_command.field-0 audit_app audits refl) ∙ ap₂ with_subcommand second (ap (λ (a : App). a.top) audits) in
+    IfOk-weaker c.subcommand-4.result _ _ (λ r adds. adds.shape (no_globals c.in_ok-history_command.field-0 history_app histories refl) ∙ ap₂ with_subcommand third (ap (λ (a : App). a.top) histories)) c.subcommand-4.ensures

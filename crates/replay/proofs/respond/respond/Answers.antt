@@ -1,7 +1,7 @@
 use Rattle.std.proofs.Common.{◌≡◌, ◌<◌, ℕ, List, map, Some, arith, inl, inr, subst, sym, ◌∙◌}
 use Rattle.std.specs.Prelude.{⊤}
 use Rattle.std.specs.Io.KnownBytes.{Appends}
-use Rattle.command_line.specs.Tasks.{Task, task_of, run}
+use Rattle.command_line.specs.Tasks.{Task, task_of}
 use Rattle.command_line.specs.Words.{AsksFor}
 use Rattle.command_line.specs.declared.refusal.Refusal.{Refusal}
 use Rattle.command_line.proofs.CommandLine.{asks_one, asks_refused}
@@ -39,7 +39,7 @@ pub returns-in-Ok-clause-files : goal.returns-in-Ok-clause-files
 returns-in-Ok-clause-files g c = λ path file unasked.
     let words = map g.W.AsStr.text c.args.words.now in
     same-unless (g.S.Store.holds c.args.store.now) (g.S.Store.holds c.perform.new.store) (task_of c.in-Ok.line) path file c.perform.ensures.files
-    (λ script is. unasked script (subst (AsksFor words) is c.in-Ok.ensures.asked))
+    (unasked (task_of c.in-Ok.line) c.in-Ok.ensures.asked)
 
 pub returns-in-Err-clause-fault : goal.returns-in-Err-clause-fault
 returns-in-Err-clause-fault g c = λ task asks failed.

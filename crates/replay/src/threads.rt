@@ -1,0 +1,114 @@
+//! Running the script of a file on threads.
+ghost use Rattle.std.specs.Prelude.{◌≡◌, ◌≢◌, None, Some, option_map, string_bytes, IfErr, IfOk};
+ghost use Rattle.command_line.specs.Tasks.{threads};
+ghost use Rattle.replay.specs.declared.fault.Fault.TheVariants.{CannotWriteOutput};
+ghost use Rattle.replay.specs.Commands.{Does, IsFault};
+ghost use Rattle.replay.specs.Faults.{IsThreadsFault};
+ghost use Rattle.replay.specs.Stores.{HasText, SameFiles};
+ghost use Rattle.replay.specs.Threads.{IsTaken, IsTextFault};
+ghost use Rattle.lockscript.specs.Scripts.{IsScript};
+ghost use Rattle.lockscript.specs.ThreadLines.{bad_line};
+
+use crate::fault::Fault;
+use crate::input::bytes_of;
+use crate::on_threads::OnThreads;
+use crate::shown::Shown;
+use crate::store::Store;
+use crate::thread_lines::script_for_threads;
+use crate::threaded::Threaded;
+use lockscript::script::Script;
+use std::alloc::Global;
+use std::sync::Wait;
+use std::thread::Threads;
+use std::time::Clock;
+
+// What is shown of a run of the script of a file, whose journal is written to another, if one is named.
+pub(crate) fn play_on_threads<'a, R: Threads + Wait + Clock + Sync, T: OnThreads, S: Store>(
+    rt: &R,
+    alloc: Global,
+    on_threads: &T,
+    store: &mut S,
+    path: &'a str,
+    seed: u32,
+    journal: Option<&'a str>,
+) -> Result<Shown, Fault<'a>>
+    ensures done { IfOk result (Does (S.holds store.old) (threads path.now seed (option_map (λ file. file.now) journal.entry)) (S.holds store.new)) }
+    ensures fault { IfErr result (λ fault. (fault ≢ CannotWriteOutput)
+        × IsFault (S.holds store.old) (S.ran_short store.new) (S.refuses store.new) (threads path.now seed (option_map (λ file. file.now) journal.entry)) (S.holds store.new) fault) }
+{
+    match journal {
+        None => run_threads(rt, alloc, on_threads, store, path, seed),
+        Some(file) => run_threads_with_journal(rt, alloc, on_threads, store, path, seed, file),
+    }
+}
+
+// What is shown of a run of the script of a file.
+fn run_threads<'a, R: Threads + Wait + Clock + Sync, T: OnThreads, S: Store>(
+    rt: &R,
+    alloc: Global,
+    on_threads: &T,
+    store: &mut S,
+    path: &'a str,
+    seed: u32,
+) -> Result<Shown, Fault<'a>>
+    ensures done { IfOk result (Does (S.holds store.old) (threads path.now seed None) (S.holds store.new)) }
+    ensures fault { IfErr result (λ fault. (fault ≢ CannotWriteOutput)
+        × IsFault (S.holds store.old) (S.ran_short store.new) (S.refuses store.new) (threads path.now seed None) (S.holds store.new) fault) }
+{
+    let threaded = threaded_of(rt, alloc, on_threads, store, path, seed)?;
+    let (shown, _) = threaded.into_texts()?;
+    Ok(shown)
+}
+
+// The same, with the journal of the run written to a file. All that needs memory is done before.
+fn run_threads_with_journal<'a, R: Threads + Wait + Clock + Sync, T: OnThreads, S: Store>(
+    rt: &R,
+    alloc: Global,
+    on_threads: &T,
+    store: &mut S,
+    path: &'a str,
+    seed: u32,
+    file: &'a str,
+) -> Result<Shown, Fault<'a>>
+    ensures done { IfOk result (Does (S.holds store.old) (threads path.now seed (Some file.now)) (S.holds store.new)) }
+    ensures fault { IfErr result (λ fault. (fault ≢ CannotWriteOutput)
+        × IsFault (S.holds store.old) (S.ran_short store.new) (S.refuses store.new) (threads path.now seed (Some file.now)) (S.holds store.new) fault) }
+{
+    let threaded = threaded_of(rt, alloc, on_threads, store, path, seed)?;
+    let (shown, journal) = threaded.into_texts()?;
+    match store.write(file, journal.as_bytes()) {
+        Ok(()) => Ok(shown),
+        Err(_) => Err(Fault::CannotWrite(file)),
+    }
+}
+
+// A run of the script of a file.
+fn threaded_of<'a, R: Threads + Wait + Clock + Sync, T: OnThreads, S: Store>(
+    rt: &R,
+    alloc: Global,
+    on_threads: &T,
+    store: &mut S,
+    path: &'a str,
+    seed: u32,
+) -> Result<Threaded, Fault<'a>>
+    ensures taken { IfOk result (λ threaded. IsTaken (S.holds store.old path.now)) }
+    ensures fault { IfErr result (IsThreadsFault (S.holds store.old path.now) (S.ran_short store.new) path.now) }
+    ensures files { SameFiles (S.holds store.old) (S.holds store.new) }
+{
+    let script = script_of(alloc, store, path)?;
+    Ok(on_threads.run(rt, alloc, &script, seed)?)
+}
+
+// The script that a file writes, all of whose lines threads take.
+fn script_of<'a, S: Store>(alloc: Global, store: &mut S, path: &'a str) -> Result<Script, Fault<'a>>
+    ensures script { IfOk result (λ script. HasText (S.holds store.old path.now) (λ text. IsScript text script)) }
+    ensures taken { IfOk result (λ script. bad_line script.lines ≡ None) }
+    ensures fault { IfErr result (IsThreadsFault (S.holds store.old path.now) (S.ran_short store.new) path.now) }
+    ensures files { SameFiles (S.holds store.old) (S.holds store.new) }
+{
+    let bytes = bytes_of(alloc, store, path)?;
+    match str::from_utf8(bytes.as_slice()) {
+        Ok(text) => script_for_threads(alloc, text),
+        Err(_) => Err(Fault::CannotRead(path)),
+    }
+}
