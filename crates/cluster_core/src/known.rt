@@ -1,5 +1,5 @@
 //! An index of messages.
-ghost use Rattle.std.specs.Prelude.{◌≡◌, ◌+◌, ◌<◌, ◌≤◌, [], nat_eq, length, OnOk};
+ghost use Rattle.std.specs.Prelude.{◌≡◌, ◌+◌, ◌<◌, ◌≤◌, [], nat_eq, length, Some, OnOk};
 ghost use Rattle.std.specs.HashMap.{get, spare as spare_places};
 ghost use Rattle.std.specs.HashSet.{spare};
 ghost use Rattle.cluster_core.specs.Known.{fingerprint, has, stands_at, KnowsFirst, SaysTheSame};
@@ -26,6 +26,16 @@ fn fingerprint(message: &Message) -> u32
     (hasher.finish() % 4_294_967_296) as u32
 }
 
+// Whether the message stands at that place of those that were sent.
+fn stands_at(sent: &[Message], message: &Message, place: u32) -> bool
+    ensures { result ≡ stands_at sent.now message.now (Some place) }
+{
+    match sent.get(place as usize) {
+        Some(other) => message.same(other),
+        None => false,
+    }
+}
+
 impl Known {
     /// No message.
     pub(crate) fn new(alloc: Global) -> Known
@@ -48,11 +58,8 @@ impl Known {
     fn is_placed(&self, sent: &[Message], message: &Message) -> bool
         ensures { result ≡ stands_at sent.now message.now (get nat_eq self.now.places (fingerprint message.now)) }
     {
-        let Some(place) = self.places.get(&fingerprint(message)) else {
-            return false;
-        };
-        match sent.get(*place as usize) {
-            Some(other) => message.same(other),
+        match self.places.get(&fingerprint(message)) {
+            Some(place) => stands_at(sent, message, *place),
             None => false,
         }
     }
@@ -80,18 +87,19 @@ impl Known {
         ensures room_for_others { spare self.old.others ≤ spare self.new.others + 1 }
     {
         let message = sent[place];
-        if self.has(sent, &message) {
-            return;
-        }
         let print = fingerprint(&message);
-        if place < 4_294_967_296 && !self.places.contains_key(&print) {
-            let Ok(_) = self.places.insert(print, place as u32) else {
-                unreachable!()
-            };
-        } else {
-            let Ok(_) = self.others.insert(message) else {
-                unreachable!()
-            };
+        match self.places.get(&print).copied() {
+            Some(first) if stands_at(sent, &message, first) => {}
+            None if place < 4_294_967_296 => {
+                let Ok(_) = self.places.insert(print, place as u32) else {
+                    unreachable!()
+                };
+            }
+            _ => {
+                let Ok(_) = self.others.insert(message) else {
+                    unreachable!()
+                };
+            }
         }
     }
 

@@ -1,4 +1,6 @@
 //! Tests of many clients.
+ghost use Rattle.std.specs.Prelude.{◌≡◌, length, IfOk};
+
 use crate::clusters::{begin, set};
 use crate::holder::{Commits, wait_for};
 use actors::client::Client;
@@ -7,6 +9,7 @@ use actors::gate::OpenGate;
 use actors::weather::Fair;
 use book::confirms::Confirms;
 use book::receipt::Receipt;
+use cluster_core::journal::Journal;
 use messages::actor::Actor;
 use messages::entry::Entry;
 use messages::event::Event;
@@ -16,8 +19,9 @@ use model::mode::Mode;
 use model::op::Op;
 use model::owner::Kind;
 use model::policy::Policy;
+use model::process::Process;
 use model::reply::Reply;
-use std::alloc::Global;
+use std::alloc::{AllocError, Global};
 use std::sync::Wait;
 use std::sync::atomic::Ordering;
 use std::test::Fail;
@@ -42,12 +46,19 @@ fn unlock(start: i64, len: i64) -> Op {
 }
 
 // So many weathers under which each message goes at once.
-fn fair(alloc: Global, count: usize) -> Result<Vec<Fair>, Fail> {
-    let mut weathers = Vec::new(alloc);
-    for _ in 0..count {
-        weathers.push(Fair)?;
+fn fair(alloc: Global, count: usize) -> Result<Vec<Fair>, AllocError>
+    ensures { IfOk result (λ weathers. length weathers.items ≡ count) }
+{
+    vec![in alloc; Fair; count]
+}
+
+// The file of a client; all are of one where there is one.
+fn file_of(process: Process, files: u16) -> u16 {
+    if files == 0 {
+        return 1;
     }
-    Ok(weathers)
+    let number = u32::from(process.node) * 7 + u32::from(process.pid);
+    (number % u32::from(files)) as u16 + 1
 }
 
 // The calls of a client: it locks bytes of its own, and bytes for which all try, again and again.
@@ -97,19 +108,18 @@ fn crowd_on<R: Threads + Wait + Clock + Sync>(
             clients,
             &|client| {
                 let mut client = client;
-                let process = client.process();
-                let file = (u16::from(process.node) * 7 + process.pid) % files + 1;
+                let file = file_of(client.process(), files);
                 play(rt, alloc, &mut client, file)
             },
         )
         .ok()
     })?;
-    let mut held = 0;
+    let mut held = 0usize;
     for receipts in made.ok_or("clients")? {
         let mut seen = 0;
         for receipt in receipts.ok_or("a client whose calls are all answered")? {
             if journal.holds(&receipt) && receipt.seen() == seen {
-                held += 1;
+                held = usize::saturating_add(held, 1);
             }
             seen = receipt.reply_at();
         }
@@ -138,6 +148,18 @@ fn is_of_node(entry: &Entry) -> bool {
         Event::Deliver(message) => matches!(message.addressee(), Actor::Node(_)),
         _ => false,
     }
+}
+
+// Whether a step of a node stands between these positions.
+fn has_node_step(journal: &Journal, first: u32, last: u32) -> bool {
+    let mut position = 0;
+    for entry in journal.entries() {
+        position = u32::saturating_add(position, 1);
+        if first < position && position < last && is_of_node(entry) {
+            return true;
+        }
+    }
+    false
 }
 
 // One process waits for the lock of another on its node, which gives it up after the node took the
@@ -185,18 +207,15 @@ fn a_lock_goes_on_to_a_wait_of_its_node_at_once(rt: HostRuntime) -> Result<(), F
         }
         Some(passed)
     })?;
-    let mut waits = 0;
+    let mut waits = 0u32;
     for (wait, unlock) in made.ok_or("ten locks are passed on")? {
         assert_eq!(rt; wait.reply(), Reply::Done);
         if wait.call_at() > unlock.call_at() {
             continue;
         }
-        waits += 1;
-        let first = unlock.call_at() as usize;
-        let last = wait.reply_at() as usize - 1;
-        let between = &journal.entries()[first..last];
+        waits = u32::saturating_add(waits, 1);
         assert!(rt;
-            !between.iter().any(is_of_node),
+            !has_node_step(&journal, unlock.call_at(), wait.reply_at()),
             "no step of the node comes first"
         );
     }

@@ -41,7 +41,9 @@ fn the_first_run_has_four_receipts(rt: HostRuntime) -> Result<(), Fail> {
         assert!(rt; run.journal().holds(receipt));
     }
     assert_eq!(rt; run.refused().len(), 0);
-    assert_eq!(rt; run.receipts()[3].seen(), run.receipts()[2].reply_at());
+    let third = run.receipts().get(2).ok_or("a third receipt")?;
+    let fourth = run.receipts().get(3).ok_or("a fourth receipt")?;
+    assert_eq!(rt; fourth.seen(), third.reply_at());
     Ok(())
 }
 
@@ -54,7 +56,9 @@ fn two_nodes_prepare_at_once(rt: HostRuntime) -> Result<(), Fail> {
     let run = run_threads(&rt, alloc, &script, &gate, 1)?;
     assert_eq!(rt; gate.late.load(Ordering::SeqCst), 0);
     assert_eq!(rt; run.receipts().len(), 2);
-    assert!(rt; run.journal().holds(&run.receipts()[0]) && run.journal().holds(&run.receipts()[1]));
+    for receipt in run.receipts() {
+        assert!(rt; run.journal().holds(receipt));
+    }
     Ok(())
 }
 
@@ -73,7 +77,12 @@ fn crowd(alloc: Global, nodes: u8, files: u16, processes: u16) -> Result<String,
     let mut text = format!(in alloc; "cluster nodes {nodes} files {files} policy wide\n")?;
     for node in 1..=nodes {
         for pid in 1..=processes {
-            let file = (u32::from(node) * 7 + u32::from(pid)) % u32::from(files) + 1;
+            let place = u32::from(node) * 7 + u32::from(pid);
+            let file = if files == 0 {
+                1
+            } else {
+                place % u32::from(files) + 1
+            };
             let start = (u32::from(node) * 64 + u32::from(pid)) * 10;
             let lines = [
                 format!(in alloc; "call {node} {pid} spawn\n")?,
@@ -147,6 +156,7 @@ fn refused_lines_come_in_order(rt: HostRuntime) -> Result<(), Fail> {
         [(4, 14), (5, 11), (7, 15), (8, 10), (11, 14)].as_slice()
     );
     assert_eq!(rt; run.receipts().len(), 3);
-    assert_eq!(rt; run.receipts()[2].call().incarnation, 2);
+    let third = run.receipts().get(2).ok_or("a third receipt")?;
+    assert_eq!(rt; third.call().incarnation, 2);
     Ok(())
 }

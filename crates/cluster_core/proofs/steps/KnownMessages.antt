@@ -96,6 +96,10 @@ module _ (places : Places) (others : Others) (sent : List Message) (n : ℕ) (m 
     before = λ f k found. let lt = known.before f k found in omega arith;
   }
 
+  pub knows_stands : (first : ℕ) → get nat_eq places (fingerprint m) ≡ Some first → stands_at sent m (Some first) ≡ true → KnowsFirst places others sent (n + 1)
+  knows_stands first found stands =
+      knows_known (or_left (stands_at sent m (get nat_eq places (fingerprint m))) (contains same_message others m) (ap (stands_at sent m) found ∙ stands))
+
   -- one that comes to the place of its fingerprint
   placed : (q : Message) (e b a c : Bool) (o : Option ℕ) → nat_eq (fingerprint m) (fingerprint q) ≡ e → same_message q m ≡ b → o ≡ get nat_eq places (fingerprint q) → (nat_eq (fingerprint m) (fingerprint q) ≡ true → o ≡ None) → (stands_at sent q o || c) ≡ a → (stands_at sent q (cond e (Some n) o) || c) ≡ (a || (b || false))
   placed q true b a c o at same is fresh found =
