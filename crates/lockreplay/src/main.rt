@@ -5,7 +5,6 @@ use replay::disk::Disk;
 use replay::respond::{refuse, respond};
 use replay::words::read_words;
 use std::process::ExitCode;
-use thread_replay::host_threads::HostThreads;
 
 fn main(rt: HostRuntime) -> ExitCode {
     let mut out = rt.stdout();
@@ -17,7 +16,6 @@ fn main(rt: HostRuntime) -> ExitCode {
                 &rt,
                 rt.alloc(),
                 words.as_slice(),
-                &HostThreads,
                 &mut disk,
                 &mut out,
                 &mut err,

@@ -1,3 +1,4 @@
+pub mod Counting
 pub mod Sections
 pub mod Stores
 pub mod ThreadLines

@@ -1,3 +1,4 @@
+pub mod Counts
 pub mod Outputs
 pub mod Stores
 pub mod Statuses

@@ -2,12 +2,13 @@
 #![tactic(auto)]
 
 mod audit;
+mod counts;
 pub mod disk;
 pub mod fault;
 mod input;
 pub mod laws;
 mod listing;
-pub mod on_threads;
+mod on_threads;
 pub mod output;
 pub mod perform;
 pub mod play;

@@ -1,28 +1,57 @@
-//! What runs scripts on threads.
+//! Scripts on threads.
 ghost use Rattle.std.specs.Prelude.{◌≡◌, None};
 ghost use Rattle.lockscript.specs.ThreadLines.{bad_line};
 
+use crate::counts::held_in;
 use crate::play::PlayError;
 use crate::threaded::Threaded;
+use actors::gate::OpenGate;
+use actors::run_error::RunError;
+use actors::thread_run::ThreadRun;
+use actors::threads::run_threads;
+use lockscript::refused_line::RefusedLine;
 use lockscript::script::Script;
-use std::alloc::Global;
+use std::alloc::{AllocError, Global};
 use std::sync::Wait;
 use std::thread::Threads;
 use std::time::Clock;
 
-/// What runs scripts on threads of a runtime. This crate starts none: who calls it brings what does.
-pub trait OnThreads {
-    /// Runs the script, all of whose lines threads take. The seed is for what happens by chance.
-    ///
-    /// # Errors
-    /// `JournalFull` where the run needs more entries than a journal may have; `NoMemory` where a
-    /// request for memory was refused.
-    fn run<R: Threads + Wait + Clock + Sync>(
-        &self,
-        rt: &R,
-        alloc: Global,
-        script: &Script,
-        seed: u32,
-    ) -> Result<Threaded, PlayError>
-        requires { bad_line script.now.lines ≡ None };
+// Runs the script, all of whose lines threads take, on threads that the runtime starts. The seed is for
+// what happens by chance.
+pub(crate) fn run_on_threads<R: Threads + Wait + Clock + Sync>(
+    rt: &R,
+    alloc: Global,
+    script: &Script,
+    seed: u32,
+) -> Result<Threaded, PlayError>
+    requires { bad_line script.now.lines ≡ None }
+{
+    match run_threads(rt, alloc, script, &OpenGate, seed) {
+        Ok(run) => threaded_of(alloc, &run),
+        Err(RunError::NoMemory) => Err(PlayError::NoMemory),
+        Err(RunError::JournalFull) => Err(PlayError::JournalFull),
+        Err(RunError::BadLine(_)) => unreachable!(),
+    }
+}
+
+// What is told of the run.
+fn threaded_of(alloc: Global, run: &ThreadRun) -> Result<Threaded, PlayError> {
+    let journal = run.journal();
+    let receipts = run.receipts();
+    let refused = lines_of(alloc, run.refused())?;
+    let answered = receipts.len() as u64;
+    let held = held_in(journal, receipts);
+    Ok(Threaded::new(alloc, journal, refused.as_slice(), answered, held)?)
+}
+
+// The refused lines, as listings name them.
+fn lines_of(alloc: Global, refused: &[(u32, u16)]) -> Result<Vec<RefusedLine>, AllocError> {
+    let mut lines = Vec::new(alloc);
+    for (line, code) in refused {
+        lines.push(RefusedLine {
+            line: *line,
+            code: *code,
+        })?;
+    }
+    Ok(lines)
 }

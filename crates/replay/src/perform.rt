@@ -9,7 +9,6 @@ ghost use Rattle.replay.specs.Statuses.{status_of, IsStatus};
 
 use crate::audit::{audit, history};
 use crate::fault::Fault;
-use crate::on_threads::OnThreads;
 use crate::output::Output;
 use crate::run::{run_script, run_with_journal};
 use crate::shown::Shown;
@@ -28,17 +27,10 @@ use std::time::Clock;
 /// this order: the file is read, its bytes are UTF-8, its lines are good, the run or the audit has room,
 /// the journal is written, what is shown is written. No file is changed but that of the journal that a
 /// run is asked for, once it comes to that.
-pub fn perform<
-    R: Threads + Wait + Clock + Sync,
-    T: OnThreads,
-    S: Store,
-    O: Output,
-    E: Output,
->(
+pub fn perform<R: Threads + Wait + Clock + Sync, S: Store, O: Output, E: Output>(
     rt: &R,
     alloc: Global,
     line: &Line<'_>,
-    on_threads: &T,
     store: &mut S,
     out: &mut O,
     err: &mut E,
@@ -58,7 +50,7 @@ pub fn perform<
 
     ensures files { SameButJournal (task_of line.now) (S.holds store.old) (S.holds store.new) }
 {
-    match done(rt, alloc, line, on_threads, store, out) {
+    match done(rt, alloc, line, store, out) {
         Ok(status) => status,
         Err(fault) => report(&fault, err),
     }
@@ -74,11 +66,10 @@ pub(crate) fn report<E: Output>(fault: &Fault<'_>, err: &mut E) -> u8
 }
 
 // Does what the line asks for, and answers the status.
-fn done<'a, R: Threads + Wait + Clock + Sync, T: OnThreads, S: Store, O: Output>(
+fn done<'a, R: Threads + Wait + Clock + Sync, S: Store, O: Output>(
     rt: &R,
     alloc: Global,
     line: &Line<'a>,
-    on_threads: &T,
     store: &mut S,
     out: &mut O,
 ) -> Result<u8, Fault<'a>>
@@ -87,7 +78,7 @@ fn done<'a, R: Threads + Wait + Clock + Sync, T: OnThreads, S: Store, O: Output>
     ensures fault { IfErr result (λ fault. IsFault (S.holds store.old) (S.ran_short store.new) (S.refuses store.new) (task_of line.now) (S.holds store.new) fault
         × Leaves (Does (S.holds store.old) (task_of line.now) (S.holds store.new)) O.taken O.has_failed out.old out.new fault) }
 {
-    let shown = shown_of(rt, alloc, line, on_threads, store)?;
+    let shown = shown_of(rt, alloc, line, store)?;
     match shown.show(out) {
         Ok(()) => Ok(shown.status()),
         Err(_) => Err(Fault::CannotWriteOutput),
@@ -95,11 +86,10 @@ fn done<'a, R: Threads + Wait + Clock + Sync, T: OnThreads, S: Store, O: Output>
 }
 
 // What is shown of the line, once all else that it asks for is done.
-fn shown_of<'a, R: Threads + Wait + Clock + Sync, T: OnThreads, S: Store>(
+fn shown_of<'a, R: Threads + Wait + Clock + Sync, S: Store>(
     rt: &R,
     alloc: Global,
     line: &Line<'a>,
-    on_threads: &T,
     store: &mut S,
 ) -> Result<Shown, Fault<'a>>
     ensures done { IfOk result (Does (S.holds store.old) (task_of line.now) (S.holds store.new)) }
@@ -119,7 +109,7 @@ fn shown_of<'a, R: Threads + Wait + Clock + Sync, T: OnThreads, S: Store>(
             script,
             seed,
             journal,
-        } => play_on_threads(rt, alloc, on_threads, store, script, seed, journal),
+        } => play_on_threads(rt, alloc, store, script, seed, journal),
         Line::Audit { journal } => audit(alloc, store, journal),
         Line::History { journal } => history(alloc, store, journal),
     }

@@ -12,7 +12,6 @@ ghost use Rattle.replay.specs.Refusals.{IsHelp, refusal_status, refusal_text};
 ghost use Rattle.replay.specs.Statuses.{status_of, IsStatus};
 
 use crate::fault::Fault;
-use crate::on_threads::OnThreads;
 use crate::output::{Output, put_all, put_line};
 use crate::perform::{perform, report};
 use crate::store::Store;
@@ -27,18 +26,10 @@ use std::time::Clock;
 /// Does what the words ask for, the first of them being the program's name, and answers the exit
 /// status: that of `perform`; 0 where they ask for help or for the version, which the first writer
 /// gets; 2 where they are wrong, which the second writer is told; 4 where memory was short for them.
-pub fn respond<
-    R: Threads + Wait + Clock + Sync,
-    W: AsStr,
-    T: OnThreads,
-    S: Store,
-    O: Output,
-    E: Output,
->(
+pub fn respond<R: Threads + Wait + Clock + Sync, W: AsStr, S: Store, O: Output, E: Output>(
     rt: &R,
     alloc: Global,
     words: &[W],
-    on_threads: &T,
     store: &mut S,
     out: &mut O,
     err: &mut E,
@@ -75,7 +66,7 @@ pub fn respond<
         → S.holds store.new path file ↔ S.holds store.old path file }
 {
     match Line::read(alloc, words) {
-        Ok(line) => perform(rt, alloc, &line, on_threads, store, out, err),
+        Ok(line) => perform(rt, alloc, &line, store, out, err),
         Err(refusal) => refuse(&refusal, out, err),
     }
 }

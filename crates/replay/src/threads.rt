@@ -11,7 +11,7 @@ ghost use Rattle.lockscript.specs.ThreadLines.{bad_line};
 
 use crate::fault::Fault;
 use crate::input::bytes_of;
-use crate::on_threads::OnThreads;
+use crate::on_threads::run_on_threads;
 use crate::shown::Shown;
 use crate::store::Store;
 use crate::thread_lines::script_for_threads;
@@ -23,10 +23,9 @@ use std::thread::Threads;
 use std::time::Clock;
 
 // What is shown of a run of the script of a file, whose journal is written to another, if one is named.
-pub(crate) fn play_on_threads<'a, R: Threads + Wait + Clock + Sync, T: OnThreads, S: Store>(
+pub(crate) fn play_on_threads<'a, R: Threads + Wait + Clock + Sync, S: Store>(
     rt: &R,
     alloc: Global,
-    on_threads: &T,
     store: &mut S,
     path: &'a str,
     seed: u32,
@@ -37,16 +36,15 @@ pub(crate) fn play_on_threads<'a, R: Threads + Wait + Clock + Sync, T: OnThreads
         × IsFault (S.holds store.old) (S.ran_short store.new) (S.refuses store.new) (threads path.now seed (option_map (λ file. file.now) journal.entry)) (S.holds store.new) fault) }
 {
     match journal {
-        None => run_threads(rt, alloc, on_threads, store, path, seed),
-        Some(file) => run_threads_with_journal(rt, alloc, on_threads, store, path, seed, file),
+        None => run_threads(rt, alloc, store, path, seed),
+        Some(file) => run_threads_with_journal(rt, alloc, store, path, seed, file),
     }
 }
 
 // What is shown of a run of the script of a file.
-fn run_threads<'a, R: Threads + Wait + Clock + Sync, T: OnThreads, S: Store>(
+fn run_threads<'a, R: Threads + Wait + Clock + Sync, S: Store>(
     rt: &R,
     alloc: Global,
-    on_threads: &T,
     store: &mut S,
     path: &'a str,
     seed: u32,
@@ -55,16 +53,15 @@ fn run_threads<'a, R: Threads + Wait + Clock + Sync, T: OnThreads, S: Store>(
     ensures fault { IfErr result (λ fault. (fault ≢ CannotWriteOutput)
         × IsFault (S.holds store.old) (S.ran_short store.new) (S.refuses store.new) (threads path.now seed None) (S.holds store.new) fault) }
 {
-    let threaded = threaded_of(rt, alloc, on_threads, store, path, seed)?;
+    let threaded = threaded_of(rt, alloc, store, path, seed)?;
     let (shown, _) = threaded.into_texts()?;
     Ok(shown)
 }
 
 // The same, with the journal of the run written to a file. All that needs memory is done before.
-fn run_threads_with_journal<'a, R: Threads + Wait + Clock + Sync, T: OnThreads, S: Store>(
+fn run_threads_with_journal<'a, R: Threads + Wait + Clock + Sync, S: Store>(
     rt: &R,
     alloc: Global,
-    on_threads: &T,
     store: &mut S,
     path: &'a str,
     seed: u32,
@@ -74,7 +71,7 @@ fn run_threads_with_journal<'a, R: Threads + Wait + Clock + Sync, T: OnThreads, 
     ensures fault { IfErr result (λ fault. (fault ≢ CannotWriteOutput)
         × IsFault (S.holds store.old) (S.ran_short store.new) (S.refuses store.new) (threads path.now seed (Some file.now)) (S.holds store.new) fault) }
 {
-    let threaded = threaded_of(rt, alloc, on_threads, store, path, seed)?;
+    let threaded = threaded_of(rt, alloc, store, path, seed)?;
     let (shown, journal) = threaded.into_texts()?;
     match store.write(file, journal.as_bytes()) {
         Ok(()) => Ok(shown),
@@ -83,10 +80,9 @@ fn run_threads_with_journal<'a, R: Threads + Wait + Clock + Sync, T: OnThreads, 
 }
 
 // A run of the script of a file.
-fn threaded_of<'a, R: Threads + Wait + Clock + Sync, T: OnThreads, S: Store>(
+fn threaded_of<'a, R: Threads + Wait + Clock + Sync, S: Store>(
     rt: &R,
     alloc: Global,
-    on_threads: &T,
     store: &mut S,
     path: &'a str,
     seed: u32,
@@ -96,7 +92,7 @@ fn threaded_of<'a, R: Threads + Wait + Clock + Sync, T: OnThreads, S: Store>(
     ensures files { SameFiles (S.holds store.old) (S.holds store.new) }
 {
     let script = script_of(alloc, store, path)?;
-    Ok(on_threads.run(rt, alloc, &script, seed)?)
+    Ok(run_on_threads(rt, alloc, &script, seed)?)
 }
 
 // The script that a file writes, all of whose lines threads take.

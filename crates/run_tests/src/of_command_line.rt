@@ -68,7 +68,13 @@ fn reads_a_run_on_threads(rt: HostRuntime) {
         seed: 0,
         journal: None,
     };
-    assert!(rt; is_line(alloc, &["lockreplay", "threads", "a.lock", "--seed=0"], &least));
+    assert!(rt;
+        is_line(
+            alloc,
+            &["lockreplay", "threads", "a.lock", "--seed=0"],
+            &least
+        )
+    );
     let whole = Line::Threads {
         script: "a.lock",
         seed: 4294967295,

@@ -1,5 +1,4 @@
 //! What the program prints.
-mod crews;
 mod journals;
 mod programs;
 mod shelf;

@@ -1,5 +1,4 @@
 //! Journals that the program writes and reads, where no script of `tests/` can lead.
-use crate::of_replay::crews::NOBODY;
 use crate::of_replay::shelf::{Desk, PATH, RUN_WITH_JOURNAL, Shelf};
 use replay::respond::respond;
 use replay::shown::Shown;
@@ -65,7 +64,14 @@ fn writes_the_journal_before_the_listing(rt: HostRuntime) {
         shelf: Shelf { bytes: SCRIPT },
         written: Vec::new(alloc),
     };
-    let status = respond(&rt, alloc, &RUN_WITH_JOURNAL, &NOBODY, &mut desk, &mut Full, &mut err);
+    let status = respond(
+        &rt,
+        alloc,
+        &RUN_WITH_JOURNAL,
+        &mut desk,
+        &mut Full,
+        &mut err,
+    );
     assert_eq!(rt; desk.written.as_slice(), JOURNAL);
     assert_eq!(rt;
         err.as_slice(),
@@ -80,7 +86,14 @@ fn shows_no_listing_without_its_journal(rt: HostRuntime) {
     let mut out = Vec::new(alloc);
     let mut err = Vec::new(alloc);
     let mut shelf = Shelf { bytes: SCRIPT };
-    let status = respond(&rt, alloc, &RUN_WITH_JOURNAL, &NOBODY, &mut shelf, &mut out, &mut err);
+    let status = respond(
+        &rt,
+        alloc,
+        &RUN_WITH_JOURNAL,
+        &mut shelf,
+        &mut out,
+        &mut err,
+    );
     assert_eq!(rt; out.as_slice(), b"".as_slice());
     assert_eq!(rt; err.as_slice(), b"cannot write a.journal\n".as_slice());
     assert_eq!(rt; status, 3);
@@ -93,13 +106,13 @@ fn audits_journals(rt: HostRuntime) {
     let mut err = Vec::new(alloc);
     let audit = ["lockreplay", "audit", PATH];
     let mut right = Shelf { bytes: JOURNAL };
-    let status = respond(&rt, alloc, &audit, &NOBODY, &mut right, &mut out, &mut err);
+    let status = respond(&rt, alloc, &audit, &mut right, &mut out, &mut err);
     assert_eq!(rt; status, 0);
     let mut wrong = Shelf { bytes: WRONG };
-    let status = respond(&rt, alloc, &audit, &NOBODY, &mut wrong, &mut out, &mut err);
+    let status = respond(&rt, alloc, &audit, &mut wrong, &mut out, &mut err);
     assert_eq!(rt; status, 1);
     let history = ["lockreplay", "history", PATH];
-    let status = respond(&rt, alloc, &history, &NOBODY, &mut wrong, &mut out, &mut err);
+    let status = respond(&rt, alloc, &history, &mut wrong, &mut out, &mut err);
     assert_eq!(rt; status, 1);
     let told = b"audit yes\naudit no 2\naudit no 2\n";
     assert_eq!(rt; out.as_slice(), told.as_slice());
@@ -113,7 +126,7 @@ fn prints_the_history_of_a_journal(rt: HostRuntime) {
     let mut err = Vec::new(alloc);
     let words = ["lockreplay", "history", PATH];
     let mut shelf = Shelf { bytes: JOURNAL };
-    let status = respond(&rt, alloc, &words, &NOBODY, &mut shelf, &mut out, &mut err);
+    let status = respond(&rt, alloc, &words, &mut shelf, &mut out, &mut err);
     let history = b"history
       1 1.1.1            1 spawn -> done
       2 1.1.2            1 open 1 rw -> fd 0

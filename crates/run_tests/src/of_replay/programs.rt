@@ -1,5 +1,4 @@
 //! What the program prints where no script of `tests/` can lead, and its status.
-use crate::of_replay::crews::NOBODY;
 use crate::of_replay::shelf::{PATH, RUN, Shelf};
 use lockscript::refused_line::RefusedLine;
 use lockscript::script::Script;
@@ -96,7 +95,11 @@ fn names_a_file_that_is_not_there(rt: HostRuntime) {
     let mut out = Vec::new(alloc);
     let mut err = Vec::new(alloc);
     let words = ["lockreplay", "run", "b.lock"];
-    let status = respond(&rt, alloc, &words, &NOBODY, &mut Shelf { bytes: EMPTY },
+    let status = respond(
+        &rt,
+        alloc,
+        &words,
+        &mut Shelf { bytes: EMPTY },
         &mut out,
         &mut err,
     );
@@ -111,7 +114,11 @@ fn refuses_words(rt: HostRuntime) -> Result<(), Fail> {
     let mut out = Vec::new(alloc);
     let mut err = Vec::new(alloc);
     let words = ["lockreplay", "walk", "a.lock"];
-    let status = respond(&rt, alloc, &words, &NOBODY, &mut Shelf { bytes: EMPTY },
+    let status = respond(
+        &rt,
+        alloc,
+        &words,
+        &mut Shelf { bytes: EMPTY },
         &mut out,
         &mut err,
     );
@@ -128,7 +135,11 @@ fn helps(rt: HostRuntime) -> Result<(), Fail> {
     let mut out = Vec::new(alloc);
     let mut err = Vec::new(alloc);
     let words = ["lockreplay", "--help"];
-    let status = respond(&rt, alloc, &words, &NOBODY, &mut Shelf { bytes: EMPTY },
+    let status = respond(
+        &rt,
+        alloc,
+        &words,
+        &mut Shelf { bytes: EMPTY },
         &mut out,
         &mut err,
     );
@@ -139,7 +150,7 @@ fn helps(rt: HostRuntime) -> Result<(), Fail> {
     );
     assert_eq!(rt; err.as_slice(), b"".as_slice());
     assert_eq!(rt; status, 0);
-    let status = respond(&rt, alloc, &words, &NOBODY, &mut Large, &mut Full, &mut err);
+    let status = respond(&rt, alloc, &words, &mut Large, &mut Full, &mut err);
     assert_eq!(rt; status, 3);
     Ok(())
 }
@@ -148,7 +159,11 @@ fn helps(rt: HostRuntime) -> Result<(), Fail> {
 fn says_where_there_is_no_room(rt: HostRuntime) {
     let alloc = rt.alloc();
     let mut err = Vec::new(alloc);
-    let status = respond(&rt, alloc, &RUN, &NOBODY, &mut Shelf { bytes: EMPTY },
+    let status = respond(
+        &rt,
+        alloc,
+        &RUN,
+        &mut Shelf { bytes: EMPTY },
         &mut Full,
         &mut err,
     );
@@ -159,7 +174,11 @@ fn says_where_there_is_no_room(rt: HostRuntime) {
     assert_eq!(rt; status, 3);
 
     let mut err = Vec::new(alloc);
-    let status = respond(&rt, alloc, &RUN, &NOBODY, &mut Shelf { bytes: EMPTY },
+    let status = respond(
+        &rt,
+        alloc,
+        &RUN,
+        &mut Shelf { bytes: EMPTY },
         &mut Lossy,
         &mut err,
     );
@@ -171,11 +190,11 @@ fn says_where_there_is_no_room(rt: HostRuntime) {
 
     let mut out = Vec::new(alloc);
     let mut err = Vec::new(alloc);
-    let status = respond(&rt, alloc, &RUN, &NOBODY, &mut Large, &mut out, &mut err);
+    let status = respond(&rt, alloc, &RUN, &mut Large, &mut out, &mut err);
     assert_eq!(rt; err.as_slice(), b"no memory\n".as_slice());
     assert_eq!(rt; out.as_slice(), b"".as_slice());
     assert_eq!(rt; status, 4);
 
-    let status = respond(&rt, alloc, &RUN, &NOBODY, &mut Large, &mut Full, &mut Full);
+    let status = respond(&rt, alloc, &RUN, &mut Large, &mut Full, &mut Full);
     assert_eq!(rt; status, 4);
 }

@@ -1,25 +1,23 @@
-//! What the program shows of a run on threads: what its listing, its journal, its counts and its faults come to.
-use crate::of_replay::crews::{Alone, Nobody};
+//! What the program shows of a run on threads: what its listing, its journal and its counts come to, and which lines it refuses.
 use crate::of_replay::shelf::{Desk, JOURNAL, PATH, Shelf};
-use replay::play::PlayError;
 use replay::respond::respond;
 use std::alloc::Global;
 use std::sync::Wait;
-use std::test::Fail;
 use std::thread::Threads;
 use std::time::Clock;
 
 const THREADS: [&str; 3] = ["lockreplay", "threads", PATH];
 
+// One call after the other, none of which sends a message, so that each run on threads is the same.
 const SCRIPT: &[u8] = b"cluster nodes 1 files 1 policy wide
 call 1 1 spawn
+settle
 call 1 2 exit
-declare 1
-call 1 1 spawn
+call 2 1 spawn
 ";
 
 const LISTING: &str = "refused
-line 5 code 15
+line 5 code 14
 replies
       1 1.1.1            done
       2 1.1.2            no-process
@@ -28,7 +26,8 @@ locks
 history
       1 1.1.1            1 spawn -> done
       2 1.1.2            2 exit -> no-process
-      3 gone             1.1
+receipts 2
+audit yes
 ";
 
 // The journal of the run of `SCRIPT`.
@@ -37,25 +36,19 @@ entry 1 call 1.1.1 1 spawn
 reply 1.1.1 done
 entry 2 call 1.1.2 2 exit
 reply 1.1.2 no-process
-entry 3 declare 1
-end 3
+end 2
 ";
 
 #[test]
-fn shows_the_receipts_and_the_audit(rt: HostRuntime) -> Result<(), Fail> {
+fn shows_the_receipts_and_the_audit(rt: HostRuntime) {
     let alloc = rt.alloc();
     let mut shelf = Shelf { bytes: SCRIPT };
-    for (held, status) in [(2, 0), (1, 1)] {
-        let threads = Alone { answered: 2, held };
-        let mut out = Vec::new(alloc);
-        let mut err = Vec::new(alloc);
-        let told = respond(&rt, alloc, &THREADS, &threads, &mut shelf, &mut out, &mut err);
-        let wanted = format!(in alloc; "{LISTING}receipts {held}\naudit yes\n")?;
-        assert_eq!(rt; str::from_utf8(out.as_slice())?, wanted.as_str());
-        assert_eq!(rt; err.as_slice(), b"".as_slice());
-        assert_eq!(rt; told, status);
-    }
-    Ok(())
+    let mut out = Vec::new(alloc);
+    let mut err = Vec::new(alloc);
+    let status = respond(&rt, alloc, &THREADS, &mut shelf, &mut out, &mut err);
+    assert_eq!(rt; out.as_slice(), LISTING.as_bytes());
+    assert_eq!(rt; err.as_slice(), b"".as_slice());
+    assert_eq!(rt; status, 0);
 }
 
 #[test]
@@ -63,21 +56,17 @@ fn writes_the_journal(rt: HostRuntime) {
     let alloc = rt.alloc();
     let mut out = Vec::new(alloc);
     let mut err = Vec::new(alloc);
-    let threads = Alone {
-        answered: 2,
-        held: 2,
-    };
     let mut desk = Desk {
         shelf: Shelf { bytes: SCRIPT },
         written: Vec::new(alloc),
     };
     let words = ["lockreplay", "threads", PATH, "--journal", JOURNAL];
-    let status = respond(&rt, alloc, &words, &threads, &mut desk, &mut out, &mut err);
+    let status = respond(&rt, alloc, &words, &mut desk, &mut out, &mut err);
     assert_eq!(rt; desk.written.as_slice(), TEXT);
     assert_eq!(rt; status, 0);
     let mut out = Vec::new(alloc);
     let mut shelf = Shelf { bytes: SCRIPT };
-    let status = respond(&rt, alloc, &words, &threads, &mut shelf, &mut out, &mut err);
+    let status = respond(&rt, alloc, &words, &mut shelf, &mut out, &mut err);
     assert_eq!(rt; out.as_slice(), b"".as_slice());
     assert_eq!(rt; err.as_slice(), b"cannot write a.journal\n".as_slice());
     assert_eq!(rt; status, 3);
@@ -92,12 +81,8 @@ fn is_refused<R: Threads + Wait + Clock + Sync>(
 ) -> bool {
     let mut out = Vec::new(alloc);
     let mut err = Vec::new(alloc);
-    let threads = Alone {
-        answered: 0,
-        held: 0,
-    };
     let mut shelf = Shelf { bytes };
-    let status = respond(rt, alloc, &THREADS, &threads, &mut shelf, &mut out, &mut err);
+    let status = respond(rt, alloc, &THREADS, &mut shelf, &mut out, &mut err);
     status == 3 && err.as_slice() == line && out.is_empty()
 }
 
@@ -105,37 +90,45 @@ fn is_refused<R: Threads + Wait + Clock + Sync>(
 fn refuses_the_first_bad_line(rt: HostRuntime) {
     let alloc = rt.alloc();
     let cases = [
-        ("cluster nodes 1 files 1 policy wide\nsettle\n# 3\nresend 1\n", "bad line 4\n"),
-        ("cluster nodes 1 files 1 policy wide\nlose 1\nsettled\n", "bad line 2\n"),
-        ("cluster nodes 1 files 1 policy wide\nsettled\nlose 1\n", "bad line 2\n"),
-        ("cluster nodes 1 files 1 policy wide\nsettle\nsettled\n", "bad line 3\n"),
+        (
+            "cluster nodes 1 files 1 policy wide\nsettle\n# 3\nresend 1\n",
+            "bad line 4\n",
+        ),
+        (
+            "cluster nodes 1 files 1 policy wide\nlose 1\nsettled\n",
+            "bad line 2\n",
+        ),
+        (
+            "cluster nodes 1 files 1 policy wide\nsettled\nlose 1\n",
+            "bad line 2\n",
+        ),
+        (
+            "cluster nodes 1 files 1 policy wide\nsettle\nsettled\n",
+            "bad line 3\n",
+        ),
         ("# 1\nlose 1\nlose 1\n", "bad line 2\n"),
-        ("cluster nodes 1 files 1 policy wide\nretry 1 1\nsettle", "bad line 2\n"),
-        ("cluster nodes 1 files 1 policy wide\nlearn 1 1 1\n", "bad line 2\n"),
-        ("cluster nodes 1 files 1 policy wide\ndeliver 1\n", "bad line 2\n"),
-        ("cluster nodes 1 files 1 policy wide\ninterrupt 1 1\n", "bad line 2\n"),
+        (
+            "cluster nodes 1 files 1 policy wide\nretry 1 1\nsettle",
+            "bad line 2\n",
+        ),
+        (
+            "cluster nodes 1 files 1 policy wide\nlearn 1 1 1\n",
+            "bad line 2\n",
+        ),
+        (
+            "cluster nodes 1 files 1 policy wide\ndeliver 1\n",
+            "bad line 2\n",
+        ),
+        (
+            "cluster nodes 1 files 1 policy wide\ninterrupt 1 1\n",
+            "bad line 2\n",
+        ),
         ("", "bad line 1\n"),
     ];
     for (text, line) in cases {
-        assert!(rt; is_refused(&rt, alloc, text.as_bytes(), line.as_bytes()), "{text}");
-    }
-}
-
-#[test]
-fn says_why_nothing_ran(rt: HostRuntime) {
-    let alloc = rt.alloc();
-    let cases = [
-        (PlayError::JournalFull, "journal full\n"),
-        (PlayError::NoMemory, "no memory\n"),
-    ];
-    for (error, line) in cases {
-        let mut out = Vec::new(alloc);
-        let mut err = Vec::new(alloc);
-        let mut shelf = Shelf { bytes: SCRIPT };
-        let threads = Nobody { error };
-        let status = respond(&rt, alloc, &THREADS, &threads, &mut shelf, &mut out, &mut err);
-        assert_eq!(rt; err.as_slice(), line.as_bytes());
-        assert_eq!(rt; out.as_slice(), b"".as_slice());
-        assert_eq!(rt; status, 4);
+        assert!(rt;
+            is_refused(&rt, alloc, text.as_bytes(), line.as_bytes()),
+            "{text}"
+        );
     }
 }

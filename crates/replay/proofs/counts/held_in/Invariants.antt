@@ -1,8 +1,8 @@
 -- The receipts before this one are counted.
 use Rattle.std.proofs.Common.{◌≤◌, take}
 use Rattle.book.specs.Receipts.{Holds}
-use Rattle.thread_replay.specs.Counts.{IsCount}
-use Rattle.thread_replay.proofs.counts.held_in.Given as goal
+use Rattle.replay.specs.Counts.{IsCount}
+use Rattle.replay.proofs.counts.held_in.Given as goal
 
 abbrev pub invariant-loop-receipt : goal.invariant-loop-receipt
 invariant-loop-receipt l = IsCount (Holds l.journal.entries) (take l.receipt-index l.receipts) l.held × (l.held ≤ l.receipt-index)
