@@ -2,18 +2,20 @@
 ghost use Rattle.std.specs.Prelude.{◌≡◌};
 
 use crate::commands::Commands;
+use crate::put::Put;
 use crate::queue_edit::QueueEdit;
 use crate::row_edits::RowEdits;
 use crate::token_request::TokenRequest;
 use messages::outcome::Outcome;
 use token_set::edit::TokenEdit;
 
-/// What an event changes of a server before it serves: new values of some nodes, of the queue, and of
-/// those that wait, and the request that is served from then on.
+/// What an event changes of a server before it serves: new values of some nodes, of the queue, the request
+/// that then comes last in it, the one that is served from then on, and those that wait.
 #[derive(Drop)]
 pub struct Draft {
     pub rows: RowEdits,
     pub queue: QueueEdit,
+    pub put: Option<Put>,
     pub active: Option<TokenRequest>,
     pub waiting: QueueEdit,
 }

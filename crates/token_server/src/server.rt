@@ -307,10 +307,11 @@ impl Server {
         ensures { IfOk result (λ draft. drafted self.now draft ≡ sketched self.now sketch.now) }
     {
         let rows = RowEdits::of(&self.clients, alloc, &sketch.changed)?;
-        let (queue, waiting) = sketch.moved(&self.queue, &self.waiting, alloc)?;
+        let (queue, put, waiting) = sketch.moved(&self.queue, &self.waiting, alloc)?;
         Ok(Draft {
             rows,
             queue,
+            put,
             active: sketch.active,
             waiting,
         })
@@ -326,13 +327,15 @@ impl Server {
         let Draft {
             rows,
             queue,
+            put,
             waiting,
             ..
         } = draft;
-        let (queue, active) = queue.taking(&self.queue)?;
+        let (queue, active) = queue.taking_with(&self.queue, put)?;
         Ok(Draft {
             rows,
             queue,
+            put: None,
             active,
             waiting,
         })
@@ -587,6 +590,7 @@ impl Server {
                 draft: Draft {
                     rows: RowEdits::new(alloc),
                     queue: QueueEdit::Same,
+                    put: None,
                     active: self.active,
                     waiting: QueueEdit::Same,
                 },
@@ -703,11 +707,13 @@ impl Server {
         let Draft {
             rows,
             queue,
+            put,
             active,
             waiting,
         } = draft;
         self.clients.apply(rows);
         self.queue.apply(queue);
+        self.queue.put(put);
         self.active = active;
         self.waiting.apply(waiting);
     }

@@ -4,11 +4,12 @@ ghost use Rattle.std.specs.Option.{option_map};
 ghost use Rattle.token_server.specs.Serve.{row_conflicts};
 ghost use Rattle.token_server.specs.Parts.{rows_of};
 ghost use Rattle.token_server.specs.Sketches.{commands_of, rows_after, dropped, dropped_to, without, queue_moved, waiting_moved};
-ghost use Rattle.token_server.specs.Edits.{queue_after};
+ghost use Rattle.token_server.specs.Edits.{queue_after, put_after};
 
 use crate::clients::Clients;
 use crate::commands::Commands;
 use crate::node_change::NodeChange;
+use crate::put::Put;
 use crate::queue_edit::QueueEdit;
 use crate::requests::Requests;
 use crate::token_request::TokenRequest;
@@ -132,7 +133,7 @@ impl Sketch {
         Ok((kept_queue, kept_waiting))
     }
 
-    /// How the queue changes, and those that wait.
+    /// How the queue changes, the request that then comes last in it, and how those that wait change.
     ///
     /// # Errors
     /// `NoMemory` where a request for memory was refused.
@@ -141,20 +142,26 @@ impl Sketch {
         queue: &Requests,
         waiting: &Requests,
         alloc: Global,
-    ) -> Result<(QueueEdit, QueueEdit), NoMemory>
-        ensures queue { IfOk result (λ r. queue_after r.0 queue.now ≡ queue_moved self.now.moved (without (dropped self.now.changed) queue.now) (without (dropped self.now.changed) waiting.now)) }
-        ensures waiting { IfOk result (λ r. queue_after r.1 waiting.now ≡ waiting_moved self.now.moved (without (dropped self.now.changed) waiting.now)) }
+    ) -> Result<(QueueEdit, Option<Put>, QueueEdit), NoMemory>
+        ensures queue { IfOk result (λ r. put_after r.1 (queue_after r.0 queue.now) ≡ queue_moved self.now.moved (without (dropped self.now.changed) queue.now) (without (dropped self.now.changed) waiting.now)) }
+        ensures waiting { IfOk result (λ r. queue_after r.2 waiting.now ≡ waiting_moved self.now.moved (without (dropped self.now.changed) waiting.now)) }
     {
         let (queued, left) = self.kept(queue, waiting)?;
         match self.moved {
-            Moved::Nothing => Ok((queued, left)),
-            Moved::New(request) => Ok((queued.pushing(queue, request)?, left)),
-            Moved::Again { call, request } => {
-                let queued = queued.pushing(queue, request)?;
-                Ok((queued, left.forgetting_call(waiting, call)?))
+            Moved::Nothing => Ok((queued, None, left)),
+            Moved::New(request) => {
+                let (queued, put) = queued.putting(queue, request)?;
+                Ok((queued, put, left))
             }
-            Moved::Waiting => requeue(queue, waiting, alloc, queued, left),
-            Moved::PutOff(request) => Ok((queued, left.pushing(waiting, request)?)),
+            Moved::Again { call, request } => {
+                let (queued, put) = queued.putting(queue, request)?;
+                Ok((queued, put, left.forgetting_call(waiting, call)?))
+            }
+            Moved::Waiting => {
+                let (queued, left) = requeue(queue, waiting, alloc, queued, left)?;
+                Ok((queued, None, left))
+            }
+            Moved::PutOff(request) => Ok((queued, None, left.pushing(waiting, request)?)),
         }
     }
 }
