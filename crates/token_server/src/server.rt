@@ -356,6 +356,9 @@ impl Server {
         ensures within { IsSome result ↔ (conflicting_node (sketched self.now sketch.now) request.now ≤ self.now.shape.nodes) }
         ensures value { IfSome result (λ node. node ≡ conflicting_node (sketched self.now sketch.now) request.now) }
     {
+        if sketch.conflicts_nowhere(&self.clients, request.required(), request.mode) {
+            return None;
+        }
         for place in 0..self.shape.nodes() {
             if self.conflicts_at(sketch, place + 1, request) {
                 return Some(place + 1);

@@ -1,5 +1,5 @@
 //! What an event changes of a token server before it serves.
-ghost use Rattle.std.specs.Prelude.{◌≡◌, ◌≤◌, ◌++◌, [], IfOk, slice_get, Some, None};
+ghost use Rattle.std.specs.Prelude.{◌≡◌, ℕ, ◌≤◌, ◌++◌, [], true, false, IfOk, slice_get, Some, None};
 ghost use Rattle.std.specs.Option.{option_map};
 ghost use Rattle.token_server.specs.Serve.{row_conflicts};
 ghost use Rattle.token_server.specs.Parts.{rows_of};
@@ -92,6 +92,17 @@ impl Sketch {
                 Some(row) => row.token.conflicts(span, mode),
                 None => false,
             },
+        }
+    }
+
+    /// Whether it is known at once that no row conflicts with the mode at a byte of the span.
+    pub fn conflicts_nowhere(&self, clients: &Clients, span: Span, mode: Mode) -> bool
+        ensures { result ≡ true → (node : ℕ) → row_conflicts (rows_after self.now.changed (rows_of clients.now) node) span mode ≡ false }
+    {
+        let _ = &span.hi; // tells the proof that the span ends within the file
+        match mode {
+            Mode::Read => clients.excludes_none(),
+            Mode::Write => false,
         }
     }
 
