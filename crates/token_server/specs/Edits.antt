@@ -123,4 +123,4 @@ with_given (Some g) p = record (server_state p) { rows = with_given_row g p.clie
 
 -- the state of a server once the edit is made
 abbrev pub planned : ServerParts → Edit → ServerState
-planned p e = with_given e.given (drafted_parts e.draft p)
+planned p e = with_given e.parts.value.given (drafted_parts e.parts.value.draft p)

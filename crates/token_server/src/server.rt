@@ -15,7 +15,7 @@ ghost use Rattle.token_server.specs.Sketches.{dropped, without, moved_for, queue
 ghost use Rattle.token_server.specs.Edits.{queue_after, drafted_parts, drafted, with_given, planned};
 
 use crate::active::{denial, is_active, put_off, same_request, unless_of_call, unless_up_to};
-use crate::change::{Change, Draft, Edit, Given};
+use crate::change::{Change, Draft, Edit, Given, Parts};
 use crate::clients::Clients;
 use crate::commands::Commands;
 use crate::event::ServerEvent;
@@ -516,7 +516,7 @@ impl Server {
         let draft = self.settle(sketch, alloc)?;
         let draft = self.admit(draft)?;
         let (given, sends) = self.command(&draft, alloc, holder)?;
-        Ok((Edit { draft, given }, sends))
+        Ok((Edit::new(alloc, draft, given)?, sends))
     }
 
     // What a message changes before the server serves, and what is sent for it, or `None` where it does
@@ -587,23 +587,21 @@ impl Server {
     }
 
     // Nothing changes, nothing is sent.
-    fn no_change(&self, alloc: Global) -> Change
-        ensures state { planned self.now result.edit ≡ server_state self.now }
-        ensures outcome { result.outcome ≡ sending [] }
+    fn no_change(&self, alloc: Global) -> Result<Change, NoMemory>
+        ensures state { IfOk result (λ change. planned self.now change.edit ≡ server_state self.now) }
+        ensures outcome { IfOk result (λ change. change.outcome ≡ sending []) }
     {
-        Change {
-            edit: Edit {
-                draft: Draft {
-                    rows: RowEdits::new(alloc),
-                    queue: QueueEdit::Same,
-                    put: None,
-                    active: self.active,
-                    waiting: QueueEdit::Same,
-                },
-                given: None,
-            },
+        let draft = Draft {
+            rows: RowEdits::new(alloc),
+            queue: QueueEdit::Same,
+            put: None,
+            active: self.active,
+            waiting: QueueEdit::Same,
+        };
+        Ok(Change {
+            edit: Edit::new(alloc, draft, None)?,
             outcome: Outcome::sending(Items::new(alloc)),
-        }
+        })
     }
 
     // Takes a message of a node of the cluster to this server.
@@ -615,11 +613,11 @@ impl Server {
     {
         let host = message.host();
         if host.incarnation <= self.clients.dead(host.node) {
-            return Ok(self.no_change(alloc));
+            return Ok(self.no_change(alloc)?);
         }
         match self.deliver(message) {
             Some((sketch, first)) => self.serve_after(&sketch, alloc, first),
-            None => Ok(self.no_change(alloc)),
+            None => Ok(self.no_change(alloc)?),
         }
     }
 
@@ -700,7 +698,7 @@ impl Server {
         ensures outcome { result ≡ change.outcome }
     {
         let Change { edit, outcome } = change;
-        let Edit { draft, given } = edit;
+        let Parts { draft, given } = Box::into_inner(edit.parts);
         self.draft(draft);
         self.give(given);
         outcome
