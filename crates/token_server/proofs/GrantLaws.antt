@@ -141,3 +141,13 @@ narrowed-free s r k none within other =
 -- after the last row it is the granted span
 pub narrowed-end : (s : ServerState) (r : TokenRequest) (k : ℕ) (span : Range) → IsNarrowed s r k span → k ≡ s.shape.nodes → span ≡ granted_span s r
 narrowed-end s r k span n end = n.value ∙ ap (λ k. largest_around (λ b. some_passes (λ n. conflicts_at_byte s r n b) 1 k) r.wanted.required r.wanted.desired) end
+
+-- what the request would like to have is just what it needs
+pub granted-exact : (s : ServerState) (r : TokenRequest) → s.shape.nodes < conflicting_node s r → r.wanted.required.lo ≤ r.wanted.required.hi → r.wanted.desired.lo ≡ r.wanted.required.lo → r.wanted.desired.hi ≡ r.wanted.required.hi → r.wanted.desired ≡ granted_span s r
+granted-exact s r none order starts ends =
+    sym (largest_around-free (λ b. some_passes (λ n. conflicts_at_byte s r n b) 1 s.shape.nodes) r.wanted.required r.wanted.desired order (omega arith) (omega arith) free)
+  where
+    free : NoneIn (λ b. some_passes (λ n. conflicts_at_byte s r n b) 1 s.shape.nodes ≡ true) r.wanted.desired
+    free b above below some =
+        let one = some_passes-first (λ n. conflicts_at_byte s r n b) 1 s.shape.nodes some in
+        none_at_byte s r _ (no_conflict s r none _ one.above (omega (arith, one.below))) b (omega arith) (omega arith) one.here

@@ -10,4 +10,5 @@ pub mod EditLaws
 pub mod ViewLaws
 pub mod RefusalLaws
 pub mod CareLaws
+pub mod MarkLaws
 pub mod WaitLaws

@@ -1,10 +1,11 @@
 -- What a planned step changes of a server, and no more.
-use Rattle.std.specs.Prelude.{◌≡◌, ℕ, ◌+◌, ◌-◌, ◌==◌, if◌then◌else◌, List, [], ◌∷◌, drop, slice_get, slice_set, Option, Some, None}
+use Rattle.std.specs.Prelude.{◌≡◌, ℕ, ◌+◌, ◌-◌, ◌==◌, nat_le, if◌then◌else◌, List, [], ◌∷◌, ◌++◌, drop, length, slice_get, slice_set, Option, Some, None}
 use Rattle.token_set.specs.declared.edit.TokenEdit.{TokenEdit}
 use Rattle.token_set.specs.Edits.{edited as edited_token}
 use Rattle.token_set.specs.Sets.{token_of}
 use Rattle.intervals.specs.declared.vec_map.VecMap.{VecMap}
 use Rattle.model.specs.declared.level.Level.{Level}
+use Rattle.token_server.specs.declared.put.Put.{Put}
 use Rattle.token_server.specs.declared.queue_edit.QueueEdit.{QueueEdit}
 use Rattle.token_server.specs.declared.queue_edit.QueueEdit.TheVariants.{Same, Taken, Whole}
 use Rattle.token_server.specs.declared.token_request.TokenRequest.{TokenRequest}
@@ -82,9 +83,14 @@ queue_after Same queue = queue
 queue_after Taken queue = drop 1 queue
 queue_after (Whole new) queue = new
 
+-- the queue once the request comes last, where it has no more requests than that is planned for
+abbrev pub put_after : Option Put → List TokenRequest → List TokenRequest
+put_after None queue = queue
+put_after (Some put) queue = if nat_le (length queue) put.most then queue ++ put.request ∷ [] else queue
+
 -- the server's parts once the draft is made
 abbrev pub drafted_parts : Draft → ServerParts → ServerParts
-drafted_parts e p = record p { clients = overlaid p.clients e.rows; queue = queue_after e.queue p.queue; active = e.active; waiting = queue_after e.waiting p.waiting }
+drafted_parts e p = record p { clients = overlaid p.clients e.rows; queue = put_after e.put (queue_after e.queue p.queue); active = e.active; waiting = queue_after e.waiting p.waiting }
 
 -- the state that they stand for
 abbrev pub drafted : ServerParts → Draft → ServerState
@@ -117,4 +123,4 @@ with_given (Some g) p = record (server_state p) { rows = with_given_row g p.clie
 
 -- the state of a server once the edit is made
 abbrev pub planned : ServerParts → Edit → ServerState
-planned p e = with_given e.given (drafted_parts e.draft p)
+planned p e = with_given e.parts.value.given (drafted_parts e.parts.value.draft p)

@@ -1,5 +1,5 @@
 //! Requests of which no two are of one call.
-ghost use Rattle.std.specs.Prelude.{◌≡◌, ◌++◌, ◌∷◌, [], not, filter, find, drop, slice_get, None, IfOk, OnOk};
+ghost use Rattle.std.specs.Prelude.{◌≡◌, ◌++◌, ◌∷◌, [], true, false, not, filter, find, drop, slice_get, None, IfOk, OnOk, OnErr};
 ghost use Rattle.token_server.specs.State.{is_of_call, is_up_to};
 
 use crate::token_request::TokenRequest;
@@ -75,10 +75,28 @@ impl ByCall {
     /// `NoMemory` where a request for memory was refused.
     pub fn push(&mut self, request: TokenRequest) -> Result<(), NoMemory>
         requires { find (is_of_call request.call) self.old ≡ None }
-        ensures { OnOk result (self.new ≡ self.old ++ request ∷ []) }
+        ensures ok { OnOk result (self.new ≡ self.old ++ request ∷ []) }
+        ensures err { OnErr result (self.new ≡ self.old) }
     {
         self.requests.insert(request.call, request)?;
         Ok(())
+    }
+
+    /// Whether there is a place for one more request, so that `push` takes no memory.
+    pub fn has_place(&self) -> bool {
+        self.requests.len() < self.requests.capacity()
+    }
+
+    /// The request comes last from now on where there is a place for it and none of its call; whether it
+    /// does. Takes no memory.
+    pub fn try_put(&mut self, request: TokenRequest) -> bool
+        ensures put { result ≡ true → self.new ≡ self.old ++ request ∷ [] }
+        ensures same { result ≡ false → self.new ≡ self.old }
+    {
+        if !self.has_place() || self.find(request.call).is_some() {
+            return false;
+        }
+        self.push(request).is_ok()
     }
 
     /// Takes the first request out, if there is one. The others keep their order.

@@ -1,19 +1,23 @@
 //! What a step of a token server changes.
-ghost use Rattle.std.specs.Prelude.{◌≡◌};
+ghost use Rattle.std.specs.Prelude.{◌≡◌, IfOk};
 
 use crate::commands::Commands;
+use crate::put::Put;
 use crate::queue_edit::QueueEdit;
 use crate::row_edits::RowEdits;
 use crate::token_request::TokenRequest;
+use intervals::span_map::NoMemory;
 use messages::outcome::Outcome;
+use std::alloc::Global;
 use token_set::edit::TokenEdit;
 
-/// What an event changes of a server before it serves: new values of some nodes, of the queue, and of
-/// those that wait, and the request that is served from then on.
+/// What an event changes of a server before it serves: new values of some nodes, of the queue, the request
+/// that then comes last in it, the one that is served from then on, and those that wait.
 #[derive(Drop)]
 pub struct Draft {
     pub rows: RowEdits,
     pub queue: QueueEdit,
+    pub put: Option<Put>,
     pub active: Option<TokenRequest>,
     pub waiting: QueueEdit,
 }
@@ -27,11 +31,28 @@ pub struct Given {
     pub token: TokenEdit,
 }
 
-/// What a step changes: what the event changes, and then what a node is given.
+/// What the event changes, and then what a node is given.
 #[derive(Drop)]
-pub struct Edit {
+pub struct Parts {
     pub draft: Draft,
     pub given: Option<Given>,
+}
+
+/// What a step changes. It is in a box, since it is handed up by value through many calls.
+#[derive(Drop)]
+pub struct Edit {
+    pub parts: Box<Parts>,
+}
+
+impl Edit {
+    /// What the event changes, and then what a node is given.
+    pub(crate) fn new(alloc: Global, draft: Draft, given: Option<Given>) -> Result<Edit, NoMemory>
+        ensures { IfOk result (λ edit. edit.parts.value ≡ record { draft = draft; given = given }) }
+    {
+        Ok(Edit {
+            parts: Box::new(alloc, Parts { draft, given })?,
+        })
+    }
 }
 
 /// A step that is planned: what it changes, and what it gives.

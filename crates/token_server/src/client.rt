@@ -1,7 +1,9 @@
 //! Nodes, as a token server knows them.
-ghost use Rattle.std.specs.Prelude.{◌≡◌, ◌↔◌, IsTrue, IfOk, Some, None};
+ghost use Rattle.std.specs.Prelude.{◌≡◌, ◌↔◌, ◌||◌, IsTrue, IfOk, Some, None};
 ghost use Rattle.std.specs.Option.{option_map, option_copied};
+ghost use Rattle.intervals.specs.Bytes.{whole};
 ghost use Rattle.token_server.specs.State.{row_above};
+ghost use Rattle.token_server.specs.Serve.{row_conflicts};
 ghost use Rattle.token_server.specs.Parts.{row_seen, SameKnown};
 ghost use Rattle.token_server.specs.Resends.{outstanding_of};
 ghost use Rattle.token_server.specs.Edits.{seen_row, commands_in, token_in, client_after, row_with, row_kept, given_to_row, answered_with};
@@ -9,8 +11,10 @@ ghost use Rattle.token_server.specs.Edits.{seen_row, commands_in, token_in, clie
 use crate::commands::Commands;
 use crate::row_edits::{RowAfter, RowEdit};
 use crate::token_holder::{RowView, TokenHolder};
+use intervals::span::{GREATEST, Span};
 use intervals::span_map::NoMemory;
 use messages::message::Message;
+use model::mode::Mode;
 use token_set::edit::TokenEdit;
 use token_set::set::TokenSet;
 
@@ -102,6 +106,27 @@ impl Client {
         match &self.row {
             Some(row) => row.commands.outstanding,
             None => None,
+        }
+    }
+
+    /// Whether a byte of its row's token is exclusive, or that is noted of another.
+    pub fn notes_exclusive(&self, noted: bool) -> bool
+        ensures { result ≡ (noted || row_conflicts (row_seen self.now.row) whole Mode.Read) }
+    {
+        noted || self.has_exclusive()
+    }
+
+    // Whether a byte of its row's token is exclusive.
+    fn has_exclusive(&self) -> bool
+        ensures { result ≡ row_conflicts (row_seen self.now.row) whole Mode.Read }
+    {
+        let every_byte = Span {
+            lo: 0,
+            hi: GREATEST,
+        };
+        match &self.row {
+            Some(row) => row.token.conflicts(every_byte, Mode::Read),
+            None => false,
         }
     }
 

@@ -1,11 +1,12 @@
 //! The nodes of a cluster, as a token server knows them.
-ghost use Rattle.std.specs.Prelude.{◌≡◌, ℕ, ◌<◌, ◌≤◌, ◌↔◌, length, All, IsTrue, IfOk, IfSome, Some, None};
+ghost use Rattle.std.specs.Prelude.{◌≡◌, ℕ, ◌<◌, ◌≤◌, ◌↔◌, true, length, slice_get, All, IsTrue, IfOk, IfSome, Some, None};
 ghost use Rattle.std.specs.Option.{option_copied};
 ghost use Rattle.model.specs.Limits.{IsNumber};
 ghost use Rattle.token_server.specs.Parts.{row_seen, row_state, client_at, rows_of, deaths_of, SameClients};
 ghost use Rattle.token_server.specs.Resends.{outstanding_to};
 ghost use Rattle.token_server.specs.Server.{row_of_incarnation};
-ghost use Rattle.token_server.specs.Edits.{overlaid, with_given_row};
+ghost use Rattle.token_server.specs.Edits.{with_client, overlaid, with_given_row};
+ghost use Rattle.token_server.specs.Marks.{NoneExclusive};
 
 use crate::change::Given;
 use crate::client::Client;
@@ -22,6 +23,8 @@ use std::marker::Model;
 #[derive(Drop)]
 pub struct Clients {
     clients: Vec<Client>,
+    // Whether a row may have an exclusive byte: where none has, no row stands in a reader's way.
+    may_exclude: bool,
 }
 
 impl Model for Clients {
@@ -31,6 +34,12 @@ impl Model for Clients {
     ghost Value = { List Client };
 
     ghost view = { λ c. c.clients.items };
+
+    ghost use Rattle.std.specs.Prelude.{◌≡◌, false};
+    ghost use Rattle.token_server.specs.Parts.{rows_of};
+    ghost use Rattle.token_server.specs.Marks.{NoneExclusive};
+
+    ghost invariant = { λ c. c.may_exclude ≡ false → NoneExclusive (rows_of c.clients.items) };
 }
 
 // So many nodes of which nothing is known yet.
@@ -54,18 +63,6 @@ fn copies(alloc: Global, clients: &[Client]) -> Result<Vec<Client>, NoMemory>
         copies.push(client.copy()?)?;
     }
     Ok(copies)
-}
-
-// Makes the edits in order, and uses them up.
-fn overlay(clients: &mut [Client], edits: &mut Vec<RowEdit>)
-    ensures { clients.new ≡ overlaid clients.old edits.old.items }
-{
-    while !edits.is_empty() {
-        let edit = edits.remove(0);
-        if edit.place < clients.len() {
-            clients[edit.place].change(edit);
-        }
-    }
 }
 
 // Whether the same is known of each two.
@@ -93,6 +90,7 @@ impl Clients {
     {
         Ok(Clients {
             clients: unknown(alloc, nodes)?,
+            may_exclude: false,
         })
     }
 
@@ -144,12 +142,33 @@ impl Clients {
         }
     }
 
+    /// Whether it is known at once that no row has an exclusive byte.
+    pub fn excludes_none(&self) -> bool
+        ensures { result ≡ true → NoneExclusive (rows_of self.now) }
+    {
+        !self.may_exclude
+    }
+
+    // The edit is made, if a node stands at its place.
+    fn change(&mut self, edit: RowEdit)
+        ensures { self.new ≡ with_client self.old edit (slice_get self.old edit.place) }
+    {
+        let place = edit.place;
+        if place < self.clients.len() {
+            self.clients[place].change(edit);
+            self.may_exclude = self.clients[place].notes_exclusive(self.may_exclude);
+        }
+    }
+
     /// The edits are made. Takes no memory.
     pub fn apply(&mut self, edits: RowEdits)
         ensures { self.new ≡ overlaid self.old edits }
     {
         let mut edits = edits.into_edits();
-        overlay(&mut self.clients, &mut edits);
+        while !edits.is_empty() {
+            let edit = edits.remove(0);
+            self.change(edit);
+        }
     }
 
     /// The commands that have no answer yet, by rising node.
@@ -181,6 +200,7 @@ impl Clients {
         } = given;
         if place < self.clients.len() {
             self.clients[place].put(commands, token);
+            self.may_exclude = self.clients[place].notes_exclusive(self.may_exclude);
         }
     }
 
@@ -193,6 +213,7 @@ impl Clients {
     {
         Ok(Clients {
             clients: copies(*self.clients.allocator(), &self.clients)?,
+            may_exclude: self.may_exclude,
         })
     }
 

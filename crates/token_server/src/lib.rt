@@ -11,6 +11,7 @@ pub mod event;
 pub mod laws;
 mod lowered;
 mod node_change;
+mod put;
 pub mod queue_edit;
 mod requests;
 mod row_edits;

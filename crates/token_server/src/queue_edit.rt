@@ -4,8 +4,9 @@ ghost use Rattle.std.specs.List.{list_any};
 ghost use Rattle.token_server.specs.declared.queue_edit.QueueEdit.TheVariants.{Same};
 ghost use Rattle.token_server.specs.State.{is_of_call, is_up_to};
 ghost use Rattle.token_server.specs.Server.{request_of};
-ghost use Rattle.token_server.specs.Edits.{queue_after};
+ghost use Rattle.token_server.specs.Edits.{queue_after, put_after};
 
+use crate::put::Put;
 use crate::requests::{self, Requests};
 use crate::token_request::TokenRequest;
 use intervals::span_map::NoMemory;
@@ -23,8 +24,8 @@ pub enum QueueEdit {
 }
 
 impl QueueEdit {
-    // Whether the queue stays.
-    fn is_same(&self) -> bool
+    /// Whether the queue stays.
+    pub fn is_same(&self) -> bool
         ensures { IsTrue result ↔ (self.now ≡ Same) }
     {
         match self {
@@ -139,6 +140,42 @@ impl QueueEdit {
             return Ok((QueueEdit::Taken, queue.as_slice().first().copied()));
         }
         let mut new = self.into_queue(queue)?;
+        let first = new.take_first();
+        Ok((QueueEdit::Whole(new), first))
+    }
+
+    /// The edit, and then the request comes last: the edit from then on, and the request that is yet to come
+    /// last, where the queue stays and has a place for it.
+    pub fn putting(
+        self,
+        queue: &Requests,
+        request: TokenRequest,
+    ) -> Result<(QueueEdit, Option<Put>), NoMemory>
+        ensures { IfOk result (λ r. put_after r.1 (queue_after r.0 queue.now) ≡ queue_after self queue.now ++ request ∷ []) }
+    {
+        if self.is_same() && queue.has_place() {
+            return Ok((QueueEdit::Same, Some(queue.plan_put(request)?)));
+        }
+        Ok((self.pushing(queue, request)?, None))
+    }
+
+    /// The edit, and then the request comes last, if there is one, and then the first goes, which is answered.
+    pub fn taking_with(
+        self,
+        queue: &Requests,
+        put: Option<Put>,
+    ) -> Result<(QueueEdit, Option<TokenRequest>), NoMemory>
+        ensures rest { IfOk result (λ r. queue_after r.0 queue.now ≡ drop 1 (put_after put (queue_after self queue.now))) }
+        ensures first { IfOk result (λ r. r.1 ≡ slice_get (put_after put (queue_after self queue.now)) 0) }
+    {
+        let Some(put) = put else {
+            return self.taking(queue);
+        };
+        if self.requests(queue).is_empty() {
+            return Ok((self, Some(put.request)));
+        }
+        let mut new = self.into_queue(queue)?;
+        new.put(Some(put));
         let first = new.take_first();
         Ok((QueueEdit::Whole(new), first))
     }

@@ -1,9 +1,10 @@
 //! Requests that a server holds, in order.
-ghost use Rattle.std.specs.Prelude.{◌≡◌, ◌↔◌, ◌++◌, ◌∷◌, [], not, filter, find, drop, slice_get, IfOk, OnOk, IsTrue};
+ghost use Rattle.std.specs.Prelude.{◌≡◌, ◌↔◌, ◌≤◌, ◌++◌, ◌∷◌, [], true, false, not, filter, find, drop, length, slice_get, Some, IfOk, OnOk, IsTrue};
 ghost use Rattle.token_server.specs.State.{is_of_call, is_up_to};
-ghost use Rattle.token_server.specs.Edits.{queue_after};
+ghost use Rattle.token_server.specs.Edits.{queue_after, put_after};
 
 use crate::by_call::ByCall;
+use crate::put::Put;
 use crate::queue_edit::QueueEdit;
 use crate::token_request::TokenRequest;
 use intervals::span_map::NoMemory;
@@ -132,6 +133,71 @@ impl Requests {
             }
         }
         self.push_in_order(request)
+    }
+
+    /// Whether there is a place for one more request, so that `put` moves none.
+    pub fn has_place(&self) -> bool {
+        match &self.kept {
+            Kept::ByCall(requests) => requests.has_place(),
+            Kept::InOrder(_) => false,
+        }
+    }
+
+    /// The request is to come last of as many requests as now.
+    ///
+    /// # Errors
+    /// `NoMemory` where a request for memory was refused.
+    pub fn plan_put(&self, request: TokenRequest) -> Result<Put, NoMemory>
+        ensures { IfOk result (λ put. put_after (Some put) self.now ≡ self.now ++ request ∷ []) }
+    {
+        let most = self.as_slice().len();
+        Ok(Put {
+            request,
+            most,
+            room: Vec::with_capacity(self.allocator(), most.saturating_add(1))?,
+        })
+    }
+
+    // The request comes last where there is a place for it by its call; whether it does.
+    fn try_put(&mut self, request: TokenRequest) -> bool
+        ensures put { result ≡ true → self.new ≡ self.old ++ request ∷ [] }
+        ensures same { result ≡ false → self.new ≡ self.old }
+    {
+        match &mut self.kept {
+            Kept::ByCall(requests) => requests.try_put(request),
+            Kept::InOrder(_) => false,
+        }
+    }
+
+    // The request comes last, in a plain list from now on.
+    fn put_in_order(&mut self, put: Put)
+        requires { length self.old ≤ put.most }
+        ensures { self.new ≡ self.old ++ put.request ∷ [] }
+    {
+        let Put { request, room, .. } = put;
+        let mut all = room;
+        let Ok(()) = all.extend_from_slice(self.as_slice()) else {
+            unreachable!()
+        };
+        let Ok(()) = all.push(request) else {
+            unreachable!()
+        };
+        self.kept = Kept::InOrder(all);
+    }
+
+    /// A request that was to come last does, if there is one. Takes no memory.
+    pub fn put(&mut self, put: Option<Put>)
+        ensures { self.new ≡ put_after put self.old }
+    {
+        let Some(put) = put else {
+            return;
+        };
+        if self.as_slice().len() > put.most {
+            return;
+        }
+        if !self.try_put(put.request) {
+            self.put_in_order(put);
+        }
     }
 
     /// The requests come last from now on, in their order.

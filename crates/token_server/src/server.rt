@@ -15,7 +15,7 @@ ghost use Rattle.token_server.specs.Sketches.{dropped, without, moved_for, queue
 ghost use Rattle.token_server.specs.Edits.{queue_after, drafted_parts, drafted, with_given, planned};
 
 use crate::active::{denial, is_active, put_off, same_request, unless_of_call, unless_up_to};
-use crate::change::{Change, Draft, Edit, Given};
+use crate::change::{Change, Draft, Edit, Given, Parts};
 use crate::clients::Clients;
 use crate::commands::Commands;
 use crate::event::ServerEvent;
@@ -307,10 +307,11 @@ impl Server {
         ensures { IfOk result (λ draft. drafted self.now draft ≡ sketched self.now sketch.now) }
     {
         let rows = RowEdits::of(&self.clients, alloc, &sketch.changed)?;
-        let (queue, waiting) = sketch.moved(&self.queue, &self.waiting, alloc)?;
+        let (queue, put, waiting) = sketch.moved(&self.queue, &self.waiting, alloc)?;
         Ok(Draft {
             rows,
             queue,
+            put,
             active: sketch.active,
             waiting,
         })
@@ -326,13 +327,15 @@ impl Server {
         let Draft {
             rows,
             queue,
+            put,
             waiting,
             ..
         } = draft;
-        let (queue, active) = queue.taking(&self.queue)?;
+        let (queue, active) = queue.taking_with(&self.queue, put)?;
         Ok(Draft {
             rows,
             queue,
+            put: None,
             active,
             waiting,
         })
@@ -353,6 +356,9 @@ impl Server {
         ensures within { IsSome result ↔ (conflicting_node (sketched self.now sketch.now) request.now ≤ self.now.shape.nodes) }
         ensures value { IfSome result (λ node. node ≡ conflicting_node (sketched self.now sketch.now) request.now) }
     {
+        if sketch.conflicts_nowhere(&self.clients, request.required(), request.mode) {
+            return None;
+        }
         for place in 0..self.shape.nodes() {
             if self.conflicts_at(sketch, place + 1, request) {
                 return Some(place + 1);
@@ -400,6 +406,9 @@ impl Server {
     {
         let required = request.required();
         let mut span = request.desired();
+        if span.lo == required.lo && span.hi == required.hi {
+            return span;
+        }
         for place in 0..self.shape.nodes() {
             if !request.is_of_node(place + 1) {
                 span = draft
@@ -507,7 +516,7 @@ impl Server {
         let draft = self.settle(sketch, alloc)?;
         let draft = self.admit(draft)?;
         let (given, sends) = self.command(&draft, alloc, holder)?;
-        Ok((Edit { draft, given }, sends))
+        Ok((Edit::new(alloc, draft, given)?, sends))
     }
 
     // What a message changes before the server serves, and what is sent for it, or `None` where it does
@@ -578,22 +587,21 @@ impl Server {
     }
 
     // Nothing changes, nothing is sent.
-    fn no_change(&self, alloc: Global) -> Change
-        ensures state { planned self.now result.edit ≡ server_state self.now }
-        ensures outcome { result.outcome ≡ sending [] }
+    fn no_change(&self, alloc: Global) -> Result<Change, NoMemory>
+        ensures state { IfOk result (λ change. planned self.now change.edit ≡ server_state self.now) }
+        ensures outcome { IfOk result (λ change. change.outcome ≡ sending []) }
     {
-        Change {
-            edit: Edit {
-                draft: Draft {
-                    rows: RowEdits::new(alloc),
-                    queue: QueueEdit::Same,
-                    active: self.active,
-                    waiting: QueueEdit::Same,
-                },
-                given: None,
-            },
+        let draft = Draft {
+            rows: RowEdits::new(alloc),
+            queue: QueueEdit::Same,
+            put: None,
+            active: self.active,
+            waiting: QueueEdit::Same,
+        };
+        Ok(Change {
+            edit: Edit::new(alloc, draft, None)?,
             outcome: Outcome::sending(Items::new(alloc)),
-        }
+        })
     }
 
     // Takes a message of a node of the cluster to this server.
@@ -605,11 +613,11 @@ impl Server {
     {
         let host = message.host();
         if host.incarnation <= self.clients.dead(host.node) {
-            return Ok(self.no_change(alloc));
+            return Ok(self.no_change(alloc)?);
         }
         match self.deliver(message) {
             Some((sketch, first)) => self.serve_after(&sketch, alloc, first),
-            None => Ok(self.no_change(alloc)),
+            None => Ok(self.no_change(alloc)?),
         }
     }
 
@@ -690,7 +698,7 @@ impl Server {
         ensures outcome { result ≡ change.outcome }
     {
         let Change { edit, outcome } = change;
-        let Edit { draft, given } = edit;
+        let Parts { draft, given } = Box::into_inner(edit.parts);
         self.draft(draft);
         self.give(given);
         outcome
@@ -703,11 +711,13 @@ impl Server {
         let Draft {
             rows,
             queue,
+            put,
             active,
             waiting,
         } = draft;
         self.clients.apply(rows);
         self.queue.apply(queue);
+        self.queue.put(put);
         self.active = active;
         self.waiting.apply(waiting);
     }

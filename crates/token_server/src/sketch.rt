@@ -1,14 +1,15 @@
 //! What an event changes of a token server before it serves.
-ghost use Rattle.std.specs.Prelude.{◌≡◌, ◌≤◌, ◌++◌, [], IfOk, slice_get, Some, None};
+ghost use Rattle.std.specs.Prelude.{◌≡◌, ℕ, ◌≤◌, ◌++◌, [], true, false, IfOk, slice_get, Some, None};
 ghost use Rattle.std.specs.Option.{option_map};
 ghost use Rattle.token_server.specs.Serve.{row_conflicts};
 ghost use Rattle.token_server.specs.Parts.{rows_of};
 ghost use Rattle.token_server.specs.Sketches.{commands_of, rows_after, dropped, dropped_to, without, queue_moved, waiting_moved};
-ghost use Rattle.token_server.specs.Edits.{queue_after};
+ghost use Rattle.token_server.specs.Edits.{queue_after, put_after};
 
 use crate::clients::Clients;
 use crate::commands::Commands;
 use crate::node_change::NodeChange;
+use crate::put::Put;
 use crate::queue_edit::QueueEdit;
 use crate::requests::Requests;
 use crate::token_request::TokenRequest;
@@ -94,6 +95,17 @@ impl Sketch {
         }
     }
 
+    /// Whether it is known at once that no row conflicts with the mode at a byte of the span.
+    pub fn conflicts_nowhere(&self, clients: &Clients, span: Span, mode: Mode) -> bool
+        ensures { result ≡ true → (node : ℕ) → row_conflicts (rows_after self.now.changed (rows_of clients.now) node) span mode ≡ false }
+    {
+        let _ = &span.hi; // tells the proof that the span ends within the file
+        match mode {
+            Mode::Read => clients.excludes_none(),
+            Mode::Write => false,
+        }
+    }
+
     // The first of the requests that are not dropped.
     fn first_kept(&self, requests: &Requests) -> Option<TokenRequest>
         ensures { result ≡ slice_get (without (dropped self.now.changed) requests.now) 0 }
@@ -132,7 +144,7 @@ impl Sketch {
         Ok((kept_queue, kept_waiting))
     }
 
-    /// How the queue changes, and those that wait.
+    /// How the queue changes, the request that then comes last in it, and how those that wait change.
     ///
     /// # Errors
     /// `NoMemory` where a request for memory was refused.
@@ -141,20 +153,26 @@ impl Sketch {
         queue: &Requests,
         waiting: &Requests,
         alloc: Global,
-    ) -> Result<(QueueEdit, QueueEdit), NoMemory>
-        ensures queue { IfOk result (λ r. queue_after r.0 queue.now ≡ queue_moved self.now.moved (without (dropped self.now.changed) queue.now) (without (dropped self.now.changed) waiting.now)) }
-        ensures waiting { IfOk result (λ r. queue_after r.1 waiting.now ≡ waiting_moved self.now.moved (without (dropped self.now.changed) waiting.now)) }
+    ) -> Result<(QueueEdit, Option<Put>, QueueEdit), NoMemory>
+        ensures queue { IfOk result (λ r. put_after r.1 (queue_after r.0 queue.now) ≡ queue_moved self.now.moved (without (dropped self.now.changed) queue.now) (without (dropped self.now.changed) waiting.now)) }
+        ensures waiting { IfOk result (λ r. queue_after r.2 waiting.now ≡ waiting_moved self.now.moved (without (dropped self.now.changed) waiting.now)) }
     {
         let (queued, left) = self.kept(queue, waiting)?;
         match self.moved {
-            Moved::Nothing => Ok((queued, left)),
-            Moved::New(request) => Ok((queued.pushing(queue, request)?, left)),
-            Moved::Again { call, request } => {
-                let queued = queued.pushing(queue, request)?;
-                Ok((queued, left.forgetting_call(waiting, call)?))
+            Moved::Nothing => Ok((queued, None, left)),
+            Moved::New(request) => {
+                let (queued, put) = queued.putting(queue, request)?;
+                Ok((queued, put, left))
             }
-            Moved::Waiting => requeue(queue, waiting, alloc, queued, left),
-            Moved::PutOff(request) => Ok((queued, left.pushing(waiting, request)?)),
+            Moved::Again { call, request } => {
+                let (queued, put) = queued.putting(queue, request)?;
+                Ok((queued, put, left.forgetting_call(waiting, call)?))
+            }
+            Moved::Waiting => {
+                let (queued, left) = requeue(queue, waiting, alloc, queued, left)?;
+                Ok((queued, None, left))
+            }
+            Moved::PutOff(request) => Ok((queued, None, left.pushing(waiting, request)?)),
         }
     }
 }

@@ -19,8 +19,8 @@ invariant_of-self-2 c =
       distinct = unique-same_call c.insert.new.self c.in_ok-insert.ensures.unique;
     }
 
-pub returns : goal.returns
-returns c =
+pub returns-clause-ok : goal.returns-clause-ok
+returns-clause-ok c =
     let es = c.self.inside.requests.entries in
     let r = c.args.request in
     let new = c.in_ok-insert.ensures.entries ∙ insert_entry-new derived.ghosts.eq c.self.inside.requests r.call r (find-by_call r.call es c.self.invariant.at_call ∙ ap (find (is_of_call r.call)) c.self.view_is ∙ c.requires) in

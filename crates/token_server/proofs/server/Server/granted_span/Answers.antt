@@ -1,10 +1,23 @@
 use Rattle.std.specs.Prelude.{◌≡◌}
 use Rattle.std.proofs.Common.{sym, ap, ◌∙◌, arith}
+use Rattle.intervals.specs.Bytes.{Range}
 use Rattle.token_server.specs.Parts.{ServerParts}
 use Rattle.token_server.specs.Edits.{drafted}
-use Rattle.token_server.proofs.GrantLaws.{narrowed-start, narrowed-holds, narrowed-free, narrowed-more, narrowed-skip, narrowed-end}
+use Rattle.token_server.proofs.GrantLaws.{narrowed-start, narrowed-holds, narrowed-free, narrowed-more, narrowed-skip, narrowed-end, granted-exact}
 use Rattle.token_server.proofs.server.Server.granted_span.Goals.{then-not-is_of_node, else-not-is_of_node}
 use Rattle.token_server.proofs.server.Server.granted_span.Goals as goal
+
+pub returns-then-span-required-2 : goal.returns-then-span-required-2
+returns-then-span-required-2 c =
+    let same_lo = c.if-span-required.true in
+    let same_hi = c.if-span-required-2.true in
+    let span_lo = ap (λ (s : Range). s.lo) (c.span.view_is ∙ c.desired-span.ensures.value) in
+    let span_hi = ap (λ (s : Range). s.hi) (c.span.view_is ∙ c.desired-span.ensures.value) in
+    let required_lo = ap (λ (s : Range). s.lo) (c.required.view_is ∙ c.required-required.ensures.value) in
+    let required_hi = ap (λ (s : Range). s.hi) (c.required.view_is ∙ c.required-required.ensures.value) in
+    let starts : c.args.request.now.wanted.desired.lo ≡ c.args.request.now.wanted.required.lo = cc in
+    let ends : c.args.request.now.wanted.desired.hi ≡ c.args.request.now.wanted.required.hi = cc in
+    c.desired-span.ensures.value ∙ granted-exact (drafted c.args.self.now c.args.draft.now) c.args.request.now c.requires (rw (← c.required-required.ensures.value) c.required-required.ensures.ordered) starts ends
 
 pub loop-place-init : goal.loop-place-init
 loop-place-init c =
