@@ -2,6 +2,7 @@
 #![tactic(auto)]
 
 mod audit;
+mod auditor;
 pub mod disk;
 pub mod fault;
 mod input;
