@@ -1,5 +1,7 @@
 -- Where the reader of a journal stands, and what it has built.
-use Rattle.std.proofs.Common.{◌≡◌, ℕ, ◌+◌, List, [], map, refl, sym, ap, subst, ◌∙◌}
+use Rattle.std.proofs.Common.{◌≡◌, ℕ, ◌+◌, List, [], length, map, refl, sym, ap, subst, ◌∙◌}
+use Rattle.std.specs.Prelude.{◌≢◌}
+use Rattle.std.proofs.lemmas.List.{length-map}
 use Rattle.messages.specs.Shapes.{IsShape, ShapeFields}
 use Rattle.lockscript.specs.LineFeeds.{BeginsWithLine}
 use Rattle.journal_text.specs.declared.error.JournalError.{JournalError}
@@ -10,7 +12,7 @@ use Rattle.journal_text.specs.declared.place.Place.{Place}
 use Rattle.journal_text.specs.Built.{BuilderFields, built}
 use Rattle.journal_text.specs.Journals.{head_text}
 use Rattle.journal_text.specs.Places.{IsStuck, StandsNext, start}
-use Rattle.journal_text.specs.Readings.{HasJournal, IsBadLine, IsFirstBad, IsRefused, WritesJournal, entry_in}
+use Rattle.journal_text.specs.Readings.{HasLength, IsBadLine, IsFirstBad, IsRefused, WritesJournal, entry_in}
 use Rattle.journal_text.proofs.Begun.{Begun, begun-first, begun-line, journal-begun, stuck-begun}
 use Rattle.journal_text.proofs.Steps.{Reading, built_of, entries, further, phase_of-open, place_of}
 use Rattle.journal_text.proofs.Steps.Reading.{nothing, some, whole}
@@ -64,12 +66,22 @@ standing-whole text s rest taken p b a gone ends =
       written = journal-begun text s a.reading taken (subst (λ (x : List ℕ). Begun text s a.reading x taken) gone a.begun) phase;
     }
 
-pub standing-has : (text : List ℕ) (s : ShapeFields) (rest : List ℕ) (taken : ℕ) (p : Place) (b : BuilderFields) → Standing text s rest taken p b → rest ≡ [] → p.phase ≡ Ended → HasJournal text
-standing-has text s rest taken p b a gone ends =
-    let journal = standing-whole text s rest taken p b a gone ends in
-    (s, (journal.named, journal.written))
+-- and as many entries were built as were read
+counted-whole : (r : Reading) → (place_of r).phase ≡ Ended → (place_of r).count ≡ length (built_of r).entries
+counted-whole nothing e = refl
+counted-whole (some es event reply sends) e = absurd (phase_of-open reply sends e)
+counted-whole (whole es) e = sym (length-map es entry_in)
+
+pub standing-counted : (text : List ℕ) (s : ShapeFields) (rest : List ℕ) (taken : ℕ) (p : Place) (b : BuilderFields) → Standing text s rest taken p b → p.phase ≡ Ended → p.count ≡ length b.entries
+standing-counted text s rest taken p b a ends =
+    ap (λ (x : Place). x.count) (sym a.here) ∙ counted-whole a.reading (ap (λ (x : Place). x.phase) a.here ∙ ends) ∙ ap (λ (x : BuilderFields). length x.entries) a.made
 
 -- a bad line refuses the text
 pub bad-refused : (text : List ℕ) (error : JournalError) → IsBadLine text error → IsRefused text error
 bad-refused text NoMemory bad = absurd bad
 bad-refused text (BadLine number) bad = bad
+
+-- where the text writes a journal, want of memory is all that can be told beside
+pub refused-later : (text : List ℕ) (s : ShapeFields) (count : ℕ) (error : JournalError) → HasLength text s count → (error ≢ NoMemory → IsBadLine text error) → IsRefused text error
+refused-later text s count NoMemory has bad = (s, (has.1.named, has.1.written))
+refused-later text s count (BadLine number) has bad = bad (λ e. absurd (cc))

@@ -52,6 +52,13 @@ built_of nothing = fields [] None
 built_of (some es event reply sends) = fields (map entry_in es) (Some (named event reply sends))
 built_of (whole es) = fields (map entry_in es) None
 
+-- what a line makes of the open entry does not depend on those that are whole
+pub last-only : (b : BuilderFields) (j : JournalLine) (last : Option NamedEntry) → b.last ≡ last → (built b j).last ≡ (built (fields [] last) j).last
+last-only b (Entry position event) last same = refl
+last-only b (Answer call reply) last same = ap (λ (x : Option NamedEntry). (built (fields [] x) (Answer call reply)).last) same
+last-only b (Send message) last same = ap (λ (x : Option NamedEntry). (built (fields [] x) (Send message)).last) same
+last-only b (End count) last same = refl
+
 pub none-some : (q : Place) → ◌≡◌ {A = Option Place} None (Some q) → ⊥
 none-some q e = absurd (cc)
 

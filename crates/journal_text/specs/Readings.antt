@@ -58,6 +58,10 @@ pub record WritesJournal (text : List ℕ) (s : ShapeFields) (entries : List Ent
   pub same : entries ≡ map entry_in named
   pub written : IsJournalText text s named
 
+-- the text writes a journal of so many entries
+abbrev pub HasLength : List ℕ → ShapeFields → ℕ → Type 0
+HasLength text s count = (entries : List EntryFields) × WritesJournal text s entries × (count ≡ length entries)
+
 -- the text writes some journal
 abbrev pub HasJournal : List ℕ → Type 0
 HasJournal text = (s : ShapeFields) × ((es : List NamedEntry) × IsJournalText text s es)

@@ -1,7 +1,8 @@
 //! The entries of a journal, built line by line.
-ghost use Rattle.std.specs.Prelude.{◌≡◌, [], Some, None, IfOk, OnOk};
-ghost use Rattle.messages.specs.Entries.{NamesItsIncarnation};
-ghost use Rattle.journal_text.specs.Built.{answered, begun, built, closed, sending};
+ghost use Rattle.std.specs.Prelude.{◌≡◌, [], List, Some, None, IfOk, OnOk};
+ghost use Rattle.messages.specs.Entries.{EntryFields, NamesItsIncarnation};
+ghost use Rattle.messages.specs.Shapes.{ShapeFields};
+ghost use Rattle.journal_text.specs.Built.{answered, begun, built, closed, fields, sending};
 ghost use Rattle.journal_text.specs.Events.{event_of, incarnation_of};
 ghost use Rattle.journal_text.specs.Lines.{IsServedLine};
 ghost use Rattle.journal_text.specs.Readings.{entry_in};
@@ -9,6 +10,7 @@ ghost use Rattle.journal_text.specs.Readings.{entry_in};
 use crate::lines::JournalLine;
 use crate::named_entry::NamedEntry;
 use crate::named_event::NamedEvent;
+use crate::sink::Sink;
 use messages::entry::Entry;
 use messages::items::Items;
 use messages::message::Message;
@@ -18,56 +20,49 @@ use model::reply::Reply;
 use std::alloc::{AllocError, Global};
 use std::marker::Model;
 
-/// The entries that are whole, and the one that may have more lines.
+/// The entry that may have more lines, if there is one. Those that are whole go to a sink.
 #[derive(Drop)]
 pub(crate) struct Builder {
-    entries: Vec<Entry>,
     last: Option<NamedEntry>,
 }
 
 impl Model for Builder {
-    ghost use Rattle.journal_text.specs.Built.{BuilderFields, IsOpen};
+    ghost use Rattle.std.specs.Prelude.{Option};
+    ghost use Rattle.journal_text.specs.declared.named_entry.NamedEntry.{NamedEntry};
+    ghost use Rattle.journal_text.specs.Built.{IsOpen};
 
-    ghost Value = { BuilderFields };
+    ghost Value = { Option NamedEntry };
 
-    ghost view = { λ b. record { entries = b.entries.items; last = b.last } };
+    ghost view = { λ b. b.last };
 
     ghost invariant = { λ b. IsOpen b.last };
 }
 
 impl Builder {
-    /// No entry, and room for so many.
+    /// No entry.
+    pub(crate) fn new() -> Builder
+        ensures { result ≡ None }
+    {
+        Builder { last: None }
+    }
+
+    /// Takes the next line. The entry that it ends, if it ends one, goes to the sink.
     ///
     /// # Errors
     /// `AllocError` where a request for memory was refused.
-    pub(crate) fn new(alloc: Global, count: u32) -> Result<Builder, AllocError>
-        ensures { IfOk result (λ made. made ≡ record { entries = []; last = None }) }
-    {
-        let entries = Vec::with_capacity(alloc, count as usize)?;
-        Ok(Builder {
-            entries,
-            last: None,
-        })
-    }
-
-    /// The entries that are whole.
-    pub(crate) fn into_entries(self) -> Vec<Entry>
-        ensures { result.items ≡ self.entries }
-    {
-        self.entries
-    }
-
-    /// Takes the next line.
-    ///
-    /// # Errors
-    /// `AllocError` where a request for memory was refused.
-    pub(crate) fn take(&mut self, alloc: Global, line: JournalLine) -> Result<(), AllocError>
+    pub(crate) fn take<K: Sink>(
+        &mut self,
+        alloc: Global,
+        line: JournalLine,
+        sink: &mut K,
+    ) -> Result<(), AllocError>
         requires { IsServedLine line }
-        ensures { OnOk result (self.new ≡ built self.old line) }
+        ensures taken { OnOk result ((s : ShapeFields) (es : List EntryFields) → K.took sink.old s es → K.took sink.new s (built (fields es self.old) line).entries) }
+        ensures last { OnOk result (self.new ≡ (built (fields [] self.old) line).last) }
     {
         match line {
             JournalLine::Entry { position: _, event } => {
-                self.close()?;
+                self.close(alloc, sink)?;
                 self.last = Some(begun(alloc, event));
                 Ok(())
             }
@@ -79,19 +74,19 @@ impl Builder {
                 self.last = sending(message, self.last.take())?;
                 Ok(())
             }
-            JournalLine::End { count: _ } => self.close(),
+            JournalLine::End { count: _ } => self.close(alloc, sink),
         }
     }
 
     // The open entry is whole.
-    fn close(&mut self) -> Result<(), AllocError>
-        ensures entries { OnOk result (self.new.entries ≡ closed self.old.entries self.old.last) }
-        ensures last { self.new.last ≡ None }
+    fn close<K: Sink>(&mut self, alloc: Global, sink: &mut K) -> Result<(), AllocError>
+        ensures taken { OnOk result ((s : ShapeFields) (es : List EntryFields) → K.took sink.old s es → K.took sink.new s (closed es self.old)) }
+        ensures last { self.new ≡ None }
     {
-        if let Some(named) = self.last.take() {
-            self.entries.push(entry_of(named))?;
+        match self.last.take() {
+            Some(named) => sink.take(alloc, entry_of(named)),
+            None => Ok(()),
         }
-        Ok(())
     }
 }
 

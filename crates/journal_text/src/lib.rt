@@ -17,5 +17,6 @@ mod parts;
 pub mod place;
 mod reader;
 pub mod replies;
+pub mod sink;
 mod spans;
 pub mod texts;

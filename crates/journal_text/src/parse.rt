@@ -1,10 +1,13 @@
 //! Reading whole journals.
-ghost use Rattle.std.specs.Prelude.{◌≡◌, [], None, IfErr, IfOk};
-ghost use Rattle.journal_text.specs.Readings.{HasJournal, IsRefused, WritesJournal};
+ghost use Rattle.std.specs.Prelude.{◌≡◌, ◌≢◌, [], List, length, IfErr, IfOk};
+ghost use Rattle.messages.specs.Entries.{EntryFields};
+ghost use Rattle.journal_text.specs.declared.error.JournalError.TheVariants.{NoMemory};
+ghost use Rattle.journal_text.specs.Readings.{HasLength, IsBadLine, IsRefused, WritesJournal};
 
 use crate::builder::Builder;
 use crate::error::JournalError;
 use crate::reader::Reader;
+use crate::sink::Sink;
 use messages::entry::Entry;
 use messages::shape::Shape;
 use std::alloc::Global;
@@ -23,34 +26,42 @@ pub fn parse(alloc: Global, text: &str) -> Result<(Shape, Vec<Entry>), JournalEr
     ensures journal { IfOk result (λ made. WritesJournal text.now made.0 made.1.items) }
     ensures refused { IfErr result (IsRefused text.now) }
 {
-    let builder = builder_for(alloc, text)?;
-    build(alloc, text, builder)
+    let (_, count) = measure(text)?;
+    let mut entries = Vec::with_capacity(alloc, count as usize)?;
+    let shape = read_each(alloc, text, &mut entries)?;
+    Ok((shape, entries))
 }
 
-// A builder with room for the entries of the journal that the text writes. Lines are read before
-// memory is asked for.
-fn builder_for(alloc: Global, text: &str) -> Result<Builder, JournalError>
-    ensures journal { IfOk result (λ made. HasJournal text.now × (made ≡ record { entries = []; last = None })) }
-    ensures refused { IfErr result (IsRefused text.now) }
-{
-    let mut reader = Reader::new(text);
-    reader.first_line()?;
-    while let Some(_line) = reader.next_line()? {}
-    Ok(Builder::new(alloc, reader.count())?)
-}
-
-// The journal that the text writes.
-fn build(alloc: Global, text: &str, builder: Builder) -> Result<(Shape, Vec<Entry>), JournalError>
-    requires writes { HasJournal text.now }
-    requires empty { builder ≡ record { entries = []; last = None } }
-    ensures journal { IfOk result (λ made. WritesJournal text.now made.0 made.1.items) }
-    ensures refused { IfErr result (IsRefused text.now) }
+/// The shape of the cluster and the number of the entries of the journal that the text writes. It
+/// takes no memory.
+///
+/// # Errors
+/// `BadLine`, as `parse` has it.
+pub fn measure(text: &str) -> Result<(Shape, u32), JournalError>
+    ensures journal { IfOk result (λ found. HasLength text.now found.0 found.1) }
+    ensures bad { IfErr result (IsBadLine text.now) }
 {
     let mut reader = Reader::new(text);
     let shape = reader.first_line()?;
-    let mut builder = builder;
+    while reader.pass_line()? {}
+    Ok((shape, reader.count()))
+}
+
+/// The shape of the cluster of the journal that the text writes, whose entries go to the sink, one
+/// after the other. Where there is a bad line, those before it may have gone there.
+///
+/// # Errors
+/// `BadLine`, as `parse` has it; `NoMemory` where a request for memory was refused: then nothing is
+/// said of the text.
+pub fn read_each<K: Sink>(alloc: Global, text: &str, sink: &mut K) -> Result<Shape, JournalError>
+    ensures journal { IfOk result (λ shape. (es : List EntryFields) × WritesJournal text.now shape es × (K.took sink.old shape [] → K.took sink.new shape es)) }
+    ensures bad { IfErr result (λ error. error ≢ NoMemory → IsBadLine text.now error) }
+{
+    let mut reader = Reader::new(text);
+    let shape = reader.first_line()?;
+    let mut builder = Builder::new();
     while let Some(line) = reader.next_line()? {
-        builder.take(alloc, line)?;
+        builder.take(alloc, line, sink)?;
     }
-    Ok((shape, builder.into_entries()))
+    Ok(shape)
 }

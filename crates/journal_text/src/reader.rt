@@ -1,8 +1,9 @@
 //! Reading a journal line by line.
-ghost use Rattle.std.specs.Prelude.{◌≡◌, ◌+◌, ◌<◌, ◌^◌, [], Some, length, IfErr, IfOk, MatchOption};
+ghost use Rattle.std.specs.Prelude.{◌≡◌, ◌+◌, ◌<◌, ◌^◌, [], true, false, Some, length, IfErr, IfOk, MatchOption};
 ghost use Rattle.messages.specs.Shapes.{IsShape};
 ghost use Rattle.lockscript.specs.LineFeeds.{line_feeds, BeginsWithLine};
 ghost use Rattle.journal_text.specs.declared.error.JournalError.TheVariants.{BadLine};
+ghost use Rattle.journal_text.specs.declared.lines.JournalLine.{JournalLine as Line};
 ghost use Rattle.journal_text.specs.declared.place.Phase.TheVariants as phase;
 ghost use Rattle.journal_text.specs.Journals.{head_text};
 ghost use Rattle.journal_text.specs.Lines.{IsServedLine, line_text};
@@ -89,6 +90,22 @@ impl<'a> Reader<'a> {
                 }
                 Err(bad)
             }
+        }
+    }
+
+    /// Passes over the next line; `false` behind the last one.
+    ///
+    /// # Errors
+    /// As `next_line`.
+    pub(crate) fn pass_line(&mut self) -> Result<bool, JournalError>
+        ensures passed { IfOk result (λ more. more ≡ true → (line : Line) × StandsNext self.old.place self.old.rest.now line self.new.place self.new.rest.now × (self.new.taken ≡ self.old.taken + 1)) }
+        ensures ended { IfOk result (λ more. more ≡ false → (self.new.rest.now ≡ []) × (self.new.place.phase ≡ phase.Ended) × (self.new.rest.now ≡ self.old.rest.now) × (self.new.place ≡ self.old.place)) }
+        ensures stuck { IfErr result (λ error. (error ≡ BadLine (self.old.taken + 1)) × IsStuck self.old.place self.old.rest.now) }
+    {
+        match self.next_line() {
+            Ok(Some(_)) => Ok(true),
+            Ok(None) => Ok(false),
+            Err(error) => Err(error),
         }
     }
 }

@@ -3,6 +3,7 @@ pub mod Sections
 pub mod Stores
 pub mod ThreadLines
 pub mod Faults
+pub mod Audits
 pub mod Journals
 pub mod Marks
 pub mod OneOutcome

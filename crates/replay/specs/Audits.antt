@@ -1,11 +1,13 @@
 -- What the journal of a file is.
-use Rattle.std.specs.Prelude.{◌≡◌, ℕ, ◌≤◌, List, length, string_bytes, Option}
+use Rattle.std.specs.Prelude.{◌≡◌, ℕ, ◌≤◌, List, length, string_bytes, Option, Some, None}
 use Rattle.cluster_core.specs.declared.item.Item.{Item}
 use Rattle.cluster_core.specs.Histories.{HasHistory, EachAtItsPlace}
 use Rattle.cluster_core.specs.Journals.{JournalFields, IsFirstWrong}
-use Rattle.cluster_core.specs.Runs.{IsRun}
-use Rattle.cluster_core.specs.World.{journal_limit}
+use Rattle.cluster_core.specs.Runs.{IsRun, Leads}
+use Rattle.cluster_core.specs.World.{WorldState, first_world, journal_limit}
 use Rattle.journal_text.specs.Readings.{WritesJournal}
+use Rattle.messages.specs.declared.entry.Entry.{Entry}
+use Rattle.messages.specs.Shapes.{ShapeFields}
 use Rattle.lockscript.specs.Listing.{history_text}
 use Rattle.replay.specs.declared.audit.Audited.{Audited}
 use Rattle.replay.specs.declared.audit.Audited.TheVariants.{Run, Wrong}
@@ -17,6 +19,10 @@ use Rattle.replay.specs.Stores.{HasText}
 abbrev pub HasEntries : (Option (List ℕ) → Type 0) → JournalFields → Type 0
 HasEntries Holds j = HasText Holds (λ text. WritesJournal text j.shape j.entries)
 
+-- the text writes a journal of no more entries than a journal may have
+abbrev pub WritesFew : List ℕ → JournalFields → Type 0
+WritesFew text j = WritesJournal text j.shape j.entries × (length j.entries ≤ journal_limit)
+
 -- and they are no more than a journal may have
 abbrev pub HasJournal : (Option (List ℕ) → Type 0) → JournalFields → Type 0
 HasJournal Holds j = HasEntries Holds j × (length j.entries ≤ journal_limit)
@@ -25,6 +31,16 @@ HasJournal Holds j = HasEntries Holds j × (length j.entries ≤ journal_limit)
 abbrev pub IsAudited : JournalFields → Audited → Type 0
 IsAudited j (Run journal) = (journal ≡ j) × IsRun j.shape j.entries
 IsAudited j (Wrong position) = IsFirstWrong j.shape j.entries position
+
+-- what an audit that goes on knows of the entries so far: that they lead to this world, and how many they are, or the first wrong one
+abbrev pub Knows : ShapeFields → WorldState → ℕ → Option ℕ → List Entry → Type 0
+Knows shape world taken None es = Leads (first_world shape) es world × (taken ≡ length es)
+Knows shape world taken (Some position) es = IsFirstWrong shape es position
+
+-- they are a run where no position is told, else the first wrong one is there
+abbrev pub IsVerdict : JournalFields → Option ℕ → Type 0
+IsVerdict j None = IsRun j.shape j.entries
+IsVerdict j (Some position) = IsFirstWrong j.shape j.entries position
 
 -- what an audit shows of the entries: that they are a run, or the first wrong one
 abbrev pub IsAudit : JournalFields → Shown → Type 0

@@ -12,7 +12,7 @@ use Rattle.replay.specs.declared.play.PlayError.{PlayError}
 use Rattle.replay.specs.declared.play.PlayError.TheVariants as play
 use Rattle.replay.specs.declared.fault.Fault.{Fault}
 use Rattle.replay.specs.declared.fault.Fault.TheVariants.{BadLine, CannotRead, CannotWrite, CannotWriteOutput, NoMemory, JournalFull}
-use Rattle.replay.specs.Audits.{HasEntries}
+use Rattle.replay.specs.Audits.{HasEntries, HasJournal, WritesFew}
 use Rattle.replay.specs.Played.{FillsJournal}
 use Rattle.replay.specs.Scripts.{HasScript}
 use Rattle.replay.specs.Threads.{IsBadOnThreads, IsTaken}
@@ -52,11 +52,18 @@ IsThreadsFault Holds RanShort path NoMemory = RanShort ⊎ HasText Holds (λ tex
 IsThreadsFault Holds RanShort path JournalFull = IsTaken Holds
 IsThreadsFault Holds RanShort path fault = ⊥
 
--- why the journal of the file is not audited: no text, a bad line, too many entries; memory is short where `RanShort` says it, or for the audit of a journal
+-- why the journal that the text writes is not audited: a bad line, or too many entries; memory is short for the audit of one that has not too many
+abbrev pub IsTextFault : List ℕ → Fault → Type 0
+IsTextFault text (BadLine line) = readings.IsFirstBad text line
+IsTextFault text NoMemory = (j : JournalFields) × WritesFew text j
+IsTextFault text JournalFull = (j : JournalFields) × readings.WritesJournal text j.shape j.entries × (journal_limit < length j.entries)
+IsTextFault text fault = ⊥
+
+-- why the journal of the file is not audited: no text, a bad line, too many entries; memory is short where `RanShort` says it, or for the audit of a journal that has not too many
 abbrev pub IsJournalFault : (Option (List ℕ) → Type 0) → Type 0 → List ℕ → Fault → Type 0
 IsJournalFault Holds RanShort path (BadLine line) = HasText Holds (λ text. readings.IsFirstBad text line)
 IsJournalFault Holds RanShort path (CannotRead named) = (named.now ≡ path) × HasNoText Holds
-IsJournalFault Holds RanShort path NoMemory = RanShort ⊎ ((j : JournalFields) × HasEntries Holds j)
+IsJournalFault Holds RanShort path NoMemory = RanShort ⊎ ((j : JournalFields) × HasJournal Holds j)
 IsJournalFault Holds RanShort path JournalFull = (j : JournalFields) × HasEntries Holds j × (journal_limit < length j.entries)
 IsJournalFault Holds RanShort path fault = ⊥
 

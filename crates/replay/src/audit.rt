@@ -1,21 +1,25 @@
 //! Whether the journal of a file is one of a run, and its history.
-ghost use Rattle.std.specs.Prelude.{◌≡◌, ◌≢◌, string_bytes, IfErr, IfOk};
+ghost use Rattle.std.specs.Prelude.{◌≡◌, ◌≢◌, ◌≤◌, string_bytes, IfErr, IfOk};
 ghost use Rattle.cluster_core.specs.Journals.{JournalFields};
+ghost use Rattle.cluster_core.specs.World.{journal_limit};
 ghost use Rattle.command_line.specs.Tasks.{audit, history};
+ghost use Rattle.journal_text.specs.Readings.{HasLength};
 ghost use Rattle.replay.specs.declared.fault.Fault.TheVariants.{CannotWriteOutput};
-ghost use Rattle.replay.specs.Audits.{HasEntries, HasJournal, IsAudited, IsHistoryText};
+ghost use Rattle.replay.specs.Audits.{HasJournal, IsAudited, IsHistoryText, IsVerdict, WritesFew};
 ghost use Rattle.replay.specs.Commands.{Does, IsFault};
-ghost use Rattle.replay.specs.Faults.{IsJournalFault};
+ghost use Rattle.replay.specs.Faults.{IsJournalFault, IsTextFault};
 ghost use Rattle.replay.specs.Stores.{SameFiles};
 
+use crate::auditor::Auditor;
 use crate::fault::Fault;
 use crate::input::bytes_of;
 use crate::shown::Shown;
 use crate::store::Store;
 use cluster_core::check_error::CheckError;
 use cluster_core::journal::Journal;
+use cluster_core::world::JOURNAL_LIMIT;
 use intervals::span_map::NoMemory;
-use journal_text::parse::parse;
+use journal_text::parse::{measure, read_each};
 use lockscript::listing::push_history;
 use messages::entry::Entry;
 use messages::shape::Shape;
@@ -41,9 +45,9 @@ pub(crate) fn audit<'a, S: Store>(
     ensures fault { IfErr result (λ fault. (fault ≢ CannotWriteOutput)
         × IsFault (S.holds store.old) (S.ran_short store.new) (S.refuses store.new) (audit path.now) (S.holds store.new) fault) }
 {
-    match checked(alloc, store, path)? {
-        Audited::Run(_journal) => Ok(Shown::Yes),
-        Audited::Wrong(position) => Ok(Shown::No(position)),
+    match first_wrong(alloc, store, path)? {
+        None => Ok(Shown::Yes),
+        Some(position) => Ok(Shown::No(position)),
     }
 }
 
@@ -64,6 +68,47 @@ pub(crate) fn history<'a, S: Store>(
         },
         Audited::Wrong(position) => Ok(Shown::No(position)),
     }
+}
+
+// The position of the first entry of the journal of a file that is not the next step, if there is one.
+fn first_wrong<'a, S: Store>(
+    alloc: Global,
+    store: &mut S,
+    path: &'a str,
+) -> Result<Option<u32>, Fault<'a>>
+    ensures verdict { IfOk result (λ wrong. (j : JournalFields) × HasJournal (S.holds store.old path.now) j × IsVerdict j wrong) }
+    ensures fault { IfErr result (IsJournalFault (S.holds store.old path.now) (S.ran_short store.new) path.now) }
+    ensures files { SameFiles (S.holds store.old) (S.holds store.new) }
+{
+    let bytes = bytes_of(alloc, store, path)?;
+    match str::from_utf8(bytes.as_slice()) {
+        Ok(text) => first_wrong_in(alloc, text),
+        Err(_) => Err(Fault::CannotRead(path)),
+    }
+}
+
+// The same of the journal that the text writes. Its entries are not kept.
+fn first_wrong_in<'a>(alloc: Global, text: &str) -> Result<Option<u32>, Fault<'a>>
+    ensures verdict { IfOk result (λ wrong. (j : JournalFields) × WritesFew text.now j × IsVerdict j wrong) }
+    ensures fault { IfErr result (IsTextFault text.now) }
+{
+    let (shape, _) = measured(text)?;
+    let mut auditor = Auditor::new(alloc, shape)?;
+    read_each(alloc, text, &mut auditor)?;
+    Ok(auditor.wrong)
+}
+
+// The shape and the number of the entries of the journal that the text writes, where they are no more
+// than a journal may have. No memory is asked for.
+fn measured<'a>(text: &str) -> Result<(Shape, u32), Fault<'a>>
+    ensures journal { IfOk result (λ found. HasLength text.now found.0 found.1 × (found.1 ≤ journal_limit)) }
+    ensures fault { IfErr result (IsTextFault text.now) }
+{
+    let (shape, count) = measure(text)?;
+    if count > JOURNAL_LIMIT {
+        return Err(Fault::JournalFull);
+    }
+    Ok((shape, count))
 }
 
 // What an audit of the journal of a file comes to.
@@ -87,15 +132,26 @@ fn entries_of<'a, S: Store>(
     store: &mut S,
     path: &'a str,
 ) -> Result<(Shape, Vec<Entry>), Fault<'a>>
-    ensures entries { IfOk result (λ made. HasEntries (S.holds store.old path.now) (record { shape = made.0; entries = made.1.items })) }
+    ensures entries { IfOk result (λ made. HasJournal (S.holds store.old path.now) (record { shape = made.0; entries = made.1.items })) }
     ensures fault { IfErr result (IsJournalFault (S.holds store.old path.now) (S.ran_short store.new) path.now) }
     ensures files { SameFiles (S.holds store.old) (S.holds store.new) }
 {
     let bytes = bytes_of(alloc, store, path)?;
     match str::from_utf8(bytes.as_slice()) {
-        Ok(text) => Ok(parse(alloc, text)?),
+        Ok(text) => entries_in(alloc, text),
         Err(_) => Err(Fault::CannotRead(path)),
     }
+}
+
+// The shape and the entries of the journal that the text writes.
+fn entries_in<'a>(alloc: Global, text: &str) -> Result<(Shape, Vec<Entry>), Fault<'a>>
+    ensures entries { IfOk result (λ made. WritesFew text.now (record { shape = made.0; entries = made.1.items })) }
+    ensures fault { IfErr result (IsTextFault text.now) }
+{
+    let (_, count) = measured(text)?;
+    let mut entries = Vec::with_capacity(alloc, count as usize)?;
+    let shape = read_each(alloc, text, &mut entries)?;
+    Ok((shape, entries))
 }
 
 // The history of a run as text.

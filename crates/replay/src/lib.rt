@@ -2,6 +2,7 @@
 #![tactic(auto)]
 
 mod audit;
+mod auditor;
 mod counts;
 pub mod disk;
 pub mod fault;

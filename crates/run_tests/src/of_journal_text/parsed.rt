@@ -1,8 +1,10 @@
 //! Whole journals that are read.
 use journal_text::error::JournalError;
 use journal_text::journal::print;
-use journal_text::parse::parse;
-use std::alloc::Global;
+use journal_text::parse::{measure, parse, read_each};
+use journal_text::sink::Sink;
+use messages::entry::Entry;
+use std::alloc::{AllocError, Global};
 use std::test::Fail;
 
 // Node 1 locks 100 bytes, and gets a token of the whole file with them.
@@ -87,6 +89,31 @@ const BODIES: [(&str, u64); 28] = [
     ),
 ];
 
+// Counts the entries that it takes, and gives up behind the third.
+#[derive(Drop)]
+struct Tally {
+    entries: u32,
+}
+
+impl Sink for Tally {
+    fn take(&mut self, _alloc: Global, _entry: Entry) -> Result<(), AllocError> {
+        if self.entries >= 3 {
+            return Err(AllocError);
+        }
+        self.entries += 1;
+        Ok(())
+    }
+}
+
+// What is told of the text without memory: the number of the first bad line, or 0.
+fn measured_bad(text: &str) -> Result<u64, JournalError> {
+    match measure(text) {
+        Ok(_) => Ok(0),
+        Err(JournalError::BadLine(number)) => Ok(number),
+        Err(JournalError::NoMemory) => Err(JournalError::NoMemory),
+    }
+}
+
 // The number of the first bad line, 0 where the text writes a journal.
 fn first_bad(alloc: Global, text: &str) -> Result<u64, JournalError> {
     match parse(alloc, text) {
@@ -101,10 +128,12 @@ fn tells_the_first_bad_line(rt: HostRuntime) -> Result<(), Fail> {
     let alloc = rt.alloc();
     for (text, number) in HEADS {
         assert_eq!(rt; first_bad(alloc, text)?, number, "{text}");
+        assert_eq!(rt; measured_bad(text)?, number, "{text}");
     }
     for (body, number) in BODIES {
         let text = format!(in alloc; "{HEAD}{body}")?;
         assert_eq!(rt; first_bad(alloc, &text)?, number, "{body}");
+        assert_eq!(rt; measured_bad(&text)?, number, "{body}");
     }
     Ok(())
 }
@@ -116,5 +145,30 @@ fn is_printed_as_it_was_read(rt: HostRuntime) -> Result<(), Fail> {
     assert_eq!(rt; entries.len(), 7);
     let text = print(alloc, &shape, &entries)?;
     assert_eq!(rt; text.as_str(), FIRST_RUN);
+    Ok(())
+}
+
+#[test]
+fn is_measured(rt: HostRuntime) -> Result<(), Fail> {
+    let (shape, count) = measure(FIRST_RUN)?;
+    assert_eq!(rt; shape.nodes(), 2);
+    assert_eq!(rt; count, 7);
+    Ok(())
+}
+
+#[test]
+fn hands_its_entries_on(rt: HostRuntime) -> Result<(), Fail> {
+    let alloc = rt.alloc();
+    let mut few = Tally { entries: 0 };
+    let text = format!(in alloc;
+        "{HEAD}entry 1 resend 1\nentry 2 resend 1\nentry 3 resend 1\nend 3\n"
+    )?;
+    let shape = read_each(alloc, &text, &mut few)?;
+    assert_eq!(rt; shape.files(), 1);
+    assert_eq!(rt; few.entries, 3);
+    let mut many = Tally { entries: 0 };
+    let told = read_each(alloc, FIRST_RUN, &mut many).err();
+    assert_eq!(rt; told, Some(JournalError::NoMemory));
+    assert_eq!(rt; many.entries, 3);
     Ok(())
 }

@@ -1,17 +1,13 @@
-use Rattle.std.proofs.Common.{◌<◌, ◌≤◌, length, inr, refl, arith}
-use Rattle.cluster_core.specs.World.{journal_limit}
+use Rattle.std.proofs.Common.{inr}
 use Rattle.replay.proofs.audit.checked.Goals as goal
 
 pub returns-in-Err-NotARun-clause-audited : goal.returns-in-Err-NotARun-clause-audited
 returns-in-Err-NotARun-clause-audited g c =
-    let entries = c.in_ok-shape.entries.items in
-    let not_full : journal_limit < length entries → ⊥ = λ full. absurd (cc (c.in-Err-NotARun.ensures.full.1 full)) in
-    let room : length entries ≤ journal_limit = omega (arith, not_full) in
-    (record { shape = c.in_ok-shape.shape; entries = entries }, (c.in_ok-shape.ensures.entries, room), c.in-Err-NotARun.ensures.wrong c.in-Err-NotARun.position (cc c.in-Err-NotARun.field-0-is))
+    (record { shape = c.in_ok-shape.shape; entries = c.in_ok-shape.entries.items }, c.in_ok-shape.ensures.entries, c.in-Err-NotARun.ensures.wrong c.in-Err-NotARun.position (cc c.in-Err-NotARun.field-0-is))
 
 pub returns-in-Err-JournalFull-clause-fault : goal.returns-in-Err-JournalFull-clause-fault
 returns-in-Err-JournalFull-clause-fault g c =
-    (record { shape = c.in_ok-shape.shape; entries = c.in_ok-shape.entries.items }, c.in_ok-shape.ensures.entries, c.in-Err-JournalFull.ensures.full.0 (cc c.in-Err-JournalFull.field-0-is))
+    (record { shape = c.in_ok-shape.shape; entries = c.in_ok-shape.entries.items }, c.in_ok-shape.ensures.entries.0, c.in-Err-JournalFull.ensures.full.0 (cc c.in-Err-JournalFull.field-0-is))
 
 pub returns-in-Err-NoMemory-clause-fault : goal.returns-in-Err-NoMemory-clause-fault
 returns-in-Err-NoMemory-clause-fault g c = inr (record { shape = c.in_ok-shape.shape; entries = c.in_ok-shape.entries.items }, c.in_ok-shape.ensures.entries)
