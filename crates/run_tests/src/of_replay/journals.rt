@@ -5,7 +5,6 @@ use replay::shown::Shown;
 use std::alloc::Global;
 use std::fmt::Write;
 use std::io;
-
 use std::test::Fail;
 
 const SCRIPT: &[u8] = b"cluster nodes 1 files 1 policy wide
@@ -146,7 +145,7 @@ fn tells_that_a_journal_has_too_many_entries(rt: HostRuntime) -> Result<(), Fail
     };
     for word in ["audit", "history"] {
         let words = ["lockreplay", word, PATH];
-        let status = respond(&rt, alloc, &words, &NOBODY, &mut shelf, &mut out, &mut err);
+        let status = respond(&rt, alloc, &words, &mut shelf, &mut out, &mut err);
         assert_eq!(rt; status, 4, "{word}");
     }
     assert_eq!(rt; out.as_slice(), b"".as_slice());
