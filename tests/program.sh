@@ -249,6 +249,33 @@ judge 'two clients on threads' 0 "$came" seven-held came.out none came.err
 sed -n '/^tokens$/,/^history$/p' "$tests/../examples/on-threads.listing" >wanted
 sed -n '/^tokens$/,/^history$/p' threads.out >came.out
 judge 'what their nodes hold at the end' 0 0 wanted came.out none none
+# Sixteen clients on each of eight nodes make 100,096 calls side by side, on one file and on 64: bytes of their own, and bytes for
+# which all try. The journal holds the receipt of each, and an audit of it says yes.
+crowd() {
+    awk -v files="$1" 'BEGIN {
+        print "cluster nodes 8 files " files " policy exact"
+        for (node = 1; node <= 8; node++)
+            for (pid = 1; pid <= 16; pid++) {
+                at = "call " node " " pid " "
+                print at "spawn"
+                print at "open " (node * 16 + pid) % files + 1 " rw"
+                for (call = 2; call < 782; call++) {
+                    start = call % 20 < 2 ? 0 : (node * 16 + pid) * 100 + int(call / 2) % 10 * 10
+                    print at (call % 2 == 0 ? "set 0 proc write " : "unlock 0 proc ") start " 10"
+                }
+            }
+    }'
+}
+printf 'receipts 100096\naudit yes\n' >crowd-held
+for files in 1 64; do
+    crowd "$files" >crowd.lock
+    timeout 300 "$program" threads crowd.lock --journal crowd.journal >threads.out 2>came.err </dev/null
+    came=$?
+    tail -n 2 threads.out >came.out
+    judge "a crowd on $files files" 0 "$came" crowd-held came.out none came.err
+    try "an audit of a crowd on $files files" 0 yes none audit crowd.journal
+done
+
 sed 's/^settle$/resend 1/' first.lock >resend.lock
 echo 'bad line 5' >bad-resend
 try 'a line that threads do not take' 3 none bad-resend threads resend.lock --journal kept.journal
