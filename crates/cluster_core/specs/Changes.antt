@@ -62,7 +62,7 @@ pub record IsRestart (p : WorldParts) (n : ℕ) (begun : NodeParts) : Type 0 whe
 
 -- the change is what makes r of the event
 abbrev pub Makes : WorldParts → Event → Change → Result (WorldState × Entry) Refused → Type 0
-Makes p event (OfNode n incarnation change) r = IsNodeChange p event n incarnation change r
+Makes p event (OfNode n incarnation change) r = IsNodeChange p event n incarnation change.value r
 Makes p event (OfServer file change) r = IsServerChange p event file change r
 Makes p event (Declared n) r = IsDeclaration p n r
 Makes p event (Restarted n begun) r = IsRestart p n begun.value × (r ≡ restart_rule (world_state p) n)

@@ -312,7 +312,7 @@ impl World {
         Ok(Change::OfNode {
             node,
             incarnation,
-            change,
+            change: Box::new(alloc, change)?,
         })
     }
 
@@ -513,7 +513,7 @@ impl World {
                 node,
                 incarnation,
                 change,
-            } => self.change_node(event, node, incarnation, change),
+            } => self.change_node(event, node, incarnation, Box::into_inner(change)),
             Change::OfServer { file, change } => self.change_server(event, file, change),
             Change::Declared { node } => Ok(self.declare(alloc, node)),
             Change::Restarted { node, begun } => Ok(self.restart(alloc, node, begun)),

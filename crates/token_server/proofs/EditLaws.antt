@@ -1,14 +1,14 @@
 -- What is known of the nodes after planned edits.
 use Rattle.std.specs.List.{list_any}
-use Rattle.std.proofs.lemmas.Bool.Decides.{eqb_tells}
-use Rattle.std.specs.Prelude.{Bool, true, false, not, cond, filter, ◌||◌, ◌≡◌, ◌≢◌, ℕ, zero, suc, ◌+◌, ◌-◌, ◌<◌, ◌≤◌, ◌==◌, if◌then◌else◌, List, [], ◌∷◌, ◌++◌, length, slice_get, slice_set, slice_index_or, Option, Some, None}
+use Rattle.std.proofs.lemmas.Bool.Decides.{eqb_tells, nat_tests}
+use Rattle.std.specs.Prelude.{Bool, true, false, not, cond, filter, ◌||◌, ◌≡◌, ◌≢◌, ℕ, zero, suc, ◌+◌, ◌-◌, ◌<◌, ◌≤◌, ◌==◌, nat_le, nat_lt, if◌then◌else◌, List, [], ◌∷◌, ◌++◌, length, slice_get, slice_set, slice_index_or, Option, Some, None}
 use Rattle.std.proofs.Common.{inl, inr, sym, refl, ap, ◌∙◌, arith}
 use Rattle.std.proofs.lemmas.List.{length-set}
 use Rattle.std.proofs.lemmas.Option.{slice_get_past}
 use Rattle.model.specs.Limits.{IsNumber}
 use Rattle.token_server.specs.declared.client.Client.{Client}
 use Rattle.token_server.specs.declared.row_edits.RowEdit.{RowEdit}
-use Rattle.token_server.specs.State.{Row}
+use Rattle.token_server.specs.State.{Row, row_above}
 use Rattle.token_server.specs.Parts.{row_seen, row_of, dead_of, client_at, rows_of, deaths_of, with_change}
 use Rattle.token_server.specs.declared.change.Given.{Given}
 use Rattle.token_server.specs.Edits.{Changes, client_after, with_client, overlaid, given_to_row, given_to_client, with_given_row}
@@ -81,6 +81,28 @@ with_change-at node f g rows same = λ i n. at n i
     at n = elim (eqb_tells n node) [
       | inl here ↦ ap (λ (b : Bool). cond b (f (rows n)) (rows n)) here.0 ∙ ap (λ (k : ℕ). f (rows k)) here.1 ∙ same ∙ ap (λ (k : ℕ). g (rows k)) (sym here.1) ∙ sym (ap (λ (b : Bool). cond b (g (rows n)) (rows n)) here.0)
       | inr apart ↦ ap (λ (b : Bool). cond b (f (rows n)) (rows n)) apart.0 ∙ sym (ap (λ (b : Bool). cond b (g (rows n)) (rows n)) apart.0)
+    ]
+
+-- a row of a later incarnation stays
+pub above-stays : (incarnation : ℕ) (row : Option Row) (there : Row) → row ≡ Some there → nat_lt incarnation there.incarnation ≡ true → row_above incarnation row ≡ row
+above-stays incarnation row there is later =
+    ap (row_above incarnation) is ∙ ap (λ (b : Bool). cond b None (Some there)) above ∙ sym is
+  where
+    above : nat_le there.incarnation incarnation ≡ false
+    above = grind (arith, nat_tests)
+
+-- a change of one that stays changes none
+pub with_change-stays : (node : ℕ) (f : Option Row → Option Row) (rows : ℕ → Option Row) → f (rows node) ≡ rows node → rows ≡ with_change node f rows
+with_change-stays node f rows same =
+    (λ i n. sym (same_either (n == node) (rows n)) i) ∙ sym (with_change-at node f (λ row. row) rows same)
+
+pub deaths-stay : (node : ℕ) (g : ℕ → ℕ) (deaths : ℕ → ℕ) → g (deaths node) ≡ deaths node → deaths ≡ (λ n. if n == node then g (deaths n) else deaths n)
+deaths-stay node g deaths same = λ i n. at n i
+  where
+    at : (n : ℕ) → deaths n ≡ (if n == node then g (deaths n) else deaths n)
+    at n = elim (eqb_tells n node) [
+      | inl here ↦ ap deaths here.1 ∙ sym same ∙ ap (λ (k : ℕ). g (deaths k)) (sym here.1) ∙ sym (ap (λ (b : Bool). cond b (g (deaths n)) (deaths n)) here.0)
+      | inr apart ↦ sym (ap (λ (b : Bool). cond b (g (deaths n)) (deaths n)) apart.0)
     ]
 
 -- what is known of a node

@@ -81,7 +81,7 @@ pub record Changes (clients : List Client) (node : ℕ) (f : Option Row → Opti
 abbrev pub queue_after : QueueEdit → List TokenRequest → List TokenRequest
 queue_after Same queue = queue
 queue_after Taken queue = drop 1 queue
-queue_after (Whole new) queue = new
+queue_after (Whole new) queue = new.value
 
 -- the queue once the request comes last, where it has no more requests than that is planned for
 abbrev pub put_after : Option Put → List TokenRequest → List TokenRequest

@@ -1,5 +1,5 @@
 //! How a planned step changes a list of requests.
-ghost use Rattle.std.specs.Prelude.{◌≡◌, ◌++◌, ◌∷◌, [], not, filter, find, drop, slice_get, IfOk, IsTrue, ◌↔◌};
+ghost use Rattle.std.specs.Prelude.{◌≡◌, ◌++◌, ◌∷◌, [], not, filter, find, drop, slice_get, List, IfOk, IsTrue, ◌↔◌};
 ghost use Rattle.std.specs.List.{list_any};
 ghost use Rattle.token_server.specs.declared.queue_edit.QueueEdit.TheVariants.{Same};
 ghost use Rattle.token_server.specs.State.{is_of_call, is_up_to};
@@ -19,8 +19,8 @@ pub enum QueueEdit {
     Same,
     /// Its first request goes, if there is one.
     Taken,
-    /// This one stands in its place.
-    Whole(Requests),
+    /// This one stands in its place. (In a box, since an edit is handed on at each step.)
+    Whole(Box<Requests>),
 }
 
 impl QueueEdit {
@@ -63,6 +63,14 @@ impl QueueEdit {
         self.find(queue, call).is_some()
     }
 
+    /// These requests stand in the queue's place.
+    pub fn whole(new: Requests) -> Result<QueueEdit, NoMemory>
+        ensures { IfOk result (λ edit. (queue : List TokenRequest) → queue_after edit queue ≡ new) }
+    {
+        let alloc = new.allocator();
+        Ok(QueueEdit::Whole(Box::new(alloc, new)?))
+    }
+
     // Whether the edit leaves requests of the node up to that incarnation.
     fn has_up_to(&self, queue: &Requests, node: u8, incarnation: u16) -> bool
         ensures { result ≡ list_any (is_up_to node incarnation) (queue_after self.now queue.now) }
@@ -83,7 +91,7 @@ impl QueueEdit {
                 let _ = new.take_first();
                 Ok(new)
             }
-            QueueEdit::Whole(new) => Ok(new),
+            QueueEdit::Whole(new) => Ok(Box::into_inner(new)),
         }
     }
 
@@ -101,7 +109,7 @@ impl QueueEdit {
         }
         let mut new = self.into_queue(queue)?;
         new.forget(node, incarnation);
-        Ok(QueueEdit::Whole(new))
+        Ok(QueueEdit::whole(new)?)
     }
 
     /// The edit, and then the requests of the call go.
@@ -110,7 +118,7 @@ impl QueueEdit {
     {
         let mut new = self.into_queue(queue)?;
         new.forget_call(call);
-        Ok(QueueEdit::Whole(new))
+        Ok(QueueEdit::whole(new)?)
     }
 
     /// The edit, and then the request comes last.
@@ -119,7 +127,7 @@ impl QueueEdit {
     {
         let mut new = self.into_queue(queue)?;
         new.push(request)?;
-        Ok(QueueEdit::Whole(new))
+        QueueEdit::whole(new)
     }
 
     /// The edit, and then the requests come last, in their order.
@@ -128,7 +136,7 @@ impl QueueEdit {
     {
         let mut new = self.into_queue(queue)?;
         new.append(more)?;
-        Ok(QueueEdit::Whole(new))
+        QueueEdit::whole(new)
     }
 
     /// The edit, and then the first request goes, which is answered.
@@ -141,7 +149,7 @@ impl QueueEdit {
         }
         let mut new = self.into_queue(queue)?;
         let first = new.take_first();
-        Ok((QueueEdit::Whole(new), first))
+        Ok((QueueEdit::whole(new)?, first))
     }
 
     /// The edit, and then the request comes last: the edit from then on, and the request that is yet to come
@@ -177,6 +185,6 @@ impl QueueEdit {
         let mut new = self.into_queue(queue)?;
         new.put(Some(put));
         let first = new.take_first();
-        Ok((QueueEdit::Whole(new), first))
+        Ok((QueueEdit::whole(new)?, first))
     }
 }

@@ -46,8 +46,8 @@ impl Requests {
         }
     }
 
-    // Where it takes its memory.
-    fn allocator(&self) -> Global {
+    /// Where it takes its memory.
+    pub fn allocator(&self) -> Global {
         match &self.kept {
             Kept::ByCall(requests) => requests.allocator(),
             Kept::InOrder(requests) => *requests.allocator(),
@@ -253,7 +253,7 @@ impl Requests {
             QueueEdit::Taken => {
                 let _ = self.take_first();
             }
-            QueueEdit::Whole(queue) => *self = queue,
+            QueueEdit::Whole(queue) => *self = Box::into_inner(queue),
         }
     }
 

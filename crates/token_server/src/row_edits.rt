@@ -1,5 +1,5 @@
 //! Nodes as a token server will know them once a planned step is made.
-ghost use Rattle.std.specs.Prelude.{◌≡◌, ℕ, ◌+◌, ◌-◌, ◌<◌, ◌≤◌, [], ◌∷◌, ◌++◌, false, ◌==◌, if◌then◌else◌, max, length, IfOk, IfSome, OnSome, OnOk, MatchOption, Some, None};
+ghost use Rattle.std.specs.Prelude.{◌≡◌, ℕ, ◌+◌, ◌-◌, ◌<◌, ◌≤◌, [], ◌∷◌, ◌++◌, true, false, ◌==◌, if◌then◌else◌, max, length, IfOk, IfSome, OnSome, OnOk, MatchOption, Some, None};
 ghost use Rattle.std.specs.Option.{option_map, option_copied};
 ghost use Rattle.intervals.specs.Bytes.{largest_around};
 ghost use Rattle.model.specs.Limits.{IsNumber};
@@ -114,6 +114,23 @@ impl RowEdits {
     {
         self.edits.push(edit)?;
         Ok(())
+    }
+
+    // Whether the incarnations of a node up to this one are known to be dead already, and it has no row of
+    // one of them.
+    fn has_forgotten(&self, clients: &Clients, node: u8, incarnation: u16) -> bool
+        requires { IsNumber (length clients.now) node }
+        ensures row { result ≡ true → row_above incarnation (rows_of (overlaid clients.now self.now) node) ≡ rows_of (overlaid clients.now self.now) node }
+        ensures dead { result ≡ true → max (deaths_of (overlaid clients.now self.now) node) incarnation ≡ deaths_of (overlaid clients.now self.now) node }
+    {
+        let client = self.client(clients, node);
+        if client.dead < incarnation {
+            return false;
+        }
+        match client.row {
+            Some(row) => row.commands.incarnation() > incarnation,
+            None => true,
+        }
     }
 
     // A node of which the incarnations up to this one are known to be dead.
@@ -237,6 +254,9 @@ impl RowEdits {
         ensures rows { OnOk result (rows_of (overlaid clients.now self.new) ≡ with_change node (row_above incarnation) (rows_of (overlaid clients.now self.old))) }
         ensures deaths { OnOk result (deaths_of (overlaid clients.now self.new) ≡ (λ n. if n == node then max (deaths_of (overlaid clients.now self.old) n) incarnation else deaths_of (overlaid clients.now self.old) n)) }
     {
+        if self.has_forgotten(clients, node, incarnation) {
+            return Ok(());
+        }
         let edit = self.forgotten(clients, node, incarnation);
         self.put(edit)
     }

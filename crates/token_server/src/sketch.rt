@@ -192,5 +192,5 @@ fn requeue(
         return Ok((queued, left));
     }
     let queued = queued.appending(queue, left.requests(waiting))?;
-    Ok((queued, QueueEdit::Whole(Requests::new(alloc))))
+    Ok((queued, QueueEdit::whole(Requests::new(alloc))?))
 }

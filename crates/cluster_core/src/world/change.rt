@@ -6,11 +6,12 @@ use token_server::change::Change as ServerChange;
 /// What an event will do to a world: the change of the one actor that takes it.
 #[derive(Drop)]
 pub(crate) enum Change {
-    /// The node does this step; the entry names this incarnation, 0 for none.
+    /// The node does this step; the entry names this incarnation, 0 for none. (In a box, since a change is
+    /// handed on for each event.)
     OfNode {
         node: u8,
         incarnation: u16,
-        change: NodeChange,
+        change: Box<NodeChange>,
     },
     /// The token server of the file does this step.
     OfServer {
@@ -21,7 +22,7 @@ pub(crate) enum Change {
     Declared {
         node: u8,
     },
-    /// The node begins again, as this one. (In a box, since a change is handed on for each event.)
+    /// The node begins again, as this one. (In a box too.)
     Restarted {
         node: u8,
         begun: Box<Node>,
