@@ -19,3 +19,4 @@ pub mod FeedlessEvents
 pub mod FeedlessLines
 pub mod Printed
 pub mod OneReading
+pub mod Limits

@@ -1,5 +1,6 @@
 pub mod Texts
 pub mod Served
+pub mod Fits
 pub mod Parts
 pub mod Events
 pub mod Lines

@@ -1,5 +1,10 @@
 //! What holds of every text.
+ghost use Rattle.journal_text.specs.Journals.{journal_text};
+ghost use Rattle.journal_text.specs.Readings.{WritesJournal};
 ghost use Rattle.journal_text.specs.OneText.{EachTextHasOneValue, EveryJournalIsRead, EveryTextHasOneReading};
+
+use crate::fits::entries_fit;
+use cluster_core::journal::Journal;
 
 /// Two messages within their limits that have one text are one message. So it is with events, with
 /// replies, with the lines of journals, and with whole journals.
@@ -19,3 +24,12 @@ pub fn every_journal_is_read()
 pub fn every_text_has_one_reading()
     ensures { EveryTextHasOneReading }
 {}
+
+/// What `print` writes of the shape and the entries of a journal is a text that writes this very
+/// journal, so `parse` answers it: a run is within the limits of its text.
+pub fn each_journal_is_read(journal: &Journal)
+    ensures { WritesJournal (journal_text journal.now.shape journal.now.entries) journal.now.shape journal.now.entries }
+{
+    let _shape = journal.shape();
+    entries_fit(journal.entries());
+}

@@ -4,6 +4,7 @@
 mod builder;
 pub mod error;
 pub mod events;
+mod fits;
 pub mod head;
 pub mod journal;
 pub mod laws;

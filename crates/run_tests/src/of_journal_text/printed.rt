@@ -1,6 +1,9 @@
 //! Journals that are printed.
+use cluster_core::journal::run;
 use intervals::span::{GREATEST, Span};
 use journal_text::journal::print;
+use journal_text::laws::each_journal_is_read;
+use journal_text::parse::parse;
 use messages::command_number::CommandNumber;
 use messages::entry::Entry;
 use messages::event::Event;
@@ -166,5 +169,22 @@ fn has_the_lines_of_its_entries(rt: HostRuntime) -> Result<(), Fail> {
     ]?;
     let text = print(alloc, &shape, &entries)?;
     assert_eq!(rt; text.as_str(), JOURNAL);
+    Ok(())
+}
+
+#[test]
+fn is_read_back(rt: HostRuntime) -> Result<(), Fail> {
+    let alloc = rt.alloc();
+    let shape = Shape::new(1, 1, Policy::Wide)?;
+    let spawn = Event::Call {
+        node: 1,
+        pid: 1,
+        op: Op::Spawn,
+    };
+    let journal = run(alloc, shape, &[spawn, Event::Resend { file: 1 }])?;
+    each_journal_is_read(&journal);
+    let text = print(alloc, &journal.shape(), journal.entries())?;
+    let (_, again) = parse(alloc, &text)?;
+    assert_eq!(rt; again.len(), 2);
     Ok(())
 }

@@ -2,9 +2,8 @@
 use crate::of_replay::shelf::{Desk, PATH, RUN_WITH_JOURNAL, Shelf};
 use replay::respond::respond;
 use replay::shown::Shown;
-use std::alloc::Global;
-use std::fmt::Write;
 use std::io;
+use std::io::Write;
 use std::test::Fail;
 
 const SCRIPT: &[u8] = b"cluster nodes 1 files 1 policy wide
@@ -43,25 +42,11 @@ reply 1.1.2 fd 1
 end 2
 ";
 
-// Where the entries of a journal are too many.
-const TOO_MANY: u32 = 1_048_577;
-
-// The text of a journal of as many entries.
-fn long_journal(alloc: Global) -> Result<String, Fail> {
-    let mut text = String::new(alloc);
-    text.push_str("journal 1 nodes 1 files 1 policy wide\n")?;
-    for position in 1..=TOO_MANY {
-        writeln!(text, "entry {position} resend 1")?;
-    }
-    writeln!(text, "end {TOO_MANY}")?;
-    Ok(text)
-}
-
 // A full device.
 #[derive(Drop)]
 struct Full;
 
-impl io::Write for Full {
+impl Write for Full {
     fn write(&mut self, _bytes: &[u8]) -> io::Result<usize> {
         Err(io::Error::from(io::ErrorKind::StorageFull))
     }
@@ -79,14 +64,7 @@ fn writes_the_journal_before_the_listing(rt: HostRuntime) {
         shelf: Shelf { bytes: SCRIPT },
         written: Vec::new(alloc),
     };
-    let status = respond(
-        &rt,
-        alloc,
-        &RUN_WITH_JOURNAL,
-        &mut desk,
-        &mut Full,
-        &mut err,
-    );
+    let status = respond(&rt, alloc, &RUN_WITH_JOURNAL, &mut desk, &mut Full, &mut err);
     assert_eq!(rt; desk.written.as_slice(), JOURNAL);
     assert_eq!(rt;
         err.as_slice(),
@@ -101,14 +79,7 @@ fn shows_no_listing_without_its_journal(rt: HostRuntime) {
     let mut out = Vec::new(alloc);
     let mut err = Vec::new(alloc);
     let mut shelf = Shelf { bytes: SCRIPT };
-    let status = respond(
-        &rt,
-        alloc,
-        &RUN_WITH_JOURNAL,
-        &mut shelf,
-        &mut out,
-        &mut err,
-    );
+    let status = respond(&rt, alloc, &RUN_WITH_JOURNAL, &mut shelf, &mut out, &mut err);
     assert_eq!(rt; out.as_slice(), b"".as_slice());
     assert_eq!(rt; err.as_slice(), b"cannot write a.journal\n".as_slice());
     assert_eq!(rt; status, 3);
@@ -132,26 +103,6 @@ fn audits_journals(rt: HostRuntime) {
     let told = b"audit yes\naudit no 2\naudit no 2\n";
     assert_eq!(rt; out.as_slice(), told.as_slice());
     assert_eq!(rt; err.as_slice(), b"".as_slice());
-}
-
-#[test]
-fn tells_that_a_journal_has_too_many_entries(rt: HostRuntime) -> Result<(), Fail> {
-    let alloc = rt.alloc();
-    let mut out = Vec::new(alloc);
-    let mut err = Vec::new(alloc);
-    let text = long_journal(alloc)?;
-    let mut shelf = Shelf {
-        bytes: text.as_bytes(),
-    };
-    for word in ["audit", "history"] {
-        let words = ["lockreplay", word, PATH];
-        let status = respond(&rt, alloc, &words, &mut shelf, &mut out, &mut err);
-        assert_eq!(rt; status, 4, "{word}");
-    }
-    assert_eq!(rt; out.as_slice(), b"".as_slice());
-    let told = b"journal full\njournal full\n";
-    assert_eq!(rt; err.as_slice(), told.as_slice());
-    Ok(())
 }
 
 #[test]

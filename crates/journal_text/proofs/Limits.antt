@@ -1,0 +1,181 @@
+-- The entries of a run are within the limits of a journal's text, where they fit their types.
+use Rattle.std.proofs.Common.{◌≡◌, ℕ, ◌+◌, ◌≤◌, true, List, [], ◌∷◌, ◌++◌, length, map, Option, Some, None, Ok, refl, sym, ap, subst, ◌∙◌, arith}
+use Rattle.std.specs.Prelude.{◌&&◌, IfSome, nat_le}
+use Rattle.std.specs.List.{All}
+use Rattle.std.proofs.lemmas.Bool.{and_parts}
+use Rattle.std.proofs.lemmas.Bool.Decides.{nat_tests}
+use Rattle.std.proofs.lemmas.List.{length-map}
+use Rattle.std.proofs.lemmas.List.Elements.{All-append, All-cons, All-head, All-nil, All-tail}
+use Rattle.model.specs.declared.call.CallId.{CallId}
+use Rattle.model.specs.declared.op.Op.{Op}
+use Rattle.model.specs.declared.op.Op.TheVariants as op
+use Rattle.model.specs.declared.reply.Reply.{Reply}
+use Rattle.model.specs.Limits.{IsCall, IsHost, IsNumber, most_nodes, most_processes}
+use Rattle.messages.specs.Entries.{EntryFields, NamesItsCall, NamesItsIncarnation}
+use Rattle.messages.specs.Messages.{addressee, is_among, is_within}
+use Rattle.messages.specs.Shapes.{IsShape, ShapeFields, most_files}
+use Rattle.messages.specs.declared.event.Event.{Event}
+use Rattle.messages.specs.declared.event.Event.TheVariants as event
+use Rattle.messages.specs.declared.message.Message.{Message}
+use Rattle.node_core.specs.Calls.{is_in_shape, is_pid}
+use Rattle.cluster_core.specs.Next.{has_actor, is_known, next}
+use Rattle.cluster_core.specs.Runs.{IsRun, Leads}
+use Rattle.cluster_core.specs.World.{WorldState, first_world, has_file, has_node, journal_limit, was_declared}
+use Rattle.cluster_core.proofs.common.Lengths.{run-length}
+use Rattle.cluster_core.proofs.runs.JournalRuns.{leads_shape}
+use Rattle.cluster_core.proofs.steps.Steps.{next_taken}
+use Rattle.lockscript.specs.Served.{IsServedOp}
+use Rattle.journal_text.specs.declared.lines.JournalLine.{JournalLine}
+use Rattle.journal_text.specs.declared.lines.JournalLine.TheVariants.{Answer, End, Entry, Send}
+use Rattle.journal_text.specs.declared.named_entry.NamedEntry.{NamedEntry}
+use Rattle.journal_text.specs.declared.named_event.NamedEvent.{NamedEvent}
+use Rattle.journal_text.specs.declared.named_event.NamedEvent.TheVariants as named
+use Rattle.journal_text.specs.Events.{IsServedEvent, call_of, event_of, incarnation_of}
+use Rattle.journal_text.specs.Fits.{FitsEntry, FitsEvent, FitsIncarnation, FitsOp, IsServedAnswer}
+use Rattle.journal_text.specs.Journals.{journal_text}
+use Rattle.journal_text.specs.Lines.{IsPosition, IsServedLine}
+use Rattle.journal_text.specs.OneText.{IsServedJournal}
+use Rattle.journal_text.specs.Readings.{WritesJournal, answer_lines, body_lines, entry_in, entry_lines, lines_of}
+use Rattle.journal_text.specs.Served.{IsServedMessage}
+use Rattle.journal_text.proofs.Printed.{read-printed}
+
+within : (few most n : ℕ) → few ≤ most → is_within few n ≡ true → IsNumber most n
+within few most n room h =
+    let tests = and_parts (nat_le 1 n) (nat_le n few) h in
+    let above : 1 ≤ n = grind (arith, nat_tests, tests.0) in
+    let below : n ≤ few = grind (arith, nat_tests, tests.1) in
+    (above, omega arith)
+
+-- an operation that the cluster knows
+op-served : (s : ShapeFields) (o : Op) → IsShape s → is_in_shape s o ≡ true → FitsOp o → IsServedOp o
+op-served s op.Spawn shape known fits = tt
+op-served s (op.Fork child) shape known fits = within most_processes most_processes child (omega arith) known
+op-served s (op.Open file access) shape known fits = within s.files most_files file shape.files_in.1 known
+op-served s (op.Dup fd) shape known fits = fits
+op-served s (op.Close fd) shape known fits = fits
+op-served s op.Exit shape known fits = tt
+op-served s (op.Set fd kind mode start len) shape known fits = fits
+op-served s (op.Wait fd kind mode start len) shape known fits = fits
+op-served s (op.Unlock fd kind start len) shape known fits = fits
+op-served s (op.Query fd kind mode start len) shape known fits = fits
+
+-- an event with the names that its entry gives it, which may be written
+record IsNamed (e : Event) (incarnation : ℕ) (call : Option CallId) : Type 0 where
+  name : NamedEvent
+  event_is : e ≡ event_of name
+  incarnation_is : incarnation ≡ incarnation_of name
+  call_is : call ≡ call_of name
+  event_in : IsServedEvent name
+
+module _ (w : WorldState) (incarnation : ℕ) (shape : IsShape w.shape) (fits : FitsIncarnation incarnation) where
+  node-in : (n : ℕ) → has_node w n ≡ true → IsNumber most_nodes n
+  node-in n known = within w.shape.nodes most_nodes n shape.nodes_in.1 known
+
+  file-in : (f : ℕ) → has_file w f ≡ true → IsNumber most_files f
+  file-in f known = within w.shape.files most_files f shape.files_in.1 known
+
+  pid-in : (p : ℕ) → is_pid p ≡ true → IsNumber most_processes p
+  pid-in p known = within most_processes most_processes p (omega arith) known
+
+  host-in : (n : ℕ) → has_node w n ≡ true → 1 ≤ incarnation → IsHost n incarnation
+  host-in n known from = record { node_in = node-in n known; incarnation_in = (from, fits) }
+
+  event-named : (e : Event) (call : Option CallId) → is_known w e ≡ true → FitsEvent e → NamesItsIncarnation e incarnation → IfSome call IsCall → NamesItsCall e call → IsNamed e incarnation call
+  event-named (event.Call n pid o) None known fit from call_in names = absurd names
+  event-named (event.Call n pid o) (Some id) known fit from call_in names =
+      let parts = and_parts (has_node w n) (is_pid pid && is_in_shape w.shape o) known in
+      let rest = and_parts (is_pid pid) (is_in_shape w.shape o) parts.1 in
+      record {
+        name = named.Call id pid o;
+        event_is = ap (λ (k : ℕ). event.Call k pid o) (sym names);
+        incarnation_is = from;
+        call_is = refl;
+        event_in = (call_in, pid-in pid rest.0, op-served w.shape o shape rest.1 fit);
+      }
+  event-named (event.Deliver m) call known fit from call_in names = record { name = named.Deliver m; event_is = refl; incarnation_is = from; call_is = names; event_in = fit }
+  event-named (event.Interrupt n pid) call known fit from call_in names =
+      let parts = and_parts (has_node w n) (is_pid pid) known in
+      record { name = named.Interrupt (record { node = n; incarnation = incarnation }) pid; event_is = refl; incarnation_is = refl; call_is = names; event_in = (host-in n parts.0 from, pid-in pid parts.1) }
+  event-named (event.Retry n pid) call known fit from call_in names =
+      let parts = and_parts (has_node w n) (is_pid pid) known in
+      record { name = named.Retry (record { node = n; incarnation = incarnation }) pid; event_is = refl; incarnation_is = refl; call_is = names; event_in = (host-in n parts.0 from, pid-in pid parts.1) }
+  event-named (event.Resend file) call known fit from call_in names = record { name = named.Resend file; event_is = refl; incarnation_is = from; call_is = names; event_in = file-in file known }
+  event-named (event.Declare n) call known fit from call_in names =
+      record { name = named.Declare (record { node = n; incarnation = incarnation }); event_is = refl; incarnation_is = refl; call_is = names; event_in = host-in n known from }
+  event-named (event.Restart n) call known fit from call_in names =
+      record { name = named.Restart (record { node = n; incarnation = incarnation }); event_is = refl; incarnation_is = refl; call_is = names; event_in = host-in n known from }
+  event-named (event.Learn file n i) call known fit from call_in names =
+      let parts = and_parts (has_file w file) (has_node w n && was_declared w n i) known in
+      let rest = and_parts (has_node w n) (was_declared w n i) parts.1 in
+      let told = and_parts (nat_le 1 i) _ rest.1 in
+      let above : 1 ≤ i = grind (arith, nat_tests, told.0) in
+      record {
+        name = named.Learn file (record { node = n; incarnation = i });
+        event_is = refl;
+        incarnation_is = from;
+        call_is = names;
+        event_in = (file-in file parts.0, record { node_in = node-in n rest.0; incarnation_in = (above, fit) });
+      }
+
+-- an entry that may be written
+record IsServedEntry (e : EntryFields) : Type 0 where
+  event_in : IsNamed e.event e.incarnation e.call
+  reply_in : IfSome e.reply IsServedAnswer
+  sends_in : All IsServedMessage e.sends
+
+leads-served : (w v : WorldState) (es : List EntryFields) → IsShape w.shape → Leads w es v → All FitsEntry es → All IsServedEntry es
+leads-served w v [] shape leads fits = All-nil IsServedEntry
+leads-served w v (e ∷ es) shape leads fits =
+    let mid = leads.0 in
+    let fit = All-head FitsEntry e es fits in
+    let known = (next_taken w e.event (mid, e) leads.1).0 in
+    let same = leads_shape w mid (e ∷ []) (mid, leads.1, refl) in
+    let first : IsServedEntry e = record { event_in = event-named w e.incarnation shape fit.incarnation_in e.event e.call known fit.event_in fit.incarnation_named fit.call_in fit.call_named; reply_in = fit.reply_in; sends_in = fit.sends_in } in
+    All-cons IsServedEntry e es first (leads-served mid v es (subst IsShape (sym same) shape) leads.2 (All-tail FitsEntry e es fits))
+
+answer-in : (reply : Option (CallId × Reply)) → IfSome reply IsServedAnswer → All IsServedLine (answer_lines reply)
+answer-in None good = All-nil IsServedLine
+answer-in (Some answer) good = All-cons IsServedLine (Answer answer.0 answer.1) [] good (All-nil IsServedLine)
+
+sends-in : (sends : List Message) → All IsServedMessage sends → All IsServedLine (map Send sends)
+sends-in [] good = All-nil IsServedLine
+sends-in (m ∷ ms) good = All-cons IsServedLine (Send m) (map Send ms) (All-head IsServedMessage m ms good) (sends-in ms (All-tail IsServedMessage m ms good))
+
+-- entries with the names in their events, which are written from this position on
+record Named (position : ℕ) (es : List EntryFields) : Type 0 where
+  entries : List NamedEntry
+  same : es ≡ map entry_in entries
+  lines_in : All IsServedLine (lines_of position entries)
+
+entries-named : (position : ℕ) (es : List EntryFields) → 1 ≤ position → position + length es ≤ 4294967296 → All IsServedEntry es → Named position es
+entries-named position [] from to good = record { entries = []; same = refl; lines_in = All-nil IsServedLine }
+entries-named position (e ∷ es) from to good =
+    let first = All-head IsServedEntry e es good in
+    let rest = entries-named (position + 1) es (omega arith) (omega arith) (All-tail IsServedEntry e es good) in
+    let one : NamedEntry = record { event = first.event_in.name; reply = e.reply; sends = e.sends } in
+    let tail = All-append IsServedLine (answer_lines e.reply) (map Send e.sends) (answer-in e.reply first.reply_in) (sends-in e.sends first.sends_in) in
+    let lines = All-cons IsServedLine (Entry position first.event_in.name) (answer_lines e.reply ++ map Send e.sends) ((from, omega arith), first.event_in.event_in) tail in
+    let is : e ≡ entry_in one = λ i. record { event = first.event_in.event_is i; incarnation = first.event_in.incarnation_is i; call = first.event_in.call_is i; reply = e.reply; sends = e.sends } in
+    record {
+      entries = one ∷ rest.entries;
+      same = λ i. is i ∷ rest.same i;
+      lines_in = All-append IsServedLine (entry_lines position one) (lines_of (position + 1) rest.entries) lines rest.lines_in;
+    }
+
+entries-served : (s : ShapeFields) (es : List EntryFields) → IsShape s → length es ≤ 4294967295 → All IsServedEntry es → IsServedJournal s es
+entries-served s es shape few good =
+    let n = entries-named 1 es (omega arith) (omega arith) good in
+    let count : length n.entries ≡ length es = sym (length-map n.entries entry_in) ∙ sym (ap length n.same) in
+    record {
+      named = n.entries;
+      same = n.same;
+      shape_in = shape;
+      lines_in = All-append IsServedLine (lines_of 1 n.entries) (End (length n.entries) ∷ []) n.lines_in
+          (All-cons IsServedLine (End (length n.entries)) [] (subst (λ (k : ℕ). k ≤ 4294967295) (sym count) few) (All-nil IsServedLine));
+    }
+
+-- what is printed of a run is read as that run
+pub read-run : (s : ShapeFields) (es : List EntryFields) → IsShape s → IsRun s es → All FitsEntry es → WritesJournal (journal_text s es) s es
+read-run s es shape run fits =
+    let few = run-length s es run in
+    read-printed s es (entries-served s es shape (omega (arith, few)) (leads-served (first_world s) run.0 es shape run.1 fits))

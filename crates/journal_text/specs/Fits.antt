@@ -1,0 +1,47 @@
+-- What the types of its parts hold an entry to.
+use Rattle.std.specs.Prelude.{ℕ, ◌≤◌, All, FitsSigned, IfSome, ⊤}
+use Rattle.std.specs.Int.{w64}
+use Rattle.model.specs.declared.call.CallId.{CallId}
+use Rattle.model.specs.declared.op.Op.{Op}
+use Rattle.model.specs.declared.op.Op.TheVariants.{Dup, Close, Set, Wait, Unlock, Query}
+use Rattle.model.specs.declared.reply.Reply.{Reply}
+use Rattle.model.specs.Limits.{IsCall}
+use Rattle.messages.specs.Entries.{EntryFields, NamesItsCall, NamesItsIncarnation}
+use Rattle.messages.specs.declared.event.Event.{Event}
+use Rattle.messages.specs.declared.event.Event.TheVariants.{Call, Deliver, Learn}
+use Rattle.lockscript.specs.Served.{IsDescriptor}
+use Rattle.journal_text.specs.Served.{IsServedMessage, IsServedReply}
+
+-- a byte for a descriptor, 64 bits for a start and a length
+abbrev pub FitsOp : Op → Type 0
+FitsOp (Dup fd) = IsDescriptor fd
+FitsOp (Close fd) = IsDescriptor fd
+FitsOp (Set fd kind mode start len) = IsDescriptor fd × FitsSigned w64 start × FitsSigned w64 len
+FitsOp (Wait fd kind mode start len) = IsDescriptor fd × FitsSigned w64 start × FitsSigned w64 len
+FitsOp (Unlock fd kind start len) = IsDescriptor fd × FitsSigned w64 start × FitsSigned w64 len
+FitsOp (Query fd kind mode start len) = IsDescriptor fd × FitsSigned w64 start × FitsSigned w64 len
+FitsOp _ = ⊤
+
+-- an incarnation that fits its type
+abbrev pub FitsIncarnation : ℕ → Type 0
+FitsIncarnation incarnation = incarnation ≤ 65535
+
+abbrev pub FitsEvent : Event → Type 0
+FitsEvent (Call node pid op) = FitsOp op
+FitsEvent (Deliver message) = IsServedMessage message
+FitsEvent (Learn file node incarnation) = FitsIncarnation incarnation
+FitsEvent _ = ⊤
+
+-- an answer to a call
+abbrev pub IsServedAnswer : CallId × Reply → Type 0
+IsServedAnswer answer = IsCall answer.0 × IsServedReply answer.1
+
+-- all but the numbers of nodes, processes and files in its event
+pub record FitsEntry (e : EntryFields) : Type 0 where
+  pub event_in : FitsEvent e.event
+  pub incarnation_in : FitsIncarnation e.incarnation
+  pub incarnation_named : NamesItsIncarnation e.event e.incarnation
+  pub call_in : IfSome e.call IsCall
+  pub call_named : NamesItsCall e.event e.call
+  pub reply_in : IfSome e.reply IsServedAnswer
+  pub sends_in : All IsServedMessage e.sends
