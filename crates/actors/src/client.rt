@@ -52,7 +52,9 @@ impl<'a> Client<'a> {
     }
 
     /// Whether the client is of that process of the node, in whatever incarnation.
-    pub(crate) fn is_of(&self, node: u8, pid: u16) -> bool {
+    pub(crate) fn is_of(&self, node: u8, pid: u16) -> bool
+        ensures { IsTrue result ↔ ((self.now.process.node ≡ node) × (self.now.process.pid ≡ pid)) }
+    {
         self.process.node == node && self.process.pid == pid
     }
 

@@ -1,6 +1,7 @@
 //! A cluster on threads.
 ghost use Rattle.std.specs.Prelude.{◌≡◌, ◌+◌, IfOk, length};
 ghost use Rattle.messages.specs.declared.event.Event.TheVariants.{Declare};
+ghost use Rattle.cluster_core.specs.Histories.{HasOneHistory};
 
 use crate::call_error::CallError;
 use crate::client::Client;
@@ -129,6 +130,9 @@ pub fn with_cluster<
 ) -> Result<(T, Journal), RunError>
     requires each { length weathers.items ≡ shape.nodes + shape.files }
     requires body { F.IsAlwaysCallable body }
+
+    // One table explains every reply, and ends as what the nodes hold.
+    ensures one_table { IfOk result (λ made. HasOneHistory made.1.shape made.1.entries) }
 {
     let (book, seats) = Book::new(alloc, shape)?;
     let (workers, mailboxes) = workers_of(alloc, seats, weathers)?;

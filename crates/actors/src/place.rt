@@ -1,5 +1,7 @@
 //! Places of nodes.
-ghost use Rattle.std.specs.Prelude.{◌≤◌, IfOk};
+ghost use Rattle.std.specs.Prelude.{◌≡◌, ◌≤◌, Err, None, Some, [], false, true, IfOk};
+ghost use Rattle.book.specs.States.{incarnation_of};
+ghost use Rattle.actors.specs.declared.call_error.CallError.TheVariants.{Fenced};
 
 use crate::call_error::CallError;
 use book::seat::Seat;
@@ -29,7 +31,10 @@ impl Place {
 
     /// The process has a client from here on, of the incarnation that is answered.
     pub(crate) fn hand_out(&mut self, pid: u16) -> Result<u16, CallError>
-        ensures { IfOk result (λ incarnation. 1 ≤ incarnation) }
+        ensures from_one { IfOk result (λ incarnation. 1 ≤ incarnation) }
+        ensures value { IfOk result (λ incarnation. incarnation ≡ self.old.incarnation) }
+        ensures fenced { self.old.alive ≡ false → result ≡ Err Fenced }
+        ensures node { (self.new.incarnation ≡ self.old.incarnation) × (self.new.alive ≡ self.old.alive) × (self.new.seat ≡ self.old.seat) }
     {
         if !self.alive {
             return Err(CallError::Fenced);
@@ -44,14 +49,19 @@ impl Place {
     }
 
     /// The node is declared failed in the incarnation that is answered.
-    pub(crate) fn end(&mut self) -> u16 {
+    pub(crate) fn end(&mut self) -> u16
+        ensures value { result ≡ self.old.incarnation }
+        ensures ended { self.new.alive ≡ false }
+    {
         self.alive = false;
         self.incarnation
     }
 
     /// The node begins again, on this seat, and no process has a client. A server's seat, which has no
     /// incarnation, begins no node.
-    pub(crate) fn begin(&mut self, seat: Seat) {
+    pub(crate) fn begin(&mut self, seat: Seat)
+        ensures { 1 ≤ incarnation_of seat.state → (self.new.incarnation ≡ incarnation_of seat.state) × (self.new.alive ≡ true) × (self.new.clients.items ≡ []) × (self.new.seat ≡ Some seat) }
+    {
         let incarnation = seat.incarnation();
         if incarnation < 1 {
             return;
@@ -63,7 +73,10 @@ impl Place {
     }
 
     /// The seat that waits for the worker.
-    pub(crate) fn take_seat(&mut self) -> Option<Seat> {
+    pub(crate) fn take_seat(&mut self) -> Option<Seat>
+        ensures taken { result ≡ self.old.seat }
+        ensures none { self.new.seat ≡ None }
+    {
         self.seat.take()
     }
 }

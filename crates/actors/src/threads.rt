@@ -1,6 +1,7 @@
 //! Scripts on threads.
-ghost use Rattle.std.specs.Prelude.{◌≡◌, ◌↔◌, Some, IsErrOf, IfOk, length};
+ghost use Rattle.std.specs.Prelude.{◌≡◌, ◌↔◌, Some, IsErrOf, IsTrue, IfOk, length};
 ghost use Rattle.actors.specs.declared.run_error.RunError.{RunError};
+ghost use Rattle.cluster_core.specs.Histories.{HasOneHistory};
 ghost use Rattle.lockscript.specs.ThreadLines.{bad_line};
 
 use crate::cluster::{Cluster, with_cluster};
@@ -13,6 +14,7 @@ use crate::thread_run::ThreadRun;
 use crate::weather::Fair;
 use lockscript::script::Script;
 use lockscript::script_line::ScriptLine;
+use messages::shape::Shape;
 use std::alloc::{AllocError, Global};
 use std::sync::Wait;
 use std::thread::Threads;
@@ -35,6 +37,10 @@ pub fn run_threads<G: Gate + Sync, R: Threads + Wait + Clock + Sync>(
     gate: &G,
     _seed: u32,
 ) -> Result<ThreadRun, RunError>
+    ensures shape { IfOk result (λ run. run.journal.shape ≡ script.now.shape) }
+
+    // One table explains every reply, and ends as what the nodes hold.
+    ensures one_table { IfOk result (λ run. HasOneHistory run.journal.shape run.journal.entries) }
     ensures bad_line { (number : _) → IsErrOf result (RunError.BadLine number) ↔ (bad_line script.now.lines ≡ Some number) }
 {
     if let Some(number) = script.bad_line_on_threads() {
@@ -53,7 +59,10 @@ fn run_script<G: Gate + Sync, R: Threads + Wait + Clock + Sync>(
     alloc: Global,
     script: &Script,
     gate: &G,
-) -> Result<ThreadRun, Stop> {
+) -> Result<ThreadRun, Stop>
+    ensures shape { IfOk result (λ run. run.journal.shape ≡ script.now.shape) }
+    ensures one_table { IfOk result (λ run. HasOneHistory run.journal.shape run.journal.entries) }
+{
     let shape = script.shape();
     let actors = usize::from(shape.nodes()) + usize::from(shape.files());
     let weathers = fair_weathers(alloc, actors)?;
@@ -61,9 +70,19 @@ fn run_script<G: Gate + Sync, R: Threads + Wait + Clock + Sync>(
         run_lines(rt, alloc, cluster, script.lines())
     });
     match run {
-        Ok((outcomes, journal)) => ThreadRun::new(alloc, outcomes?, journal),
-        Err(_) => Err(Stop::NoMemory),
+        // A lock says nothing of the book that it gives back, so the shape is looked at.
+        Ok((outcomes, journal)) if same_shape(&journal.shape(), &shape) => {
+            ThreadRun::new(alloc, outcomes?, journal)
+        }
+        _ => Err(Stop::NoMemory),
     }
+}
+
+// Whether both are the same shape.
+fn same_shape(one: &Shape, other: &Shape) -> bool
+    ensures { IsTrue result ↔ (one.now ≡ other.now) }
+{
+    one == other
 }
 
 // So many weathers under which each message goes at once.

@@ -1,4 +1,7 @@
 //! Weathers: what becomes of messages on their way.
+ghost use Rattle.std.specs.Prelude.{◌≡◌};
+ghost use Rattle.actors.specs.declared.weather.Fate.TheVariants.{Pass};
+
 use messages::message::Message;
 
 /// What becomes of a message that an actor sends.
@@ -24,7 +27,9 @@ pub trait Weather: Drop {
 pub struct Fair;
 
 impl Weather for Fair {
-    fn fate(&mut self, _message: &Message) -> Fate {
+    fn fate(&mut self, _message: &Message) -> Fate
+        ensures { result ≡ Pass }
+    {
         Fate::Pass
     }
 }
