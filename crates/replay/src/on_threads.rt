@@ -9,9 +9,8 @@ use actors::gate::OpenGate;
 use actors::run_error::RunError;
 use actors::thread_run::ThreadRun;
 use actors::threads::run_threads;
-use lockscript::refused_line::RefusedLine;
 use lockscript::script::Script;
-use std::alloc::{AllocError, Global};
+use std::alloc::Global;
 use std::sync::Wait;
 use std::thread::Threads;
 use std::time::Clock;
@@ -38,20 +37,7 @@ pub(crate) fn run_on_threads<R: Threads + Wait + Clock + Sync>(
 fn threaded_of(alloc: Global, run: &ThreadRun) -> Result<Threaded, PlayError> {
     let journal = run.journal();
     let receipts = run.receipts();
-    let refused = lines_of(alloc, run.refused())?;
     let answered = receipts.len() as u64;
     let held = held_in(journal, receipts);
-    Ok(Threaded::new(alloc, journal, refused.as_slice(), answered, held)?)
-}
-
-// The refused lines, as listings name them.
-fn lines_of(alloc: Global, refused: &[(u32, u16)]) -> Result<Vec<RefusedLine>, AllocError> {
-    let mut lines = Vec::new(alloc);
-    for (line, code) in refused {
-        lines.push(RefusedLine {
-            line: *line,
-            code: *code,
-        })?;
-    }
-    Ok(lines)
+    Ok(Threaded::new(alloc, journal, run.refused(), answered, held)?)
 }

@@ -151,10 +151,11 @@ fn refused_lines_come_in_order(rt: HostRuntime) -> Result<(), Fail> {
     let alloc = rt.alloc();
     let script = Script::parse(alloc, FAILURES)?;
     let run = run_threads(&rt, alloc, &script, &OpenGate, 1)?;
-    assert_eq!(rt;
-        run.refused(),
-        [(4, 14), (5, 11), (7, 15), (8, 10), (11, 14)].as_slice()
-    );
+    let refused = [(4, 14), (5, 11), (7, 15), (8, 10), (11, 14)];
+    assert_eq!(rt; run.refused().len(), refused.len());
+    for (found, (line, code)) in run.refused().iter().zip(refused) {
+        assert_eq!(rt; (found.line, found.code), (line, code));
+    }
     assert_eq!(rt; run.receipts().len(), 3);
     let third = run.receipts().get(2).ok_or("a third receipt")?;
     assert_eq!(rt; third.call().incarnation, 2);
