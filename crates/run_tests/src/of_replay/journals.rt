@@ -64,7 +64,14 @@ fn writes_the_journal_before_the_listing(rt: HostRuntime) {
         shelf: Shelf { bytes: SCRIPT },
         written: Vec::new(alloc),
     };
-    let status = respond(&rt, alloc, &RUN_WITH_JOURNAL, &mut desk, &mut Full, &mut err);
+    let status = respond(
+        &rt,
+        alloc,
+        &RUN_WITH_JOURNAL,
+        &mut desk,
+        &mut Full,
+        &mut err,
+    );
     assert_eq!(rt; desk.written.as_slice(), JOURNAL);
     assert_eq!(rt;
         err.as_slice(),
@@ -79,7 +86,14 @@ fn shows_no_listing_without_its_journal(rt: HostRuntime) {
     let mut out = Vec::new(alloc);
     let mut err = Vec::new(alloc);
     let mut shelf = Shelf { bytes: SCRIPT };
-    let status = respond(&rt, alloc, &RUN_WITH_JOURNAL, &mut shelf, &mut out, &mut err);
+    let status = respond(
+        &rt,
+        alloc,
+        &RUN_WITH_JOURNAL,
+        &mut shelf,
+        &mut out,
+        &mut err,
+    );
     assert_eq!(rt; out.as_slice(), b"".as_slice());
     assert_eq!(rt; err.as_slice(), b"cannot write a.journal\n".as_slice());
     assert_eq!(rt; status, 3);
