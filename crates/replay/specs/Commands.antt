@@ -1,9 +1,10 @@
 -- What a command comes to.
-use Rattle.std.specs.Prelude.{◌≡◌, ℕ, List, string_bytes, Option, Some, None}
+use Rattle.std.specs.Prelude.{◌≡◌, ℕ, ⊤, List, string_bytes, Option, Some, None}
 use Rattle.std.specs.Io.KnownBytes.{Appends}
 use Rattle.cluster_core.specs.Journals.{JournalFields}
 use Rattle.command_line.specs.Tasks.{Task, run, threads, audit, history}
 use Rattle.journal_text.specs.Journals.{journal_text}
+use Rattle.journal_text.specs.Readings.{WritesJournal}
 use Rattle.replay.specs.declared.fault.Fault.{Fault}
 use Rattle.replay.specs.declared.fault.Fault.TheVariants.{CannotWrite, CannotWriteOutput}
 use Rattle.replay.specs.declared.shown.Shown.{Shown}
@@ -15,13 +16,18 @@ use Rattle.replay.specs.Played.{PlayedState}
 use Rattle.replay.specs.Scripts.{HasRun, IsListing}
 use Rattle.replay.specs.Showing.{shown_status, shown_text}
 use Rattle.replay.specs.Statuses.{status_of}
-use Rattle.replay.specs.Threads.{IsTaken, IsThreaded, ShowsThreads, ThreadedFields}
+use Rattle.replay.specs.Threads.{IsTaken, IsTold, ShowsThreads, ThreadedFields}
 use Rattle.replay.specs.Stores.{Files, SameFiles, SameOthers}
 
 -- the text of a journal is in the file of this path, and no other file changed; with no path none did
 abbrev pub KeepsJournal : Files → Option (List ℕ) → List ℕ → Files → Type 0
 KeepsJournal old None text new = SameFiles old new
 KeepsJournal old (Some path) text new = new path (Some text) × SameOthers old new path
+
+-- what is written of the journal to a file writes this very journal, as an audit reads it
+abbrev pub IsReadFrom : Option (List ℕ) → JournalFields → Type 0
+IsReadFrom None j = ⊤
+IsReadFrom (Some path) j = WritesJournal (journal_text j.shape j.entries) j.shape j.entries
 
 -- what is shown of a run is its listing
 abbrev pub ShowsRun : PlayedState → Shown → Type 0
@@ -32,8 +38,8 @@ ShowsRun played (Text text) = IsListing played (string_bytes text)
 
 -- what is shown of a task that is done, by the file that it reads, and the files that it leaves
 abbrev pub Does : Files → Task → Files → Shown → Type 0
-Does old (run script to) new shown = (played : PlayedState) × HasRun (old script) played × ShowsRun played shown × KeepsJournal old to (journal_text played.journal.shape played.journal.entries) new
-Does old (threads script seed to) new shown = (t : ThreadedFields) × IsThreaded t × IsTaken (old script) × ShowsThreads t shown × KeepsJournal old to t.journal new
+Does old (run script to) new shown = (played : PlayedState) × HasRun (old script) played × ShowsRun played shown × KeepsJournal old to (journal_text played.journal.shape played.journal.entries) new × IsReadFrom to played.journal
+Does old (threads script seed to) new shown = (t : ThreadedFields) × IsTold (old script) t × ShowsThreads t shown × KeepsJournal old to t.journal new
 Does old (audit path) new shown = (j : JournalFields) × HasJournal (old path) j × IsAudit j shown × SameFiles old new
 Does old (history path) new shown = (j : JournalFields) × HasJournal (old path) j × IsHistory j shown × SameFiles old new
 

@@ -1,8 +1,11 @@
 -- Scripts on threads: which lines they may have, and what is shown of their runs.
 use Rattle.std.specs.Prelude.{◌≡◌, ◌≢◌, ℕ, ⊤, List, [], ◌∷◌, ◌++◌, All, flat_map, length, codes, decimal, string_bytes, Option, Some, None}
+use Rattle.actors.specs.Runs.{ThreadRunFields}
+use Rattle.book.specs.Receipts as receipts
 use Rattle.cluster_core.specs.Runs.{Leads}
-use Rattle.cluster_core.specs.World.{first_world}
+use Rattle.cluster_core.specs.World.{WorldState, first_world}
 use Rattle.journal_text.specs.Journals.{journal_text}
+use Rattle.journal_text.specs.Readings.{WritesJournal}
 use Rattle.lockscript.specs.LineFeeds.{line_feed, line_feeds}
 use Rattle.lockscript.specs.Scripts.{ScriptFields, IsFirstBad, IsScript, Writes}
 use Rattle.lockscript.specs.ThreadLines.{bad_line}
@@ -10,6 +13,7 @@ use Rattle.replay.specs.declared.fault.Fault.{Fault}
 use Rattle.replay.specs.declared.fault.Fault.TheVariants.{BadLine, NoMemory}
 use Rattle.replay.specs.declared.shown.Shown.{Shown}
 use Rattle.replay.specs.declared.shown.Shown.TheVariants.{Text, Lacking, Yes, No}
+use Rattle.replay.specs.Counts.{IsCount}
 use Rattle.replay.specs.Played.{PlayedState}
 use Rattle.replay.specs.Scripts.{HasScript, IsListing}
 
@@ -58,6 +62,24 @@ pub record IsThreaded (t : ThreadedFields) : Type 0 where
   pub leads : Leads (first_world played.journal.shape) played.journal.entries played.world
   pub listed : IsListing played t.listing
   pub printed : t.journal ≡ journal_text played.journal.shape played.journal.entries
+
+-- it tells of the run: its listing, its journal as text, which an audit reads as this very journal, how many of its calls were answered, and of how many of these the journal holds the receipts
+pub record Tells (run : ThreadRunFields) (t : ThreadedFields) : Type 0 where
+  pub world : WorldState
+  pub leads : Leads (first_world run.journal.shape) run.journal.entries world
+  pub listed : IsListing (record { journal = run.journal; world = world; refused = run.refused }) t.listing
+  pub printed : t.journal ≡ journal_text run.journal.shape run.journal.entries
+  pub read : WritesJournal t.journal run.journal.shape run.journal.entries
+  pub answered : t.answered ≡ length run.receipts
+  pub held : IsCount (receipts.Holds run.journal.entries) run.receipts t.held
+
+-- of a run of a cluster of the script's shape
+abbrev pub IsToldOf : ScriptFields → ThreadedFields → Type 0
+IsToldOf s t = (run : ThreadRunFields) × (run.journal.shape ≡ s.shape) × Tells run t
+
+-- the file writes the script of that run, and threads take its lines
+abbrev pub IsTold : (Option (List ℕ) → Type 0) → ThreadedFields → Type 0
+IsTold Holds t = (s : ScriptFields) × HasScript Holds s × (bad_line s.lines ≡ None) × IsToldOf s t
 
 -- behind the listing stands how many receipts the journal holds, and that it is one of a run
 abbrev pub threads_text : ThreadedFields → List ℕ

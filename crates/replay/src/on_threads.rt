@@ -1,6 +1,7 @@
 //! Scripts on threads.
-ghost use Rattle.std.specs.Prelude.{◌≡◌, None};
+ghost use Rattle.std.specs.Prelude.{◌≡◌, None, IfOk};
 ghost use Rattle.lockscript.specs.ThreadLines.{bad_line};
+ghost use Rattle.replay.specs.Threads.{IsToldOf, Tells};
 
 use crate::counts::held_in;
 use crate::play::PlayError;
@@ -9,6 +10,7 @@ use actors::gate::OpenGate;
 use actors::run_error::RunError;
 use actors::thread_run::ThreadRun;
 use actors::threads::run_threads;
+use journal_text::laws::each_journal_is_read;
 use lockscript::script::Script;
 use std::alloc::Global;
 use std::sync::Wait;
@@ -24,6 +26,7 @@ pub(crate) fn run_on_threads<R: Threads + Wait + Clock + Sync>(
     seed: u32,
 ) -> Result<Threaded, PlayError>
     requires { bad_line script.now.lines ≡ None }
+    ensures { IfOk result (IsToldOf script.now) }
 {
     match run_threads(rt, alloc, script, &OpenGate, seed) {
         Ok(run) => threaded_of(alloc, &run),
@@ -34,8 +37,11 @@ pub(crate) fn run_on_threads<R: Threads + Wait + Clock + Sync>(
 }
 
 // What is told of the run.
-fn threaded_of(alloc: Global, run: &ThreadRun) -> Result<Threaded, PlayError> {
+fn threaded_of(alloc: Global, run: &ThreadRun) -> Result<Threaded, PlayError>
+    ensures { IfOk result (Tells run.now) }
+{
     let journal = run.journal();
+    each_journal_is_read(journal);
     let receipts = run.receipts();
     let answered = receipts.len() as u64;
     let held = held_in(journal, receipts);

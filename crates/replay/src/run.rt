@@ -4,6 +4,7 @@ ghost use Rattle.cluster_core.specs.declared.held_lock.HeldLock.{HeldLock};
 ghost use Rattle.cluster_core.specs.declared.token_run.TokenRun.{TokenRun};
 ghost use Rattle.command_line.specs.Tasks.{run};
 ghost use Rattle.journal_text.specs.Journals.{journal_text};
+ghost use Rattle.journal_text.specs.Readings.{WritesJournal};
 ghost use Rattle.lockscript.specs.Listing.{listing_start};
 ghost use Rattle.replay.specs.declared.fault.Fault.TheVariants.{CannotWriteOutput};
 ghost use Rattle.replay.specs.declared.shown.Shown.TheVariants.{Text};
@@ -22,6 +23,7 @@ use crate::store::Store;
 use cluster_core::journal::Journal;
 use intervals::span_map::NoMemory;
 use journal_text::journal::print;
+use journal_text::laws::each_journal_is_read;
 use lockscript::listing::push_history;
 use lockscript::script::Script;
 use placement::history::History;
@@ -100,8 +102,10 @@ fn listing_of(alloc: Global, played: Played) -> Result<String, NoMemory>
 fn listing_and_journal(alloc: Global, played: Played) -> Result<(String, String), NoMemory>
     ensures listing { IfOk result (λ texts. IsListing (state_of played) (string_bytes texts.0)) }
     ensures journal { IfOk result (λ texts. string_bytes texts.1 ≡ journal_text played.journal.shape played.journal.entries) }
+    ensures read { IfOk result (λ texts. WritesJournal (journal_text played.journal.shape played.journal.entries) played.journal.shape played.journal.entries) }
 {
     let (mut text, journal, history) = listing_of_played(alloc, played)?;
+    each_journal_is_read(&journal);
     let printed = print(alloc, &journal.shape(), journal.entries())?;
     drop(journal);
     push_history(&mut text, history.items())?;

@@ -5,7 +5,7 @@ ghost use Rattle.replay.specs.declared.fault.Fault.TheVariants.{CannotWriteOutpu
 ghost use Rattle.replay.specs.Commands.{Does, IsFault};
 ghost use Rattle.replay.specs.Faults.{IsThreadsFault};
 ghost use Rattle.replay.specs.Stores.{HasText, SameFiles};
-ghost use Rattle.replay.specs.Threads.{IsTaken, IsTextFault};
+ghost use Rattle.replay.specs.Threads.{IsTaken, IsTextFault, IsTold};
 ghost use Rattle.lockscript.specs.Scripts.{IsScript};
 ghost use Rattle.lockscript.specs.ThreadLines.{bad_line};
 
@@ -87,6 +87,7 @@ fn threaded_of<'a, R: Threads + Wait + Clock + Sync, S: Store>(
     path: &'a str,
     seed: u32,
 ) -> Result<Threaded, Fault<'a>>
+    ensures told { IfOk result (IsTold (S.holds store.old path.now)) }
     ensures taken { IfOk result (λ threaded. IsTaken (S.holds store.old path.now)) }
     ensures fault { IfErr result (IsThreadsFault (S.holds store.old path.now) (S.ran_short store.new) path.now) }
     ensures files { SameFiles (S.holds store.old) (S.holds store.new) }
