@@ -1,7 +1,8 @@
 #!/bin/sh
 # Times journals: scripts of each kind that make some 10,000, 100,000 and 1,000,000 entries are run, run with their journal
-# written, and that journal is audited. Prints for each the processor seconds and the peak memory of its fastest run (of five,
-# three and one), and the size of the journal. `with` and `audit` are also given as multiples of the run alone.
+# written, and that journal is audited. Prints for each the processor seconds and the peak memory of its fastest run (of five
+# times ten that are counted together, three and three), and the size of the journal. `with` and `audit` are also given as
+# multiples of the run alone.
 # usage: bench/journals.sh [DIR [KIND]..]   (scripts and journals stay in DIR; without one they go)
 here=$(dirname -- "$(readlink -f -- "$0")") || exit 1
 folder=$1
@@ -10,7 +11,7 @@ if [ -z "$folder" ]; then
     folder=$(mktemp -d) || exit 1
     trap 'rm -rf "$folder"' EXIT
 fi
-[ $# -gt 0 ] || set -- covered lossy fight storm
+[ $# -gt 0 ] || set -- covered lossy fight storm walk
 mkdir -p "$folder" || exit 1
 "$here/../lockreplay" --help >/dev/null || exit 1
 program=$here/../crates/lockreplay/out/lockreplay
@@ -22,9 +23,10 @@ for kind in "$@"; do
         lossy) share=116 ;;
         fight) share=38 ;;
         storm) share=75 ;;
+        walk) share=25 ;;
         *) share=100 ;;
     esac
-    for size in 10000:5 100000:3 1000000:1; do
+    for size in 10000:5x10 100000:3 1000000:3; do
         runs=${size#*:}
         lines=$((${size%:*} / 100 * share))
         script=$folder/$kind-$lines.lock

@@ -1,7 +1,8 @@
 #!/bin/sh
 # Times lockreplay on scripts of each kind that make some 10,000, 100,000 and 1,000,000 entries of the journal (it holds
-# 1,048,576). Prints for each the processor seconds of its fastest run (of nine, three and one), entries per second and
-# peak memory, and beside the last size the ratio of the time an entry takes there to what it takes in the first.
+# 1,048,576). Prints for each the processor seconds of its fastest run (of nine times ten that are counted together, five and
+# five), entries per second and peak memory, and beside the last size the ratio of the time an entry takes there to what it
+# takes in the first.
 # usage: bench/run.sh [DIR [KIND]..]   (the scripts and listings stay in DIR; without one they go)
 here=$(dirname -- "$(readlink -f -- "$0")") || exit 1
 folder=$1
@@ -34,7 +35,7 @@ for kind in "$@"; do
         *) share=100 ;;
     esac
     first=
-    for size in 10000:9 100000:3 1000000:1; do
+    for size in 10000:9x10 100000:5 1000000:5; do
         lines=$((start + ${size%:*} / 100 * share))
         script=$folder/$kind-$lines.lock
         listing=$folder/$kind-$lines.listing

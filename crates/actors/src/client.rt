@@ -1,5 +1,5 @@
 //! Clients.
-ghost use Rattle.std.specs.Prelude.{◌≡◌, ◌↔◌, IsTrue, true, IfOk, OnErr, max, unwrap_or};
+ghost use Rattle.std.specs.Prelude.{◌≡◌, ◌↔◌, IsTrue, IfOk, OnErr, max, unwrap_or};
 ghost use Rattle.actors.specs.Clients.{ClientFields, IsMadeBy};
 
 use crate::call_error::CallError;
@@ -141,7 +141,7 @@ impl<'a> Client<'a> {
 
     // Whether the receipt is of a call of this process with this operation, made with what was seen.
     fn has_made(&self, receipt: &Receipt, op: Op) -> bool
-        ensures { result ≡ true → IsMadeBy self.now op receipt.now }
+        ensures { IsTrue result ↔ IsMadeBy self.now op receipt.now }
     {
         let call = receipt.call();
         if call.node != self.process.node || call.incarnation != self.process.incarnation {

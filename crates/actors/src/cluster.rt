@@ -1,5 +1,7 @@
 //! A cluster on threads.
-ghost use Rattle.std.specs.Prelude.{◌≡◌, ◌+◌, IfOk, length};
+ghost use Rattle.std.specs.Prelude.{◌≡◌, ◌+◌, ◌≤◌, ◌↔◌, IfOk, IsErrOf, length};
+ghost use Rattle.actors.specs.declared.call_error.CallError.TheVariants.{Stranger};
+ghost use Rattle.model.specs.Limits.{IsNumber, most_nodes, most_processes};
 ghost use Rattle.messages.specs.declared.event.Event.TheVariants.{Declare};
 ghost use Rattle.cluster_core.specs.Histories.{HasOneHistory};
 
@@ -9,7 +11,6 @@ use crate::gate::Gate;
 use crate::letter::Letter;
 use crate::pacer::pace;
 use crate::place::Place;
-use crate::run_error::RunError;
 use crate::shared::{Mailbox, Shared};
 use crate::weather::Weather;
 use crate::worker::Worker;
@@ -17,10 +18,10 @@ use book::book::Book;
 use book::seat::Seat;
 use book::stamp::Stamp;
 use cluster_core::journal::Journal;
-use crossbeam_channel::unbounded;
+use crossbeam_channel::{Receiver, unbounded};
 use messages::refusal::Refused;
 use messages::shape::Shape;
-use model::limits::{MOST_NODES, MOST_PROCESSES};
+use model::limits::MOST_PROCESSES;
 use model::process::Process;
 use std::alloc::{AllocError, Global};
 use std::sync::atomic::{AtomicU64, Ordering};
@@ -37,6 +38,9 @@ pub struct Cluster<'a> {
     book: &'a Mutex<Book>,
     mailboxes: &'a [Mailbox],
     places: &'a [Mutex<Place>],
+    ghost within: { IsNumber most_nodes nodes },
+    ghost has_mailboxes: { nodes ≤ length mailboxes.now },
+    ghost has_places: { length places.now ≡ nodes },
 }
 
 impl<'a> Cluster<'a> {
@@ -54,17 +58,14 @@ impl<'a> Cluster<'a> {
     pub fn client<R: Wait>(&self, rt: &R, node: u8, pid: u16) -> Result<Client<'a>, CallError>
         ensures process { IfOk result (λ client. (client.process.node ≡ node) × (client.process.pid ≡ pid)) }
         ensures fresh { IfOk result (λ client. client.last ≡ 0) }
+        ensures stranger { IsErrOf result Stranger ↔ (IsNumber self.now.nodes node × IsNumber most_processes pid → ⊥) }
     {
-        if node < 1 || node > MOST_NODES || pid < 1 || pid > MOST_PROCESSES {
+        if node < 1 || node > self.nodes || pid < 1 || pid > MOST_PROCESSES {
             return Err(CallError::Stranger);
         }
-        let Some(place) = self.place(node) else {
-            return Err(CallError::Stranger);
-        };
-        let Some(mailbox) = self.mailboxes.get(usize::from(node) - 1) else {
-            return Err(CallError::Stranger);
-        };
-        let incarnation = place.lock(rt).hand_out(pid)?;
+        let index = usize::from(node) - 1;
+        let mailbox = &self.mailboxes[index];
+        let incarnation = self.places[index].lock(rt).hand_out(pid)?;
         let process = Process {
             node,
             incarnation,
@@ -113,7 +114,7 @@ impl<'a> Cluster<'a> {
 /// has a thread, a mailbox and a weather, nodes first. The body's result comes with the journal.
 ///
 /// # Errors
-/// `NoMemory` where a request for memory or for a thread was refused.
+/// `AllocError` where a request for memory or for a thread was refused.
 pub fn with_cluster<
     G: Gate + Sync,
     W: Weather + Send,
@@ -127,7 +128,7 @@ pub fn with_cluster<
     gate: &G,
     weathers: Vec<W>,
     body: F,
-) -> Result<(T, Journal), RunError>
+) -> Result<(T, Journal), AllocError>
     requires each { length weathers.items ≡ shape.nodes + shape.files }
     requires body { F.IsAlwaysCallable body }
 
@@ -135,7 +136,8 @@ pub fn with_cluster<
     ensures one_table { IfOk result (λ made. HasOneHistory made.1.shape made.1.entries) }
 {
     let (book, seats) = Book::new(alloc, shape)?;
-    let (workers, mailboxes) = workers_of(alloc, seats, weathers)?;
+    let (mailboxes, inboxes) = mailboxes_of(alloc, seats.len())?;
+    let workers = workers_of(alloc, seats, weathers, inboxes)?;
     let places = places_of(alloc, shape.nodes())?;
     let book = Mutex::new(book);
     let stop = AtomicU64::new(0);
@@ -160,7 +162,7 @@ pub fn with_cluster<
     let made = run_scope(rt, &shared, workers, &cluster, body);
     match made {
         Some(made) => Ok((made, book.into_inner().into_journal())),
-        None => Err(RunError::NoMemory),
+        None => Err(AllocError),
     }
 }
 
@@ -212,24 +214,41 @@ fn start_all<
     all
 }
 
-// A worker for each seat, with its weather, and their mailboxes.
+// So many mailboxes, and where the letters of each come out.
+fn mailboxes_of(
+    alloc: Global,
+    count: usize,
+) -> Result<(Vec<Mailbox>, Vec<Receiver<Letter>>), AllocError>
+    ensures { IfOk result (λ made. length made.0.items ≡ count) }
+{
+    let mut mailboxes = Vec::new(alloc);
+    let mut inboxes = Vec::new(alloc);
+    for _ in 0..count {
+        let (letters, inbox) = unbounded(alloc)?;
+        mailboxes.push(Mailbox::new(letters))?;
+        inboxes.push(inbox)?;
+    }
+    Ok((mailboxes, inboxes))
+}
+
+// A worker for each seat, with its weather and its inbox.
 fn workers_of<W: Weather>(
     alloc: Global,
     seats: Vec<Seat>,
     weathers: Vec<W>,
-) -> Result<(Vec<Worker<W>>, Vec<Mailbox>), AllocError> {
+    inboxes: Vec<Receiver<Letter>>,
+) -> Result<Vec<Worker<W>>, AllocError> {
     let mut workers = Vec::new(alloc);
-    let mut mailboxes = Vec::new(alloc);
-    for (seat, weather) in seats.into_iter().zip(weathers) {
-        let (letters, inbox) = unbounded(alloc)?;
+    for ((seat, weather), inbox) in seats.into_iter().zip(weathers).zip(inboxes) {
         workers.push(Worker::new(alloc, seat, weather, inbox))?;
-        mailboxes.push(Mailbox::new(letters))?;
     }
-    Ok((workers, mailboxes))
+    Ok(workers)
 }
 
 // The places of so many nodes that begin.
-fn places_of(alloc: Global, nodes: u8) -> Result<Vec<Mutex<Place>>, AllocError> {
+fn places_of(alloc: Global, nodes: u8) -> Result<Vec<Mutex<Place>>, AllocError>
+    ensures { IfOk result (λ places. length places.items ≡ nodes) }
+{
     let mut places = Vec::new(alloc);
     for _ in 0..nodes {
         places.push(Mutex::new(Place::new(alloc)))?;

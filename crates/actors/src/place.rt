@@ -1,7 +1,7 @@
 //! Places of nodes.
-ghost use Rattle.std.specs.Prelude.{◌≡◌, ◌≤◌, Err, None, Some, [], false, true, IfOk};
+ghost use Rattle.std.specs.Prelude.{◌≡◌, ◌≢◌, ◌≤◌, Err, None, Some, [], false, true, IfErr, IfOk};
 ghost use Rattle.book.specs.States.{incarnation_of};
-ghost use Rattle.actors.specs.declared.call_error.CallError.TheVariants.{Fenced};
+ghost use Rattle.actors.specs.declared.call_error.CallError.TheVariants.{Fenced, Stranger};
 
 use crate::call_error::CallError;
 use book::seat::Seat;
@@ -34,6 +34,7 @@ impl Place {
         ensures from_one { IfOk result (λ incarnation. 1 ≤ incarnation) }
         ensures value { IfOk result (λ incarnation. incarnation ≡ self.old.incarnation) }
         ensures fenced { self.old.alive ≡ false → result ≡ Err Fenced }
+        ensures refused { IfErr result (λ why. why ≢ Stranger) }
         ensures node { (self.new.incarnation ≡ self.old.incarnation) × (self.new.alive ≡ self.old.alive) × (self.new.seat ≡ self.old.seat) }
     {
         if !self.alive {

@@ -2,11 +2,13 @@
 ghost use Rattle.std.specs.Prelude.{◌≡◌};
 ghost use Rattle.actors.specs.declared.run_error.RunError.TheVariants.{NoMemory};
 
+use cluster_core::journal::Journal;
 use std::alloc::{AllocError, AllocFailed};
+use std::fmt;
 use thiserror::Error;
 
 /// Why a cluster did not run to its end.
-#[derive(Clone, Copy, Debug, PartialEq, Eq, Error)]
+#[derive(Drop, Error)]
 pub enum RunError {
     /// A request for memory or for a thread was refused.
     #[error("no memory")]
@@ -14,9 +16,20 @@ pub enum RunError {
     /// The first line of the script that threads don't take, by its number, from 1.
     #[error("bad line {0}")]
     BadLine(u32),
-    /// The run needs more entries than a journal may have.
+    /// The run needs more entries than a journal may have: this one has no room for another.
     #[error("journal full")]
-    JournalFull,
+    JournalFull(Journal),
+}
+
+// The entries of a full journal are left out.
+impl fmt::Debug for RunError {
+    fn fmt<W: fmt::Write>(&self, f: &mut fmt::Formatter<W>) -> fmt::Result {
+        match self {
+            RunError::NoMemory => f.write_str("NoMemory"),
+            RunError::BadLine(line) => write!(f, "BadLine({line})"),
+            RunError::JournalFull(_) => f.write_str("JournalFull"),
+        }
+    }
 }
 
 impl From<AllocError> for RunError {

@@ -3,7 +3,6 @@ ghost use Rattle.std.specs.Prelude.{◌≡◌, IfOk, map};
 ghost use Rattle.actors.specs.Runs.{AreInOrder, AreOfLines};
 
 use crate::outcomes::Outcomes;
-use crate::stop::Stop;
 use book::receipt::Receipt;
 use cluster_core::journal::Journal;
 use lockscript::refused_line::RefusedLine;
@@ -33,7 +32,7 @@ impl ThreadRun {
         alloc: Global,
         outcomes: Outcomes,
         journal: Journal,
-    ) -> Result<ThreadRun, Stop>
+    ) -> Result<ThreadRun, AllocError>
         ensures journal { IfOk result (λ run. run.journal ≡ journal) }
         ensures receipts { IfOk result (λ run. AreOfLines outcomes.receipts.items run.receipts) }
         ensures refused { IfOk result (λ run. AreInOrder outcomes.refused.items run.refused) }

@@ -1,7 +1,9 @@
 //! Scripts on threads.
 ghost use Rattle.std.specs.Prelude.{◌≡◌, ◌↔◌, Some, IsErrOf, IsTrue, IfOk, length};
+ghost use Rattle.actors.specs.Runs.{IsFullJournal};
 ghost use Rattle.actors.specs.declared.run_error.RunError.{RunError};
 ghost use Rattle.cluster_core.specs.Histories.{HasOneHistory};
+ghost use Rattle.cluster_core.specs.Journals.{JournalFields};
 ghost use Rattle.lockscript.specs.ThreadLines.{bad_line};
 
 use crate::cluster::{Cluster, with_cluster};
@@ -12,6 +14,8 @@ use crate::run_error::RunError;
 use crate::stop::Stop;
 use crate::thread_run::ThreadRun;
 use crate::weather::Fair;
+use cluster_core::journal::Journal;
+use cluster_core::world::JOURNAL_LIMIT;
 use lockscript::script::Script;
 use lockscript::script_line::ScriptLine;
 use messages::shape::Shape;
@@ -28,8 +32,8 @@ use std::time::Clock;
 ///
 /// # Errors
 /// `BadLine` with the number of the first line that is another, before anything runs; `NoMemory` where
-/// a request for memory or for a thread was refused; `JournalFull` where the run needs more entries than
-/// a journal may have.
+/// a request for memory or for a thread was refused; `JournalFull` with the journal where the run needs
+/// more entries than the 1,048,576 that a journal may have.
 pub fn run_threads<G: Gate + Sync, R: Threads + Wait + Clock + Sync>(
     rt: &R,
     alloc: Global,
@@ -41,27 +45,36 @@ pub fn run_threads<G: Gate + Sync, R: Threads + Wait + Clock + Sync>(
 
     // One table explains every reply, and ends as what the nodes hold.
     ensures one_table { IfOk result (λ run. HasOneHistory run.journal.shape run.journal.entries) }
+
+    // Where it needs more entries, the journal of a run of the script's cluster has no room for another.
+    ensures full { (journal : JournalFields) → IsErrOf result (RunError.JournalFull journal) → IsFullJournal script.now.shape journal }
     ensures bad_line { (number : _) → IsErrOf result (RunError.BadLine number) ↔ (bad_line script.now.lines ≡ Some number) }
 {
     if let Some(number) = script.bad_line_on_threads() {
         return Err(RunError::BadLine(number));
     }
-    match run_script(rt, alloc, script, gate) {
-        Ok(run) => Ok(run),
-        Err(Stop::NoMemory) => Err(RunError::NoMemory),
-        Err(Stop::JournalFull) => Err(RunError::JournalFull),
+    let Ok((outcomes, journal)) = run_script(rt, alloc, script, gate) else {
+        return Err(RunError::NoMemory);
+    };
+    match outcomes {
+        Ok(outcomes) => Ok(ThreadRun::new(alloc, outcomes, journal)?),
+        // A lock says nothing of the book that it gives back, so the entries are counted.
+        Err(Stop::JournalFull) if journal.entries().len() >= JOURNAL_LIMIT as usize => {
+            Err(RunError::JournalFull(journal))
+        }
+        Err(_) => Err(RunError::NoMemory),
     }
 }
 
-// Runs a script that has no line of another kind.
+// What came of the lines of a script that has none of another kind, with the journal.
 fn run_script<G: Gate + Sync, R: Threads + Wait + Clock + Sync>(
     rt: &R,
     alloc: Global,
     script: &Script,
     gate: &G,
-) -> Result<ThreadRun, Stop>
-    ensures shape { IfOk result (λ run. run.journal.shape ≡ script.now.shape) }
-    ensures one_table { IfOk result (λ run. HasOneHistory run.journal.shape run.journal.entries) }
+) -> Result<(Result<Outcomes, Stop>, Journal), AllocError>
+    ensures shape { IfOk result (λ run. run.1.shape ≡ script.now.shape) }
+    ensures one_table { IfOk result (λ run. HasOneHistory run.1.shape run.1.entries) }
 {
     let shape = script.shape();
     let actors = usize::from(shape.nodes()) + usize::from(shape.files());
@@ -71,10 +84,8 @@ fn run_script<G: Gate + Sync, R: Threads + Wait + Clock + Sync>(
     });
     match run {
         // A lock says nothing of the book that it gives back, so the shape is looked at.
-        Ok((outcomes, journal)) if same_shape(&journal.shape(), &shape) => {
-            ThreadRun::new(alloc, outcomes?, journal)
-        }
-        _ => Err(Stop::NoMemory),
+        Ok((outcomes, journal)) if same_shape(&journal.shape(), &shape) => Ok((outcomes, journal)),
+        _ => Err(AllocError),
     }
 }
 

@@ -1,5 +1,6 @@
 //! Seats.
-ghost use Rattle.std.specs.Prelude.{◌≡◌, ◌≢◌, ◌<◌, ◌+◌, IfOk, IfErr, Err};
+ghost use Rattle.std.specs.Prelude.{◌≡◌, ◌≢◌, ◌<◌, ◌≤◌, ◌+◌, ℕ, IfOk, IfErr, Err};
+ghost use Rattle.messages.specs.declared.actor.Actor.TheVariants.{Node as ANode};
 ghost use Rattle.book.specs.Commits.{Names, IsStepFrom};
 ghost use Rattle.book.specs.States.{actor_of, incarnation_of, Rejects};
 
@@ -55,7 +56,8 @@ impl Seat {
 
     /// The incarnation of a node, from 1; 0 of a server.
     pub fn incarnation(&self) -> u16
-        ensures { result ≡ incarnation_of self.now.state }
+        ensures value { result ≡ incarnation_of self.now.state }
+        ensures from_one { (n : ℕ) → actor_of self.now.state ≡ ANode n → 1 ≤ result }
     {
         self.state.incarnation()
     }

@@ -1,5 +1,6 @@
 //! States of actors.
-ghost use Rattle.std.specs.Prelude.{◌≡◌, ◌≢◌, ◌↔◌, if◌then◌else◌, Some, None, Ok, Err, IfOk, IfErr, IsTrue};
+ghost use Rattle.std.specs.Prelude.{◌≡◌, ◌≢◌, ◌≤◌, ◌↔◌, ℕ, if◌then◌else◌, Some, None, Ok, Err, IfOk, IfErr, IsTrue};
+ghost use Rattle.messages.specs.declared.actor.Actor.TheVariants.{Node as ANode};
 ghost use Rattle.node_core.specs.Parts.{node_state};
 ghost use Rattle.token_server.specs.Parts.{server_state};
 ghost use Rattle.cluster_core.specs.Parts.{world_state};
@@ -169,7 +170,8 @@ impl State {
 
     /// The incarnation of a node, from 1; 0 of a server.
     pub(crate) fn incarnation(&self) -> u16
-        ensures { result ≡ incarnation_of self.now }
+        ensures value { result ≡ incarnation_of self.now }
+        ensures from_one { (n : ℕ) → actor_of self.now ≡ ANode n → 1 ≤ result }
     {
         match self {
             State::OfNode { node, .. } => node.incarnation(),

@@ -103,10 +103,21 @@ impl Journal {
     {
         self.entries.as_slice()
     }
+
+    /// The entries, the first at position 1, where the journal itself is needed no longer.
+    pub fn into_entries(self) -> Vec<Entry>
+        ensures { result.items ≡ self.entries }
+    {
+        self.entries
+    }
 }
 
-// Whether the event of the entry, which happens, makes this entry.
-fn comes_next(world: &mut World, alloc: Global, entry: &Entry) -> Result<bool, NoRoom>
+/// Whether the entry is the next step: its event happens in the world, and makes this entry. Then the
+/// world has made the step. Else it may have made another, and is of no use any more.
+///
+/// # Errors
+/// `NoMemory` where a request for memory was refused.
+pub fn comes_next(world: &mut World, alloc: Global, entry: &Entry) -> Result<bool, NoRoom>
     ensures made { IfOk result (λ same. same ≡ true → next (world_state world.old) entry.now.event ≡ Ok (world_state world.new, entry.now)) }
     ensures other { IfOk result (λ same. same ≡ false → (v : WorldState) → next (world_state world.old) entry.now.event ≢ Ok (v, entry.now)) }
 {

@@ -1,9 +1,10 @@
 //! Journals.
-ghost use Rattle.std.specs.Prelude.{◌≡◌, ◌++◌, codes, flat_map, string_bytes, IfOk, OnOk};
+ghost use Rattle.std.specs.Prelude.{◌≡◌, ◌++◌, codes, flat_map, reverse as reversed, string_bytes, IfOk, OnOk};
 ghost use Rattle.lockscript.specs.Texts.{policy_text};
 ghost use Rattle.journal_text.specs.Journals.{end_text, entries_text, entry_text, head_text, journal_text, reply_line, send_line};
 
 use crate::texts::{push_event, push_message};
+use cluster_core::journal::Journal;
 use intervals::span_map::NoMemory;
 use lockscript::texts::{push_call, push_reply};
 use messages::entry::Entry;
@@ -14,6 +15,9 @@ use model::policy::Policy;
 use model::reply::Reply;
 use std::alloc::{AllocError, Global};
 use std::fmt::Write;
+
+// After each so many entries that were written, their memory is given back.
+const ENTRIES_AT_ONCE: usize = 16_384;
 
 /// The journal of a cluster of this shape as text: a first line with the shape, the lines of each
 /// entry, the first at position 1, and a last line with how many entries there are.
@@ -27,6 +31,25 @@ pub fn print(alloc: Global, shape: &Shape, entries: &[Entry]) -> Result<String, 
     push_head(&mut out, shape)?;
     push_entries(&mut out, entries)?;
     let count = entries.len();
+    writeln!(out, "end {count}")?;
+    Ok(out)
+}
+
+/// The text that `print` writes of a journal, which goes while it is written: the memory of its entries
+/// is given back part by part, so the journal and its text need no room beside each other.
+///
+/// # Errors
+/// `NoMemory` where a request for memory was refused; the journal is gone then too.
+pub fn into_text(alloc: Global, journal: Journal) -> Result<String, NoMemory>
+    ensures { IfOk result (λ text. string_bytes text ≡ journal_text journal.shape journal.entries) }
+{
+    let shape = journal.shape();
+    let mut entries = journal.into_entries();
+    let count = entries.len();
+    entries.reverse();
+    let mut out = String::new(alloc);
+    push_head(&mut out, &shape)?;
+    push_from_last(&mut out, entries)?;
     writeln!(out, "end {count}")?;
     Ok(out)
 }
@@ -61,6 +84,22 @@ fn push_entries(out: &mut String, entries: &[Entry]) -> Result<(), AllocError>
     for entry in entries {
         position += 1;
         push_entry(out, position, entry)?;
+    }
+    Ok(())
+}
+
+// Writes the lines of entries, the last of them first, at position 1. Each goes once it is written.
+fn push_from_last(out: &mut String, mut entries: Vec<Entry>) -> Result<(), AllocError>
+    ensures { OnOk result (string_bytes out.new ≡ string_bytes out.old ++ entries_text 1 (reversed entries.items)) }
+{
+    for written in 0..entries.len() {
+        let Some(entry) = entries.pop() else {
+            unreachable!()
+        };
+        push_entry(out, written as u64 + 1, &entry)?;
+        if entries.len() % ENTRIES_AT_ONCE == 0 {
+            entries.shrink_to_fit();
+        }
     }
     Ok(())
 }

@@ -11,11 +11,11 @@ use Rattle.model.specs.declared.mode.Mode.TheVariants.{Read, Write}
 use Rattle.model.specs.declared.owner.Owner.{Owner}
 use Rattle.model.specs.declared.lock_info.LockInfo.{LockInfo}
 use Rattle.model.specs.Owners.{same_owner, owner_cmp}
-use Rattle.model.specs.Locks.{bar_of, FileLocks, excludes, bars, IsFree, IsRegion, Blocks, IsNotAfter, IsLowestBlocker}
+use Rattle.model.specs.Locks.{bar_of, FileLocks, excludes, bars, IsFree, IsRegion, IsNotAfter, IsLowestBlocker, IsClear, IsInWay, IsLowestInWay}
 use Rattle.lock_table.specs.declared.owner_locks.OwnerLocks.{OwnerLocks}
 use Rattle.lock_table.specs.Regions.{IsFirstRegion}
 use Rattle.lock_table.specs.Rows.{held, row_cmp, AllAfter, AreRows, locks_of}
-use Rattle.lock_table.specs.Blockers.{IsBlockerOf}
+use Rattle.lock_table.specs.Blockers.{IsAsked, IsClearBut, IsRegionBut, IsLowestBut}
 use Rattle.lock_table.proofs.Orders.{owner_exact, owner_refl, owners_total, owner_equal, owner_not_greater, not_greater_trans, cases_not_greater, back_greater, place_cmp, places_total, back_less}
 use Rattle.lock_table.proofs.RowLemmas.{is_of, is_of_less}
 use Rattle.lock_table.proofs.FileRows.{rows-take}
@@ -27,7 +27,7 @@ locks_own r = let itself : ((eqb r.file r.file) && same_owner r.owner r.owner) �
 pub locks_other : (r : OwnerLocks) (o : Owner) → same_owner r.owner o ≡ false → locks_of r o ≡ nothing
 locks_other r o differ = rw (and_right (eqb r.file r.file) (same_owner r.owner o) differ) refl
 
-nothing_region : (s : Range) (m : Mode) → IsRun nothing s m → ⊥
+pub nothing_region : (s : Range) (m : Mode) → IsRun nothing s m → ⊥
 nothing_region s m run = let e = run.all s.lo (omega arith) run.ordered in absurd cc
 
 differ_from : (a b : Owner) → a ≢ b → same_owner a b ≡ false
@@ -49,13 +49,13 @@ own_region r x e run =
     subst (λ (o : Owner). IsRun (locks_of r o) x.span x.mode) (sym e) here
 
 -- a byte is barred where its mode excludes
-barred_from : (f : ℕ → Option Mode) (b : ℕ) (mode m : Mode) → f b ≡ Some m → excludes m mode ≡ true → IsBarred f (bar_of mode) b
+pub barred_from : (f : ℕ → Option Mode) (b : ℕ) (mode m : Mode) → f b ≡ Some m → excludes m mode ≡ true → IsBarred f (bar_of mode) b
 barred_from f b Read Read e h = absurd (false≢true h)
 barred_from f b Read Write e h = e
 barred_from f b Write Read e h = rw e refl
 barred_from f b Write Write e h = rw e refl
 
-excluded_from : (f : ℕ → Option Mode) (b : ℕ) (mode m : Mode) → f b ≡ Some m → IsBarred f (bar_of mode) b → excludes m mode ≡ true
+pub excluded_from : (f : ℕ → Option Mode) (b : ℕ) (mode m : Mode) → f b ≡ Some m → IsBarred f (bar_of mode) b → excludes m mode ≡ true
 excluded_from f b Read Read e h = absurd cc
 excluded_from f b Read Write e h = refl
 excluded_from f b Write Read e h = refl
@@ -144,77 +144,92 @@ module _ (g h k : FileLocks) (join : IsJoin g h k) where
     | inr e ↦ nothing_region x.span x.mode (moved (g x.owner) nothing x.span x.mode e.1 p)
   ])
 
--- a span that has bytes and is free has no lock that blocks
-free_blocks : (h : FileLocks) (owner : Owner) (s : Range) (mode : Mode) (x : LockInfo) → s.lo ≤ s.hi → IsFree h owner s mode → Blocks h owner s mode x → ⊥
-free_blocks h owner s mode x order free blocks =
-    let starts = blocks.starts in
-    let ends = blocks.ends in
-    let ordered = blocks.region.ordered in
-    let here : h x.owner (max x.span.lo s.lo) ≡ Some x.mode = blocks.region.all (max x.span.lo s.lo) (omega arith) (omega arith) in
-    let barred : bars mode (h x.owner (max x.span.lo s.lo)) ≡ false = free x.owner (max x.span.lo s.lo) blocks.is_other (omega arith) (omega arith) in
-    both_ways (excludes x.mode mode) (rw here at barred) blocks.conflicts
+-- a span that has bytes and is clear has no lock in the way
+pub clear_way : (h : FileLocks) (out : Option Owner) (s : Range) (mode : Mode) (x : LockInfo) → s.lo ≤ s.hi → IsClearBut h out s mode → IsAsked out x.owner → IsRegion h x → IsInWay s mode x → ⊥
+clear_way h out s mode x order clear asked region way =
+    let starts = way.starts in
+    let ends = way.ends in
+    let ordered = region.ordered in
+    let here : h x.owner (max x.span.lo s.lo) ≡ Some x.mode = region.all (max x.span.lo s.lo) (omega arith) (omega arith) in
+    let barred : bars mode (h x.owner (max x.span.lo s.lo)) ≡ false = clear x.owner (max x.span.lo s.lo) asked (omega arith) (omega arith) in
+    both_ways (excludes x.mode mode) (rw here at barred) way.conflicts
 
-module _ (g h k : FileLocks) (join : IsJoin g h k) (owner : Owner) (s : Range) (mode : Mode) where
-  after : (e : FileLocks) (a : Option LockInfo) (z y : LockInfo) → s.lo ≤ s.hi → IsBlockerOf e owner s mode a → IfSome a (λ x. IsSomeAnd (Some z) (λ w. IsNotAfter w x)) → Blocks e owner s mode y → IsNotAfter z y
-  after e None z y order p first blocks = absurd (free_blocks e owner s mode y order p.answer blocks)
-  after e (Some x) z y order p first blocks = not_after_trans z x y first (p.answer.lowest y blocks)
+module _ (g h k : FileLocks) (join : IsJoin g h k) (out : Option Owner) (s : Range) (mode : Mode) where
+  after : (e : FileLocks) (a : Option LockInfo) (z y : LockInfo) → s.lo ≤ s.hi → IsLowestBut e out s mode a → IfSome a (λ x. IsSomeAnd (Some z) (λ w. IsNotAfter w x)) → IsAsked out y.owner → IsRegion e y → IsInWay s mode y → IsNotAfter z y
+  after e None z y order p first asked region way = absurd (clear_way e out s mode y order p.answer asked region way)
+  after e (Some x) z y order p first asked region way = not_after_trans z x y first (p.answer.lowest y (record { asked = asked; region = region }) way)
 
-  -- the lowest of two blockers blocks where both are joined
-  pub blocker_join : (a b c : Option LockInfo) → IsBlockerOf g owner s mode a → IsBlockerOf h owner s mode b → ((c ≡ a) ⊎ (c ≡ b)) → IfSome a (λ x. IsSomeAnd c (λ z. IsNotAfter z x)) → IfSome b (λ x. IsSomeAnd c (λ z. IsNotAfter z x)) → IsBlockerOf k owner s mode c
-  blocker_join None None None p q either first second = record {
-    answer = λ other byte differ lo hi. elim (join other) [
-      | inl e ↦ rw (ap (λ (f : ℕ → Option Mode). f byte) e.0) (p.answer other byte differ lo hi)
-      | inr e ↦ rw (ap (λ (f : ℕ → Option Mode). f byte) e.0) (q.answer other byte differ lo hi)
+  -- the lower of two that are the lowest in the way is so where both are joined
+  pub lowest_join : (a b c : Option LockInfo) → IsLowestBut g out s mode a → IsLowestBut h out s mode b → ((c ≡ a) ⊎ (c ≡ b)) → IfSome a (λ x. IsSomeAnd c (λ z. IsNotAfter z x)) → IfSome b (λ x. IsSomeAnd c (λ z. IsNotAfter z x)) → IsLowestBut k out s mode c
+  lowest_join None None None p q either first second = record {
+    answer = λ other byte asked lo hi. elim (join other) [
+      | inl e ↦ rw (ap (λ (f : ℕ → Option Mode). f byte) e.0) (p.answer other byte asked lo hi)
+      | inr e ↦ rw (ap (λ (f : ℕ → Option Mode). f byte) e.0) (q.answer other byte asked lo hi)
     ];
     ordered = λ some. absurd cc;
   }
-  blocker_join (Some x) b None p q either first second = absurd first
-  blocker_join None (Some y) None p q either first second = absurd second
-  blocker_join a b (Some z) p q either first second =
+  lowest_join (Some x) b None p q either first second = absurd first
+  lowest_join None (Some y) None p q either first second = absurd second
+  lowest_join a b (Some z) p q either first second =
       let order : s.lo ≤ s.hi = elim either [ inl e ↦ p.ordered (rw (← e) refl) | inr e ↦ q.ordered (rw (← e) refl) ] in
       record {
         answer = record {
-          blocks = elim either [
-            | inl e ↦ let low : IsLowestBlocker g owner s mode z = rw (← e) at p.answer in record { is_other = low.blocks.is_other; region = region_left g h k join z low.blocks.region; conflicts = low.blocks.conflicts; starts = low.blocks.starts; ends = low.blocks.ends }
-            | inr e ↦ let low : IsLowestBlocker h owner s mode z = rw (← e) at q.answer in record { is_other = low.blocks.is_other; region = region_right g h k join z low.blocks.region; conflicts = low.blocks.conflicts; starts = low.blocks.starts; ends = low.blocks.ends }
+          is_one = elim either [
+            | inl e ↦ let low : IsLowestInWay (IsRegionBut g out) s mode z = rw (← e) at p.answer in record { asked = low.is_one.asked; region = region_left g h k join z low.is_one.region }
+            | inr e ↦ let low : IsLowestInWay (IsRegionBut h out) s mode z = rw (← e) at q.answer in record { asked = low.is_one.asked; region = region_right g h k join z low.is_one.region }
           ];
-          lowest = λ y blocks. elim (region_cases g h k join y blocks.region) [
-            | inl left ↦ after g a z y order p first (record { is_other = blocks.is_other; region = left; conflicts = blocks.conflicts; starts = blocks.starts; ends = blocks.ends })
-            | inr right ↦ after h b z y order q second (record { is_other = blocks.is_other; region = right; conflicts = blocks.conflicts; starts = blocks.starts; ends = blocks.ends })
+          in_way = elim either [
+            | inl e ↦ let low : IsLowestInWay (IsRegionBut g out) s mode z = rw (← e) at p.answer in low.in_way
+            | inr e ↦ let low : IsLowestInWay (IsRegionBut h out) s mode z = rw (← e) at q.answer in low.in_way
+          ];
+          lowest = λ y is way. elim (region_cases g h k join y is.region) [
+            | inl left ↦ after g a z y order p first is.asked left way
+            | inr right ↦ after h b z y order q second is.asked right way
           ];
         };
         ordered = λ some. order;
       }
 
--- with no locks nothing blocks
-pub blocker_none : (owner : Owner) (s : Range) (mode : Mode) → IsBlockerOf (λ o. nothing) owner s mode None
-blocker_none owner s mode = record { answer = λ other byte differ lo hi. refl; ordered = λ some. absurd cc }
+-- with no locks none is in the way
+pub lowest_none : (out : Option Owner) (s : Range) (mode : Mode) → IsLowestBut (λ o. nothing) out s mode None
+lowest_none out s mode = record { answer = λ other byte asked lo hi. refl; ordered = λ some. absurd cc }
 
--- the row's own locks don't block its owner
-pub own_free : (r : OwnerLocks) (owner : Owner) (s : Range) (mode : Mode) → r.owner ≡ owner → IsFree (locks_of r) owner s mode
-own_free r owner s mode e other byte differ lo hi =
-    let apart_here : same_owner r.owner other ≡ false = differ_from r.owner other (λ same. differ (sym same ∙ e)) in
-    rw (ap (λ (f : ℕ → Option Mode). f byte) (locks_other r other apart_here)) refl
+-- who is not left out is asked, and only they
+pub asked_from : (out : Option Owner) (o : Owner) → (out ≡ Some o → ⊥) → IsAsked out o
+asked_from None o differ = tt
+asked_from (Some w) o differ = λ same. differ (ap Some (sym same))
 
-module _ (r : OwnerLocks) (owner : Owner) (s : Range) (mode : Mode) (differ : r.owner ≢ owner) where
-  row_free : NoneIn (IsBarred (value_at r.spans) (bar_of mode)) s → IsFree (locks_of r) owner s mode
-  row_free none other byte apart lo hi = elim (cases_Bool (same_owner r.owner other)) [
-    | inl same ↦
-        let here : locks_of r other byte ≡ value_at r.spans byte = ap (λ (o : Owner). locks_of r o byte) (sym (owner_exact r.owner other same)) ∙ ap (λ (f : ℕ → Option Mode). f byte) (locks_own r) in
-        rw here (bars_none mode (value_at r.spans byte) (λ m is. elim (cases_Bool (excludes m mode)) [
-          | inl ex ↦ absurd (none byte lo hi (barred_from (value_at r.spans) byte mode m is ex))
-          | inr other ↦ other
-        ]))
-    | inr apart_here ↦ rw (ap (λ (f : ℕ → Option Mode). f byte) (locks_other r other apart_here)) refl
-  ]
+not_asked : (out : Option Owner) (o : Owner) → out ≡ Some o → IsAsked out o → ⊥
+not_asked None o is asked = absurd cc
+not_asked (Some w) o is asked = asked (let same : o ≡ w = cc in same)
 
-  -- no region that blocks begins before the one that has the first barred byte
-  none_lower : (x y : LockInfo) → IsFirstRegion r s (bar_of mode) x → Blocks (locks_of r) owner s mode y → x.span.lo ≤ y.span.lo
-  none_lower x y is_first blocks =
+-- a row has at each byte what it holds there, and nothing for other owners
+row_clear : (r : OwnerLocks) (out : Option Owner) (s : Range) (mode : Mode) → ((b : ℕ) → IsAsked out r.owner → s.lo ≤ b → b ≤ s.hi → bars mode (value_at r.spans b) ≡ false) → IsClearBut (locks_of r) out s mode
+row_clear r out s mode clear other byte asked lo hi = elim (cases_Bool (same_owner r.owner other)) [
+  | inl same ↦
+      let here : locks_of r other byte ≡ value_at r.spans byte = ap (λ (o : Owner). locks_of r o byte) (sym (owner_exact r.owner other same)) ∙ ap (λ (f : ℕ → Option Mode). f byte) (locks_own r) in
+      rw here (clear byte (subst (IsAsked out) (sym (owner_exact r.owner other same)) asked) lo hi)
+  | inr apart ↦ rw (ap (λ (f : ℕ → Option Mode). f byte) (locks_other r other apart)) refl
+]
+
+-- the row of the owner that is left out
+pub lowest_out : (r : OwnerLocks) (out : Option Owner) (s : Range) (mode : Mode) → out ≡ Some r.owner → IsLowestBut (locks_of r) out s mode None
+lowest_out r out s mode is = record { answer = row_clear r out s mode (λ b asked lo hi. absurd (not_asked out r.owner is asked)); ordered = λ some. absurd cc }
+
+module _ (r : OwnerLocks) (out : Option Owner) (s : Range) (mode : Mode) (asked : IsAsked out r.owner) where
+  row_free : NoneIn (IsBarred (value_at r.spans) (bar_of mode)) s → IsClearBut (locks_of r) out s mode
+  row_free none = row_clear r out s mode (λ b is_asked lo hi. bars_none mode (value_at r.spans b) (λ m is. elim (cases_Bool (excludes m mode)) [
+    | inl ex ↦ absurd (none b lo hi (barred_from (value_at r.spans) b mode m is ex))
+    | inr other ↦ other
+  ]))
+
+  -- no region in the way begins before the one that has the first barred byte
+  none_lower : (x y : LockInfo) → IsFirstRegion r s (bar_of mode) x → IsRegion (locks_of r) y → IsInWay s mode y → x.span.lo ≤ y.span.lo
+  none_lower x y is_first region way =
       let f = value_at r.spans in
-      let run = (region_own r y blocks.region).1 in
-      let starts = blocks.starts in
-      let ends = blocks.ends in
+      let run = (region_own r y region).1 in
+      let starts = way.starts in
+      let ends = way.ends in
       let ordered = run.ordered in
       let byte = is_first.byte in
       let above = is_first.first.above in
@@ -225,7 +240,7 @@ module _ (r : OwnerLocks) (owner : Owner) (s : Range) (mode : Mode) (differ : r.
         | inl lt ↦ elim (cases_lt y.span.hi byte) [
           | inl short ↦
               let here : f (max y.span.lo s.lo) ≡ Some y.mode = run.all (max y.span.lo s.lo) (omega arith) (omega arith) in
-              absurd (is_first.first.none_before (max y.span.lo s.lo) (omega arith) (omega arith) (barred_from f (max y.span.lo s.lo) mode y.mode here blocks.conflicts))
+              absurd (is_first.first.none_before (max y.span.lo s.lo) (omega arith) (omega arith) (barred_from f (max y.span.lo s.lo) mode y.mode here way.conflicts))
           | inr long ↦
               let there : f byte ≡ Some y.mode = run.all byte (omega arith) long in
               let there' : f byte ≡ Some x.mode = is_first.region.all byte in_start in_end in
@@ -236,7 +251,7 @@ module _ (r : OwnerLocks) (owner : Owner) (s : Range) (mode : Mode) (differ : r.
         | inr le ↦ le
       ]
 
-  row_lowest : (x : LockInfo) → IsFirstRegion r s (bar_of mode) x → IsLowestBlocker (locks_of r) owner s mode x
+  row_lowest : (x : LockInfo) → IsFirstRegion r s (bar_of mode) x → IsLowestInWay (IsRegionBut (locks_of r) out) s mode x
   row_lowest x is_first =
       let f = value_at r.spans in
       let above = is_first.first.above in
@@ -245,14 +260,16 @@ module _ (r : OwnerLocks) (owner : Owner) (s : Range) (mode : Mode) (differ : r.
       let in_end = is_first.ends in
       let there : f is_first.byte ≡ Some x.mode = is_first.region.all is_first.byte in_start in_end in
       record {
-        blocks = record {
-          is_other = λ e. differ (sym is_first.owner ∙ e);
+        is_one = record {
+          asked = subst (IsAsked out) (sym is_first.owner) asked;
           region = own_region r x is_first.owner is_first.region;
+        };
+        in_way = record {
           conflicts = excluded_from f is_first.byte mode x.mode there is_first.first.here;
           starts = omega arith;
           ends = omega arith;
         };
-        lowest = λ y blocks. not_after x y (none_lower x y is_first blocks) (is_first.owner ∙ sym (region_own r y blocks.region).0);
+        lowest = λ y is way. not_after x y (none_lower x y is_first is.region way) (is_first.owner ∙ sym (region_own r y is.region).0);
       }
     where
       not_after : (x y : LockInfo) → x.span.lo ≤ y.span.lo → x.owner ≡ y.owner → IsNotAfter x y
@@ -261,10 +278,10 @@ module _ (r : OwnerLocks) (owner : Owner) (s : Range) (mode : Mode) (differ : r.
         | inr ge ↦ inr (omega arith, rw same (owner_not_greater y.owner))
       ]
 
-  -- what blocks in one row
-  pub row_blocker : (found : Option LockInfo) → MatchOption found (NoneIn (IsBarred (value_at r.spans) (bar_of mode)) s) (IsFirstRegion r s (bar_of mode)) → IsBlockerOf (locks_of r) owner s mode found
-  row_blocker None none = record { answer = row_free none; ordered = λ some. absurd cc }
-  row_blocker (Some x) is_first =
+  -- what is in the way in one row
+  pub row_lowest_but : (found : Option LockInfo) → MatchOption found (NoneIn (IsBarred (value_at r.spans) (bar_of mode)) s) (IsFirstRegion r s (bar_of mode)) → IsLowestBut (locks_of r) out s mode found
+  row_lowest_but None none = record { answer = row_free none; ordered = λ some. absurd cc }
+  row_lowest_but (Some x) is_first =
       let above = is_first.first.above in
       let below = is_first.first.below in
       record { answer = row_lowest x is_first; ordered = λ some. omega arith }
@@ -306,19 +323,35 @@ rows_step l i r f rows files lt is =
     let file : r.file ≡ f = rw (← is) at (files i r lt) in
     subst (λ (m : List OwnerLocks). IsJoin (held (take i l) f) (locks_of r) (held m f)) (sym next) (rows_join (take i l) r f order file)
 
--- a row that holds no byte of the span has no lock that blocks
-pub row_away : (r : OwnerLocks) (owner : Owner) (s : Range) (mode : Mode) → ((b : ℕ) (m : Mode) → s.lo ≤ b → b ≤ s.hi → value_at r.spans b ≡ Some m → ⊥) → IsFree (locks_of r) owner s mode
-row_away r owner s mode none other byte differ lo hi = elim (cases_Bool (same_owner r.owner other)) [
-  | inl same ↦
-      let here : locks_of r other byte ≡ value_at r.spans byte = ap (λ (o : Owner). locks_of r o byte) (sym (owner_exact r.owner other same)) ∙ ap (λ (f : ℕ → Option Mode). f byte) (locks_own r) in
-      rw here (bars_none mode (value_at r.spans byte) (λ m is. absurd (none byte m lo hi is)))
-  | inr apart ↦ rw (ap (λ (f : ℕ → Option Mode). f byte) (locks_other r other apart)) refl
-]
+-- a row that holds no byte of the span has no lock in the way
+pub row_away : (r : OwnerLocks) (out : Option Owner) (s : Range) (mode : Mode) → ((b : ℕ) (m : Mode) → s.lo ≤ b → b ≤ s.hi → value_at r.spans b ≡ Some m → ⊥) → IsClearBut (locks_of r) out s mode
+row_away r out s mode none = row_clear r out s mode (λ b asked lo hi. bars_none mode (value_at r.spans b) (λ m is. absurd (none b m lo hi is)))
 
 not_after-itself : (a : Option LockInfo) → IfSome a (λ x. IsSomeAnd a (λ z. IsNotAfter z x))
 not_after-itself None = tt
 not_after-itself (Some x) = inr (refl, owner_not_greater x.owner)
 
--- the lowest that blocks is so with a row more that has none
-pub blocker_past : (g h k : FileLocks) → IsJoin g h k → (owner : Owner) (s : Range) (mode : Mode) (a : Option LockInfo) → IsBlockerOf g owner s mode a → IsFree h owner s mode → IsBlockerOf k owner s mode a
-blocker_past g h k join owner s mode a p free = blocker_join g h k join owner s mode a None a p (record { answer = free; ordered = λ some. absurd cc }) (inl refl) (not_after-itself a) tt
+-- the lowest in the way is so with a row more that has none
+pub lowest_past : (g h k : FileLocks) → IsJoin g h k → (out : Option Owner) (s : Range) (mode : Mode) (a : Option LockInfo) → IsLowestBut g out s mode a → IsClearBut h out s mode → IsLowestBut k out s mode a
+lowest_past g h k join out s mode a p clear = lowest_join g h k join out s mode a None a p (record { answer = clear; ordered = λ some. absurd cc }) (inl refl) (not_after-itself a) tt
+
+-- what is the lowest in the way of all but an owner's blocks that owner
+pub blocker_from : (h : FileLocks) (owner : Owner) (s : Range) (mode : Mode) (a : Option LockInfo) → IsLowestBut h (Some owner) s mode a → MatchOption a (IsFree h owner s mode) (IsLowestBlocker h owner s mode)
+blocker_from h owner s mode None low = low.answer
+blocker_from h owner s mode (Some x) low =
+    let its = low.answer in
+    record {
+      blocks = record { is_other = its.is_one.asked; region = its.is_one.region; conflicts = its.in_way.conflicts; starts = its.in_way.starts; ends = its.in_way.ends };
+      lowest = λ y blocks. its.lowest y (record { asked = blocks.is_other; region = blocks.region }) (record { conflicts = blocks.conflicts; starts = blocks.starts; ends = blocks.ends });
+    }
+
+-- with no owner left out it is the lowest of all
+pub in_way_from : (h : FileLocks) (s : Range) (mode : Mode) (a : Option LockInfo) → IsLowestBut h None s mode a → MatchOption a (IsClear h s mode) (IsLowestInWay (IsRegion h) s mode)
+in_way_from h s mode None low = λ o b lo hi. low.answer o b tt lo hi
+in_way_from h s mode (Some x) low =
+    let its = low.answer in
+    record {
+      is_one = its.is_one.region;
+      in_way = its.in_way;
+      lowest = λ y region way. its.lowest y (record { asked = tt; region = region }) way;
+    }

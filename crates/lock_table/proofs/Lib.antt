@@ -3,6 +3,8 @@ pub mod RowLemmas
 pub mod FileRows
 pub mod SameRows
 pub mod BlockerLemmas
+pub mod LargestLaws
+pub mod WayLemmas
 pub mod ListingLemmas
 pub mod ListingParts
 pub mod FlagLemmas

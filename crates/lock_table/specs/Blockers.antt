@@ -1,15 +1,33 @@
--- Locks that block.
-use Rattle.std.specs.Prelude.{◌≡◌, ◌≤◌, Option, MatchOption, IsSome}
+-- Locks that block, and locks in the way.
+use Rattle.std.specs.Prelude.{◌≡◌, ◌≢◌, ℕ, ◌≤◌, false, Option, None, Some, MatchOption, IsSome}
 use Rattle.intervals.specs.Bytes.{Range}
-use Rattle.model.specs.Locks.{FileLocks, IsFree, IsLowestBlocker}
+use Rattle.model.specs.Locks.{FileLocks, bars, IsRegion, IsLowestBlocker, IsInWay, IsLowestInWay}
 use Rattle.model.specs.declared.mode.Mode.{Mode}
 use Rattle.model.specs.declared.owner.Owner.{Owner}
 use Rattle.model.specs.declared.lock_info.LockInfo.{LockInfo}
 
--- the lock is the lowest that blocks, or there is none and the span is free
-pub record IsBlockerOf (h : FileLocks) (owner : Owner) (s : Range) (mode : Mode) (lock : Option LockInfo) : Type 0 where
-  pub answer : MatchOption lock (IsFree h owner s mode) (IsLowestBlocker h owner s mode)
+-- the owner is asked: each is, but the one that is left out
+abbrev pub IsAsked : Option Owner → Owner → Type 0
+IsAsked None o = Unit {0}
+IsAsked (Some out) o = o ≢ out
+
+-- no lock on the span of an owner that is asked excludes the mode
+abbrev pub IsClearBut : FileLocks → Option Owner → Range → Mode → Type 0
+IsClearBut h out s mode = (o : Owner) (b : ℕ) → IsAsked out o → s.lo ≤ b → b ≤ s.hi → bars mode (h o b) ≡ false
+
+-- the lock is a region of an owner that is asked
+pub record IsRegionBut (h : FileLocks) (out : Option Owner) (lock : LockInfo) : Type 0 where
+  pub asked : IsAsked out lock.owner
+  pub region : IsRegion h lock
+
+-- the lock is the lowest in the way of those of the owners that are asked, or there is none and the span is clear of them
+pub record IsLowestBut (h : FileLocks) (out : Option Owner) (s : Range) (mode : Mode) (lock : Option LockInfo) : Type 0 where
+  pub answer : MatchOption lock (IsClearBut h out s mode) (IsLowestInWay (IsRegionBut h out) s mode)
   pub ordered : IsSome lock → s.lo ≤ s.hi
+
+-- a lock of a kind has the byte, and excludes the mode
+abbrev pub HasInWay : (LockInfo → Type 0) → Mode → ℕ → Type 0
+HasInWay IsOne mode b = (lock : LockInfo) × IsOne lock × IsInWay (record { lo = b; hi = b }) mode lock
 
 -- two locks that are both the lowest that blocks are one
 abbrev pub LowestBlockerIsOne : Type 0

@@ -1,14 +1,15 @@
 //! The record locks of one node.
 ghost use Rattle.std.specs.Prelude.{◌≡◌, ℕ, ◌≤◌, ◌<◌, ◌+◌, ◌-◌, ◌/◌, All, IfOk, IfSome, length, insert, [], IsTrue, ◌↔◌, OnOk, OnErr, Err, Some, None, MatchOption, MatchResult};
 ghost use Rattle.std.specs.List.{AllZip};
-ghost use Rattle.intervals.specs.Bytes.{nothing, put};
+ghost use Rattle.intervals.specs.Bytes.{nothing, put, IsLargest};
 ghost use Rattle.intervals.specs.Runs.{value_at};
 ghost use Rattle.model.specs.Limits.{most_regions};
-ghost use Rattle.model.specs.Locks.{no_locks, replace, with_lock, without_owner, without_owner_anywhere, regions, IsFree, IsRegion, IsLowestBlocker};
+ghost use Rattle.model.specs.Locks.{no_locks, replace, with_lock, without_owner, without_owner_anywhere, regions, IsFree, IsRegion, IsLowestBlocker, IsClear, IsLowestInWay};
 ghost use Rattle.model.specs.declared.mode.Mode.{Mode as SomeMode};
 ghost use Rattle.lock_table.specs.declared.error.LockError.TheVariants.{NoLocks};
 ghost use Rattle.std.specs.Vec.{vec_capacity};
 ghost use Rattle.lock_table.specs.Rows.{held, HoldsLess, HasRoom, AreRows, IsRowAt, IsGap, HoldsSome, IsSameRow};
+ghost use Rattle.lock_table.specs.Blockers.{IsLowestBut, HasInWay};
 ghost use Rattle.lock_table.specs.Listing.{IsListing};
 ghost use Rattle.lock_table.specs.Pages.{HasFlag, IsKept};
 
@@ -29,9 +30,9 @@ use std::marker::Model;
 // A table of fewer rows keeps no index.
 const LEAST_ROWS: usize = 64;
 
-/// The record locks of one node: what each owner holds at each byte of each file, by mode. An owner
-/// has at most 1,024 regions in a file, a region being a longest run of bytes in one mode. A call
-/// that answers an error leaves the locks as they were.
+/// The record locks of one node: what each owner holds at each byte of each file, by mode. `set`, `unlock`
+/// and what `plan` answers leave an owner at most 1,024 regions in a file, a region being a longest run
+/// of bytes in one mode. A call that answers an error leaves the locks as they were.
 #[derive(Drop)]
 pub struct LockTable {
     rows: Vec<OwnerLocks>,
@@ -397,6 +398,21 @@ impl LockTable {
         }
     }
 
+    // Of the regions that are in the way of the mode in the span, the one with the lowest first byte, and of
+    // those with one first byte the one of the lowest owner. One owner may be left out.
+    fn lowest_but(&self, out: &Option<Owner>, file: u16, span: Span, mode: Mode) -> Option<LockInfo>
+        ensures { IsLowestBut (held self.now file) out.now span mode result }
+    {
+        let near = self.index.near(file, span);
+        let mut lowest = None;
+        for row in rows_of(&self.rows, file) {
+            if near.has(row.owner) {
+                lowest = lowest_of(lowest, row.lowest_but(out, span, mode));
+            }
+        }
+        lowest
+    }
+
     /// The region of another owner that blocks the mode in the span (POSIX.1-2017 `fcntl()`,
     /// F_GETLK): of those that block the one with the lowest first byte, and of those with one first
     /// byte the one of the lowest owner. `None` where no byte of the span is held in a mode that
@@ -404,14 +420,35 @@ impl LockTable {
     pub fn blocker(&self, owner: Owner, file: u16, span: Span, mode: Mode) -> Option<LockInfo>
         ensures { MatchOption result (IsFree (held self.now file) owner span mode) (λ lock. IsLowestBlocker (held self.now file) owner span mode lock) }
     {
-        let near = self.index.near(file, span);
-        let mut lowest = None;
+        self.lowest_but(&Some(owner), file, span, mode)
+    }
+
+    /// The region of any owner that is in the way of the mode in the span, held in a mode that excludes
+    /// it: of those the one with the lowest first byte, and of those with one first byte the one of the
+    /// lowest owner. `None` where no byte of the span is held in such a mode. Takes no memory.
+    pub fn lowest_in_way(&self, file: u16, span: Span, mode: Mode) -> Option<LockInfo>
+        ensures { MatchOption result (IsClear (held self.now file) span mode) (IsLowestInWay (IsRegion (held self.now file)) span mode) }
+    {
+        self.lowest_but(&None, file, span, mode)
+    }
+
+    /// The largest span that contains `required`, lies in `within`, and has no byte that an owner holds in a
+    /// mode that excludes this one. Takes no memory.
+    pub fn free_around(&self, file: u16, required: Span, within: Span, mode: Mode) -> Span
+        requires starts_within { within.lo ≤ required.lo }
+        requires ends_within { required.hi ≤ within.hi }
+        requires clear { IsClear (held self.now file) required mode }
+        ensures { IsLargest (HasInWay (IsRegion (held self.now file)) mode) required within result }
+    {
+        let _ = &required.lo; // tells the proof that the span has a byte
+        let near = self.index.near(file, within);
+        let mut span = within;
         for row in rows_of(&self.rows, file) {
             if near.has(row.owner) {
-                lowest = lowest_of(lowest, row.blocker(owner, span, mode));
+                span = row.spans.largest_around(required, span, mode.bar());
             }
         }
-        lowest
+        span
     }
 
     /// Whether the lock is a region of its owner in the file: a longest run of bytes that the owner

@@ -4,7 +4,7 @@ ghost use Rattle.intervals.specs.Bytes.{IsBarred, IsRun, NoneIn};
 ghost use Rattle.intervals.specs.Runs.{value_at};
 ghost use Rattle.lock_table.specs.Rows.{row_cmp, IsSameRow, locks_of, IsBounded, NothingFrom};
 ghost use Rattle.lock_table.specs.Regions.{rest_from, IsFirstRegion};
-ghost use Rattle.lock_table.specs.Blockers.{IsBlockerOf};
+ghost use Rattle.lock_table.specs.Blockers.{IsLowestBut};
 ghost use Rattle.lock_table.specs.Listing.{ListsRegions};
 
 use intervals::span::{GREATEST, Span};
@@ -31,6 +31,13 @@ fn is_found(found: Option<(Span, Mode)>, span: Span, mode: Mode) -> bool
     ensures { IsTrue result ↔ (found ≡ Some (span, mode)) }
 {
     found == Some((span, mode))
+}
+
+// Whether the owner is the one that is left out.
+fn is_left_out(out: &Option<Owner>, owner: Owner) -> bool
+    ensures { IsTrue result ↔ (out.now ≡ Some owner) }
+{
+    *out == Some(owner)
 }
 
 impl OwnerLocks {
@@ -98,12 +105,12 @@ impl OwnerLocks {
         self.first_region(rest, None)
     }
 
-    /// The lowest region of the row that blocks the mode in the span for an owner; none blocks the
-    /// row's own.
-    pub(crate) fn blocker(&self, owner: Owner, span: Span, mode: Mode) -> Option<LockInfo>
-        ensures { IsBlockerOf (locks_of self.now) owner span mode result }
+    /// The lowest region of the row that is in the way of the mode in the span; none is where the row's owner
+    /// is left out.
+    pub(crate) fn lowest_but(&self, out: &Option<Owner>, span: Span, mode: Mode) -> Option<LockInfo>
+        ensures { IsLowestBut (locks_of self.now) out.now span mode result }
     {
-        if self.owner == owner {
+        if is_left_out(out, self.owner) {
             return None;
         }
         self.first_region(span, mode.bar())

@@ -4,14 +4,14 @@ use Rattle.std.proofs.lemmas.List.{append-nil, map-append}
 use Rattle.std.proofs.lemmas.List.Elements.{All-nil, All-push}
 use Rattle.messages.specs.Shapes.{ShapeFields, IsShape}
 use Rattle.lockscript.specs.LineFeeds.{line_feeds, FindsLine, PassesLines}
-use Rattle.lockscript.specs.Scripts.{Begun, IsBadLine, IsFirstBad, IsLine, IsMisplaced, IsNoLine, IsNoShape, IsRefused, IsScript, LineFields, ScriptFields, line_text, script_of, shape_text}
+use Rattle.lockscript.specs.Scripts.{Begun, IsBad, IsBadFirst, IsBadLine, IsFirstBad, IsLine, IsMisplaced, IsNoLine, IsNoShape, IsRefused, IsScript, LineFields, ScriptFields, line_text, script_of, shape_text}
 use Rattle.lockscript.specs.declared.error.ParseError.{ParseError}
 use Rattle.lockscript.specs.declared.error.ParseError.TheVariants.{NoMemory, BadLine}
-use Rattle.lockscript.specs.Scripts.IsBad.{stands_wrong, has_no_end}
+use Rattle.lockscript.specs.Scripts.IsBad.{stands_wrong, has_no_cluster, has_no_end}
 use Rattle.lockscript.proofs.Passes.{passes-join, passes-found}
 
 -- skipped lines add nothing
-passes-more : (text : List ℕ) (taken : ℕ) (kept : List (ℕ × List ℕ)) (middle : List ℕ) (between : ℕ) (rest : List ℕ) (passed : ℕ)
+pub passes-more : (text : List ℕ) (taken : ℕ) (kept : List (ℕ × List ℕ)) (middle : List ℕ) (between : ℕ) (rest : List ℕ) (passed : ℕ)
     → PassesLines text taken kept middle between → PassesLines middle between [] rest passed → PassesLines text taken kept rest passed
 passes-more text taken kept middle between rest passed a b =
     let joined = passes-join text taken kept middle between [] rest passed a b in
@@ -58,7 +58,7 @@ script-begun text s middle between passed begun after = record {
 }
 
 -- the line after those that are whole has no line feed
-pub bad-unfinished : (text : List ℕ) (s : ScriptFields) (middle : List ℕ) (between : ℕ) (rest : List ℕ) (passed : ℕ)
+abbrev pub bad-unfinished : (text : List ℕ) (s : ScriptFields) (middle : List ℕ) (between : ℕ) (rest : List ℕ) (passed : ℕ)
     → Begun text s middle between → PassesLines middle between [] rest passed → rest ≢ [] → line_feeds rest ≡ 0 → IsFirstBad text (passed + 1)
 bad-unfinished text s middle between rest passed begun after some no_feed = record {
   kept = begun.kept;
@@ -71,7 +71,7 @@ bad-unfinished text s middle between rest passed begun after some no_feed = reco
 }
 
 -- the line may not stand behind the others
-pub bad-line : (text : List ℕ) (s : ScriptFields) (middle : List ℕ) (between number : ℕ) (line rest : List ℕ)
+abbrev pub bad-line : (text : List ℕ) (s : ScriptFields) (middle : List ℕ) (between number : ℕ) (line rest : List ℕ)
     → Begun text s middle between → FindsLine middle between number line rest → IsNoLine number line → IsFirstBad text number
 bad-line text s middle between number line rest begun found no_line =
     let kept_is = begun.writes.texts in
@@ -85,17 +85,20 @@ bad-line text s middle between number line rest begun found no_line =
       bad = stands_wrong line rest found.begins found.says (subst (λ (ks : List (ℕ × List ℕ)). IsMisplaced ks number line) (sym kept_is) no_line);
     }
 
+-- nothing is kept, and the text goes on with this line
+pub bad-none : (text rest : List ℕ) (passed : ℕ) → PassesLines text 0 [] rest passed → IsBad [] (passed + 1) rest → IsBadFirst text (BadLine (passed + 1))
+bad-none text rest passed before bad = (record { kept = []; rest = rest; passed = passed; before = before; counted = refl; good = inl refl; bad = bad }, refl)
+
 -- the first line that is not skipped names no cluster
-pub bad-first : (text : List ℕ) (number : ℕ) (line rest : List ℕ) → FindsLine text 0 number line rest → IsNoShape line → IsFirstBad text number
-bad-first text number line rest found no_shape = record {
-  kept = [];
-  rest = found.from;
-  passed = found.passed;
-  before = found.skips;
-  counted = found.counted;
-  good = inl refl;
-  bad = stands_wrong line rest found.begins found.says no_shape;
-}
+pub bad-first : (text : List ℕ) (number : ℕ) (line rest : List ℕ) → FindsLine text 0 number line rest → IsNoShape line → IsBadFirst text (BadLine number)
+bad-first text number line rest found no_shape =
+    subst (λ (n : ℕ). IsBadFirst text (BadLine n)) (sym found.counted)
+    (bad-none text found.from found.passed found.skips (stands_wrong line rest found.begins found.says (subst (λ (n : ℕ). IsMisplaced [] n line) found.counted no_shape)))
+
+-- the first bad line is told
+pub bad-told : (text : List ℕ) (error : ParseError) → IsBadFirst text error → IsBadLine text error
+bad-told text NoMemory bad = absurd bad
+bad-told text (BadLine number) bad = bad.0
 
 -- a bad line refuses the text
 pub bad-refused : (text : List ℕ) (error : ParseError) → IsBadLine text error → IsRefused text error

@@ -2,6 +2,7 @@ pub mod Feeds
 pub mod Passes
 pub mod Begun
 pub mod OneReading
+pub mod ThreadScripts
 pub mod Outcomes
 pub mod Pairs
 pub mod SingleWords

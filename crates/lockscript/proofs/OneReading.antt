@@ -182,7 +182,8 @@ not-bad text s n a b (inr o) =
     let same = same-kept b.kept b.rest b.passed a.kept [] a.passed o none in
     not-at-end b.kept n b.rest s b.bad same.1 (subst (λ (ks : List (ℕ × List ℕ)). Writes ks s) same.0 a.writes)
 
-written-same : (kept kept' : List (ℕ × List ℕ)) (s t : ScriptFields) → Writes kept s → Writes kept' t → kept ≡ kept' → s ≡ t
+-- the same lines write one script
+pub written-same : (kept kept' : List (ℕ × List ℕ)) (s t : ScriptFields) → Writes kept s → Writes kept' t → kept ≡ kept' → s ≡ t
 written-same kept kept' s t a b e =
     let both : (a.cluster_line, shape_text s.shape) ∷ map line_text s.lines ≡ (b.cluster_line, shape_text t.shape) ∷ map line_text t.lines = sym a.texts ∙ e ∙ b.texts in
     let first = first-same (a.cluster_line, shape_text s.shape) (b.cluster_line, shape_text t.shape) (map line_text s.lines) (map line_text t.lines) both in

@@ -134,6 +134,11 @@ abbrev pub IsBadLine : List ℕ → ParseError → Type 0
 IsBadLine text NoMemory = ⊥
 IsBadLine text (BadLine number) = IsFirstBad text number
 
+-- the same, where it is the line in which the `cluster` line is looked for
+abbrev pub IsBadFirst : List ℕ → ParseError → Type 0
+IsBadFirst text NoMemory = ⊥
+IsBadFirst text (BadLine number) = (bad : IsFirstBad text number) × (bad.kept ≡ [])
+
 -- the text writes some script
 abbrev pub HasScript : List ℕ → Type 0
 HasScript text = (s : ScriptFields) × IsScript text s

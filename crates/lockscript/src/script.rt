@@ -1,8 +1,8 @@
 //! Scripts.
-ghost use Rattle.std.specs.Prelude.{◌≡◌, ◌≤◌, [], IfErr, IfOk, OnOk};
-ghost use Rattle.lockscript.specs.declared.error.ParseError.TheVariants.{BadLine};
-ghost use Rattle.lockscript.specs.Scripts.{Begun, HasScript, IsBadLine, IsLine, IsNoLine, IsRefused, IsScript, line_text, script_of};
-ghost use Rattle.lockscript.specs.ThreadLines.{bad_line};
+ghost use Rattle.std.specs.Prelude.{◌≡◌, ◌≢◌, ◌≤◌, [], IfErr, IfOk, OnOk};
+ghost use Rattle.lockscript.specs.declared.error.ParseError.TheVariants.{BadLine, NoMemory};
+ghost use Rattle.lockscript.specs.Scripts.{Begun, HasScript, IsBadFirst, IsBadLine, IsLine, IsNoLine, IsRefused, IsScript, ScriptFields, line_text, script_of};
+ghost use Rattle.lockscript.specs.ThreadLines.{bad_line, IsForThreads, IsRefusedOnThreads};
 
 use crate::cluster_line::shape_of;
 use crate::commands::command_of;
@@ -62,6 +62,20 @@ impl Script {
         Ok(Script { shape, lines })
     }
 
+    /// The script that the text writes, as at `parse`, all of whose lines threads take.
+    ///
+    /// # Errors
+    /// `BadLine` with the number of the first line that may not stand there or that threads don't take,
+    /// counted from 1, or with the number after the last where there is no `cluster` line; `NoMemory`
+    /// where no line is bad and a request for memory was refused.
+    pub fn parse_for_threads(alloc: Global, text: &str) -> Result<Script, ParseError>
+        ensures script { IfOk result (IsForThreads text.now) }
+        ensures refused { IfErr result (IsRefusedOnThreads text.now) }
+    {
+        check_for_threads(text)?;
+        Script::parse(alloc, text)
+    }
+
     /// The cluster that it runs on.
     pub fn shape(&self) -> Shape
         ensures { result ≡ self.now.shape }
@@ -92,7 +106,7 @@ impl Script {
 fn shape_in(source: &mut Lines<'_>) -> Result<Shape, ParseError>
     requires { source.old.taken ≡ 0 }
     ensures begun { IfOk result (λ shape. Begun source.old.rest.now (script_of shape []) source.new.rest.now source.new.taken) }
-    ensures bad { IfErr result (IsBadLine source.old.rest.now) }
+    ensures bad { IfErr result (IsBadFirst source.old.rest.now) }
 {
     let Some(first) = source.next_command()? else {
         return Err(ParseError::BadLine(source.next_number()));
@@ -122,6 +136,22 @@ fn check(text: &str) -> Result<(), ParseError>
     shape_in(&mut source)?;
     while let Some(line) = source.next_command()? {
         script_line(line)?;
+    }
+    Ok(())
+}
+
+// Whether the text writes a script all of whose lines threads take.
+fn check_for_threads(text: &str) -> Result<(), ParseError>
+    ensures script { OnOk result ((script : ScriptFields) × IsForThreads text.now script) }
+    ensures bad { IfErr result (λ error. (error ≢ NoMemory) × IsRefusedOnThreads text.now error) }
+{
+    let mut source = Lines::new(text);
+    shape_in(&mut source)?;
+    while let Some(line) = source.next_command()? {
+        let made = script_line(line)?;
+        if !made.command().is_for_threads() {
+            return Err(ParseError::BadLine(line.number));
+        }
     }
     Ok(())
 }

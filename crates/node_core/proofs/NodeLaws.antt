@@ -1,5 +1,5 @@
 -- A node's parts and its state.
-use Rattle.std.specs.Prelude.{◌≡◌, ℕ, ◌≤◌, ◌&&◌, ◌==◌, Bool, true, false, nat_lt, if◌then◌else◌, List, [], ◌∷◌, Option, Some, None, Result, Ok, Err, All, Contains, IfOk, IfSome, MatchOption, find, length, refl}
+use Rattle.std.specs.Prelude.{◌≡◌, ℕ, ◌≤◌, ◌&&◌, ◌==◌, Bool, true, false, nat_lt, if◌then◌else◌, List, [], ◌∷◌, Option, Some, None, Result, Ok, Err, All, IfOk, IfSome, MatchOption, find, length, refl}
 use Rattle.std.proofs.Common.{arith, ap, sym, subst, ◌∙◌}
 use Rattle.std.proofs.lemmas.Bool.{and_from, eq-eqb}
 use Rattle.std.proofs.lemmas.List.Elements.{All-head, All-tail}
@@ -18,18 +18,17 @@ use Rattle.model.specs.Limits.{IsNumber, most_descriptors}
 use Rattle.model.specs.declared.lock_info.LockInfo.{LockInfo}
 use Rattle.model.specs.declared.policy.Policy.{Policy}
 use Rattle.model.specs.declared.policy.Policy.TheVariants.{Wide, Exact}
-use Rattle.model.specs.Locks.{no_locks, IsFree, IsLowestBlocker, lowest_blocker, IsOfNode}
+use Rattle.model.specs.Locks.{no_locks, IsFree, IsLowestBlocker, lowest_blocker, IsRegion, IsOfNode}
 use Rattle.model.proofs.BlockerLaws.{is_lowest_blocker}
 use Rattle.model.specs.Descriptors.{Processes, no_processes, with_descriptor, lowest_fd, lowest_description, after_open, after_spawn, with_process, after_fork, after_dup, again_on}
 use Rattle.model.specs.Table.{LockTarget, around, beside, with_processes, target_at}
 use Rattle.model.proofs.Refusals.{ok_is}
 use Rattle.lock_table.specs.declared.owner_locks.OwnerLocks.{OwnerLocks}
 use Rattle.lock_table.specs.Rows.{held}
-use Rattle.lock_table.specs.Listing.{IsListing}
 use Rattle.token_set.specs.Tokens.{Token, desired, holds_nothing}
 use Rattle.token_set.specs.Releases.{IsRevocable, IsGivenUp, gave_up}
 use Rattle.token_set.specs.declared.gave_up.GaveUp.{GaveUp}
-use Rattle.token_set.proofs.ReleaseLaws.{list_gives_up}
+use Rattle.token_set.proofs.ReleaseLaws.{gave_up_is_one}
 use Rattle.messages.specs.Shapes.{ShapeFields}
 use Rattle.descriptors.specs.declared.process_entry.ProcessEntry.{ProcessEntry}
 use Rattle.descriptors.specs.declared.error.FdError.{FdError}
@@ -189,11 +188,11 @@ node-blocker p c r own is x =
     let of_host : IsOfNode (held p.locks c.file) c.owner.node c.owner.incarnation = subst (λ n. IsOfNode (held p.locks c.file) c.owner.node n) (sym own.own.of_incarnation) of_node in
     is_lowest_blocker (held p.locks c.file) c.owner c.span c.mode r of_host own.span.ordered own.span.ends x
 
--- what a node gives up by the list of its locks
-pub node-gives : (p : NodeParts) (file : ℕ) (locks : List LockInfo) (mode : Mode) (required desired : Range) (gives : GaveUp) → IsNode p → IsListing (held p.locks file) locks → IsRevocable required desired → IsGivenUp (Contains locks) mode required desired gives → gives ≡ gave_up ((node_state p).table.locks file) (node_state p).node (node_state p).incarnation mode required desired
+-- what a node gives up by the regions of its locks
+pub node-gives : (p : NodeParts) (file : ℕ) (mode : Mode) (required desired : Range) (gives : GaveUp) → IsNode p → IsRevocable required desired → IsGivenUp (IsRegion (held p.locks file)) mode required desired gives → gives ≡ gave_up ((node_state p).table.locks file) (node_state p).node (node_state p).incarnation mode required desired
 unfolding node_state
-node-gives p file locks mode required desired gives is listing revocable given =
-    list_gives_up (held p.locks file) p.node p.incarnation locks mode required desired gives (is.anchored.own.locks file) listing.regions listing.complete revocable given
+node-gives p file mode required desired gives is revocable given =
+    gave_up_is_one (held p.locks file) p.node p.incarnation mode required desired gives (is.anchored.own.locks file) revocable given
 
 -- what a lock call of a process is about
 pub target-refused : (p : NodeParts) (pid : ℕ) (need : Option Mode) (fd : ℕ) (kind : Kind) (segment : Result Range SpanError) (e : FdError) → resolved (processes p.processes) pid fd ≡ Err e → target_in (around (node_state p).table (process (node_state p) pid)) (process (node_state p) pid) need fd kind segment ≡ Err (fd_reply e)

@@ -1,6 +1,5 @@
 //! What a node knows of one file.
-ghost use Rattle.std.specs.Prelude.{◌≡◌, ◌↔◌, false, IfOk, IsTrue, Contains};
-ghost use Rattle.token_set.specs.Releases.{IsGivenUp};
+ghost use Rattle.std.specs.Prelude.{◌≡◌, ◌↔◌, false, IfOk, IsTrue};
 ghost use Rattle.node_core.specs.State.{first_file};
 ghost use Rattle.node_core.specs.Commands.{is_conflict};
 ghost use Rattle.node_core.specs.Files.{state_of};
@@ -10,9 +9,7 @@ ghost use Rattle.node_core.specs.Plans.{file_after};
 use crate::command::Command;
 use intervals::span::Span;
 use messages::message::Message;
-use messages::wanted::Wanted;
 use model::host::Host;
-use model::lock_info::LockInfo;
 use std::alloc::{AllocError, Global};
 use token_set::edit::TokenEdit;
 use token_set::gave_up::GaveUp;
@@ -90,8 +87,8 @@ impl FileRow {
         })
     }
 
-    /// What the revoke changes, by the holder's locks of the file: the token is given up as far as none
-    /// of them is in the way, the answer is remembered, and the file is asked where one was named.
+    /// What the revoke changes where the holder gives that: what it gives up is lowered in the token, the
+    /// answer is remembered, and the file is asked where one of the holder's locks was named.
     ///
     /// # Errors
     /// `AllocError` where a request for memory was refused.
@@ -99,24 +96,18 @@ impl FileRow {
         &self,
         command: &Command,
         holder: Host,
-        wanted: Wanted,
-        locks: &[LockInfo],
-    ) -> Result<(GaveUp, FileEdit), AllocError>
-        ensures answer { IfOk result (λ r. IsGivenUp (Contains locks.now) command.now.mode wanted.required wanted.desired r.0) }
-        ensures file { IfOk result (λ r. r.1.file ≡ command.now.file) }
-        ensures state { IfOk result (λ r. file_after self.now r.1 ≡ revoked_file (state_of self.now) command.now holder r.0) }
+        gives: &GaveUp,
+    ) -> Result<FileEdit, AllocError>
+        ensures file { IfOk result (λ edit. edit.file ≡ command.now.file) }
+        ensures state { IfOk result (λ edit. file_after self.now edit ≡ revoked_file (state_of self.now) command.now holder gives.now) }
     {
-        let (gives, token) = self
-            .token
-            .plan_give_up(command.mode, wanted.required, wanted.desired, locks)?;
-        let edit = FileEdit {
+        Ok(FileEdit {
             file: command.file.get(),
-            token,
+            token: self.token.plan_give_up(command.mode, gives)?,
             last: command.number.get(),
-            answer: command.answer(holder, gives),
-            asked: is_conflict(&gives) || self.asked,
-        };
-        Ok((gives, edit))
+            answer: command.answer(holder, *gives),
+            asked: is_conflict(gives) || self.asked,
+        })
     }
 
     /// The command is done. Takes no memory.

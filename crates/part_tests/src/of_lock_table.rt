@@ -1,5 +1,5 @@
 //! What the lock table does, at values that were worked out by hand.
-use intervals::span::Span;
+use intervals::span::{GREATEST, Span};
 use lock_table::error::LockError;
 use lock_table::lock_table::LockTable;
 use lock_table::order::{cmp_regions, lowest_of};
@@ -45,6 +45,28 @@ const LATER: Owner = Owner {
 
 fn region(owner: Owner, mode: Mode, span: Span) -> LockInfo {
     LockInfo { owner, mode, span }
+}
+
+// The bytes 10 to 19 held for write, and from 40 on by two owners for read.
+fn three_regions(alloc: Global) -> Result<LockTable, Fail> {
+    let mut table = LockTable::new(alloc);
+    table.set(SECOND, FILE, Span { lo: 10, hi: 19 }, Mode::Write)?;
+    table.set(DESCRIPTION, FILE, Span { lo: 40, hi: 59 }, Mode::Read)?;
+    table.set(FIRST, FILE, Span { lo: 40, hi: 49 }, Mode::Read)?;
+    Ok(table)
+}
+
+// The largest free span of the file around the bytes, or none where a lock is in the way of them.
+fn free(table: &LockTable, required: Span, mode: Mode) -> Option<Span> {
+    let _ = &required.lo; // tells the proof where the span ends
+    let whole = Span {
+        lo: 0,
+        hi: GREATEST,
+    };
+    match table.lowest_in_way(FILE, required, mode) {
+        Some(_) => None,
+        None => Some(table.free_around(FILE, required, whole, mode)),
+    }
 }
 
 // One owner has 1,024 regions of three bytes, with one free byte after each.
@@ -294,4 +316,42 @@ fn the_lowest_of_two_regions_comes_first(rt: HostRuntime) {
     let lowest = lowest_of(Some(high), Some(low));
     assert_eq!(rt; lowest, Some(region(FIRST, Mode::Read, span)));
     assert_eq!(rt; lowest_of(None, None), None);
+}
+
+// The lowest region in the way is one of any owner, and of two that begin at one byte the first owner's.
+#[test]
+fn names_the_lowest_in_the_way(rt: HostRuntime) -> Result<(), Fail> {
+    let table = three_regions(rt.alloc())?;
+    let write = region(SECOND, Mode::Write, Span { lo: 10, hi: 19 });
+    let read = region(FIRST, Mode::Read, Span { lo: 40, hi: 49 });
+    let all = Span { lo: 0, hi: 99 };
+    assert_eq!(rt; table.lowest_in_way(FILE, all, Mode::Write), Some(write));
+    assert_eq!(rt; table.lowest_in_way(FILE, all, Mode::Read), Some(write));
+    let above = Span { lo: 20, hi: 99 };
+    assert_eq!(rt; table.lowest_in_way(FILE, above, Mode::Write), Some(read));
+    assert_eq!(rt; table.lowest_in_way(FILE, above, Mode::Read), None);
+    assert_eq!(rt; table.lowest_in_way(FILE + 1, all, Mode::Write), None);
+    Ok(())
+}
+
+// Bytes are free up to the nearest region in the way below and above.
+#[test]
+fn names_the_largest_free_span(rt: HostRuntime) -> Result<(), Fail> {
+    let table = three_regions(rt.alloc())?;
+    let middle = Span { lo: 25, hi: 29 };
+    let between = Span { lo: 20, hi: 39 };
+    assert_eq!(rt; free(&table, middle, Mode::Write), Some(between));
+    let above = Span {
+        lo: 20,
+        hi: GREATEST,
+    };
+    assert_eq!(rt; free(&table, middle, Mode::Read), Some(above));
+    let past = Span { lo: 60, hi: 60 };
+    let rest = Span {
+        lo: 60,
+        hi: GREATEST,
+    };
+    assert_eq!(rt; free(&table, past, Mode::Write), Some(rest));
+    assert_eq!(rt; free(&table, Span { lo: 19, hi: 20 }, Mode::Read), None);
+    Ok(())
 }

@@ -1,5 +1,5 @@
 -- What a fault of a part is to the command, what it says of a file, and the line that tells of it.
-use Rattle.std.specs.Prelude.{◌≡◌, ℕ, ⊤, ◌<◌, ◌⊎◌, List, ◌++◌, codes, decimal, length, Option, None}
+use Rattle.std.specs.Prelude.{◌≡◌, ℕ, ◌<◌, ◌⊎◌, List, ◌++◌, codes, decimal, length, Option, None}
 use Rattle.cluster_core.specs.Journals.{JournalFields}
 use Rattle.cluster_core.specs.World.{journal_limit}
 use Rattle.journal_text.specs.declared.error.JournalError.{JournalError}
@@ -8,6 +8,7 @@ use Rattle.journal_text.specs.Readings as readings
 use Rattle.lockscript.specs.declared.error.ParseError.{ParseError}
 use Rattle.lockscript.specs.declared.error.ParseError.TheVariants as parse
 use Rattle.lockscript.specs.Scripts as scripts
+use Rattle.lockscript.specs.ThreadLines.{IsBadOnThreads}
 use Rattle.replay.specs.declared.play.PlayError.{PlayError}
 use Rattle.replay.specs.declared.play.PlayError.TheVariants as play
 use Rattle.replay.specs.declared.fault.Fault.{Fault}
@@ -15,7 +16,7 @@ use Rattle.replay.specs.declared.fault.Fault.TheVariants.{BadLine, CannotRead, C
 use Rattle.replay.specs.Audits.{HasEntries, HasJournal, WritesFew}
 use Rattle.replay.specs.Played.{FillsJournal}
 use Rattle.replay.specs.Scripts.{HasScript}
-use Rattle.replay.specs.Threads.{IsBadOnThreads, IsTaken}
+use Rattle.replay.specs.Threads.{FillsOnThreads, IsTaken}
 use Rattle.replay.specs.Stores.{HasNoText, HasText}
 
 abbrev pub fault_of_parse : ParseError → Fault
@@ -44,12 +45,12 @@ IsScriptFault Holds RanShort path NoMemory = RanShort ⊎ ((script : scripts.Scr
 IsScriptFault Holds RanShort path JournalFull = (script : scripts.ScriptFields) × HasScript Holds script × FillsJournal script.shape script.lines
 IsScriptFault Holds RanShort path fault = ⊥
 
--- why the script of the file is not run to its end on threads: no text, a bad line, a full journal; memory is short where `RanShort` says it, or for the text
+-- why the script of the file is not run to its end on threads: no text, a bad line, a full journal; memory is short where `RanShort` says it, or for the run of a script that threads take
 abbrev pub IsThreadsFault : (Option (List ℕ) → Type 0) → Type 0 → List ℕ → Fault → Type 0
 IsThreadsFault Holds RanShort path (BadLine line) = HasText Holds (λ text. IsBadOnThreads text line)
 IsThreadsFault Holds RanShort path (CannotRead named) = (named.now ≡ path) × HasNoText Holds
-IsThreadsFault Holds RanShort path NoMemory = RanShort ⊎ HasText Holds (λ text. ⊤)
-IsThreadsFault Holds RanShort path JournalFull = IsTaken Holds
+IsThreadsFault Holds RanShort path NoMemory = RanShort ⊎ IsTaken Holds
+IsThreadsFault Holds RanShort path JournalFull = FillsOnThreads Holds
 IsThreadsFault Holds RanShort path fault = ⊥
 
 -- why the journal that the text writes is not audited: a bad line, or too many entries; memory is short for the audit of one that has not too many

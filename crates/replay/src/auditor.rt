@@ -1,15 +1,13 @@
 //! Audits that go on.
-ghost use Rattle.std.specs.Prelude.{◌≡◌, ◌≢◌, [], true, false, None, Ok, IfOk};
-ghost use Rattle.cluster_core.specs.Next.{next};
+ghost use Rattle.std.specs.Prelude.{[], None, IfOk};
 ghost use Rattle.cluster_core.specs.Parts.{world_state};
-ghost use Rattle.cluster_core.specs.World.{WorldState};
 ghost use Rattle.replay.specs.Audits.{Knows};
 
+use cluster_core::journal::comes_next;
 use cluster_core::world::World;
 use intervals::span_map::NoMemory;
 use journal_text::sink::Sink;
 use messages::entry::Entry;
-use messages::refusal::Refused;
 use messages::shape::Shape;
 use std::alloc::{AllocError, Global};
 
@@ -50,17 +48,5 @@ impl Sink for Auditor {
             self.wrong = Some(position);
         }
         Ok(())
-    }
-}
-
-// Whether the event of the entry, which happens, makes this entry.
-fn comes_next(world: &mut World, alloc: Global, entry: &Entry) -> Result<bool, NoMemory>
-    ensures made { IfOk result (λ same. same ≡ true → next (world_state world.old) entry.now.event ≡ Ok (world_state world.new, entry.now)) }
-    ensures other { IfOk result (λ same. same ≡ false → (v : WorldState) → next (world_state world.old) entry.now.event ≢ Ok (v, entry.now)) }
-{
-    match world.step(alloc, entry.event()) {
-        Ok(made) => Ok(made.same(entry)),
-        Err(Refused::NoMemory) => Err(AllocError),
-        Err(_) => Ok(false),
     }
 }

@@ -20,7 +20,6 @@ mod run;
 mod settled;
 pub mod shown;
 pub mod store;
-mod thread_lines;
 pub mod threaded;
 mod threads;
 pub mod words;

@@ -1,16 +1,14 @@
 //! Scripts on threads.
-ghost use Rattle.std.specs.Prelude.{◌≡◌, None, IfOk};
+ghost use Rattle.std.specs.Prelude.{◌≡◌, None, IfErr, IfOk};
 ghost use Rattle.lockscript.specs.ThreadLines.{bad_line};
-ghost use Rattle.replay.specs.Threads.{IsToldOf, Tells};
+ghost use Rattle.replay.specs.declared.play.PlayError.TheVariants.{JournalFull};
+ghost use Rattle.replay.specs.Threads.{HasFullJournal, IsToldOf};
 
-use crate::counts::held_in;
 use crate::play::PlayError;
 use crate::threaded::Threaded;
 use actors::gate::OpenGate;
 use actors::run_error::RunError;
-use actors::thread_run::ThreadRun;
 use actors::threads::run_threads;
-use journal_text::laws::each_journal_is_read;
 use lockscript::script::Script;
 use std::alloc::Global;
 use std::sync::Wait;
@@ -26,24 +24,13 @@ pub(crate) fn run_on_threads<R: Threads + Wait + Clock + Sync>(
     seed: u32,
 ) -> Result<Threaded, PlayError>
     requires { bad_line script.now.lines ≡ None }
-    ensures { IfOk result (IsToldOf script.now) }
+    ensures told { IfOk result (IsToldOf script.now) }
+    ensures full { IfErr result (λ error. error ≡ JournalFull → HasFullJournal script.now) }
 {
     match run_threads(rt, alloc, script, &OpenGate, seed) {
-        Ok(run) => threaded_of(alloc, &run),
+        Ok(run) => Ok(Threaded::new(alloc, &run)?),
         Err(RunError::NoMemory) => Err(PlayError::NoMemory),
-        Err(RunError::JournalFull) => Err(PlayError::JournalFull),
+        Err(RunError::JournalFull(_)) => Err(PlayError::JournalFull),
         Err(RunError::BadLine(_)) => unreachable!(),
     }
-}
-
-// What is told of the run.
-fn threaded_of(alloc: Global, run: &ThreadRun) -> Result<Threaded, PlayError>
-    ensures { IfOk result (Tells run.now) }
-{
-    let journal = run.journal();
-    each_journal_is_read(journal);
-    let receipts = run.receipts();
-    let answered = receipts.len() as u64;
-    let held = held_in(journal, receipts);
-    Ok(Threaded::new(alloc, journal, run.refused(), answered, held)?)
 }

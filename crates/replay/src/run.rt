@@ -22,7 +22,7 @@ use crate::played::Played;
 use crate::store::Store;
 use cluster_core::journal::Journal;
 use intervals::span_map::NoMemory;
-use journal_text::journal::print;
+use journal_text::journal::into_text;
 use journal_text::laws::each_journal_is_read;
 use lockscript::listing::push_history;
 use lockscript::script::Script;
@@ -106,8 +106,7 @@ fn listing_and_journal(alloc: Global, played: Played) -> Result<(String, String)
 {
     let (mut text, journal, history) = listing_of_played(alloc, played)?;
     each_journal_is_read(&journal);
-    let printed = print(alloc, &journal.shape(), journal.entries())?;
-    drop(journal);
+    let printed = into_text(alloc, journal)?;
     push_history(&mut text, history.items())?;
     Ok((text, printed))
 }

@@ -1,17 +1,14 @@
 //! What came of a script on threads.
 ghost use Rattle.std.specs.Prelude.{◌≡◌, ◌++◌, codes, decimal, string_bytes, IfOk};
-ghost use Rattle.cluster_core.specs.Runs.{Leads};
-ghost use Rattle.cluster_core.specs.World.{WorldState, first_world};
-ghost use Rattle.journal_text.specs.Journals.{journal_text};
-ghost use Rattle.replay.specs.Scripts.{IsListing};
-ghost use Rattle.replay.specs.Threads.{ShowsThreads, ThreadedFields};
+ghost use Rattle.replay.specs.Threads.{ShowsThreads, Tells, ThreadedFields};
 
+use crate::counts::held_in;
 use crate::listing::listing_of_journal;
 use crate::shown::Shown;
-use cluster_core::journal::Journal;
+use actors::thread_run::ThreadRun;
 use intervals::span_map::NoMemory;
 use journal_text::journal::print;
-use lockscript::refused_line::RefusedLine;
+use journal_text::laws::each_journal_is_read;
 use std::alloc::{AllocError, Global};
 use std::fmt::Write;
 use std::marker::Model;
@@ -38,28 +35,23 @@ impl Model for Threaded {
 }
 
 impl Threaded {
-    /// The texts of the run of this journal, in which these lines were refused.
+    /// What is told of the run.
     ///
     /// # Errors
     /// `NoMemory` where a request for memory was refused.
-    pub fn new(
-        alloc: Global,
-        journal: &Journal,
-        refused: &[RefusedLine],
-        answered: u64,
-        held: u64,
-    ) -> Result<Threaded, NoMemory>
-        ensures listing { IfOk result (λ t. (world : WorldState) × Leads (first_world journal.now.shape) journal.now.entries world
-            × IsListing (record { journal = journal.now; world = world; refused = refused.now }) t.listing) }
-        ensures journal { IfOk result (λ t. t.journal ≡ journal_text journal.now.shape journal.now.entries) }
-        ensures counts { IfOk result (λ t. (t.answered ≡ answered) × (t.held ≡ held)) }
+    pub fn new(alloc: Global, run: &ThreadRun) -> Result<Threaded, NoMemory>
+        ensures { IfOk result (Tells run.now) }
     {
-        let listing = listing_of_journal(alloc, journal, refused)?;
+        let journal = run.journal();
+        each_journal_is_read(journal);
+        let listing = listing_of_journal(alloc, journal, run.refused())?;
         let printed = print(alloc, &journal.shape(), journal.entries())?;
+        let receipts = run.receipts();
+        let held = held_in(journal, receipts);
         Ok(Threaded {
             listing,
             journal: printed,
-            answered,
+            answered: receipts.len() as u64,
             held,
         })
     }

@@ -4,9 +4,8 @@ ghost use Rattle.command_line.specs.Tasks.{threads};
 ghost use Rattle.replay.specs.declared.fault.Fault.TheVariants.{CannotWriteOutput};
 ghost use Rattle.replay.specs.Commands.{Does, IsFault};
 ghost use Rattle.replay.specs.Faults.{IsThreadsFault};
-ghost use Rattle.replay.specs.Stores.{HasText, SameFiles};
-ghost use Rattle.replay.specs.Threads.{IsTaken, IsTextFault, IsTold};
-ghost use Rattle.lockscript.specs.Scripts.{IsScript};
+ghost use Rattle.replay.specs.Stores.{SameFiles};
+ghost use Rattle.replay.specs.Threads.{HasThreadScript, IsTaken, IsTold};
 ghost use Rattle.lockscript.specs.ThreadLines.{bad_line};
 
 use crate::fault::Fault;
@@ -14,7 +13,6 @@ use crate::input::bytes_of;
 use crate::on_threads::run_on_threads;
 use crate::shown::Shown;
 use crate::store::Store;
-use crate::thread_lines::script_for_threads;
 use crate::threaded::Threaded;
 use lockscript::script::Script;
 use std::alloc::Global;
@@ -98,14 +96,14 @@ fn threaded_of<'a, R: Threads + Wait + Clock + Sync, S: Store>(
 
 // The script that a file writes, all of whose lines threads take.
 fn script_of<'a, S: Store>(alloc: Global, store: &mut S, path: &'a str) -> Result<Script, Fault<'a>>
-    ensures script { IfOk result (λ script. HasText (S.holds store.old path.now) (λ text. IsScript text script)) }
+    ensures script { IfOk result (HasThreadScript (S.holds store.old path.now)) }
     ensures taken { IfOk result (λ script. bad_line script.lines ≡ None) }
     ensures fault { IfErr result (IsThreadsFault (S.holds store.old path.now) (S.ran_short store.new) path.now) }
     ensures files { SameFiles (S.holds store.old) (S.holds store.new) }
 {
     let bytes = bytes_of(alloc, store, path)?;
     match str::from_utf8(bytes.as_slice()) {
-        Ok(text) => script_for_threads(alloc, text),
+        Ok(text) => Ok(Script::parse_for_threads(alloc, text)?),
         Err(_) => Err(Fault::CannotRead(path)),
     }
 }

@@ -68,7 +68,7 @@ fn a_line_of_another_kind_is_bad(rt: HostRuntime) -> Result<(), Fail> {
     let text = "cluster nodes 2 files 1 policy wide\ncall 1 1 spawn\n\nretry 1 1\nresend 1\n";
     let script = Script::parse(alloc, text)?;
     let run = run_threads(&rt, alloc, &script, &OpenGate, 1);
-    assert_eq!(rt; run.err(), Some(RunError::BadLine(4)));
+    assert!(rt; matches!(&run, Err(RunError::BadLine(4))));
     Ok(())
 }
 

@@ -1,49 +1,17 @@
 -- The largest span that has no byte of a kind.
 use Rattle.std.specs.Prelude.{◌≡◌, ℕ, ◌+◌, ◌<◌, ◌≤◌, ◌⊎◌, Bool, true, false, ◌||◌}
 use Rattle.std.proofs.Common.{refl, ap, sym, ◌∙◌, inl, inr, arith}
-use Rattle.std.proofs.lemmas.Bool.{both_ways, cases_lt, or_cases, or_left, or_right}
+use Rattle.std.proofs.lemmas.Bool.{both_ways, or_cases, or_left, or_right}
 use Rattle.intervals.specs.Search.{some_passes}
 use Rattle.intervals.specs.Bytes.{Range, NoneIn, IsLargest, largest_around}
 use Rattle.intervals.proofs.SpanLaws.{largest_is_one}
 use Rattle.intervals.proofs.SpanSearch.{largest_is_largest}
+use Rattle.lock_table.proofs.LargestLaws.{IsLargest-iff, IsLargest-or, IsLargest-whole}
 use Rattle.token_set.proofs.SearchLaws.{some_passes-first, some_passes-zero, some_passes-more}
 
 or_false : (t : Bool) → (t || false) ≡ t
 or_false true = refl
 or_false false = refl
-
--- the bytes of one kind are of the other
-pub IsLargest-iff : (P Q : ℕ → Type 0) (required within s : Range) → ((b : ℕ) → P b → Q b) → ((b : ℕ) → Q b → P b) → IsLargest P required within s → IsLargest Q required within s
-IsLargest-iff P Q required within s to from l = record {
-  has_first = l.has_first;
-  has_last = l.has_last;
-  starts_within = l.starts_within;
-  ends_within = l.ends_within;
-  free = λ b lo hi q. l.free b lo hi (from b q);
-  full_below = λ b next le. to b (l.full_below b next le);
-  full_above = λ lt. to _ (l.full_above lt);
-}
-
--- the largest span for two kinds: that for one of them, within the largest for the other
-pub IsLargest-or : (P Q : ℕ → Type 0) (required within s t : Range) → required.lo ≤ required.hi → IsLargest P required within s → IsLargest Q required s t → IsLargest (λ b. P b ⊎ Q b) required within t
-IsLargest-or P Q required within s t order l m = record {
-  has_first = m.has_first;
-  has_last = m.has_last;
-  starts_within = omega (arith, l.starts_within, m.starts_within);
-  ends_within = omega (arith, l.ends_within, m.ends_within);
-  free = λ b lo hi either. elim either [
-    | inl p ↦ l.free b (omega (arith, m.starts_within)) (omega (arith, m.ends_within)) p
-    | inr q ↦ m.free b lo hi q
-  ];
-  full_below = λ b next le. elim (cases_lt b s.lo) [
-    | inl lt ↦ inl (l.full_below b (omega (arith, m.starts_within)) le)
-    | inr ge ↦ inr (m.full_below b next ge)
-  ];
-  full_above = λ lt. elim (cases_lt t.hi s.hi) [
-    | inl less ↦ inr (m.full_above less)
-    | inr ge ↦ inl (rw (let same : t.hi ≡ s.hi = omega (arith, m.ends_within) in same) (l.full_above (omega arith)))
-  ];
-}
 
 -- what is the largest span is what `largest_around` gives
 pub largest_around-is : (barred : ℕ → Bool) (required within s : Range) → required.lo ≤ required.hi → IsLargest (λ b. barred b ≡ true) required within s → s ≡ largest_around barred required within
@@ -58,18 +26,6 @@ pub largest_around-same : (p q : ℕ → Bool) (required within : Range) → ((b
 largest_around-same p q required within same =
     let functions : p ≡ q = λ i b. same b i in
     ap (λ f. largest_around f required within) functions
-
--- without a byte of the kind it is as large as it may be
-pub IsLargest-whole : (P : ℕ → Type 0) (required within : Range) → within.lo ≤ required.lo → required.hi ≤ within.hi → NoneIn P within → IsLargest P required within within
-IsLargest-whole P required within starts ends free = record {
-  has_first = starts;
-  has_last = ends;
-  starts_within = omega arith;
-  ends_within = omega arith;
-  free = free;
-  full_below = λ b next le. absurd (omega arith);
-  full_above = λ lt. absurd (omega arith);
-}
 
 -- without a barred byte too
 pub largest_around-free : (barred : ℕ → Bool) (required within : Range) → required.lo ≤ required.hi → within.lo ≤ required.lo → required.hi ≤ within.hi → NoneIn (λ b. barred b ≡ true) within → largest_around barred required within ≡ within

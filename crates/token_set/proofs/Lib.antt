@@ -3,5 +3,4 @@ pub mod AroundLaws
 pub mod TokenLaws
 pub mod RunLaws
 pub mod ReleaseLaws
-pub mod ListLaws
 pub mod LevelLaws

@@ -1,8 +1,7 @@
 -- What a node gives up, and what its token is then.
-use Rattle.std.specs.Prelude.{◌≡◌, ℕ, ◌+◌, ◌<◌, ◌≤◌, true, false, if◌then◌else◌, Option, Some, None, IsSome, Contains, MatchOption, refl}
+use Rattle.std.specs.Prelude.{◌≡◌, ℕ, ◌+◌, ◌<◌, ◌≤◌, true, false, if◌then◌else◌, Option, Some, None, IsSome, MatchOption, refl}
 use Rattle.std.proofs.Common.{arith, ap, sym, ◌∙◌, subst, inl, inr}
 use Rattle.std.proofs.lemmas.Bool.{cases_Bool, and_parts, leb-true}
-use Rattle.std.proofs.lemmas.List.Elements.{All-contains}
 use Rattle.intervals.specs.Search.{first}
 use Rattle.intervals.specs.Bytes.{Range, is_in, NoneIn}
 use Rattle.intervals.proofs.SpanSearch.{largest_is_largest}
@@ -14,12 +13,14 @@ use Rattle.model.specs.declared.lock_info.LockInfo.{LockInfo}
 use Rattle.model.specs.Owners.{owner_at, most_owners}
 use Rattle.model.specs.Locks.{FileLocks, excludes, bars, IsRegion, IsOfNode, IsClear, IsInWay, IsLowestInWay, lowest_in_way}
 use Rattle.model.proofs.WayLaws.{clear_has_none, barred_region, lowest_in_way_is_lowest, is_lowest_in_way}
+use Rattle.lock_table.specs.Blockers.{HasInWay}
+use Rattle.lock_table.proofs.LargestLaws.{IsLargest-iff}
 use Rattle.token_set.specs.Tokens.{Token, serves}
-use Rattle.token_set.specs.Releases.{lowered_level, lowered, is_in_way, given_up_span, answer_of, gave_up, NoneInWay, HasInWay, IsGivenUp, IsRevocable, GaveUpIsGivenUp, ListGivesUp, ReleasedIsClear, IsAtMost, LoweringLowers, LoweringKeepsLocks}
+use Rattle.token_set.specs.Releases.{lowered_level, lowered, is_in_way, given_up_span, answer_of, gave_up, NoneInWay, IsGivenUp, IsRevocable, GaveUpIsGivenUp, GaveUpIsOne, ReleasedIsClear, IsAtMost, LoweringLowers, LoweringKeepsLocks}
 use Rattle.token_set.specs.declared.gave_up.GaveUp.{GaveUp}
 use Rattle.token_set.specs.declared.gave_up.GaveUp.TheVariants.{Released, Conflict}
 use Rattle.token_set.proofs.SearchLaws.{some_passes-first, some_passes-from}
-use Rattle.token_set.proofs.AroundLaws.{IsLargest-iff, largest_around-is}
+use Rattle.token_set.proofs.AroundLaws.{largest_around-is}
 
 -- what is in the way of a byte is in the way of a span that has it
 in_way-wider : (s : Range) (mode : Mode) (b : ℕ) (lock : LockInfo) → s.lo ≤ b → b ≤ s.hi → IsInWay (record { lo = b; hi = b }) mode lock → IsInWay s mode lock
@@ -75,21 +76,8 @@ pub gave_up_is_given_up : GaveUpIsGivenUp
 gave_up_is_given_up h node incarnation mode required desired own r =
     given_up_by h node incarnation own mode required desired r (lowest_in_way h node incarnation required mode) (lowest_in_way_is_lowest h node incarnation required mode own r.ordered r.within)
 
--- locks of two kinds that are the same give up the same
-given_up-same : (IsOne IsOther : LockInfo → Type 0) (mode : Mode) (required desired : Range) (answer : GaveUp) → ((lock : LockInfo) → IsOne lock → IsOther lock) → ((lock : LockInfo) → IsOther lock → IsOne lock) → IsGivenUp IsOne mode required desired answer → IsGivenUp IsOther mode required desired answer
-given_up-same IsOne IsOther mode required desired (Conflict lock) to from low = record {
-  is_one = to lock low.is_one;
-  in_way = low.in_way;
-  lowest = λ other is way. low.lowest other (from other is) way;
-}
-given_up-same IsOne IsOther mode required desired (Released s) to from given = (
-  λ lock is way. given.0 lock (from lock is) way,
-  IsLargest-iff (HasInWay IsOne mode) (HasInWay IsOther mode) required desired s (λ b has. (has.0, to has.0 has.1, has.2)) (λ b has. (has.0, from has.0 has.1, has.2)) given.1,
-)
-
-pub list_gives_up : ListGivesUp
-list_gives_up h node incarnation locks mode required desired answer own each complete r given =
-    given_up_is h node incarnation own mode required desired r answer (given_up-same (Contains locks) (IsRegion h) mode required desired answer (λ lock. All-contains (IsRegion h) locks lock each) complete given)
+pub gave_up_is_one : GaveUpIsOne
+gave_up_is_one h node incarnation mode required desired answer own r given = given_up_is h node incarnation own mode required desired r answer given
 
 pub released_is_clear : ReleasedIsClear
 released_is_clear h node incarnation mode required desired s own r e =

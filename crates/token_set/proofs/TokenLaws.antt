@@ -10,7 +10,7 @@ use Rattle.model.specs.declared.level.Level.TheVariants.{Shared, Exclusive}
 use Rattle.token_set.specs.Tokens.{Token, no_token, serves, covers, raised_level, raised, level_conflicts, conflicts, holds_nothing}
 use Rattle.token_set.specs.Sets.{bar_of, HasLevels}
 use Rattle.token_set.proofs.SearchLaws.{some_passes-from, none_passes-from, some_passes-none, all_pass-from, all_pass-each}
-use Rattle.token_set.proofs.AroundLaws.{IsLargest-iff}
+use Rattle.lock_table.proofs.LargestLaws.{IsLargest-iff}
 
 none_is : (x : Option Level) → is_none x ≡ true → x ≡ None
 none_is None h = refl

@@ -1,5 +1,5 @@
 -- What a node gives up where a server revokes.
-use Rattle.std.specs.Prelude.{◌≡◌, ℕ, ◌≤◌, Bool, true, if◌then◌else◌, Option, Some, None, IsSome, List, Contains, All}
+use Rattle.std.specs.Prelude.{◌≡◌, ℕ, ◌≤◌, Bool, true, if◌then◌else◌, Option, Some, None, IsSome}
 use Rattle.intervals.specs.Search.{some_passes}
 use Rattle.intervals.specs.Bytes.{Range, greatest, is_in, IsLargest, largest_around}
 use Rattle.model.specs.declared.mode.Mode.{Mode}
@@ -10,6 +10,7 @@ use Rattle.model.specs.declared.owner.Owner.{Owner}
 use Rattle.model.specs.declared.lock_info.LockInfo.{LockInfo}
 use Rattle.model.specs.Owners.{owner_at, most_owners}
 use Rattle.model.specs.Locks.{FileLocks, bars, IsRegion, IsOfNode, IsClear, IsInWay, IsLowestInWay, lowest_in_way}
+use Rattle.lock_table.specs.Blockers.{HasInWay}
 use Rattle.token_set.specs.Tokens.{Token, serves}
 use Rattle.token_set.specs.declared.gave_up.GaveUp.{GaveUp}
 use Rattle.token_set.specs.declared.gave_up.GaveUp.TheVariants.{Released, Conflict}
@@ -50,10 +51,6 @@ after_giving_up t mode (Conflict lock) = t
 abbrev pub NoneInWay : (LockInfo → Type 0) → Range → Mode → Type 0
 NoneInWay IsOne s mode = (lock : LockInfo) → IsOne lock → IsInWay s mode lock → ⊥
 
--- a lock of a kind has the byte, and excludes the mode
-abbrev pub HasInWay : (LockInfo → Type 0) → Mode → ℕ → Type 0
-HasInWay IsOne mode b = (lock : LockInfo) × IsOne lock × IsInWay (record { lo = b; hi = b }) mode lock
-
 -- the answer to a revoke by the locks of a kind: the lowest in the way of the required bytes, or there is none, and the largest span around them without one
 abbrev pub IsGivenUp : (LockInfo → Type 0) → Mode → Range → Range → GaveUp → Type 0
 IsGivenUp IsOne mode required desired (Conflict lock) = IsLowestInWay IsOne required mode lock
@@ -74,15 +71,13 @@ GaveUpIsGivenUp =
     → IsRevocable required desired
     → IsGivenUp (IsRegion h) mode required desired (gave_up h node incarnation mode required desired)
 
--- the answer by a list that has each region of the node's locks, and nothing else, is what `gave_up` gives
-abbrev pub ListGivesUp : Type 0
-ListGivesUp =
-    (h : FileLocks) (node incarnation : ℕ) (locks : List LockInfo) (mode : Mode) (required desired : Range) (answer : GaveUp)
+-- an answer by the regions of the node's locks is what `gave_up` gives
+abbrev pub GaveUpIsOne : Type 0
+GaveUpIsOne =
+    (h : FileLocks) (node incarnation : ℕ) (mode : Mode) (required desired : Range) (answer : GaveUp)
     → IsOfNode h node incarnation
-    → All (IsRegion h) locks
-    → ((lock : LockInfo) → IsRegion h lock → Contains locks lock)
     → IsRevocable required desired
-    → IsGivenUp (Contains locks) mode required desired answer
+    → IsGivenUp (IsRegion h) mode required desired answer
     → answer ≡ gave_up h node incarnation mode required desired
 
 -- on the span that is released no lock of the node excludes the mode

@@ -1,5 +1,5 @@
 //! Laws of tokens, each the contract of a function that does nothing.
-ghost use Rattle.token_set.specs.Releases.{GaveUpIsGivenUp, ListGivesUp, ReleasedIsClear, LoweringLowers, LoweringKeepsLocks};
+ghost use Rattle.token_set.specs.Releases.{GaveUpIsGivenUp, GaveUpIsOne, ReleasedIsClear, LoweringLowers, LoweringKeepsLocks};
 
 /// A node answers a revoke by its lowest lock in the way of the required bytes, if it has one, else by the
 /// largest span that contains them, lies in the desired ones, and has no byte of a lock in the way.
@@ -7,9 +7,9 @@ pub fn gave_up_is_given_up()
     ensures { GaveUpIsGivenUp }
 {}
 
-/// The answer by a list that has each region of a node's locks, and nothing else, is the node's.
-pub fn a_list_gives_up_as_its_node()
-    ensures { ListGivesUp }
+/// What a node gives up is one: an answer by the regions of its locks is the node's.
+pub fn gave_up_is_one()
+    ensures { GaveUpIsOne }
 {}
 
 /// On a span that is released, no lock of the node excludes the mode.

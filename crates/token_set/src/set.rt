@@ -1,7 +1,9 @@
 //! The token of one node for one file.
-ghost use Rattle.std.specs.Prelude.{◌≡◌, ◌≤◌, ℕ, true, false, Some, IfOk, OnOk, OnErr, IsTrue, ◌↔◌, MatchOption, Contains};
+ghost use Rattle.std.specs.Prelude.{◌≡◌, ◌≤◌, ℕ, true, false, Some, IfOk, OnOk, OnErr, IsTrue, ◌↔◌, MatchOption};
 ghost use Rattle.intervals.specs.Bytes.{IsLargest, NoneIn, put, largest_around};
 ghost use Rattle.intervals.specs.Edits.{written};
+ghost use Rattle.model.specs.Locks.{IsRegion};
+ghost use Rattle.lock_table.specs.Rows.{held};
 ghost use Rattle.token_set.specs.Tokens.{Token, no_token, serves, covers, raised, conflicts, level_conflicts, holds_nothing};
 ghost use Rattle.token_set.specs.Sets.{token_of, bar_of, HasLevels, IsFirstExclusive, at_exclusive};
 ghost use Rattle.token_set.specs.Releases.{lowered, IsGivenUp, after_giving_up};
@@ -14,8 +16,8 @@ use intervals::span::{GREATEST, Span};
 use intervals::span_edit::SpanEdit;
 use intervals::span_map::{NoMemory, SpanMap};
 use intervals::vec_map::VecMap;
+use lock_table::lock_table::LockTable;
 use model::level::Level;
-use model::lock_info::LockInfo;
 use model::mode::Mode;
 use std::alloc::Global;
 use std::marker::Model;
@@ -257,28 +259,17 @@ impl TokenSet {
         }
     }
 
-    /// The answer of `give_up`, and the edit that it makes.
+    /// The edit that `give_up` makes where it answers that.
     ///
     /// # Errors
     /// `NoMemory` where a request for memory was refused.
-    pub fn plan_give_up(
-        &self,
-        mode: Mode,
-        required: Span,
-        desired: Span,
-        locks: &[LockInfo],
-    ) -> Result<(GaveUp, TokenEdit), NoMemory>
-        requires starts_within { desired.lo ≤ required.lo }
-        requires ends_within { required.hi ≤ desired.hi }
-        ensures answer { IfOk result (λ r. IsGivenUp (Contains locks.now) mode required desired r.0) }
-        ensures token { IfOk result (λ r. edited r.1 self.now ≡ after_giving_up (token_of self.now) mode r.0) }
+    pub fn plan_give_up(&self, mode: Mode, gives: &GaveUp) -> Result<TokenEdit, NoMemory>
+        ensures { IfOk result (λ edit. edited edit self.now ≡ after_giving_up (token_of self.now) mode gives.now) }
     {
-        let answer = GaveUp::by_locks(mode, required, desired, locks);
-        let edit = match answer {
-            GaveUp::Released(span) => self.plan_lower(span, mode)?,
-            GaveUp::Conflict(_) => TokenEdit::Same,
-        };
-        Ok((answer, edit))
+        match *gives {
+            GaveUp::Released(span) => self.plan_lower(span, mode),
+            GaveUp::Conflict(_) => Ok(TokenEdit::Same),
+        }
     }
 
     // Makes a planned write. Takes no memory.
@@ -377,13 +368,12 @@ impl TokenSet {
     }
 
     /// Gives up bytes that a token server revokes for a mode, as far as the node's locks of the file
-    /// let it; they may be listed in any order. A write lock is in the way of either mode, a read
-    /// lock of write. Where no lock in the way reaches into `required`, the largest span that
-    /// contains `required`, lies in `desired` and has no byte of a lock in the way is lowered, and
-    /// `Released` names it. Else the token stays, and `Conflict` names the lock in the way that
-    /// reaches into `required`: the one of the lowest first byte, and of those with one first byte
-    /// the one of the lowest owner. (Revocation with required and desired ranges: Schmuck and
-    /// Haskin, FAST 2002.)
+    /// let it. A write lock is in the way of either mode, a read lock of write. Where no lock in the way
+    /// reaches into `required`, the largest span that contains `required`, lies in `desired` and has no
+    /// byte of a lock in the way is lowered, and `Released` names it. Else the token stays, and `Conflict`
+    /// names the lock in the way that reaches into `required`: the one of the lowest first byte, and of
+    /// those with one first byte the one of the lowest owner. (Revocation with required and desired
+    /// ranges: Schmuck and Haskin, FAST 2002.)
     ///
     /// # Errors
     /// `NoMemory` where a request for memory was refused.
@@ -392,15 +382,17 @@ impl TokenSet {
         mode: Mode,
         required: Span,
         desired: Span,
-        locks: &[LockInfo],
+        locks: &LockTable,
+        file: u16,
     ) -> Result<GaveUp, NoMemory>
         requires starts_within { desired.lo ≤ required.lo }
         requires ends_within { required.hi ≤ desired.hi }
-        ensures answer { IfOk result (λ answer. IsGivenUp (Contains locks.now) mode required desired answer) }
+        ensures answer { IfOk result (λ answer. IsGivenUp (IsRegion (held locks.now file)) mode required desired answer) }
         ensures token { IfOk result (λ answer. token_of self.new ≡ after_giving_up (token_of self.old) mode answer) }
         ensures err { OnErr result (self.new ≡ self.old) }
     {
-        let (answer, edit) = self.plan_give_up(mode, required, desired, locks)?;
+        let answer = GaveUp::by_locks(locks, file, mode, required, desired);
+        let edit = self.plan_give_up(mode, &answer)?;
         self.apply(edit);
         Ok(answer)
     }

@@ -107,6 +107,22 @@ impl Node {
         self.grant(alloc, command, span)
     }
 
+    // What the node gives up: bytes around those that are required, or nothing, with the lock in the way.
+    // Takes no memory.
+    fn gives(&self, command: &Command, wanted: Wanted) -> GaveUp
+        ensures { result ≡ gave_up ((node_state self.now).table.locks command.now.file) (node_state self.now).node (node_state self.now).incarnation command.now.mode wanted.required wanted.desired }
+    {
+        let _ = &wanted.required.lo; // tells the proof what each span keeps
+        let file = command.file.get();
+        GaveUp::by_locks(
+            &self.locks,
+            file,
+            command.mode,
+            wanted.required,
+            wanted.desired,
+        )
+    }
+
     // The token is given up as far as no lock is in the way, the command is done, and the answer to
     // it is remembered.
     fn give_up(&self, command: &Command, wanted: Wanted) -> Result<(GaveUp, Draft), AllocError>
@@ -115,11 +131,9 @@ impl Node {
         ensures state { IfOk result (λ r. drafted self.now r.1 ≡ after_revoke (node_state self.now) command.now r.0) }
         ensures fits { IfOk result (λ r. DraftFits self.now r.1) }
     {
-        let _ = &wanted.required.lo; // tells the proof what each span keeps
-        let file = command.file.get();
-        let locks = self.locks.locks(file)?;
-        let row = self.file(file);
-        let (gives, edit) = row.plan_revoke(command, self.host(), wanted, &locks)?;
+        let gives = self.gives(command, wanted);
+        let row = self.file(command.file.get());
+        let edit = row.plan_revoke(command, self.host(), &gives)?;
         let draft = Draft {
             numbered: false,
             command: Some(edit),

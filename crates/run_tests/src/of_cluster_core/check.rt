@@ -1,6 +1,7 @@
 //! Tests of entries that somebody hands in.
 use cluster_core::check_error::CheckError;
-use cluster_core::journal::{Journal, run};
+use cluster_core::journal::{Journal, comes_next, run};
+use cluster_core::world::World;
 use messages::entry::Entry;
 use messages::event::Event;
 use messages::items::Items;
@@ -56,15 +57,14 @@ fn same(alloc: Global, entry: &Entry) -> Result<Entry, AllocError> {
 // The four entries of a run; the second with another reply; and the fourth as if it sent nothing.
 fn six(alloc: Global) -> Result<Vec<Entry>, Fail> {
     let events = [call(Op::Spawn), call(OPEN), call(OPEN), call(SET)];
-    let journal = run(alloc, Shape::new(1, 1, Policy::Wide)?, events.as_slice())?;
-    let mut six = Vec::new(alloc);
-    for entry in journal.entries() {
-        six.push(same(alloc, entry)?)?;
-    }
-    if let [_, opened, _, set] = journal.entries() {
+    let shape = Shape::new(1, 1, Policy::Wide)?;
+    let mut six = run(alloc, shape, events.as_slice())?.into_entries();
+    if let [_, opened, _, set] = six.as_slice() {
         let reply = opened.reply().map(|(id, _)| (id, Reply::Fd(1)));
-        six.push(with(opened, reply, Items::new(alloc)))?;
-        six.push(with(set, set.reply(), Items::new(alloc)))?;
+        let other = with(opened, reply, Items::new(alloc));
+        let silent = with(set, set.reply(), Items::new(alloc));
+        six.push(other)?;
+        six.push(silent)?;
     }
     Ok(six)
 }
@@ -102,5 +102,19 @@ fn tells_the_first_wrong_entry(rt: HostRuntime) -> Result<(), Fail> {
         let entries = picked(alloc, &six, indices)?;
         assert_eq!(rt; Journal::check(alloc, shape, entries).err(), wrong);
     }
+    Ok(())
+}
+
+#[test]
+fn tells_whether_an_entry_comes_next(rt: HostRuntime) -> Result<(), Fail> {
+    let alloc = rt.alloc();
+    let six = six(alloc)?;
+    let begun = World::new(alloc, Shape::new(1, 1, Policy::Wide)?)?;
+    let mut world = Box::new(alloc, begun)?;
+    let mut came = Vec::new(alloc);
+    for entry in &picked(alloc, &six, &[0, 1, 2, 5])? {
+        came.push(comes_next(&mut world, alloc, entry)?)?;
+    }
+    assert_eq!(rt; came.as_slice(), [true, true, true, false].as_slice());
     Ok(())
 }

@@ -1,7 +1,7 @@
 //! Journals that are printed.
 use cluster_core::journal::run;
 use intervals::span::{GREATEST, Span};
-use journal_text::journal::print;
+use journal_text::journal::{into_text, print};
 use journal_text::laws::each_journal_is_read;
 use journal_text::parse::parse;
 use messages::command_number::CommandNumber;
@@ -186,5 +186,6 @@ fn is_read_back(rt: HostRuntime) -> Result<(), Fail> {
     let text = print(alloc, &journal.shape(), journal.entries())?;
     let (_, again) = parse(alloc, &text)?;
     assert_eq!(rt; again.len(), 2);
+    assert_eq!(rt; into_text(alloc, journal)?.as_str(), text.as_str());
     Ok(())
 }

@@ -285,3 +285,26 @@ fn tells_the_first_bad_line(rt: HostRuntime) -> Result<(), Fail> {
     }
     Ok(())
 }
+
+#[test]
+fn the_first_bad_line_on_threads_is_told(rt: HostRuntime) -> Result<(), Fail> {
+    let alloc = rt.alloc();
+    let head = "cluster nodes 2 files 1 policy wide\n";
+    let cases = [
+        ("call 1 1 spawn\nsettle\ndeclare 2\nrestart 2\n", None),
+        (
+            "call 1 1 spawn\nretry 1 1\nresend 1\n",
+            Some(ParseError::BadLine(3)),
+        ),
+        ("# none\n\nlose 1\nfoo\n", Some(ParseError::BadLine(4))),
+        ("settle\nfoo\nlose 1\n", Some(ParseError::BadLine(3))),
+        ("settle\nlose 1", Some(ParseError::BadLine(3))),
+        ("lose 1\nsettle", Some(ParseError::BadLine(2))),
+    ];
+    for (lines, bad) in cases {
+        let text = format!(in alloc; "{head}{lines}")?;
+        let refusal = Script::parse_for_threads(alloc, text.as_str()).err();
+        assert_eq!(rt; refusal, bad, "{lines}");
+    }
+    Ok(())
+}

@@ -1,0 +1,6 @@
+-- So many mailboxes were made.
+use Rattle.std.proofs.Common.{◌≡◌, length}
+use Rattle.actors.proofs.cluster.mailboxes_of.Given as goal
+
+abbrev pub invariant-loop : goal.invariant-loop
+invariant-loop l = length l.mailboxes.items ≡ l.counter

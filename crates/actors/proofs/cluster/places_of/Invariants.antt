@@ -1,0 +1,6 @@
+-- So many places were made.
+use Rattle.std.proofs.Common.{◌≡◌, length}
+use Rattle.actors.proofs.cluster.places_of.Given as goal
+
+abbrev pub invariant-loop : goal.invariant-loop
+invariant-loop l = length l.places.items ≡ l.counter
