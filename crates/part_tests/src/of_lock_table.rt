@@ -322,15 +322,34 @@ fn the_lowest_of_two_regions_comes_first(rt: HostRuntime) {
 #[test]
 fn names_the_lowest_in_the_way(rt: HostRuntime) -> Result<(), Fail> {
     let table = three_regions(rt.alloc())?;
-    let write = region(SECOND, Mode::Write, Span { lo: 10, hi: 19 });
-    let read = region(FIRST, Mode::Read, Span { lo: 40, hi: 49 });
     let all = Span { lo: 0, hi: 99 };
-    assert_eq!(rt; table.lowest_in_way(FILE, all, Mode::Write), Some(write));
-    assert_eq!(rt; table.lowest_in_way(FILE, all, Mode::Read), Some(write));
     let above = Span { lo: 20, hi: 99 };
-    assert_eq!(rt; table.lowest_in_way(FILE, above, Mode::Write), Some(read));
-    assert_eq!(rt; table.lowest_in_way(FILE, above, Mode::Read), None);
-    assert_eq!(rt; table.lowest_in_way(FILE + 1, all, Mode::Write), None);
+    let written = Span { lo: 10, hi: 19 };
+    let read = Span { lo: 40, hi: 49 };
+    for (file, span, mode, lowest) in [
+        (
+            FILE,
+            all,
+            Mode::Write,
+            Some(region(SECOND, Mode::Write, written)),
+        ),
+        (
+            FILE,
+            all,
+            Mode::Read,
+            Some(region(SECOND, Mode::Write, written)),
+        ),
+        (
+            FILE,
+            above,
+            Mode::Write,
+            Some(region(FIRST, Mode::Read, read)),
+        ),
+        (FILE, above, Mode::Read, None),
+        (FILE + 1, all, Mode::Write, None),
+    ] {
+        assert_eq!(rt; table.lowest_in_way(file, span, mode), lowest);
+    }
     Ok(())
 }
 
