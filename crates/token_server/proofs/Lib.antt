@@ -4,11 +4,14 @@ pub mod RequestLaws
 pub mod SketchLaws
 pub mod LoweredLaws
 pub mod GrantLaws
+pub mod CutLaws
+pub mod BarLaws
+pub mod ToldLaws
+pub mod AdmitLaws
 pub mod ResendLaws
 pub mod ServeLaws
 pub mod EditLaws
 pub mod ViewLaws
-pub mod RefusalLaws
 pub mod CareLaws
 pub mod MarkLaws
 pub mod WaitLaws

@@ -19,3 +19,4 @@ pub mod server;
 mod sketch;
 mod token_holder;
 pub mod token_request;
+mod told;

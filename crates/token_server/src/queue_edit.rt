@@ -80,8 +80,8 @@ impl QueueEdit {
             .any(|request| request.is_up_to(node, incarnation))
     }
 
-    // The queue after the edit, as a value of its own. The edit is used up.
-    fn into_queue(self, queue: &Requests) -> Result<Requests, NoMemory>
+    /// The queue after the edit, as a value of its own. The edit is used up.
+    pub fn into_queue(self, queue: &Requests) -> Result<Requests, NoMemory>
         ensures { IfOk result (λ new. new ≡ queue_after self queue.now) }
     {
         match self {
