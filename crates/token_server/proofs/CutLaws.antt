@@ -21,14 +21,17 @@ only_in required other b = not (is_in required b) && is_in other b
 outside : (required other : Range) (b : ℕ) → only_in required other b ≡ true → ((b < required.lo) ⊎ (required.hi < b)) × (other.lo ≤ b) × (b ≤ other.hi)
 outside required other b h =
     let parts = and_parts (not (is_in required b)) (is_in other b) h in
-    let ends = and_parts (nat_le other.lo b) (nat_le b other.hi) parts.1 in
-    (elim (cases_lt b required.lo) [
-      | inl below ↦ inl below
-      | inr above ↦ elim (cases_lt required.hi b) [
-        | inl past ↦ inr past
-        | inr within ↦ absurd (both_ways (is_in required b) (not-true (is_in required b) parts.0) (and_from (nat_le required.lo b) (nat_le b required.hi) (le-leb required.lo b above) (le-leb b required.hi within)))
-      ]
-    ], leb-true other.lo b ends.0, leb-true b other.hi ends.1)
+    let ends = and_parts (nat_le other.lo b) (nat_le b other.hi) parts.1 in (
+      elim (cases_lt b required.lo) [
+        | inl below ↦ inl below
+        | inr above ↦ elim (cases_lt required.hi b) [
+          | inl past ↦ inr past
+          | inr within ↦ absurd (both_ways (is_in required b) (not-true (is_in required b) parts.0) (and_from (nat_le required.lo b) (nat_le b required.hi) (le-leb required.lo b above) (le-leb b required.hi within)))
+        ]
+      ],
+      leb-true other.lo b ends.0,
+      leb-true b other.hi ends.1,
+    )
 
 from_outside : (required other : Range) (b : ℕ) → (b < required.lo) ⊎ (required.hi < b) → other.lo ≤ b → b ≤ other.hi → only_in required other b ≡ true
 from_outside required other b out above below =

@@ -2,7 +2,6 @@ pub mod ClientLaws
 pub mod TokenRequestLaws
 pub mod RequestLaws
 pub mod SketchLaws
-pub mod LoweredLaws
 pub mod GrantLaws
 pub mod CutLaws
 pub mod BarLaws
@@ -10,6 +9,7 @@ pub mod ToldLaws
 pub mod AdmitLaws
 pub mod ResendLaws
 pub mod ServeLaws
+pub mod RefusalLaws
 pub mod EditLaws
 pub mod ViewLaws
 pub mod CareLaws

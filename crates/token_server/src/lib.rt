@@ -9,7 +9,6 @@ mod clients;
 mod commands;
 pub mod event;
 pub mod laws;
-mod lowered;
 mod node_change;
 mod put;
 pub mod queue_edit;

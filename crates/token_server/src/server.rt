@@ -1,5 +1,5 @@
 //! The token server of a file.
-ghost use Rattle.std.specs.Prelude.{◌≡◌, ◌≢◌, ◌+◌, ◌-◌, ◌<◌, ◌≤◌, ◌↔◌, ◌++◌, not, filter, ◌&&◌, ◌||◌, ◌==◌, if◌then◌else◌, IsTrue, IsFalse, true, false, nat_le, length, IsSome, IsNone, IfSome, All, IfOk, IfErr, OnOk, MatchOption, [], ◌∷◌, Some, None, Ok, Err};
+ghost use Rattle.std.specs.Prelude.{◌≡◌, ◌≢◌, ◌+◌, ◌-◌, ◌<◌, ◌≤◌, ◌↔◌, ◌++◌, not, filter, ◌&&◌, ◌||◌, ◌==◌, if◌then◌else◌, IsTrue, IsFalse, true, false, nat_le, length, IsSome, IsNone, IfSome, All, drop, IfOk, IfErr, OnOk, MatchOption, [], ◌∷◌, Some, None, Ok, Err};
 ghost use Rattle.std.specs.List.{list_any};
 ghost use Rattle.std.specs.Option.{option_map, option_to_list};
 ghost use Rattle.model.specs.Limits.{IsNumber, most_nodes};
@@ -28,8 +28,8 @@ use crate::queue_edit::QueueEdit;
 use crate::requests::Requests;
 use crate::row_edits::RowEdits;
 use crate::sketch::{Changed, Moved, Sketch};
-use crate::token_request::TokenRequest;
 use crate::token_holder::RowView;
+use crate::token_request::TokenRequest;
 use crate::told::{Told, cut, meets, told_to};
 use intervals::span::Span;
 use intervals::span_map::NoMemory;
@@ -321,9 +321,21 @@ impl Server {
     {
         let active = draft.active.requests(&self.active);
         let queue = draft.queue.requests(&self.queue);
-        if admits_none(active, queue) {
+        if admits_none(active, None, queue) {
             return self.admit_last(draft);
         }
+        if draft.put.is_none() {
+            if let Some(first) = only_the_first(active, queue) {
+                return self.admit_first(draft, first);
+            }
+        }
+        self.admit_some(draft, alloc)
+    }
+
+    // As many requests come from the queue as may, wherever they stand there.
+    fn admit_some(&self, draft: Draft, alloc: Global) -> Result<Draft, NoMemory>
+        ensures { IfOk result (λ new. drafted self.now new ≡ ready (drafted self.now draft)) }
+    {
         let Draft {
             rows,
             queue,
@@ -333,20 +345,35 @@ impl Server {
         } = draft;
         let mut queued = queue.into_queue(&self.queue)?;
         queued.put(put);
-        let mut active = active.into_queue(&self.active)?;
-        let mut staying = Requests::new(alloc);
-        for request in queued.as_slice() {
-            if stays(request, active.as_slice(), staying.as_slice()) {
-                staying.push(*request)?;
-            } else {
-                active.push(*request)?;
-            }
-        }
+        let active = active.into_queue(&self.active)?;
+        let (active, staying) = admitted(alloc, active, queued.as_slice())?;
         Ok(Draft {
             rows,
             queue: QueueEdit::whole(staying)?,
             put: None,
             active: QueueEdit::whole(active)?,
+            waiting,
+        })
+    }
+
+    // The first request comes from the queue, and no other.
+    fn admit_first(&self, draft: Draft, first: TokenRequest) -> Result<Draft, NoMemory>
+        requires none_put { draft.put ≡ None }
+        requires first { admitted (drafted_parts draft self.now).active [] (queue_after draft.queue self.now.queue) ≡ ((drafted_parts draft self.now).active ++ first ∷ [], drop 1 (queue_after draft.queue self.now.queue)) }
+        ensures { IfOk result (λ new. drafted self.now new ≡ ready (drafted self.now draft)) }
+    {
+        let Draft {
+            rows,
+            queue,
+            active,
+            waiting,
+            ..
+        } = draft;
+        Ok(Draft {
+            rows,
+            queue: queue.taking(&self.queue)?,
+            put: None,
+            active: active.pushing(&self.active, first)?,
             waiting,
         })
     }
@@ -385,8 +412,7 @@ impl Server {
         ensures { result ≡ (not (nat_le (length (queue_after draft.now.queue self.now.queue)) put.now.most) || (meets_some put.now.request (drafted_parts draft.now self.now).active || meets_some put.now.request (queue_after draft.now.queue self.now.queue))) }
     {
         let queue = draft.queue.requests(&self.queue);
-        queue.len() > put.most
-            || stays(&put.request, draft.active.requests(&self.active), queue)
+        queue.len() > put.most || stays(&put.request, draft.active.requests(&self.active), queue)
     }
 
     // Whether the row of a node conflicts with the mode in the span, once those are told.
@@ -471,7 +497,15 @@ impl Server {
 
     // The largest span that contains `required`, lies in `within`, and has no byte at which the row of a node
     // conflicts with the mode, once those are told.
-    fn free_around(&self, draft: &Draft, told: &[Told], node: u8, required: Span, within: Span, mode: Mode) -> Span
+    fn free_around(
+        &self,
+        draft: &Draft,
+        told: &[Told],
+        node: u8,
+        required: Span,
+        within: Span,
+        mode: Mode,
+    ) -> Span
         requires node_in { IsNumber self.now.shape.nodes node }
         requires starts_within { within.lo ≤ required.lo }
         requires ends_within { required.hi ≤ within.hi }
@@ -502,7 +536,12 @@ impl Server {
 
     // What a request comes to: the least other node whose row conflicts with it is told to give up its token,
     // or its own node is told that it is granted. Nothing where a command to that is under way.
-    fn command(&self, draft: &Draft, told: &[Told], request: &TokenRequest) -> Result<Option<Told>, StepError>
+    fn command(
+        &self,
+        draft: &Draft,
+        told: &[Told],
+        request: &TokenRequest,
+    ) -> Result<Option<Told>, StepError>
         ensures ok { IfOk result (λ o. served (with_told told.now (drafted self.now draft.now)) request.now ≡ Ok (with_told (told.now ++ option_to_list o) (drafted self.now draft.now), commands_told (option_to_list o))) }
         ensures node { IfOk result (λ o. IfSome o (λ t. 1 ≤ t.node)) }
         ensures err { IfErr result (λ e. served (with_told told.now (drafted self.now draft.now)) request.now ≡ Err e) }
@@ -514,7 +553,13 @@ impl Server {
     }
 
     // The command that tells a node to give up what the request needs, unless one to it is under way.
-    fn revoke(&self, draft: &Draft, told: &[Told], node: u8, request: &TokenRequest) -> Result<Option<Told>, StepError>
+    fn revoke(
+        &self,
+        draft: &Draft,
+        told: &[Told],
+        node: u8,
+        request: &TokenRequest,
+    ) -> Result<Option<Told>, StepError>
         requires { IsNumber self.now.shape.nodes node × IsNumber most_nodes node }
         ensures ok { IfOk result (λ o. revoked_from (with_told told.now (drafted self.now draft.now)) request.now node ((with_told told.now (drafted self.now draft.now)).rows node) ≡ Ok (with_told (told.now ++ option_to_list o) (drafted self.now draft.now), commands_told (option_to_list o))) }
         ensures node { IfOk result (λ o. IfSome o (λ t. 1 ≤ t.node)) }
@@ -539,7 +584,12 @@ impl Server {
     }
 
     // The command that tells the request's node what it is granted, unless one to it is under way.
-    fn grant(&self, draft: &Draft, told: &[Told], request: &TokenRequest) -> Result<Option<Told>, StepError>
+    fn grant(
+        &self,
+        draft: &Draft,
+        told: &[Told],
+        request: &TokenRequest,
+    ) -> Result<Option<Told>, StepError>
         requires { self.now.shape.nodes < conflicting_node (with_told told.now (drafted self.now draft.now)) request.now }
         ensures ok { IfOk result (λ o. granted_to (with_told told.now (drafted self.now draft.now)) request.now ((with_told told.now (drafted self.now draft.now)).rows request.now.call.node) ≡ Ok (with_told (told.now ++ option_to_list o) (drafted self.now draft.now), commands_told (option_to_list o))) }
         ensures node { IfOk result (λ o. IfSome o (λ t. 1 ≤ t.node)) }
@@ -622,7 +672,10 @@ impl Server {
         let draft = self.admit(draft, alloc)?;
         let told = self.commands(&draft, alloc)?;
         let given = self.given(&draft, alloc, told.as_slice())?;
-        Ok((Edit::new(alloc, draft, given)?, commands_told(alloc, told.as_slice())?))
+        Ok((
+            Edit::new(alloc, draft, given)?,
+            commands_told(alloc, told.as_slice())?,
+        ))
     }
 
     // What a message changes before the server serves, and what is sent for it, or `None` where it does
@@ -714,6 +767,7 @@ impl Server {
         requires { (is_server self.now.file (addressee message.now) && is_within self.now.shape.nodes (host_of message.now).node) ≡ true }
         ensures ok { IfOk result (λ change. server_rule (server_state self.now) (ServerEvent.Deliver message.now) ≡ Ok (planned self.now change.edit, change.outcome)) }
         ensures err { IfErr result (λ e. e ≢ StepError.NoMemory → server_rule (server_state self.now) (ServerEvent.Deliver message.now) ≡ Err e) }
+        ensures refused { (r : StepError) → server_rule (server_state self.now) (ServerEvent.Deliver message.now) ≡ Err r → r ≡ StepError.Spent }
     {
         let host = message.host();
         if host.incarnation <= self.clients.dead(host.node) {
@@ -729,6 +783,7 @@ impl Server {
     fn take(&self, alloc: Global, message: &Message) -> Result<Change, StepError>
         ensures ok { IfOk result (λ change. server_rule (server_state self.now) (ServerEvent.Deliver message.now) ≡ Ok (planned self.now change.edit, change.outcome)) }
         ensures err { IfErr result (λ e. e ≢ StepError.NoMemory → server_rule (server_state self.now) (ServerEvent.Deliver message.now) ≡ Err e) }
+        ensures refused { (r : StepError) → r ≢ StepError.Spent → server_rule (server_state self.now) (ServerEvent.Deliver message.now) ≡ Err r → result ≡ Err r }
     {
         if !self.is_addressed_by(message) {
             return Err(StepError::Stranger);
@@ -747,6 +802,7 @@ impl Server {
     fn resend(&self, alloc: Global) -> Result<Change, StepError>
         ensures ok { IfOk result (λ change. resend_rule (server_state self.now) ≡ Ok (planned self.now change.edit, change.outcome)) }
         ensures err { IfErr result (λ e. e ≢ StepError.NoMemory → resend_rule (server_state self.now) ≡ Err e) }
+        ensures refused { (r : StepError) → resend_rule (server_state self.now) ≡ Err r → r ≡ StepError.Spent }
     {
         let (edit, served) = self.serve(&self.requeued(), alloc)?;
         let commands = self.outstanding(alloc)?;
@@ -759,6 +815,7 @@ impl Server {
         requires { IsNumber self.now.shape.nodes node }
         ensures ok { IfOk result (λ change. learn_rule (server_state self.now) node incarnation ≡ Ok (planned self.now change.edit, change.outcome)) }
         ensures err { IfErr result (λ e. e ≢ StepError.NoMemory → learn_rule (server_state self.now) node incarnation ≡ Err e) }
+        ensures refused { (r : StepError) → learn_rule (server_state self.now) node incarnation ≡ Err r → r ≡ StepError.Spent }
     {
         self.serve_after(&self.forgotten(node, incarnation), alloc, None)
     }
@@ -767,6 +824,7 @@ impl Server {
     fn learn(&self, alloc: Global, node: u8, incarnation: u16) -> Result<Change, StepError>
         ensures ok { IfOk result (λ change. learn_rule (server_state self.now) node incarnation ≡ Ok (planned self.now change.edit, change.outcome)) }
         ensures err { IfErr result (λ e. e ≢ StepError.NoMemory → learn_rule (server_state self.now) node incarnation ≡ Err e) }
+        ensures refused { (r : StepError) → r ≢ StepError.Spent → learn_rule (server_state self.now) node incarnation ≡ Err r → result ≡ Err r }
     {
         if node == 0 || node > self.shape.nodes() {
             return Err(StepError::Stranger);
@@ -781,6 +839,9 @@ impl Server {
     pub fn plan(&self, alloc: Global, event: &ServerEvent) -> Result<Change, StepError>
         ensures ok { IfOk result (λ change. server_rule (server_state self.now) event.now ≡ Ok (planned self.now change.edit, change.outcome)) }
         ensures err { IfErr result (λ e. e ≢ StepError.NoMemory → server_rule (server_state self.now) event.now ≡ Err e) }
+
+        // Every refusal but `Spent` always comes, for it is decided before memory is taken.
+        ensures refused { (r : StepError) → r ≢ StepError.Spent → server_rule (server_state self.now) event.now ≡ Err r → result ≡ Err r }
     {
         match event {
             ServerEvent::Deliver(message) => self.take(alloc, message),
@@ -823,12 +884,7 @@ impl Server {
     fn give(&mut self, given: Vec<Given>)
         ensures { server_state self.new ≡ with_given given.items self.old }
     {
-        let mut given = given;
-        while let Some(last) = given.pop() {
-            if !has_place(given.as_slice(), last.place) {
-                self.clients.give(last);
-            }
-        }
+        self.clients.give_each(given);
     }
 
     /// What the server does at an event: the server after it, and what it sends. Requests are served one
@@ -846,6 +902,9 @@ impl Server {
     pub fn step(&self, alloc: Global, event: &ServerEvent) -> Result<(Server, Outcome), StepError>
         ensures ok { IfOk result (λ r. server_rule (server_state self.now) event.now ≡ Ok (server_state r.0, r.1)) }
         ensures err { IfErr result (λ e. e ≢ StepError.NoMemory → server_rule (server_state self.now) event.now ≡ Err e) }
+
+        // Every refusal but `Spent` always comes, for it is decided before memory is taken.
+        ensures refused { (r : StepError) → r ≢ StepError.Spent → server_rule (server_state self.now) event.now ≡ Err r → result ≡ Err r }
     {
         let change = self.plan(alloc, event)?;
         let mut next = self.copy()?;
@@ -878,20 +937,11 @@ fn commands_told(alloc: Global, told: &[Told]) -> Result<Items<Message>, NoMemor
     Ok(commands)
 }
 
-// Whether one of them is of the node at that place.
-fn has_place(given: &[Given], place: usize) -> bool
-    ensures { result ≡ list_any (λ g. g.place == place) given.now }
-{
-    given.iter().any(|given| given.place == place)
-}
-
 // Whether the request needs a byte that one of these needs.
 fn meets_some(request: &TokenRequest, others: &[TokenRequest]) -> bool
     ensures { result ≡ meets_some request.now others.now }
 {
-    others
-        .iter()
-        .any(|other| meets(request.wanted.required, other.wanted.required))
+    others.iter().any(|other| meets(request.wanted.required, other.wanted.required))
 }
 
 // Whether the request stays queued, beside those that are served and those before it that stay.
@@ -901,16 +951,66 @@ fn stays(request: &TokenRequest, active: &[TokenRequest], staying: &[TokenReques
     meets_some(request, active) || meets_some(request, staying)
 }
 
-// Whether each request of the queue stays there, beside those that are served.
-fn admits_none(active: &[TokenRequest], queue: &[TokenRequest]) -> bool
-    ensures { result ≡ true → admitted active.now [] queue.now ≡ (active.now, queue.now) }
+// Those that are served, and those that stay, once requests have come from the queue.
+fn admitted(
+    alloc: Global,
+    active: Requests,
+    queue: &[TokenRequest],
+) -> Result<(Requests, Requests), NoMemory>
+    ensures { IfOk result (λ r. admitted active [] queue.now ≡ (r.0, r.1)) }
+{
+    let mut active = active;
+    let mut staying = Requests::new(alloc);
+    for request in queue {
+        if stays(request, active.as_slice(), staying.as_slice()) {
+            staying.push(*request)?;
+        } else {
+            active.push(*request)?;
+        }
+    }
+    Ok((active, staying))
+}
+
+// Whether each request of the queue stays there, beside those that are served and one more, if there is one.
+fn admits_none(active: &[TokenRequest], more: Option<TokenRequest>, queue: &[TokenRequest]) -> bool
+    ensures { result ≡ true → admitted (active.now ++ option_to_list more) [] queue.now ≡ (active.now ++ option_to_list more, queue.now) }
 {
     for place in 0..queue.len() {
-        if !stays(&queue[place], active, &queue[..place]) {
+        let request = &queue[place];
+        if !stays_beside(request, active, &more, &queue[..place]) {
             return false;
         }
     }
     true
+}
+
+// Whether the request stays queued, beside those that are served, one more, if there is one, and those before
+// it that stay.
+fn stays_beside(
+    request: &TokenRequest,
+    active: &[TokenRequest],
+    more: &Option<TokenRequest>,
+    staying: &[TokenRequest],
+) -> bool
+    ensures { result ≡ (meets_some request.now (active.now ++ option_to_list more.now) || meets_some request.now staying.now) }
+{
+    match more {
+        Some(more) if meets(request.wanted.required, more.wanted.required) => true,
+        _ => stays(request, active, staying),
+    }
+}
+
+// The first request of the queue, where it comes from there and no other does.
+fn only_the_first(active: &[TokenRequest], queue: &[TokenRequest]) -> Option<TokenRequest>
+    ensures { IfSome result (λ r. admitted active.now [] queue.now ≡ (active.now ++ r ∷ [], drop 1 queue.now)) }
+{
+    let [first, rest @ ..] = queue else {
+        return None;
+    };
+    if meets_some(first, active) || !admits_none(active, Some(*first), rest) {
+        return None;
+    }
+    Some(*first)
 }
 
 // Whether a row conflicts with the mode in the span, once its node is told that.

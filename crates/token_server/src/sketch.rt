@@ -65,47 +65,6 @@ impl Sketch {
         }
     }
 
-    /// The commands to a node, if it has a row.
-    pub fn commands(&self, clients: &Clients, node: u8) -> Option<Commands>
-        requires { 1 ≤ node }
-        ensures { result ≡ option_map commands_of (rows_after self.now.changed (rows_of clients.now) node) }
-    {
-        let row = clients.row(node);
-        match &self.changed {
-            Some(changed) if node == changed.node => changed.change.commands(row),
-            _ => match row {
-                Some(row) => Some(row.commands),
-                None => None,
-            },
-        }
-    }
-
-    /// Whether the row of a node conflicts with the mode at some byte of the span.
-    pub fn conflicts(&self, clients: &Clients, node: u8, span: Span, mode: Mode) -> bool
-        requires { 1 ≤ node }
-        ensures { result ≡ row_conflicts (rows_after self.now.changed (rows_of clients.now) node) span mode }
-    {
-        let row = clients.row(node);
-        match &self.changed {
-            Some(changed) if node == changed.node => changed.change.conflicts(row, span, mode),
-            _ => match row {
-                Some(row) => row.token.conflicts(span, mode),
-                None => false,
-            },
-        }
-    }
-
-    /// Whether it is known at once that no row conflicts with the mode at a byte of the span.
-    pub fn conflicts_nowhere(&self, clients: &Clients, span: Span, mode: Mode) -> bool
-        ensures { result ≡ true → (node : ℕ) → row_conflicts (rows_after self.now.changed (rows_of clients.now) node) span mode ≡ false }
-    {
-        let _ = &span.hi; // tells the proof that the span ends within the file
-        match mode {
-            Mode::Read => clients.excludes_none(),
-            Mode::Write => false,
-        }
-    }
-
     // The requests, without those that are dropped.
     fn left(&self, requests: &Requests) -> Result<QueueEdit, NoMemory>
         ensures { IfOk result (λ edit. queue_after edit requests.now ≡ without (dropped self.now.changed) requests.now) }
