@@ -89,8 +89,8 @@ impl Seat {
         ensures spent { self.now.commits ≡ 18446744073709551615 → result ≡ Err StepError.Spent }
         ensures err { self.now.commits < 18446744073709551615 → IfErr result (λ e. e ≢ StepError.NoMemory → Rejects self.now.state event e) }
 
-        // Want of memory never stands in the place of a refusal.
-        ensures refused { self.now.commits < 18446744073709551615 → (r : StepError) → Rejects self.now.state event r → result ≡ Err r }
+        // Want of memory never stands in the place of a refusal, but of `Spent`.
+        ensures refused { self.now.commits < 18446744073709551615 → (r : StepError) → r ≢ StepError.Spent → Rejects self.now.state event r → result ≡ Err r }
     {
         if self.commits == u64::MAX {
             return Err(StepError::Spent);

@@ -1,8 +1,7 @@
 -- Rows of nodes that are told something, and what stands in the way then.
-use Rattle.std.specs.Prelude.{◌≡◌, ℕ, ◌+◌, ◌<◌, ◌≤◌, Bool, true, false, not, cond, max, ◌||◌, ◌&&◌, nat_le, List, is_some, Option, Some, None}
+use Rattle.std.specs.Prelude.{◌≡◌, ℕ, ◌≤◌, Bool, true, false, cond, max, ◌||◌, nat_le, Option, Some, None}
 use Rattle.std.proofs.Common.{refl, sym, ap, ◌∙◌, inl, inr, arith}
 use Rattle.std.proofs.lemmas.Bool.{both_ways, and_parts, and_from, or_cases, leb-true, le-leb, false_from_ne_true}
-use Rattle.std.proofs.lemmas.Bool.Decides.{nat_tests}
 use Rattle.intervals.specs.Bytes.{Range, is_in, NoneIn, largest_around}
 use Rattle.model.specs.declared.level.Level.{Level}
 use Rattle.model.specs.declared.level.Level.TheVariants.{Shared, Exclusive}
@@ -10,7 +9,7 @@ use Rattle.model.specs.declared.mode.Mode.{Mode}
 use Rattle.model.specs.declared.mode.Mode.TheVariants.{Read, Write}
 use Rattle.messages.specs.declared.message.Message.{Message}
 use Rattle.messages.specs.declared.message.Message.TheVariants.{Grant}
-use Rattle.token_set.specs.Tokens.{Token, raised, raised_level, level_conflicts, conflicts}
+use Rattle.token_set.specs.Tokens.{Token, raised_level, level_conflicts, conflicts}
 use Rattle.token_set.proofs.TokenLaws.{conflicts-from, conflicts-none, none-conflicts}
 use Rattle.token_set.proofs.SearchLaws.{some_passes-first}
 use Rattle.token_set.proofs.AroundLaws.{largest_around-same, largest_around-or}

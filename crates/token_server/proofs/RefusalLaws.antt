@@ -1,19 +1,17 @@
 -- Why a server refuses to serve: for want of a number alone.
 use Rattle.std.specs.Prelude.{◌≡◌, ℕ, Bool, true, false, cond, not, ◌&&◌, nat_le, nat_lt, List, [], ◌∷◌, is_some, Option, Some, None, Result, Ok, Err}
-use Rattle.std.proofs.Common.{sym, ap, ◌∙◌}
+use Rattle.std.proofs.Common.{sym, ap}
 use Rattle.messages.specs.declared.refusal.StepError.{StepError}
 use Rattle.messages.specs.declared.refusal.StepError.TheVariants.{Stranger, Spent}
 use Rattle.messages.specs.declared.message.Message.{Message}
-use Rattle.messages.specs.declared.outcome.Outcome.{Outcome}
 use Rattle.messages.specs.Messages.{greatest_number, addressee, host_of, is_within}
 use Rattle.token_set.specs.Tokens.{Token}
 use Rattle.token_server.specs.declared.token_request.TokenRequest.{TokenRequest}
-use Rattle.token_server.specs.declared.event.ServerEvent.{ServerEvent}
 use Rattle.token_server.specs.declared.event.ServerEvent.TheVariants.{Deliver}
 use Rattle.token_server.specs.State.{Row, ServerState, forgotten, requeued}
 use Rattle.token_server.specs.Serve.{conflicting_node, commanded, granted_to, revoked_from, served, with_more, and_then, each_served, ready, serve}
 use Rattle.token_server.specs.Resends.{sending_first, outstanding, resend_rule}
-use Rattle.token_server.specs.Server.{Change, is_server, delivered, change, then_serve, learn_rule, server_rule}
+use Rattle.token_server.specs.Server.{Change, is_server, delivered, then_serve, learn_rule, server_rule}
 
 abbrev Answer : Type 0
 Answer = Result (ServerState × List Message) StepError

@@ -13,7 +13,7 @@ use Rattle.token_set.specs.Tokens.{Token, raised}
 use Rattle.token_server.specs.declared.token_request.TokenRequest.{TokenRequest}
 use Rattle.token_server.specs.State.{Row, ServerState, with_row}
 use Rattle.token_server.specs.Serve.{row_conflicts, granted_span, conflicting_node, commanded, granted_to, revoked_from, served, with_more, and_then, each_served, ready, serve}
-use Rattle.token_server.specs.Grants.{IsServed, IsUnhindered, GrantsWhatIsFree}
+use Rattle.token_server.specs.Grants.{IsUnhindered, GrantsWhatIsFree}
 use Rattle.token_server.proofs.GrantLaws.{conflicts_at, first-none, narrowed-largest, narrowed-holds}
 
 -- no row conflicts, so no node is found whose row does

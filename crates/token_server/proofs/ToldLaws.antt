@@ -1,5 +1,5 @@
 -- What nodes are told as a server serves, and the state then.
-use Rattle.std.specs.Prelude.{◌≡◌, ℕ, ◌+◌, ◌<◌, ◌≤◌, Bool, true, false, not, cond, ◌||◌, ◌&&◌, ◌==◌, nat_le, nat_lt, List, [], ◌∷◌, ◌++◌, map, is_some, All, IfSome, MatchOption, Option, Some, None, Result, Ok, Err}
+use Rattle.std.specs.Prelude.{◌≡◌, ℕ, ◌+◌, ◌≤◌, Bool, true, false, cond, ◌||◌, ◌==◌, nat_le, nat_lt, List, [], ◌∷◌, ◌++◌, is_some, All, IfSome, Option, Some, None, Result, Ok, Err}
 use Rattle.std.specs.List.{list_any}
 use Rattle.std.specs.Option.{option_map, option_to_list}
 use Rattle.std.proofs.lemmas.List.Elements.{All-push}
@@ -15,7 +15,7 @@ use Rattle.messages.specs.declared.message.Message.{Message}
 use Rattle.messages.specs.declared.message.Message.TheVariants.{Grant, Revoke}
 use Rattle.messages.specs.Messages.{greatest_number}
 use Rattle.model.specs.declared.host.Host.{Host}
-use Rattle.token_set.specs.Tokens.{Token, raised}
+use Rattle.token_set.specs.Tokens.{Token}
 use Rattle.token_set.specs.Sets.{token_of}
 use Rattle.token_set.specs.Edits.{edited as edited_token}
 use Rattle.token_server.specs.declared.token_holder.TokenHolder.{TokenHolder}

@@ -1,4 +1,3 @@
-use Rattle.std.specs.Prelude.{◌≡◌, ℕ}
 use Rattle.std.proofs.Common.{sym, ap, ◌∙◌}
 use Rattle.token_server.proofs.ToldLaws.{given_rows-last, given_rows-passed}
 use Rattle.token_server.proofs.clients.Clients.give_last.Goals as goal

@@ -2,7 +2,6 @@ use Rattle.std.specs.Prelude.{◌≡◌, ◌≤◌, List, Option, Some, None}
 use Rattle.std.proofs.Common.{sym, ap, ◌∙◌, arith}
 use Rattle.intervals.specs.Bytes.{Range}
 use Rattle.token_server.specs.declared.client.Client.{Client}
-use Rattle.token_server.specs.declared.told.Told.{Told}
 use Rattle.token_server.specs.State.{Row}
 use Rattle.token_server.specs.Parts.{ServerParts, row_state, rows_of}
 use Rattle.token_server.specs.Serve.{row_conflicts}

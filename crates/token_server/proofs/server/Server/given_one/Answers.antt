@@ -1,7 +1,6 @@
-use Rattle.std.specs.Prelude.{◌≡◌, ◌-◌, List, Option, Some, None}
+use Rattle.std.specs.Prelude.{◌≡◌, ◌-◌, List, Option, Some}
 use Rattle.std.proofs.Common.{sym, ap, refl, ◌∙◌}
 use Rattle.token_server.specs.declared.client.Client.{Client}
-use Rattle.token_server.specs.declared.change.Given.{Given}
 use Rattle.token_server.specs.Parts.{ServerParts, client_at, rows_of}
 use Rattle.token_server.specs.Edits.{seen, overlaid}
 use Rattle.token_set.specs.Edits.{edited as edited_token}

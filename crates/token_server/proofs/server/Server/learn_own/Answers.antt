@@ -1,4 +1,3 @@
-use Rattle.std.specs.Prelude.{nat_le}
 use Rattle.std.proofs.lemmas.Bool.{and_from, le-leb}
 use Rattle.token_server.specs.Parts.{server_state}
 use Rattle.token_server.proofs.RefusalLaws.{learn-spent}

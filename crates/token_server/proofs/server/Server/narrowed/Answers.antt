@@ -1,10 +1,9 @@
 use Rattle.std.specs.Prelude.{◌≡◌, ◌≤◌, ◌+◌, List, [], ◌∷◌, ◌++◌}
-use Rattle.std.proofs.Common.{sym, ap, subst, ◌∙◌, arith, take}
+use Rattle.std.proofs.Common.{sym, ap, subst, ◌∙◌, take}
 use Rattle.std.proofs.lemmas.List.{take_more}
 use Rattle.intervals.specs.Bytes.{Range}
 use Rattle.token_server.specs.declared.token_request.TokenRequest.{TokenRequest}
 use Rattle.token_server.specs.Parts.{ServerParts}
-use Rattle.token_server.specs.Serve.{narrowed}
 use Rattle.token_server.specs.Told.{cut}
 use Rattle.token_server.specs.Edits.{queue_after}
 use Rattle.token_server.proofs.CutLaws.{IsLeft, left-start, left-more, left-bounds, left-exact}
