@@ -81,7 +81,7 @@ impl Seat {
     /// # Errors
     /// In this order: `Spent` where 18,446,744,073,709,551,615 steps were committed from the seat;
     /// `Stranger` where the actor takes no such event; what the actor's step refuses, `Stranger`, `Busy` or
-    /// `Spent`; `NoMemory` where a request for memory was refused.
+    /// `Spent`; `NoMemory` where a request for memory was refused, which may come before the actor's `Spent`.
     pub fn prepare(&self, alloc: Global, event: Event) -> Result<Prepared, StepError>
         ensures event { IfOk result (λ p. p.event ≡ event) }
         ensures names { IfOk result (λ p. Names p self.now) }

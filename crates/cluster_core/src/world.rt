@@ -527,7 +527,8 @@ impl World {
     /// names a number outside the shape or a message that was never sent; `Fenced` where it would be a
     /// step of a node that was declared failed; what the actor's step refuses, `Busy`, `Stranger` or
     /// `Spent`, and of a declaration or a restart `NotAlive`, `NotDead` or `TooManyRestarts`;
-    /// `NoMemory` where a request for memory was refused. The world is then as it was.
+    /// `NoMemory` where a request for memory was refused, which may come before `Spent`. The world is
+    /// then as it was.
     pub fn step(&mut self, alloc: Global, event: Event) -> Result<Entry, Refused>
         ensures ok { IfOk result (λ entry. next (world_state self.old) event ≡ Ok (world_state self.new, entry)) }
         ensures err { IfErr result (λ e. e ≢ NoMemory → next (world_state self.old) event ≡ Err e) }

@@ -52,8 +52,8 @@ use token_set::edit::TokenEdit;
 use token_set::set::TokenSet;
 
 /// The token server of one file: what it knows of each node, the requests that are queued, in the
-/// order in which they came, the one that is served, and those that wait for a lock of another node to
-/// go.
+/// order in which they came, those that are served, no two of which need a byte in common, and those that
+/// wait for a lock of another node to go.
 #[derive(Drop)]
 pub struct Server {
     shape: Shape,
@@ -887,18 +887,20 @@ impl Server {
         self.clients.give_each(given);
     }
 
-    /// What the server does at an event: the server after it, and what it sends. Requests are served one
-    /// after the other, in the order in which they came. One is granted the largest span around the bytes
-    /// that it needs, within those that it would like to have, that no other node's token stands in the
-    /// way of. Where another node's token has some of the bytes that it needs, that is revoked first, one
-    /// node after the other; where a holder then names a lock in the way, the request is denied, or, where it
-    /// may wait, put off until the holder says that locks of it may be gone. An answer counts once, and only where the command with its number waits for one of its kind. (Tokens revoked
-    /// by required and desired ranges: Schmuck and Haskin, FAST 2002.)
+    /// What the server does at an event: the server after it, and what it sends. Requests that need no
+    /// byte in common are served at once; of two that do, the one that came first is served first. One
+    /// is granted the largest span around the bytes that it needs, within those that it would like to
+    /// have, that no other request which is served needs and no other node's token stands in the way of.
+    /// Where another node's token has some of the bytes that it needs, that is revoked first, one node
+    /// after the other; where a holder then names a lock in the way, the request is denied, or, where it
+    /// may wait, put off until the holder says that locks of it may be gone. An answer counts once, and
+    /// only where the command with its number waits for one of its kind. (Tokens revoked by required and
+    /// desired ranges: Schmuck and Haskin, FAST 2002.)
     ///
     /// # Errors
     /// `Stranger` where a message is not for this server or names a node that the cluster doesn't have,
-    /// which is tested first; `NoMemory` where a request for memory was refused; `Spent` where the next command to a node
-    /// would need a number past 4,294,967,295.
+    /// which is tested first; `Spent` where the next command to a node would need a number past
+    /// 4,294,967,295; `NoMemory` where a request for memory was refused, which may come before `Spent`.
     pub fn step(&self, alloc: Global, event: &ServerEvent) -> Result<(Server, Outcome), StepError>
         ensures ok { IfOk result (λ r. server_rule (server_state self.now) event.now ≡ Ok (server_state r.0, r.1)) }
         ensures err { IfErr result (λ e. e ≢ StepError.NoMemory → server_rule (server_state self.now) event.now ≡ Err e) }
