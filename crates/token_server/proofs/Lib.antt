@@ -15,3 +15,4 @@ pub mod ViewLaws
 pub mod CareLaws
 pub mod MarkLaws
 pub mod WaitLaws
+pub mod AdmissionLaws

@@ -439,20 +439,22 @@ module _ (was : Sent) (nodes : ℕ → NodeState) (shape : ShapeFields) (file : 
         | false ↦ λ is h. elim few as (λ b. ◌≡◌ {A = R} (if b then Ok (later, command ∷ []) else Err Spent) (Ok (v, sends)) → ServedHere) [
           | true ↦ λ h.
               let same = ok_is (later, command ∷ []) (v, sends) h in
-              let Q : ServerState × List Message → Type 0 = λ x. Keeps t x.0 in
-              (inr (record {
-                state = t;
-                serves = serves;
-                node = n;
-                row = row;
-                there = there;
-                idle = none_outstanding row.outstanding is;
-                command = command;
-                to = to;
-                free = free;
-                next = ap (λ (x : ServerState × List Message). x.0) (sym same);
-                sent = ap (λ (x : ServerState × List Message). x.1) (sym same);
-              }), subst Q same (current_row was nodes shape file t serves n (commanded_row row command)))
+              let Q : ServerState × List Message → Type 0 = λ x. Keeps t x.0 in (
+                inr (record {
+                  state = t;
+                  serves = serves;
+                  node = n;
+                  row = row;
+                  there = there;
+                  idle = none_outstanding row.outstanding is;
+                  command = command;
+                  to = to;
+                  free = free;
+                  next = ap (λ (x : ServerState × List Message). x.0) (sym same);
+                  sent = ap (λ (x : ServerState × List Message). x.1) (sym same);
+                }),
+                subst Q same (current_row was nodes shape file t serves n (commanded_row row command)),
+              )
           | false ↦ λ h. absurd (cc)
         ] h
       ] refl h
