@@ -2,7 +2,8 @@
 # Times lockreplay on scripts of each kind that make some 10,000, 100,000 and 1,000,000 entries of the journal (it holds
 # 1,048,576). Prints for each the processor seconds of its fastest run (of nine times ten that are counted together, five and
 # five), entries per second and peak memory, and beside the last size the ratio of the time an entry takes there to what it
-# takes in the first.
+# takes in the first. Of queue and rivals, which are about many calls at a server, the sizes are 100,000 and 1,000,000 entries with
+# few calls there, and 1,000,000 with many: so their ratios tell what more entries cost, and what more entries and more calls do.
 # usage: bench/run.sh [DIR [KIND]..]   (the scripts and listings stay in DIR; without one they go)
 here=$(dirname -- "$(readlink -f -- "$0")") || exit 1
 folder=$1
@@ -11,7 +12,7 @@ if [ -z "$folder" ]; then
     folder=$(mktemp -d) || exit 1
     trap 'rm -rf "$folder"' EXIT
 fi
-[ $# -gt 0 ] || set -- covered readers lossy fight storm crowd walk churn failures turns
+[ $# -gt 0 ] || set -- covered readers lossy fight storm crowd walk churn failures turns queue rivals
 mkdir -p "$folder" || exit 1
 "$here/../lockreplay" --help >/dev/null || exit 1
 program=$here/../crates/lockreplay/out/lockreplay
@@ -21,10 +22,13 @@ entries_of() {
     awk '/^replies$/ { inside = 1; next } /^tokens$/ { exit } inside { last = $1 } END { print last + 0 }' "$1"
 }
 
-echo "kind     lines    entries  cpu s    entries/s  peak MB  ratio"
+echo "kind        lines    entries  cpu s    entries/s  peak MB  ratio"
 for kind in "$@"; do
-    # How many lines make a hundred entries, and how many come before those.
+    # How many lines make a hundred entries, and how many come before those; of each size the entries, the runs, and for some
+    # kinds the calls at the server.
     start=0
+    share=100
+    sizes="10000:9x10 100000:5 1000000:5"
     case $kind in
         lossy) share=116 ;;
         fight) share=38 ;;
@@ -32,20 +36,31 @@ for kind in "$@"; do
         walk) share=25 ;;
         failures) share=88 ;;
         turns) share=3 start=190 ;;
-        *) share=100 ;;
+        queue) sizes="100000:5:512 1000000:5:512 1000000:5:16384" ;;
+        rivals) sizes="100000:5:16 1000000:5:16 1000000:5:1008" ;;
     esac
     first=
-    for size in 10000:9x10 100000:5 1000000:5; do
-        lines=$((start + ${size%:*} / 100 * share))
-        script=$folder/$kind-$lines.lock
-        listing=$folder/$kind-$lines.listing
-        sh "$here/script.sh" "$kind" "$lines" >"$script" || exit 1
-        measured=$("$here/measure" "${size#*:}" "$listing" "$program" run "$script") || exit 1
-        row="$kind $lines $(entries_of "$listing") $measured"
+    for size in $sizes; do
+        entries=${size%%:*}
+        runs=$(echo "$size" | cut -d : -f 2)
+        calls=$(echo "$size" | cut -d : -f 3)
+        lines=$((start + entries / 100 * share))
+        if [ "$kind" = queue ]; then
+            # For each process of a node 192 lines make 381 entries before the first turn, and one line 130 in each turn.
+            each=$((calls / 64))
+            turns=$(((entries - 381 * each) / (130 * each + 4)))
+            lines=$((192 * each + 3 + turns * (each + 3)))
+        fi
+        name=$kind${calls:+-$calls}
+        script=$folder/$name-$lines.lock
+        listing=$folder/$name-$lines.listing
+        sh "$here/script.sh" "$kind" "$lines" "$calls" >"$script" || exit 1
+        measured=$("$here/measure" "$runs" "$listing" "$program" run "$script") || exit 1
+        row="$name $lines $(entries_of "$listing") $measured"
         [ -n "$first" ] || first=$row
         echo "$first $row" | awk '{
             ratio = $9 / $8 / ($4 / $3)
-            printf "%-8s %-8d %-8d %-8.2f %-10.0f %-8d", $6, $7, $8, $9, $8 / $9, $10 / 1024
+            printf "%-11s %-8d %-8d %-8.2f %-10.0f %-8d", $6, $7, $8, $9, $8 / $9, $10 / 1024
             print ($8 > 500000 ? sprintf(" %.2f", ratio) : "")
         }'
     done

@@ -21,9 +21,17 @@
 #          server knows, and the failed node begins again
 # turns    a process on each of 64 nodes waits for one byte: the one that has it unlocks it, the next one gets it, and it
 #          waits for it again, behind all others
-kind=${1:?usage: script.sh KIND LINES}
-lines=${2:?usage: script.sh KIND LINES}
-exec awk -v kind="$kind" -v lines="$lines" '
+# queue    256 processes on each of 64 nodes wait for one byte: the one that has it unlocks it, the next one gets it, on another
+#          node, and all processes of its own node ask for it again, behind all others: so 16,128 requests stay at the
+#          server, and 255 calls wait at the node that has the byte. CALLS is how many want it, a multiple of 64 up to 16384
+# rivals   16 processes on each of 63 nodes want to write ten bytes, each others, of a file whose token one more node has, without
+#          a lock: so 1,008 requests are served at once. Whoever gets its bytes unlocks them and asks for the ten behind all
+#          others. CALLS is how many are served at once, up to 1008
+# usage: script.sh KIND LINES [CALLS]
+kind=${1:?usage: script.sh KIND LINES [CALLS]}
+lines=${2:?usage: script.sh KIND LINES [CALLS]}
+calls=$3
+exec awk -v kind="$kind" -v lines="$lines" -v calls="$calls" '
 function put(line) {
     print line
     written++
@@ -210,6 +218,72 @@ function turns() {
     }
 }
 
+# A process that waits for a byte of its own node is not tried when that is unlocked: so all of that node ask anew.
+function queue() {
+    each = calls == "" ? 256 : int(calls / 64)
+    put("cluster nodes 64 files 1 policy exact")
+    for (node = 1; node <= 64; node++)
+        for (pid = 1; pid <= each; pid++)
+            begin(node, pid)
+    for (node = 1; node <= 64; node++) {
+        for (pid = 1; pid <= each; pid++) {
+            put("call " node " " pid " wait 0 proc write 0 1")
+            if (node == 1 && pid == 1)
+                put("settle")
+        }
+    }
+    put("settle")
+    for (number = 0; written < lines; number++) {
+        node = number % 64 + 1
+        pid = int(number / 64) % each + 1
+        put("call " node " " pid " unlock 0 proc 0 1")
+        put("settle")
+        for (step = 0; step < each - 1; step++)
+            put("retry " node " " (pid + step) % each + 1)
+        put("call " node " " pid " wait 0 proc write 0 1")
+        put("settle")
+    }
+    # (the last entry is a reply)
+    put("call " number % 64 + 1 " " int(number / 64) % each + 1 " unlock 0 proc 0 1")
+}
+
+# A rival sets or unlocks the ten bytes of a place.
+function rival(number, act, place) {
+    put("call " int(number / 16) + 1 " " number % 16 + 1 " " act " " 10 * place " 10")
+}
+
+# Node 64 says that it has the whole file (message 3) only once all have asked: so it is asked for no more than the first one
+# needs. From then on a round sends five messages: what is given up, a grant, what node 64 is asked for next, the answer to
+# the grant, and a request.
+function rivals() {
+    many = calls == "" ? 1008 : calls
+    put("cluster nodes 64 files 1 policy wide")
+    begin(64, 1)
+    put("call 64 1 set 0 proc write 0 0")
+    put("deliver 1")
+    put("deliver 2")
+    put("call 64 1 unlock 0 proc 0 0")
+    for (number = 0; number < many; number++)
+        begin(int(number / 16) + 1, number % 16 + 1)
+    for (number = 0; number < many; number++)
+        rival(number, "set 0 proc write", number)
+    for (number = 0; number < many; number++)
+        put("deliver " 4 + number)
+    put("deliver 3")
+    sent = 4 + many
+    put("deliver " sent)
+    for (number = 0; written < lines; number++) {
+        put("deliver " sent + 1)
+        put("deliver " sent + 2)
+        put("deliver " sent + 4)
+        rival(number % many, "unlock 0 proc", number)
+        rival(number % many, "set 0 proc write", number + many)
+        put("deliver " sent + 5)
+        put("deliver " sent + 3)
+        sent += 5
+    }
+}
+
 BEGIN {
     if (kind == "covered")
         covered()
@@ -231,6 +305,10 @@ BEGIN {
         failures()
     else if (kind == "turns")
         turns()
+    else if (kind == "queue")
+        queue()
+    else if (kind == "rivals")
+        rivals()
     else
         exit 2
 }'

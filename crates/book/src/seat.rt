@@ -81,7 +81,7 @@ impl Seat {
     /// # Errors
     /// In this order: `Spent` where 18,446,744,073,709,551,615 steps were committed from the seat;
     /// `Stranger` where the actor takes no such event; what the actor's step refuses, `Stranger`, `Busy` or
-    /// `Spent`; `NoMemory` where a request for memory was refused.
+    /// `Spent`; `NoMemory` where a request for memory was refused, which may come before the actor's `Spent`.
     pub fn prepare(&self, alloc: Global, event: Event) -> Result<Prepared, StepError>
         ensures event { IfOk result (λ p. p.event ≡ event) }
         ensures names { IfOk result (λ p. Names p self.now) }
@@ -89,8 +89,8 @@ impl Seat {
         ensures spent { self.now.commits ≡ 18446744073709551615 → result ≡ Err StepError.Spent }
         ensures err { self.now.commits < 18446744073709551615 → IfErr result (λ e. e ≢ StepError.NoMemory → Rejects self.now.state event e) }
 
-        // Want of memory never stands in the place of a refusal.
-        ensures refused { self.now.commits < 18446744073709551615 → (r : StepError) → Rejects self.now.state event r → result ≡ Err r }
+        // Want of memory never stands in the place of a refusal, but of `Spent`.
+        ensures refused { self.now.commits < 18446744073709551615 → (r : StepError) → r ≢ StepError.Spent → Rejects self.now.state event r → result ≡ Err r }
     {
         if self.commits == u64::MAX {
             return Err(StepError::Spent);

@@ -130,7 +130,7 @@ fn server_at(
 ) -> Result<(Box<Server>, Outcome), StepError>
     ensures ok { IfOk result (λ r. server_at (server_state server.now) event ≡ Ok (server_state r.0.value, r.1)) }
     ensures err { IfErr result (λ e. e ≢ StepError.NoMemory → server_at (server_state server.now) event ≡ Err e) }
-    ensures refused { (r : StepError) → server_at (server_state server.now) event ≡ Err r → result ≡ Err r }
+    ensures refused { (r : StepError) → r ≢ StepError.Spent → server_at (server_state server.now) event ≡ Err r → result ≡ Err r }
 {
     let Some(own) = event else {
         return Err(StepError::Stranger);
@@ -186,7 +186,7 @@ impl State {
     pub(crate) fn step(&self, alloc: Global, event: &Event) -> Result<(State, Outcome), StepError>
         ensures ok { IfOk result (λ r. StepsTo self.now event.now r.0 r.1) }
         ensures err { IfErr result (λ e. e ≢ StepError.NoMemory → Rejects self.now event.now e) }
-        ensures refused { (r : StepError) → Rejects self.now event.now r → result ≡ Err r }
+        ensures refused { (r : StepError) → r ≢ StepError.Spent → Rejects self.now event.now r → result ≡ Err r }
     {
         match self {
             State::OfNode { number, node } => {

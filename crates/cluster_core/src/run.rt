@@ -67,8 +67,8 @@ impl Run {
         ensures ok { OnOk result (GoesOn self.old event self.new) }
         ensures err { IfErr result (λ e. e ≢ NoMemory → next (world_state self.old.world) event ≡ Err e) }
 
-        // Want of memory never stands in the place of a refusal.
-        ensures refused { (e : Refused) → next (world_state self.old.world) event ≡ Err e → result ≡ Err e }
+        // Want of memory never stands in the place of a refusal, but of `Spent`.
+        ensures refused { (e : Refused) → e ≢ Refused.Spent → next (world_state self.old.world) event ≡ Err e → result ≡ Err e }
         ensures unchanged { OnErr result (self.new ≡ self.old) }
     {
         let change = self.world.plan(alloc, &event)?;

@@ -287,7 +287,7 @@ impl World {
         requires { is_within self.now.shape.files file ≡ true }
         ensures ok { IfOk result (λ change. (p : ServerParts) × (p ≡ slice_index_or self.now.servers (file - 1) p) × (server_rule ((world_state self.now).servers file) step.now ≡ Ok (planned p change.edit, change.outcome))) }
         ensures err { IfErr result (λ e. e ≢ OutOfMemory → server_rule ((world_state self.now).servers file) step.now ≡ Err e) }
-        ensures refused { (r : StepError) → server_rule ((world_state self.now).servers file) step.now ≡ Err r → result ≡ Err r }
+        ensures refused { (r : StepError) → r ≢ StepError.Spent → server_rule ((world_state self.now).servers file) step.now ≡ Err r → result ≡ Err r }
     {
         self.servers[file as usize - 1].plan(alloc, step)
     }
@@ -328,7 +328,7 @@ impl World {
         requires same_event { IsServerStepOf event.now step.now }
         ensures ok { IfOk result (λ change. Makes self.now event.now change (after_server (world_state self.now) event.now file (server_rule ((world_state self.now).servers file) step.now))) }
         ensures err { IfErr result (λ e. e ≢ NoMemory → after_server (world_state self.now) event.now file (server_rule ((world_state self.now).servers file) step.now) ≡ Err e) }
-        ensures refused { (e : Refused) → after_server (world_state self.now) event.now file (server_rule ((world_state self.now).servers file) step.now) ≡ Err e → result ≡ Err e }
+        ensures refused { (e : Refused) → e ≢ Refused.Spent → after_server (world_state self.now) event.now file (server_rule ((world_state self.now).servers file) step.now) ≡ Err e → result ≡ Err e }
     {
         let change = self.server_plan(alloc, file, step)?;
         Ok(Change::OfServer { file, change })
@@ -366,7 +366,7 @@ impl World {
         requires free { is_fenced (world_state self.now) event.now ≡ false }
         ensures ok { IfOk result (λ change. Makes self.now event.now change (taken (world_state self.now) event.now)) }
         ensures err { IfErr result (λ e. e ≢ NoMemory → taken (world_state self.now) event.now ≡ Err e) }
-        ensures refused { (e : Refused) → taken (world_state self.now) event.now ≡ Err e → result ≡ Err e }
+        ensures refused { (e : Refused) → e ≢ Refused.Spent → taken (world_state self.now) event.now ≡ Err e → result ≡ Err e }
     {
         match event {
             Event::Call { node, pid, op } => {
@@ -411,7 +411,7 @@ impl World {
     pub(crate) fn plan(&self, alloc: Global, event: &Event) -> Result<Change, Refused>
         ensures ok { IfOk result (λ change. Plans self.now event.now change) }
         ensures err { IfErr result (λ e. e ≢ NoMemory → next (world_state self.now) event.now ≡ Err e) }
-        ensures refused { (e : Refused) → next (world_state self.now) event.now ≡ Err e → result ≡ Err e }
+        ensures refused { (e : Refused) → e ≢ Refused.Spent → next (world_state self.now) event.now ≡ Err e → result ≡ Err e }
     {
         if self.length >= JOURNAL_LIMIT {
             return Err(Refused::JournalFull);
@@ -527,13 +527,14 @@ impl World {
     /// names a number outside the shape or a message that was never sent; `Fenced` where it would be a
     /// step of a node that was declared failed; what the actor's step refuses, `Busy`, `Stranger` or
     /// `Spent`, and of a declaration or a restart `NotAlive`, `NotDead` or `TooManyRestarts`;
-    /// `NoMemory` where a request for memory was refused. The world is then as it was.
+    /// `NoMemory` where a request for memory was refused, which may come before `Spent`. The world is
+    /// then as it was.
     pub fn step(&mut self, alloc: Global, event: Event) -> Result<Entry, Refused>
         ensures ok { IfOk result (λ entry. next (world_state self.old) event ≡ Ok (world_state self.new, entry)) }
         ensures err { IfErr result (λ e. e ≢ NoMemory → next (world_state self.old) event ≡ Err e) }
 
-        // Want of memory never stands in the place of a refusal.
-        ensures refused { (e : Refused) → next (world_state self.old) event ≡ Err e → result ≡ Err e }
+        // Want of memory never stands in the place of a refusal, but of `Spent`.
+        ensures refused { (e : Refused) → e ≢ Refused.Spent → next (world_state self.old) event ≡ Err e → result ≡ Err e }
         ensures unchanged { OnErr result (self.new ≡ self.old) }
     {
         let change = self.plan(alloc, &event)?;

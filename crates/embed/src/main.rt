@@ -1,5 +1,26 @@
 //! One node and one token server in a program of its own, which carries the messages between them: a process
 //! begins, opens a file and sets a lock, and each reply is printed.
+//!
+//! What is proved of every run of a cluster holds of such a program where it keeps to this:
+//!
+//! - What it delivers was sent, in an earlier step, by a node or a server of this cluster, and is
+//!   unchanged; it goes to its addressee. It may be late, come again, or be lost.
+//! - A node that was declared failed takes no more steps in that incarnation, not even one that was
+//!   planned before.
+//! - A server may be told (`ServerEvent::Learn`) only of an incarnation that was declared failed. It
+//!   can't test that: of a live node it would forget what that node holds, and grant the same bytes to
+//!   another. Two nodes could then lock them at once.
+//! - A node restarts only after it was declared failed: empty (`Node::new`), and in its next
+//!   incarnation, which was never used before. The first one is 1. `Members` of the crate `members`
+//!   keeps count of them.
+//! - There is one node of each number and one server of each file, all made for one shape.
+//! - Each takes one step at a time: a change is applied to the very state that it was planned from.
+//!   The messages of a step are sent, and its reply is told, only after it.
+//! - Servers don't fail: none loses what it knows, and none begins anew.
+//!
+//! The law of the one history is proved of runs of at most 1,048,576 entries: so many does the
+//! journal hold that `World` and `Run` keep. Here is one node that never fails, so nothing is declared,
+//! and the server learns nothing.
 #![tactic(auto)]
 
 use messages::items::Items;

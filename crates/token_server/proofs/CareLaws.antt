@@ -1,19 +1,19 @@
 -- What becomes of the requests of a server, as one list.
-use Rattle.std.specs.Prelude.{◌≡◌, ℕ, ◌-◌, Bool, true, false, not, cond, ◌&&◌, ◌||◌, List, [], ◌∷◌, ◌++◌, All, find, IfSome, Option, Some, None}
-use Rattle.std.specs.List.{list_any, cons_option}
-use Rattle.std.proofs.Common.{refl, ap, subst}
+use Rattle.std.specs.Prelude.{◌≡◌, ℕ, ◌-◌, Bool, true, false, not, cond, ◌||◌, List, [], ◌∷◌, ◌++◌, All, find, IfSome, Option, Some, None}
+use Rattle.std.specs.List.{list_any}
+use Rattle.std.proofs.Common.{refl}
 use Rattle.std.proofs.lemmas.List.Elements.{All-nil, All-cons, All-head, All-tail, All-append, All-push, All-filter, filter_passes}
 use Rattle.model.specs.declared.call.CallId.{CallId}
 use Rattle.messages.specs.declared.message.Urgency.TheVariants.{Waits}
 use Rattle.messages.specs.Messages.{same_urgency}
 use Rattle.token_server.specs.declared.token_request.TokenRequest.{TokenRequest}
-use Rattle.token_server.specs.State.{Row, ServerState, is_of_call, is_up_to, unless, forgotten, requests, requeued}
-use Rattle.token_server.specs.Serve.{admitted}
-use Rattle.token_server.specs.Server.{with_a_row, is_active, request_of, enqueued_with, enqueued, asked, ended, put_off, postponed, freed}
+use Rattle.token_server.specs.State.{Row, ServerState, is_of_call, is_up_to, forgotten, requests, requeued}
+use Rattle.token_server.specs.Serve.{meets_some, admitted, ready}
+use Rattle.token_server.specs.Server.{with_a_row, request_of, enqueued_with, enqueued, asked, ended, put_off, postponed, freed}
 
 -- P holds of the requests, of those of each kind
 pub record AreRequests (P : TokenRequest → Type 0) (s : ServerState) : Type 0 where
-  pub active : IfSome s.active P
+  pub active : All P s.active
   pub queue : All P s.queue
   pub waiting : All P s.waiting
 
@@ -32,43 +32,47 @@ find-each P test [] all = tt
 find-each P test (r ∷ rs) all =
     elim (test r) as (λ b. IfSome (cond b (Some r) (find test rs)) P) [ true ↦ All-head P r rs all | false ↦ find-each P test rs (All-tail P r rs all) ]
 
-first-each : (P : TokenRequest → Type 0) (active : Option TokenRequest) (rest : List TokenRequest) → All P (cons_option active rest) → IfSome active P
-first-each P None rest all = tt
-first-each P (Some r) rest all = All-head P r rest all
-
-rest-each : (P : TokenRequest → Type 0) (active : Option TokenRequest) (rest : List TokenRequest) → All P (cons_option active rest) → All P rest
-rest-each P None rest all = all
-rest-each P (Some r) rest all = All-tail P r rest all
-
-both-each : (P : TokenRequest → Type 0) (active : Option TokenRequest) (rest : List TokenRequest) → IfSome active P → All P rest → All P (cons_option active rest)
-both-each P None rest one all = all
-both-each P (Some r) rest one all = All-cons P r rest one all
+-- one that is found passes
+pub find-passes : (test : TokenRequest → Bool) (rs : List TokenRequest) → IfSome (find test rs) (λ r. test r ≡ true)
+find-passes test [] = tt
+find-passes test (r ∷ rs) = by (test r) refl (find-passes test rs)
+  where
+    by : (b : Bool) → test r ≡ b → IfSome (find test rs) (λ x. test x ≡ true) → IfSome (cond b (Some r) (find test rs)) (λ x. test x ≡ true)
+    by true is rest = is
+    by false is rest = rest
 
 -- as one list, and by their kinds
 pub requests-parts : (P : TokenRequest → Type 0) (s : ServerState) → All P (requests s) → AreRequests P s
 requests-parts P s all = record {
-  active = first-each P s.active (s.queue ++ s.waiting) all;
-  queue = All-left P s.queue s.waiting (rest-each P s.active (s.queue ++ s.waiting) all);
-  waiting = All-right P s.queue s.waiting (rest-each P s.active (s.queue ++ s.waiting) all);
+  active = All-left P s.active (s.queue ++ s.waiting) all;
+  queue = All-left P s.queue s.waiting (All-right P s.active (s.queue ++ s.waiting) all);
+  waiting = All-right P s.queue s.waiting (All-right P s.active (s.queue ++ s.waiting) all);
 }
 
 pub requests-whole : (P : TokenRequest → Type 0) (s : ServerState) → AreRequests P s → All P (requests s)
-requests-whole P s are = both-each P s.active (s.queue ++ s.waiting) are.active (All-append P s.queue s.waiting are.queue are.waiting)
+requests-whole P s are = All-append P s.active (s.queue ++ s.waiting) are.active (All-append P s.queue s.waiting are.queue are.waiting)
 
--- what holds of all of them holds of the one that is served
-pub active-each : (P : TokenRequest → Type 0) (s : ServerState) → All P (requests s) → (r : TokenRequest) → s.active ≡ Some r → P r
-active-each P s all r is = subst (λ (o : Option TokenRequest). IfSome o P) is (requests-parts P s all).active
+-- what holds of all of them holds of those that are served
+pub active-each : (P : TokenRequest → Type 0) (s : ServerState) → All P (requests s) → All P s.active
+active-each P s all = (requests-parts P s all).active
 
--- the first of the queue is served
-admitted-parts : (P : TokenRequest → Type 0) (s : ServerState) (active : Option TokenRequest) (queue : List TokenRequest) → All P queue → AreRequests P s → AreRequests P (admitted s active queue)
-admitted-parts P s (Some r) queue all are = are
-admitted-parts P s None [] all are = are
-admitted-parts P s None (r ∷ rest) all are = record { active = All-head P r rest all; queue = All-tail P r rest all; waiting = are.waiting }
+-- requests come from the queue
+pub admitted-all : (P : TokenRequest → Type 0) (active staying queue : List TokenRequest) → All P active → All P staying → All P queue → (let next = admitted active staying queue in All P next.0 × All P next.1)
+admitted-all P active staying [] a b c = (a, b)
+admitted-all P active staying (r ∷ rest) a b c =
+    let one = All-head P r rest c in
+    let others = All-tail P r rest c in
+    let Q : List TokenRequest × List TokenRequest → Type 0 = λ next. All P next.0 × All P next.1 in
+    elim (meets_some r active || meets_some r staying) as (λ t. Q (cond t (admitted active (staying ++ r ∷ []) rest) (admitted (active ++ r ∷ []) staying rest))) [
+      | true ↦ admitted-all P active (staying ++ r ∷ []) rest a (All-push P staying r b one) others
+      | false ↦ admitted-all P (active ++ r ∷ []) staying rest (All-push P active r a one) b others
+    ]
 
-pub admitted-each : (P : TokenRequest → Type 0) (s : ServerState) → All P (requests s) → All P (requests (admitted s s.active s.queue))
-admitted-each P s all =
+pub ready-each : (P : TokenRequest → Type 0) (s : ServerState) → All P (requests s) → All P (requests (ready s))
+ready-each P s all =
     let are = requests-parts P s all in
-    requests-whole P (admitted s s.active s.queue) (admitted-parts P s s.active s.queue are.queue are)
+    let both = admitted-all P s.active [] s.queue are.active (All-nil P) are.queue in
+    requests-whole P (ready s) (record { active = both.0; queue = both.1; waiting = are.waiting })
 
 -- what waits is asked for again
 pub requeued-each : (P : TokenRequest → Type 0) (s : ServerState) → All P (requests s) → All P (requests (requeued s))
@@ -80,28 +84,24 @@ pub freed-each : (P : TokenRequest → Type 0) (s : ServerState) (row : Option R
 freed-each P s None all = all
 freed-each P s (Some row) all = requeued-each P s all
 
-unless-each : (P : TokenRequest → Type 0) (drops : TokenRequest → Bool) (active : Option TokenRequest) → IfSome active P → IfSome (unless drops active) P
-unless-each P drops None one = tt
-unless-each P drops (Some r) one = elim (drops r) as (λ b. IfSome (cond b None (Some r)) P) [ true ↦ tt | false ↦ one ]
-
 -- a call's request is served no longer
 pub ended-each : (P : TokenRequest → Type 0) (call : CallId) (s : ServerState) → All P (requests s) → All P (requests (ended call s))
 ended-each P call s all =
     let are = requests-parts P s all in
-    requests-whole P (ended call s) (record { active = unless-each P (is_of_call call) s.active are.active; queue = are.queue; waiting = are.waiting })
+    requests-whole P (ended call s) (record { active = All-filter (λ r. not (is_of_call call r)) P s.active are.active; queue = are.queue; waiting = are.waiting })
 
-put_off-each : (P : TokenRequest → Type 0) (call : CallId) (active : Option TokenRequest) → IfSome active P → All P (put_off call active)
-put_off-each P call None one = All-nil P
-put_off-each P call (Some r) one = elim (is_of_call call r && same_urgency r.urgency Waits) as (λ b. All P (cond b (r ∷ []) [])) [ true ↦ All-cons P r [] one (All-nil P) | false ↦ All-nil P ]
+put_off-each : (P : TokenRequest → Type 0) (own : Option TokenRequest) → IfSome own P → All P (put_off own)
+put_off-each P None one = All-nil P
+put_off-each P (Some r) one = elim (same_urgency r.urgency Waits) as (λ b. All P (cond b (r ∷ []) [])) [ true ↦ All-cons P r [] one (All-nil P) | false ↦ All-nil P ]
 
 -- or it waits from then on
 pub postponed-each : (P : TokenRequest → Type 0) (call : CallId) (s : ServerState) → All P (requests s) → All P (requests (postponed call s))
 postponed-each P call s all =
     let are = requests-parts P s all in
     requests-whole P (postponed call s) (record {
-      active = unless-each P (is_of_call call) s.active are.active;
+      active = All-filter (λ r. not (is_of_call call r)) P s.active are.active;
       queue = are.queue;
-      waiting = All-append P s.waiting (put_off call s.active) are.waiting (put_off-each P call s.active are.active);
+      waiting = All-append P s.waiting (put_off (request_of call s.active)) are.waiting (put_off-each P (request_of call s.active) (find-each P (is_of_call call) s.active are.active));
     })
 
 -- requests of a node's dead incarnations go
@@ -110,25 +110,17 @@ forgotten-each P s node incarnation all =
     let are = requests-parts P s all in
     let stays : TokenRequest → Bool = λ r. not (is_up_to node incarnation r) in
     requests-whole P (forgotten s node incarnation) (record {
-      active = unless-each P (is_up_to node incarnation) s.active are.active;
+      active = All-filter stays P s.active are.active;
       queue = All-filter stays P s.queue are.queue;
       waiting = All-filter stays P s.waiting are.waiting;
     })
-
-unless-young : (drops : TokenRequest → Bool) (active : Option TokenRequest) → IfSome (unless drops active) (λ r. not (drops r) ≡ true)
-unless-young drops None = tt
-unless-young drops (Some r) = by (drops r) refl
-  where
-    by : (b : Bool) → drops r ≡ b → IfSome (cond b None (Some r)) (λ x. not (drops x) ≡ true)
-    by true is = tt
-    by false is = ap not is
 
 -- and none of them is left
 pub forgotten-young : (s : ServerState) (node incarnation : ℕ) → All (λ r. not (is_up_to node incarnation r) ≡ true) (requests (forgotten s node incarnation))
 forgotten-young s node incarnation =
     let stays : TokenRequest → Bool = λ r. not (is_up_to node incarnation r) in
     requests-whole (λ r. stays r ≡ true) (forgotten s node incarnation) (record {
-      active = unless-young (is_up_to node incarnation) s.active;
+      active = filter_passes stays s.active;
       queue = filter_passes stays s.queue;
       waiting = filter_passes stays s.waiting;
     })
@@ -146,7 +138,7 @@ pub enqueued-each : (P : TokenRequest → Type 0) (s : ServerState) (r : TokenRe
 enqueued-each P s r new all =
     let are = requests-parts P s all in
     let added = enqueued_with s r (request_of r.call s.waiting) in
-    elim (is_active r.call s.active || list_any (is_of_call r.call) s.queue) as (λ b. All P (requests (cond b s added))) [
+    elim (list_any (is_of_call r.call) s.active || list_any (is_of_call r.call) s.queue) as (λ b. All P (requests (cond b s added))) [
       | true ↦ all
       | false ↦ enqueued_with-each P s r (request_of r.call s.waiting) new (find-each P (is_of_call r.call) s.waiting are.waiting) are
     ]

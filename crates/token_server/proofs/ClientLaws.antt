@@ -42,7 +42,7 @@ client_at-set_same clients node place new within e =
     client_at-place (slice_set clients place new) node place next ∙ slice_get-set_same clients place new (omega arith)
 
 -- and no other's
-client_at-set_other : (clients : List Client) (node place n : ℕ) (new : Client) → IsNumber (length clients) node → place ≡ node - 1 → n ≢ node → client_at (slice_set clients place new) n ≡ client_at clients n
+pub client_at-set_other : (clients : List Client) (node place n : ℕ) (new : Client) → IsNumber (length clients) node → place ≡ node - 1 → n ≢ node → client_at (slice_set clients place new) n ≡ client_at clients n
 client_at-set_other clients node place zero new within e apart = refl
 client_at-set_other clients node place (suc k) new within e apart =
     slice_get-set_other clients place k new (λ same. apart (omega arith))

@@ -1,9 +1,10 @@
 -- What the span that a request is granted is.
-use Rattle.std.specs.Prelude.{◌≡◌, ℕ, ◌+◌, ◌<◌, ◌≤◌, Bool, true, false, not, ◌&&◌, ◌==◌, Option, Some, None}
+use Rattle.std.specs.Prelude.{◌≡◌, ℕ, ◌+◌, ◌<◌, ◌≤◌, Bool, true, false, not, ◌&&◌, ◌==◌, nat_le, List, Option, Some, None}
 use Rattle.std.proofs.Common.{sym, ap, ◌∙◌, arith}
-use Rattle.std.proofs.lemmas.Bool.{both_ways}
+use Rattle.std.specs.List.{list_any}
+use Rattle.std.proofs.lemmas.Bool.{both_ways, not-true, and_parts, and_from, le-leb}
 use Rattle.intervals.specs.Search.{first, some_passes}
-use Rattle.intervals.specs.Bytes.{Range, NoneIn, largest_around}
+use Rattle.intervals.specs.Bytes.{Range, is_in, NoneIn, IsLargest, largest_around}
 use Rattle.intervals.proofs.SearchLaws.{first_is_first}
 use Rattle.intervals.proofs.SpanSearch.{largest_is_largest}
 use Rattle.token_set.specs.Tokens.{level_conflicts}
@@ -13,7 +14,7 @@ use Rattle.token_set.proofs.AroundLaws.{largest_around-free, largest_around-zero
 use Rattle.model.specs.declared.mode.Mode.{Mode}
 use Rattle.token_server.specs.declared.token_request.TokenRequest.{TokenRequest}
 use Rattle.token_server.specs.State.{Row, ServerState}
-use Rattle.token_server.specs.Serve.{row_conflicts, row_conflicts_at, granted_span, conflicting_node}
+use Rattle.token_server.specs.Serve.{row_conflicts, row_conflicts_at, is_needed, narrowed, granted_span, conflicting_node}
 
 -- another node's row conflicts with what the request needs
 abbrev pub conflicts_at : ServerState → TokenRequest → ℕ → Bool
@@ -26,9 +27,19 @@ conflicts_at_byte s r n b = not (n == r.call.node) && row_conflicts_at (s.rows n
 -- the span before the rows of the nodes up to k, and what it stands between
 pub record IsNarrowed (s : ServerState) (r : TokenRequest) (k : ℕ) (span : Range) : Type 0 where
   pub order : r.wanted.required.lo ≤ r.wanted.required.hi
-  pub starts : r.wanted.desired.lo ≤ r.wanted.required.lo
-  pub ends : r.wanted.required.hi ≤ r.wanted.desired.hi
-  pub value : span ≡ largest_around (λ b. some_passes (λ n. conflicts_at_byte s r n b) 1 k) r.wanted.required r.wanted.desired
+  pub starts : (narrowed s.active r).lo ≤ r.wanted.required.lo
+  pub ends : r.wanted.required.hi ≤ (narrowed s.active r).hi
+  pub value : span ≡ largest_around (λ b. some_passes (λ n. conflicts_at_byte s r n b) 1 k) r.wanted.required (narrowed s.active r)
+
+-- no byte that the request needs counts as needed by others
+pub none_needed : (active : List TokenRequest) (r : TokenRequest) → NoneIn (λ b. is_needed active r b ≡ true) r.wanted.required
+none_needed active r b above below here =
+    both_ways (is_in r.wanted.required b) (not-true (is_in r.wanted.required b) (and_parts (not (is_in r.wanted.required b)) (list_any (λ q. is_in q.wanted.required b) active) here).0)
+    (and_from (nat_le r.wanted.required.lo b) (nat_le b r.wanted.required.hi) (le-leb r.wanted.required.lo b above) (le-leb b r.wanted.required.hi below))
+
+-- what is left of what the request would like to have holds what it needs
+pub narrowed-largest : (active : List TokenRequest) (r : TokenRequest) → r.wanted.required.lo ≤ r.wanted.required.hi → r.wanted.desired.lo ≤ r.wanted.required.lo → r.wanted.required.hi ≤ r.wanted.desired.hi → IsLargest (λ b. is_needed active r b ≡ true) r.wanted.required r.wanted.desired (narrowed active r)
+narrowed-largest active r order starts ends = largest_is_largest (is_needed active r) r.wanted.required r.wanted.desired order starts ends (none_needed active r)
 
 -- the first of the numbers from 1 that passes
 pub first-next : (passes : ℕ → Bool) (nodes place : ℕ) → place < nodes → ((n : ℕ) → 1 ≤ n → n ≤ place → passes n ≡ false) → passes (place + 1) ≡ true → first passes 1 nodes ≡ place + 1
@@ -82,12 +93,22 @@ none_at_byte s r n free b above below here =
     free here
 
 -- before any row the span is what the request would like to have
-pub narrowed-start : (s : ServerState) (r : TokenRequest) → r.wanted.required.lo ≤ r.wanted.required.hi → r.wanted.desired.lo ≤ r.wanted.required.lo → r.wanted.required.hi ≤ r.wanted.desired.hi → IsNarrowed s r 0 r.wanted.desired
-narrowed-start s r order starts ends = record {
+pub narrowed-start : (s : ServerState) (r : TokenRequest) → r.wanted.required.lo ≤ r.wanted.required.hi → r.wanted.desired.lo ≤ r.wanted.required.lo → r.wanted.required.hi ≤ r.wanted.desired.hi → IsNarrowed s r 0 (narrowed s.active r)
+narrowed-start s r order starts ends =
+    let l = narrowed-largest s.active r order starts ends in
+    record {
+      order = order;
+      starts = l.has_first;
+      ends = l.has_last;
+      value = sym (largest_around-zero (conflicts_at_byte s r) 1 r.wanted.required (narrowed s.active r) order l.has_first l.has_last);
+    }
+
+pub narrowed-begin : (s : ServerState) (r : TokenRequest) → r.wanted.required.lo ≤ r.wanted.required.hi → (narrowed s.active r).lo ≤ r.wanted.required.lo → r.wanted.required.hi ≤ (narrowed s.active r).hi → IsNarrowed s r 0 (narrowed s.active r)
+narrowed-begin s r order starts ends = record {
   order = order;
   starts = starts;
   ends = ends;
-  value = sym (largest_around-zero (conflicts_at_byte s r) 1 r.wanted.required r.wanted.desired order starts ends);
+  value = sym (largest_around-zero (conflicts_at_byte s r) 1 r.wanted.required (narrowed s.active r) order starts ends);
 }
 
 -- it still holds what the request needs
@@ -96,7 +117,7 @@ narrowed-holds s r k span none within n =
     let free : NoneIn (λ b. some_passes (λ n. conflicts_at_byte s r n b) 1 k ≡ true) r.wanted.required = λ b above below some.
     let one = some_passes-first (λ n. conflicts_at_byte s r n b) 1 k some in
     none_at_byte s r _ (no_conflict s r none _ one.above (omega (arith, one.below))) b above below one.here in
-    let l = largest_is_largest _ r.wanted.required r.wanted.desired n.order n.starts n.ends free in
+    let l = largest_is_largest _ r.wanted.required (narrowed s.active r) n.order n.starts n.ends free in
     rw n.value (l.has_first, l.has_last)
 
 -- one more row of another node
@@ -109,7 +130,7 @@ narrowed-more s r k span next none within n other made = record {
       made
       ∙ largest_around-same (λ b. row_conflicts_at (s.rows (k + 1)) b r.mode) (conflicts_at_byte s r (1 + k)) r.wanted.required span same
       ∙ ap (λ span. largest_around (conflicts_at_byte s r (1 + k)) r.wanted.required span) n.value
-      ∙ sym (largest_around-more (conflicts_at_byte s r) 1 r.wanted.required r.wanted.desired n.order n.starts n.ends k (λ j above below. none_at_byte s r j (no_conflict s r none j above (omega arith))));
+      ∙ sym (largest_around-more (conflicts_at_byte s r) 1 r.wanted.required (narrowed s.active r) n.order n.starts n.ends k (λ j above below. none_at_byte s r j (no_conflict s r none j above (omega arith))));
 }
   where
     next_is : k + 1 ≡ 1 + k
@@ -124,7 +145,7 @@ narrowed-skip s r k span n own = record {
   order = n.order;
   starts = n.starts;
   ends = n.ends;
-  value = n.value ∙ sym (largest_around-skip (conflicts_at_byte s r) 1 r.wanted.required r.wanted.desired n.order n.starts n.ends k none);
+  value = n.value ∙ sym (largest_around-skip (conflicts_at_byte s r) 1 r.wanted.required (narrowed s.active r) n.order n.starts n.ends k none);
 }
   where
     next_is : k + 1 ≡ 1 + k
@@ -140,14 +161,14 @@ narrowed-free s r k none within other =
 
 -- after the last row it is the granted span
 pub narrowed-end : (s : ServerState) (r : TokenRequest) (k : ℕ) (span : Range) → IsNarrowed s r k span → k ≡ s.shape.nodes → span ≡ granted_span s r
-narrowed-end s r k span n end = n.value ∙ ap (λ k. largest_around (λ b. some_passes (λ n. conflicts_at_byte s r n b) 1 k) r.wanted.required r.wanted.desired) end
+narrowed-end s r k span n end = n.value ∙ ap (λ k. largest_around (λ b. some_passes (λ n. conflicts_at_byte s r n b) 1 k) r.wanted.required (narrowed s.active r)) end
 
--- what the request would like to have is just what it needs
-pub granted-exact : (s : ServerState) (r : TokenRequest) → s.shape.nodes < conflicting_node s r → r.wanted.required.lo ≤ r.wanted.required.hi → r.wanted.desired.lo ≡ r.wanted.required.lo → r.wanted.desired.hi ≡ r.wanted.required.hi → r.wanted.desired ≡ granted_span s r
+-- what is left of what the request would like to have is just what it needs
+pub granted-exact : (s : ServerState) (r : TokenRequest) → s.shape.nodes < conflicting_node s r → r.wanted.required.lo ≤ r.wanted.required.hi → (narrowed s.active r).lo ≡ r.wanted.required.lo → (narrowed s.active r).hi ≡ r.wanted.required.hi → narrowed s.active r ≡ granted_span s r
 granted-exact s r none order starts ends =
-    sym (largest_around-free (λ b. some_passes (λ n. conflicts_at_byte s r n b) 1 s.shape.nodes) r.wanted.required r.wanted.desired order (omega arith) (omega arith) free)
+    sym (largest_around-free (λ b. some_passes (λ n. conflicts_at_byte s r n b) 1 s.shape.nodes) r.wanted.required (narrowed s.active r) order (omega arith) (omega arith) free)
   where
-    free : NoneIn (λ b. some_passes (λ n. conflicts_at_byte s r n b) 1 s.shape.nodes ≡ true) r.wanted.desired
+    free : NoneIn (λ b. some_passes (λ n. conflicts_at_byte s r n b) 1 s.shape.nodes ≡ true) (narrowed s.active r)
     free b above below some =
         let one = some_passes-first (λ n. conflicts_at_byte s r n b) 1 s.shape.nodes some in
         none_at_byte s r _ (no_conflict s r none _ one.above (omega (arith, one.below))) b (omega arith) (omega arith) one.here

@@ -1,83 +1,86 @@
--- Why a server refuses to serve: for want of a number, which the row alone says.
-use Rattle.std.specs.Prelude.{◌≡◌, ℕ, Bool, true, false, cond, nat_le, nat_lt, List, [], ◌∷◌, is_some, Option, Some, None, Result, Ok, Err}
-use Rattle.std.proofs.Common.{refl, sym, ap, ◌∙◌}
+-- Why a server refuses to serve: for want of a number alone.
+use Rattle.std.specs.Prelude.{◌≡◌, ℕ, Bool, true, false, cond, not, ◌&&◌, nat_le, nat_lt, List, [], ◌∷◌, is_some, Option, Some, None, Result, Ok, Err}
+use Rattle.std.proofs.Common.{sym, ap}
 use Rattle.messages.specs.declared.refusal.StepError.{StepError}
-use Rattle.messages.specs.declared.refusal.StepError.TheVariants.{Spent}
-use Rattle.messages.specs.Messages.{greatest_number}
+use Rattle.messages.specs.declared.refusal.StepError.TheVariants.{Stranger, Spent}
+use Rattle.messages.specs.declared.message.Message.{Message}
+use Rattle.messages.specs.Messages.{greatest_number, addressee, host_of, is_within}
+use Rattle.token_set.specs.Tokens.{Token}
 use Rattle.token_server.specs.declared.token_request.TokenRequest.{TokenRequest}
-use Rattle.token_server.specs.State.{Row, ServerState}
-use Rattle.token_server.specs.Parts.{next_number}
-use Rattle.token_server.specs.Serve.{admitted, conflicting_node, granted_to, revoked_from, served, serve}
-use Rattle.token_server.specs.Sketches.{commands_of, opposing, refusal_of}
+use Rattle.token_server.specs.declared.event.ServerEvent.TheVariants.{Deliver}
+use Rattle.token_server.specs.State.{Row, ServerState, forgotten, requeued}
+use Rattle.token_server.specs.Serve.{conflicting_node, commanded, granted_to, revoked_from, served, with_more, and_then, each_served, ready, serve}
+use Rattle.token_server.specs.Resends.{sending_first, outstanding, resend_rule}
+use Rattle.token_server.specs.Server.{Change, is_server, delivered, then_serve, learn_rule, server_rule}
 
--- what a command to the node of a row would be refused for
-abbrev pub row_refusal : Option Row → Option StepError
-row_refusal None = None
-row_refusal (Some row) = refusal_of (next_number (commands_of row))
+abbrev Answer : Type 0
+Answer = Result (ServerState × List Message) StepError
 
-either-refusal : {A B : Type 0} (b c : Bool) (x y : A) (u v : B) (e : StepError) → refusal_of {A = A} (cond b (Ok x) (cond c (Ok y) (Err e))) ≡ refusal_of {A = B} (cond b (Ok u) (cond c (Ok v) (Err e)))
-either-refusal true c x y u v e = refl
-either-refusal false true x y u v e = refl
-either-refusal false false x y u v e = refl
+commanded-spent : (s : ServerState) (node : ℕ) (row : Row) (token : Token) (command : Message) (e : StepError) → commanded s node row token command ≡ Err e → e ≡ Spent
+commanded-spent s node row token command e = by (is_some row.outstanding) (nat_lt row.number greatest_number) _ _
+  where
+    by : (busy few : Bool) (a b : ServerState × List Message) → ◌≡◌ {A = Answer} (cond busy (Ok a) (cond few (Ok b) (Err Spent))) (Err e) → e ≡ Spent
+    by true few a b h = absurd (cc)
+    by false true a b h = absurd (cc)
+    by false false a b h = let same : Spent ≡ e = cc in sym same
 
-granted-refusal : (s : ServerState) (r : TokenRequest) (row : Option Row) → refusal_of (granted_to s r row) ≡ row_refusal row
-granted-refusal s r None = refl
-granted-refusal s r (Some row) = either-refusal (is_some row.outstanding) (nat_lt row.number greatest_number) _ _ _ _ Spent
-
-revoked-refusal : (s : ServerState) (r : TokenRequest) (node : ℕ) (row : Option Row) → refusal_of (revoked_from s r node row) ≡ row_refusal row
-revoked-refusal s r node None = refl
-revoked-refusal s r node (Some row) = either-refusal (is_some row.outstanding) (nat_lt row.number greatest_number) _ _ _ _ Spent
-
--- the node to which the next command for a request would go
-abbrev pub sought : Option ℕ → TokenRequest → ℕ
-sought None r = r.call.node
-sought (Some node) r = node
-
-pub served-refusal : (s : ServerState) (r : TokenRequest) → refusal_of (served s (Some r)) ≡ row_refusal (s.rows (sought (opposing s (Some r)) r))
-served-refusal s r = by (nat_le node s.shape.nodes)
+served-spent : (s : ServerState) (r : TokenRequest) (e : StepError) → served s r ≡ Err e → e ≡ Spent
+served-spent s r e = by (nat_le node s.shape.nodes)
   where
     node : ℕ
     node = conflicting_node s r
 
-    by : (b : Bool) → refusal_of (cond b (revoked_from s r node (s.rows node)) (granted_to s r (s.rows r.call.node))) ≡ row_refusal (s.rows (sought (cond b (Some node) None) r))
-    by true = revoked-refusal s r node (s.rows node)
-    by false = granted-refusal s r (s.rows r.call.node)
+    granted : (row : Option Row) → granted_to s r row ≡ Err e → e ≡ Spent
+    granted None h = absurd (cc)
+    granted (Some row) h = commanded-spent s r.call.node row _ _ e h
 
--- who is served changes neither the node nor the refusal
-pub opposing-admitted : (s : ServerState) (active : Option TokenRequest) (queue : List TokenRequest) (x : Option TokenRequest) → opposing (admitted s active queue) x ≡ opposing s x
-opposing-admitted s (Some r) queue x = refl
-opposing-admitted s None [] x = refl
-opposing-admitted s None (r ∷ rest) None = refl
-opposing-admitted s None (r ∷ rest) (Some x) = refl
+    revoked : (row : Option Row) → revoked_from s r node row ≡ Err e → e ≡ Spent
+    revoked None h = absurd (cc)
+    revoked (Some row) h = commanded-spent s node row row.token _ e h
 
-pub refusal-admitted : (s : ServerState) (active : Option TokenRequest) (queue : List TokenRequest) (x : Option TokenRequest) → refusal_of (served (admitted s active queue) x) ≡ refusal_of (served s x)
-refusal-admitted s (Some r) queue x = refl
-refusal-admitted s None [] x = refl
-refusal-admitted s None (r ∷ rest) None = refl
-refusal-admitted s None (r ∷ rest) (Some x) = served-refusal (record s { active = Some r; queue = rest }) x ∙ sym (served-refusal s x)
+    by : (b : Bool) → cond b (revoked_from s r node (s.rows node)) (granted_to s r (s.rows r.call.node)) ≡ Err e → e ≡ Spent
+    by true h = revoked (s.rows node) h
+    by false h = granted (s.rows r.call.node) h
 
--- a refusal, by its name
-pub refused-by : {A : Type 0} (a : Result A StepError) (e : StepError) → refusal_of a ≡ Some e → a ≡ Err e
-refused-by (Ok x) e is = absurd (cc)
-refused-by (Err x) e is = let same : x ≡ e = cc in ap Err same
+with_more-spent : (before : List Message) (x : Answer) (e : StepError) → with_more before x ≡ Err e → x ≡ Err e
+with_more-spent before (Err f) e h = h
+with_more-spent before (Ok done) e h = absurd (cc)
 
--- a refusal to serve that is found
-pub refused-some : (s : ServerState) (x : Option TokenRequest) (o : Option StepError) (e : StepError) → x ≡ (admitted s s.active s.queue).active → o ≡ refusal_of (served s x) → o ≡ Some e → serve s ≡ Err e
-refused-some s x o e at found is =
-    refused-by (serve s) e (refusal-admitted s s.active s.queue (admitted s s.active s.queue).active ∙ ap (λ (y : Option TokenRequest). refusal_of (served s y)) (sym at) ∙ sym found ∙ is)
+each_served-spent : (rs : List TokenRequest) (s : ServerState) (e : StepError) → each_served rs s ≡ Err e → e ≡ Spent
+each_served-spent [] s e h = absurd (cc)
+each_served-spent (r ∷ rest) s e h = by (served s r) (served-spent s r e) (λ t. each_served-spent rest t e) h
+  where
+    by : (x : Answer) → (x ≡ Err e → e ≡ Spent) → ((t : ServerState) → each_served rest t ≡ Err e → e ≡ Spent) → and_then x (each_served rest) ≡ Err e → e ≡ Spent
+    by (Err f) first others h = first h
+    by (Ok done) first others h = others done.0 (with_more-spent done.1 (each_served rest done.0) e h)
 
-pub refused-same : (s : ServerState) (e d : StepError) → serve s ≡ Err e → serve s ≡ Err d → e ≡ d
-refused-same s e d one other = let both : Some e ≡ Some d = sym (ap refusal_of one) ∙ ap refusal_of other in cc
+-- what is refused once a server serves is refused for want of a number
+pub serve_first-spent : (first : List Message) (s : ServerState) (e : StepError) → sending_first first (serve s) ≡ Err e → e ≡ Spent
+serve_first-spent first s e h = each_served-spent (ready s).active (ready s) e (by (serve s) h)
+  where
+    by : (x : Answer) → sending_first first x ≡ Err e → x ≡ Err e
+    by (Err f) h = let same : f ≡ e = cc in ap (λ (g : StepError). let a : Answer = Err g in a) same
+    by (Ok done) h = absurd (cc)
 
--- and that there is none
-pub refused-none : (s : ServerState) (x : Option TokenRequest) (o : Option StepError) (e : StepError) → x ≡ (admitted s s.active s.queue).active → o ≡ refusal_of (served s x) → o ≡ None → serve s ≡ Err e → ⊥
-refused-none s x o e at found is refused =
-    let none : Some e ≡ None = sym (ap refusal_of refused) ∙ refusal-admitted s s.active s.queue (admitted s s.active s.queue).active ∙ ap (λ (y : Option TokenRequest). refusal_of (served s y)) (sym at) ∙ sym found ∙ is in
-    absurd (cc)
+pub resend-spent : (s : ServerState) (e : StepError) → resend_rule s ≡ Err e → e ≡ Spent
+resend-spent s e h = serve_first-spent (outstanding s) (requeued s) e h
 
--- the node to which the next command goes, once the first of the queue is served
-pub opposing-then : (s t u : ServerState) (x : Option TokenRequest) → t ≡ s → u ≡ admitted t t.active t.queue → x ≡ (admitted s s.active s.queue).active → opposing s x ≡ opposing u u.active
-opposing-then s t u x settled next at =
-    ap (opposing s) at
-    ∙ sym (opposing-admitted s s.active s.queue (admitted s s.active s.queue).active)
-    ∙ sym (ap (λ (v : ServerState). opposing v v.active) (next ∙ ap (λ (v : ServerState). admitted v v.active v.queue) settled))
+-- so is what comes of a node of the cluster
+pub learn-spent : (s : ServerState) (node incarnation : ℕ) (e : StepError) → is_within s.shape.nodes node ≡ true → learn_rule s node incarnation ≡ Err e → e ≡ Spent
+learn-spent s node incarnation e within h = by (is_within s.shape.nodes node) within h
+  where
+    by : (b : Bool) → b ≡ true → cond (not b) (Err Stranger) (sending_first [] (serve (requeued (forgotten s node incarnation)))) ≡ Err e → e ≡ Spent
+    by true within h = serve_first-spent [] (requeued (forgotten s node incarnation)) e h
+    by false within h = absurd (cc)
+
+pub deliver-spent : (s : ServerState) (m : Message) (e : StepError) → (is_server s.file (addressee m) && is_within s.shape.nodes (host_of m).node) ≡ true → server_rule s (Deliver m) ≡ Err e → e ≡ Spent
+deliver-spent s m e ours h = by (is_server s.file (addressee m) && is_within s.shape.nodes (host_of m).node) (nat_le (host_of m).incarnation (s.dead (host_of m).node)) ours h
+  where
+    goes : (o : Option Change) → then_serve s (Ok o) ≡ Err e → e ≡ Spent
+    goes None h = absurd (cc)
+    goes (Some c) h = serve_first-spent c.1 c.0 e h
+
+    by : (b dead : Bool) → b ≡ true → then_serve s (cond (not b) (Err Stranger) (cond dead (Ok None) (Ok (delivered s m)))) ≡ Err e → e ≡ Spent
+    by true true ours h = goes None h
+    by true false ours h = goes (delivered s m) h
+    by false dead ours h = absurd (cc)

@@ -13,9 +13,9 @@ use Rattle.token_server.specs.declared.node_change.NodeChange.TheVariants.{Asked
 use Rattle.token_server.specs.declared.sketch.Moved.{Moved}
 use Rattle.token_server.specs.declared.sketch.Moved.TheVariants.{Nothing}
 use Rattle.token_server.specs.declared.sketch.Changed.{Changed}
-use Rattle.token_server.specs.State.{Row, ServerState, row_above, is_of_call, is_up_to, unless, forgotten}
+use Rattle.token_server.specs.State.{Row, ServerState, row_above, is_of_call, is_up_to, forgotten}
 use Rattle.token_server.specs.Parts.{ServerParts, server_state, with_change}
-use Rattle.token_server.specs.Server.{with_a_row, is_active, request_of, enqueued_with, enqueued, asked}
+use Rattle.token_server.specs.Server.{with_a_row, request_of, enqueued_with, enqueued, asked}
 use Rattle.token_server.specs.Sketches.{row_or_empty, rows_after, moved_with, moved_for, sketched}
 use Rattle.token_server.proofs.RequestLaws.{find-any, find-filter}
 
@@ -58,7 +58,7 @@ with_a_row-is s call (Some row) is = λ i. record s { rows = (sym (row_there cal
 of_call-young : (own asked : CallId) → 1 ≤ asked.incarnation → same_call own asked ≡ true → not ((own.node == asked.node) && nat_le own.incarnation (asked.incarnation - 1)) ≡ true
 of_call-young own asked counted same = grind (arith, common_steps)
 
-asked-sketched : (p : ServerParts) (r : TokenRequest) → 1 ≤ r.call.incarnation → sketched p (record { changed = Some (record { node = r.call.node; change = Asked (host_of_call r.call) }); moved = moved_for r (unless (is_up_to r.call.node (r.call.incarnation - 1)) p.active) p.queue p.waiting; active = unless (is_up_to r.call.node (r.call.incarnation - 1)) p.active }) ≡ asked (server_state p) r
+asked-sketched : (p : ServerParts) (r : TokenRequest) → 1 ≤ r.call.incarnation → sketched p (record { changed = Some (record { node = r.call.node; change = Asked (host_of_call r.call) }); moved = moved_for r p.active p.queue p.waiting; ended = None }) ≡ asked (server_state p) r
 asked-sketched p r counted = moves ∙ same_test ∙ ap (λ (s : ServerState). enqueued s r) (sym rowed)
   where
     node : ℕ
@@ -73,9 +73,6 @@ asked-sketched p r counted = moves ∙ same_test ∙ ap (λ (s : ServerState). e
     young : ServerState
     young = forgotten (server_state p) node old
 
-    active : Option TokenRequest
-    active = unless (is_up_to node old) p.active
-
     changed : Option Changed
     changed = Some (record { node = node; change = Asked (host_of_call r.call) })
 
@@ -83,7 +80,7 @@ asked-sketched p r counted = moves ∙ same_test ∙ ap (λ (s : ServerState). e
     base = record young { rows = rows_after changed (server_state p).rows }
 
     made : Moved → ServerState
-    made m = sketched p (record { changed = changed; moved = m; active = active })
+    made m = sketched p (record { changed = changed; moved = m; ended = None })
 
     rowed : with_a_row young r.call (young.rows node) ≡ base
     rowed = with_a_row-is young r.call (young.rows node) refl ∙ (λ i. record young { rows = change_twice node (row_or_empty r.call.incarnation) (row_above old) (server_state p).rows i })
@@ -92,7 +89,7 @@ asked-sketched p r counted = moves ∙ same_test ∙ ap (λ (s : ServerState). e
     kept requests = find-filter (is_of_call r.call) keeps requests (λ x is. of_call-young x.call r.call counted is)
 
     test : Bool
-    test = is_active r.call active || is_some (request_of r.call p.queue)
+    test = is_some (request_of r.call p.active) || is_some (request_of r.call p.queue)
 
     one : (o : Option TokenRequest) → made (moved_with r o) ≡ enqueued_with base r o
     one None = refl
@@ -102,17 +99,17 @@ asked-sketched p r counted = moves ∙ same_test ∙ ap (λ (s : ServerState). e
     by true o = refl
     by false o = one o
 
-    moves : made (moved_for r active p.queue p.waiting) ≡ cond test base (enqueued_with base r (request_of r.call p.waiting))
+    moves : made (moved_for r p.active p.queue p.waiting) ≡ cond test base (enqueued_with base r (request_of r.call p.waiting))
     moves = by test (request_of r.call p.waiting)
 
-    tests : is_some (request_of r.call p.queue) ≡ list_any (is_of_call r.call) (filter keeps p.queue)
-    tests = ap is_some (sym (kept p.queue)) ∙ find-any (is_of_call r.call) (filter keeps p.queue)
+    tests : (requests : List TokenRequest) → is_some (request_of r.call requests) ≡ list_any (is_of_call r.call) (filter keeps requests)
+    tests requests = ap is_some (sym (kept requests)) ∙ find-any (is_of_call r.call) (filter keeps requests)
 
     same_test : cond test base (enqueued_with base r (request_of r.call p.waiting)) ≡ enqueued base r
-    same_test = λ i. cond (is_active r.call active || tests i) base (enqueued_with base r (sym (kept p.waiting) i))
+    same_test = λ i. cond (tests p.active i || tests p.queue i) base (enqueued_with base r (sym (kept p.waiting) i))
 
 -- what a request changes
-pub asked-from : (p : ServerParts) (r : TokenRequest) (node : ℕ) (host : HostFields) (active : Option TokenRequest) (moved : Moved) → 1 ≤ r.call.incarnation → node ≡ r.call.node → host ≡ host_of_call r.call → active ≡ unless (is_up_to r.call.node (r.call.incarnation - 1)) p.active → moved ≡ moved_for r active p.queue p.waiting → sketched p (record { changed = Some (record { node = node; change = Asked host }); moved = moved; active = active }) ≡ asked (server_state p) r
-asked-from p r node host active moved counted at by left is =
-    (λ i. sketched p (record { changed = Some (record { node = at i; change = Asked (by i) }); moved = (is ∙ ap (λ (a : Option TokenRequest). moved_for r a p.queue p.waiting) left) i; active = left i }))
+pub asked-from : (p : ServerParts) (r : TokenRequest) (node : ℕ) (host : HostFields) (moved : Moved) → 1 ≤ r.call.incarnation → node ≡ r.call.node → host ≡ host_of_call r.call → moved ≡ moved_for r p.active p.queue p.waiting → sketched p (record { changed = Some (record { node = node; change = Asked host }); moved = moved; ended = None }) ≡ asked (server_state p) r
+asked-from p r node host moved counted at by is =
+    (λ i. sketched p (record { changed = Some (record { node = at i; change = Asked (by i) }); moved = is i; ended = None }))
     ∙ asked-sketched p r counted

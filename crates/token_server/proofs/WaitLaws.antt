@@ -1,6 +1,6 @@
 -- A request that waits is kept.
 use Rattle.std.specs.Prelude.{◌≡◌, ◌⊎◌, ℕ, ◌-◌, ◌≤◌, ◌==◌, Bool, true, false, not, cond, max, if◌then◌else◌, ◌&&◌, ◌||◌, nat_le, nat_lt, List, [], ◌∷◌, ◌++◌, filter, find, is_some, IfSome, option_map, Option, Some, None, Result, Ok, Err}
-use Rattle.std.specs.List.{list_any, cons_option}
+use Rattle.std.specs.List.{list_any}
 use Rattle.std.proofs.Common.{refl, ap, sym, subst, ◌∙◌, inl, inr, arith, append-nil}
 use Rattle.std.proofs.lemmas.Grind.{common_steps}
 use Rattle.std.proofs.lemmas.List.Folds.{list_any-append}
@@ -18,9 +18,9 @@ use Rattle.token_set.specs.Releases.{lowered}
 use Rattle.token_server.specs.declared.token_request.TokenRequest.{TokenRequest}
 use Rattle.token_server.specs.declared.event.ServerEvent.TheVariants.{Deliver, Resend, Learn}
 use Rattle.token_server.specs.State.{Row, ServerState, is_of_call, is_up_to, forgotten, requests, requeued}
-use Rattle.token_server.specs.Serve.{admitted, conflicting_node, commanded, granted_to, revoked_from, served, serve}
+use Rattle.token_server.specs.Serve.{meets_some, admitted, conflicting_node, commanded, granted_to, revoked_from, served, with_more, and_then, each_served, ready, serve}
 use Rattle.token_server.specs.Resends.{outstanding, sending_first}
-use Rattle.token_server.specs.Server.{Change, with_a_row, is_active, request_of, enqueued_with, enqueued, asked, is_grant, revoked_mode, acknowledged, ended, put_off, postponed, denial, taken, released, in_conflict, row_of_host, freed, delivered, is_server, then_serve}
+use Rattle.token_server.specs.Server.{Change, with_a_row, request_of, enqueued_with, enqueued, asked, is_grant, revoked_mode, acknowledged, ended, put_off, postponed, denial, taken, released, in_conflict, row_of_host, freed, delivered, is_server, then_serve}
 use Rattle.token_server.specs.Waiting.{KeepsWhatWaits}
 
 -- the call has one of the requests
@@ -39,21 +39,24 @@ or-right : (b c : Bool) → c ≡ true → b || c ≡ true
 or-right true c h = refl
 or-right false c h = h
 
+or-cases : (b c : Bool) → b || c ≡ true → (b ≡ true) ⊎ (c ≡ true)
+or-cases true c h = inl refl
+or-cases false c h = inr h
+
+has-either : (call : CallId) (xs ys : List TokenRequest) → Has call (xs ++ ys) → Has call xs ⊎ Has call ys
+has-either call xs ys h = or-cases (list_any (is_of_call call) xs) (list_any (is_of_call call) ys) (sym (list_any-append (is_of_call call) xs ys) ∙ h)
+
 has-front : (call : CallId) (xs ys : List TokenRequest) → Has call xs → Has call (xs ++ ys)
 has-front call xs ys h = list_any-append (is_of_call call) xs ys ∙ or-left (list_any (is_of_call call) xs) (list_any (is_of_call call) ys) h
 
 has-back : (call : CallId) (xs ys : List TokenRequest) → Has call ys → Has call (xs ++ ys)
 has-back call xs ys h = list_any-append (is_of_call call) xs ys ∙ or-right (list_any (is_of_call call) xs) (list_any (is_of_call call) ys) h
 
-has-later : (call : CallId) (active : Option TokenRequest) (rest : List TokenRequest) → Has call rest → Has call (cons_option active rest)
-has-later call None rest h = h
-has-later call (Some r) rest h = or-right (is_of_call call r) (list_any (is_of_call call) rest) h
-
 queued-kept : (call : CallId) (s : ServerState) → Has call s.queue → IsKept call s
-queued-kept call s h = inl (has-later call s.active (s.queue ++ s.waiting) (has-front call s.queue s.waiting h))
+queued-kept call s h = inl (has-back call s.active (s.queue ++ s.waiting) (has-front call s.queue s.waiting h))
 
 waiting-kept : (call : CallId) (s : ServerState) → Has call s.waiting → IsKept call s
-waiting-kept call s h = inl (has-later call s.active (s.queue ++ s.waiting) (has-back call s.queue s.waiting h))
+waiting-kept call s h = inl (has-back call s.active (s.queue ++ s.waiting) (has-back call s.queue s.waiting h))
 
 -- a request that passes, and does not stay
 record IsLost (test stays : TokenRequest → Bool) : Type 0 where
@@ -120,14 +123,14 @@ enqueued_with-kept call s r (Some own) is h =
 
 enqueued-kept : (call : CallId) (s : ServerState) (r : TokenRequest) → Has call s.waiting → IsKept call (enqueued s r)
 enqueued-kept call s r h =
-    elim (is_active r.call s.active || list_any (is_of_call r.call) s.queue) as (λ b. IsKept call (cond b s (enqueued_with s r (request_of r.call s.waiting)))) [
+    elim (list_any (is_of_call r.call) s.active || list_any (is_of_call r.call) s.queue) as (λ b. IsKept call (cond b s (enqueued_with s r (request_of r.call s.waiting)))) [
       | true ↦ waiting-kept call s h
       | false ↦ enqueued_with-kept call s r (request_of r.call s.waiting) refl h
     ]
 
 enqueued-dead : (call : CallId) (s : ServerState) (r : TokenRequest) → call.incarnation ≤ s.dead call.node → IsKept call (enqueued s r)
 enqueued-dead call s r h =
-    elim (is_active r.call s.active || list_any (is_of_call r.call) s.queue) as (λ b. IsKept call (cond b s (enqueued_with s r (request_of r.call s.waiting)))) [
+    elim (list_any (is_of_call r.call) s.active || list_any (is_of_call r.call) s.queue) as (λ b. IsKept call (cond b s (enqueued_with s r (request_of r.call s.waiting)))) [
       | true ↦ inr h
       | false ↦ elim (request_of r.call s.waiting) as (λ own. IsKept call (enqueued_with s r own)) [ None ↦ inr h | Some own ↦ inr h ]
     ]
@@ -145,7 +148,7 @@ asked-kept call s r h =
     asked_with-kept call young r (young.rows r.call.node) (forgotten-waiting call s r.call.node (r.call.incarnation - 1) h)
 
 requeued-requests : (s : ServerState) → requests (requeued s) ≡ requests s
-requeued-requests s = ap (cons_option s.active) (append-nil (s.queue ++ s.waiting))
+requeued-requests s = ap (λ (rs : List TokenRequest). s.active ++ rs) (append-nil (s.queue ++ s.waiting))
 
 requeued-kept : (call : CallId) (s : ServerState) → IsKept call s → IsKept call (requeued s)
 requeued-kept call s (inl h) = inl (ap (list_any (is_of_call call)) (requeued-requests s) ∙ h)
@@ -189,11 +192,11 @@ delivered-leaves call s (Conflict file number holder own lock) h = by (row_of_ho
     by None = tt
     by (Some row) =
         let next = postponed own (acknowledged s holder.node row row.token) in
-        mapped-leaves call (next, denial own (Deny s.file own holder number lock) s.active) (revoked_mode number row.outstanding) (waiting-kept call next (has-front call s.waiting (put_off own s.active) h))
+        mapped-leaves call (next, denial (Deny s.file own holder number lock) (request_of own s.active)) (revoked_mode number row.outstanding) (waiting-kept call next (has-front call s.waiting (put_off (request_of own s.active)) h))
 delivered-leaves call s (Deny file own holder number lock) h = tt
 delivered-leaves call s (Freed file holder) h = freed-kept call s (row_of_host s holder) (waiting-kept call s h)
 
--- to serve leaves the requests, and what is known as dead
+-- to serve the requests leaves them, and what is known as dead
 abbrev Stays : ServerState → Result (ServerState × List Message) StepError → Type 0
 Stays s a = (new : ServerState) (sends : List Message) → a ≡ Ok (new, sends) → (requests new ≡ requests s) × (new.dead ≡ s.dead)
 
@@ -222,27 +225,71 @@ revoked-stays : (s : ServerState) (r : TokenRequest) (node : ℕ) (row : Option 
 revoked-stays s r node None = stays-ok s s [] refl refl
 revoked-stays s r node (Some row) = commanded-stays s node row _ _
 
-served-stays : (s : ServerState) (r : Option TokenRequest) → Stays s (served s r)
-served-stays s None = stays-ok s s [] refl refl
-served-stays s (Some r) =
+served-stays : (s : ServerState) (r : TokenRequest) → Stays s (served s r)
+served-stays s r =
     let node = conflicting_node s r in
     picked-stays s (nat_le node s.shape.nodes) _ _ (revoked-stays s r node (s.rows node)) (granted-stays s r (s.rows r.call.node))
 
-admitted-requests : (s : ServerState) (active : Option TokenRequest) (queue : List TokenRequest) → s.active ≡ active → s.queue ≡ queue → requests (admitted s active queue) ≡ requests s
-admitted-requests s (Some r) queue served line = refl
-admitted-requests s None [] served line = refl
-admitted-requests s None (r ∷ rest) served line = sym (λ i. cons_option (served i) (line i ++ s.waiting))
+-- one after the other
+each-stays : (rs : List TokenRequest) (s : ServerState) → Stays s (each_served rs s)
+each-stays [] s = stays-ok s s [] refl refl
+each-stays (r ∷ rest) s = by (served s r) (served-stays s r) (each-stays rest)
+  where
+    more : (t : ServerState) (sent : List Message) (x : Result (ServerState × List Message) StepError) → requests t ≡ requests s → t.dead ≡ s.dead → Stays t x → Stays s (with_more sent x)
+    more t sent (Err e) same known stays = stays-err s e
+    more t sent (Ok done) same known stays =
+        let last = stays done.0 done.1 refl in
+        stays-ok s done.0 (sent ++ done.1) (last.0 ∙ same) (last.1 ∙ known)
 
-admitted-dead : (s : ServerState) (active : Option TokenRequest) (queue : List TokenRequest) → (admitted s active queue).dead ≡ s.dead
-admitted-dead s (Some r) queue = refl
-admitted-dead s None [] = refl
-admitted-dead s None (r ∷ rest) = refl
+    by : (x : Result (ServerState × List Message) StepError) → Stays s x → ((t : ServerState) → Stays t (each_served rest t)) → Stays s (and_then x (each_served rest))
+    by (Err e) stays later = stays-err s e
+    by (Ok done) stays later =
+        let first = stays done.0 done.1 refl in
+        more done.0 done.1 (each_served rest done.0) first.0 first.1 (later done.0)
 
-serve-stays : (s : ServerState) → Stays s (serve s)
-serve-stays s new sends is =
-    let next = admitted s s.active s.queue in
-    let stays = served-stays next next.active new sends is in
-    (stays.0 ∙ admitted-requests s s.active s.queue refl refl, stays.1 ∙ admitted-dead s s.active s.queue)
+-- one that is served or that stays is one of the two lists, in which it may have moved
+admitted-has : (call : CallId) (active staying queue : List TokenRequest) → (Has call active ⊎ Has call staying) ⊎ Has call queue → (let next = admitted active staying queue in Has call next.0 ⊎ Has call next.1)
+admitted-has call active staying [] (inl here) = here
+admitted-has call active staying [] (inr none) = absurd (cc)
+admitted-has call active staying (r ∷ rest) has =
+    let Q : List TokenRequest × List TokenRequest → Type 0 = λ next. Has call next.0 ⊎ Has call next.1 in
+    elim (meets_some r active || meets_some r staying) as (λ t. Q (cond t (admitted active (staying ++ r ∷ []) rest) (admitted (active ++ r ∷ []) staying rest))) [
+      | true ↦ admitted-has call active (staying ++ r ∷ []) rest (stays has)
+      | false ↦ admitted-has call (active ++ r ∷ []) staying rest (goes has)
+    ]
+  where
+    last : (xs : List TokenRequest) → is_of_call call r ≡ true → Has call (xs ++ r ∷ [])
+    last xs own = has-back call xs (r ∷ []) (or-left (is_of_call call r) false own)
+
+    stays : (Has call active ⊎ Has call staying) ⊎ Has call (r ∷ rest) → (Has call active ⊎ Has call (staying ++ r ∷ [])) ⊎ Has call rest
+    stays (inl (inl h)) = inl (inl h)
+    stays (inl (inr h)) = inl (inr (has-front call staying (r ∷ []) h))
+    stays (inr h) = elim (or-cases (is_of_call call r) (list_any (is_of_call call) rest) h) [ inl own ↦ inl (inr (last staying own)) | inr later ↦ inr later ]
+
+    goes : (Has call active ⊎ Has call staying) ⊎ Has call (r ∷ rest) → (Has call (active ++ r ∷ []) ⊎ Has call staying) ⊎ Has call rest
+    goes (inl (inl h)) = inl (inl (has-front call active (r ∷ []) h))
+    goes (inl (inr h)) = inl (inr h)
+    goes (inr h) = elim (or-cases (is_of_call call r) (list_any (is_of_call call) rest) h) [ inl own ↦ inl (inl (last active own)) | inr later ↦ inr later ]
+
+ready-has : (call : CallId) (s : ServerState) → Has call (requests s) → Has call (requests (ready s))
+ready-has call s h = elim (has-either call s.active (s.queue ++ s.waiting) h) [
+  | inl active ↦ moved (admitted-has call s.active [] s.queue (inl (inl active)))
+  | inr rest ↦ elim (has-either call s.queue s.waiting rest) [
+    | inl queued ↦ moved (admitted-has call s.active [] s.queue (inr queued))
+    | inr waits ↦ has-back call next.active (next.queue ++ s.waiting) (has-back call next.queue s.waiting waits)
+  ]
+]
+  where
+    next : ServerState
+    next = ready s
+
+    moved : Has call next.active ⊎ Has call next.queue → Has call (requests next)
+    moved (inl active) = has-front call next.active (next.queue ++ s.waiting) active
+    moved (inr queued) = has-back call next.active (next.queue ++ s.waiting) (has-front call next.queue s.waiting queued)
+
+ready-kept : (call : CallId) (s : ServerState) → IsKept call s → IsKept call (ready s)
+ready-kept call s (inl h) = inl (ready-has call s h)
+ready-kept call s (inr h) = inr h
 
 same-kept : (call : CallId) (s new : ServerState) → requests new ≡ requests s → new.dead ≡ s.dead → IsKept call s → IsKept call new
 same-kept call s new same known (inl h) = inl (ap (list_any (is_of_call call)) same ∙ h)
@@ -257,7 +304,7 @@ sent-kept call s commands (Ok done) new out stays kept is =
     subst (IsKept call) made (same-kept call s done.0 same.0 same.1 kept)
 
 serve-kept : (call : CallId) (s : ServerState) (commands : List Message) (new : ServerState) (out : Outcome) → IsKept call s → sending_first commands (serve s) ≡ Ok (new, out) → IsKept call new
-serve-kept call s commands new out kept is = sent-kept call s commands (serve s) new out (serve-stays s) kept is
+serve-kept call s commands new out kept is = sent-kept call (ready s) commands (serve s) new out (each-stays (ready s).active (ready s)) (ready-kept call s kept) is
 
 then_serve-kept : (call : CallId) (s : ServerState) (o : Option Change) (new : ServerState) (out : Outcome) → IsKept call s → Leaves call o → then_serve s (Ok o) ≡ Ok (new, out) → IsKept call new
 then_serve-kept call s None new out kept leaves is =

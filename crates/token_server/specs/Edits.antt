@@ -90,7 +90,7 @@ put_after (Some put) queue = if nat_le (length queue) put.most then queue ++ put
 
 -- the server's parts once the draft is made
 abbrev pub drafted_parts : Draft → ServerParts → ServerParts
-drafted_parts e p = record p { clients = overlaid p.clients e.rows; queue = put_after e.put (queue_after e.queue p.queue); active = e.active; waiting = queue_after e.waiting p.waiting }
+drafted_parts e p = record p { clients = overlaid p.clients e.rows; queue = put_after e.put (queue_after e.queue p.queue); active = queue_after e.active p.active; waiting = queue_after e.waiting p.waiting }
 
 -- the state that they stand for
 abbrev pub drafted : ServerParts → Draft → ServerState
@@ -117,10 +117,14 @@ given_to_client g (Some client) = given_to_row g.commands g.token client.row
 abbrev pub with_given_row : Given → List Client → ℕ → Option Row
 with_given_row g clients n = if n == g.place + 1 then given_to_client g (client_at clients n) else rows_of clients n
 
-abbrev pub with_given : Option Given → ServerParts → ServerState
-with_given None p = server_state p
-with_given (Some g) p = record (server_state p) { rows = with_given_row g p.clients }
+-- once these are given, of which the first counts for a node
+abbrev pub given_rows : List Given → List Client → ℕ → Option Row
+given_rows [] clients n = rows_of clients n
+given_rows (g ∷ gs) clients n = if n == g.place + 1 then given_to_client g (client_at clients n) else given_rows gs clients n
+
+abbrev pub with_given : List Given → ServerParts → ServerState
+with_given gs p = record (server_state p) { rows = given_rows gs p.clients }
 
 -- the state of a server once the edit is made
 abbrev pub planned : ServerParts → Edit → ServerState
-planned p e = with_given e.parts.value.given (drafted_parts e.parts.value.draft p)
+planned p e = with_given e.parts.value.given.items (drafted_parts e.parts.value.draft p)

@@ -93,13 +93,13 @@ given span mode command row = record row { token = raised row.token span mode; n
 abbrev pub with_change : ℕ → (Option Row → Option Row) → (ℕ → Option Row) → ℕ → Option Row
 with_change node f rows n = if n == node then f (rows n) else rows n
 
--- of one file: what it knows of each node, from node 1 on; the requests that are queued, the one that is served, and those that wait
+-- of one file: what it knows of each node, from node 1 on; the requests that are queued, those that are served, and those that wait
 pub record ServerParts : Type 0 where
   pub shape : ShapeFields
   pub file : ℕ
   pub clients : List Client
   pub queue : List TokenRequest
-  pub active : Option TokenRequest
+  pub active : List TokenRequest
   pub waiting : List TokenRequest
 
 -- there is a client for each node, and the file is one of the cluster's

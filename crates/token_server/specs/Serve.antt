@@ -1,9 +1,12 @@
 -- The server serves its requests.
-use Rattle.std.specs.Prelude.{ℕ, ◌+◌, Bool, false, not, ◌&&◌, ◌==◌, nat_le, nat_lt, if◌then◌else◌, List, [], ◌∷◌, is_some, Option, Some, None, Result, Ok, Err}
+use Rattle.std.specs.Prelude.{ℕ, ◌+◌, Bool, false, not, ◌&&◌, ◌||◌, ◌==◌, nat_le, nat_lt, if◌then◌else◌, List, [], ◌∷◌, ◌++◌, is_some, Option, Some, None, Result, Ok, Err}
+use Rattle.std.specs.List.{list_any}
 use Rattle.intervals.specs.Search.{first, some_passes}
-use Rattle.intervals.specs.Bytes.{Range, largest_around}
+use Rattle.intervals.specs.Bytes.{Range, is_in, largest_around}
 use Rattle.model.specs.declared.mode.Mode.{Mode}
+use Rattle.model.specs.declared.host.Host.{Host}
 use Rattle.token_set.specs.Tokens.{Token, raised, conflicts, level_conflicts}
+use Rattle.messages.specs.Wants.{Wants}
 use Rattle.messages.specs.declared.refusal.StepError.{StepError}
 use Rattle.messages.specs.declared.refusal.StepError.TheVariants.{Spent}
 use Rattle.messages.specs.declared.message.Message.{Message}
@@ -12,11 +15,21 @@ use Rattle.messages.specs.Messages.{greatest_number}
 use Rattle.token_server.specs.declared.token_request.TokenRequest.{TokenRequest}
 use Rattle.token_server.specs.State.{Row, ServerState, with_row}
 
--- without a request that is served the first of the queue is
-abbrev pub admitted : ServerState → Option TokenRequest → List TokenRequest → ServerState
-admitted s (Some r) queue = s
-admitted s None [] = s
-admitted s None (r ∷ rest) = record s { active = Some r; queue = rest }
+-- the spans have a byte in common
+abbrev pub meets : Range → Range → Bool
+meets s t = nat_le s.lo t.hi && nat_le t.lo s.hi
+
+-- the request needs a byte that one of these needs
+abbrev pub meets_some : TokenRequest → List TokenRequest → Bool
+meets_some r others = list_any (λ q. meets r.wanted.required q.wanted.required) others
+
+-- through the queue from its front: a request that needs no byte of one that is served, nor of one before it that stays queued, is served from then on, last of all. Those that are served then, and those that stay
+abbrev pub admitted : List TokenRequest → List TokenRequest → List TokenRequest → List TokenRequest × List TokenRequest
+admitted active staying [] = (active, staying)
+admitted active staying (r ∷ rest) =
+    if meets_some r active || meets_some r staying
+    then admitted active (staying ++ r ∷ []) rest
+    else admitted (active ++ r ∷ []) staying rest
 
 abbrev pub row_conflicts : Option Row → Range → Mode → Bool
 row_conflicts None s mode = false
@@ -26,13 +39,21 @@ abbrev pub row_conflicts_at : Option Row → ℕ → Mode → Bool
 row_conflicts_at None b mode = false
 row_conflicts_at (Some row) b mode = level_conflicts (row.token b) mode
 
+-- a request that is served needs the byte, and this one doesn't
+abbrev pub is_needed : List TokenRequest → TokenRequest → ℕ → Bool
+is_needed active r b = not (is_in r.wanted.required b) && list_any (λ q. is_in q.wanted.required b) active
+
+-- what the request would like to have, without the bytes that another one that is served needs
+abbrev pub narrowed : List TokenRequest → TokenRequest → Range
+narrowed active r = largest_around (is_needed active r) r.wanted.required r.wanted.desired
+
 -- another node's row conflicts at the byte
 abbrev pub is_taken : ServerState → TokenRequest → ℕ → Bool
 is_taken s r b = some_passes (λ n. not (n == r.call.node) && row_conflicts_at (s.rows n) b r.mode) 1 s.shape.nodes
 
--- the span that a request is granted: the largest that it would like to have
+-- the span that a request is granted: the largest of that
 abbrev pub granted_span : ServerState → TokenRequest → Range
-granted_span s r = largest_around (is_taken s r) r.wanted.required r.wanted.desired
+granted_span s r = largest_around (is_taken s r) r.wanted.required (narrowed s.active r)
 
 -- the least other node whose row conflicts with what the request needs, or the number after the last
 abbrev pub conflicting_node : ServerState → TokenRequest → ℕ
@@ -56,16 +77,39 @@ granted_to s r (Some row) =
 abbrev pub revoked_from : ServerState → TokenRequest → ℕ → Option Row → Result (ServerState × List Message) StepError
 revoked_from s r node None = Ok (s, [])
 revoked_from s r node (Some row) =
-    commanded s node row row.token (Revoke s.file (row.number + 1) (record { node = node; incarnation = row.incarnation }) r.call r.mode r.wanted)
+    let holder : Host = record { node = node; incarnation = row.incarnation } in
+    let wanted : Wants = record { required = r.wanted.required; desired = narrowed s.active r } in
+    commanded s node row row.token (Revoke s.file (row.number + 1) holder r.call r.mode wanted)
 
 -- the request is granted; but where other nodes' rows conflict with it, the token of the least such node is revoked first
-abbrev pub served : ServerState → Option TokenRequest → Result (ServerState × List Message) StepError
-served s None = Ok (s, [])
-served s (Some r) =
+abbrev pub served : ServerState → TokenRequest → Result (ServerState × List Message) StepError
+served s r =
     let node = conflicting_node s r in
     if nat_le node s.shape.nodes then revoked_from s r node (s.rows node) else granted_to s r (s.rows r.call.node)
 
+-- those messages come first
+abbrev pub with_more : List Message → Result (ServerState × List Message) StepError → Result (ServerState × List Message) StepError
+with_more before (Err e) = Err e
+with_more before (Ok done) = Ok (done.0, before ++ done.1)
+
+-- first the one, then the other
+abbrev pub and_then : Result (ServerState × List Message) StepError → (ServerState → Result (ServerState × List Message) StepError) → Result (ServerState × List Message) StepError
+and_then (Err e) next = Err e
+and_then (Ok done) next = with_more done.1 (next done.0)
+
+-- the requests are served in order: each sees the rows as those before it left them
+abbrev pub each_served : List TokenRequest → ServerState → Result (ServerState × List Message) StepError
+each_served [] s = Ok (s, [])
+each_served (r ∷ rest) s = and_then (served s r) (each_served rest)
+
+-- requests come from the queue
+abbrev pub ready : ServerState → ServerState
+ready s =
+    let next = admitted s.active [] s.queue in
+    record s { active = next.0; queue = next.1 }
+
+-- then all that are served are
 abbrev pub serve : ServerState → Result (ServerState × List Message) StepError
 serve s =
-    let next = admitted s s.active s.queue in
-    served next next.active
+    let next = ready s in
+    each_served next.active next

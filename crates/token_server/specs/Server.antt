@@ -21,7 +21,7 @@ use Rattle.messages.specs.Messages.{addressee, host_of, is_within, same_urgency,
 use Rattle.token_server.specs.declared.token_request.TokenRequest.{TokenRequest}
 use Rattle.token_server.specs.declared.event.ServerEvent.{ServerEvent}
 use Rattle.token_server.specs.declared.event.ServerEvent.TheVariants.{Deliver, Resend, Learn}
-use Rattle.token_server.specs.State.{Row, ServerState, empty_row, with_row, is_of_call, unless, forgotten, requeued}
+use Rattle.token_server.specs.State.{Row, ServerState, empty_row, with_row, is_of_call, forgotten, requeued}
 use Rattle.token_server.specs.Serve.{serve}
 use Rattle.token_server.specs.Resends.{sending_first, resend_rule}
 
@@ -32,10 +32,6 @@ Change = ServerState × List Message
 abbrev pub with_a_row : ServerState → CallId → Option Row → ServerState
 with_a_row s call None = with_row s call.node (Some (empty_row call.incarnation))
 with_a_row s call (Some row) = s
-
-abbrev pub is_active : CallId → Option TokenRequest → Bool
-is_active call None = false
-is_active call (Some r) = is_of_call call r
 
 -- the first request of the call, if there is one
 abbrev pub request_of : CallId → List TokenRequest → Option TokenRequest
@@ -48,7 +44,7 @@ enqueued_with s r (Some own) = record s { queue = s.queue ++ own ∷ []; waiting
 
 -- a request whose call is queued or served already is not added
 abbrev pub enqueued : ServerState → TokenRequest → ServerState
-enqueued s r = if is_active r.call s.active || list_any (is_of_call r.call) s.queue then s else enqueued_with s r (request_of r.call s.waiting)
+enqueued s r = if list_any (is_of_call r.call) s.active || list_any (is_of_call r.call) s.queue then s else enqueued_with s r (request_of r.call s.waiting)
 
 -- a request makes older incarnations of its node known as dead, and makes a row where there is none
 abbrev pub asked : ServerState → TokenRequest → ServerState
@@ -72,28 +68,28 @@ acknowledged s node row token = with_row s node (Some (record row { token = toke
 
 -- the request of the call is served no longer
 abbrev pub ended : CallId → ServerState → ServerState
-ended call s = record s { active = unless (is_of_call call) s.active }
+ended call s = record s { active = filter (λ r. not (is_of_call call r)) s.active }
 
--- the one that is served, where it is of the call and may wait
-abbrev pub put_off : CallId → Option TokenRequest → List TokenRequest
-put_off call None = []
-put_off call (Some r) = if is_of_call call r && same_urgency r.urgency Waits then r ∷ [] else []
+-- the request, if there is one and it may wait
+abbrev pub put_off : Option TokenRequest → List TokenRequest
+put_off None = []
+put_off (Some r) = if same_urgency r.urgency Waits then r ∷ [] else []
 
 -- the request of the call is served no longer; where it may wait it comes last of those that do
 abbrev pub postponed : CallId → ServerState → ServerState
-postponed call s = record (ended call s) { waiting = s.waiting ++ put_off call s.active }
+postponed call s = record (ended call s) { waiting = s.waiting ++ put_off (request_of call s.active) }
 
--- the call is denied, where its request is the one that is served and may not wait
-abbrev pub denial : CallId → Message → Option TokenRequest → List Message
-denial call deny None = []
-denial call deny (Some r) = if is_of_call call r && same_urgency r.urgency Now then deny ∷ [] else []
+-- the denial of the request, if there is one and it may not wait
+abbrev pub denial : Message → Option TokenRequest → List Message
+denial deny None = []
+denial deny (Some r) = if same_urgency r.urgency Now then deny ∷ [] else []
 
 -- the row is of that incarnation
 abbrev pub row_of_incarnation : ℕ → Option Row → Option Row
 row_of_incarnation incarnation None = None
 row_of_incarnation incarnation (Some row) = if row.incarnation == incarnation then Some row else None
 
--- the node has what it was granted: the request is served no longer
+-- the node has what it was granted: the request that it was for is served no longer
 abbrev pub taken : ServerState → ℕ → CallId → Option Row → Option Change
 taken s number call None = None
 taken s number call (Some row) = if is_grant number row.outstanding then Some (ended call (acknowledged s call.node row row.token), []) else None
@@ -108,7 +104,7 @@ released s number holder span (Some row) =
 abbrev pub in_conflict : ServerState → ℕ → Host → CallId → LockInfo → Option Row → Option Change
 in_conflict s number holder call lock None = None
 in_conflict s number holder call lock (Some row) =
-    option_map (λ mode. (postponed call (acknowledged s holder.node row row.token), denial call (Deny s.file call holder number lock) s.active)) (revoked_mode number row.outstanding)
+    option_map (λ mode. (postponed call (acknowledged s holder.node row row.token), denial (Deny s.file call holder number lock) (request_of call s.active))) (revoked_mode number row.outstanding)
 
 -- the row of the node, if it is of that incarnation
 abbrev pub row_of_host : ServerState → Host → Option Row

@@ -2,6 +2,7 @@
 use Rattle.std.specs.Prelude.{◌≡◌, ℕ, ◌-◌, ◌≤◌, true, not, ◌==◌, ◌||◌, nat_le, max, is_some, if◌then◌else◌, List, [], ◌∷◌, ◌++◌, filter, Option, Some, None, Result, Ok, Err}
 use Rattle.std.specs.Option.{option_map}
 use Rattle.intervals.specs.Bytes.{Range}
+use Rattle.model.specs.declared.call.CallId.{CallId}
 use Rattle.model.specs.declared.mode.Mode.{Mode}
 use Rattle.token_set.specs.Tokens.{Token, level_conflicts}
 use Rattle.messages.specs.declared.refusal.StepError.{StepError}
@@ -14,7 +15,7 @@ use Rattle.token_server.specs.declared.sketch.Changed.{Changed}
 use Rattle.token_server.specs.declared.sketch.Sketch.{Sketch}
 use Rattle.token_server.specs.State.{Commands, Row, ServerState, empty_row, row_above, is_of_call, is_up_to}
 use Rattle.token_server.specs.Serve.{conflicting_node}
-use Rattle.token_server.specs.Server.{is_active, request_of}
+use Rattle.token_server.specs.Server.{request_of}
 use Rattle.token_server.specs.Parts.{ServerParts, answered, relieved, with_change, rows_of, deaths_of}
 
 -- the token conflicts with the mode at a byte of the span that is one of those
@@ -67,6 +68,11 @@ abbrev pub without : Option (ℕ × ℕ) → List TokenRequest → List TokenReq
 without None requests = requests
 without (Some d) requests = filter (λ r. not (is_up_to d.0 d.1 r)) requests
 
+-- those that are served on, where the call's are no longer
+abbrev pub still_active : Option CallId → List TokenRequest → List TokenRequest
+still_active None active = active
+still_active (Some call) active = filter (λ r. not (is_of_call call r)) active
+
 -- the queue after the move, and those that wait
 abbrev pub queue_moved : Moved → List TokenRequest → List TokenRequest → List TokenRequest
 queue_moved Nothing queue waiting = queue
@@ -87,9 +93,9 @@ moved_with r None = New r
 moved_with r (Some own) = Again r.call own
 
 -- what moves for a request: its call's that waits, or the request itself, unless its call has one that is queued or served
-abbrev pub moved_for : TokenRequest → Option TokenRequest → List TokenRequest → List TokenRequest → Moved
+abbrev pub moved_for : TokenRequest → List TokenRequest → List TokenRequest → List TokenRequest → Moved
 moved_for r active queue waiting =
-    if is_active r.call active || is_some (request_of r.call queue) then Nothing
+    if is_some (request_of r.call active) || is_some (request_of r.call queue) then Nothing
     else moved_with r (request_of r.call waiting)
 
 -- the state once what the event changes is made
@@ -100,14 +106,13 @@ sketched p k = record {
   rows = rows_after k.changed (rows_of p.clients);
   dead = deaths_after k.changed (deaths_of p.clients);
   queue = queue_moved k.moved (without (dropped k.changed) p.queue) (without (dropped k.changed) p.waiting);
-  active = k.active;
+  active = still_active k.ended (without (dropped k.changed) p.active);
   waiting = waiting_moved k.moved (without (dropped k.changed) p.waiting);
 }
 
 -- the other node whose token is revoked first, if one is
-abbrev pub opposing : ServerState → Option TokenRequest → Option ℕ
-opposing s None = None
-opposing s (Some r) = let node = conflicting_node s r in if nat_le node s.shape.nodes then Some node else None
+abbrev pub opposing : ServerState → TokenRequest → Option ℕ
+opposing s r = let node = conflicting_node s r in if nat_le node s.shape.nodes then Some node else None
 
 -- the refusal, if it is one
 abbrev pub refusal_of : {A : Type 0} → Result A StepError → Option StepError

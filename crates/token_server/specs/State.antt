@@ -1,6 +1,5 @@
 -- What a token server knows.
 use Rattle.std.specs.Prelude.{ℕ, Bool, not, ◌&&◌, ◌==◌, max, nat_le, if◌then◌else◌, List, [], ◌++◌, filter, Option, Some, None}
-use Rattle.std.specs.List.{cons_option}
 use Rattle.model.specs.declared.call.CallId.{CallId}
 use Rattle.token_set.specs.Tokens.{Token, no_token}
 use Rattle.messages.specs.Shapes.{ShapeFields}
@@ -21,18 +20,18 @@ pub record Row : Type 0 where
   pub number : ℕ
   pub outstanding : Option Message
 
--- of one file: a row for each node that asked, the greatest incarnation of each node known to be dead (0 at first), the requests that are queued, the one that is served, and those that wait for a lock of another node to go
+-- of one file: a row for each node that asked, the greatest incarnation of each node known to be dead (0 at first), the requests that are queued, those that are served, and those that wait for a lock of another node to go
 pub record ServerState : Type 0 where
   pub shape : ShapeFields
   pub file : ℕ
   pub rows : ℕ → Option Row
   pub dead : ℕ → ℕ
   pub queue : List TokenRequest
-  pub active : Option TokenRequest
+  pub active : List TokenRequest
   pub waiting : List TokenRequest
 
 abbrev pub first_server : ShapeFields → ℕ → ServerState
-first_server shape file = record { shape = shape; file = file; rows = λ node. None; dead = λ node. 0; queue = []; active = None; waiting = [] }
+first_server shape file = record { shape = shape; file = file; rows = λ node. None; dead = λ node. 0; queue = []; active = []; waiting = [] }
 
 abbrev pub empty_row : ℕ → Row
 empty_row incarnation = record { incarnation = incarnation; token = no_token; number = 0; outstanding = None }
@@ -52,24 +51,19 @@ abbrev pub row_above : ℕ → Option Row → Option Row
 row_above incarnation None = None
 row_above incarnation (Some row) = if nat_le row.incarnation incarnation then None else Some row
 
--- the request, unless it passes the test
-abbrev pub unless : (TokenRequest → Bool) → Option TokenRequest → Option TokenRequest
-unless drops None = None
-unless drops (Some r) = if drops r then None else Some r
-
 -- the node is known as dead up to that incarnation: its row and its requests of those incarnations are dropped
 abbrev pub forgotten : ServerState → ℕ → ℕ → ServerState
 forgotten s node incarnation = record s {
   rows = λ n. if n == node then row_above incarnation (s.rows n) else s.rows n;
   dead = λ n. if n == node then max (s.dead n) incarnation else s.dead n;
   queue = filter (λ r. not (is_up_to node incarnation r)) s.queue;
-  active = unless (is_up_to node incarnation) s.active;
+  active = filter (λ r. not (is_up_to node incarnation r)) s.active;
   waiting = filter (λ r. not (is_up_to node incarnation r)) s.waiting;
 }
 
--- the requests of the server: the one that it serves, those that are queued, those that wait
+-- the requests of the server: those that it serves, those that are queued, those that wait
 abbrev pub requests : ServerState → List TokenRequest
-requests s = cons_option s.active (s.queue ++ s.waiting)
+requests s = s.active ++ (s.queue ++ s.waiting)
 
 -- those that wait come last in the queue, in their order
 abbrev pub requeued : ServerState → ServerState

@@ -5,20 +5,19 @@ use crate::commands::Commands;
 use crate::put::Put;
 use crate::queue_edit::QueueEdit;
 use crate::row_edits::RowEdits;
-use crate::token_request::TokenRequest;
 use intervals::span_map::NoMemory;
 use messages::outcome::Outcome;
 use std::alloc::Global;
 use token_set::edit::TokenEdit;
 
 /// What an event changes of a server before it serves: new values of some nodes, of the queue, the request
-/// that then comes last in it, the one that is served from then on, and those that wait.
+/// that then comes last in it, those that are served, and those that wait.
 #[derive(Drop)]
 pub struct Draft {
     pub rows: RowEdits,
     pub queue: QueueEdit,
     pub put: Option<Put>,
-    pub active: Option<TokenRequest>,
+    pub active: QueueEdit,
     pub waiting: QueueEdit,
 }
 
@@ -31,11 +30,11 @@ pub struct Given {
     pub token: TokenEdit,
 }
 
-/// What the event changes, and then what a node is given.
+/// What the event changes, and then what nodes are given.
 #[derive(Drop)]
 pub struct Parts {
     pub draft: Draft,
-    pub given: Option<Given>,
+    pub given: Vec<Given>,
 }
 
 /// What a step changes. It is in a box, since it is handed up by value through many calls.
@@ -45,8 +44,8 @@ pub struct Edit {
 }
 
 impl Edit {
-    /// What the event changes, and then what a node is given.
-    pub(crate) fn new(alloc: Global, draft: Draft, given: Option<Given>) -> Result<Edit, NoMemory>
+    /// What the event changes, and then what nodes are given.
+    pub(crate) fn new(alloc: Global, draft: Draft, given: Vec<Given>) -> Result<Edit, NoMemory>
         ensures { IfOk result (λ edit. edit.parts.value ≡ record { draft = draft; given = given }) }
     {
         Ok(Edit {

@@ -1,11 +1,12 @@
 //! The nodes of a cluster, as a token server knows them.
-ghost use Rattle.std.specs.Prelude.{◌≡◌, ℕ, ◌<◌, ◌≤◌, ◌↔◌, true, length, slice_get, All, IsTrue, IfOk, IfSome, Some, None};
+ghost use Rattle.std.specs.Prelude.{◌≡◌, ◌≢◌, ℕ, ◌+◌, ◌<◌, ◌≤◌, ◌↔◌, true, length, slice_get, All, IsTrue, IfOk, IfSome, [], ◌∷◌, ◌++◌, ◌==◌, Some, None};
+ghost use Rattle.std.specs.List.{list_any};
 ghost use Rattle.std.specs.Option.{option_copied};
 ghost use Rattle.model.specs.Limits.{IsNumber};
 ghost use Rattle.token_server.specs.Parts.{row_seen, row_state, client_at, rows_of, deaths_of, SameClients};
 ghost use Rattle.token_server.specs.Resends.{outstanding_to};
 ghost use Rattle.token_server.specs.Server.{row_of_incarnation};
-ghost use Rattle.token_server.specs.Edits.{with_client, overlaid, with_given_row};
+ghost use Rattle.token_server.specs.Edits.{with_client, overlaid, with_given_row, given_rows};
 ghost use Rattle.token_server.specs.Marks.{NoneExclusive};
 
 use crate::change::Given;
@@ -190,6 +191,7 @@ impl Clients {
     /// What a node is given, from now on. Takes no memory.
     pub fn give(&mut self, given: Given)
         ensures rows { rows_of self.new ≡ with_given_row given self.old }
+        ensures others { (m : ℕ) → m ≢ given.place + 1 → client_at self.new m ≡ client_at self.old m }
         ensures deaths { deaths_of self.new ≡ deaths_of self.old }
         ensures len { length self.new ≡ length self.old }
     {
@@ -201,6 +203,29 @@ impl Clients {
         if place < self.clients.len() {
             self.clients[place].put(commands, token);
             self.may_exclude = self.clients[place].notes_exclusive(self.may_exclude);
+        }
+    }
+
+    // What a node is given last, from now on, unless it is given something by the others.
+    fn give_last(&mut self, last: Given, others: &[Given])
+        ensures rows { (n : ℕ) → given_rows others.now self.new n ≡ given_rows (others.now ++ last ∷ []) self.old n }
+        ensures deaths { deaths_of self.new ≡ deaths_of self.old }
+        ensures len { length self.new ≡ length self.old }
+    {
+        if !has_place(others, last.place) {
+            self.give(last);
+        }
+    }
+
+    /// What nodes are given, from now on; of a node the first counts. Takes no memory.
+    pub fn give_each(&mut self, given: Vec<Given>)
+        ensures rows { (n : ℕ) → rows_of self.new n ≡ given_rows given.items self.old n }
+        ensures deaths { deaths_of self.new ≡ deaths_of self.old }
+        ensures len { length self.new ≡ length self.old }
+    {
+        let mut given = given;
+        while let Some(last) = given.pop() {
+            self.give_last(last, given.as_slice());
         }
     }
 
@@ -224,4 +249,11 @@ impl Clients {
     {
         same_each(&self.clients, &other.clients)
     }
+}
+
+// Whether one of them is of the node at that place.
+fn has_place(given: &[Given], place: usize) -> bool
+    ensures { result ≡ list_any (λ g. g.place == place) given.now }
+{
+    given.iter().any(|given| given.place == place)
 }

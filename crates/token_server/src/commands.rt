@@ -2,6 +2,7 @@
 ghost use Rattle.std.specs.Prelude.{◌≡◌, ◌≤◌, ◌<◌, ◌↔◌, IsTrue, None};
 ghost use Rattle.messages.specs.Messages.{greatest_number};
 ghost use Rattle.token_server.specs.Server.{is_grant, revoked_mode};
+ghost use Rattle.token_server.specs.Told.{awaiting};
 ghost use Rattle.token_server.specs.Parts.{next_number, told_commands, answered_commands};
 
 use messages::command_number::CommandNumber;
@@ -114,6 +115,17 @@ impl Commands {
         Commands {
             incarnation: self.incarnation,
             number: self.number + 1,
+            outstanding: Some(*command),
+        }
+    }
+
+    /// Once that command is under way.
+    pub fn awaiting(self, command: &Message) -> Commands
+        ensures { result ≡ awaiting command.now self }
+    {
+        Commands {
+            incarnation: self.incarnation,
+            number: self.number,
             outstanding: Some(*command),
         }
     }

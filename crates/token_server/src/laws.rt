@@ -1,10 +1,10 @@
 //! Laws of token servers, each the contract of a function that does nothing.
 ghost use Rattle.token_server.specs.Grants.{GrantsWhatIsFree};
 ghost use Rattle.token_server.specs.Waiting.{KeepsWhatWaits};
+ghost use Rattle.token_server.specs.Admissions.{ServesWhatMeetsNone};
 
-/// A request that is served, or the first of the queue where none is, is granted at once, at least the
-/// bytes that it needs, where no other node's row conflicts with it, no command to its own node is under
-/// way, and a number is left.
+/// A request that is served is granted when its turn comes, at least the bytes that it needs, where no
+/// other node's row conflicts with it then, no command to its own node is under way, and a number is left.
 pub fn what_is_free_is_granted()
     ensures { GrantsWhatIsFree }
 {}
@@ -13,4 +13,10 @@ pub fn what_is_free_is_granted()
 /// queued or is served, or the incarnation of its node is known as dead.
 pub fn what_waits_is_kept()
     ensures { KeepsWhatWaits }
+{}
+
+/// A request that needs no byte of one that is served or queued is served from the step on in which it
+/// comes.
+pub fn what_meets_none_is_served()
+    ensures { ServesWhatMeetsNone }
 {}

@@ -7,7 +7,7 @@ ghost use Rattle.token_server.specs.Server.{request_of};
 ghost use Rattle.token_server.specs.Edits.{queue_after, put_after};
 
 use crate::put::Put;
-use crate::requests::{self, Requests};
+use crate::requests::Requests;
 use crate::token_request::TokenRequest;
 use intervals::span_map::NoMemory;
 use model::call::CallId;
@@ -45,24 +45,6 @@ impl QueueEdit {
         }
     }
 
-    /// The first request of the call after the edit.
-    pub fn find(&self, queue: &Requests, call: CallId) -> Option<TokenRequest>
-        ensures { result ≡ request_of call (queue_after self.now queue.now) }
-    {
-        match self {
-            QueueEdit::Same => queue.find(call),
-            QueueEdit::Taken => requests::find(queue.rest(), call),
-            QueueEdit::Whole(new) => new.find(call),
-        }
-    }
-
-    /// Whether the call has a request after the edit.
-    pub fn has(&self, queue: &Requests, call: CallId) -> bool
-        ensures { result ≡ list_any (is_of_call call) (queue_after self.now queue.now) }
-    {
-        self.find(queue, call).is_some()
-    }
-
     /// These requests stand in the queue's place.
     pub fn whole(new: Requests) -> Result<QueueEdit, NoMemory>
         ensures { IfOk result (λ edit. (queue : List TokenRequest) → queue_after edit queue ≡ new) }
@@ -80,8 +62,8 @@ impl QueueEdit {
             .any(|request| request.is_up_to(node, incarnation))
     }
 
-    // The queue after the edit, as a value of its own. The edit is used up.
-    fn into_queue(self, queue: &Requests) -> Result<Requests, NoMemory>
+    /// The queue after the edit, as a value of its own. The edit is used up.
+    pub fn into_queue(self, queue: &Requests) -> Result<Requests, NoMemory>
         ensures { IfOk result (λ new. new ≡ queue_after self queue.now) }
     {
         match self {
@@ -139,17 +121,16 @@ impl QueueEdit {
         QueueEdit::whole(new)
     }
 
-    /// The edit, and then the first request goes, which is answered.
-    pub fn taking(self, queue: &Requests) -> Result<(QueueEdit, Option<TokenRequest>), NoMemory>
-        ensures rest { IfOk result (λ r. queue_after r.0 queue.now ≡ drop 1 (queue_after self queue.now)) }
-        ensures first { IfOk result (λ r. r.1 ≡ slice_get (queue_after self queue.now) 0) }
+    /// The edit, and then the first request goes, if there is one.
+    pub fn taking(self, queue: &Requests) -> Result<QueueEdit, NoMemory>
+        ensures { IfOk result (λ edit. queue_after edit queue.now ≡ drop 1 (queue_after self queue.now)) }
     {
         if self.is_same() {
-            return Ok((QueueEdit::Taken, queue.as_slice().first().copied()));
+            return Ok(QueueEdit::Taken);
         }
         let mut new = self.into_queue(queue)?;
-        let first = new.take_first();
-        Ok((QueueEdit::whole(new)?, first))
+        let _ = new.take_first();
+        QueueEdit::whole(new)
     }
 
     /// The edit, and then the request comes last: the edit from then on, and the request that is yet to come
@@ -165,26 +146,5 @@ impl QueueEdit {
             return Ok((QueueEdit::Same, Some(queue.plan_put(request)?)));
         }
         Ok((self.pushing(queue, request)?, None))
-    }
-
-    /// The edit, and then the request comes last, if there is one, and then the first goes, which is answered.
-    pub fn taking_with(
-        self,
-        queue: &Requests,
-        put: Option<Put>,
-    ) -> Result<(QueueEdit, Option<TokenRequest>), NoMemory>
-        ensures rest { IfOk result (λ r. queue_after r.0 queue.now ≡ drop 1 (put_after put (queue_after self queue.now))) }
-        ensures first { IfOk result (λ r. r.1 ≡ slice_get (put_after put (queue_after self queue.now)) 0) }
-    {
-        let Some(put) = put else {
-            return self.taking(queue);
-        };
-        if self.requests(queue).is_empty() {
-            return Ok((self, Some(put.request)));
-        }
-        let mut new = self.into_queue(queue)?;
-        new.put(Some(put));
-        let first = new.take_first();
-        Ok((QueueEdit::whole(new)?, first))
     }
 }

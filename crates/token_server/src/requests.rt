@@ -74,16 +74,6 @@ impl Requests {
         }
     }
 
-    /// The first that is not of the node in that incarnation or an older one.
-    pub fn first_above(&self, node: u8, incarnation: u16) -> Option<TokenRequest>
-        ensures { result ≡ slice_get (filter (λ r. not (is_up_to node incarnation r)) self.now) 0 }
-    {
-        self.as_slice()
-            .iter()
-            .find(|request| !request.is_up_to(node, incarnation))
-            .copied()
-    }
-
     /// The same requests in the same order.
     ///
     /// # Errors

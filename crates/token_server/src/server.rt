@@ -1,30 +1,36 @@
 //! The token server of a file.
-ghost use Rattle.std.specs.Prelude.{◌≡◌, ◌≢◌, ◌+◌, ◌-◌, ◌<◌, ◌≤◌, ◌↔◌, ◌++◌, not, filter, ◌&&◌, ◌||◌, ◌==◌, if◌then◌else◌, IsTrue, IsFalse, true, false, IsSome, IsNone, IfSome, IfOk, IfErr, OnOk, MatchOption, [], ◌∷◌, Some, None, Ok, Err};
+ghost use Rattle.std.specs.Prelude.{◌≡◌, ◌≢◌, ◌+◌, ◌-◌, ◌<◌, ◌≤◌, ◌↔◌, ◌++◌, not, filter, ◌&&◌, ◌||◌, ◌==◌, if◌then◌else◌, IsTrue, IsFalse, true, false, nat_le, length, IsSome, IsNone, IfSome, All, drop, IfOk, IfErr, OnOk, MatchOption, [], ◌∷◌, Some, None, Ok, Err};
 ghost use Rattle.std.specs.List.{list_any};
 ghost use Rattle.std.specs.Option.{option_map, option_to_list};
 ghost use Rattle.model.specs.Limits.{IsNumber, most_nodes};
 ghost use Rattle.model.specs.Owners.{host_of_call};
 ghost use Rattle.intervals.specs.Bytes.{largest_around};
 ghost use Rattle.messages.specs.Messages.{greatest_number, sending, addressee, host_of, is_within};
-ghost use Rattle.token_server.specs.State.{first_server, is_of_call, is_up_to, unless, with_row, forgotten, requeued};
-ghost use Rattle.token_server.specs.Serve.{admitted, row_conflicts, row_conflicts_at, granted_span, conflicting_node, granted_to, revoked_from, served, serve};
+ghost use Rattle.token_server.specs.State.{first_server, is_of_call, is_up_to, with_row, forgotten, requeued};
+ghost use Rattle.token_server.specs.Serve.{meets, meets_some, admitted, narrowed, row_conflicts, row_conflicts_at, granted_span, conflicting_node, granted_to, revoked_from, served, each_served, ready, serve};
+ghost use Rattle.token_server.specs.Told.{promised, row_told, with_told, commands_told};
 ghost use Rattle.token_server.specs.Resends.{outstanding, sending_first, resend_rule};
-ghost use Rattle.token_server.specs.Server.{server_rule, learn_rule, with_a_row, is_active, request_of, enqueued_with, enqueued, asked, put_off, denial, row_of_host, freed, revoked_mode, taken, released, in_conflict, delivered, is_server};
-ghost use Rattle.token_server.specs.Parts.{server_state, rows_of, deaths_of, told_commands};
-ghost use Rattle.token_server.specs.Sketches.{dropped, without, moved_for, queue_moved, waiting_moved, sketched, opposing, refusal_of};
-ghost use Rattle.token_server.specs.Edits.{queue_after, drafted_parts, drafted, with_given, planned};
+ghost use Rattle.token_server.specs.Server.{server_rule, learn_rule, with_a_row, request_of, enqueued_with, enqueued, asked, put_off, denial, row_of_host, freed, revoked_mode, taken, released, in_conflict, delivered, is_server};
+ghost use Rattle.token_server.specs.Parts.{server_state, row_state, client_at, rows_of, deaths_of};
+ghost use Rattle.token_server.specs.Sketches.{dropped, without, moved_for, queue_moved, waiting_moved, sketched, opposing, commands_of};
+ghost use Rattle.token_server.specs.Edits.{queue_after, drafted_parts, drafted, seen, given_to_client, with_given, planned};
+ghost use Rattle.token_set.specs.Sets.{token_of};
+ghost use Rattle.token_set.specs.Edits.{edited as edited_token};
 
-use crate::active::{denial, is_active, put_off, same_request, unless_of_call, unless_up_to};
+use crate::active::{denial, put_off};
 use crate::change::{Change, Draft, Edit, Given, Parts};
 use crate::clients::Clients;
 use crate::commands::Commands;
 use crate::event::ServerEvent;
 use crate::node_change::NodeChange;
+use crate::put::Put;
 use crate::queue_edit::QueueEdit;
 use crate::requests::Requests;
 use crate::row_edits::RowEdits;
 use crate::sketch::{Changed, Moved, Sketch};
+use crate::token_holder::RowView;
 use crate::token_request::TokenRequest;
+use crate::told::{Told, cut, meets, told_to};
 use intervals::span::Span;
 use intervals::span_map::NoMemory;
 use messages::actor::Actor;
@@ -35,6 +41,7 @@ use messages::message::{Message, Urgency};
 use messages::outcome::Outcome;
 use messages::refusal::StepError;
 use messages::shape::Shape;
+use messages::wanted::Wanted;
 use model::call::CallId;
 use model::host::Host;
 use model::lock_info::LockInfo;
@@ -42,17 +49,18 @@ use model::mode::Mode;
 use std::alloc::Global;
 use std::marker::Model;
 use token_set::edit::TokenEdit;
+use token_set::set::TokenSet;
 
 /// The token server of one file: what it knows of each node, the requests that are queued, in the
-/// order in which they came, the one that is served, and those that wait for a lock of another node to
-/// go.
+/// order in which they came, those that are served, no two of which need a byte in common, and those that
+/// wait for a lock of another node to go.
 #[derive(Drop)]
 pub struct Server {
     shape: Shape,
     file: u16,
     clients: Clients,
     queue: Requests,
-    active: Option<TokenRequest>,
+    active: Requests,
     waiting: Requests,
 }
 
@@ -80,7 +88,7 @@ impl Server {
             file,
             clients: Clients::new(alloc, shape.nodes())?,
             queue: Requests::new(alloc),
-            active: None,
+            active: Requests::new(alloc),
             waiting: Requests::new(alloc),
         })
     }
@@ -97,7 +105,7 @@ impl Server {
             file: self.file,
             clients: self.clients.copy()?,
             queue: self.queue.copy()?,
-            active: self.active,
+            active: self.active.copy()?,
             waiting: self.waiting.copy()?,
         })
     }
@@ -110,7 +118,7 @@ impl Server {
         if self.shape != other.shape || self.file != other.file {
             return false;
         }
-        if !self.queue.same(&other.queue) || !same_request(&self.active, &other.active) {
+        if !self.queue.same(&other.queue) || !self.active.same(&other.active) {
             return false;
         }
         self.waiting.same(&other.waiting) && self.clients.same(&other.clients)
@@ -124,7 +132,7 @@ impl Server {
         Sketch {
             changed: None,
             moved: Moved::Nothing,
-            active: self.active,
+            ended: None,
         }
     }
 
@@ -136,7 +144,7 @@ impl Server {
         Sketch {
             changed: None,
             moved: Moved::Waiting,
-            active: self.active,
+            ended: None,
         }
     }
 
@@ -150,17 +158,17 @@ impl Server {
         Sketch {
             changed: Some(Changed { node, change }),
             moved: Moved::Waiting,
-            active: unless_up_to(self.active, node, incarnation),
+            ended: None,
         }
     }
 
     // What comes last in the queue for a request: its call's that waits, or the request itself, unless its
     // call has one that is queued or served.
-    fn enqueued(&self, active: &Option<TokenRequest>, request: TokenRequest) -> Moved
-        ensures { result ≡ moved_for request active.now self.now.queue self.now.waiting }
+    fn enqueued(&self, request: TokenRequest) -> Moved
+        ensures { result ≡ moved_for request self.now.active self.now.queue self.now.waiting }
     {
         let call = request.call;
-        if is_active(active, call) || self.queue.find(call).is_some() {
+        if self.active.find(call).is_some() || self.queue.find(call).is_some() {
             return Moved::Nothing;
         }
         match self.waiting.find(call) {
@@ -177,14 +185,13 @@ impl Server {
     {
         let host = request.call.host();
         let node = host.node;
-        let active = unless_up_to(self.active, node, host.incarnation - 1);
         Sketch {
             changed: Some(Changed {
                 node,
                 change: NodeChange::Asked { host },
             }),
-            moved: self.enqueued(&active, request),
-            active,
+            moved: self.enqueued(request),
+            ended: None,
         }
     }
 
@@ -215,7 +222,7 @@ impl Server {
                 change: NodeChange::Answered,
             }),
             moved: Moved::Nothing,
-            active: unless_of_call(self.active, call),
+            ended: Some(call),
         })
     }
 
@@ -232,7 +239,7 @@ impl Server {
                 change: NodeChange::Relieved { span, mode },
             }),
             moved: Moved::Nothing,
-            active: self.active,
+            ended: None,
         })
     }
 
@@ -265,18 +272,19 @@ impl Server {
             number,
             lock,
         };
+        let own = self.active.find(call);
         let sketch = Sketch {
             changed: Some(Changed {
                 node: holder.node,
                 change: NodeChange::Answered,
             }),
-            moved: match put_off(&self.active, call) {
+            moved: match put_off(&own) {
                 Some(request) => Moved::PutOff(request),
                 None => Moved::Nothing,
             },
-            active: unless_of_call(self.active, call),
+            ended: Some(call),
         };
-        Some((sketch, denial(&self.active, call, &deny)))
+        Some((sketch, denial(&own, &deny)))
     }
 
     // Takes that locks of the holder may be gone: where its row is of that incarnation, what waits is asked
@@ -291,16 +299,6 @@ impl Server {
         self.requeued()
     }
 
-    // The request that is served from then on: the first of the queue where none is.
-    fn admitted(&self, sketch: &Sketch) -> Option<TokenRequest>
-        ensures { result ≡ (admitted (sketched self.now sketch.now) (sketched self.now sketch.now).active (sketched self.now sketch.now).queue).active }
-    {
-        if sketch.active.is_some() {
-            return sketch.active;
-        }
-        sketch.first_queued(&self.queue, &self.waiting)
-    }
-
     // What a sketch changes, with the memory that this needs.
     fn settle(&self, sketch: &Sketch, alloc: Global) -> Result<Draft, NoMemory>
         requires { IfSome sketch.now.changed (λ c. IsNumber self.now.shape.nodes c.node) }
@@ -312,211 +310,372 @@ impl Server {
             rows,
             queue,
             put,
-            active: sketch.active,
+            active: sketch.served_on(&self.active)?,
             waiting,
         })
     }
 
-    // Serves the first of the queue where no request is served.
-    fn admit(&self, draft: Draft) -> Result<Draft, NoMemory>
-        ensures { IfOk result (λ new. drafted self.now new ≡ admitted (drafted self.now draft) (drafted self.now draft).active (drafted self.now draft).queue) }
+    // Requests come from the queue.
+    fn admit(&self, draft: Draft, alloc: Global) -> Result<Draft, NoMemory>
+        ensures { IfOk result (λ new. drafted self.now new ≡ ready (drafted self.now draft)) }
     {
-        if draft.active.is_some() {
+        let active = draft.active.requests(&self.active);
+        let queue = draft.queue.requests(&self.queue);
+        if admits_none(active, None, queue) {
+            return self.admit_last(draft);
+        }
+        if draft.put.is_none() {
+            if let Some(first) = only_the_first(active, queue) {
+                return self.admit_first(draft, first);
+            }
+        }
+        self.admit_some(draft, alloc)
+    }
+
+    // As many requests come from the queue as may, wherever they stand there.
+    fn admit_some(&self, draft: Draft, alloc: Global) -> Result<Draft, NoMemory>
+        ensures { IfOk result (λ new. drafted self.now new ≡ ready (drafted self.now draft)) }
+    {
+        let Draft {
+            rows,
+            queue,
+            put,
+            active,
+            waiting,
+        } = draft;
+        let mut queued = queue.into_queue(&self.queue)?;
+        queued.put(put);
+        let active = active.into_queue(&self.active)?;
+        let (active, staying) = admitted(alloc, active, queued.as_slice())?;
+        Ok(Draft {
+            rows,
+            queue: QueueEdit::whole(staying)?,
+            put: None,
+            active: QueueEdit::whole(active)?,
+            waiting,
+        })
+    }
+
+    // The first request comes from the queue, and no other.
+    fn admit_first(&self, draft: Draft, first: TokenRequest) -> Result<Draft, NoMemory>
+        requires none_put { draft.put ≡ None }
+        requires first { admitted (drafted_parts draft self.now).active [] (queue_after draft.queue self.now.queue) ≡ ((drafted_parts draft self.now).active ++ first ∷ [], drop 1 (queue_after draft.queue self.now.queue)) }
+        ensures { IfOk result (λ new. drafted self.now new ≡ ready (drafted self.now draft)) }
+    {
+        let Draft {
+            rows,
+            queue,
+            active,
+            waiting,
+            ..
+        } = draft;
+        Ok(Draft {
+            rows,
+            queue: queue.taking(&self.queue)?,
+            put: None,
+            active: active.pushing(&self.active, first)?,
+            waiting,
+        })
+    }
+
+    // The request that is to come last in the queue is served from then on, unless it has to stay. The others
+    // stay.
+    fn admit_last(&self, draft: Draft) -> Result<Draft, NoMemory>
+        requires { admitted (drafted_parts draft self.now).active [] (queue_after draft.queue self.now.queue) ≡ ((drafted_parts draft self.now).active, queue_after draft.queue self.now.queue) }
+        ensures { IfOk result (λ new. drafted self.now new ≡ ready (drafted self.now draft)) }
+    {
+        let Some(put) = &draft.put else {
+            return Ok(draft);
+        };
+        let request = put.request;
+        if self.must_stay(&draft, put) {
             return Ok(draft);
         }
         let Draft {
             rows,
             queue,
-            put,
+            active,
             waiting,
             ..
         } = draft;
-        let (queue, active) = queue.taking_with(&self.queue, put)?;
         Ok(Draft {
             rows,
             queue,
             put: None,
-            active,
+            active: active.pushing(&self.active, request)?,
             waiting,
         })
     }
 
-    // Whether the row of another node conflicts with what the request needs.
-    fn conflicts_at(&self, sketch: &Sketch, node: u8, request: &TokenRequest) -> bool
-        requires { IsNumber self.now.shape.nodes node }
-        ensures { result ≡ (not (node == request.now.call.node) && row_conflicts ((sketched self.now sketch.now).rows node) request.now.wanted.required request.now.mode) }
+    // Whether the request that is to come last stays as it is, or stays queued.
+    fn must_stay(&self, draft: &Draft, put: &Put) -> bool
+        ensures { result ≡ (not (nat_le (length (queue_after draft.now.queue self.now.queue)) put.now.most) || (meets_some put.now.request (drafted_parts draft.now self.now).active || meets_some put.now.request (queue_after draft.now.queue self.now.queue))) }
     {
-        !request.is_of_node(node)
-            && sketch.conflicts(&self.clients, node, request.required(), request.mode)
+        let queue = draft.queue.requests(&self.queue);
+        queue.len() > put.most || stays(&put.request, draft.active.requests(&self.active), queue)
+    }
+
+    // Whether the row of a node conflicts with the mode in the span, once those are told.
+    fn conflicts_at(&self, draft: &Draft, told: &[Told], node: u8, span: Span, mode: Mode) -> bool
+        requires { IsNumber self.now.shape.nodes node }
+        ensures { result ≡ row_conflicts ((with_told told.now (drafted self.now draft.now)).rows node) span mode }
+    {
+        let Some(row) = draft.rows.row(&self.clients, node) else {
+            return false;
+        };
+        match told_to(told, node) {
+            Some(told) => conflicts_told(row, &told, span, mode),
+            None => row.token.conflicts(span, mode),
+        }
     }
 
     // The least other node whose row conflicts with what the request needs.
-    fn conflicting_node(&self, sketch: &Sketch, request: &TokenRequest) -> Option<u8>
+    fn conflicting_node(&self, draft: &Draft, told: &[Told], request: &TokenRequest) -> Option<u8>
         ensures node_in { IfSome result (λ node. IsNumber self.now.shape.nodes node × IsNumber most_nodes node) }
-        ensures within { IsSome result ↔ (conflicting_node (sketched self.now sketch.now) request.now ≤ self.now.shape.nodes) }
-        ensures value { IfSome result (λ node. node ≡ conflicting_node (sketched self.now sketch.now) request.now) }
+        ensures within { IsSome result ↔ (conflicting_node (with_told told.now (drafted self.now draft.now)) request.now ≤ self.now.shape.nodes) }
+        ensures value { IfSome result (λ node. node ≡ conflicting_node (with_told told.now (drafted self.now draft.now)) request.now) }
     {
-        if sketch.conflicts_nowhere(&self.clients, request.required(), request.mode) {
-            return None;
-        }
         for place in 0..self.shape.nodes() {
-            if self.conflicts_at(sketch, place + 1, request) {
+            if self.stands_in_way(draft, told, place + 1, request) {
                 return Some(place + 1);
             }
         }
         None
     }
 
-    // The other node whose token is revoked first for the request that is served, if one is.
-    fn opposing(&self, sketch: &Sketch, active: &Option<TokenRequest>) -> Option<u8>
+    // Whether the row of another node conflicts with what the request needs.
+    fn stands_in_way(&self, draft: &Draft, told: &[Told], node: u8, request: &TokenRequest) -> bool
+        requires { IsNumber self.now.shape.nodes node }
+        ensures { result ≡ (not (node == request.now.call.node) && row_conflicts ((with_told told.now (drafted self.now draft.now)).rows node) request.now.wanted.required request.now.mode) }
+    {
+        !request.is_of_node(node)
+            && self.conflicts_at(draft, told, node, request.required(), request.mode)
+    }
+
+    // The other node whose token is revoked first for a request, if one is.
+    fn opposing(&self, draft: &Draft, told: &[Told], request: &TokenRequest) -> Option<u8>
         ensures node_in { IfSome result (λ node. IsNumber self.now.shape.nodes node × IsNumber most_nodes node) }
-        ensures value { result ≡ opposing (sketched self.now sketch.now) active.now }
+        ensures value { result ≡ opposing (with_told told.now (drafted self.now draft.now)) request.now }
     {
-        match active {
-            Some(request) => self.conflicting_node(sketch, request),
-            None => None,
-        }
+        self.conflicting_node(draft, told, request)
     }
 
-    // The refusal to serve the request, where the next command would need a number that there isn't.
-    fn refusal(
-        &self,
-        sketch: &Sketch,
-        active: &Option<TokenRequest>,
-        holder: Option<u8>,
-    ) -> Option<StepError>
-        requires node_in { IfSome holder (λ node. IsNumber self.now.shape.nodes node × IsNumber most_nodes node) }
-        requires value { holder ≡ opposing (sketched self.now sketch.now) active.now }
-        ensures { result ≡ refusal_of (served (sketched self.now sketch.now) active.now) }
-    {
-        let Some(request) = active else {
-            return None;
-        };
-        let node = holder.unwrap_or(request.call.node);
-        match sketch.commands(&self.clients, node) {
-            Some(commands) => commands.next_number().err(),
-            None => None,
-        }
-    }
-
-    // The span that a request is granted: the largest that it would like to have.
-    fn granted_span(&self, draft: &Draft, request: &TokenRequest) -> Span
-        requires { self.now.shape.nodes < conflicting_node (drafted self.now draft.now) request.now }
-        ensures { result ≡ granted_span (drafted self.now draft.now) request.now }
+    // What the request would like to have, without the bytes that another one that is served needs.
+    fn narrowed(&self, draft: &Draft, request: &TokenRequest) -> Span
+        ensures value { result ≡ narrowed (drafted self.now draft.now).active request.now }
+        ensures starts_before { result.lo ≤ request.now.wanted.required.lo }
+        ensures ends_after { request.now.wanted.required.hi ≤ result.hi }
     {
         let required = request.required();
         let mut span = request.desired();
         if span.lo == required.lo && span.hi == required.hi {
             return span;
         }
+        for other in draft.active.requests(&self.active) {
+            span = cut(required, span, other.required());
+        }
+        span
+    }
+
+    // The span that a request is granted: the largest of that.
+    fn granted_span(&self, draft: &Draft, told: &[Told], request: &TokenRequest) -> Span
+        requires { self.now.shape.nodes < conflicting_node (with_told told.now (drafted self.now draft.now)) request.now }
+        ensures { result ≡ granted_span (with_told told.now (drafted self.now draft.now)) request.now }
+    {
+        let required = request.required();
+        let mut span = self.narrowed(draft, request);
+        if span.lo == required.lo && span.hi == required.hi {
+            return span;
+        }
         for place in 0..self.shape.nodes() {
             if !request.is_of_node(place + 1) {
-                span = draft
-                    .rows
-                    .free_around(&self.clients, place + 1, required, span, request.mode);
+                span = self.free_around(draft, told, place + 1, required, span, request.mode);
             }
         }
         span
     }
 
-    // What the request's node is given, and the command that tells it so, unless one to it is under way.
-    fn grant(
+    // The largest span that contains `required`, lies in `within`, and has no byte at which the row of a node
+    // conflicts with the mode, once those are told.
+    fn free_around(
         &self,
         draft: &Draft,
-        alloc: Global,
-        request: &TokenRequest,
-    ) -> Result<(Option<Given>, Items<Message>), StepError>
-        requires { self.now.shape.nodes < conflicting_node (drafted self.now draft.now) request.now }
-        ensures ok { IfOk result (λ r. granted_to (drafted self.now draft.now) request.now ((drafted self.now draft.now).rows request.now.call.node) ≡ Ok (with_given r.0 (drafted_parts draft.now self.now), r.1)) }
-        ensures err { IfErr result (λ e. e ≢ StepError.NoMemory → granted_to (drafted self.now draft.now) request.now ((drafted self.now draft.now).rows request.now.call.node) ≡ Err e) }
+        told: &[Told],
+        node: u8,
+        required: Span,
+        within: Span,
+        mode: Mode,
+    ) -> Span
+        requires node_in { IsNumber self.now.shape.nodes node }
+        requires starts_within { within.lo ≤ required.lo }
+        requires ends_within { required.hi ≤ within.hi }
+        requires free { row_conflicts ((with_told told.now (drafted self.now draft.now)).rows node) required mode ≡ false }
+        ensures { result ≡ largest_around (λ b. row_conflicts_at ((with_told told.now (drafted self.now draft.now)).rows node) b mode) required within }
     {
-        let Some(row) = draft.rows.row(&self.clients, request.call.node) else {
-            return Ok((None, Items::new(alloc)));
+        let _ = &required.lo; // tells the proof that the span has a byte
+        let Some(row) = draft.rows.row(&self.clients, node) else {
+            return within;
         };
-        let Some(number) = row.commands.next_number()? else {
-            return Ok((None, Items::new(alloc)));
-        };
-        let span = self.granted_span(draft, request);
-        let command = Message::Grant {
-            file: self.file_number(),
-            number,
-            call: request.call,
-            mode: request.mode,
-            span,
-        };
-        let token = row.token.plan_grant(span, request.mode)?;
-        Ok(given(alloc, request.call.node, *row.commands, token, &command)?)
+        match told_to(told, node) {
+            Some(told) => around_told(row, &told, required, within, mode),
+            None => row.token.free_around(required, within, mode),
+        }
+    }
+
+    // The commands to a node once those are told, if it has a row.
+    fn commands_to(&self, draft: &Draft, told: &[Told], node: u8) -> Option<Commands>
+        requires { 1 ≤ node }
+        ensures { result ≡ option_map commands_of ((with_told told.now (drafted self.now draft.now)).rows node) }
+    {
+        let row = draft.rows.row(&self.clients, node)?;
+        match told_to(told, node) {
+            Some(told) => Some(told.commands.awaiting(&told.command)),
+            None => Some(*row.commands),
+        }
+    }
+
+    // What a request comes to: the least other node whose row conflicts with it is told to give up its token,
+    // or its own node is told that it is granted. Nothing where a command to that is under way.
+    fn command(
+        &self,
+        draft: &Draft,
+        told: &[Told],
+        request: &TokenRequest,
+    ) -> Result<Option<Told>, StepError>
+        ensures ok { IfOk result (λ o. served (with_told told.now (drafted self.now draft.now)) request.now ≡ Ok (with_told (told.now ++ option_to_list o) (drafted self.now draft.now), commands_told (option_to_list o))) }
+        ensures node { IfOk result (λ o. IfSome o (λ t. 1 ≤ t.node)) }
+        ensures err { IfErr result (λ e. served (with_told told.now (drafted self.now draft.now)) request.now ≡ Err e) }
+    {
+        match self.opposing(draft, told, request) {
+            Some(node) => self.revoke(draft, told, node, request),
+            None => self.grant(draft, told, request),
+        }
     }
 
     // The command that tells a node to give up what the request needs, unless one to it is under way.
-    fn revoke<'a>(
-        &'a self,
-        draft: &'a Draft,
-        alloc: Global,
+    fn revoke(
+        &self,
+        draft: &Draft,
+        told: &[Told],
         node: u8,
         request: &TokenRequest,
-    ) -> Result<(Option<Given>, Items<Message>), StepError>
-        requires node_in { IsNumber self.now.shape.nodes node × IsNumber most_nodes node }
-        ensures ok { IfOk result (λ r. revoked_from (drafted self.now draft.now) request.now node ((drafted self.now draft.now).rows node) ≡ Ok (with_given r.0 (drafted_parts draft.now self.now), r.1)) }
-        ensures err { IfErr result (λ e. e ≢ StepError.NoMemory → revoked_from (drafted self.now draft.now) request.now node ((drafted self.now draft.now).rows node) ≡ Err e) }
+    ) -> Result<Option<Told>, StepError>
+        requires { IsNumber self.now.shape.nodes node × IsNumber most_nodes node }
+        ensures ok { IfOk result (λ o. revoked_from (with_told told.now (drafted self.now draft.now)) request.now node ((with_told told.now (drafted self.now draft.now)).rows node) ≡ Ok (with_told (told.now ++ option_to_list o) (drafted self.now draft.now), commands_told (option_to_list o))) }
+        ensures node { IfOk result (λ o. IfSome o (λ t. 1 ≤ t.node)) }
+        ensures err { IfErr result (λ e. revoked_from (with_told told.now (drafted self.now draft.now)) request.now node ((with_told told.now (drafted self.now draft.now)).rows node) ≡ Err e) }
     {
-        let Some(row) = draft.rows.row(&self.clients, node) else {
-            return Ok((None, Items::new(alloc)));
+        let Some(commands) = self.commands_to(draft, told, node) else {
+            return Ok(None);
         };
-        let Some(number) = row.commands.next_number()? else {
-            return Ok((None, Items::new(alloc)));
+        let Some(number) = commands.next_number()? else {
+            return Ok(None);
         };
-        let incarnation = row.commands.incarnation();
+        let incarnation = commands.incarnation();
         let command = Message::Revoke {
             file: self.file_number(),
             number,
             holder: Host { node, incarnation },
             call: request.call,
             mode: request.mode,
-            wanted: request.wanted,
+            wanted: Wanted::new(request.required(), self.narrowed(draft, request)),
         };
-        Ok(given(alloc, node, *row.commands, TokenEdit::Same, &command)?)
+        Ok(Some(Told::new(node, commands, &command)))
     }
 
-    // The request that is served is granted, but where other nodes' rows conflict with it, the token of
-    // the least such node is revoked first.
-    fn command(
+    // The command that tells the request's node what it is granted, unless one to it is under way.
+    fn grant(
         &self,
         draft: &Draft,
-        alloc: Global,
-        holder: Option<u8>,
-    ) -> Result<(Option<Given>, Items<Message>), StepError>
-        requires node_in { IfSome holder (λ node. IsNumber self.now.shape.nodes node × IsNumber most_nodes node) }
-        requires value { holder ≡ opposing (drafted self.now draft.now) (drafted self.now draft.now).active }
-        ensures ok { IfOk result (λ r. served (drafted self.now draft.now) (drafted self.now draft.now).active ≡ Ok (with_given r.0 (drafted_parts draft.now self.now), r.1)) }
-        ensures err { IfErr result (λ e. e ≢ StepError.NoMemory → served (drafted self.now draft.now) (drafted self.now draft.now).active ≡ Err e) }
+        told: &[Told],
+        request: &TokenRequest,
+    ) -> Result<Option<Told>, StepError>
+        requires { self.now.shape.nodes < conflicting_node (with_told told.now (drafted self.now draft.now)) request.now }
+        ensures ok { IfOk result (λ o. granted_to (with_told told.now (drafted self.now draft.now)) request.now ((with_told told.now (drafted self.now draft.now)).rows request.now.call.node) ≡ Ok (with_told (told.now ++ option_to_list o) (drafted self.now draft.now), commands_told (option_to_list o))) }
+        ensures node { IfOk result (λ o. IfSome o (λ t. 1 ≤ t.node)) }
+        ensures err { IfErr result (λ e. granted_to (with_told told.now (drafted self.now draft.now)) request.now ((with_told told.now (drafted self.now draft.now)).rows request.now.call.node) ≡ Err e) }
     {
-        let Some(request) = draft.active else {
-            return Ok((None, Items::new(alloc)));
+        let node = request.call.host().node;
+        let Some(commands) = self.commands_to(draft, told, node) else {
+            return Ok(None);
         };
-        match holder {
-            Some(node) => self.revoke(draft, alloc, node, &request),
-            None => self.grant(draft, alloc, &request),
-        }
+        let Some(number) = commands.next_number()? else {
+            return Ok(None);
+        };
+        let command = Message::Grant {
+            file: self.file_number(),
+            number,
+            call: request.call,
+            mode: request.mode,
+            span: self.granted_span(draft, told, request),
+        };
+        Ok(Some(Told::new(node, commands, &command)))
     }
 
-    // Serves a request: it is granted, but where other nodes' rows conflict with it, the token of the
-    // least such node is revoked first. That no number is left is decided before memory is taken.
+    // What comes of serving each request in order.
+    fn commands(&self, draft: &Draft, alloc: Global) -> Result<Vec<Told>, StepError>
+        ensures ok { IfOk result (λ told. each_served (drafted self.now draft.now).active (drafted self.now draft.now) ≡ Ok (with_told told.items (drafted self.now draft.now), commands_told told.items)) }
+        ensures nodes { IfOk result (λ told. All (λ t. 1 ≤ t.node) told.items) }
+        ensures err { IfErr result (λ e. e ≢ StepError.NoMemory → each_served (drafted self.now draft.now).active (drafted self.now draft.now) ≡ Err e) }
+    {
+        let mut told = Vec::new(alloc);
+        for request in draft.active.requests(&self.active) {
+            let next = match self.command(draft, told.as_slice(), request) {
+                Ok(next) => next,
+                Err(refusal) => return Err(refusal),
+            };
+            if let Some(next) = next {
+                told.push(next)?;
+            }
+        }
+        Ok(told)
+    }
+
+    // What nodes are given by their commands.
+    fn given(&self, draft: &Draft, alloc: Global, told: &[Told]) -> Result<Vec<Given>, NoMemory>
+        requires { All (λ t. 1 ≤ t.node) told.now }
+        ensures { IfOk result (λ given. with_given given.items (drafted_parts draft.now self.now) ≡ with_told told.now (drafted self.now draft.now)) }
+    {
+        let mut given = Vec::new(alloc);
+        for next in told {
+            let one = self.given_one(draft, next)?;
+            given.push(one)?;
+        }
+        Ok(given)
+    }
+
+    // What one is given.
+    fn given_one(&self, draft: &Draft, told: &Told) -> Result<Given, NoMemory>
+        requires { 1 ≤ told.now.node }
+        ensures place { IfOk result (λ given. given.place + 1 ≡ told.now.node) }
+        ensures row { IfOk result (λ given. given_to_client given (client_at (drafted_parts draft.now self.now).clients told.now.node) ≡ row_told (Some told.now) (rows_of (drafted_parts draft.now self.now).clients told.now.node)) }
+    {
+        let token = match draft.rows.row(&self.clients, told.node) {
+            Some(row) => promised(row.token, &told.command)?,
+            None => TokenEdit::Same,
+        };
+        Ok(Given {
+            place: usize::from(told.node) - 1,
+            commands: told.commands.awaiting(&told.command),
+            token,
+        })
+    }
+
+    // Serves the requests: each is granted, but where other nodes' rows conflict with it, the token of the
+    // least such node is revoked first.
     fn serve(&self, sketch: &Sketch, alloc: Global) -> Result<(Edit, Items<Message>), StepError>
         requires { IfSome sketch.now.changed (λ c. IsNumber self.now.shape.nodes c.node) }
         ensures ok { IfOk result (λ r. serve (sketched self.now sketch.now) ≡ Ok (planned self.now r.0, r.1)) }
         ensures err { IfErr result (λ e. e ≢ StepError.NoMemory → serve (sketched self.now sketch.now) ≡ Err e) }
-        ensures refused { (r : StepError) → serve (sketched self.now sketch.now) ≡ Err r → result ≡ Err r }
     {
-        let active = self.admitted(sketch);
-        let holder = self.opposing(sketch, &active);
-        if let Some(refusal) = self.refusal(sketch, &active, holder) {
-            return Err(refusal);
-        }
         let draft = self.settle(sketch, alloc)?;
-        let draft = self.admit(draft)?;
-        let (given, sends) = self.command(&draft, alloc, holder)?;
-        Ok((Edit::new(alloc, draft, given)?, sends))
+        let draft = self.admit(draft, alloc)?;
+        let told = self.commands(&draft, alloc)?;
+        let given = self.given(&draft, alloc, told.as_slice())?;
+        Ok((
+            Edit::new(alloc, draft, given)?,
+            commands_told(alloc, told.as_slice())?,
+        ))
     }
 
     // What a message changes before the server serves, and what is sent for it, or `None` where it does
@@ -576,7 +735,6 @@ impl Server {
         requires { IfSome sketch.now.changed (λ c. IsNumber self.now.shape.nodes c.node) }
         ensures ok { IfOk result (λ change. sending_first (option_to_list first) (serve (sketched self.now sketch.now)) ≡ Ok (planned self.now change.edit, change.outcome)) }
         ensures err { IfErr result (λ e. e ≢ StepError.NoMemory → sending_first (option_to_list first) (serve (sketched self.now sketch.now)) ≡ Err e) }
-        ensures refused { (r : StepError) → sending_first (option_to_list first) (serve (sketched self.now sketch.now)) ≡ Err r → result ≡ Err r }
     {
         let (edit, served) = self.serve(sketch, alloc)?;
         let sends = match first {
@@ -595,11 +753,11 @@ impl Server {
             rows: RowEdits::new(alloc),
             queue: QueueEdit::Same,
             put: None,
-            active: self.active,
+            active: QueueEdit::Same,
             waiting: QueueEdit::Same,
         };
         Ok(Change {
-            edit: Edit::new(alloc, draft, None)?,
+            edit: Edit::new(alloc, draft, Vec::new(alloc))?,
             outcome: Outcome::sending(Items::new(alloc)),
         })
     }
@@ -609,7 +767,7 @@ impl Server {
         requires { (is_server self.now.file (addressee message.now) && is_within self.now.shape.nodes (host_of message.now).node) ≡ true }
         ensures ok { IfOk result (λ change. server_rule (server_state self.now) (ServerEvent.Deliver message.now) ≡ Ok (planned self.now change.edit, change.outcome)) }
         ensures err { IfErr result (λ e. e ≢ StepError.NoMemory → server_rule (server_state self.now) (ServerEvent.Deliver message.now) ≡ Err e) }
-        ensures refused { (r : StepError) → server_rule (server_state self.now) (ServerEvent.Deliver message.now) ≡ Err r → result ≡ Err r }
+        ensures refused { (r : StepError) → server_rule (server_state self.now) (ServerEvent.Deliver message.now) ≡ Err r → r ≡ StepError.Spent }
     {
         let host = message.host();
         if host.incarnation <= self.clients.dead(host.node) {
@@ -625,7 +783,7 @@ impl Server {
     fn take(&self, alloc: Global, message: &Message) -> Result<Change, StepError>
         ensures ok { IfOk result (λ change. server_rule (server_state self.now) (ServerEvent.Deliver message.now) ≡ Ok (planned self.now change.edit, change.outcome)) }
         ensures err { IfErr result (λ e. e ≢ StepError.NoMemory → server_rule (server_state self.now) (ServerEvent.Deliver message.now) ≡ Err e) }
-        ensures refused { (r : StepError) → server_rule (server_state self.now) (ServerEvent.Deliver message.now) ≡ Err r → result ≡ Err r }
+        ensures refused { (r : StepError) → r ≢ StepError.Spent → server_rule (server_state self.now) (ServerEvent.Deliver message.now) ≡ Err r → result ≡ Err r }
     {
         if !self.is_addressed_by(message) {
             return Err(StepError::Stranger);
@@ -644,7 +802,7 @@ impl Server {
     fn resend(&self, alloc: Global) -> Result<Change, StepError>
         ensures ok { IfOk result (λ change. resend_rule (server_state self.now) ≡ Ok (planned self.now change.edit, change.outcome)) }
         ensures err { IfErr result (λ e. e ≢ StepError.NoMemory → resend_rule (server_state self.now) ≡ Err e) }
-        ensures refused { (r : StepError) → resend_rule (server_state self.now) ≡ Err r → result ≡ Err r }
+        ensures refused { (r : StepError) → resend_rule (server_state self.now) ≡ Err r → r ≡ StepError.Spent }
     {
         let (edit, served) = self.serve(&self.requeued(), alloc)?;
         let commands = self.outstanding(alloc)?;
@@ -657,7 +815,7 @@ impl Server {
         requires { IsNumber self.now.shape.nodes node }
         ensures ok { IfOk result (λ change. learn_rule (server_state self.now) node incarnation ≡ Ok (planned self.now change.edit, change.outcome)) }
         ensures err { IfErr result (λ e. e ≢ StepError.NoMemory → learn_rule (server_state self.now) node incarnation ≡ Err e) }
-        ensures refused { (r : StepError) → learn_rule (server_state self.now) node incarnation ≡ Err r → result ≡ Err r }
+        ensures refused { (r : StepError) → learn_rule (server_state self.now) node incarnation ≡ Err r → r ≡ StepError.Spent }
     {
         self.serve_after(&self.forgotten(node, incarnation), alloc, None)
     }
@@ -666,7 +824,7 @@ impl Server {
     fn learn(&self, alloc: Global, node: u8, incarnation: u16) -> Result<Change, StepError>
         ensures ok { IfOk result (λ change. learn_rule (server_state self.now) node incarnation ≡ Ok (planned self.now change.edit, change.outcome)) }
         ensures err { IfErr result (λ e. e ≢ StepError.NoMemory → learn_rule (server_state self.now) node incarnation ≡ Err e) }
-        ensures refused { (r : StepError) → learn_rule (server_state self.now) node incarnation ≡ Err r → result ≡ Err r }
+        ensures refused { (r : StepError) → r ≢ StepError.Spent → learn_rule (server_state self.now) node incarnation ≡ Err r → result ≡ Err r }
     {
         if node == 0 || node > self.shape.nodes() {
             return Err(StepError::Stranger);
@@ -682,8 +840,8 @@ impl Server {
         ensures ok { IfOk result (λ change. server_rule (server_state self.now) event.now ≡ Ok (planned self.now change.edit, change.outcome)) }
         ensures err { IfErr result (λ e. e ≢ StepError.NoMemory → server_rule (server_state self.now) event.now ≡ Err e) }
 
-        // A refusal always comes, for it is decided before memory is taken.
-        ensures refused { (r : StepError) → server_rule (server_state self.now) event.now ≡ Err r → result ≡ Err r }
+        // Every refusal but `Spent` always comes, for it is decided before memory is taken.
+        ensures refused { (r : StepError) → r ≢ StepError.Spent → server_rule (server_state self.now) event.now ≡ Err r → result ≡ Err r }
     {
         match event {
             ServerEvent::Deliver(message) => self.take(alloc, message),
@@ -718,37 +876,37 @@ impl Server {
         self.clients.apply(rows);
         self.queue.apply(queue);
         self.queue.put(put);
-        self.active = active;
+        self.active.apply(active);
         self.waiting.apply(waiting);
     }
 
     // Makes the last part of a change.
-    fn give(&mut self, given: Option<Given>)
-        ensures { server_state self.new ≡ with_given given self.old }
+    fn give(&mut self, given: Vec<Given>)
+        ensures { server_state self.new ≡ with_given given.items self.old }
     {
-        if let Some(given) = given {
-            self.clients.give(given);
-        }
+        self.clients.give_each(given);
     }
 
-    /// What the server does at an event: the server after it, and what it sends. Requests are served one
-    /// after the other, in the order in which they came. One is granted the largest span around the bytes
-    /// that it needs, within those that it would like to have, that no other node's token stands in the
-    /// way of. Where another node's token has some of the bytes that it needs, that is revoked first, one
-    /// node after the other; where a holder then names a lock in the way, the request is denied, or, where it
-    /// may wait, put off until the holder says that locks of it may be gone. An answer counts once, and only where the command with its number waits for one of its kind. (Tokens revoked
-    /// by required and desired ranges: Schmuck and Haskin, FAST 2002.)
+    /// What the server does at an event: the server after it, and what it sends. Requests that need no
+    /// byte in common are served at once; of two that do, the one that came first is served first. One
+    /// is granted the largest span around the bytes that it needs, within those that it would like to
+    /// have, that no other request which is served needs and no other node's token stands in the way of.
+    /// Where another node's token has some of the bytes that it needs, that is revoked first, one node
+    /// after the other; where a holder then names a lock in the way, the request is denied, or, where it
+    /// may wait, put off until the holder says that locks of it may be gone. An answer counts once, and
+    /// only where the command with its number waits for one of its kind. (Tokens revoked by required and
+    /// desired ranges: Schmuck and Haskin, FAST 2002.)
     ///
     /// # Errors
     /// `Stranger` where a message is not for this server or names a node that the cluster doesn't have,
-    /// which is tested first; `NoMemory` where a request for memory was refused; `Spent` where the next command to a node
-    /// would need a number past 4,294,967,295.
+    /// which is tested first; `Spent` where the next command to a node would need a number past
+    /// 4,294,967,295; `NoMemory` where a request for memory was refused, which may come before `Spent`.
     pub fn step(&self, alloc: Global, event: &ServerEvent) -> Result<(Server, Outcome), StepError>
         ensures ok { IfOk result (λ r. server_rule (server_state self.now) event.now ≡ Ok (server_state r.0, r.1)) }
         ensures err { IfErr result (λ e. e ≢ StepError.NoMemory → server_rule (server_state self.now) event.now ≡ Err e) }
 
-        // A refusal always comes, for it is decided before memory is taken.
-        ensures refused { (r : StepError) → server_rule (server_state self.now) event.now ≡ Err r → result ≡ Err r }
+        // Every refusal but `Spent` always comes, for it is decided before memory is taken.
+        ensures refused { (r : StepError) → r ≢ StepError.Spent → server_rule (server_state self.now) event.now ≡ Err r → result ≡ Err r }
     {
         let change = self.plan(alloc, event)?;
         let mut next = self.copy()?;
@@ -770,24 +928,129 @@ fn sending(edit: Edit, first: Items<Message>, served: Items<Message>) -> Result<
     })
 }
 
-// The next command to a node, and what it is given by that.
-fn given(
-    alloc: Global,
-    node: u8,
-    commands: Commands,
-    token: TokenEdit,
-    command: &Message,
-) -> Result<(Option<Given>, Items<Message>), NoMemory>
-    requires node_in { 1 ≤ node }
-    requires room { commands.number < greatest_number }
-    ensures given { IfOk result (λ r. r.0 ≡ Some (record { place = node - 1; commands = told_commands command.now commands; token = token })) }
-    ensures sends { IfOk result (λ r. r.1 ≡ command.now ∷ []) }
+// The commands, in order.
+fn commands_told(alloc: Global, told: &[Told]) -> Result<Items<Message>, NoMemory>
+    ensures { IfOk result (λ commands. commands ≡ commands_told told.now) }
 {
-    let sends = Items::one(alloc, *command)?;
-    let given = Given {
-        place: usize::from(node) - 1,
-        commands: commands.told(command),
-        token,
+    let mut commands = Items::new(alloc);
+    for next in told {
+        commands.push(next.command)?;
+    }
+    Ok(commands)
+}
+
+// Whether the request needs a byte that one of these needs.
+fn meets_some(request: &TokenRequest, others: &[TokenRequest]) -> bool
+    ensures { result ≡ meets_some request.now others.now }
+{
+    others.iter().any(|other| meets(request.wanted.required, other.wanted.required))
+}
+
+// Whether the request stays queued, beside those that are served and those before it that stay.
+fn stays(request: &TokenRequest, active: &[TokenRequest], staying: &[TokenRequest]) -> bool
+    ensures { result ≡ (meets_some request.now active.now || meets_some request.now staying.now) }
+{
+    meets_some(request, active) || meets_some(request, staying)
+}
+
+// Those that are served, and those that stay, once requests have come from the queue.
+fn admitted(
+    alloc: Global,
+    active: Requests,
+    queue: &[TokenRequest],
+) -> Result<(Requests, Requests), NoMemory>
+    ensures { IfOk result (λ r. admitted active [] queue.now ≡ (r.0, r.1)) }
+{
+    let mut active = active;
+    let mut staying = Requests::new(alloc);
+    for request in queue {
+        if stays(request, active.as_slice(), staying.as_slice()) {
+            staying.push(*request)?;
+        } else {
+            active.push(*request)?;
+        }
+    }
+    Ok((active, staying))
+}
+
+// Whether each request of the queue stays there, beside those that are served and one more, if there is one.
+fn admits_none(active: &[TokenRequest], more: Option<TokenRequest>, queue: &[TokenRequest]) -> bool
+    ensures { result ≡ true → admitted (active.now ++ option_to_list more) [] queue.now ≡ (active.now ++ option_to_list more, queue.now) }
+{
+    for place in 0..queue.len() {
+        let request = &queue[place];
+        if !stays_beside(request, active, &more, &queue[..place]) {
+            return false;
+        }
+    }
+    true
+}
+
+// Whether the request stays queued, beside those that are served, one more, if there is one, and those before
+// it that stay.
+fn stays_beside(
+    request: &TokenRequest,
+    active: &[TokenRequest],
+    more: &Option<TokenRequest>,
+    staying: &[TokenRequest],
+) -> bool
+    ensures { result ≡ (meets_some request.now (active.now ++ option_to_list more.now) || meets_some request.now staying.now) }
+{
+    match more {
+        Some(more) if meets(request.wanted.required, more.wanted.required) => true,
+        _ => stays(request, active, staying),
+    }
+}
+
+// The first request of the queue, where it comes from there and no other does.
+fn only_the_first(active: &[TokenRequest], queue: &[TokenRequest]) -> Option<TokenRequest>
+    ensures { IfSome result (λ r. admitted active.now [] queue.now ≡ (active.now ++ r ∷ [], drop 1 queue.now)) }
+{
+    let [first, rest @ ..] = queue else {
+        return None;
     };
-    Ok((Some(given), sends))
+    if meets_some(first, active) || !admits_none(active, Some(*first), rest) {
+        return None;
+    }
+    Some(*first)
+}
+
+// Whether a row conflicts with the mode in the span, once its node is told that.
+fn conflicts_told(row: RowView<'_>, told: &Told, span: Span, mode: Mode) -> bool
+    ensures { result ≡ row_conflicts (row_told (Some told.now) (Some (row_state (seen row.entry)))) span mode }
+{
+    let _ = &span.lo; // tells the proof that the span has a byte
+    if row.token.conflicts(span, mode) {
+        return true;
+    }
+    match told.granted(mode) {
+        Some(granted) => meets(granted, span),
+        None => false,
+    }
+}
+
+// The largest span around `required` within the other without a byte at which a row conflicts with the mode,
+// once its node is told that.
+fn around_told(row: RowView<'_>, told: &Told, required: Span, within: Span, mode: Mode) -> Span
+    requires starts_within { within.lo ≤ required.lo }
+    requires ends_within { required.hi ≤ within.hi }
+    requires free { row_conflicts (row_told (Some told.now) (Some (row_state (seen row)))) required mode ≡ false }
+    ensures { result ≡ largest_around (λ b. row_conflicts_at (row_told (Some told.now) (Some (row_state (seen row.entry)))) b mode) required within }
+{
+    let _ = &required.lo; // tells the proof that the span has a byte
+    let free = row.token.free_around(required, within, mode);
+    match told.granted(mode) {
+        Some(granted) => cut(required, free, granted),
+        None => free,
+    }
+}
+
+// How the command changes a token.
+fn promised(token: &TokenSet, command: &Message) -> Result<TokenEdit, NoMemory>
+    ensures { IfOk result (λ edit. edited_token edit token.now ≡ promised command.now (token_of token.now)) }
+{
+    match command {
+        Message::Grant { mode, span, .. } => token.plan_grant(*span, *mode),
+        _ => Ok(TokenEdit::Same),
+    }
 }

@@ -3,7 +3,7 @@ ghost use Rattle.std.specs.Prelude.{◌≡◌, ℕ, ◌≤◌, ◌++◌, [], tru
 ghost use Rattle.std.specs.Option.{option_map};
 ghost use Rattle.token_server.specs.Serve.{row_conflicts};
 ghost use Rattle.token_server.specs.Parts.{rows_of};
-ghost use Rattle.token_server.specs.Sketches.{commands_of, rows_after, dropped, dropped_to, without, queue_moved, waiting_moved};
+ghost use Rattle.token_server.specs.Sketches.{commands_of, rows_after, dropped, dropped_to, without, still_active, queue_moved, waiting_moved};
 ghost use Rattle.token_server.specs.Edits.{queue_after, put_after};
 
 use crate::clients::Clients;
@@ -42,13 +42,13 @@ pub struct Changed {
 }
 
 /// What an event changes of a server before it serves, in so few words that it takes no memory: what is
-/// known of a node (requests of its dead incarnations go), then what moves, and the request that is served
-/// from then on.
+/// known of a node (requests of its dead incarnations go), then what moves, and the call whose request is
+/// served no longer, if there is one.
 #[derive(Clone, Copy)]
 pub struct Sketch {
     pub changed: Option<Changed>,
     pub moved: Moved,
-    pub active: Option<TokenRequest>,
+    pub ended: Option<CallId>,
 }
 
 impl Sketch {
@@ -65,69 +65,27 @@ impl Sketch {
         }
     }
 
-    /// The commands to a node, if it has a row.
-    pub fn commands(&self, clients: &Clients, node: u8) -> Option<Commands>
-        requires { 1 ≤ node }
-        ensures { result ≡ option_map commands_of (rows_after self.now.changed (rows_of clients.now) node) }
-    {
-        let row = clients.row(node);
-        match &self.changed {
-            Some(changed) if node == changed.node => changed.change.commands(row),
-            _ => match row {
-                Some(row) => Some(row.commands),
-                None => None,
-            },
-        }
-    }
-
-    /// Whether the row of a node conflicts with the mode at some byte of the span.
-    pub fn conflicts(&self, clients: &Clients, node: u8, span: Span, mode: Mode) -> bool
-        requires { 1 ≤ node }
-        ensures { result ≡ row_conflicts (rows_after self.now.changed (rows_of clients.now) node) span mode }
-    {
-        let row = clients.row(node);
-        match &self.changed {
-            Some(changed) if node == changed.node => changed.change.conflicts(row, span, mode),
-            _ => match row {
-                Some(row) => row.token.conflicts(span, mode),
-                None => false,
-            },
-        }
-    }
-
-    /// Whether it is known at once that no row conflicts with the mode at a byte of the span.
-    pub fn conflicts_nowhere(&self, clients: &Clients, span: Span, mode: Mode) -> bool
-        ensures { result ≡ true → (node : ℕ) → row_conflicts (rows_after self.now.changed (rows_of clients.now) node) span mode ≡ false }
-    {
-        let _ = &span.hi; // tells the proof that the span ends within the file
-        match mode {
-            Mode::Read => clients.excludes_none(),
-            Mode::Write => false,
-        }
-    }
-
-    // The first of the requests that are not dropped.
-    fn first_kept(&self, requests: &Requests) -> Option<TokenRequest>
-        ensures { result ≡ slice_get (without (dropped self.now.changed) requests.now) 0 }
+    // The requests, without those that are dropped.
+    fn left(&self, requests: &Requests) -> Result<QueueEdit, NoMemory>
+        ensures { IfOk result (λ edit. queue_after edit requests.now ≡ without (dropped self.now.changed) requests.now) }
     {
         match self.dropped() {
-            Some((node, incarnation)) => requests.first_above(node, incarnation),
-            None => requests.as_slice().first().copied(),
+            Some((node, incarnation)) => QueueEdit::Same.forgetting(requests, node, incarnation),
+            None => Ok(QueueEdit::Same),
         }
     }
 
-    /// The first of the queue.
-    pub fn first_queued(&self, queue: &Requests, waiting: &Requests) -> Option<TokenRequest>
-        ensures { result ≡ slice_get (queue_moved self.now.moved (without (dropped self.now.changed) queue.now) (without (dropped self.now.changed) waiting.now)) 0 }
+    /// How those that are served change.
+    ///
+    /// # Errors
+    /// `NoMemory` where a request for memory was refused.
+    pub fn served_on(&self, active: &Requests) -> Result<QueueEdit, NoMemory>
+        ensures { IfOk result (λ edit. queue_after edit active.now ≡ still_active self.now.ended (without (dropped self.now.changed) active.now)) }
     {
-        let first = self.first_kept(queue);
-        if first.is_some() {
-            return first;
-        }
-        match self.moved {
-            Moved::New(request) | Moved::Again { request, .. } => Some(request),
-            Moved::Waiting => self.first_kept(waiting),
-            Moved::Nothing | Moved::PutOff(_) => None,
+        let left = self.left(active)?;
+        match self.ended {
+            Some(call) => left.forgetting_call(active, call),
+            None => Ok(left),
         }
     }
 
@@ -136,11 +94,8 @@ impl Sketch {
         ensures queue { IfOk result (λ r. queue_after r.0 queue.now ≡ without (dropped self.now.changed) queue.now) }
         ensures waiting { IfOk result (λ r. queue_after r.1 waiting.now ≡ without (dropped self.now.changed) waiting.now) }
     {
-        let Some((node, incarnation)) = self.dropped() else {
-            return Ok((QueueEdit::Same, QueueEdit::Same));
-        };
-        let kept_queue = QueueEdit::Same.forgetting(queue, node, incarnation)?;
-        let kept_waiting = QueueEdit::Same.forgetting(waiting, node, incarnation)?;
+        let kept_queue = self.left(queue)?;
+        let kept_waiting = self.left(waiting)?;
         Ok((kept_queue, kept_waiting))
     }
 

@@ -25,17 +25,6 @@ pub struct RowView<'a> {
 }
 
 impl TokenHolder {
-    /// The row of a node that has got no command yet.
-    pub fn new(alloc: Global, incarnation: u16) -> TokenHolder
-        requires { 1 ≤ incarnation }
-        ensures { row_state result ≡ empty_row incarnation }
-    {
-        TokenHolder {
-            commands: Commands::new(incarnation),
-            token: TokenSet::new(alloc),
-        }
-    }
-
     /// The commands are these from now on, and the token changes so. Takes no memory.
     pub fn put(&mut self, commands: Commands, token: TokenEdit)
         ensures { row_state self.new ≡ given_row commands token self.old }

@@ -343,7 +343,7 @@ module _ (shape : ShapeFields) (past : List Entry) (w : WorldState) (few : IsNum
 
   -- a step of a server
   makes : (file : ℕ) → Makes file (HeldFor shape past file) (Backed shape past w)
-  makes file = record { grants = λ number call mode span. tt; revokes = λ number holder r held other. (held.0, other) }
+  makes file = record { grants = λ number call mode span. tt; revokes = λ number holder r desired held other. (held.0, other) }
 
   abbrev Serves : ℕ → Result (ServerState × Outcome) StepError → Type 0
   Serves file r = (done : ServerState × Outcome) → r ≡ Ok done → Comes file (HeldFor shape past file) (Backed shape past w) done.0 × All (Backed shape past w) done.1.sends

@@ -1,10 +1,10 @@
 -- What a token server keeps and sends comes of what it is told.
-use Rattle.std.specs.Prelude.{IfSome, is_some, nat_le, nat_lt, ◌==◌, filter_map, option_map}
+use Rattle.std.specs.Prelude.{IfSome, is_some, nat_le, nat_lt, ◌==◌, filter, filter_map, option_map}
 use Rattle.std.specs.List.{range_with_len, cons_option}
 use Rattle.std.proofs.Common.{◌≡◌, ℕ, ◌+◌, ◌-◌, Bool, true, false, not, ◌&&◌, if◌then◌else◌, ◌⊎◌, inl, inr, refl, sym, ◌∙◌, ap, subst, arith, List, [], ◌∷◌, ◌++◌, All, Option, Some, None, Result, Ok, Err}
 use Rattle.std.proofs.lemmas.Bool.{and_parts, both_ways, leb-true, eq-eqb, not-true}
 use Rattle.std.proofs.lemmas.Option.{none-some, same_Some}
-use Rattle.std.proofs.lemmas.List.Elements.{All-nil, All-cons, All-append, All-weaker}
+use Rattle.std.proofs.lemmas.List.Elements.{All-nil, All-cons, All-head, All-tail, All-append, All-weaker}
 use Rattle.intervals.specs.Bytes.{Range}
 use Rattle.intervals.proofs.SearchLaws.{first_is_first}
 use Rattle.model.specs.declared.call.CallId.{CallId}
@@ -14,6 +14,7 @@ use Rattle.model.specs.declared.mode.Mode.{Mode}
 use Rattle.model.specs.Owners.{host_of_call}
 use Rattle.token_set.specs.Tokens.{Token, raised}
 use Rattle.token_set.specs.Releases.{lowered}
+use Rattle.messages.specs.Wants.{Wants}
 use Rattle.messages.specs.declared.message.Urgency.TheVariants.{Now}
 use Rattle.messages.specs.declared.message.Message.{Message}
 use Rattle.messages.specs.declared.message.Message.TheVariants.{Request, Grant, Revoke, Taken, Released, Conflict, Deny, Freed}
@@ -23,14 +24,14 @@ use Rattle.messages.specs.declared.refusal.StepError.TheVariants.{Stranger, Spen
 use Rattle.messages.specs.Messages.{addressee, host_of, is_within, greatest_number, same_urgency, sending}
 use Rattle.token_server.specs.declared.token_request.TokenRequest.{TokenRequest}
 use Rattle.token_server.specs.declared.event.ServerEvent.TheVariants.{Deliver, Resend, Learn}
-use Rattle.token_server.specs.State.{Row, ServerState, empty_row, with_row, is_of_call, row_above, unless, forgotten, requests, requeued}
-use Rattle.token_server.specs.Serve.{admitted, row_conflicts, conflicting_node, granted_span, commanded, granted_to, revoked_from, served, serve}
+use Rattle.token_server.specs.State.{Row, ServerState, empty_row, with_row, is_of_call, row_above, forgotten, requests, requeued}
+use Rattle.token_server.specs.Serve.{row_conflicts, narrowed, conflicting_node, granted_span, commanded, granted_to, revoked_from, served, with_more, and_then, each_served, ready, serve}
 use Rattle.token_server.specs.Resends.{outstanding_of, outstanding, sending_first}
-use Rattle.token_server.specs.Server.{Change, with_a_row, enqueued, asked, is_grant, revoked_mode, acknowledged, ended, put_off, postponed, denial, taken, released, in_conflict, row_of_host, freed, delivered, is_server, change, then_serve, server_rule}
-use Rattle.token_server.proofs.CareLaws.{requests-parts, active-each, admitted-each, requeued-each, freed-each, ended-each, postponed-each, forgotten-each, enqueued-each}
+use Rattle.token_server.specs.Server.{Change, with_a_row, request_of, enqueued, asked, is_grant, revoked_mode, acknowledged, ended, put_off, postponed, denial, taken, released, in_conflict, row_of_host, freed, delivered, is_server, change, then_serve, server_rule}
+use Rattle.token_server.proofs.CareLaws.{find-each, find-passes, requests-parts, active-each, ready-each, requeued-each, freed-each, ended-each, postponed-each, forgotten-each, enqueued-each}
 use Rattle.cluster_core.proofs.common.Choices.{if_either}
 use Rattle.cluster_core.proofs.common.Refusals.{ok_is, if_ours}
-use Rattle.cluster_core.proofs.steps.ServerMoves.{WhateverRequests, enqueued-stays, freed-stays, admitted-stays}
+use Rattle.cluster_core.proofs.steps.ServerMoves.{WhateverRequests, enqueued-stays, freed-stays, ready-stays}
 
 row_above_kept : (i : ℕ) (o : Option Row) (r : Row) → row_above i o ≡ Some r → o ≡ Some r
 row_above_kept i None r h = h
@@ -73,7 +74,7 @@ comes-weaker file H G C D t to told c = record {
 -- the commands that it may make of them
 pub record Makes (file : ℕ) (H : TokenRequest → Type 0) (C : Message → Type 0) : Type 0 where
   pub grants : (number : ℕ) (call : CallId) (mode : Mode) (span : Range) → C (Grant file number call mode span)
-  pub revokes : (number : ℕ) (holder : Host) (r : TokenRequest) → H r → (holder.node ≡ r.call.node → ⊥) → C (Revoke file number holder r.call r.mode r.wanted)
+  pub revokes : (number : ℕ) (holder : Host) (r : TokenRequest) (desired : Range) → H r → (holder.node ≡ r.call.node → ⊥) → C (Revoke file number holder r.call r.mode (record { required = r.wanted.required; desired = desired }))
 
 -- it may send the denial of a call whose request it serves, where that may not wait
 abbrev pub MayDeny : (TokenRequest → Type 0) → (Message → Type 0) → CallId → Message → Type 0
@@ -129,10 +130,10 @@ module _ (file : ℕ) (H : TokenRequest → Type 0) (C : Message → Type 0) (ma
   acknowledged-comes t node row token c = with_row-comes t node (record row { token = token; outstanding = None }) (λ m h. absurd (none-some m h)) c
 
   ended-comes : (t : ServerState) (call : CallId) → Comes file H C t → Comes file H C (ended call t)
-  ended-comes t call c = moved-comes t c (unless (is_of_call call) t.active) t.queue t.waiting (ended-each H call t c.held)
+  ended-comes t call c = moved-comes t c (filter (λ r. not (is_of_call call r)) t.active) t.queue t.waiting (ended-each H call t c.held)
 
   postponed-comes : (t : ServerState) (call : CallId) → Comes file H C t → Comes file H C (postponed call t)
-  postponed-comes t call c = moved-comes t c (unless (is_of_call call) t.active) t.queue (t.waiting ++ put_off call t.active) (postponed-each H call t c.held)
+  postponed-comes t call c = moved-comes t c (filter (λ r. not (is_of_call call r)) t.active) t.queue (t.waiting ++ put_off (request_of call t.active)) (postponed-each H call t c.held)
 
   requeued-comes : (t : ServerState) → Comes file H C t → Comes file H C (requeued t)
   requeued-comes t c = moved-comes t c t.active (t.queue ++ t.waiting) [] (requeued-each H t c.held)
@@ -168,12 +169,11 @@ module _ (file : ℕ) (H : TokenRequest → Type 0) (C : Message → Type 0) (ma
         | Some mode ↦ changes_one (next mode) (acknowledged-comes t holder.node row (lowered row.token span mode) c, All-nil C)
       ]
 
-  denial-sends : (call : CallId) (deny : Message) (o : Option TokenRequest) → IfSome o H → MayDeny H C call deny → All C (denial call deny o)
-  denial-sends call deny None held told = All-nil C
-  denial-sends call deny (Some r) held told =
-      let test : Bool = is_of_call call r && same_urgency r.urgency Now in
-      elim test as (λ b. test ≡ b → All C (if b then deny ∷ [] else [])) [
-        | true ↦ λ is. let both = and_parts (is_of_call call r) (same_urgency r.urgency Now) is in All-cons C deny [] (told r held both.0 both.1) (All-nil C)
+  denial-sends : (call : CallId) (deny : Message) (o : Option TokenRequest) → IfSome o H → IfSome o (λ r. is_of_call call r ≡ true) → MayDeny H C call deny → All C (denial deny o)
+  denial-sends call deny None held own told = All-nil C
+  denial-sends call deny (Some r) held own told =
+      elim (same_urgency r.urgency Now) as (λ b. same_urgency r.urgency Now ≡ b → All C (if b then deny ∷ [] else [])) [
+        | true ↦ λ is. All-cons C deny [] (told r held own is) (All-nil C)
         | false ↦ λ is. All-nil C
       ] refl
 
@@ -183,10 +183,10 @@ module _ (file : ℕ) (H : TokenRequest → Type 0) (C : Message → Type 0) (ma
       let next = acknowledged t holder.node row row.token in
       let deny = Deny t.file call holder number lock in
       let here : MayDeny H C call deny = subst (λ (f : ℕ). MayDeny H C call (Deny f call holder number lock)) (sym c.file_is) told in
-      let made : Mode → Change = λ mode. (postponed call next, denial call deny t.active) in
+      let made : Mode → Change = λ mode. (postponed call next, denial deny (request_of call t.active)) in
       elim (revoked_mode number row.outstanding) as (λ o. Changes (option_map made o)) [
         | None ↦ changes_none
-        | Some mode ↦ changes_one (made mode) (postponed-comes next call (acknowledged-comes t holder.node row row.token c), denial-sends call deny t.active (requests-parts H t c.held).active here)
+        | Some mode ↦ changes_one (made mode) (postponed-comes next call (acknowledged-comes t holder.node row row.token c), denial-sends call deny (request_of call t.active) (find-each H (is_of_call call) t.active (requests-parts H t c.held).active) (find-passes (is_of_call call) t.active) here)
       ]
 
   delivered-changes : (t : ServerState) (m : Message) → Tells file H C m → Comes file H C t → Changes (delivered t m)
@@ -229,24 +229,42 @@ module _ (file : ℕ) (H : TokenRequest → Type 0) (C : Message → Type 0) (ma
   revoked-serves t r node None held other c = serves_one (t, []) (c, All-nil C)
   revoked-serves t r node (Some row) held other c =
       let holder : Host = record { node = node; incarnation = row.incarnation } in
-      commanded-serves t node row row.token (Revoke t.file (row.number + 1) holder r.call r.mode r.wanted) (subst (λ (f : ℕ). C (Revoke f (row.number + 1) holder r.call r.mode r.wanted)) (sym c.file_is) (makes.revokes (row.number + 1) holder r held other)) c
+      let wanted : Wants = record { required = r.wanted.required; desired = narrowed t.active r } in
+      commanded-serves t node row row.token (Revoke t.file (row.number + 1) holder r.call r.mode wanted) (subst (λ (f : ℕ). C (Revoke f (row.number + 1) holder r.call r.mode wanted)) (sym c.file_is) (makes.revokes (row.number + 1) holder r (narrowed t.active r) held other)) c
 
-  served-serves : (t : ServerState) (o : Option TokenRequest) → t.active ≡ o → Comes file H C t → Serves (served t o)
-  served-serves t None is c = serves_one (t, []) (c, All-nil C)
-  served-serves t (Some r) is c =
+  served-serves : (t : ServerState) (r : TokenRequest) → H r → Comes file H C t → Serves (served t r)
+  served-serves t r held c =
       let node = conflicting_node t r in
       elim (nat_le node t.shape.nodes) as (λ b. nat_le node t.shape.nodes ≡ b → Serves (if b then revoked_from t r node (t.rows node) else granted_to t r (t.rows r.call.node))) [
-        | true ↦ λ h. revoked-serves t r node (t.rows node) (active-each H t c.held r is) (other_node t r h) c
+        | true ↦ λ h. revoked-serves t r node (t.rows node) held (other_node t r h) c
         | false ↦ λ h. granted-serves t r (t.rows r.call.node) c
       ] refl
 
-  admitted-comes : (t : ServerState) → Comes file H C t → Comes file H C (admitted t t.active t.queue)
-  admitted-comes t c = admitted-stays Holds t (moved-comes t c) t.active t.queue (admitted-each H t c.held)
+  -- one after the other
+  more-serves : (before : List Message) (x : Result (ServerState × List Message) StepError) → All C before → Serves x → Serves (with_more before x)
+  more-serves before (Err e) told serves = serves_none e
+  more-serves before (Ok done) told serves =
+      let both = serves done refl in
+      serves_one (done.0, before ++ done.1) (both.0, All-append C before done.1 told both.1)
+
+  then-serves : (x : Result (ServerState × List Message) StepError) (next : ServerState → Result (ServerState × List Message) StepError) → Serves x → ((u : ServerState) → Comes file H C u → Serves (next u)) → Serves (and_then x next)
+  then-serves (Err e) next serves later = serves_none e
+  then-serves (Ok done) next serves later =
+      let both = serves done refl in
+      more-serves done.1 (next done.0) both.1 (later done.0 both.0)
+
+  each-serves : (rs : List TokenRequest) (t : ServerState) → All H rs → Comes file H C t → Serves (each_served rs t)
+  each-serves [] t held c = serves_one (t, []) (c, All-nil C)
+  each-serves (r ∷ rest) t held c =
+      then-serves (served t r) (each_served rest) (served-serves t r (All-head H r rest held) c) (λ u d. each-serves rest u (All-tail H r rest held) d)
+
+  ready-comes : (t : ServerState) → Comes file H C t → Comes file H C (ready t)
+  ready-comes t c = ready-stays Holds t (moved-comes t c) (ready-each H t c.held)
 
   serve-serves : (t : ServerState) → Comes file H C t → Serves (serve t)
   serve-serves t c =
-      let next = admitted t t.active t.queue in
-      served-serves next next.active refl (admitted-comes t c)
+      let next = ready-comes t c in
+      each-serves (ready t).active (ready t) (active-each H (ready t) next.held) next
 
   -- a step of the server
   abbrev pub Steps : Result (ServerState × Outcome) StepError → Type 0

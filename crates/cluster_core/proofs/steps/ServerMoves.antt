@@ -1,15 +1,15 @@
 -- A token server moves its requests about: the rest of it stays.
-use Rattle.std.specs.Prelude.{◌||◌, List, [], ◌∷◌, Option, Some, None}
+use Rattle.std.specs.Prelude.{◌||◌, List, [], Option, Some, None}
 use Rattle.std.specs.List.{list_any}
 use Rattle.token_server.specs.declared.token_request.TokenRequest.{TokenRequest}
 use Rattle.token_server.specs.State.{Row, ServerState, is_of_call}
-use Rattle.token_server.specs.Serve.{admitted}
-use Rattle.token_server.specs.Server.{is_active, request_of, enqueued_with, enqueued, freed}
+use Rattle.token_server.specs.Serve.{ready}
+use Rattle.token_server.specs.Server.{request_of, enqueued_with, enqueued, freed}
 use Rattle.cluster_core.proofs.common.Choices.{if_either}
 
 -- P holds of the server whatever requests it has
 abbrev pub WhateverRequests : (ServerState → Type 0) → ServerState → Type 0
-WhateverRequests P s = (active : Option TokenRequest) (queue waiting : List TokenRequest) → P (record s { active = active; queue = queue; waiting = waiting })
+WhateverRequests P s = (active queue waiting : List TokenRequest) → P (record s { active = active; queue = queue; waiting = waiting })
 
 module _ (P : ServerState → Type 0) (s : ServerState) (each : WhateverRequests P s) where
   -- as it is
@@ -22,15 +22,13 @@ module _ (P : ServerState → Type 0) (s : ServerState) (each : WhateverRequests
 
   -- a request is added, or one that waits is asked for again
   pub enqueued-stays : (r : TokenRequest) → P (enqueued s r)
-  enqueued-stays r = if_either P (is_active r.call s.active || list_any (is_of_call r.call) s.queue) _ _ unmoved (enqueued_with-stays r (request_of r.call s.waiting))
+  enqueued-stays r = if_either P (list_any (is_of_call r.call) s.active || list_any (is_of_call r.call) s.queue) _ _ unmoved (enqueued_with-stays r (request_of r.call s.waiting))
 
   -- all that wait are
   pub freed-stays : (row : Option Row) → P (freed s row)
   freed-stays None = unmoved
   freed-stays (Some row) = each s.active _ []
 
-  -- the first of the queue is served
-  pub admitted-stays : (active : Option TokenRequest) (queue : List TokenRequest) → P (admitted s active queue)
-  admitted-stays (Some r) queue = unmoved
-  admitted-stays None [] = unmoved
-  admitted-stays None (r ∷ rest) = each (Some r) rest s.waiting
+  -- requests come from the queue
+  pub ready-stays : P (ready s)
+  ready-stays = each (ready s).active (ready s).queue s.waiting

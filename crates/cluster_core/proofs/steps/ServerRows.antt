@@ -1,5 +1,5 @@
 -- What a token server's step does to its rows, and what it sends.
-use Rattle.std.specs.Prelude.{max, nat_le, nat_lt, ◌==◌, not, is_some, option_map}
+use Rattle.std.specs.Prelude.{max, nat_le, nat_lt, ◌==◌, not, filter, is_some, option_map, IfSome}
 use Rattle.std.specs.List.{All}
 use Rattle.std.proofs.Common.{◌≡◌, ℕ, ◌+◌, ◌-◌, ◌<◌, ◌≤◌, Bool, true, false, if◌then◌else◌, ◌&&◌, ◌⊎◌, inl, inr, refl, sym, ◌∙◌, ap, subst, arith, List, [], ◌∷◌, ◌++◌, Option, Some, None, Result, Ok, Err}
 use Rattle.std.proofs.lemmas.Bool.{both_ways, cases_Bool, cases_lt, and_parts, and_from, eqb-true, eq-eqb, ne_eqb, leb-true, leb-false, le-leb, lt-leb, not-true, not_from_false, false_from_ne_true}
@@ -28,16 +28,16 @@ use Rattle.messages.specs.Shapes.{ShapeFields}
 use Rattle.node_core.specs.State.{NodeState}
 use Rattle.token_server.specs.declared.token_request.TokenRequest.{TokenRequest}
 use Rattle.token_server.specs.declared.event.ServerEvent.TheVariants.{Deliver}
-use Rattle.token_server.specs.State.{Row, ServerState, empty_row, with_row, is_of_call, is_up_to, row_above, unless, forgotten, requests, requeued}
-use Rattle.token_server.specs.Serve.{admitted, row_conflicts, row_conflicts_at, is_taken, granted_span, conflicting_node, commanded, granted_to, revoked_from, served, serve}
+use Rattle.token_server.specs.State.{Row, ServerState, empty_row, with_row, is_of_call, is_up_to, row_above, forgotten, requests, requeued}
+use Rattle.token_server.specs.Serve.{row_conflicts, row_conflicts_at, is_taken, narrowed, granted_span, conflicting_node, commanded, granted_to, revoked_from, served, ready, serve}
 use Rattle.token_server.specs.Resends.{sending_first}
-use Rattle.token_server.specs.Server.{Change, with_a_row, enqueued, is_grant, revoked_mode, asked, acknowledged, ended, put_off, postponed, denial, row_of_incarnation, row_of_host, taken, released, in_conflict, freed, delivered, change, then_serve, server_rule}
-use Rattle.token_server.proofs.CareLaws.{active-each, admitted-each, requeued-each, freed-each, ended-each, postponed-each, forgotten-each, forgotten-young, enqueued-each}
+use Rattle.token_server.specs.Server.{Change, with_a_row, request_of, enqueued, is_grant, revoked_mode, asked, acknowledged, ended, put_off, postponed, denial, row_of_incarnation, row_of_host, taken, released, in_conflict, freed, delivered, change, then_serve, server_rule}
+use Rattle.token_server.proofs.CareLaws.{find-each, find-passes, active-each, ready-each, requeued-each, freed-each, ended-each, postponed-each, forgotten-each, forgotten-young, enqueued-each}
 use Rattle.token_server.proofs.GrantLaws.{conflicts_at, conflicts_at_byte, row_free}
-use Rattle.cluster_core.proofs.common.Choices.{at_number}
+use Rattle.cluster_core.proofs.common.Choices.{if_either, at_number}
 use Rattle.cluster_core.proofs.common.Refusals.{ok_is}
 use Rattle.cluster_core.proofs.common.Lists.{All-both}
-use Rattle.cluster_core.proofs.steps.ServerMoves.{WhateverRequests, enqueued-stays, freed-stays, admitted-stays}
+use Rattle.cluster_core.proofs.steps.ServerMoves.{WhateverRequests, enqueued-stays, freed-stays, ready-stays}
 use Rattle.cluster_core.proofs.steps.Requested.{change_done}
 use Rattle.cluster_core.proofs.tokens.Clearing.{around_free}
 use Rattle.cluster_core.proofs.tokens.Talks.{Sent, IsCommandTo, IsAnswerOf, promised, settled, unasked, Talk}
@@ -225,27 +225,25 @@ module _ (was : Sent) (nodes : ℕ → NodeState) (shape : ShapeFields) (file : 
 
   -- a request is served no longer, or waits from then on
   pub ends : (call : CallId) → Serves was nodes shape file (ended call t)
-  ends call = moves (unless (is_of_call call) t.active) t.queue t.waiting (ended-each (IsCurrent t) call t serves.held)
+  ends call = moves (filter (λ r. not (is_of_call call r)) t.active) t.queue t.waiting (ended-each (IsCurrent t) call t serves.held)
 
   pub postpones : (call : CallId) → Serves was nodes shape file (postponed call t)
-  postpones call = moves (unless (is_of_call call) t.active) t.queue (t.waiting ++ put_off call t.active) (postponed-each (IsCurrent t) call t serves.held)
+  postpones call = moves (filter (λ r. not (is_of_call call r)) t.active) t.queue (t.waiting ++ put_off (request_of call t.active)) (postponed-each (IsCurrent t) call t serves.held)
 
   -- a denial is of a call of a live incarnation
-  denies : (call : CallId) (holder : Host) (number : ℕ) (lock : LockInfo) (active : Option TokenRequest) → t.active ≡ active → Only (IsDenial nodes) (denial call (Deny t.file call holder number lock) active)
-  denies call holder number lock None is = only_none (IsDenial nodes)
-  denies call holder number lock (Some r) is =
+  denies : (call : CallId) (holder : Host) (number : ℕ) (lock : LockInfo) (own : Option TokenRequest) → IfSome own (IsCurrent t) → IfSome own (λ r. is_of_call call r ≡ true) → Only (IsDenial nodes) (denial (Deny t.file call holder number lock) own)
+  denies call holder number lock None current is = only_none (IsDenial nodes)
+  denies call holder number lock (Some r) current is =
       let deny = Deny t.file call holder number lock in
-      elim (is_of_call call r && same_urgency r.urgency Now) as (λ b. (is_of_call call r && same_urgency r.urgency Now) ≡ b → Only (IsDenial nodes) (if b then deny ∷ [] else [])) [
-        | true ↦ λ h.
-            let same = and_parts (r.call.node == call.node) _ (and_parts (is_of_call call r) (same_urgency r.urgency Now) h).0 in
-            let node : r.call.node ≡ call.node = eqb-true r.call.node call.node same.0 in
-            let incarnation : r.call.incarnation ≡ call.incarnation = eqb-true r.call.incarnation call.incarnation (and_parts (r.call.incarnation == call.incarnation) _ same.1).0 in
-            let of = (active-each (IsCurrent t) t serves.held r is).of in
-            let lives = (serves.talks r.call.node).lives in
-            let live : call.incarnation ≤ (nodes r.call.node).incarnation = omega arith in
-            only_one (IsDenial nodes) deny (subst (λ (k : ℕ). call.incarnation ≤ (nodes k).incarnation) node live)
-        | false ↦ λ h. only_none (IsDenial nodes)
-      ] refl
+      let same = and_parts (r.call.node == call.node) _ is in
+      let node : r.call.node ≡ call.node = eqb-true r.call.node call.node same.0 in
+      let incarnation : r.call.incarnation ≡ call.incarnation = eqb-true r.call.incarnation call.incarnation (and_parts (r.call.incarnation == call.incarnation) _ same.1).0 in
+      let of = current.of in
+      let lives = (serves.talks r.call.node).lives in
+      let live : call.incarnation ≤ (nodes r.call.node).incarnation = omega arith in
+      if_either (Only (IsDenial nodes)) (same_urgency r.urgency Now) _ _
+      (only_one (IsDenial nodes) deny (subst (λ (k : ℕ). call.incarnation ≤ (nodes k).incarnation) node live))
+      (only_none (IsDenial nodes))
 
 -- a row is there once it was made
 row_made : (t : ServerState) (call : CallId) (row : Option Row) → t.rows call.node ≡ row → is_some ((with_a_row t call row).rows call.node) ≡ true
@@ -323,13 +321,14 @@ module _ (was : Sent) (nodes : ℕ → NodeState) (shape : ShapeFields) (file : 
       let found = row_found holder.incarnation (t.rows holder.node) row there in
       let answer = Conflict file number holder call lock in
       let next = acknowledged t holder.node row row.token in
-      let deny = denial call (Deny t.file call holder number lock) t.active in
+      let own = request_of call t.active in
+      let deny = denial (Deny t.file call holder number lock) own in
       elim (revoked_mode number row.outstanding) as (λ o. revoked_mode number row.outstanding ≡ o → option_map (λ (mode : Mode). let c : Change = (postponed call next, deny) in c) o ≡ Some x → IsServing was nodes shape file x) [
         | Some mode ↦ λ fits h.
             let r = revokes number mode row.outstanding fits in
             let w : Awaits number row.outstanding row.token answer row.token = record { command = r.command; waiting = r.waiting; number = r.number; token = r.keeps row.token file number holder call lock } in
             let after : Serves was nodes shape file next = acknowledges was nodes shape file t serves holder.node number row answer row.token told (refl, refl, refl, sym found.1) found.0 w in
-            subst (IsServing was nodes shape file) (same_Some (postponed call next, deny) x h) (postpones was nodes shape file next after call, denies was nodes shape file t serves call holder number lock t.active refl)
+            subst (IsServing was nodes shape file) (same_Some (postponed call next, deny) x h) (postpones was nodes shape file next after call, denies was nodes shape file t serves call holder number lock own (find-each (IsCurrent t) (is_of_call call) t.active (active-each (IsCurrent t) t serves.held)) (find-passes (is_of_call call) t.active))
         | None ↦ λ fits h. absurd (none-some x h)
       ] refl h
 
@@ -352,9 +351,9 @@ module _ (was : Sent) (nodes : ℕ → NodeState) (shape : ShapeFields) (file : 
       subst (IsServing was nodes shape file) (same_Some (freed t row, []) x h) (frees was nodes shape file t serves row, only_none (IsDenial nodes))
   changes m told to known within alive x h = absurd (none-some x h)
 
-  -- the first of the queue is served
-  pub admits : Serves was nodes shape file (admitted t t.active t.queue)
-  admits = admitted-stays (Holds was nodes shape file t serves) t (moves was nodes shape file t serves) t.active t.queue (admitted-each (IsCurrent t) t serves.held)
+  -- requests come from the queue
+  pub readies : Serves was nodes shape file (ready t)
+  readies = ready-stays (Holds was nodes shape file t serves) t (moves was nodes shape file t serves) (ready-each (IsCurrent t) t serves.held)
 
 -- no byte of the span that is granted is one on which another node's row conflicts
 module _ (t : ServerState) (r : TokenRequest) (unblocked : nat_le (conflicting_node t r) t.shape.nodes ≡ false) where
@@ -384,7 +383,7 @@ module _ (t : ServerState) (r : TokenRequest) (unblocked : nat_le (conflicting_n
       let most = leb-true n t.shape.nodes bounds.1 in
       let span = granted_span t r in
       let ends = and_parts (nat_le span.lo b) (nat_le b span.hi) here in
-      let free : is_taken t r b ≡ false = false_from_ne_true (is_taken t r b) (around_free (is_taken t r) r.wanted.required r.wanted.desired none_taken b (leb-true span.lo b ends.0) (leb-true b span.hi ends.1)) in
+      let free : is_taken t r b ≡ false = false_from_ne_true (is_taken t r b) (around_free (is_taken t r) r.wanted.required (narrowed t.active r) none_taken b (leb-true span.lo b ends.0) (leb-true b span.hi ends.1)) in
       let none : conflicts_at_byte t r n b ≡ false = some_passes-none (λ k. conflicts_at_byte t r k b) 1 t.shape.nodes n free least (omega arith) in
       false_from_ne_true (row_conflicts_at (t.rows n) b r.mode) (λ conflicts. both_ways (conflicts_at_byte t r n b) none (and_from (not (n == r.call.node)) (row_conflicts_at (t.rows n) b r.mode) (not_from_false (n == r.call.node) (ne_eqb n r.call.node other)) conflicts))
 
@@ -407,7 +406,7 @@ pub record Commands (was : Sent) (nodes : ℕ → NodeState) (shape : ShapeField
   pub next : v ≡ with_row state node (Some (commanded_row row command))
   pub sent : sends ≡ command ∷ []
 
--- what comes of serving: nothing is sent, or one command
+-- what comes of serving one request: nothing is sent, or one command
 abbrev pub Served : Sent → (ℕ → NodeState) → ShapeFields → ℕ → ServerState → List Message → Type 0
 Served was nodes shape file v sends = (Serves was nodes shape file v × (sends ≡ [])) ⊎ Commands was nodes shape file v sends
 
@@ -415,66 +414,76 @@ none_outstanding : (o : Option Message) → is_some o ≡ false → o ≡ None
 none_outstanding None h = refl
 none_outstanding (Some m) h = absurd (cc)
 
+-- requests of the one are of the other
+abbrev pub Keeps : ServerState → ServerState → Type 0
+Keeps t v = (r : TokenRequest) → IsCurrent t r → IsCurrent v r
+
 module _ (was : Sent) (nodes : ℕ → NodeState) (shape : ShapeFields) (file : ℕ) (t : ServerState) (serves : Serves was nodes shape file t) (v : ServerState) (sends : List Message) where
-  still : ◌≡◌ {A = Result (ServerState × List Message) StepError} (Ok (t, [])) (Ok (v, sends)) → Served was nodes shape file v sends
+  abbrev ServedHere : Type 0
+  ServedHere = Served was nodes shape file v sends × Keeps t v
+
+  still : ◌≡◌ {A = Result (ServerState × List Message) StepError} (Ok (t, [])) (Ok (v, sends)) → ServedHere
   still h =
       let same = ok_is (t, []) (v, sends) h in
       let P : ServerState × List Message → Type 0 = λ x. Serves was nodes shape file x.0 × (x.1 ≡ []) in
-      inl (subst P same (serves, refl))
+      let Q : ServerState × List Message → Type 0 = λ x. Keeps t x.0 in
+      (inl (subst P same (serves, refl)), subst Q same (λ r current. current))
 
-  commands : (n : ℕ) (row : Row) (command : Message) → t.rows n ≡ Some row → IsCommandTo file n row.incarnation (row.number + 1) command → IsFreeFor t n command → commanded t n row (promised row.token command) command ≡ Ok (v, sends) → Served was nodes shape file v sends
+  commands : (n : ℕ) (row : Row) (command : Message) → t.rows n ≡ Some row → IsCommandTo file n row.incarnation (row.number + 1) command → IsFreeFor t n command → commanded t n row (promised row.token command) command ≡ Ok (v, sends) → ServedHere
   commands n row command there to free h =
       let later = with_row t n (Some (commanded_row row command)) in
       let R : Type 0 = Result (ServerState × List Message) StepError in
       let few : Bool = nat_lt row.number greatest_number in
-      elim (is_some row.outstanding) as (λ b. is_some row.outstanding ≡ b → ◌≡◌ {A = R} (if b then Ok (t, []) else (if few then Ok (later, command ∷ []) else Err Spent)) (Ok (v, sends)) → Served was nodes shape file v sends) [
+      elim (is_some row.outstanding) as (λ b. is_some row.outstanding ≡ b → ◌≡◌ {A = R} (if b then Ok (t, []) else (if few then Ok (later, command ∷ []) else Err Spent)) (Ok (v, sends)) → ServedHere) [
         | true ↦ λ is h. still h
-        | false ↦ λ is h. elim few as (λ b. ◌≡◌ {A = R} (if b then Ok (later, command ∷ []) else Err Spent) (Ok (v, sends)) → Served was nodes shape file v sends) [
+        | false ↦ λ is h. elim few as (λ b. ◌≡◌ {A = R} (if b then Ok (later, command ∷ []) else Err Spent) (Ok (v, sends)) → ServedHere) [
           | true ↦ λ h.
               let same = ok_is (later, command ∷ []) (v, sends) h in
-              inr (record {
-                state = t;
-                serves = serves;
-                node = n;
-                row = row;
-                there = there;
-                idle = none_outstanding row.outstanding is;
-                command = command;
-                to = to;
-                free = free;
-                next = ap (λ (x : ServerState × List Message). x.0) (sym same);
-                sent = ap (λ (x : ServerState × List Message). x.1) (sym same);
-              })
+              let Q : ServerState × List Message → Type 0 = λ x. Keeps t x.0 in (
+                inr (record {
+                  state = t;
+                  serves = serves;
+                  node = n;
+                  row = row;
+                  there = there;
+                  idle = none_outstanding row.outstanding is;
+                  command = command;
+                  to = to;
+                  free = free;
+                  next = ap (λ (x : ServerState × List Message). x.0) (sym same);
+                  sent = ap (λ (x : ServerState × List Message). x.1) (sym same);
+                }),
+                subst Q same (current_row was nodes shape file t serves n (commanded_row row command)),
+              )
           | false ↦ λ h. absurd (cc)
         ] h
       ] refl h
 
-  grants : (r : TokenRequest) → IsCurrent t r → nat_le (conflicting_node t r) t.shape.nodes ≡ false → (row : Option Row) → t.rows r.call.node ≡ row → granted_to t r row ≡ Ok (v, sends) → Served was nodes shape file v sends
+  grants : (r : TokenRequest) → IsCurrent t r → nat_le (conflicting_node t r) t.shape.nodes ≡ false → (row : Option Row) → t.rows r.call.node ≡ row → granted_to t r row ≡ Ok (v, sends) → ServedHere
   grants r current unblocked None there h = still h
   grants r current unblocked (Some row) there h =
       let aged = (serves.talks r.call.node).aged row there in
       commands r.call.node row (Grant t.file (row.number + 1) r.call r.mode (granted_span t r)) there (serves.file_is, refl, refl, current.of ∙ sym aged) (span_free t r unblocked) h
 
-  revokes_from : (r : TokenRequest) (n : ℕ) (row : Option Row) → t.rows n ≡ row → revoked_from t r n row ≡ Ok (v, sends) → Served was nodes shape file v sends
+  revokes_from : (r : TokenRequest) (n : ℕ) (row : Option Row) → t.rows n ≡ row → revoked_from t r n row ≡ Ok (v, sends) → ServedHere
   revokes_from r n None there h = still h
   revokes_from r n (Some row) there h =
-      commands n row (Revoke t.file (row.number + 1) (record { node = n; incarnation = row.incarnation }) r.call r.mode r.wanted) there (serves.file_is, refl, refl, refl) tt h
+      commands n row (Revoke t.file (row.number + 1) (record { node = n; incarnation = row.incarnation }) r.call r.mode (record { required = r.wanted.required; desired = narrowed t.active r })) there (serves.file_is, refl, refl, refl) tt h
 
-  serves_one : (o : Option TokenRequest) → t.active ≡ o → served t o ≡ Ok (v, sends) → Served was nodes shape file v sends
-  serves_one None is h = still h
-  serves_one (Some r) is h =
+  -- a request is served
+  pub serves_one : (r : TokenRequest) → IsCurrent t r → served t r ≡ Ok (v, sends) → ServedHere
+  serves_one r current h =
       let R : Type 0 = Result (ServerState × List Message) StepError in
       let n = conflicting_node t r in
-      elim (nat_le n t.shape.nodes) as (λ b. nat_le n t.shape.nodes ≡ b → ◌≡◌ {A = R} (if b then revoked_from t r n (t.rows n) else granted_to t r (t.rows r.call.node)) (Ok (v, sends)) → Served was nodes shape file v sends) [
+      elim (nat_le n t.shape.nodes) as (λ b. nat_le n t.shape.nodes ≡ b → ◌≡◌ {A = R} (if b then revoked_from t r n (t.rows n) else granted_to t r (t.rows r.call.node)) (Ok (v, sends)) → ServedHere) [
         | true ↦ λ blocked h. revokes_from r n (t.rows n) refl h
-        | false ↦ λ unblocked h. grants r (active-each (IsCurrent t) t serves.held r is) unblocked (t.rows r.call.node) refl h
+        | false ↦ λ unblocked h. grants r current unblocked (t.rows r.call.node) refl h
       ] refl h
 
--- the server serves
-pub serve_serves : (was : Sent) (nodes : ℕ → NodeState) (shape : ShapeFields) (file : ℕ) (t : ServerState) → Serves was nodes shape file t → (v : ServerState) (sends : List Message) → serve t ≡ Ok (v, sends) → Served was nodes shape file v sends
-serve_serves was nodes shape file t serves v sends h =
-    let next = admitted t t.active t.queue in
-    serves_one was nodes shape file next (admits was nodes shape file t serves) v sends next.active refl h
+-- a step of the server comes of no serving and sends nothing, or of serving
+abbrev pub Serving : Sent → (ℕ → NodeState) → ShapeFields → ℕ → ServerState → List Message → Type 0
+Serving was nodes shape file v sends =
+    (Serves was nodes shape file v × (sends ≡ [])) ⊎ ((begun : ServerState) × Serves was nodes shape file begun × (serve begun ≡ Ok (v, sends)))
 
 -- what comes of a message: denials, and what is sent by serving
 pub record Answered (was : Sent) (nodes : ℕ → NodeState) (shape : ShapeFields) (file : ℕ) (v : ServerState) (sends : List Message) : Type 0 where
@@ -482,17 +491,17 @@ pub record Answered (was : Sent) (nodes : ℕ → NodeState) (shape : ShapeField
   pub fresh : List Message
   pub sent : sends ≡ denied ++ fresh
   pub denials : Only (IsDenial nodes) denied
-  pub served : Served was nodes shape file v fresh
+  pub served : Serving was nodes shape file v fresh
 
 module _ (was : Sent) (nodes : ℕ → NodeState) (shape : ShapeFields) (file : ℕ) (t : ServerState) (serves : Serves was nodes shape file t) (v : ServerState) (o : Outcome) where
-  outcome_is : (c : ServerState) (before fresh : List Message) → ◌≡◌ {A = Result (ServerState × Outcome) StepError} (Ok (c, sending (before ++ fresh))) (Ok (v, o)) → Only (IsDenial nodes) before → Served was nodes shape file c fresh → Answered was nodes shape file v o.sends
+  outcome_is : (c : ServerState) (before fresh : List Message) → ◌≡◌ {A = Result (ServerState × Outcome) StepError} (Ok (c, sending (before ++ fresh))) (Ok (v, o)) → Only (IsDenial nodes) before → Serving was nodes shape file c fresh → Answered was nodes shape file v o.sends
   outcome_is c before fresh h denials served =
       let P : ServerState × Outcome → Type 0 = λ x. Answered was nodes shape file x.0 x.1.sends in
       subst P (ok_is (c, sending (before ++ fresh)) (v, o) h) (record { denied = before; fresh = fresh; sent = refl; denials = denials; served = served })
 
   serves_changed : (x : Change) → IsServing was nodes shape file x → (r : Result (ServerState × List Message) StepError) → serve x.0 ≡ r → sending_first x.1 r ≡ Ok (v, o) → Answered was nodes shape file v o.sends
   serves_changed x after (Err e) is h = absurd (cc)
-  serves_changed x after (Ok done) is h = outcome_is done.0 x.1 done.1 h after.1 (serve_serves was nodes shape file x.0 after.0 done.0 done.1 is)
+  serves_changed x after (Ok done) is h = outcome_is done.0 x.1 done.1 h after.1 (inr (x.0, after.0, is))
 
   serves_if : (c : Option Change) → ((x : Change) → c ≡ Some x → IsServing was nodes shape file x) → then_serve t (Ok c) ≡ Ok (v, o) → Answered was nodes shape file v o.sends
   serves_if None after h = outcome_is t [] [] h (only_none (IsDenial nodes)) (inl (serves, refl))

@@ -4,7 +4,7 @@ use Rattle.messages.specs.declared.event.Event.TheVariants.{Declare}
 use Rattle.messages.specs.declared.refusal.Refused.{Refused}
 use Rattle.cluster_core.specs.Next.{next}
 use Rattle.cluster_core.specs.Parts.{world_state}
-use Rattle.cluster_core.proofs.steps.CertainRefusals.{err_is}
+use Rattle.cluster_core.proofs.steps.CertainRefusals.{err_is, declare-unspent}
 use Rattle.messages.specs.Messages.{sending}
 use Rattle.cluster_core.specs.Journals.{RunFields}
 use Rattle.book.specs.Fields.{StampFields}
@@ -28,5 +28,5 @@ pub returns-in_err-take-clause-refused : goal.returns-in_err-take-clause-refused
 returns-in_err-take-clause-refused c = λ e refused.
     let before : next (world_state c.self.inside.run.world) (Declare c.args.node) ≡ Err e = subst (λ (r : RunFields). next (world_state r.world) (Declare c.args.node) ≡ Err e) (sym c.self.view_is) refused in
     let told = err_from_is_err_and c.from_residual.result c.from_residual.ensures.1 in
-    let same = c.in_err-take.ensures.refused e before in
+    let same = c.in_err-take.ensures.refused e (declare-unspent (world_state c.self.inside.run.world) c.args.node e before) before in
     told.1 ∙ ap (λ (r : Refused). Err r) (told.2 ∙ err_is _ _ same)

@@ -7,8 +7,8 @@ use Rattle.cluster_core.proofs.steps.CertainRefusals.{err_is, server_refused}
 use Rattle.cluster_core.proofs.world.World.plan_server.Goals as goal
 
 pub returns-in_err-change-clause-refused : goal.returns-in_err-change-clause-refused
-returns-in_err-change-clause-refused c = λ e refused.
+returns-in_err-change-clause-refused c = λ e unspent refused.
     let own = server_refused (world_state c.args.self.now) c.args.event.now c.args.file _ e refused in
     let made = err_from_is_err_and c.from_residual.result c.from_residual.ensures.1 in
-    let same = sym c.in_err-change.was ∙ c.server_plan.ensures.refused own.0 own.1 in
+    let same = sym c.in_err-change.was ∙ c.server_plan.ensures.refused own.0 (λ spent. unspent (sym own.2 ∙ ap refused_by spent)) own.1 in
     made.1 ∙ ap (λ (r : Refused). Err r) (made.2 ∙ ap refused_by (err_is _ _ same) ∙ own.2)

@@ -4,7 +4,7 @@ use Rattle.std.proofs.Common.{◌≡◌, true, sym, subst}
 use Rattle.std.proofs.lemmas.Result.{IfOk-weaker}
 use Rattle.messages.specs.Messages.{is_within}
 use Rattle.messages.specs.declared.refusal.StepError.{StepError}
-use Rattle.messages.specs.declared.refusal.StepError.TheVariants.{NoMemory}
+use Rattle.messages.specs.declared.refusal.StepError.TheVariants.{NoMemory, Spent}
 use Rattle.cluster_core.specs.Parts.{WorldParts, world_state}
 use Rattle.token_server.specs.Server.{server_rule}
 use Rattle.token_server.specs.State.{ServerState}
@@ -30,7 +30,7 @@ returns-clause-err c =
 
 pub returns-clause-refused : goal.returns-clause-refused
 returns-clause-refused c =
-    let P : WorldParts → Type 0 = λ p. (r : StepError) → server_rule ((world_state p).servers c.args.file) c.args.step.now ≡ Err r → c.plan.result ≡ Err r in
-    let Q : ServerState → Type 0 = λ s. (r : StepError) → server_rule s c.args.step.now ≡ Err r → c.plan.result ≡ Err r in
+    let P : WorldParts → Type 0 = λ p. (r : StepError) → r ≢ Spent → server_rule ((world_state p).servers c.args.file) c.args.step.now ≡ Err r → c.plan.result ≡ Err r in
+    let Q : ServerState → Type 0 = λ s. (r : StepError) → r ≢ Spent → server_rule s c.args.step.now ≡ Err r → c.plan.result ≡ Err r in
     let R : WorldParts → Type 0 = λ p. is_within p.shape.files c.args.file ≡ true in
     subst P c.self.view_is (subst Q (sym (read_server (record { shape = c.self.inside.shape; nodes = c.self.inside.nodes.items; members = c.self.inside.members; servers = c.self.inside.servers.items; sent = c.self.inside.sent; length = c.self.inside.length }) c.args.file c.index.result.now c.self.invariant (subst R (sym c.self.view_is) c.requires) c.index.ensures)) c.plan.ensures.refused)

@@ -1,9 +1,11 @@
-use Rattle.std.specs.Prelude.{◌≡◌}
-use Rattle.std.proofs.Common.{sym, ap, ◌∙◌, arith}
+use Rattle.std.specs.Prelude.{◌≡◌, ◌≤◌}
+use Rattle.std.proofs.Common.{subst, sym, ap, ◌∙◌, arith}
 use Rattle.intervals.specs.Bytes.{Range}
+use Rattle.token_server.specs.Serve.{narrowed}
 use Rattle.token_server.specs.Parts.{ServerParts}
+use Rattle.token_server.specs.Told.{with_told}
 use Rattle.token_server.specs.Edits.{drafted}
-use Rattle.token_server.proofs.GrantLaws.{narrowed-start, narrowed-holds, narrowed-free, narrowed-more, narrowed-skip, narrowed-end, granted-exact}
+use Rattle.token_server.proofs.GrantLaws.{narrowed-begin, narrowed-holds, narrowed-free, narrowed-more, narrowed-skip, narrowed-end, granted-exact}
 use Rattle.token_server.proofs.server.Server.granted_span.Goals.{then-not-is_of_node, else-not-is_of_node}
 use Rattle.token_server.proofs.server.Server.granted_span.Goals as goal
 
@@ -11,19 +13,21 @@ pub returns-then-span-required-2 : goal.returns-then-span-required-2
 returns-then-span-required-2 c =
     let same_lo = c.if-span-required.true in
     let same_hi = c.if-span-required-2.true in
-    let span_lo = ap (λ (s : Range). s.lo) (c.span.view_is ∙ c.desired-span.ensures.value) in
-    let span_hi = ap (λ (s : Range). s.hi) (c.span.view_is ∙ c.desired-span.ensures.value) in
+    let r = c.args.request.now in
+    let u = with_told c.args.told.now (drafted c.args.self.now c.args.draft.now) in
+    let span_lo = ap (λ (s : Range). s.lo) (c.span.view_is ∙ c.narrowed-span.ensures.value) in
+    let span_hi = ap (λ (s : Range). s.hi) (c.span.view_is ∙ c.narrowed-span.ensures.value) in
     let required_lo = ap (λ (s : Range). s.lo) (c.required.view_is ∙ c.required-required.ensures.value) in
     let required_hi = ap (λ (s : Range). s.hi) (c.required.view_is ∙ c.required-required.ensures.value) in
-    let starts : c.args.request.now.wanted.desired.lo ≡ c.args.request.now.wanted.required.lo = cc in
-    let ends : c.args.request.now.wanted.desired.hi ≡ c.args.request.now.wanted.required.hi = cc in
-    c.desired-span.ensures.value ∙ granted-exact (drafted c.args.self.now c.args.draft.now) c.args.request.now c.requires (rw (← c.required-required.ensures.value) c.required-required.ensures.ordered) starts ends
+    let starts : (narrowed u.active r).lo ≡ r.wanted.required.lo = cc in
+    let ends : (narrowed u.active r).hi ≡ r.wanted.required.hi = cc in
+    c.narrowed-span.ensures.value ∙ granted-exact u r c.requires (rw (← c.required-required.ensures.value) c.required-required.ensures.ordered) starts ends
 
 pub loop-place-init : goal.loop-place-init
 loop-place-init c =
-    let s = drafted c.args.self.now c.args.draft.now in
+    let s = with_told c.args.told.now (drafted c.args.self.now c.args.draft.now) in
     let r = c.args.request.now in
-    rw c.desired-span.ensures.value (narrowed-start s r (rw (← c.required-required.ensures.value) c.required-required.ensures.ordered) (rw (← c.desired-span.ensures.value) c.desired-span.ensures.starts_before) (rw (← c.desired-span.ensures.value) c.desired-span.ensures.ends_after))
+    rw c.narrowed-span.ensures.value (narrowed-begin s r (rw (← c.required-required.ensures.value) c.required-required.ensures.ordered) (subst (λ (x : Range). x.lo ≤ r.wanted.required.lo) c.narrowed-span.ensures.value c.narrowed-span.ensures.starts_before) (subst (λ (x : Range). r.wanted.required.hi ≤ x.hi) c.narrowed-span.ensures.value c.narrowed-span.ensures.ends_after))
 
 pub free_around-span-requires-clause-starts_within : goal.free_around-span-requires-clause-starts_within
 free_around-span-requires-clause-starts_within c =
@@ -38,20 +42,19 @@ free_around-span-requires-clause-ends_within c =
 pub free_around-span-requires-clause-free : goal.free_around-span-requires-clause-free
 free_around-span-requires-clause-free c =
     let nodes : c.nodes-place-end.result ≡ c.args.self.now.shape.nodes = c.nodes-place-end.ensures.value ∙ ap (λ (p : ServerParts). p.shape.nodes) c.self.view_is in
-    let clients : c.self.inside.clients ≡ c.args.self.now.clients = ap (λ (p : ServerParts). p.clients) c.self.view_is in
-    rw (c.required-required.ensures.value, clients) (narrowed-free (drafted c.args.self.now c.args.draft.now) c.args.request.now c.loop-place.place c.requires (omega arith) (sym c.is_of_node.ensures ∙ c.if-not-is_of_node.true))
+    rw c.required-required.ensures.value (narrowed-free (with_told c.args.told.now (drafted c.args.self.now c.args.draft.now)) c.args.request.now c.loop-place.place c.requires (omega arith) (sym c.is_of_node.ensures ∙ c.if-not-is_of_node.true))
 
 pub loop-place-preserved : goal.loop-place-preserved
 loop-place-preserved c =
-    let s = drafted c.args.self.now c.args.draft.now in
+    let s = with_told c.args.told.now (drafted c.args.self.now c.args.draft.now) in
     let r = c.args.request.now in
     let nodes : c.nodes-place-end.result ≡ c.args.self.now.shape.nodes = c.nodes-place-end.ensures.value ∙ ap (λ (p : ServerParts). p.shape.nodes) c.self.view_is in
     elim c.if-not-is_of_node.branch [
-      | then-not-is_of_node w ↦ rw w.span-is (narrowed-more s r c.loop-place.place c.loop-place.span _ c.requires (omega arith) c.loop-place.invariant (sym c.is_of_node.ensures ∙ w.if-not-is_of_node.true) (rw (← c.self.view_is, ← c.required-required.ensures.value) w.free_around-span.ensures))
+      | then-not-is_of_node w ↦ rw w.span-is (narrowed-more s r c.loop-place.place c.loop-place.span _ c.requires (omega arith) c.loop-place.invariant (sym c.is_of_node.ensures ∙ w.if-not-is_of_node.true) (rw (← c.required-required.ensures.value) w.free_around-span.ensures))
       | else-not-is_of_node w ↦ rw w.span-is (narrowed-skip s r c.loop-place.place c.loop-place.span c.loop-place.invariant (sym c.is_of_node.ensures ∙ w.if-not-is_of_node.false))
     ]
 
 pub returns : goal.returns
 returns c =
     let nodes : c.nodes-place-end.result ≡ c.args.self.now.shape.nodes = c.nodes-place-end.ensures.value ∙ ap (λ (p : ServerParts). p.shape.nodes) c.self.view_is in
-    narrowed-end (drafted c.args.self.now c.args.draft.now) c.args.request.now c.loop-place.place c.loop-place.span c.loop-place.invariant (omega arith)
+    narrowed-end (with_told c.args.told.now (drafted c.args.self.now c.args.draft.now)) c.args.request.now c.loop-place.place c.loop-place.span c.loop-place.invariant (omega arith)

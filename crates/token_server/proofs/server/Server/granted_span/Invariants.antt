@@ -1,6 +1,7 @@
+use Rattle.token_server.specs.Told.{with_told}
 use Rattle.token_server.specs.Edits.{drafted}
 use Rattle.token_server.proofs.GrantLaws.{IsNarrowed}
 use Rattle.token_server.proofs.server.Server.granted_span.Given as goal
 
 abbrev pub invariant-loop-place : goal.invariant-loop-place
-invariant-loop-place l = IsNarrowed (drafted l.self l.draft) l.request l.place l.span
+invariant-loop-place l = IsNarrowed (with_told l.told (drafted l.self l.draft)) l.request l.place l.span

@@ -1,0 +1,218 @@
+-- What is left of a span without the bytes of another.
+use Rattle.std.specs.Prelude.{◌≡◌, ℕ, ◌+◌, ◌-◌, ◌<◌, ◌≤◌, ◌⊎◌, Bool, true, false, not, ◌&&◌, ◌||◌, cond, max, min, nat_le, nat_lt, List, [], ◌∷◌, ◌++◌}
+use Rattle.std.specs.List.{list_any}
+use Rattle.std.proofs.Common.{refl, ap, sym, ◌∙◌, inl, inr, arith}
+use Rattle.std.proofs.Math.Nat.{min-eq_left, min-eq_right, min-le_left, min-le_right, le-min}
+use Rattle.std.proofs.lemmas.Bool.{both_ways, and_parts, and_from, not-true, leb-true, le-leb, cases_lt}
+use Rattle.std.proofs.lemmas.Bool.Decides.{nat_tests}
+use Rattle.std.proofs.lemmas.List.Folds.{list_any-append}
+use Rattle.intervals.specs.Bytes.{Range, is_in, NoneIn, IsLargest, largest_around}
+use Rattle.intervals.proofs.SpanSearch.{largest_is_largest}
+use Rattle.token_set.proofs.AroundLaws.{largest_around-is, largest_around-same, largest_around-or, largest_around-free}
+use Rattle.token_server.specs.declared.token_request.TokenRequest.{TokenRequest}
+use Rattle.token_server.specs.Serve.{is_needed, narrowed}
+use Rattle.token_server.specs.Told.{cut}
+use Rattle.token_server.proofs.GrantLaws.{none_needed}
+
+-- the byte is one of the other span alone
+abbrev pub only_in : Range → Range → ℕ → Bool
+only_in required other b = not (is_in required b) && is_in other b
+
+outside : (required other : Range) (b : ℕ) → only_in required other b ≡ true → ((b < required.lo) ⊎ (required.hi < b)) × (other.lo ≤ b) × (b ≤ other.hi)
+outside required other b h =
+    let parts = and_parts (not (is_in required b)) (is_in other b) h in
+    let ends = and_parts (nat_le other.lo b) (nat_le b other.hi) parts.1 in (
+      elim (cases_lt b required.lo) [
+        | inl below ↦ inl below
+        | inr above ↦ elim (cases_lt required.hi b) [
+          | inl past ↦ inr past
+          | inr within ↦ absurd (both_ways (is_in required b) (not-true (is_in required b) parts.0) (and_from (nat_le required.lo b) (nat_le b required.hi) (le-leb required.lo b above) (le-leb b required.hi within)))
+        ]
+      ],
+      leb-true other.lo b ends.0,
+      leb-true b other.hi ends.1,
+    )
+
+from_outside : (required other : Range) (b : ℕ) → (b < required.lo) ⊎ (required.hi < b) → other.lo ≤ b → b ≤ other.hi → only_in required other b ≡ true
+from_outside required other b out above below =
+    and_from (not (is_in required b)) (is_in other b) (is_out out) (and_from (nat_le other.lo b) (nat_le b other.hi) (le-leb other.lo b above) (le-leb b other.hi below))
+  where
+    not_lo : (lo : ℕ) → b < lo → not (nat_le lo b && nat_le b required.hi) ≡ true
+    not_lo lo h = grind (arith, nat_tests, h)
+
+    not_hi : (hi : ℕ) → hi < b → not (nat_le required.lo b && nat_le b hi) ≡ true
+    not_hi hi h = grind (arith, nat_tests, h)
+
+    is_out : (b < required.lo) ⊎ (required.hi < b) → not (is_in required b) ≡ true
+    is_out (inl h) = not_lo required.lo h
+    is_out (inr h) = not_hi required.hi h
+
+-- the first byte of what is left, and the last
+record IsCut (required within other s : Range) : Type 0 where
+  lo_cut : other.lo < required.lo → s.lo ≡ max within.lo (min (other.hi + 1) required.lo)
+  lo_same : required.lo ≤ other.lo → s.lo ≡ within.lo
+  hi_cut : required.hi < other.hi → s.hi ≡ min within.hi (max (other.lo - 1) required.hi)
+  hi_same : other.hi ≤ required.hi → s.hi ≡ within.hi
+
+chosen : {A : Type 0} (a b : ℕ) (x y : A) → ((a < b) → cond (nat_lt a b) x y ≡ x) × ((b ≤ a) → cond (nat_lt a b) x y ≡ y)
+chosen a b x y = (λ h. ap (λ (t : Bool). cond t x y) (less h), λ h. ap (λ (t : Bool). cond t x y) (more h))
+  where
+    less : a < b → nat_lt a b ≡ true
+    less h = grind (arith, nat_tests, h)
+
+    more : b ≤ a → nat_lt a b ≡ false
+    more h = grind (arith, nat_tests, h)
+
+cut-cases : (required within other : Range) → IsCut required within other (cut required within other)
+cut-cases required within other =
+    let lo = chosen other.lo required.lo (max within.lo (min (other.hi + 1) required.lo)) within.lo in
+    let hi = chosen required.hi other.hi (min within.hi (max (other.lo - 1) required.hi)) within.hi in
+    record { lo_cut = lo.0; lo_same = lo.1; hi_cut = hi.0; hi_same = hi.1 }
+
+-- what the less of two is, and the greater
+mins : (a b : ℕ) → ((a ≤ b) × (min a b ≡ a)) ⊎ ((b ≤ a) × (min a b ≡ b))
+mins a b = elim (cases_lt a b) [
+  | inl less ↦ let le : a ≤ b = omega arith in inl (le, min-eq_left le)
+  | inr more ↦ inr (more, min-eq_right more)
+]
+
+-- it is the largest of its kind
+cut-largest : (required within other s : Range) → required.lo ≤ required.hi → within.lo ≤ required.lo → required.hi ≤ within.hi → other.lo ≤ other.hi → IsCut required within other s → IsLargest (λ b. only_in required other b ≡ true) required within s
+cut-largest required within other s order starts ends full c = record {
+  has_first = bounds_lo.1;
+  has_last = bounds_hi.0;
+  starts_within = bounds_lo.0;
+  ends_within = bounds_hi.1;
+  free = λ b above below h.
+      let there = outside required other b h in
+      let from : other.lo ≤ b = there.1 in
+      let to : b ≤ other.hi = there.2 in
+      elim there.0 [
+        | inl under ↦ not_below b under from to above
+        | inr past ↦ not_above b past from to below
+      ];
+  full_below = λ b next above. elim (cases_lt other.lo required.lo) [
+    | inl under ↦
+        let is = c.lo_cut under in
+        elim (mins (other.hi + 1) required.lo) [
+          | inl m ↦ let least = m.1 in let few = m.0 in from_outside required other b (inl (omega arith)) (omega arith) (omega arith)
+          | inr m ↦ let least = m.1 in let few = m.0 in from_outside required other b (inl (omega arith)) (omega arith) (omega arith)
+        ]
+    | inr past ↦ let is = c.lo_same past in absurd (omega arith)
+  ];
+  full_above = λ below. elim (cases_lt required.hi other.hi) [
+    | inl past ↦
+        let is = c.hi_cut past in
+        elim (mins within.hi (max (other.lo - 1) required.hi)) [
+          | inl m ↦ let least = m.1 in absurd (omega arith)
+          | inr m ↦ let least = m.1 in from_outside required other (s.hi + 1) (inr (omega arith)) (omega arith) (omega arith)
+        ]
+    | inr under ↦ let is = c.hi_same under in absurd (omega arith)
+  ];
+}
+  where
+    not_below : (b : ℕ) → b < required.lo → other.lo ≤ b → b ≤ other.hi → s.lo ≤ b → ⊥
+    not_below b under from to above =
+        let is = c.lo_cut (omega arith) in
+        elim (mins (other.hi + 1) required.lo) [
+          | inl m ↦ let least = m.1 in omega arith
+          | inr m ↦ let least = m.1 in let few = m.0 in omega arith
+        ]
+
+    not_above : (b : ℕ) → required.hi < b → other.lo ≤ b → b ≤ other.hi → b ≤ s.hi → ⊥
+    not_above b past from to below =
+        let is = c.hi_cut (omega arith) in
+        elim (mins within.hi (max (other.lo - 1) required.hi)) [
+          | inl m ↦ let least = m.1 in let few = m.0 in omega arith
+          | inr m ↦ let least = m.1 in omega arith
+        ]
+
+    bounds_lo : (within.lo ≤ s.lo) × (s.lo ≤ required.lo)
+    bounds_lo = elim (cases_lt other.lo required.lo) [
+      | inl under ↦
+          let is = c.lo_cut under in
+          let less = min-le_right (other.hi + 1) required.lo in
+          (omega arith, omega arith)
+      | inr past ↦ let is = c.lo_same past in (omega arith, omega arith)
+    ]
+
+    bounds_hi : (required.hi ≤ s.hi) × (s.hi ≤ within.hi)
+    bounds_hi = elim (cases_lt required.hi other.hi) [
+      | inl past ↦
+          let is = c.hi_cut past in
+          let less = min-le_left within.hi (max (other.lo - 1) required.hi) in
+          let least : required.hi ≤ min within.hi (max (other.lo - 1) required.hi) = le-min ends (omega arith) in
+          (omega arith, omega arith)
+      | inr under ↦ let is = c.hi_same under in (omega arith, omega arith)
+    ]
+
+pub cut-is : (required within other : Range) → required.lo ≤ required.hi → within.lo ≤ required.lo → required.hi ≤ within.hi → other.lo ≤ other.hi → cut required within other ≡ largest_around (only_in required other) required within
+cut-is required within other order starts ends full =
+    largest_around-is (only_in required other) required within (cut required within other) order (cut-largest required within other (cut required within other) order starts ends full (cut-cases required within other))
+
+none_only : (required other : Range) → NoneIn (λ b. only_in required other b ≡ true) required
+none_only required other b above below h = elim (outside required other b h).0 [ inl under ↦ omega arith | inr past ↦ omega arith ]
+
+-- of a span that has no byte of what is required
+pub cut-apart : (required within other : Range) → required.lo ≤ required.hi → within.lo ≤ required.lo → required.hi ≤ within.hi → other.lo ≤ other.hi → NoneIn (λ b. is_in other b ≡ true) required → cut required within other ≡ largest_around (is_in other) required within
+cut-apart required within other order starts ends full apart =
+    cut-is required within other order starts ends full ∙ largest_around-same (only_in required other) (is_in other) required within (λ b. by b (is_in required b) (is_in other b) refl refl)
+  where
+    by : (b : ℕ) (x y : Bool) → is_in required b ≡ x → is_in other b ≡ y → (not x && y) ≡ y
+    by b false y i j = refl
+    by b true false i j = refl
+    by b true true i j =
+        let ends = and_parts (nat_le required.lo b) (nat_le b required.hi) i in
+        absurd (apart b (leb-true required.lo b ends.0) (leb-true b required.hi ends.1) j)
+
+-- what a request is left with by those so far, and the bounds that it keeps
+pub record IsLeft (active : List TokenRequest) (r : TokenRequest) (span : Range) : Type 0 where
+  pub order : r.wanted.required.lo ≤ r.wanted.required.hi
+  pub starts : r.wanted.desired.lo ≤ r.wanted.required.lo
+  pub ends : r.wanted.required.hi ≤ r.wanted.desired.hi
+  pub value : span ≡ narrowed active r
+
+pub left-bounds : (active : List TokenRequest) (r : TokenRequest) (span : Range) → IsLeft active r span → (span.lo ≤ r.wanted.required.lo) × (r.wanted.required.hi ≤ span.hi)
+left-bounds active r span l =
+    let largest = largest_is_largest (is_needed active r) r.wanted.required r.wanted.desired l.order l.starts l.ends (none_needed active r) in
+    rw l.value (largest.has_first, largest.has_last)
+
+pub left-start : (r : TokenRequest) → r.wanted.required.lo ≤ r.wanted.required.hi → r.wanted.desired.lo ≤ r.wanted.required.lo → r.wanted.required.hi ≤ r.wanted.desired.hi → IsLeft [] r r.wanted.desired
+left-start r order starts ends = record {
+  order = order;
+  starts = starts;
+  ends = ends;
+  value = sym (largest_around-free (is_needed [] r) r.wanted.required r.wanted.desired order starts ends (λ b above below h. none b h));
+}
+  where
+    none : (b : ℕ) → is_needed [] r b ≡ true → ⊥
+    none b h = both_ways false refl (and_parts (not (is_in r.wanted.required b)) false h).1
+
+-- one more that is served
+pub left-more : (active : List TokenRequest) (q r : TokenRequest) (span : Range) → q.wanted.required.lo ≤ q.wanted.required.hi → IsLeft active r span → IsLeft (active ++ q ∷ []) r (cut r.wanted.required span q.wanted.required)
+left-more active q r span full l = record { order = l.order; starts = l.starts; ends = l.ends; value = is }
+  where
+    required : Range
+    required = r.wanted.required
+
+    same : (b : ℕ) → is_needed (active ++ q ∷ []) r b ≡ (is_needed active r b || only_in required q.wanted.required b)
+    same b = ap (λ (t : Bool). not (is_in required b) && t) (list_any-append (λ (x : TokenRequest). is_in x.wanted.required b) active (q ∷ [])) ∙ by (is_in required b) (list_any (λ (x : TokenRequest). is_in x.wanted.required b) active) (is_in q.wanted.required b)
+      where
+        by : (x y z : Bool) → (not x && (y || (z || false))) ≡ ((not x && y) || (not x && z))
+        by true y z = refl
+        by false true z = refl
+        by false false true = refl
+        by false false false = refl
+
+    is : cut required span q.wanted.required ≡ narrowed (active ++ q ∷ []) r
+    is =
+        let bounds = left-bounds active r span l in
+        cut-is required span q.wanted.required l.order bounds.0 bounds.1 full
+        ∙ ap (λ (s : Range). largest_around (only_in required q.wanted.required) required s) l.value
+        ∙ sym (largest_around-or (is_needed active r) (only_in required q.wanted.required) required r.wanted.desired l.order l.starts l.ends (none_needed active r) (none_only required q.wanted.required))
+        ∙ sym (largest_around-same (is_needed (active ++ q ∷ []) r) (λ b. is_needed active r b || only_in required q.wanted.required b) required r.wanted.desired same)
+
+-- what is just required loses nothing
+pub left-exact : (active : List TokenRequest) (r : TokenRequest) → r.wanted.required.lo ≤ r.wanted.required.hi → r.wanted.desired.lo ≡ r.wanted.required.lo → r.wanted.desired.hi ≡ r.wanted.required.hi → r.wanted.desired ≡ narrowed active r
+left-exact active r order starts ends =
+    sym (largest_around-free (is_needed active r) r.wanted.required r.wanted.desired order (omega arith) (omega arith) (λ b above below. none_needed active r b (omega arith) (omega arith)))

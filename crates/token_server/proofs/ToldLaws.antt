@@ -1,0 +1,369 @@
+-- What nodes are told as a server serves, and the state then.
+use Rattle.std.specs.Prelude.{◌≡◌, ℕ, ◌+◌, ◌≤◌, Bool, true, false, cond, ◌||◌, ◌==◌, nat_le, nat_lt, List, [], ◌∷◌, ◌++◌, is_some, All, IfSome, Option, Some, None, Result, Ok, Err}
+use Rattle.std.specs.List.{list_any}
+use Rattle.std.specs.Option.{option_map, option_to_list}
+use Rattle.std.proofs.lemmas.List.Elements.{All-push}
+use Rattle.std.proofs.Common.{refl, sym, ap, ◌∙◌, inl, inr, subst, arith, append-nil, append_assoc, take, drop}
+use Rattle.std.proofs.lemmas.Bool.{both_ways, eq-eqb}
+use Rattle.std.proofs.lemmas.List.{take-append-drop}
+use Rattle.std.proofs.lemmas.Bool.Decides.{eqb_tells}
+use Rattle.std.proofs.lemmas.Option.{none-some, same_Some}
+use Rattle.messages.specs.Wants.{Wants}
+use Rattle.messages.specs.declared.refusal.StepError.{StepError}
+use Rattle.messages.specs.declared.refusal.StepError.TheVariants.{Spent}
+use Rattle.messages.specs.declared.message.Message.{Message}
+use Rattle.messages.specs.declared.message.Message.TheVariants.{Grant, Revoke}
+use Rattle.messages.specs.Messages.{greatest_number}
+use Rattle.model.specs.declared.host.Host.{Host}
+use Rattle.token_set.specs.Tokens.{Token}
+use Rattle.token_set.specs.Sets.{token_of}
+use Rattle.token_set.specs.Edits.{edited as edited_token}
+use Rattle.token_server.specs.declared.token_holder.TokenHolder.{TokenHolder}
+use Rattle.token_server.specs.declared.token_request.TokenRequest.{TokenRequest}
+use Rattle.token_server.specs.declared.told.Told.{Told}
+use Rattle.token_server.specs.State.{Commands, Row, ServerState, with_row}
+use Rattle.token_server.specs.declared.client.Client.{Client}
+use Rattle.token_server.specs.declared.change.Given.{Given}
+use Rattle.token_server.specs.Parts.{ServerParts, next_number, told_commands, server_state, client_at, row_in, row_of, row_seen, row_state, rows_of}
+use Rattle.token_server.specs.Edits.{given_to_row, given_to_client, with_given_row, given_rows, with_given}
+use Rattle.token_server.proofs.ServeLaws.{each_served-append}
+use Rattle.token_server.specs.Serve.{narrowed, granted_span, conflicting_node, commanded, granted_to, revoked_from, served, with_more, and_then, each_served}
+use Rattle.token_server.specs.Sketches.{commands_of, opposing}
+use Rattle.token_server.specs.Told.{told_to, promised, awaiting, row_told, with_told, commands_told}
+
+abbrev pub Answer : Type 0
+Answer = Result (ServerState × List Message) StepError
+
+-- a node that is told something more, after which one that was told before is told the same
+told_to-more : (ts : List Told) (t : Told) (n : ℕ) (o : Option Told) → told_to ts n ≡ o → told_to (ts ++ t ∷ []) n ≡ (elim o [ None ↦ cond (t.node == n) (Some t) None | Some x ↦ Some x ])
+told_to-more [] t n o is = sym (ap (λ (p : Option Told). elim p as (λ q. Option Told) [ None ↦ cond (t.node == n) (Some t) None | Some x ↦ Some x ]) (sym is))
+told_to-more (x ∷ ts) t n o is = by (x.node == n) is (told_to-more ts t n)
+  where
+    last : Option Told → Option Told
+    last p = elim p [ None ↦ cond (t.node == n) (Some t) None | Some y ↦ Some y ]
+
+    by : (b : Bool) → cond b (Some x) (told_to ts n) ≡ o → ((p : Option Told) → told_to ts n ≡ p → told_to (ts ++ t ∷ []) n ≡ last p) → cond b (Some x) (told_to (ts ++ t ∷ []) n) ≡ last o
+    by true found rest = ap last found
+    by false found rest = rest o found
+
+-- the commands to a node are those of its row
+row_of_commands : (o : Option Row) (c : Commands) → Some c ≡ option_map commands_of o → (row : Row) × (o ≡ Some row) × (c ≡ commands_of row)
+row_of_commands None c is = absurd (none-some c (sym is))
+row_of_commands (Some row) c is = (row, refl, same_Some c (commands_of row) is)
+
+none_of_commands : (o : Option Row) → None ≡ option_map commands_of o → o ≡ None
+none_of_commands None is = refl
+none_of_commands (Some row) is = absurd (none-some (commands_of row) is)
+
+-- what a number that is left tells
+record HasNumber (c : Commands) (k : ℕ) : Type 0 where
+  idle : c.outstanding ≡ None
+  room : nat_lt c.number greatest_number ≡ true
+  number : k ≡ c.number + 1
+
+has_number : (c : Commands) (k : ℕ) → next_number c ≡ Ok (Some k) → HasNumber c k
+has_number c k h = by c.outstanding (nat_lt c.number greatest_number) refl refl h
+  where
+    by : (o : Option Message) (few : Bool) → c.outstanding ≡ o → nat_lt c.number greatest_number ≡ few → cond (is_some o) (Ok None) (cond few (Ok (Some (c.number + 1))) (Err Spent)) ≡ Ok (Some k) → HasNumber c k
+    by (Some m) few waits is h = absurd (cc)
+    by None true waits is h = let same : c.number + 1 ≡ k = cc in record { idle = waits; room = is; number = sym same }
+    by None false waits is h = absurd (cc)
+
+module _ (ts : List Told) (s : ServerState) where
+  abbrev now : ServerState
+  now = with_told ts s
+
+  -- nothing more is told
+  pub silent : ◌≡◌ {A = Answer} (Ok (now, [])) (Ok (with_told (ts ++ []) s, []))
+  silent = ap (λ (xs : List Told). let a : Answer = Ok (with_told xs s, []) in a) (sym (append-nil ts))
+
+  -- a node that has a row with nothing under way was told nothing
+  untold : (n : ℕ) (row : Row) (o : Option Told) → told_to ts n ≡ o → row_told o (s.rows n) ≡ Some row → row.outstanding ≡ None → (o ≡ None) × (s.rows n ≡ Some row)
+  untold n row None is there idle = (refl, there)
+  untold n row (Some t) is there idle = by (s.rows n) there
+    where
+      by : (r : Option Row) → row_told (Some t) r ≡ Some row → ((◌≡◌ {A = Option Told} (Some t) None) × (s.rows n ≡ Some row))
+      by None there = absurd (none-some row there)
+      by (Some old) there =
+          let waits : Some t.command ≡ row.outstanding = ap (λ (x : Row). x.outstanding) (same_Some _ row there) in
+          absurd (none-some t.command (sym idle ∙ sym waits))
+
+  -- the next command
+  with_more_told : (n : ℕ) (row : Row) (t : Told) → t.node ≡ n → told_to ts n ≡ None → s.rows n ≡ Some row → with_told (ts ++ t ∷ []) s ≡ with_row now n (row_told (Some t) (Some row))
+  with_more_told n row t to none there = λ i. record s { rows = λ m. at m i }
+    where
+      at : (m : ℕ) → row_told (told_to (ts ++ t ∷ []) m) (s.rows m) ≡ cond (m == n) (row_told (Some t) (Some row)) (row_told (told_to ts m) (s.rows m))
+      at m = elim (eqb_tells m n) [
+        | inl same ↦
+            let old : told_to ts m ≡ None = ap (told_to ts) same.1 ∙ none in
+            let own : t.node == m ≡ true = (λ i. (to ∙ sym same.1) i == m) ∙ here m in
+            let new : told_to (ts ++ t ∷ []) m ≡ Some t = told_to-more ts t m None old ∙ ap (λ (b : Bool). let o : Option Told = cond b (Some t) None in o) own in
+            (λ i. row_told (new i) ((ap s.rows same.1 ∙ there) i))
+            ∙ sym (ap (λ (b : Bool). cond b (row_told (Some t) (Some row)) (row_told (told_to ts m) (s.rows m))) same.0)
+        | inr other ↦
+            ap (λ (o : Option Told). row_told o (s.rows m)) (elsewhere m (told_to ts m) refl other.1)
+            ∙ sym (ap (λ (b : Bool). cond b (row_told (Some t) (Some row)) (row_told (told_to ts m) (s.rows m))) other.0)
+      ]
+        where
+          here : (k : ℕ) → k == k ≡ true
+          here k = elim (eqb_tells k k) [ inl same ↦ same.0 | inr other ↦ absurd (other.1 refl) ]
+
+          elsewhere : (k : ℕ) (o : Option Told) → told_to ts k ≡ o → (k ≡ n → ⊥) → told_to (ts ++ t ∷ []) k ≡ o
+          elsewhere k None is other = told_to-more ts t k None is ∙ elim (eqb_tells t.node k) [
+            | inl same ↦ absurd (other (sym same.1 ∙ to))
+            | inr apart ↦ ap (λ (b : Bool). let o : Option Told = cond b (Some t) None in o) apart.0
+          ]
+          elsewhere k (Some x) is other = told_to-more ts t k (Some x) is
+
+  -- where its node can be told nothing
+  gone : (n : ℕ) (f : Option Row → Answer) → f None ≡ Ok (now, []) → None ≡ option_map commands_of (now.rows n) → f (now.rows n) ≡ Ok (with_told (ts ++ []) s, [])
+  gone n f none is = ap f (none_of_commands (now.rows n) is) ∙ none ∙ silent
+
+  commanded-busy : (n : ℕ) (row : Row) (token : Token) (command : Message) → next_number (commands_of row) ≡ Ok None → commanded now n row token command ≡ Ok (with_told (ts ++ []) s, [])
+  commanded-busy n row token command h = by (is_some row.outstanding) (nat_lt row.number greatest_number) h
+    where
+      by : (b few : Bool) → cond b (Ok None) (cond few (Ok (Some (row.number + 1))) (Err Spent)) ≡ Ok None → cond {A = Answer} b (Ok (now, [])) (cond {A = Answer} few (Ok (with_row now n (Some (record row { token = token; number = row.number + 1; outstanding = Some command })), command ∷ [])) (Err Spent)) ≡ Ok (with_told (ts ++ []) s, [])
+      by true few h = silent
+      by false true h = absurd (cc)
+      by false false h = absurd (cc)
+
+  commanded-spent : (n : ℕ) (row : Row) (token : Token) (command : Message) (e : StepError) → next_number (commands_of row) ≡ Err e → commanded now n row token command ≡ Err e
+  commanded-spent n row token command e h = by (is_some row.outstanding) (nat_lt row.number greatest_number) h
+    where
+      by : (b few : Bool) → cond b (Ok None) (cond few (Ok (Some (row.number + 1))) (Err Spent)) ≡ Err e → cond {A = Answer} b (Ok (now, [])) (cond {A = Answer} few (Ok (with_row now n (Some (record row { token = token; number = row.number + 1; outstanding = Some command })), command ∷ [])) (Err Spent)) ≡ Err e
+      by true few h = absurd (cc)
+      by false true h = absurd (cc)
+      by false false h = let same : Spent ≡ e = cc in ap (λ (x : StepError). let a : Answer = Err x in a) same
+
+  commanded-sent : (n k : ℕ) (row : Row) (command : Message) (t : Told) → now.rows n ≡ Some row → next_number (commands_of row) ≡ Ok (Some k) → t.node ≡ n → t.command ≡ command → t.commands ≡ told_commands command (commands_of row) → commanded now n row (promised command row.token) command ≡ Ok (with_told (ts ++ t ∷ []) s, command ∷ [])
+  commanded-sent n k row command t there next to is commands =
+      let has = has_number (commands_of row) k next in
+      let old = untold n row (told_to ts n) refl there has.idle in
+      let told : row_told (Some t) (Some row) ≡ Some (record row { token = promised command row.token; number = row.number + 1; outstanding = Some command }) =
+      λ i. Some (record { incarnation = (commands i).incarnation; token = promised (is i) row.token; number = (commands i).number; outstanding = Some (is i) }) in
+      let sent : Answer = Ok (with_row now n (Some (record row { token = promised command row.token; number = row.number + 1; outstanding = Some command })), command ∷ []) in
+      let busy : Answer = Ok (now, []) in
+      let spent : Answer = Err Spent in
+      ap (λ (o : Option Message). cond (is_some o) busy (cond (nat_lt row.number greatest_number) sent spent)) has.idle
+      ∙ ap (λ (b : Bool). cond b sent spent) has.room
+      ∙ sym (ap (λ (x : ServerState). let a : Answer = Ok (x, command ∷ []) in a) (with_more_told n row t to old.0 old.1 ∙ ap (λ (o : Option Row). with_row now n o) told))
+
+  module _ (r : TokenRequest) (n : ℕ) where
+    abbrev holder : Commands → Host
+    holder c = record { node = n; incarnation = c.incarnation }
+
+    abbrev wanted : Wants
+    wanted = record { required = r.wanted.required; desired = narrowed s.active r }
+
+    pub revoke-gone : None ≡ option_map commands_of (now.rows n) → revoked_from now r n (now.rows n) ≡ Ok (with_told (ts ++ []) s, [])
+    revoke-gone is = gone n (revoked_from now r n) refl is
+
+    pub revoke-busy : (c : Commands) → Some c ≡ option_map commands_of (now.rows n) → next_number c ≡ Ok None → revoked_from now r n (now.rows n) ≡ Ok (with_told (ts ++ []) s, [])
+    revoke-busy c is next =
+        let x = row_of_commands (now.rows n) c is in
+        ap (revoked_from now r n) x.1 ∙ commanded-busy n x.0 x.0.token _ (ap next_number (sym x.2) ∙ next)
+
+    pub revoke-spent : (c : Commands) (e : StepError) → Some c ≡ option_map commands_of (now.rows n) → next_number c ≡ Err e → revoked_from now r n (now.rows n) ≡ Err e
+    revoke-spent c e is next =
+        let x = row_of_commands (now.rows n) c is in
+        ap (revoked_from now r n) x.1 ∙ commanded-spent n x.0 x.0.token _ e (ap next_number (sym x.2) ∙ next)
+
+    pub revoke-sent : (c : Commands) (k : ℕ) (t : Told) → Some c ≡ option_map commands_of (now.rows n) → next_number c ≡ Ok (Some k) → t.node ≡ n → t.command ≡ Revoke s.file k (holder c) r.call r.mode wanted → t.commands ≡ told_commands t.command c → revoked_from now r n (now.rows n) ≡ Ok (with_told (ts ++ t ∷ []) s, t.command ∷ [])
+    revoke-sent c k t is next to command_is commands =
+        let x = row_of_commands (now.rows n) c is in
+        let has = has_number c k next in
+        let command = Revoke s.file (x.0.number + 1) (record { node = n; incarnation = x.0.incarnation }) r.call r.mode wanted in
+        let same : t.command ≡ command = command_is ∙ (λ i. Revoke s.file ((has.number ∙ ap (λ (y : Commands). y.number + 1) x.2) i) (record { node = n; incarnation = (x.2 i).incarnation }) r.call r.mode wanted) in
+        ap (revoked_from now r n) x.1
+        ∙ commanded-sent n k x.0 command t x.1 (ap next_number (sym x.2) ∙ next) to same (commands ∙ (λ i. told_commands (same i) (x.2 i)))
+        ∙ ap (λ (m : Message). let a : Answer = Ok (with_told (ts ++ t ∷ []) s, m ∷ []) in a) (sym same)
+
+  module _ (r : TokenRequest) where
+    pub grant-gone : None ≡ option_map commands_of (now.rows r.call.node) → granted_to now r (now.rows r.call.node) ≡ Ok (with_told (ts ++ []) s, [])
+    grant-gone is = gone r.call.node (granted_to now r) refl is
+
+    pub grant-busy : (c : Commands) → Some c ≡ option_map commands_of (now.rows r.call.node) → next_number c ≡ Ok None → granted_to now r (now.rows r.call.node) ≡ Ok (with_told (ts ++ []) s, [])
+    grant-busy c is next =
+        let x = row_of_commands (now.rows r.call.node) c is in
+        ap (granted_to now r) x.1 ∙ commanded-busy r.call.node x.0 _ _ (ap next_number (sym x.2) ∙ next)
+
+    pub grant-spent : (c : Commands) (e : StepError) → Some c ≡ option_map commands_of (now.rows r.call.node) → next_number c ≡ Err e → granted_to now r (now.rows r.call.node) ≡ Err e
+    grant-spent c e is next =
+        let x = row_of_commands (now.rows r.call.node) c is in
+        ap (granted_to now r) x.1 ∙ commanded-spent r.call.node x.0 _ _ e (ap next_number (sym x.2) ∙ next)
+
+    pub grant-sent : (c : Commands) (k : ℕ) (t : Told) → Some c ≡ option_map commands_of (now.rows r.call.node) → next_number c ≡ Ok (Some k) → t.node ≡ r.call.node → t.command ≡ Grant s.file k r.call r.mode (granted_span now r) → t.commands ≡ told_commands t.command c → granted_to now r (now.rows r.call.node) ≡ Ok (with_told (ts ++ t ∷ []) s, t.command ∷ [])
+    grant-sent c k t is next to command_is commands =
+        let x = row_of_commands (now.rows r.call.node) c is in
+        let has = has_number c k next in
+        let command = Grant s.file (x.0.number + 1) r.call r.mode (granted_span now r) in
+        let same : t.command ≡ command = command_is ∙ (λ i. Grant s.file ((has.number ∙ ap (λ (y : Commands). y.number + 1) x.2) i) r.call r.mode (granted_span now r)) in
+        ap (granted_to now r) x.1
+        ∙ commanded-sent r.call.node k x.0 command t x.1 (ap next_number (sym x.2) ∙ next) to same (commands ∙ (λ i. told_commands (same i) (x.2 i)))
+        ∙ ap (λ (m : Message). let a : Answer = Ok (with_told (ts ++ t ∷ []) s, m ∷ []) in a) (sym same)
+
+-- what a request comes to, by the node whose token stands in its way
+abbrev pub by_opposing : ServerState → TokenRequest → Option ℕ → Result (ServerState × List Message) StepError
+by_opposing s r None = granted_to s r (s.rows r.call.node)
+by_opposing s r (Some n) = revoked_from s r n (s.rows n)
+
+pub served-opposing : (s : ServerState) (r : TokenRequest) (o : Option ℕ) → o ≡ opposing s r → served s r ≡ by_opposing s r o
+served-opposing s r o is = by (nat_le node s.shape.nodes) ∙ ap (by_opposing s r) (sym is)
+  where
+    node : ℕ
+    node = conflicting_node s r
+
+    by : (b : Bool) → cond b (revoked_from s r node (s.rows node)) (granted_to s r (s.rows r.call.node)) ≡ by_opposing s r (cond b (Some node) None)
+    by true = refl
+    by false = refl
+
+-- one more command
+pub commands_told-more : (ts more : List Told) → commands_told (ts ++ more) ≡ commands_told ts ++ commands_told more
+commands_told-more [] more = refl
+commands_told-more (t ∷ ts) more = ap (λ (ms : List Message). t.command ∷ ms) (commands_told-more ts more)
+
+-- one more request is served
+module _ (s : ServerState) (xs : List TokenRequest) (ts : List Told) (r : TokenRequest) (so_far : each_served xs s ≡ Ok (with_told ts s, commands_told ts)) where
+  pub served-more : (more : List Told) → served (with_told ts s) r ≡ Ok (with_told (ts ++ more) s, commands_told more) → each_served (xs ++ r ∷ []) s ≡ Ok (with_told (ts ++ more) s, commands_told (ts ++ more))
+  served-more more is =
+      each_served-append xs (r ∷ []) s
+      ∙ ap (λ (x : Answer). and_then x (each_served (r ∷ []))) so_far
+      ∙ ap (λ (x : Answer). with_more (commands_told ts) (and_then x (each_served []))) is
+      ∙ ap (λ (ms : List Message). let a : Answer = Ok (with_told (ts ++ more) s, commands_told ts ++ ms) in a) (append-nil (commands_told more))
+      ∙ ap (λ (ms : List Message). let a : Answer = Ok (with_told (ts ++ more) s, ms) in a) (sym (commands_told-more ts more))
+
+  pub served-spent : (rest : List TokenRequest) (e : StepError) → served (with_told ts s) r ≡ Err e → each_served (xs ++ r ∷ rest) s ≡ Err e
+  served-spent rest e is =
+      each_served-append xs (r ∷ rest) s
+      ∙ ap (λ (x : Answer). and_then x (each_served (r ∷ rest))) so_far
+      ∙ ap (λ (x : Answer). with_more (commands_told ts) (and_then x (each_served rest))) is
+
+-- what a node is given is what it is told
+pub record GivesTold (clients : List Client) (t : Told) (g : Given) : Type 0 where
+  pub place : g.place + 1 ≡ t.node
+  pub row : given_to_client g (client_at clients t.node) ≡ row_told (Some t) (rows_of clients t.node)
+
+abbrev pub GiveTold : List Client → List Told → List Given → Type 0
+GiveTold clients [] [] = Unit {0}
+GiveTold clients (t ∷ ts) (g ∷ gs) = GivesTold clients t g × GiveTold clients ts gs
+GiveTold clients _ _ = ⊥
+
+pub give_told-more : (clients : List Client) (ts : List Told) (gs : List Given) (t : Told) (g : Given) → GiveTold clients ts gs → GivesTold clients t g → GiveTold clients (ts ++ t ∷ []) (gs ++ g ∷ [])
+give_told-more clients [] [] t g all one = (one, tt)
+give_told-more clients (x ∷ ts) (y ∷ gs) t g all one = (all.0, give_told-more clients ts gs t g all.1 one)
+give_told-more clients [] (y ∷ gs) t g all one = absurd all
+give_told-more clients (x ∷ ts) [] t g all one = absurd all
+
+given_rows-told : (clients : List Client) (ts : List Told) (gs : List Given) (n : ℕ) → GiveTold clients ts gs → given_rows gs clients n ≡ row_told (told_to ts n) (rows_of clients n)
+given_rows-told clients [] [] n all = refl
+given_rows-told clients (t ∷ ts) (g ∷ gs) n all = elim (eqb_tells n (g.place + 1)) [
+  | inl same ↦
+      let at : n ≡ t.node = same.1 ∙ all.0.place in
+      let own : t.node == n ≡ true = ap (λ (k : ℕ). t.node == k) at ∙ here t.node in
+      ap (λ (b : Bool). cond b (given_to_client g (client_at clients n)) (given_rows gs clients n)) same.0
+      ∙ ap (λ (k : ℕ). given_to_client g (client_at clients k)) at
+      ∙ all.0.row
+      ∙ ap (λ (k : ℕ). row_told (Some t) (rows_of clients k)) (sym at)
+      ∙ sym (ap (λ (b : Bool). let o : Option Told = cond b (Some t) (told_to ts n) in row_told o (rows_of clients n)) own)
+  | inr other ↦
+      let apart : t.node == n ≡ false = elsewhere other.1 in
+      ap (λ (b : Bool). cond b (given_to_client g (client_at clients n)) (given_rows gs clients n)) other.0
+      ∙ given_rows-told clients ts gs n all.1
+      ∙ sym (ap (λ (b : Bool). let o : Option Told = cond b (Some t) (told_to ts n) in row_told o (rows_of clients n)) apart)
+]
+  where
+    here : (k : ℕ) → k == k ≡ true
+    here k = elim (eqb_tells k k) [ inl same ↦ same.0 | inr other ↦ absurd (other.1 refl) ]
+
+    elsewhere : (n ≡ g.place + 1 → ⊥) → t.node == n ≡ false
+    elsewhere other = elim (eqb_tells t.node n) [ inl same ↦ absurd (other (sym same.1 ∙ sym all.0.place)) | inr apart ↦ apart.0 ]
+given_rows-told clients [] (g ∷ gs) n all = absurd all
+given_rows-told clients (t ∷ ts) [] n all = absurd all
+
+pub with_given-told : (p : ServerParts) (ts : List Told) (gs : List Given) → GiveTold p.clients ts gs → with_given gs p ≡ with_told ts (server_state p)
+with_given-told p ts gs all = λ i. record (server_state p) { rows = λ n. given_rows-told p.clients ts gs n all i }
+
+-- the last is given, unless one of the others is of its node
+pub given_rows-last : (clients after : List Client) (gs : List Given) (g : Given) → (n : ℕ) → rows_of after n ≡ with_given_row g clients n → ((m : ℕ) → (m ≡ g.place + 1 → ⊥) → client_at after m ≡ client_at clients m) → list_any (λ x. x.place == g.place) gs ≡ false → given_rows gs after n ≡ given_rows (gs ++ g ∷ []) clients n
+given_rows-last clients after [] g n is others none = is
+given_rows-last clients after (x ∷ gs) g n is others none =
+    let parts = or_neither (x.place == g.place) (list_any (λ y. y.place == g.place) gs) none in
+    let rest = given_rows-last clients after gs g n is others parts.1 in
+    elim (eqb_tells n (x.place + 1)) [
+      | inl same ↦
+          let apart : n ≡ g.place + 1 → ⊥ = λ h. both_ways (x.place == g.place) parts.0 (eq-eqb x.place g.place (same_place (sym same.1 ∙ h))) in
+          ap (λ (b : Bool). cond b (given_to_client x (client_at after n)) (given_rows gs after n)) same.0
+          ∙ ap (given_to_client x) (others n apart)
+          ∙ sym (ap (λ (b : Bool). cond b (given_to_client x (client_at clients n)) (given_rows (gs ++ g ∷ []) clients n)) same.0)
+      | inr other ↦
+          ap (λ (b : Bool). cond b (given_to_client x (client_at after n)) (given_rows gs after n)) other.0
+          ∙ rest
+          ∙ sym (ap (λ (b : Bool). cond b (given_to_client x (client_at clients n)) (given_rows (gs ++ g ∷ []) clients n)) other.0)
+    ]
+  where
+    or_neither : (a b : Bool) → (a || b) ≡ false → (a ≡ false) × (b ≡ false)
+    or_neither true b h = absurd (cc)
+    or_neither false b h = (refl, h)
+
+    same_place : x.place + 1 ≡ g.place + 1 → x.place ≡ g.place
+    same_place h = omega arith
+
+pub given_rows-passed : (clients : List Client) (gs : List Given) (g : Given) (n : ℕ) → list_any (λ x. x.place == g.place) gs ≡ true → given_rows gs clients n ≡ given_rows (gs ++ g ∷ []) clients n
+given_rows-passed clients [] g n some = absurd (cc)
+given_rows-passed clients (x ∷ gs) g n some = elim (eqb_tells n (x.place + 1)) [
+  | inl same ↦
+      ap (λ (b : Bool). cond b (given_to_client x (client_at clients n)) (given_rows gs clients n)) same.0
+      ∙ sym (ap (λ (b : Bool). cond b (given_to_client x (client_at clients n)) (given_rows (gs ++ g ∷ []) clients n)) same.0)
+  | inr other ↦
+      ap (λ (b : Bool). cond b (given_to_client x (client_at clients n)) (given_rows gs clients n)) other.0
+      ∙ elsewhere other.1 (given_rows-passed clients gs g n)
+      ∙ sym (ap (λ (b : Bool). cond b (given_to_client x (client_at clients n)) (given_rows (gs ++ g ∷ []) clients n)) other.0)
+]
+  where
+    own : (n ≡ x.place + 1 → ⊥) → x.place ≡ g.place → given_rows gs clients n ≡ given_rows (gs ++ g ∷ []) clients n
+    own other h = skip gs
+      where
+        not_here : (n == g.place + 1) ≡ false
+        not_here = elim (eqb_tells n (g.place + 1)) [ inl same ↦ absurd (other (same.1 ∙ ap (λ (k : ℕ). k + 1) (sym h))) | inr apart ↦ apart.0 ]
+
+        skip : (ys : List Given) → given_rows ys clients n ≡ given_rows (ys ++ g ∷ []) clients n
+        skip [] = sym (ap (λ (b : Bool). cond b (given_to_client g (client_at clients n)) (rows_of clients n)) not_here)
+        skip (y ∷ ys) = ap (λ (o : Option Row). cond (n == y.place + 1) (given_to_client y (client_at clients n)) o) (skip ys)
+
+    elsewhere : (n ≡ x.place + 1 → ⊥) → (list_any (λ y. y.place == g.place) gs ≡ true → given_rows gs clients n ≡ given_rows (gs ++ g ∷ []) clients n) → given_rows gs clients n ≡ given_rows (gs ++ g ∷ []) clients n
+    elsewhere other rest = elim (eqb_tells x.place g.place) [
+      | inl same ↦ own other same.1
+      | inr apart ↦ rest (sym (ap (λ (b : Bool). b || list_any (λ y. y.place == g.place) gs) apart.0) ∙ some)
+    ]
+
+-- a place in a list
+pub list-at : {X : Type 0} (xs : List X) (i : ℕ) (x : X) → take (i + 1) xs ≡ take i xs ++ x ∷ [] → xs ≡ take i xs ++ x ∷ drop (i + 1) xs
+list-at xs i x next = sym (take-append-drop (i + 1) xs) ∙ ap (λ ys. ys ++ drop (i + 1) xs) next ∙ append_assoc (take i xs) (x ∷ []) (drop (i + 1) xs)
+
+-- what one is given where its node has a row, and where it has none
+pub gives-told : (g : Given) (t : Told) (client : Option Client) (x : Client) (holder : TokenHolder) → client ≡ Some x → x.row ≡ Some holder → g.commands ≡ awaiting t.command t.commands → edited_token g.token holder.token ≡ promised t.command (token_of holder.token) → given_to_client g client ≡ row_told (Some t) (row_of client)
+gives-told g t client x holder there row commands token =
+    ap (given_to_client g) there
+    ∙ ap (given_to_row g.commands g.token) row
+    ∙ (λ i. Some (row_in (commands i) (token i)))
+    ∙ sym (ap (λ (o : Option TokenHolder). row_told (Some t) (row_seen o)) row)
+    ∙ sym (ap (λ (o : Option Client). row_told (Some t) (row_of o)) there)
+
+pub gives-nothing : (g : Given) (t : Told) (client : Option Client) → row_of client ≡ None → given_to_client g client ≡ row_told (Some t) (row_of client)
+gives-nothing g t None none = refl
+gives-nothing g t (Some x) none = by x.row none
+  where
+    by : (o : Option TokenHolder) → row_seen o ≡ None → given_to_row g.commands g.token o ≡ row_told (Some t) (row_seen o)
+    by None none = refl
+    by (Some holder) none = absurd (none-some (row_state holder) (sym none))
+
+-- once a request is served that comes to that
+pub told-next : (s : ServerState) (xs next : List TokenRequest) (ts ms : List Told) (r : TokenRequest) (o : Option Told) → each_served xs s ≡ Ok (with_told ts s, commands_told ts) → next ≡ xs ++ r ∷ [] → served (with_told ts s) r ≡ Ok (with_told (ts ++ option_to_list o) s, commands_told (option_to_list o)) → ms ≡ ts ++ option_to_list o → each_served next s ≡ Ok (with_told ms s, commands_told ms)
+told-next s xs next ts ms r o so_far is one made =
+    ap (λ (ys : List TokenRequest). each_served ys s) is
+    ∙ served-more s xs ts r so_far (option_to_list o) one
+    ∙ sym (ap (λ (all : List Told). let a : Answer = Ok (with_told all s, commands_told all) in a) made)
+
+pub nodes-next : (ts ms : List Told) (o : Option Told) → All (λ t. 1 ≤ t.node) ts → IfSome o (λ t. 1 ≤ t.node) → ms ≡ ts ++ option_to_list o → All (λ t. 1 ≤ t.node) ms
+nodes-next ts ms None all one made = subst (All (λ (t : Told). 1 ≤ t.node)) (sym (made ∙ append-nil ts)) all
+nodes-next ts ms (Some t) all one made = subst (All (λ (x : Told). 1 ≤ x.node)) (sym made) (All-push (λ (x : Told). 1 ≤ x.node) ts t all one)

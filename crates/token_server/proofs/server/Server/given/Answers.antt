@@ -1,0 +1,27 @@
+use Rattle.std.specs.Prelude.{◌≡◌, ◌+◌, ◌≤◌, List, [], ◌∷◌, ◌++◌, length}
+use Rattle.std.proofs.Common.{sym, ap, subst, ◌∙◌, take, arith}
+use Rattle.std.proofs.lemmas.List.{take_more, take_all}
+use Rattle.token_server.specs.declared.told.Told.{Told}
+use Rattle.token_server.specs.declared.change.Given.{Given}
+use Rattle.token_server.specs.Edits.{drafted_parts}
+use Rattle.token_server.proofs.ToldLaws.{GivesTold, GiveTold, give_told-more, with_given-told}
+use Rattle.token_server.proofs.server.Server.given.Goals as goal
+
+pub loop-next-preserved : goal.loop-next-preserved
+loop-next-preserved c =
+    let i = c.loop-next.next-index in
+    let told : List Told = c.args.told.now in
+    let t : Told = c.next-item.result in
+    let g : Given = c.in_ok-one.one in
+    let clients = (drafted_parts c.args.draft.now c.args.self.now).clients in
+    let next : take (i + 1) told ≡ take i told ++ t ∷ [] = take_more told i t c.loop-next-test.true ∙ ap (λ (x : Told). take i told ++ x ∷ []) (sym c.next-item.is) in
+    let one : GivesTold clients t g = record { place = c.in_ok-one.ensures.place; row = c.in_ok-one.ensures.row } in
+    let both = give_told-more clients (take i told) c.loop-next.given.items t g c.loop-next.invariant one in
+    subst (λ (ts : List Told). GiveTold clients ts c.push.new.self.items) (sym next) (subst (λ (gs : List Given). GiveTold clients (take i told ++ t ∷ []) gs) (sym c.in_ok-push.ensures.items) both)
+
+pub returns : goal.returns
+returns c =
+    let told : List Told = c.args.told.now in
+    let past : length told ≤ c.loop-next.next-index = omega (arith, c.loop-next-test.false) in
+    let clients = (drafted_parts c.args.draft.now c.args.self.now).clients in
+    with_given-told (drafted_parts c.args.draft.now c.args.self.now) told c.loop-next.given.items (subst (λ (ts : List Told). GiveTold clients ts c.loop-next.given.items) (take_all c.loop-next.next-index told past) c.loop-next.invariant)

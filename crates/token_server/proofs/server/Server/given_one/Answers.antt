@@ -1,0 +1,23 @@
+use Rattle.std.specs.Prelude.{◌≡◌, ◌-◌, List, Option, Some}
+use Rattle.std.proofs.Common.{sym, ap, refl, ◌∙◌}
+use Rattle.token_server.specs.declared.client.Client.{Client}
+use Rattle.token_server.specs.Parts.{ServerParts, client_at, rows_of}
+use Rattle.token_server.specs.Edits.{seen, overlaid}
+use Rattle.token_set.specs.Edits.{edited as edited_token}
+use Rattle.token_server.proofs.ToldLaws.{gives-told, gives-nothing}
+use Rattle.token_server.proofs.server.Server.given_one.Goals.{in-Some+in_ok-token-in-Some, in-None}
+use Rattle.token_server.proofs.server.Server.given_one.Goals as goal
+
+pub returns-clause-row : goal.returns-clause-row
+unfolding rows_of
+returns-clause-row c =
+    let t = c.args.told.now in
+    let client : Option Client = client_at (overlaid c.args.self.now.clients c.args.draft.now.rows) t.node in
+    let clients : c.args.self.now.clients ≡ c.self.inside.clients = ap (λ (p : ServerParts). p.clients) (sym c.self.view_is) in
+    elim c.match-row.branch [
+      | in-Some+in_ok-token-in-Some w ↦
+          let there = w.in-Some.ensures.client in
+          gives-told (record { place = c.from.result - 1; commands = c.awaiting.result; token = c.match-row.token }) t client (record { dead = there.0; row = Some (seen w.in-Some.row) }) (seen w.in-Some.row) (ap (λ (cs : List Client). client_at (overlaid cs c.args.draft.now.rows) t.node) clients ∙ there.1) refl c.awaiting.ensures
+          (ap (λ e. edited_token e (seen w.in-Some.row).token) w.token-is ∙ w.in_ok-token-in-Some.ensures)
+      | in-None w ↦ gives-nothing (record { place = c.from.result - 1; commands = c.awaiting.result; token = c.match-row.token }) t client (ap (λ (cs : List Client). rows_of (overlaid cs c.args.draft.now.rows) t.node) clients ∙ w.in-None.ensures.row)
+    ]
