@@ -11,9 +11,11 @@ use Rattle.messages.specs.declared.message.Message.TheVariants.{Request}
 use Rattle.messages.specs.declared.outcome.Outcome.{Outcome}
 use Rattle.messages.specs.Messages.{greatest_number, addressee, host_of, is_within, sending}
 use Rattle.token_set.specs.Tokens.{Token}
-use Rattle.token_server.specs.declared.token_request.TokenRequest.{TokenRequest}
-use Rattle.token_server.specs.State.{Row, ServerState, with_row, is_of_call, is_up_to, forgotten, requests}
-use Rattle.token_server.specs.Serve.{meets, meets_some, admitted, conflicting_node, commanded, granted_to, revoked_from, served, with_more, and_then, each_served, ready, serve}
+use Rattle.token_queue.specs.declared.token_request.TokenRequest.{TokenRequest}
+use Rattle.token_queue.specs.Requests.{is_of_call, is_up_to}
+use Rattle.token_server.specs.State.{Row, ServerState, with_row, forgotten, requests}
+use Rattle.token_queue.specs.Requests.{meets}
+use Rattle.token_server.specs.Serve.{meets_some, admitted, conflicting_node, commanded, granted_to, revoked_from, served, with_more, and_then, each_served, ready, serve}
 use Rattle.token_server.specs.Resends.{sending_first}
 use Rattle.token_server.specs.Server.{Change, with_a_row, request_of, enqueued_with, enqueued, asked, is_server, delivered, then_serve}
 use Rattle.token_server.specs.Admissions.{MeetsNone, ServesWhatMeetsNone}

@@ -1,13 +1,12 @@
 -- Requests that come from the queue of a server.
 use Rattle.std.specs.Prelude.{◌≡◌, Bool, true, false, not, cond, ◌||◌, nat_le, length, List, [], ◌∷◌, ◌++◌, Option, Some}
 use Rattle.std.proofs.Common.{refl, ap, sym, ◌∙◌}
-use Rattle.token_server.specs.declared.token_request.TokenRequest.{TokenRequest}
-use Rattle.token_server.specs.declared.put.Put.{Put}
+use Rattle.token_queue.specs.declared.token_request.TokenRequest.{TokenRequest}
 use Rattle.token_server.specs.State.{ServerState}
-use Rattle.token_server.specs.Edits.{put_after}
 use Rattle.std.specs.Option.{option_to_list}
 use Rattle.std.proofs.lemmas.List.Folds.{list_any-append}
-use Rattle.token_server.specs.Serve.{meets, meets_some, admitted, ready}
+use Rattle.token_queue.specs.Requests.{meets}
+use Rattle.token_server.specs.Serve.{meets_some, admitted, ready}
 
 -- those that are served, and those that stay
 abbrev pub Lists : Type 0
@@ -42,25 +41,6 @@ ready-none s none = λ i. record s { active = (none i).0; queue = (none i).1 }
 
 pub ready-is : (s : ServerState) (a q : List TokenRequest) → admitted s.active [] s.queue ≡ (a, q) → ready s ≡ record s { active = a; queue = q }
 ready-is s a q is = λ i. record s { active = (is i).0; queue = (is i).1 }
-
--- the request that is to come last in a queue of which none comes
-pub put-stays : (active queue : List TokenRequest) (o : Option Put) (put : Put) → o ≡ Some put → admitted active [] queue ≡ (active, queue) → (not (nat_le (length queue) put.most) || (meets_some put.request active || meets_some put.request queue)) ≡ true → admitted active [] (put_after o queue) ≡ (active, put_after o queue)
-put-stays active queue o put is none stays =
-    ap (λ (p : Option Put). admitted active [] (put_after p queue)) is
-    ∙ by (nat_le (length queue) put.most) stays
-    ∙ sym (ap (λ (p : Option Put). let next : Lists = (active, put_after p queue) in next) is)
-  where
-    by : (b : Bool) → (not b || (meets_some put.request active || meets_some put.request queue)) ≡ true → admitted active [] (cond b (queue ++ put.request ∷ []) queue) ≡ (active, cond b (queue ++ put.request ∷ []) queue)
-    by true stays = admitted-more active active queue queue put.request true none stays
-    by false stays = none
-
-pub put-goes : (active queue : List TokenRequest) (o : Option Put) (put : Put) → o ≡ Some put → admitted active [] queue ≡ (active, queue) → (not (nat_le (length queue) put.most) || (meets_some put.request active || meets_some put.request queue)) ≡ false → admitted active [] (put_after o queue) ≡ (active ++ put.request ∷ [], queue)
-put-goes active queue o put is none goes =
-    ap (λ (p : Option Put). admitted active [] (put_after p queue)) is ∙ by (nat_le (length queue) put.most) goes
-  where
-    by : (b : Bool) → (not b || (meets_some put.request active || meets_some put.request queue)) ≡ false → admitted active [] (cond b (queue ++ put.request ∷ []) queue) ≡ (active ++ put.request ∷ [], queue)
-    by true goes = admitted-more active active queue queue put.request false none goes
-    by false goes = absurd (cc)
 
 -- the first comes from the queue, and beside it no other
 pub admitted-first : (active rest : List TokenRequest) (r : TokenRequest) → meets_some r active ≡ false → admitted (active ++ r ∷ []) [] rest ≡ (active ++ r ∷ [], rest) → admitted active [] (r ∷ rest) ≡ (active ++ r ∷ [], rest)

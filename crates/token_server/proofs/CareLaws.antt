@@ -6,8 +6,9 @@ use Rattle.std.proofs.lemmas.List.Elements.{All-nil, All-cons, All-head, All-tai
 use Rattle.model.specs.declared.call.CallId.{CallId}
 use Rattle.messages.specs.declared.message.Urgency.TheVariants.{Waits}
 use Rattle.messages.specs.Messages.{same_urgency}
-use Rattle.token_server.specs.declared.token_request.TokenRequest.{TokenRequest}
-use Rattle.token_server.specs.State.{Row, ServerState, is_of_call, is_up_to, forgotten, requests, requeued}
+use Rattle.token_queue.specs.declared.token_request.TokenRequest.{TokenRequest}
+use Rattle.token_queue.specs.Requests.{is_of_call, is_up_to}
+use Rattle.token_server.specs.State.{Row, ServerState, forgotten, requests, requeued}
 use Rattle.token_server.specs.Serve.{meets_some, admitted, ready}
 use Rattle.token_server.specs.Server.{with_a_row, request_of, enqueued_with, enqueued, asked, ended, put_off, postponed, freed}
 

@@ -12,7 +12,7 @@ use Rattle.token_set.proofs.SearchLaws.{first-is, some_passes-first}
 use Rattle.token_set.proofs.TokenLaws.{none-conflicts}
 use Rattle.token_set.proofs.AroundLaws.{largest_around-free, largest_around-zero, largest_around-more, largest_around-skip, largest_around-same}
 use Rattle.model.specs.declared.mode.Mode.{Mode}
-use Rattle.token_server.specs.declared.token_request.TokenRequest.{TokenRequest}
+use Rattle.token_queue.specs.declared.token_request.TokenRequest.{TokenRequest}
 use Rattle.token_server.specs.State.{Row, ServerState}
 use Rattle.token_server.specs.Serve.{row_conflicts, row_conflicts_at, is_needed, narrowed, granted_span, conflicting_node}
 

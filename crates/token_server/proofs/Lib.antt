@@ -1,5 +1,4 @@
 pub mod ClientLaws
-pub mod TokenRequestLaws
 pub mod RequestLaws
 pub mod SketchLaws
 pub mod GrantLaws
@@ -7,8 +6,14 @@ pub mod CutLaws
 pub mod BarLaws
 pub mod ToldLaws
 pub mod AdmitLaws
+pub mod StayLaws
+pub mod AdmittingLaws
+pub mod FreedLaws
+pub mod KeepLaws
 pub mod ResendLaws
 pub mod ServeLaws
+pub mod ObstacleLaws
+pub mod FreeLaws
 pub mod RefusalLaws
 pub mod EditLaws
 pub mod ViewLaws

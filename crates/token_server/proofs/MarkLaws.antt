@@ -14,7 +14,7 @@ use Rattle.token_server.specs.declared.client.Client.{Client}
 use Rattle.token_server.specs.declared.node_change.NodeChange.{NodeChange}
 use Rattle.token_server.specs.declared.node_change.NodeChange.TheVariants.{Forgotten, Asked, Answered, Relieved}
 use Rattle.token_server.specs.declared.sketch.Changed.{Changed}
-use Rattle.token_server.specs.declared.token_request.TokenRequest.{TokenRequest}
+use Rattle.token_queue.specs.declared.token_request.TokenRequest.{TokenRequest}
 use Rattle.token_server.specs.State.{Row, ServerState, row_above}
 use Rattle.token_server.specs.Serve.{row_conflicts, row_conflicts_at, conflicting_node}
 use Rattle.token_server.specs.Parts.{row_seen, row_of, client_at, rows_of}

@@ -6,7 +6,7 @@ use Rattle.messages.specs.declared.refusal.StepError.TheVariants.{Stranger, Spen
 use Rattle.messages.specs.declared.message.Message.{Message}
 use Rattle.messages.specs.Messages.{greatest_number, addressee, host_of, is_within}
 use Rattle.token_set.specs.Tokens.{Token}
-use Rattle.token_server.specs.declared.token_request.TokenRequest.{TokenRequest}
+use Rattle.token_queue.specs.declared.token_request.TokenRequest.{TokenRequest}
 use Rattle.token_server.specs.declared.event.ServerEvent.TheVariants.{Deliver}
 use Rattle.token_server.specs.State.{Row, ServerState, forgotten, requeued}
 use Rattle.token_server.specs.Serve.{conflicting_node, commanded, granted_to, revoked_from, served, with_more, and_then, each_served, ready, serve}

@@ -8,12 +8,13 @@ use Rattle.model.specs.declared.call.CallId.{CallId}
 use Rattle.model.specs.Limits.{HostFields}
 use Rattle.model.specs.Owners.{host_of_call}
 use Rattle.messages.specs.Messages.{same_call}
-use Rattle.token_server.specs.declared.token_request.TokenRequest.{TokenRequest}
+use Rattle.token_queue.specs.declared.token_request.TokenRequest.{TokenRequest}
 use Rattle.token_server.specs.declared.node_change.NodeChange.TheVariants.{Asked}
 use Rattle.token_server.specs.declared.sketch.Moved.{Moved}
 use Rattle.token_server.specs.declared.sketch.Moved.TheVariants.{Nothing}
 use Rattle.token_server.specs.declared.sketch.Changed.{Changed}
-use Rattle.token_server.specs.State.{Row, ServerState, row_above, is_of_call, is_up_to, forgotten}
+use Rattle.token_queue.specs.Requests.{is_of_call, is_up_to}
+use Rattle.token_server.specs.State.{Row, ServerState, row_above, forgotten}
 use Rattle.token_server.specs.Parts.{ServerParts, server_state, with_change}
 use Rattle.token_server.specs.Server.{with_a_row, request_of, enqueued_with, enqueued, asked}
 use Rattle.token_server.specs.Sketches.{row_or_empty, rows_after, moved_with, moved_for, sketched}

@@ -19,7 +19,7 @@ use Rattle.token_set.specs.Tokens.{Token}
 use Rattle.token_set.specs.Sets.{token_of}
 use Rattle.token_set.specs.Edits.{edited as edited_token}
 use Rattle.token_server.specs.declared.token_holder.TokenHolder.{TokenHolder}
-use Rattle.token_server.specs.declared.token_request.TokenRequest.{TokenRequest}
+use Rattle.token_queue.specs.declared.token_request.TokenRequest.{TokenRequest}
 use Rattle.token_server.specs.declared.told.Told.{Told}
 use Rattle.token_server.specs.State.{Commands, Row, ServerState, with_row}
 use Rattle.token_server.specs.declared.client.Client.{Client}
@@ -280,8 +280,8 @@ given_rows-told clients (t ∷ ts) (g ∷ gs) n all = elim (eqb_tells n (g.place
 given_rows-told clients [] (g ∷ gs) n all = absurd all
 given_rows-told clients (t ∷ ts) [] n all = absurd all
 
-pub with_given-told : (p : ServerParts) (ts : List Told) (gs : List Given) → GiveTold p.clients ts gs → with_given gs p ≡ with_told ts (server_state p)
-with_given-told p ts gs all = λ i. record (server_state p) { rows = λ n. given_rows-told p.clients ts gs n all i }
+pub with_given-told : (s : ServerState) (clients : List Client) (ts : List Told) (gs : List Given) → rows_of clients ≡ s.rows → GiveTold clients ts gs → with_given gs clients s ≡ with_told ts s
+with_given-told s clients ts gs same all = λ i. record s { rows = λ n. (given_rows-told clients ts gs n all ∙ ap (λ (f : ℕ → Option Row). row_told (told_to ts n) (f n)) same) i }
 
 -- the last is given, unless one of the others is of its node
 pub given_rows-last : (clients after : List Client) (gs : List Given) (g : Given) → (n : ℕ) → rows_of after n ≡ with_given_row g clients n → ((m : ℕ) → (m ≡ g.place + 1 → ⊥) → client_at after m ≡ client_at clients m) → list_any (λ x. x.place == g.place) gs ≡ false → given_rows gs after n ≡ given_rows (gs ++ g ∷ []) clients n

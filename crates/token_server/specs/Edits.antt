@@ -1,14 +1,17 @@
 -- What a planned step changes of a server, and no more.
-use Rattle.std.specs.Prelude.{◌≡◌, ℕ, ◌+◌, ◌-◌, ◌==◌, nat_le, if◌then◌else◌, List, [], ◌∷◌, ◌++◌, drop, length, slice_get, slice_set, Option, Some, None}
+use Rattle.std.specs.Prelude.{◌≡◌, ℕ, ◌+◌, ◌-◌, ◌≤◌, Bool, true, false, ◌&&◌, not, ◌==◌, if◌then◌else◌, List, [], ◌∷◌, ◌++◌, filter, find, length, All, slice_get, slice_set, Option, Some, None, Vec}
+use Rattle.std.specs.Global.{Global}
+use Rattle.model.specs.declared.call.CallId.{CallId}
+use Rattle.std.specs.Vec.{vec_capacity}
 use Rattle.token_set.specs.declared.edit.TokenEdit.{TokenEdit}
 use Rattle.token_set.specs.Edits.{edited as edited_token}
 use Rattle.token_set.specs.Sets.{token_of}
 use Rattle.intervals.specs.declared.vec_map.VecMap.{VecMap}
 use Rattle.model.specs.declared.level.Level.{Level}
-use Rattle.token_server.specs.declared.put.Put.{Put}
-use Rattle.token_server.specs.declared.queue_edit.QueueEdit.{QueueEdit}
-use Rattle.token_server.specs.declared.queue_edit.QueueEdit.TheVariants.{Same, Taken, Whole}
-use Rattle.token_server.specs.declared.token_request.TokenRequest.{TokenRequest}
+use Rattle.token_queue.specs.declared.token_request.TokenRequest.{TokenRequest}
+use Rattle.token_queue.specs.declared.held.Held.{Held}
+use Rattle.token_queue.specs.Requests.{LineParts, is_of_call, is_up_to, AreOfDistinctCalls}
+use Rattle.token_queue.specs.Actives.{ActiveParts, requests_of, waiting_for}
 use Rattle.token_server.specs.declared.token_holder.TokenHolder.{TokenHolder}
 use Rattle.token_server.specs.declared.token_holder.RowView.{RowView}
 use Rattle.token_server.specs.declared.client.Client.{Client}
@@ -18,8 +21,16 @@ use Rattle.token_server.specs.declared.row_edits.RowEdit.{RowEdit}
 use Rattle.token_server.specs.declared.change.Draft.{Draft}
 use Rattle.token_server.specs.declared.change.Given.{Given}
 use Rattle.token_server.specs.declared.change.Edit.{Edit}
+use Rattle.token_server.specs.declared.lists.Lists.{Lists}
+use Rattle.token_server.specs.declared.sketch.Moved.{Moved}
+use Rattle.token_server.specs.declared.sketch.Moved.TheVariants.{Nothing, New, Again, Waiting, PutOff}
 use Rattle.token_server.specs.State.{Commands, Row, ServerState}
-use Rattle.token_server.specs.Parts.{ServerParts, server_state, row_in, row_seen, rows_of, client_at}
+use Rattle.token_server.specs.Admitting.{all_but, IsAdmitted}
+use Rattle.token_server.specs.declared.sketch.Sketch.{Sketch}
+use Rattle.token_server.specs.Obstacles.{obstacle}
+use Rattle.token_server.specs.Sketches.{without, still_active, queue_moved, waiting_moved, sketched}
+use Rattle.token_server.specs.Parts.{ServerParts, server_state, row_in, row_seen, rows_of, deaths_of, client_at}
+use Rattle.token_server.specs.Ready.{IsReady}
 
 -- a row that is read, as a value
 abbrev pub seen : RowView → TokenHolder
@@ -77,24 +88,63 @@ pub record Changes (clients : List Client) (node : ℕ) (f : Option Row → Opti
   pub row_is : row_seen (row_kept e.row client.row) ≡ f (row_seen client.row)
   pub dead_is : e.dead ≡ g client.dead
 
--- the queue after the edit, or those that wait
-abbrev pub queue_after : QueueEdit → List TokenRequest → List TokenRequest
-queue_after Same queue = queue
-queue_after Taken queue = drop 1 queue
-queue_after (Whole new) queue = new.value
+-- those that are served, once the call's request is served no longer
+abbrev pub held_still : Option CallId → List Held → List Held
+held_still None held = held
+held_still (Some call) held = filter (λ h. not (is_of_call call h.request)) held
 
--- the queue once the request comes last, where it has no more requests than that is planned for
-abbrev pub put_after : Option Put → List TokenRequest → List TokenRequest
-put_after None queue = queue
-put_after (Some put) queue = if nat_le (length queue) put.most then queue ++ put.request ∷ [] else queue
+-- and once those of incarnations that are known as dead from now on are dropped
+abbrev pub held_without : Option (ℕ × ℕ) → List Held → List Held
+held_without None held = held
+held_without (Some d) held = filter (λ h. not (is_up_to d.0 d.1 h.request)) held
 
--- the server's parts once the draft is made
-abbrev pub drafted_parts : Draft → ServerParts → ServerParts
-drafted_parts e p = record p { clients = overlaid p.clients e.rows; queue = put_after e.put (queue_after e.queue p.queue); active = queue_after e.active p.active; waiting = queue_after e.waiting p.waiting }
+-- a request is served on: it is not of a dead incarnation, and not of the call whose request is served no longer
+abbrev pub is_up_to_any : Option (ℕ × ℕ) → TokenRequest → Bool
+is_up_to_any None r = false
+is_up_to_any (Some d) r = is_up_to d.0 d.1 r
 
--- the state that they stand for
+abbrev pub is_of_any : Option CallId → TokenRequest → Bool
+is_of_any None r = false
+is_of_any (Some call) r = is_of_call call r
+
+abbrev pub keeps : Option (ℕ × ℕ) → Option CallId → TokenRequest → Bool
+keeps dropped ended r = not (is_up_to_any dropped r) && not (is_of_any ended r)
+
+-- the requests that are served after the edit
+abbrev pub held_after : Lists → List Held → List Held
+held_after l held = held_still l.ended (held_without l.dropped (waiting_for l.ats.items held)) ++ l.fresh.items
+
+-- the queue
+abbrev pub queue_after : Lists → List TokenRequest → List TokenRequest → List TokenRequest
+queue_after l queue waiting = all_but (requests_of l.fresh.items) (queue_moved l.moved (without l.dropped queue) (without l.dropped waiting))
+
+-- those that wait
+abbrev pub waiting_after : Lists → List TokenRequest → List TokenRequest
+waiting_after l waiting = waiting_moved l.moved (without l.dropped waiting)
+
+-- the state once the rows are edited, where no request moves
+abbrev pub reached : ServerParts → List RowEdit → ServerState
+reached p rows = record { shape = p.shape; file = p.file; rows = rows_of (overlaid p.clients rows); dead = deaths_of (overlaid p.clients rows); queue = p.queue.requests; active = requests_of p.active.held; waiting = p.waiting.requests }
+
+-- the requests change as the sketch has it; then these come from the queue, and each that is served is known with the node whose row it waits for
+pub record AreListed (p : ServerParts) (k : Sketch) (rows : List RowEdit) (l : Lists) : Type 0 where
+  pub served : still_active l.ended (without l.dropped (requests_of p.active.held)) ≡ (sketched p k).active
+  pub queued : queue_moved l.moved (without l.dropped p.queue.requests) (without l.dropped p.waiting.requests) ≡ (sketched p k).queue
+  pub put_off : waiting_moved l.moved (without l.dropped p.waiting.requests) ≡ (sketched p k).waiting
+  pub comes : IsAdmitted (sketched p k).active (sketched p k).queue (requests_of l.fresh.items)
+  pub waits : All (λ h. obstacle (reached p rows) h.request ≡ h.at) (held_after l p.active.held)
+
+-- the state once the draft is made
 abbrev pub drafted : ServerParts → Draft → ServerState
-drafted p e = server_state (drafted_parts e p)
+drafted p d = record {
+  shape = p.shape;
+  file = p.file;
+  rows = rows_of (overlaid p.clients d.rows);
+  dead = deaths_of (overlaid p.clients d.rows);
+  queue = queue_after d.lists p.queue.requests p.waiting.requests;
+  active = requests_of (held_after d.lists p.active.held);
+  waiting = waiting_after d.lists p.waiting.requests;
+}
 
 -- the row once its command is answered, with that token if there is one
 abbrev pub answered_with : Option (VecMap Level) → Row → Row
@@ -122,9 +172,44 @@ abbrev pub given_rows : List Given → List Client → ℕ → Option Row
 given_rows [] clients n = rows_of clients n
 given_rows (g ∷ gs) clients n = if n == g.place + 1 then given_to_client g (client_at clients n) else given_rows gs clients n
 
-abbrev pub with_given : List Given → ServerParts → ServerState
-with_given gs p = record (server_state p) { rows = given_rows gs p.clients }
+abbrev pub with_given : List Given → List Client → ServerState → ServerState
+with_given gs clients s = record s { rows = given_rows gs clients }
 
 -- the state of a server once the edit is made
 abbrev pub planned : ServerParts → Edit → ServerState
-planned p e = with_given e.parts.value.given.items (drafted_parts e.parts.value.draft p)
+planned p e = with_given e.parts.value.given.items (overlaid p.clients e.parts.value.draft.rows) (drafted p e.parts.value.draft)
+
+-- how many requests come last in the queue
+abbrev pub many_moved : Moved → List TokenRequest → ℕ
+many_moved moved waiting = length (queue_moved moved [] waiting)
+
+-- and how many come last of those that wait
+abbrev pub many_put_off : Moved → ℕ
+many_put_off (PutOff r) = 1
+many_put_off _ = 0
+
+-- a line has room for so many more, or the spare one that comes with the edit has room for all
+abbrev pub HasRoom : LineParts → Option LineParts → ℕ → Type 0
+HasRoom l None more = more ≤ l.room
+HasRoom l (Some spare) more = (spare.requests ≡ []) × (length l.requests + more ≤ spare.room)
+
+abbrev pub HeldHasRoom : ActiveParts → Option (Vec Held Global) → ℕ → Type 0
+HeldHasRoom a None more = more ≤ a.room
+HeldHasRoom a (Some spare) more = (spare.items ≡ []) × (length a.held + more ≤ vec_capacity spare)
+
+-- what moves has no request of its call where it comes last
+abbrev pub IsNewCall : Moved → List TokenRequest → List TokenRequest → Type 0
+IsNewCall (New r) queue waiting = find (is_of_call r.call) queue ≡ None
+IsNewCall (Again call r) queue waiting = find (is_of_call r.call) queue ≡ None
+IsNewCall (PutOff r) queue waiting = find (is_of_call r.call) waiting ≡ None
+IsNewCall Waiting queue waiting = AreOfDistinctCalls (queue ++ waiting)
+IsNewCall Nothing queue waiting = Unit {0}
+
+-- the edit was planned from a server with these parts: there is room for it, and what holds between two steps holds after it
+pub record Fits (p : ServerParts) (e : Edit) : Type 0 where
+  pub new : IsNewCall e.parts.value.draft.lists.moved (without e.parts.value.draft.lists.dropped p.queue.requests) (without e.parts.value.draft.lists.dropped p.waiting.requests)
+  pub served : HeldHasRoom p.active e.parts.value.spares.active (length e.parts.value.draft.lists.fresh.items)
+  pub queued : HasRoom p.queue e.parts.value.spares.queue (many_moved e.parts.value.draft.lists.moved (without e.parts.value.draft.lists.dropped p.waiting.requests))
+  pub put_off : HasRoom p.waiting e.parts.value.spares.waiting (many_put_off e.parts.value.draft.lists.moved)
+  pub nodes : length (overlaid p.clients e.parts.value.draft.rows) ≡ length p.clients
+  pub ready : IsReady (planned p e) (held_after e.parts.value.draft.lists p.active.held)

@@ -5,7 +5,7 @@ use Rattle.model.specs.Limits.{IsNumber}
 use Rattle.messages.specs.declared.message.Message.{Message}
 use Rattle.messages.specs.declared.message.Message.TheVariants.{Grant}
 use Rattle.messages.specs.Messages.{greatest_number}
-use Rattle.token_server.specs.declared.token_request.TokenRequest.{TokenRequest}
+use Rattle.token_queue.specs.declared.token_request.TokenRequest.{TokenRequest}
 use Rattle.token_server.specs.State.{Row, ServerState}
 use Rattle.token_server.specs.Serve.{row_conflicts, ready, with_more, each_served, serve}
 

@@ -11,7 +11,8 @@ use Rattle.messages.specs.declared.refusal.StepError.TheVariants.{Spent}
 use Rattle.messages.specs.declared.message.Message.{Message}
 use Rattle.messages.specs.Messages.{greatest_number}
 use Rattle.messages.specs.Shapes.{ShapeFields}
-use Rattle.token_server.specs.declared.token_request.TokenRequest.{TokenRequest}
+use Rattle.token_queue.specs.Requests.{LineParts}
+use Rattle.token_queue.specs.Actives.{ActiveParts, requests_of}
 use Rattle.token_server.specs.declared.token_holder.TokenHolder.{TokenHolder}
 use Rattle.token_server.specs.declared.client.Client.{Client}
 use Rattle.token_server.specs.State.{Commands, Row, ServerState}
@@ -93,20 +94,15 @@ given span mode command row = record row { token = raised row.token span mode; n
 abbrev pub with_change : ℕ → (Option Row → Option Row) → (ℕ → Option Row) → ℕ → Option Row
 with_change node f rows n = if n == node then f (rows n) else rows n
 
--- of one file: what it knows of each node, from node 1 on; the requests that are queued, those that are served, and those that wait
+-- of one file: what it knows of each node, from node 1 on; the requests that are served, each with the node whose row it waits for, those that are queued, and those that wait
 pub record ServerParts : Type 0 where
   pub shape : ShapeFields
   pub file : ℕ
   pub clients : List Client
-  pub queue : List TokenRequest
-  pub active : List TokenRequest
-  pub waiting : List TokenRequest
-
--- there is a client for each node, and the file is one of the cluster's
-pub record IsServer (p : ServerParts) : Type 0 where
-  pub each_node : length p.clients ≡ p.shape.nodes
-  pub file_in : IsNumber p.shape.files p.file
+  pub active : ActiveParts
+  pub queue : LineParts
+  pub waiting : LineParts
 
 -- the state that the parts stand for
 abbrev pub server_state : ServerParts → ServerState
-server_state p = record { shape = p.shape; file = p.file; rows = rows_of p.clients; dead = deaths_of p.clients; queue = p.queue; active = p.active; waiting = p.waiting }
+server_state p = record { shape = p.shape; file = p.file; rows = rows_of p.clients; dead = deaths_of p.clients; queue = p.queue.requests; active = requests_of p.active.held; waiting = p.waiting.requests }

@@ -12,12 +12,9 @@ use Rattle.messages.specs.declared.refusal.StepError.TheVariants.{Spent}
 use Rattle.messages.specs.declared.message.Message.{Message}
 use Rattle.messages.specs.declared.message.Message.TheVariants.{Grant, Revoke}
 use Rattle.messages.specs.Messages.{greatest_number}
-use Rattle.token_server.specs.declared.token_request.TokenRequest.{TokenRequest}
+use Rattle.token_queue.specs.declared.token_request.TokenRequest.{TokenRequest}
+use Rattle.token_queue.specs.Requests.{meets}
 use Rattle.token_server.specs.State.{Row, ServerState, with_row}
-
--- the spans have a byte in common
-abbrev pub meets : Range → Range → Bool
-meets s t = nat_le s.lo t.hi && nat_le t.lo s.hi
 
 -- the request needs a byte that one of these needs
 abbrev pub meets_some : TokenRequest → List TokenRequest → Bool

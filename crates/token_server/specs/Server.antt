@@ -18,10 +18,11 @@ use Rattle.messages.specs.declared.outcome.Outcome.{Outcome}
 use Rattle.messages.specs.declared.actor.Actor.{Actor}
 use Rattle.messages.specs.declared.actor.Actor.TheVariants.{Node as ANode, Server as AServer}
 use Rattle.messages.specs.Messages.{addressee, host_of, is_within, same_urgency, sending}
-use Rattle.token_server.specs.declared.token_request.TokenRequest.{TokenRequest}
+use Rattle.token_queue.specs.declared.token_request.TokenRequest.{TokenRequest}
 use Rattle.token_server.specs.declared.event.ServerEvent.{ServerEvent}
 use Rattle.token_server.specs.declared.event.ServerEvent.TheVariants.{Deliver, Resend, Learn}
-use Rattle.token_server.specs.State.{Row, ServerState, empty_row, with_row, is_of_call, forgotten, requeued}
+use Rattle.token_queue.specs.Requests.{is_of_call}
+use Rattle.token_server.specs.State.{Row, ServerState, empty_row, with_row, forgotten, requeued}
 use Rattle.token_server.specs.Serve.{serve}
 use Rattle.token_server.specs.Resends.{sending_first, resend_rule}
 

@@ -6,14 +6,16 @@ use Rattle.model.specs.declared.call.CallId.{CallId}
 use Rattle.model.specs.declared.mode.Mode.{Mode}
 use Rattle.token_set.specs.Tokens.{Token, level_conflicts}
 use Rattle.messages.specs.declared.refusal.StepError.{StepError}
-use Rattle.token_server.specs.declared.token_request.TokenRequest.{TokenRequest}
+use Rattle.token_queue.specs.declared.token_request.TokenRequest.{TokenRequest}
+use Rattle.token_queue.specs.Actives.{requests_of}
 use Rattle.token_server.specs.declared.node_change.NodeChange.{NodeChange}
 use Rattle.token_server.specs.declared.node_change.NodeChange.TheVariants.{Forgotten, Asked, Answered, Relieved}
 use Rattle.token_server.specs.declared.sketch.Moved.{Moved}
 use Rattle.token_server.specs.declared.sketch.Moved.TheVariants.{Nothing, New, Again, Waiting, PutOff}
 use Rattle.token_server.specs.declared.sketch.Changed.{Changed}
 use Rattle.token_server.specs.declared.sketch.Sketch.{Sketch}
-use Rattle.token_server.specs.State.{Commands, Row, ServerState, empty_row, row_above, is_of_call, is_up_to}
+use Rattle.token_queue.specs.Requests.{is_of_call, is_up_to}
+use Rattle.token_server.specs.State.{Commands, Row, ServerState, empty_row, row_above}
 use Rattle.token_server.specs.Serve.{conflicting_node}
 use Rattle.token_server.specs.Server.{request_of}
 use Rattle.token_server.specs.Parts.{ServerParts, answered, relieved, with_change, rows_of, deaths_of}
@@ -105,9 +107,9 @@ sketched p k = record {
   file = p.file;
   rows = rows_after k.changed (rows_of p.clients);
   dead = deaths_after k.changed (deaths_of p.clients);
-  queue = queue_moved k.moved (without (dropped k.changed) p.queue) (without (dropped k.changed) p.waiting);
-  active = still_active k.ended (without (dropped k.changed) p.active);
-  waiting = waiting_moved k.moved (without (dropped k.changed) p.waiting);
+  queue = queue_moved k.moved (without (dropped k.changed) p.queue.requests) (without (dropped k.changed) p.waiting.requests);
+  active = still_active k.ended (without (dropped k.changed) (requests_of p.active.held));
+  waiting = waiting_moved k.moved (without (dropped k.changed) p.waiting.requests);
 }
 
 -- the other node whose token is revoked first, if one is

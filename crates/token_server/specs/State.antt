@@ -1,11 +1,10 @@
 -- What a token server knows.
 use Rattle.std.specs.Prelude.{ℕ, Bool, not, ◌&&◌, ◌==◌, max, nat_le, if◌then◌else◌, List, [], ◌++◌, filter, Option, Some, None}
-use Rattle.model.specs.declared.call.CallId.{CallId}
 use Rattle.token_set.specs.Tokens.{Token, no_token}
 use Rattle.messages.specs.Shapes.{ShapeFields}
 use Rattle.messages.specs.declared.message.Message.{Message}
-use Rattle.messages.specs.Messages.{same_call}
-use Rattle.token_server.specs.declared.token_request.TokenRequest.{TokenRequest}
+use Rattle.token_queue.specs.declared.token_request.TokenRequest.{TokenRequest}
+use Rattle.token_queue.specs.Requests.{is_up_to}
 
 -- the commands to a node in one incarnation: the number of the last (0 at first), and that command while no answer has come
 pub record Commands : Type 0 where
@@ -38,14 +37,6 @@ empty_row incarnation = record { incarnation = incarnation; token = no_token; nu
 
 abbrev pub with_row : ServerState → ℕ → Option Row → ServerState
 with_row s node row = record s { rows = λ n. if n == node then row else s.rows n }
-
--- the request is of the call
-abbrev pub is_of_call : CallId → TokenRequest → Bool
-is_of_call call r = same_call r.call call
-
--- the request is of the node, in that incarnation or an older one
-abbrev pub is_up_to : ℕ → ℕ → TokenRequest → Bool
-is_up_to node incarnation r = (r.call.node == node) && nat_le r.call.incarnation incarnation
 
 abbrev pub row_above : ℕ → Option Row → Option Row
 row_above incarnation None = None

@@ -1,11 +1,12 @@
 -- What nodes are told as a server serves.
-use Rattle.std.specs.Prelude.{ℕ, ◌+◌, ◌-◌, ◌==◌, nat_lt, max, min, if◌then◌else◌, List, map, find, Option, Some, None}
+use Rattle.std.specs.Prelude.{ℕ, ◌+◌, ◌-◌, ◌==◌, nat_lt, max, min, if◌then◌else◌, List, [], ◌∷◌, map, find, Option, Some, None}
 use Rattle.intervals.specs.Bytes.{Range}
 use Rattle.model.specs.declared.mode.Mode.{Mode}
 use Rattle.model.specs.declared.mode.Mode.TheVariants.{Read, Write}
 use Rattle.token_set.specs.Tokens.{Token, raised}
 use Rattle.messages.specs.declared.message.Message.{Message}
 use Rattle.messages.specs.declared.message.Message.TheVariants.{Grant}
+use Rattle.token_queue.specs.declared.token_request.TokenRequest.{TokenRequest}
 use Rattle.token_server.specs.declared.told.Told.{Told}
 use Rattle.token_server.specs.State.{Commands, Row, ServerState}
 
@@ -52,3 +53,8 @@ cut required within other = record {
   lo = if nat_lt other.lo required.lo then max within.lo (min (other.hi + 1) required.lo) else within.lo;
   hi = if nat_lt required.hi other.hi then min within.hi (max (other.lo - 1) required.hi) else within.hi;
 }
+
+-- the same of all that these requests need
+abbrev pub cut_all : Range → Range → List TokenRequest → Range
+cut_all required within [] = within
+cut_all required within (q ∷ qs) = cut_all required (cut required within q.wanted.required) qs

@@ -4,7 +4,8 @@ use Rattle.std.specs.List.{list_any}
 use Rattle.model.specs.declared.call.CallId.{CallId}
 use Rattle.messages.specs.declared.outcome.Outcome.{Outcome}
 use Rattle.token_server.specs.declared.event.ServerEvent.{ServerEvent}
-use Rattle.token_server.specs.State.{ServerState, is_of_call, requests}
+use Rattle.token_queue.specs.Requests.{is_of_call}
+use Rattle.token_server.specs.State.{ServerState, requests}
 use Rattle.token_server.specs.Server.{server_rule}
 
 -- a call whose request waits has one at the server after the next step too, or its node is known as dead

@@ -2,23 +2,19 @@
 ghost use Rattle.std.specs.Prelude.{◌≡◌, IfOk};
 
 use crate::commands::Commands;
-use crate::put::Put;
-use crate::queue_edit::QueueEdit;
+use crate::lists::{Lists, Spares};
 use crate::row_edits::RowEdits;
 use intervals::span_map::NoMemory;
 use messages::outcome::Outcome;
 use std::alloc::Global;
 use token_set::edit::TokenEdit;
 
-/// What an event changes of a server before it serves: new values of some nodes, of the queue, the request
-/// that then comes last in it, those that are served, and those that wait.
+/// What an event changes of a server before it serves: new values of some nodes, and the requests that are
+/// served, that are queued and that wait from then on.
 #[derive(Drop)]
 pub struct Draft {
     pub rows: RowEdits,
-    pub queue: QueueEdit,
-    pub put: Option<Put>,
-    pub active: QueueEdit,
-    pub waiting: QueueEdit,
+    pub lists: Lists,
 }
 
 /// What a node at a place (from 0) is given as the server serves, if it has a row: the commands to it
@@ -30,11 +26,12 @@ pub struct Given {
     pub token: TokenEdit,
 }
 
-/// What the event changes, and then what nodes are given.
+/// What the event changes, then what nodes are given, and the memory that the requests need for it.
 #[derive(Drop)]
 pub struct Parts {
     pub draft: Draft,
     pub given: Vec<Given>,
+    pub spares: Spares,
 }
 
 /// What a step changes. It is in a box, since it is handed up by value through many calls.
@@ -45,11 +42,21 @@ pub struct Edit {
 
 impl Edit {
     /// What the event changes, and then what nodes are given.
-    pub(crate) fn new(alloc: Global, draft: Draft, given: Vec<Given>) -> Result<Edit, NoMemory>
-        ensures { IfOk result (λ edit. edit.parts.value ≡ record { draft = draft; given = given }) }
+    pub(crate) fn new(
+        alloc: Global,
+        draft: Draft,
+        given: Vec<Given>,
+        spares: Spares,
+    ) -> Result<Edit, NoMemory>
+        ensures { IfOk result (λ edit. edit.parts.value ≡ record { draft = draft; given = given; spares = spares }) }
     {
+        let parts = Parts {
+            draft,
+            given,
+            spares,
+        };
         Ok(Edit {
-            parts: Box::new(alloc, Parts { draft, given })?,
+            parts: Box::new(alloc, parts)?,
         })
     }
 }

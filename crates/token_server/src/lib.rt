@@ -1,21 +1,18 @@
 //! The token server of a file.
 #![tactic(auto)]
 
-mod active;
-mod by_call;
 pub mod change;
 mod client;
 mod clients;
 mod commands;
+mod ended;
 pub mod event;
 pub mod laws;
+pub mod lists;
+mod moves;
 mod node_change;
-mod put;
-pub mod queue_edit;
-mod requests;
 mod row_edits;
 pub mod server;
 mod sketch;
 mod token_holder;
-pub mod token_request;
 mod told;

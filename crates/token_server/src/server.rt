@@ -1,55 +1,54 @@
 //! The token server of a file.
-ghost use Rattle.std.specs.Prelude.{◌≡◌, ◌≢◌, ◌+◌, ◌-◌, ◌<◌, ◌≤◌, ◌↔◌, ◌++◌, not, filter, ◌&&◌, ◌||◌, ◌==◌, if◌then◌else◌, IsTrue, IsFalse, true, false, nat_le, length, IsSome, IsNone, IfSome, All, drop, IfOk, IfErr, OnOk, MatchOption, [], ◌∷◌, Some, None, Ok, Err};
-ghost use Rattle.std.specs.List.{list_any};
+ghost use Rattle.std.specs.Prelude.{◌≡◌, ◌≢◌, ℕ, ◌+◌, ◌-◌, ◌<◌, ◌≤◌, ◌↔◌, ◌++◌, not, ◌&&◌, ◌||◌, ◌==◌, IsTrue, true, length, IfSome, IfOk, IfErr, MatchOption, [], Option, Some, None, Ok, Err};
 ghost use Rattle.std.specs.Option.{option_map, option_to_list};
-ghost use Rattle.model.specs.Limits.{IsNumber, most_nodes};
+ghost use Rattle.model.specs.Limits.{IsNumber};
 ghost use Rattle.model.specs.Owners.{host_of_call};
-ghost use Rattle.intervals.specs.Bytes.{largest_around};
-ghost use Rattle.messages.specs.Messages.{greatest_number, sending, addressee, host_of, is_within};
-ghost use Rattle.token_server.specs.State.{first_server, is_of_call, is_up_to, with_row, forgotten, requeued};
-ghost use Rattle.token_server.specs.Serve.{meets, meets_some, admitted, narrowed, row_conflicts, row_conflicts_at, granted_span, conflicting_node, granted_to, revoked_from, served, each_served, ready, serve};
-ghost use Rattle.token_server.specs.Told.{promised, row_told, with_told, commands_told};
+ghost use Rattle.messages.specs.Messages.{sending, addressee, host_of, is_within};
+ghost use Rattle.token_queue.specs.Actives.{requests_of};
+ghost use Rattle.token_server.specs.State.{first_server, forgotten, requeued};
+ghost use Rattle.token_server.specs.Serve.{serve};
+ghost use Rattle.token_server.specs.Told.{commands_told};
 ghost use Rattle.token_server.specs.Resends.{outstanding, sending_first, resend_rule};
-ghost use Rattle.token_server.specs.Server.{server_rule, learn_rule, with_a_row, request_of, enqueued_with, enqueued, asked, put_off, denial, row_of_host, freed, revoked_mode, taken, released, in_conflict, delivered, is_server};
-ghost use Rattle.token_server.specs.Parts.{server_state, row_state, client_at, rows_of, deaths_of};
-ghost use Rattle.token_server.specs.Sketches.{dropped, without, moved_for, queue_moved, waiting_moved, sketched, opposing, commands_of};
-ghost use Rattle.token_server.specs.Edits.{queue_after, drafted_parts, drafted, seen, given_to_client, with_given, planned};
-ghost use Rattle.token_set.specs.Sets.{token_of};
-ghost use Rattle.token_set.specs.Edits.{edited as edited_token};
+ghost use Rattle.token_server.specs.Server.{server_rule, learn_rule, asked, row_of_host, freed, revoked_mode, taken, released, in_conflict, delivered, is_server};
+ghost use Rattle.token_server.specs.Parts.{server_state, rows_of};
+ghost use Rattle.token_server.specs.Ready.{IsOrderly};
+ghost use Rattle.token_server.specs.Sketches.{dropped, without, moved_for, rows_after, sketched};
+ghost use Rattle.token_server.specs.Edits.{overlaid, planned, AreListed, Fits, HasRoom, HeldHasRoom, many_moved, many_put_off};
 
-use crate::active::{denial, put_off};
 use crate::change::{Change, Draft, Edit, Given, Parts};
 use crate::clients::Clients;
-use crate::commands::Commands;
+use crate::ended::{denial, put_off};
 use crate::event::ServerEvent;
+use crate::lists::{Lists, Spares};
+use crate::moves;
 use crate::node_change::NodeChange;
-use crate::put::Put;
-use crate::queue_edit::QueueEdit;
-use crate::requests::Requests;
 use crate::row_edits::RowEdits;
 use crate::sketch::{Changed, Moved, Sketch};
-use crate::token_holder::RowView;
-use crate::token_request::TokenRequest;
-use crate::told::{Told, cut, meets, told_to};
+use crate::told::Told;
 use intervals::span::Span;
 use intervals::span_map::NoMemory;
 use messages::actor::Actor;
 use messages::command_number::CommandNumber;
 use messages::file_number::FileNumber;
 use messages::items::Items;
-use messages::message::{Message, Urgency};
+use messages::message::Message;
 use messages::outcome::Outcome;
 use messages::refusal::StepError;
 use messages::shape::Shape;
-use messages::wanted::Wanted;
 use model::call::CallId;
 use model::host::Host;
 use model::lock_info::LockInfo;
 use model::mode::Mode;
 use std::alloc::Global;
 use std::marker::Model;
-use token_set::edit::TokenEdit;
-use token_set::set::TokenSet;
+use token_queue::active::Active;
+use token_queue::held::Held;
+use token_queue::line::Line;
+use token_queue::token_request::TokenRequest;
+
+mod admitting;
+mod obstacles;
+mod serving;
 
 /// The token server of one file: what it knows of each node, the requests that are queued, in the
 /// order in which they came, those that are served, no two of which need a byte in common, and those that
@@ -59,19 +58,20 @@ pub struct Server {
     shape: Shape,
     file: u16,
     clients: Clients,
-    queue: Requests,
-    active: Requests,
-    waiting: Requests,
+    active: Active,
+    queue: Line,
+    waiting: Line,
 }
 
 impl Model for Server {
-    ghost use Rattle.token_server.specs.Parts.{ServerParts, IsServer};
+    ghost use Rattle.token_server.specs.Parts.{ServerParts};
+    ghost use Rattle.token_server.specs.Ready.{IsServer};
 
     ghost Value = { ServerParts };
 
-    ghost view = { λ s. record { shape = s.shape; file = s.file; clients = s.clients; queue = s.queue; active = s.active; waiting = s.waiting } };
+    ghost view = { λ s. record { shape = s.shape; file = s.file; clients = s.clients; active = s.active; queue = s.queue; waiting = s.waiting } };
 
-    ghost invariant = { λ s. IsServer (record { shape = s.shape; file = s.file; clients = s.clients; queue = s.queue; active = s.active; waiting = s.waiting }) };
+    ghost invariant = { λ s. IsServer (record { shape = s.shape; file = s.file; clients = s.clients; active = s.active; queue = s.queue; waiting = s.waiting }) };
 }
 
 impl Server {
@@ -87,9 +87,9 @@ impl Server {
             shape,
             file,
             clients: Clients::new(alloc, shape.nodes())?,
-            queue: Requests::new(alloc),
-            active: Requests::new(alloc),
-            waiting: Requests::new(alloc),
+            active: Active::new(alloc),
+            queue: Line::new(alloc),
+            waiting: Line::new(alloc),
         })
     }
 
@@ -104,8 +104,8 @@ impl Server {
             shape: self.shape,
             file: self.file,
             clients: self.clients.copy()?,
-            queue: self.queue.copy()?,
             active: self.active.copy()?,
+            queue: self.queue.copy()?,
             waiting: self.waiting.copy()?,
         })
     }
@@ -165,7 +165,7 @@ impl Server {
     // What comes last in the queue for a request: its call's that waits, or the request itself, unless its
     // call has one that is queued or served.
     fn enqueued(&self, request: TokenRequest) -> Moved
-        ensures { result ≡ moved_for request self.now.active self.now.queue self.now.waiting }
+        ensures { result ≡ moved_for request (requests_of self.now.active.held) self.now.queue.requests self.now.waiting.requests }
     {
         let call = request.call;
         if self.active.find(call).is_some() || self.queue.find(call).is_some() {
@@ -299,381 +299,76 @@ impl Server {
         self.requeued()
     }
 
-    // What a sketch changes, with the memory that this needs.
-    fn settle(&self, sketch: &Sketch, alloc: Global) -> Result<Draft, NoMemory>
+    // The incarnations of a node up to one of which requests go: what is known as dead already has none.
+    fn newly_dead(&self, sketch: &Sketch) -> Option<(u8, u16)>
         requires { IfSome sketch.now.changed (λ c. IsNumber self.now.shape.nodes c.node) }
-        ensures { IfOk result (λ draft. drafted self.now draft ≡ sketched self.now sketch.now) }
+        ensures active { without result (requests_of self.now.active.held) ≡ without (dropped sketch.now.changed) (requests_of self.now.active.held) }
+        ensures queue { without result self.now.queue.requests ≡ without (dropped sketch.now.changed) self.now.queue.requests }
+        ensures waiting { without result self.now.waiting.requests ≡ without (dropped sketch.now.changed) self.now.waiting.requests }
     {
-        let rows = RowEdits::of(&self.clients, alloc, &sketch.changed)?;
-        let (queue, put, waiting) = sketch.moved(&self.queue, &self.waiting, alloc)?;
-        Ok(Draft {
-            rows,
-            queue,
-            put,
-            active: sketch.served_on(&self.active)?,
-            waiting,
-        })
-    }
-
-    // Requests come from the queue.
-    fn admit(&self, draft: Draft, alloc: Global) -> Result<Draft, NoMemory>
-        ensures { IfOk result (λ new. drafted self.now new ≡ ready (drafted self.now draft)) }
-    {
-        let active = draft.active.requests(&self.active);
-        let queue = draft.queue.requests(&self.queue);
-        if admits_none(active, None, queue) {
-            return self.admit_last(draft);
-        }
-        if draft.put.is_none() {
-            if let Some(first) = only_the_first(active, queue) {
-                return self.admit_first(draft, first);
+        match sketch.dropped() {
+            Some((node, incarnation)) if incarnation > self.clients.dead(node) => {
+                Some((node, incarnation))
             }
+            _ => None,
         }
-        self.admit_some(draft, alloc)
     }
 
-    // As many requests come from the queue as may, wherever they stand there.
-    fn admit_some(&self, draft: Draft, alloc: Global) -> Result<Draft, NoMemory>
-        ensures { IfOk result (λ new. drafted self.now new ≡ ready (drafted self.now draft)) }
+    // How the requests change.
+    fn lists(&self, alloc: Global, rows: &RowEdits, sketch: &Sketch) -> Result<Lists, NoMemory>
+        requires rows { rows_of (overlaid self.now.clients rows.now) ≡ rows_after sketch.now.changed (rows_of self.now.clients) }
+        requires in_cluster { IfSome sketch.now.changed (λ c. IsNumber self.now.shape.nodes c.node) }
+        requires orderly { IsOrderly (sketched self.now sketch.now) }
+        ensures { IfOk result (λ lists. AreListed self.now sketch.now rows.now lists) }
     {
-        let Draft {
-            rows,
-            queue,
-            put,
-            active,
-            waiting,
-        } = draft;
-        let mut queued = queue.into_queue(&self.queue)?;
-        queued.put(put);
-        let active = active.into_queue(&self.active)?;
-        let (active, staying) = admitted(alloc, active, queued.as_slice())?;
-        Ok(Draft {
-            rows,
-            queue: QueueEdit::whole(staying)?,
-            put: None,
-            active: QueueEdit::whole(active)?,
-            waiting,
+        let dropped = self.newly_dead(sketch);
+        let fresh = self.admit(alloc, dropped, sketch)?;
+        Ok(Lists {
+            dropped,
+            ats: self.awaited(alloc, rows, &sketch.changed)?,
+            ended: sketch.ended,
+            moved: sketch.moved,
+            fresh: self.hold(alloc, rows, &sketch.changed, fresh.as_slice())?,
         })
     }
 
-    // The first request comes from the queue, and no other.
-    fn admit_first(&self, draft: Draft, first: TokenRequest) -> Result<Draft, NoMemory>
-        requires none_put { draft.put ≡ None }
-        requires first { admitted (drafted_parts draft self.now).active [] (queue_after draft.queue self.now.queue) ≡ ((drafted_parts draft self.now).active ++ first ∷ [], drop 1 (queue_after draft.queue self.now.queue)) }
-        ensures { IfOk result (λ new. drafted self.now new ≡ ready (drafted self.now draft)) }
+    // The memory for a change of the requests.
+    fn spares(&self, lists: &Lists) -> Result<Spares, NoMemory>
+        ensures active { IfOk result (λ spares. HeldHasRoom self.now.active spares.active (length lists.now.fresh.items)) }
+        ensures queue { IfOk result (λ spares. HasRoom self.now.queue spares.queue (many_moved lists.now.moved (without lists.now.dropped self.now.waiting.requests))) }
+        ensures waiting { IfOk result (λ spares. HasRoom self.now.waiting spares.waiting (many_put_off lists.now.moved)) }
     {
-        let Draft {
-            rows,
-            queue,
-            active,
-            waiting,
-            ..
-        } = draft;
-        Ok(Draft {
-            rows,
-            queue: queue.taking(&self.queue)?,
-            put: None,
-            active: active.pushing(&self.active, first)?,
-            waiting,
+        Ok(Spares {
+            active: spare_active(&self.active, lists.fresh.len())?,
+            queue: spare_line(&self.queue, self.queued(&lists.moved))?,
+            waiting: spare_line(&self.waiting, lists.moved.put_off())?,
         })
     }
 
-    // The request that is to come last in the queue is served from then on, unless it has to stay. The others
-    // stay.
-    fn admit_last(&self, draft: Draft) -> Result<Draft, NoMemory>
-        requires { admitted (drafted_parts draft self.now).active [] (queue_after draft.queue self.now.queue) ≡ ((drafted_parts draft self.now).active, queue_after draft.queue self.now.queue) }
-        ensures { IfOk result (λ new. drafted self.now new ≡ ready (drafted self.now draft)) }
+    // At least as many as come last in the queue.
+    fn queued(&self, moved: &Moved) -> usize
+        ensures { (dropped : Option (ℕ × ℕ)) → many_moved moved.now (without dropped self.now.waiting.requests) ≤ result }
     {
-        let Some(put) = &draft.put else {
-            return Ok(draft);
-        };
-        let request = put.request;
-        if self.must_stay(&draft, put) {
-            return Ok(draft);
-        }
-        let Draft {
-            rows,
-            queue,
-            active,
-            waiting,
-            ..
-        } = draft;
-        Ok(Draft {
-            rows,
-            queue,
-            put: None,
-            active: active.pushing(&self.active, request)?,
-            waiting,
-        })
-    }
-
-    // Whether the request that is to come last stays as it is, or stays queued.
-    fn must_stay(&self, draft: &Draft, put: &Put) -> bool
-        ensures { result ≡ (not (nat_le (length (queue_after draft.now.queue self.now.queue)) put.now.most) || (meets_some put.now.request (drafted_parts draft.now self.now).active || meets_some put.now.request (queue_after draft.now.queue self.now.queue))) }
-    {
-        let queue = draft.queue.requests(&self.queue);
-        queue.len() > put.most || stays(&put.request, draft.active.requests(&self.active), queue)
-    }
-
-    // Whether the row of a node conflicts with the mode in the span, once those are told.
-    fn conflicts_at(&self, draft: &Draft, told: &[Told], node: u8, span: Span, mode: Mode) -> bool
-        requires { IsNumber self.now.shape.nodes node }
-        ensures { result ≡ row_conflicts ((with_told told.now (drafted self.now draft.now)).rows node) span mode }
-    {
-        let Some(row) = draft.rows.row(&self.clients, node) else {
-            return false;
-        };
-        match told_to(told, node) {
-            Some(told) => conflicts_told(row, &told, span, mode),
-            None => row.token.conflicts(span, mode),
-        }
-    }
-
-    // The least other node whose row conflicts with what the request needs.
-    fn conflicting_node(&self, draft: &Draft, told: &[Told], request: &TokenRequest) -> Option<u8>
-        ensures node_in { IfSome result (λ node. IsNumber self.now.shape.nodes node × IsNumber most_nodes node) }
-        ensures within { IsSome result ↔ (conflicting_node (with_told told.now (drafted self.now draft.now)) request.now ≤ self.now.shape.nodes) }
-        ensures value { IfSome result (λ node. node ≡ conflicting_node (with_told told.now (drafted self.now draft.now)) request.now) }
-    {
-        for place in 0..self.shape.nodes() {
-            if self.stands_in_way(draft, told, place + 1, request) {
-                return Some(place + 1);
-            }
-        }
-        None
-    }
-
-    // Whether the row of another node conflicts with what the request needs.
-    fn stands_in_way(&self, draft: &Draft, told: &[Told], node: u8, request: &TokenRequest) -> bool
-        requires { IsNumber self.now.shape.nodes node }
-        ensures { result ≡ (not (node == request.now.call.node) && row_conflicts ((with_told told.now (drafted self.now draft.now)).rows node) request.now.wanted.required request.now.mode) }
-    {
-        !request.is_of_node(node)
-            && self.conflicts_at(draft, told, node, request.required(), request.mode)
-    }
-
-    // The other node whose token is revoked first for a request, if one is.
-    fn opposing(&self, draft: &Draft, told: &[Told], request: &TokenRequest) -> Option<u8>
-        ensures node_in { IfSome result (λ node. IsNumber self.now.shape.nodes node × IsNumber most_nodes node) }
-        ensures value { result ≡ opposing (with_told told.now (drafted self.now draft.now)) request.now }
-    {
-        self.conflicting_node(draft, told, request)
-    }
-
-    // What the request would like to have, without the bytes that another one that is served needs.
-    fn narrowed(&self, draft: &Draft, request: &TokenRequest) -> Span
-        ensures value { result ≡ narrowed (drafted self.now draft.now).active request.now }
-        ensures starts_before { result.lo ≤ request.now.wanted.required.lo }
-        ensures ends_after { request.now.wanted.required.hi ≤ result.hi }
-    {
-        let required = request.required();
-        let mut span = request.desired();
-        if span.lo == required.lo && span.hi == required.hi {
-            return span;
-        }
-        for other in draft.active.requests(&self.active) {
-            span = cut(required, span, other.required());
-        }
-        span
-    }
-
-    // The span that a request is granted: the largest of that.
-    fn granted_span(&self, draft: &Draft, told: &[Told], request: &TokenRequest) -> Span
-        requires { self.now.shape.nodes < conflicting_node (with_told told.now (drafted self.now draft.now)) request.now }
-        ensures { result ≡ granted_span (with_told told.now (drafted self.now draft.now)) request.now }
-    {
-        let required = request.required();
-        let mut span = self.narrowed(draft, request);
-        if span.lo == required.lo && span.hi == required.hi {
-            return span;
-        }
-        for place in 0..self.shape.nodes() {
-            if !request.is_of_node(place + 1) {
-                span = self.free_around(draft, told, place + 1, required, span, request.mode);
-            }
-        }
-        span
-    }
-
-    // The largest span that contains `required`, lies in `within`, and has no byte at which the row of a node
-    // conflicts with the mode, once those are told.
-    fn free_around(
-        &self,
-        draft: &Draft,
-        told: &[Told],
-        node: u8,
-        required: Span,
-        within: Span,
-        mode: Mode,
-    ) -> Span
-        requires node_in { IsNumber self.now.shape.nodes node }
-        requires starts_within { within.lo ≤ required.lo }
-        requires ends_within { required.hi ≤ within.hi }
-        requires free { row_conflicts ((with_told told.now (drafted self.now draft.now)).rows node) required mode ≡ false }
-        ensures { result ≡ largest_around (λ b. row_conflicts_at ((with_told told.now (drafted self.now draft.now)).rows node) b mode) required within }
-    {
-        let _ = &required.lo; // tells the proof that the span has a byte
-        let Some(row) = draft.rows.row(&self.clients, node) else {
-            return within;
-        };
-        match told_to(told, node) {
-            Some(told) => around_told(row, &told, required, within, mode),
-            None => row.token.free_around(required, within, mode),
-        }
-    }
-
-    // The commands to a node once those are told, if it has a row.
-    fn commands_to(&self, draft: &Draft, told: &[Told], node: u8) -> Option<Commands>
-        requires { 1 ≤ node }
-        ensures { result ≡ option_map commands_of ((with_told told.now (drafted self.now draft.now)).rows node) }
-    {
-        let row = draft.rows.row(&self.clients, node)?;
-        match told_to(told, node) {
-            Some(told) => Some(told.commands.awaiting(&told.command)),
-            None => Some(*row.commands),
-        }
-    }
-
-    // What a request comes to: the least other node whose row conflicts with it is told to give up its token,
-    // or its own node is told that it is granted. Nothing where a command to that is under way.
-    fn command(
-        &self,
-        draft: &Draft,
-        told: &[Told],
-        request: &TokenRequest,
-    ) -> Result<Option<Told>, StepError>
-        ensures ok { IfOk result (λ o. served (with_told told.now (drafted self.now draft.now)) request.now ≡ Ok (with_told (told.now ++ option_to_list o) (drafted self.now draft.now), commands_told (option_to_list o))) }
-        ensures node { IfOk result (λ o. IfSome o (λ t. 1 ≤ t.node)) }
-        ensures err { IfErr result (λ e. served (with_told told.now (drafted self.now draft.now)) request.now ≡ Err e) }
-    {
-        match self.opposing(draft, told, request) {
-            Some(node) => self.revoke(draft, told, node, request),
-            None => self.grant(draft, told, request),
-        }
-    }
-
-    // The command that tells a node to give up what the request needs, unless one to it is under way.
-    fn revoke(
-        &self,
-        draft: &Draft,
-        told: &[Told],
-        node: u8,
-        request: &TokenRequest,
-    ) -> Result<Option<Told>, StepError>
-        requires { IsNumber self.now.shape.nodes node × IsNumber most_nodes node }
-        ensures ok { IfOk result (λ o. revoked_from (with_told told.now (drafted self.now draft.now)) request.now node ((with_told told.now (drafted self.now draft.now)).rows node) ≡ Ok (with_told (told.now ++ option_to_list o) (drafted self.now draft.now), commands_told (option_to_list o))) }
-        ensures node { IfOk result (λ o. IfSome o (λ t. 1 ≤ t.node)) }
-        ensures err { IfErr result (λ e. revoked_from (with_told told.now (drafted self.now draft.now)) request.now node ((with_told told.now (drafted self.now draft.now)).rows node) ≡ Err e) }
-    {
-        let Some(commands) = self.commands_to(draft, told, node) else {
-            return Ok(None);
-        };
-        let Some(number) = commands.next_number()? else {
-            return Ok(None);
-        };
-        let incarnation = commands.incarnation();
-        let command = Message::Revoke {
-            file: self.file_number(),
-            number,
-            holder: Host { node, incarnation },
-            call: request.call,
-            mode: request.mode,
-            wanted: Wanted::new(request.required(), self.narrowed(draft, request)),
-        };
-        Ok(Some(Told::new(node, commands, &command)))
-    }
-
-    // The command that tells the request's node what it is granted, unless one to it is under way.
-    fn grant(
-        &self,
-        draft: &Draft,
-        told: &[Told],
-        request: &TokenRequest,
-    ) -> Result<Option<Told>, StepError>
-        requires { self.now.shape.nodes < conflicting_node (with_told told.now (drafted self.now draft.now)) request.now }
-        ensures ok { IfOk result (λ o. granted_to (with_told told.now (drafted self.now draft.now)) request.now ((with_told told.now (drafted self.now draft.now)).rows request.now.call.node) ≡ Ok (with_told (told.now ++ option_to_list o) (drafted self.now draft.now), commands_told (option_to_list o))) }
-        ensures node { IfOk result (λ o. IfSome o (λ t. 1 ≤ t.node)) }
-        ensures err { IfErr result (λ e. granted_to (with_told told.now (drafted self.now draft.now)) request.now ((with_told told.now (drafted self.now draft.now)).rows request.now.call.node) ≡ Err e) }
-    {
-        let node = request.call.host().node;
-        let Some(commands) = self.commands_to(draft, told, node) else {
-            return Ok(None);
-        };
-        let Some(number) = commands.next_number()? else {
-            return Ok(None);
-        };
-        let command = Message::Grant {
-            file: self.file_number(),
-            number,
-            call: request.call,
-            mode: request.mode,
-            span: self.granted_span(draft, told, request),
-        };
-        Ok(Some(Told::new(node, commands, &command)))
-    }
-
-    // What comes of serving each request in order.
-    fn commands(&self, draft: &Draft, alloc: Global) -> Result<Vec<Told>, StepError>
-        ensures ok { IfOk result (λ told. each_served (drafted self.now draft.now).active (drafted self.now draft.now) ≡ Ok (with_told told.items (drafted self.now draft.now), commands_told told.items)) }
-        ensures nodes { IfOk result (λ told. All (λ t. 1 ≤ t.node) told.items) }
-        ensures err { IfErr result (λ e. e ≢ StepError.NoMemory → each_served (drafted self.now draft.now).active (drafted self.now draft.now) ≡ Err e) }
-    {
-        let mut told = Vec::new(alloc);
-        for request in draft.active.requests(&self.active) {
-            let next = match self.command(draft, told.as_slice(), request) {
-                Ok(next) => next,
-                Err(refusal) => return Err(refusal),
-            };
-            if let Some(next) = next {
-                told.push(next)?;
-            }
-        }
-        Ok(told)
-    }
-
-    // What nodes are given by their commands.
-    fn given(&self, draft: &Draft, alloc: Global, told: &[Told]) -> Result<Vec<Given>, NoMemory>
-        requires { All (λ t. 1 ≤ t.node) told.now }
-        ensures { IfOk result (λ given. with_given given.items (drafted_parts draft.now self.now) ≡ with_told told.now (drafted self.now draft.now)) }
-    {
-        let mut given = Vec::new(alloc);
-        for next in told {
-            let one = self.given_one(draft, next)?;
-            given.push(one)?;
-        }
-        Ok(given)
-    }
-
-    // What one is given.
-    fn given_one(&self, draft: &Draft, told: &Told) -> Result<Given, NoMemory>
-        requires { 1 ≤ told.now.node }
-        ensures place { IfOk result (λ given. given.place + 1 ≡ told.now.node) }
-        ensures row { IfOk result (λ given. given_to_client given (client_at (drafted_parts draft.now self.now).clients told.now.node) ≡ row_told (Some told.now) (rows_of (drafted_parts draft.now self.now).clients told.now.node)) }
-    {
-        let token = match draft.rows.row(&self.clients, told.node) {
-            Some(row) => promised(row.token, &told.command)?,
-            None => TokenEdit::Same,
-        };
-        Ok(Given {
-            place: usize::from(told.node) - 1,
-            commands: told.commands.awaiting(&told.command),
-            token,
-        })
+        moved.many(&self.waiting)
     }
 
     // Serves the requests: each is granted, but where other nodes' rows conflict with it, the token of the
     // least such node is revoked first.
     fn serve(&self, sketch: &Sketch, alloc: Global) -> Result<(Edit, Items<Message>), StepError>
-        requires { IfSome sketch.now.changed (λ c. IsNumber self.now.shape.nodes c.node) }
+        requires in_cluster { IfSome sketch.now.changed (λ c. IsNumber self.now.shape.nodes c.node) }
+        requires orderly { IsOrderly (sketched self.now sketch.now) }
         ensures ok { IfOk result (λ r. serve (sketched self.now sketch.now) ≡ Ok (planned self.now r.0, r.1)) }
+        ensures fits { IfOk result (λ r. Fits self.now r.0) }
         ensures err { IfErr result (λ e. e ≢ StepError.NoMemory → serve (sketched self.now sketch.now) ≡ Err e) }
     {
-        let draft = self.settle(sketch, alloc)?;
-        let draft = self.admit(draft, alloc)?;
-        let told = self.commands(&draft, alloc)?;
+        let rows = RowEdits::of(&self.clients, alloc, &sketch.changed)?;
+        let lists = self.lists(alloc, &rows, sketch)?;
+        let spares = self.spares(&lists)?;
+        let draft = Draft { rows, lists };
+        let told = self.commands(&draft, sketch.touched(), alloc)?;
         let given = self.given(&draft, alloc, told.as_slice())?;
         Ok((
-            Edit::new(alloc, draft, given)?,
+            Edit::new(alloc, draft, given, spares)?,
             commands_told(alloc, told.as_slice())?,
         ))
     }
@@ -732,7 +427,9 @@ impl Server {
         alloc: Global,
         first: Option<Message>,
     ) -> Result<Change, StepError>
-        requires { IfSome sketch.now.changed (λ c. IsNumber self.now.shape.nodes c.node) }
+        requires in_cluster { IfSome sketch.now.changed (λ c. IsNumber self.now.shape.nodes c.node) }
+        requires orderly { IsOrderly (sketched self.now sketch.now) }
+        ensures fits { IfOk result (λ change. Fits self.now change.edit) }
         ensures ok { IfOk result (λ change. sending_first (option_to_list first) (serve (sketched self.now sketch.now)) ≡ Ok (planned self.now change.edit, change.outcome)) }
         ensures err { IfErr result (λ e. e ≢ StepError.NoMemory → sending_first (option_to_list first) (serve (sketched self.now sketch.now)) ≡ Err e) }
     {
@@ -747,17 +444,15 @@ impl Server {
     // Nothing changes, nothing is sent.
     fn no_change(&self, alloc: Global) -> Result<Change, NoMemory>
         ensures state { IfOk result (λ change. planned self.now change.edit ≡ server_state self.now) }
+        ensures fits { IfOk result (λ change. Fits self.now change.edit) }
         ensures outcome { IfOk result (λ change. change.outcome ≡ sending []) }
     {
         let draft = Draft {
             rows: RowEdits::new(alloc),
-            queue: QueueEdit::Same,
-            put: None,
-            active: QueueEdit::Same,
-            waiting: QueueEdit::Same,
+            lists: Lists::same(alloc),
         };
         Ok(Change {
-            edit: Edit::new(alloc, draft, Vec::new(alloc))?,
+            edit: Edit::new(alloc, draft, Vec::new(alloc), Spares::none())?,
             outcome: Outcome::sending(Items::new(alloc)),
         })
     }
@@ -765,6 +460,7 @@ impl Server {
     // Takes a message of a node of the cluster to this server.
     fn on_own(&self, alloc: Global, message: &Message) -> Result<Change, StepError>
         requires { (is_server self.now.file (addressee message.now) && is_within self.now.shape.nodes (host_of message.now).node) ≡ true }
+        ensures fits { IfOk result (λ change. Fits self.now change.edit) }
         ensures ok { IfOk result (λ change. server_rule (server_state self.now) (ServerEvent.Deliver message.now) ≡ Ok (planned self.now change.edit, change.outcome)) }
         ensures err { IfErr result (λ e. e ≢ StepError.NoMemory → server_rule (server_state self.now) (ServerEvent.Deliver message.now) ≡ Err e) }
         ensures refused { (r : StepError) → server_rule (server_state self.now) (ServerEvent.Deliver message.now) ≡ Err r → r ≡ StepError.Spent }
@@ -781,6 +477,7 @@ impl Server {
 
     // Takes a message.
     fn take(&self, alloc: Global, message: &Message) -> Result<Change, StepError>
+        ensures fits { IfOk result (λ change. Fits self.now change.edit) }
         ensures ok { IfOk result (λ change. server_rule (server_state self.now) (ServerEvent.Deliver message.now) ≡ Ok (planned self.now change.edit, change.outcome)) }
         ensures err { IfErr result (λ e. e ≢ StepError.NoMemory → server_rule (server_state self.now) (ServerEvent.Deliver message.now) ≡ Err e) }
         ensures refused { (r : StepError) → r ≢ StepError.Spent → server_rule (server_state self.now) (ServerEvent.Deliver message.now) ≡ Err r → result ≡ Err r }
@@ -800,6 +497,7 @@ impl Server {
 
     // Sends again what has no answer yet, asks again for what waits, and then serves.
     fn resend(&self, alloc: Global) -> Result<Change, StepError>
+        ensures fits { IfOk result (λ change. Fits self.now change.edit) }
         ensures ok { IfOk result (λ change. resend_rule (server_state self.now) ≡ Ok (planned self.now change.edit, change.outcome)) }
         ensures err { IfErr result (λ e. e ≢ StepError.NoMemory → resend_rule (server_state self.now) ≡ Err e) }
         ensures refused { (r : StepError) → resend_rule (server_state self.now) ≡ Err r → r ≡ StepError.Spent }
@@ -813,6 +511,7 @@ impl Server {
     // and then the server serves.
     fn learn_own(&self, alloc: Global, node: u8, incarnation: u16) -> Result<Change, StepError>
         requires { IsNumber self.now.shape.nodes node }
+        ensures fits { IfOk result (λ change. Fits self.now change.edit) }
         ensures ok { IfOk result (λ change. learn_rule (server_state self.now) node incarnation ≡ Ok (planned self.now change.edit, change.outcome)) }
         ensures err { IfErr result (λ e. e ≢ StepError.NoMemory → learn_rule (server_state self.now) node incarnation ≡ Err e) }
         ensures refused { (r : StepError) → learn_rule (server_state self.now) node incarnation ≡ Err r → r ≡ StepError.Spent }
@@ -822,6 +521,7 @@ impl Server {
 
     // The incarnation is known as dead from now on, and then the server serves.
     fn learn(&self, alloc: Global, node: u8, incarnation: u16) -> Result<Change, StepError>
+        ensures fits { IfOk result (λ change. Fits self.now change.edit) }
         ensures ok { IfOk result (λ change. learn_rule (server_state self.now) node incarnation ≡ Ok (planned self.now change.edit, change.outcome)) }
         ensures err { IfErr result (λ e. e ≢ StepError.NoMemory → learn_rule (server_state self.now) node incarnation ≡ Err e) }
         ensures refused { (r : StepError) → r ≢ StepError.Spent → learn_rule (server_state self.now) node incarnation ≡ Err r → result ≡ Err r }
@@ -837,6 +537,7 @@ impl Server {
     /// # Errors
     /// Those of `step`.
     pub fn plan(&self, alloc: Global, event: &ServerEvent) -> Result<Change, StepError>
+        ensures fits { IfOk result (λ change. Fits self.now change.edit) }
         ensures ok { IfOk result (λ change. server_rule (server_state self.now) event.now ≡ Ok (planned self.now change.edit, change.outcome)) }
         ensures err { IfErr result (λ e. e ≢ StepError.NoMemory → server_rule (server_state self.now) event.now ≡ Err e) }
 
@@ -850,41 +551,29 @@ impl Server {
         }
     }
 
-    /// Makes a planned change. Takes no memory.
+    /// Makes a planned change. Takes no memory. The change was planned from this server, or from an equal one.
     pub fn apply(&mut self, change: Change) -> Outcome
+        requires { Fits self.old change.edit }
         ensures state { server_state self.new ≡ planned self.old change.edit }
         ensures outcome { result ≡ change.outcome }
     {
         let Change { edit, outcome } = change;
-        let Parts { draft, given } = Box::into_inner(edit.parts);
-        self.draft(draft);
-        self.give(given);
-        outcome
-    }
-
-    // Makes the first part of a change.
-    fn draft(&mut self, draft: Draft)
-        ensures { self.new ≡ drafted_parts draft self.old }
-    {
-        let Draft {
-            rows,
-            queue,
-            put,
-            active,
-            waiting,
-        } = draft;
+        let Parts {
+            draft,
+            given,
+            spares,
+        } = Box::into_inner(edit.parts);
+        let Draft { rows, lists } = draft;
         self.clients.apply(rows);
-        self.queue.apply(queue);
-        self.queue.put(put);
-        self.active.apply(active);
-        self.waiting.apply(waiting);
-    }
-
-    // Makes the last part of a change.
-    fn give(&mut self, given: Vec<Given>)
-        ensures { server_state self.new ≡ with_given given.items self.old }
-    {
         self.clients.give_each(given);
+        moves::change(
+            &mut self.active,
+            &mut self.queue,
+            &mut self.waiting,
+            lists,
+            spares,
+        );
+        outcome
     }
 
     /// What the server does at an event: the server after it, and what it sends. Requests that need no
@@ -939,118 +628,22 @@ fn commands_told(alloc: Global, told: &[Told]) -> Result<Items<Message>, NoMemor
     Ok(commands)
 }
 
-// Whether the request needs a byte that one of these needs.
-fn meets_some(request: &TokenRequest, others: &[TokenRequest]) -> bool
-    ensures { result ≡ meets_some request.now others.now }
+// Room for so many more requests that are served, where the list has less.
+fn spare_active(active: &Active, more: usize) -> Result<Option<Vec<Held>>, NoMemory>
+    ensures { IfOk result (λ spare. HeldHasRoom active.now spare more) }
 {
-    others.iter().any(|other| meets(request.wanted.required, other.wanted.required))
+    if more <= active.room() {
+        return Ok(None);
+    }
+    Ok(Some(active.spare_for(more)?))
 }
 
-// Whether the request stays queued, beside those that are served and those before it that stay.
-fn stays(request: &TokenRequest, active: &[TokenRequest], staying: &[TokenRequest]) -> bool
-    ensures { result ≡ (meets_some request.now active.now || meets_some request.now staying.now) }
+// Room for so many more requests in a line, where it has less.
+fn spare_line(line: &Line, more: usize) -> Result<Option<Line>, NoMemory>
+    ensures { IfOk result (λ spare. HasRoom line.now spare more) }
 {
-    meets_some(request, active) || meets_some(request, staying)
-}
-
-// Those that are served, and those that stay, once requests have come from the queue.
-fn admitted(
-    alloc: Global,
-    active: Requests,
-    queue: &[TokenRequest],
-) -> Result<(Requests, Requests), NoMemory>
-    ensures { IfOk result (λ r. admitted active [] queue.now ≡ (r.0, r.1)) }
-{
-    let mut active = active;
-    let mut staying = Requests::new(alloc);
-    for request in queue {
-        if stays(request, active.as_slice(), staying.as_slice()) {
-            staying.push(*request)?;
-        } else {
-            active.push(*request)?;
-        }
+    if more <= line.room() {
+        return Ok(None);
     }
-    Ok((active, staying))
-}
-
-// Whether each request of the queue stays there, beside those that are served and one more, if there is one.
-fn admits_none(active: &[TokenRequest], more: Option<TokenRequest>, queue: &[TokenRequest]) -> bool
-    ensures { result ≡ true → admitted (active.now ++ option_to_list more) [] queue.now ≡ (active.now ++ option_to_list more, queue.now) }
-{
-    for place in 0..queue.len() {
-        let request = &queue[place];
-        if !stays_beside(request, active, &more, &queue[..place]) {
-            return false;
-        }
-    }
-    true
-}
-
-// Whether the request stays queued, beside those that are served, one more, if there is one, and those before
-// it that stay.
-fn stays_beside(
-    request: &TokenRequest,
-    active: &[TokenRequest],
-    more: &Option<TokenRequest>,
-    staying: &[TokenRequest],
-) -> bool
-    ensures { result ≡ (meets_some request.now (active.now ++ option_to_list more.now) || meets_some request.now staying.now) }
-{
-    match more {
-        Some(more) if meets(request.wanted.required, more.wanted.required) => true,
-        _ => stays(request, active, staying),
-    }
-}
-
-// The first request of the queue, where it comes from there and no other does.
-fn only_the_first(active: &[TokenRequest], queue: &[TokenRequest]) -> Option<TokenRequest>
-    ensures { IfSome result (λ r. admitted active.now [] queue.now ≡ (active.now ++ r ∷ [], drop 1 queue.now)) }
-{
-    let [first, rest @ ..] = queue else {
-        return None;
-    };
-    if meets_some(first, active) || !admits_none(active, Some(*first), rest) {
-        return None;
-    }
-    Some(*first)
-}
-
-// Whether a row conflicts with the mode in the span, once its node is told that.
-fn conflicts_told(row: RowView<'_>, told: &Told, span: Span, mode: Mode) -> bool
-    ensures { result ≡ row_conflicts (row_told (Some told.now) (Some (row_state (seen row.entry)))) span mode }
-{
-    let _ = &span.lo; // tells the proof that the span has a byte
-    if row.token.conflicts(span, mode) {
-        return true;
-    }
-    match told.granted(mode) {
-        Some(granted) => meets(granted, span),
-        None => false,
-    }
-}
-
-// The largest span around `required` within the other without a byte at which a row conflicts with the mode,
-// once its node is told that.
-fn around_told(row: RowView<'_>, told: &Told, required: Span, within: Span, mode: Mode) -> Span
-    requires starts_within { within.lo ≤ required.lo }
-    requires ends_within { required.hi ≤ within.hi }
-    requires free { row_conflicts (row_told (Some told.now) (Some (row_state (seen row)))) required mode ≡ false }
-    ensures { result ≡ largest_around (λ b. row_conflicts_at (row_told (Some told.now) (Some (row_state (seen row.entry)))) b mode) required within }
-{
-    let _ = &required.lo; // tells the proof that the span has a byte
-    let free = row.token.free_around(required, within, mode);
-    match told.granted(mode) {
-        Some(granted) => cut(required, free, granted),
-        None => free,
-    }
-}
-
-// How the command changes a token.
-fn promised(token: &TokenSet, command: &Message) -> Result<TokenEdit, NoMemory>
-    ensures { IfOk result (λ edit. edited_token edit token.now ≡ promised command.now (token_of token.now)) }
-{
-    match command {
-        Message::Grant { mode, span, .. } => token.plan_grant(*span, *mode),
-        _ => Ok(TokenEdit::Same),
-    }
+    Ok(Some(line.spare_for(more)?))
 }

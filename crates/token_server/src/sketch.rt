@@ -1,23 +1,13 @@
 //! What an event changes of a token server before it serves.
-ghost use Rattle.std.specs.Prelude.{◌≡◌, ℕ, ◌≤◌, ◌++◌, [], true, false, IfOk, slice_get, Some, None};
+ghost use Rattle.std.specs.Prelude.{◌≡◌};
 ghost use Rattle.std.specs.Option.{option_map};
-ghost use Rattle.token_server.specs.Serve.{row_conflicts};
-ghost use Rattle.token_server.specs.Parts.{rows_of};
-ghost use Rattle.token_server.specs.Sketches.{commands_of, rows_after, dropped, dropped_to, without, still_active, queue_moved, waiting_moved};
-ghost use Rattle.token_server.specs.Edits.{queue_after, put_after};
+ghost use Rattle.token_server.specs.Edits.{many_moved, many_put_off};
+ghost use Rattle.token_server.specs.Sketches.{dropped};
 
-use crate::clients::Clients;
-use crate::commands::Commands;
 use crate::node_change::NodeChange;
-use crate::put::Put;
-use crate::queue_edit::QueueEdit;
-use crate::requests::Requests;
-use crate::token_request::TokenRequest;
-use intervals::span::Span;
-use intervals::span_map::NoMemory;
 use model::call::CallId;
-use model::mode::Mode;
-use std::alloc::Global;
+use token_queue::line::Line;
+use token_queue::token_request::TokenRequest;
 
 /// What moves in the lists of requests.
 #[derive(Clone, Copy)]
@@ -65,87 +55,36 @@ impl Sketch {
         }
     }
 
-    // The requests, without those that are dropped.
-    fn left(&self, requests: &Requests) -> Result<QueueEdit, NoMemory>
-        ensures { IfOk result (λ edit. queue_after edit requests.now ≡ without (dropped self.now.changed) requests.now) }
+    /// The node whose row changes, if one does.
+    pub fn touched(&self) -> Option<u8>
+        ensures { result ≡ option_map (λ c. c.node) self.now.changed }
     {
-        match self.dropped() {
-            Some((node, incarnation)) => QueueEdit::Same.forgetting(requests, node, incarnation),
-            None => Ok(QueueEdit::Same),
-        }
-    }
-
-    /// How those that are served change.
-    ///
-    /// # Errors
-    /// `NoMemory` where a request for memory was refused.
-    pub fn served_on(&self, active: &Requests) -> Result<QueueEdit, NoMemory>
-        ensures { IfOk result (λ edit. queue_after edit active.now ≡ still_active self.now.ended (without (dropped self.now.changed) active.now)) }
-    {
-        let left = self.left(active)?;
-        match self.ended {
-            Some(call) => left.forgetting_call(active, call),
-            None => Ok(left),
-        }
-    }
-
-    // The queue, and those that wait, without the requests that are dropped.
-    fn kept(&self, queue: &Requests, waiting: &Requests) -> Result<(QueueEdit, QueueEdit), NoMemory>
-        ensures queue { IfOk result (λ r. queue_after r.0 queue.now ≡ without (dropped self.now.changed) queue.now) }
-        ensures waiting { IfOk result (λ r. queue_after r.1 waiting.now ≡ without (dropped self.now.changed) waiting.now) }
-    {
-        let kept_queue = self.left(queue)?;
-        let kept_waiting = self.left(waiting)?;
-        Ok((kept_queue, kept_waiting))
-    }
-
-    /// How the queue changes, the request that then comes last in it, and how those that wait change.
-    ///
-    /// # Errors
-    /// `NoMemory` where a request for memory was refused.
-    pub fn moved(
-        &self,
-        queue: &Requests,
-        waiting: &Requests,
-        alloc: Global,
-    ) -> Result<(QueueEdit, Option<Put>, QueueEdit), NoMemory>
-        ensures queue { IfOk result (λ r. put_after r.1 (queue_after r.0 queue.now) ≡ queue_moved self.now.moved (without (dropped self.now.changed) queue.now) (without (dropped self.now.changed) waiting.now)) }
-        ensures waiting { IfOk result (λ r. queue_after r.2 waiting.now ≡ waiting_moved self.now.moved (without (dropped self.now.changed) waiting.now)) }
-    {
-        let (queued, left) = self.kept(queue, waiting)?;
-        match self.moved {
-            Moved::Nothing => Ok((queued, None, left)),
-            Moved::New(request) => {
-                let (queued, put) = queued.putting(queue, request)?;
-                Ok((queued, put, left))
-            }
-            Moved::Again { call, request } => {
-                let (queued, put) = queued.putting(queue, request)?;
-                Ok((queued, put, left.forgetting_call(waiting, call)?))
-            }
-            Moved::Waiting => {
-                let (queued, left) = requeue(queue, waiting, alloc, queued, left)?;
-                Ok((queued, None, left))
-            }
-            Moved::PutOff(request) => Ok((queued, None, left.pushing(waiting, request)?)),
+        match &self.changed {
+            Some(changed) => Some(changed.node),
+            None => None,
         }
     }
 }
 
-// Those that wait come last in the queue, in their order.
-fn requeue(
-    queue: &Requests,
-    waiting: &Requests,
-    alloc: Global,
-    queued: QueueEdit,
-    left: QueueEdit,
-) -> Result<(QueueEdit, QueueEdit), NoMemory>
-    ensures queue { IfOk result (λ r. queue_after r.0 queue.now ≡ queue_after queued queue.now ++ queue_after left waiting.now) }
-    ensures waiting { IfOk result (λ r. queue_after r.1 waiting.now ≡ []) }
-{
-    if left.requests(waiting).is_empty() {
-        return Ok((queued, left));
+impl Moved {
+    /// How many come last of those that wait.
+    pub fn put_off(&self) -> usize
+        ensures { result ≡ many_put_off self.now }
+    {
+        match self {
+            Moved::PutOff(_) => 1,
+            _ => 0,
+        }
     }
-    let queued = queued.appending(queue, left.requests(waiting))?;
-    Ok((queued, QueueEdit::whole(Requests::new(alloc))?))
+
+    /// How many come last in the queue, where these wait.
+    pub fn many(&self, waiting: &Line) -> usize
+        ensures { result ≡ many_moved self.now waiting.now.requests }
+    {
+        match self {
+            Moved::New(_) | Moved::Again { .. } => 1,
+            Moved::Waiting => waiting.len(),
+            Moved::Nothing | Moved::PutOff(_) => 0,
+        }
+    }
 }

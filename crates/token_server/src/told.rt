@@ -1,6 +1,6 @@
 //! Commands that a server sends as it serves.
 ghost use Rattle.std.specs.Prelude.{◌≡◌, ◌≤◌, ◌<◌, IfSome};
-ghost use Rattle.token_server.specs.Serve.{meets};
+ghost use Rattle.token_queue.specs.Requests.{meets};
 ghost use Rattle.messages.specs.Messages.{greatest_number};
 ghost use Rattle.token_server.specs.Parts.{told_commands};
 ghost use Rattle.token_server.specs.Told.{told_to, barred_by, bars, cut};

@@ -28,8 +28,8 @@ use Rattle.node_core.specs.declared.open_call.Intent.TheVariants as intent
 use Rattle.node_core.specs.declared.open_call.OpenCall.{OpenCall}
 use Rattle.node_core.specs.State.{NodeState, id_of}
 use Rattle.node_core.specs.Try.{urgency_of, refusal_of}
-use Rattle.token_server.specs.declared.token_request.TokenRequest.{TokenRequest}
-use Rattle.token_server.specs.State.{is_of_call}
+use Rattle.token_queue.specs.declared.token_request.TokenRequest.{TokenRequest}
+use Rattle.token_queue.specs.Requests.{is_of_call}
 use Rattle.cluster_core.specs.World.{WorldState, first_world}
 use Rattle.cluster_core.specs.Union.{union}
 use Rattle.cluster_core.specs.Histories.{caller, EntryAt, IsCalledAt, OneCall}

@@ -22,9 +22,10 @@ use Rattle.messages.specs.declared.outcome.Outcome.{Outcome}
 use Rattle.messages.specs.declared.refusal.StepError.{StepError}
 use Rattle.messages.specs.declared.refusal.StepError.TheVariants.{Stranger, Spent}
 use Rattle.messages.specs.Messages.{addressee, host_of, is_within, greatest_number, same_urgency, sending}
-use Rattle.token_server.specs.declared.token_request.TokenRequest.{TokenRequest}
+use Rattle.token_queue.specs.declared.token_request.TokenRequest.{TokenRequest}
 use Rattle.token_server.specs.declared.event.ServerEvent.TheVariants.{Deliver, Resend, Learn}
-use Rattle.token_server.specs.State.{Row, ServerState, empty_row, with_row, is_of_call, row_above, forgotten, requests, requeued}
+use Rattle.token_queue.specs.Requests.{is_of_call}
+use Rattle.token_server.specs.State.{Row, ServerState, empty_row, with_row, row_above, forgotten, requests, requeued}
 use Rattle.token_server.specs.Serve.{row_conflicts, narrowed, conflicting_node, granted_span, commanded, granted_to, revoked_from, served, with_more, and_then, each_served, ready, serve}
 use Rattle.token_server.specs.Resends.{outstanding_of, outstanding, sending_first}
 use Rattle.token_server.specs.Server.{Change, with_a_row, request_of, enqueued, asked, is_grant, revoked_mode, acknowledged, ended, put_off, postponed, denial, taken, released, in_conflict, row_of_host, freed, delivered, is_server, change, then_serve, server_rule}

@@ -26,9 +26,10 @@ use Rattle.messages.specs.declared.outcome.Outcome.{Outcome}
 use Rattle.messages.specs.Messages.{addressee, host_of, same_urgency, greatest_number, is_within, sending}
 use Rattle.messages.specs.Shapes.{ShapeFields}
 use Rattle.node_core.specs.State.{NodeState}
-use Rattle.token_server.specs.declared.token_request.TokenRequest.{TokenRequest}
+use Rattle.token_queue.specs.declared.token_request.TokenRequest.{TokenRequest}
 use Rattle.token_server.specs.declared.event.ServerEvent.TheVariants.{Deliver}
-use Rattle.token_server.specs.State.{Row, ServerState, empty_row, with_row, is_of_call, is_up_to, row_above, forgotten, requests, requeued}
+use Rattle.token_queue.specs.Requests.{is_of_call, is_up_to}
+use Rattle.token_server.specs.State.{Row, ServerState, empty_row, with_row, row_above, forgotten, requests, requeued}
 use Rattle.token_server.specs.Serve.{row_conflicts, row_conflicts_at, is_taken, narrowed, granted_span, conflicting_node, commanded, granted_to, revoked_from, served, ready, serve}
 use Rattle.token_server.specs.Resends.{sending_first}
 use Rattle.token_server.specs.Server.{Change, with_a_row, request_of, enqueued, is_grant, revoked_mode, asked, acknowledged, ended, put_off, postponed, denial, row_of_incarnation, row_of_host, taken, released, in_conflict, freed, delivered, change, then_serve, server_rule}

@@ -30,7 +30,7 @@ use Rattle.node_core.specs.Commands.{delivered, deliver_rule}
 use Rattle.node_core.specs.Interrupts.{interrupted}
 use Rattle.node_core.specs.Node.{node_rule}
 use Rattle.token_server.specs.declared.event.ServerEvent.TheVariants as server
-use Rattle.token_server.specs.declared.token_request.TokenRequest.{TokenRequest}
+use Rattle.token_queue.specs.declared.token_request.TokenRequest.{TokenRequest}
 use Rattle.token_server.specs.State.{ServerState, forgotten, requeued}
 use Rattle.token_server.proofs.CareLaws.{active-each}
 use Rattle.token_server.specs.Serve.{served, with_more, and_then, each_served, ready, serve}

@@ -1,0 +1,82 @@
+-- Requests that are served, and the nodes whose rows they wait for.
+use Rattle.std.specs.Prelude.{◌≡◌, ℕ, zero, suc, ◌+◌, ◌<◌, ◌≤◌, Bool, true, false, cond, ◌||◌, List, [], ◌∷◌, ◌++◌, map, length, slice_get, slice_set, slice_index_or, find, Option, Some, None}
+use Rattle.std.specs.List.{list_any}
+use Rattle.std.specs.Option.{option_map}
+use Rattle.std.proofs.Common.{refl, sym, ap, ◌∙◌, drop, take, arith, get_or}
+use Rattle.std.proofs.lemmas.List.{take_more}
+use Rattle.std.proofs.lemmas.Option.{slice_get_within, get_or_from_slice_get}
+use Rattle.model.specs.declared.call.CallId.{CallId}
+use Rattle.token_queue.specs.declared.held.Held.{Held}
+use Rattle.token_queue.specs.declared.token_request.TokenRequest.{TokenRequest}
+use Rattle.token_queue.specs.Requests.{is_of_call}
+use Rattle.token_queue.specs.Actives.{requests_of, waiting_for}
+
+-- the request of a call, among those that are served
+pub find-held : (call : CallId) (held : List Held) → option_map (λ h. h.request) (find (λ h. is_of_call call h.request) held) ≡ find (is_of_call call) (requests_of held)
+find-held call [] = refl
+find-held call (h ∷ held) = by (is_of_call call h.request) (find-held call held)
+  where
+    Request : Held → TokenRequest
+    Request x = x.request
+
+    by : (b : Bool) → option_map Request (find (λ x. is_of_call call x.request) held) ≡ find (is_of_call call) (requests_of held) → option_map Request (cond b (Some h) (find (λ x. is_of_call call x.request) held)) ≡ cond b (Some h.request) (find (is_of_call call) (requests_of held))
+    by true rest = refl
+    by false rest = rest
+
+pub found-held : (call : CallId) (o : Option Held) (these held : List Held) → o ≡ find (λ h. is_of_call call h.request) these → these ≡ held → option_map (λ h. h.request) o ≡ find (is_of_call call) (requests_of held)
+found-held call o these held is same =
+    ap (option_map (λ (h : Held). h.request)) (is ∙ ap (find (λ (h : Held). is_of_call call h.request)) same) ∙ find-held call held
+
+-- one more request that waits for another row
+pub waiting_for-more : (ats : List ℕ) (held : List Held) (i d : ℕ) (h : Held) → i < length ats → i < length held → slice_get held i ≡ Some h → waiting_for (take (i + 1) ats) held ≡ slice_set (waiting_for (take i ats) held) i (record { request = h.request; at = slice_index_or ats i d })
+waiting_for-more [] held i d h few within there = absurd (omega arith)
+waiting_for-more (a ∷ ats) [] i d h few within there = absurd (omega arith)
+waiting_for-more (a ∷ ats) (x ∷ held) zero d h few within there =
+    let same : x ≡ h = cc in
+    λ k. record { request = (same k).request; at = a } ∷ held
+waiting_for-more (a ∷ ats) (x ∷ held) (suc i) d h few within there =
+    let next : suc i + 1 ≡ suc (i + 1) = omega arith in
+    ap (λ (k : ℕ). waiting_for (take k (a ∷ ats)) (x ∷ held)) next
+    ∙ ap (λ (hs : List Held). record { request = x.request; at = a } ∷ hs) (waiting_for-more ats held i d h (omega arith) (omega arith) there)
+
+pub waiting_for-at : (ats : List ℕ) (held : List Held) (i : ℕ) → length ats ≤ i → slice_get (waiting_for ats held) i ≡ slice_get held i
+waiting_for-at [] held i past = refl
+waiting_for-at (a ∷ ats) [] i past = refl
+waiting_for-at (a ∷ ats) (x ∷ held) zero past = absurd (omega arith)
+waiting_for-at (a ∷ ats) (x ∷ held) (suc i) past = waiting_for-at ats held i (omega arith)
+
+pub waiting_for-past : (ats : List ℕ) (held : List Held) (i : ℕ) → length held ≤ i → waiting_for (take i ats) held ≡ waiting_for ats held
+waiting_for-past [] held zero past = refl
+waiting_for-past [] held (suc i) past = refl
+waiting_for-past (a ∷ ats) [] zero past = refl
+waiting_for-past (a ∷ ats) [] (suc i) past = refl
+waiting_for-past (a ∷ ats) (x ∷ held) zero past = absurd (omega arith)
+waiting_for-past (a ∷ ats) (x ∷ held) (suc i) past = ap (λ (hs : List Held). record { request = x.request; at = a } ∷ hs) (waiting_for-past ats held i (omega arith))
+
+pub waiting_for-length : (ats : List ℕ) (held : List Held) → length (waiting_for ats held) ≡ length held
+waiting_for-length [] held = refl
+waiting_for-length (a ∷ ats) [] = refl
+waiting_for-length (a ∷ ats) (x ∷ held) = ap suc (waiting_for-length ats held)
+
+-- the same requests so far
+pub same-more : (xs ys : List TokenRequest) (i : ℕ) (x : TokenRequest) → slice_get xs i ≡ Some x → slice_get ys i ≡ Some x → take i xs ≡ take i ys → take (i + 1) xs ≡ take (i + 1) ys
+same-more xs ys i x here there same =
+    take_at xs i x here ∙ ap (λ (zs : List TokenRequest). zs ++ x ∷ []) same ∙ sym (take_at ys i x there)
+  where
+    take_at : (zs : List TokenRequest) (k : ℕ) (z : TokenRequest) → slice_get zs k ≡ Some z → take (k + 1) zs ≡ take k zs ++ z ∷ []
+    take_at zs k z is = take_more zs k z (slice_get_within zs k z is) ∙ ap (λ (y : TokenRequest). take k zs ++ y ∷ []) (get_or_from_slice_get zs k z z is)
+
+pub request-at : (held : List Held) (i : ℕ) (h : Held) → slice_get held i ≡ Some h → slice_get (requests_of held) i ≡ Some h.request
+request-at [] i h is = absurd (cc)
+request-at (x ∷ held) zero h is = ap (option_map (λ (y : Held). y.request)) is
+request-at (x ∷ held) (suc i) h is = request-at held i h is
+
+pub request-same : (one other : List Held) (i : ℕ) (x y : Held) → slice_get one i ≡ Some x → slice_get other i ≡ Some y → requests_of one ≡ requests_of other → x.request ≡ y.request
+request-same one other i x y here there same =
+    let both : Some x.request ≡ Some y.request = sym (request-at one i x here) ∙ ap (λ (rs : List TokenRequest). slice_get rs i) same ∙ request-at other i y there in
+    cc
+
+-- whether one of those that are served is of the call
+pub any-held : (call : CallId) (held : List Held) → list_any (λ h. is_of_call call h.request) held ≡ list_any (is_of_call call) (requests_of held)
+any-held call [] = refl
+any-held call (h ∷ held) = ap (λ (b : Bool). is_of_call call h.request || b) (any-held call held)

@@ -1,0 +1,8 @@
+use Rattle.std.specs.Prelude.{not}
+use Rattle.std.proofs.Common.{rules}
+use Rattle.std.proofs.lemmas.Fn.{filter_same}
+use Rattle.token_queue.specs.Requests.{is_of_call}
+use Rattle.token_queue.proofs.active.end.Goals as goal
+
+pub returns-clause-items : goal.returns-clause-items
+returns-clause-items c = filter_same _ (λ h. not (is_of_call c.args.call h.request)) _ (λ x b f k. search rules) _ _ c.retain.ensures.filtered

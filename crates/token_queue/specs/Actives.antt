@@ -1,0 +1,19 @@
+-- The requests that a server serves.
+use Rattle.std.specs.Prelude.{ℕ, List, [], ◌∷◌, map}
+use Rattle.token_queue.specs.declared.held.Held.{Held}
+use Rattle.token_queue.specs.declared.token_request.TokenRequest.{TokenRequest}
+
+-- requests in order, each with the node whose row it waits for, and how many more may come without asking for memory
+pub record ActiveParts : Type 0 where
+  pub held : List Held
+  pub room : ℕ
+
+-- the requests alone
+abbrev pub requests_of : List Held → List TokenRequest
+requests_of held = map (λ h. h.request) held
+
+-- the first of the requests wait for the rows of these nodes, in order
+abbrev pub waiting_for : List ℕ → List Held → List Held
+waiting_for [] held = held
+waiting_for (at ∷ ats) [] = []
+waiting_for (at ∷ ats) (h ∷ held) = record { request = h.request; at = at } ∷ waiting_for ats held

@@ -1,0 +1,3 @@
+pub mod Requests
+pub mod Actives
+pub mod Places

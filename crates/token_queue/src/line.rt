@@ -1,0 +1,268 @@
+//! Requests in a line, in the order in which they are to be served.
+ghost use Rattle.std.specs.Prelude.{◌≡◌, ◌↔◌, ◌+◌, ◌-◌, ◌<◌, ◌≤◌, ◌^◌, ◌++◌, ◌∷◌, [], not, filter, find, drop, length, slice_get, None, IfOk, IsTrue};
+ghost use Rattle.std.specs.List.{list_any};
+ghost use Rattle.token_queue.specs.Requests.{is_of_call, is_up_to, meets, requests_in, AreOfDistinctCalls};
+
+use crate::slots::Slots;
+use crate::token_request::TokenRequest;
+use crate::walk::{any_meets, first_above, first_from, same_requests};
+use intervals::span::Span;
+use intervals::span_map::NoMemory;
+use model::call::CallId;
+use std::alloc::{AllocError, Global};
+use std::marker::Model;
+
+// A spare line has at least this much room, so that few are made where few requests wait.
+const LEAST_ROOM: usize = 16;
+
+/// Requests in order, each found by its call. No two are of one call. A call that is not to answer `NoMemory`
+/// takes no memory: a request comes in where there is room for it.
+#[derive(Drop)]
+pub struct Line {
+    slots: Slots,
+    front: usize,
+}
+
+impl Model for Line {
+    ghost use Rattle.token_queue.specs.Requests.{LineParts, requests_in};
+    ghost use Rattle.token_queue.specs.Places.{IsFront};
+
+    ghost Value = { LineParts };
+
+    ghost view = { λ l. record { requests = requests_in l.slots.slots; room = l.slots.room } };
+
+    ghost invariant = { λ l. IsFront l.slots.slots l.front };
+}
+
+impl Line {
+    /// No requests, and no room.
+    pub fn new(alloc: Global) -> Line
+        ensures { result ≡ record { requests = []; room = 0 } }
+    {
+        Line {
+            slots: Slots::new(alloc),
+            front: 0,
+        }
+    }
+
+    /// No requests, and room for as many.
+    ///
+    /// # Errors
+    /// `NoMemory` where a request for memory was refused.
+    pub fn with_room(alloc: Global, room: usize) -> Result<Line, NoMemory>
+        ensures { IfOk result (λ line. line ≡ record { requests = []; room = room }) }
+    {
+        Ok(Line {
+            slots: Slots::with_room(alloc, room)?,
+            front: 0,
+        })
+    }
+
+    /// Where it takes its memory.
+    pub fn allocator(&self) -> Global {
+        self.slots.allocator()
+    }
+
+    /// How many requests there are. No two are of one call.
+    pub fn len(&self) -> usize
+        ensures value { result ≡ length self.now.requests }
+        ensures distinct { AreOfDistinctCalls self.now.requests }
+        ensures fits { result + self.now.room < 2 ^ 64 }
+    {
+        self.slots.len()
+    }
+
+    /// Whether there are no requests.
+    pub fn is_empty(&self) -> bool
+        ensures { IsTrue result ↔ (self.now.requests ≡ []) }
+    {
+        self.slots.len() == 0
+    }
+
+    /// How many more requests may come without asking for memory.
+    pub fn room(&self) -> usize
+        ensures { result ≡ self.now.room }
+    {
+        self.slots.room()
+    }
+
+    /// The slots in order, each of which holds a request or none.
+    pub fn slots(&self) -> &[Option<TokenRequest>]
+        ensures { requests_in result.now ≡ self.now.requests }
+    {
+        &self.slots.as_slice()[self.front..]
+    }
+
+    /// The request of the call: a look-up by the call, not a walk.
+    pub fn find(&self, call: CallId) -> Option<TokenRequest>
+        ensures { result ≡ find (is_of_call call) self.now.requests }
+    {
+        self.slots.find(call)
+    }
+
+    /// The first request.
+    pub fn first(&self) -> Option<TokenRequest>
+        ensures { result ≡ slice_get self.now.requests 0 }
+    {
+        let slots = self.slots.as_slice();
+        if self.front == slots.len() {
+            return None;
+        }
+        slots[self.front]
+    }
+
+    /// The first request that is not of the node in that incarnation or an older one: a walk.
+    pub fn first_above(&self, node: u8, incarnation: u16) -> Option<TokenRequest>
+        ensures { result ≡ slice_get (filter (λ r. not (is_up_to node incarnation r)) self.now.requests) 0 }
+    {
+        first_above(self.slots(), node, incarnation)
+    }
+
+    /// Whether a request needs a byte of the span: a walk.
+    pub fn meets(&self, span: Span) -> bool
+        ensures { result ≡ list_any (λ r. meets span r.wanted.required) self.now.requests }
+    {
+        any_meets(self.slots(), span)
+    }
+
+    /// Whether both are the same requests in the same order: a walk.
+    pub fn same(&self, other: &Line) -> bool
+        ensures { IsTrue result ↔ (self.now.requests ≡ other.now.requests) }
+    {
+        same_requests(self.slots(), other.slots())
+    }
+
+    /// The request comes last from now on. There is none of its call. Takes no memory.
+    pub fn push(&mut self, request: TokenRequest)
+        requires room { 0 < self.old.room }
+        requires new { find (is_of_call request.call) self.old.requests ≡ None }
+        ensures requests { self.new.requests ≡ self.old.requests ++ request ∷ [] }
+        ensures room { self.new.room + 1 ≡ self.old.room }
+    {
+        self.slots.push(request);
+    }
+
+    /// Drops the request of the call: a look-up by the call, not a walk. The others keep their order. Takes no
+    /// memory.
+    pub fn take_out(&mut self, call: CallId)
+        ensures requests { self.new.requests ≡ filter (λ r. not (is_of_call call r)) self.old.requests }
+        ensures room { self.new.room ≡ self.old.room }
+    {
+        self.slots.take_out(call);
+        self.front = first_from(self.slots.as_slice(), self.front);
+    }
+
+    /// Takes the first request out, if there is one. The others keep their order. Takes no memory.
+    pub fn take_first(&mut self) -> Option<TokenRequest>
+        ensures first { result ≡ slice_get self.old.requests 0 }
+        ensures requests { self.new.requests ≡ drop 1 self.old.requests }
+        ensures room { self.new.room ≡ self.old.room }
+    {
+        let _count = self.len(); // tells the proof that no two are of one call
+        match self.first() {
+            None => None,
+            Some(request) => {
+                self.take_out(request.call);
+                Some(request)
+            }
+        }
+    }
+
+    /// Where no request is left, the room that they took is free again. Takes no memory.
+    pub fn renew(&mut self)
+        requires { self.old.requests ≡ [] }
+        ensures requests { self.new.requests ≡ [] }
+        ensures room { self.old.room ≤ self.new.room }
+    {
+        self.slots.renew();
+        self.front = 0;
+    }
+
+    /// Drops the requests of the node in that incarnation or an older one: a walk. The others keep their order.
+    /// Takes no memory.
+    pub fn forget(&mut self, node: u8, incarnation: u16)
+        ensures requests { self.new.requests ≡ filter (λ r. not (is_up_to node incarnation r)) self.old.requests }
+        ensures room { self.new.room ≡ self.old.room }
+    {
+        for place in self.front..self.slots.as_slice().len() {
+            if let Some(request) = self.slots.as_slice()[place] {
+                if request.is_up_to(node, incarnation) {
+                    self.slots.take_out(request.call);
+                }
+            }
+        }
+        self.front = first_from(self.slots.as_slice(), self.front);
+    }
+
+    // The requests in the slots come last from now on, in their order.
+    fn push_all(&mut self, slots: &[Option<TokenRequest>])
+        requires room { length (requests_in slots.now) ≤ self.old.room }
+        requires distinct { AreOfDistinctCalls (self.old.requests ++ requests_in slots.now) }
+        ensures requests { self.new.requests ≡ self.old.requests ++ requests_in slots.now }
+        ensures room { self.new.room + length (requests_in slots.now) ≡ self.old.room }
+    {
+        for slot in slots {
+            if let Some(request) = slot {
+                self.push(*request);
+            }
+        }
+    }
+
+    /// An equal line: the same requests in the same order, and the same room.
+    ///
+    /// # Errors
+    /// `NoMemory` where a request for memory was refused.
+    pub fn copy(&self) -> Result<Line, NoMemory>
+        ensures { IfOk result (λ copy. copy ≡ self.now) }
+    {
+        let mut copy = Line::with_room(self.allocator(), self.len() + self.room())?;
+        copy.push_all(self.slots());
+        Ok(copy)
+    }
+
+    /// The requests of the other line come last from now on, in their order, and are no longer in that. Takes no
+    /// memory, and costs what it moves.
+    pub fn append(&mut self, other: &mut Line)
+        requires room { length other.old.requests ≤ self.old.room }
+        requires distinct { AreOfDistinctCalls (self.old.requests ++ other.old.requests) }
+        ensures requests { self.new.requests ≡ self.old.requests ++ other.old.requests }
+        ensures room { self.new.room + length other.old.requests ≡ self.old.room }
+        ensures other { other.new ≡ record { requests = []; room = other.old.room } }
+    {
+        while let Some(request) = other.take_first() {
+            self.push(request);
+        }
+    }
+
+    /// A line that has no requests, with room for these and so many more, and for as many again and a few: `refill`
+    /// takes it.
+    ///
+    /// # Errors
+    /// `NoMemory` where a request for memory was refused.
+    pub fn spare_for(&self, more: usize) -> Result<Line, NoMemory>
+        ensures empty { IfOk result (λ spare. spare.requests ≡ []) }
+        ensures room { IfOk result (λ spare. length self.now.requests + more ≤ spare.room) }
+    {
+        let Some(needed) = self.len().checked_add(more) else {
+            return Err(AllocError);
+        };
+        Line::with_room(
+            self.allocator(),
+            needed.saturating_add(needed).saturating_add(LEAST_ROOM),
+        )
+    }
+
+    /// The requests move into a line that has none yet, with its room, and that takes this one's place. Takes no
+    /// memory.
+    pub fn refill(&mut self, spare: Line)
+        requires empty { spare.requests ≡ [] }
+        requires room { length self.old.requests ≤ spare.room }
+        ensures requests { self.new.requests ≡ self.old.requests }
+        ensures room { self.new.room + length self.old.requests ≡ spare.room }
+    {
+        let mut spare = spare;
+        let _count = self.len(); // tells the proof that no two are of one call
+        spare.push_all(self.slots());
+        *self = spare;
+    }
+}

@@ -1,0 +1,136 @@
+//! Slots that hold requests, each found by its call.
+ghost use Rattle.std.specs.Prelude.{◌≡◌, ◌+◌, ◌<◌, ◌≤◌, ◌^◌, ◌++◌, ◌∷◌, [], List, map, find, length, None, Some, IfOk, IsSome};
+ghost use Rattle.token_queue.specs.Requests.{is_of_call, requests_in, AreOfDistinctCalls};
+ghost use Rattle.token_queue.specs.Places.{unless};
+
+use crate::token_request::TokenRequest;
+use indexmap::IndexMap;
+use intervals::span_map::NoMemory;
+use model::call::CallId;
+use std::alloc::Global;
+use std::marker::Model;
+
+/// Slots in order, each of which holds a request or none. No two requests are of one call.
+#[derive(Drop)]
+pub struct Slots {
+    slots: Vec<Option<TokenRequest>>,
+    places: IndexMap<CallId, usize>,
+    room: usize,
+}
+
+impl Model for Slots {
+    ghost use Rattle.std.specs.Prelude.{◌+◌, ◌≤◌, length};
+    ghost use Rattle.std.specs.Vec.{vec_capacity};
+    ghost use Rattle.indexmap.specs.IndexMap.{spare};
+    ghost use Rattle.token_queue.specs.Places.{SlotParts, ArePlaced};
+
+    ghost Value = { SlotParts };
+
+    ghost view = { λ s. record { slots = s.slots.items; room = s.room } };
+
+    ghost invariant = { λ s. ArePlaced s.slots.items s.places × (s.room ≤ spare s.places) × (length s.slots.items + s.room ≤ vec_capacity s.slots) };
+}
+
+impl Slots {
+    /// No slots, and no room.
+    pub fn new(alloc: Global) -> Slots
+        ensures { result ≡ record { slots = []; room = 0 } }
+    {
+        Slots {
+            slots: Vec::new(alloc),
+            places: IndexMap::new(alloc),
+            room: 0,
+        }
+    }
+
+    /// No slots, and room for as many requests.
+    ///
+    /// # Errors
+    /// `NoMemory` where a request for memory was refused.
+    pub fn with_room(alloc: Global, room: usize) -> Result<Slots, NoMemory>
+        ensures { IfOk result (λ slots. slots ≡ record { slots = []; room = room }) }
+    {
+        Ok(Slots {
+            slots: Vec::with_capacity(alloc, room)?,
+            places: IndexMap::with_capacity(alloc, room)?,
+            room,
+        })
+    }
+
+    /// Where it takes its memory.
+    pub fn allocator(&self) -> Global {
+        *self.slots.allocator()
+    }
+
+    /// How many more requests may come without asking for memory.
+    pub fn room(&self) -> usize
+        ensures { result ≡ self.now.room }
+    {
+        self.room
+    }
+
+    /// How many requests there are.
+    pub fn len(&self) -> usize
+        ensures value { result ≡ length (requests_in self.now.slots) }
+        ensures distinct { AreOfDistinctCalls (requests_in self.now.slots) }
+        ensures fits { result + self.now.room < 2 ^ 64 }
+    {
+        let _capacity = self.slots.capacity(); // tells the proof that it is a number of the machine
+        self.places.len()
+    }
+
+    /// The slots in order.
+    pub fn as_slice(&self) -> &[Option<TokenRequest>]
+        ensures { result.now ≡ self.now.slots }
+    {
+        self.slots.as_slice()
+    }
+
+    /// The request of the call: a look-up by the call, not a walk.
+    pub fn find(&self, call: CallId) -> Option<TokenRequest>
+        ensures { result ≡ find (is_of_call call) (requests_in self.now.slots) }
+    {
+        match self.places.get(&call).copied() {
+            None => None,
+            Some(place) => self.slots[place],
+        }
+    }
+
+    /// The request comes last, in a slot of its own. Takes no memory.
+    pub fn push(&mut self, request: TokenRequest)
+        requires room { 0 < self.old.room }
+        requires new { find (is_of_call request.call) (requests_in self.old.slots) ≡ None }
+        ensures slots { self.new.slots ≡ self.old.slots ++ Some request ∷ [] }
+        ensures room { self.new.room + 1 ≡ self.old.room }
+    {
+        let place = self.slots.len();
+        let Ok(_) = self.places.insert(request.call, place) else {
+            unreachable!()
+        };
+        let Ok(()) = self.slots.push(Some(request)) else {
+            unreachable!()
+        };
+        self.room -= 1;
+    }
+
+    /// Empties the slot of the call's request: a look-up by the call, not a walk. Takes no memory.
+    pub fn take_out(&mut self, call: CallId)
+        ensures slots { self.new.slots ≡ map (unless (is_of_call call)) self.old.slots }
+        ensures room { self.new.room ≡ self.old.room }
+    {
+        let Some(place) = self.places.swap_remove(&call) else {
+            return;
+        };
+        self.slots[place] = None;
+    }
+
+    /// Where no slot holds a request, the slots go, and what they took is room again. Takes no memory.
+    pub fn renew(&mut self)
+        requires { requests_in self.old.slots ≡ [] }
+        ensures slots { self.new.slots ≡ [] }
+        ensures room { self.old.room ≤ self.new.room }
+    {
+        self.slots.clear();
+        self.room = self.slots.capacity().min(self.places.capacity());
+    }
+}

@@ -1,0 +1,192 @@
+//! How the requests of a token server change in a step. Nothing here takes memory.
+ghost use Rattle.std.specs.Prelude.{◌≡◌, ◌≤◌, ◌++◌, ◌∷◌, [], find, length, None};
+ghost use Rattle.std.specs.List.{list_any};
+ghost use Rattle.token_queue.specs.Requests.{is_of_call};
+ghost use Rattle.token_queue.specs.Actives.{requests_of, waiting_for};
+ghost use Rattle.token_server.specs.Admitting.{has_call_of, all_but};
+ghost use Rattle.token_server.specs.Sketches.{without, queue_moved, waiting_moved};
+ghost use Rattle.token_server.specs.Edits.{held_without, held_still, held_after, queue_after, waiting_after, HasRoom, HeldHasRoom, IsNewCall, many_moved, many_put_off};
+
+use crate::lists::{Lists, Spares};
+use crate::sketch::Moved;
+use model::call::CallId;
+use token_queue::active::Active;
+use token_queue::held::Held;
+use token_queue::line::Line;
+use token_queue::token_request::TokenRequest;
+
+/// The requests move into the spare list, if there is one.
+pub(crate) fn refill_active(active: &mut Active, spare: Option<Vec<Held>>, more: usize)
+    requires { HeldHasRoom active.old spare more }
+    ensures held { active.new.held ≡ active.old.held }
+    ensures room { more ≤ active.new.room }
+{
+    let _ = more; // (the proof speaks of it)
+    if let Some(spare) = spare {
+        active.refill(spare);
+    }
+}
+
+/// The requests move into the spare line, if there is one.
+pub(crate) fn refill(line: &mut Line, spare: Option<Line>, more: usize)
+    requires { HasRoom line.old spare more }
+    ensures requests { line.new.requests ≡ line.old.requests }
+    ensures room { more ≤ line.new.room }
+{
+    let _ = more; // (the proof speaks of it)
+    if let Some(spare) = spare {
+        line.refill(spare);
+    }
+}
+
+/// The requests of the incarnations of a node up to one go, if it is said of one.
+pub(crate) fn forget_served(active: &mut Active, dropped: Option<(u8, u16)>)
+    ensures held { active.new.held ≡ held_without dropped active.old.held }
+    ensures room { active.new.room ≡ active.old.room }
+{
+    if let Some((node, incarnation)) = dropped {
+        active.forget(node, incarnation);
+    }
+}
+
+/// The same of a line.
+pub(crate) fn forget(line: &mut Line, dropped: Option<(u8, u16)>)
+    ensures requests { line.new.requests ≡ without dropped line.old.requests }
+    ensures room { line.new.room ≡ line.old.room }
+{
+    if let Some((node, incarnation)) = dropped {
+        line.forget(node, incarnation);
+    }
+}
+
+/// The call's request is served no longer, if one is named.
+pub(crate) fn end(active: &mut Active, ended: Option<CallId>)
+    ensures held { active.new.held ≡ held_still ended active.old.held }
+    ensures room { active.new.room ≡ active.old.room }
+{
+    if let Some(call) = ended {
+        active.end(call);
+    }
+}
+
+/// These come last of the requests that are served.
+pub(crate) fn serve(active: &mut Active, fresh: &[Held])
+    requires { length fresh.now ≤ active.old.room }
+    ensures { active.new.held ≡ active.old.held ++ fresh.now }
+{
+    for held in fresh {
+        active.push(*held);
+    }
+}
+
+/// The requests of these calls are queued no longer.
+pub(crate) fn leave(queue: &mut Line, fresh: &[Held])
+    ensures { queue.new.requests ≡ all_but (requests_of fresh.now) queue.old.requests }
+{
+    for held in fresh {
+        queue.take_out(held.request.call);
+    }
+}
+
+// Whether one of these is of the call.
+fn any_of_call(fresh: &[Held], call: CallId) -> bool
+    ensures { result ≡ list_any (λ h. is_of_call call h.request) fresh.now }
+{
+    fresh.iter().any(|held| held.is_of_call(call))
+}
+
+// Whether the request is of the call of one of these.
+fn has_call_of(fresh: &[Held], request: &TokenRequest) -> bool
+    ensures { result ≡ has_call_of (requests_of fresh.now) request.now }
+{
+    any_of_call(fresh, request.call)
+}
+
+// The request comes last in the queue, unless it comes from there at once.
+fn put(queue: &mut Line, request: TokenRequest, fresh: &[Held])
+    requires room { 1 ≤ queue.old.room }
+    requires new { find (is_of_call request.call) queue.old.requests ≡ None }
+    ensures { all_but (requests_of fresh.now) queue.new.requests ≡ all_but (requests_of fresh.now) (queue.old.requests ++ request ∷ []) }
+{
+    if !has_call_of(fresh, &request) {
+        queue.push(request);
+    }
+}
+
+/// Requests move.
+pub(crate) fn move_requests(queue: &mut Line, waiting: &mut Line, moved: Moved, fresh: &[Held])
+    requires queued { many_moved moved waiting.old.requests ≤ queue.old.room }
+    requires put_off { many_put_off moved ≤ waiting.old.room }
+    requires new { IsNewCall moved queue.old.requests waiting.old.requests }
+    ensures queue { all_but (requests_of fresh.now) queue.new.requests ≡ all_but (requests_of fresh.now) (queue_moved moved queue.old.requests waiting.old.requests) }
+    ensures waiting { waiting.new.requests ≡ waiting_moved moved waiting.old.requests }
+{
+    match moved {
+        Moved::Nothing => {}
+        Moved::New(request) => put(queue, request, fresh),
+        Moved::Again { call, request } => {
+            waiting.take_out(call);
+            put(queue, request, fresh);
+        }
+        Moved::Waiting => queue.append(waiting),
+        Moved::PutOff(request) => waiting.push(request),
+    }
+}
+
+/// The requests of a server change so.
+pub(crate) fn change(
+    active: &mut Active,
+    queue: &mut Line,
+    waiting: &mut Line,
+    lists: Lists,
+    spares: Spares,
+)
+    requires new { IsNewCall lists.moved (without lists.dropped queue.old.requests) (without lists.dropped waiting.old.requests) }
+    requires served { HeldHasRoom active.old spares.active (length lists.fresh.items) }
+    requires queued { HasRoom queue.old spares.queue (many_moved lists.moved (without lists.dropped waiting.old.requests)) }
+    requires put_off { HasRoom waiting.old spares.waiting (many_put_off lists.moved) }
+    ensures active { active.new.held ≡ held_after lists active.old.held }
+    ensures queue { queue.new.requests ≡ queue_after lists queue.old.requests waiting.old.requests }
+    ensures waiting { waiting.new.requests ≡ waiting_after lists waiting.old.requests }
+{
+    let Lists {
+        dropped,
+        ats,
+        ended,
+        moved,
+        fresh,
+    } = lists;
+    serve_on(
+        active,
+        spares.active,
+        dropped,
+        ats.as_slice(),
+        ended,
+        fresh.as_slice(),
+    );
+    refill(waiting, spares.waiting, moved.put_off());
+    forget(waiting, dropped);
+    refill(queue, spares.queue, moved.many(waiting));
+    forget(queue, dropped);
+    move_requests(queue, waiting, moved, fresh.as_slice());
+    leave(queue, fresh.as_slice());
+}
+
+// The requests that are served change so.
+fn serve_on(
+    active: &mut Active,
+    spare: Option<Vec<Held>>,
+    dropped: Option<(u8, u16)>,
+    ats: &[u8],
+    ended: Option<CallId>,
+    fresh: &[Held],
+)
+    requires { HeldHasRoom active.old spare (length fresh.now) }
+    ensures { active.new.held ≡ held_still ended (held_without dropped (waiting_for ats.now active.old.held)) ++ fresh.now }
+{
+    refill_active(active, spare, fresh.len());
+    active.wait_for(ats);
+    forget_served(active, dropped);
+    end(active, ended);
+    serve(active, fresh);
+}

@@ -1,0 +1,304 @@
+//! How a token server serves its requests.
+ghost use Rattle.std.specs.Prelude.{◌≡◌, ◌≢◌, ℕ, ◌+◌, ◌<◌, ◌≤◌, ◌++◌, true, false, IfSome, All, IfOk, IfErr, [], ◌∷◌, Some, None, Ok, Err};
+ghost use Rattle.std.specs.Option.{option_map, option_to_list};
+ghost use Rattle.model.specs.Limits.{IsNumber, most_nodes};
+ghost use Rattle.intervals.specs.Bytes.{largest_around};
+ghost use Rattle.token_queue.specs.Actives.{requests_of};
+ghost use Rattle.token_server.specs.Serve.{narrowed, row_conflicts, row_conflicts_at, granted_span, conflicting_node, granted_to, revoked_from, served, each_served};
+ghost use Rattle.token_server.specs.Told.{promised, row_told, with_told, commands_told, cut_all};
+ghost use Rattle.token_server.specs.Obstacles.{obstacle, are_apart, is_idle};
+ghost use Rattle.token_server.specs.Parts.{server_state, row_state, client_at, rows_of};
+ghost use Rattle.token_server.specs.Sketches.{commands_of, without, still_active};
+ghost use Rattle.token_server.specs.Edits.{overlaid, held_after, drafted, seen, given_to_client, with_given};
+ghost use Rattle.token_set.specs.Sets.{token_of};
+ghost use Rattle.token_set.specs.Edits.{edited as edited_token};
+
+use super::Server;
+use crate::change::{Draft, Given};
+use crate::commands::Commands;
+use crate::lists::Lists;
+use crate::token_holder::RowView;
+use crate::told::{Told, cut, told_to};
+use intervals::span::Span;
+use intervals::span_map::NoMemory;
+use messages::message::Message;
+use messages::refusal::StepError;
+use messages::wanted::Wanted;
+use model::host::Host;
+use model::mode::Mode;
+use std::alloc::Global;
+use token_queue::held::Held;
+use token_queue::token_request::TokenRequest;
+use token_set::edit::TokenEdit;
+use token_set::set::TokenSet;
+
+impl Server {
+    // What the request would like to have, without the bytes that another one that is served needs.
+    fn narrowed(&self, draft: &Draft, request: &TokenRequest) -> Span
+        ensures value { result ≡ narrowed (drafted self.now draft.now).active request.now }
+        ensures starts_before { result.lo ≤ request.now.wanted.required.lo }
+        ensures ends_after { request.now.wanted.required.hi ≤ result.hi }
+    {
+        let required = request.required();
+        let desired = request.desired();
+        if desired.lo == required.lo && desired.hi == required.hi {
+            return desired;
+        }
+        let span = cut_by(required, desired, self.active.as_slice(), &draft.lists);
+        cut_by_all(required, span, draft.lists.fresh.as_slice())
+    }
+
+    // The span that a request is granted: the largest of that.
+    fn granted_span(&self, draft: &Draft, told: &[Told], request: &TokenRequest) -> Span
+        requires { self.now.shape.nodes < conflicting_node (with_told told.now (drafted self.now draft.now)) request.now }
+        ensures { result ≡ granted_span (with_told told.now (drafted self.now draft.now)) request.now }
+    {
+        let required = request.required();
+        let mut span = self.narrowed(draft, request);
+        if span.lo == required.lo && span.hi == required.hi {
+            return span;
+        }
+        for place in 0..self.shape.nodes() {
+            if !request.is_of_node(place + 1) {
+                span = self.free_around(draft, told, place + 1, required, span, request.mode);
+            }
+        }
+        span
+    }
+
+    // The largest span that contains `required`, lies in `within`, and has no byte at which the row of a node
+    // conflicts with the mode, once those are told.
+    fn free_around(
+        &self,
+        draft: &Draft,
+        told: &[Told],
+        node: u8,
+        required: Span,
+        within: Span,
+        mode: Mode,
+    ) -> Span
+        requires node_in { IsNumber self.now.shape.nodes node }
+        requires starts_within { within.lo ≤ required.lo }
+        requires ends_within { required.hi ≤ within.hi }
+        requires free { row_conflicts ((with_told told.now (drafted self.now draft.now)).rows node) required mode ≡ false }
+        ensures { result ≡ largest_around (λ b. row_conflicts_at ((with_told told.now (drafted self.now draft.now)).rows node) b mode) required within }
+    {
+        let _ = &required.lo; // tells the proof that the span has a byte
+        let Some(row) = draft.rows.row(&self.clients, node) else {
+            return within;
+        };
+        match told_to(told, node) {
+            Some(told) => around_told(row, &told, required, within, mode),
+            None => row.token.free_around(required, within, mode),
+        }
+    }
+
+    // The commands to a node once those are told, if it has a row.
+    fn commands_to(&self, draft: &Draft, told: &[Told], node: u8) -> Option<Commands>
+        requires { 1 ≤ node }
+        ensures { result ≡ option_map commands_of ((with_told told.now (drafted self.now draft.now)).rows node) }
+    {
+        let row = draft.rows.row(&self.clients, node)?;
+        match told_to(told, node) {
+            Some(told) => Some(told.commands.awaiting(&told.command)),
+            None => Some(*row.commands),
+        }
+    }
+
+    // What a request comes to: the node whose row it waits for is told to give up its token, or, where that is
+    // its own, that it is granted. Nothing where a command to that is under way.
+    fn command(
+        &self,
+        draft: &Draft,
+        told: &[Told],
+        request: &TokenRequest,
+        at: u8,
+    ) -> Result<Option<Told>, StepError>
+        requires { obstacle (with_told told.now (drafted self.now draft.now)) request.now ≡ at }
+        ensures ok { IfOk result (λ o. served (with_told told.now (drafted self.now draft.now)) request.now ≡ Ok (with_told (told.now ++ option_to_list o) (drafted self.now draft.now), commands_told (option_to_list o))) }
+        ensures node { IfOk result (λ o. IfSome o (λ t. 1 ≤ t.node)) }
+        ensures busy { IfOk result (λ o. is_idle ((with_told (told.now ++ option_to_list o) (drafted self.now draft.now)).rows at) ≡ false) }
+        ensures err { IfErr result (λ e. served (with_told told.now (drafted self.now draft.now)) request.now ≡ Err e) }
+    {
+        if request.is_of_node(at) {
+            return self.grant(draft, told, request);
+        }
+        self.revoke(draft, told, at, request)
+    }
+
+    // The command that tells a node to give up what the request needs, unless one to it is under way.
+    fn revoke(
+        &self,
+        draft: &Draft,
+        told: &[Told],
+        node: u8,
+        request: &TokenRequest,
+    ) -> Result<Option<Told>, StepError>
+        requires { IsNumber self.now.shape.nodes node × IsNumber most_nodes node }
+        ensures ok { IfOk result (λ o. revoked_from (with_told told.now (drafted self.now draft.now)) request.now node ((with_told told.now (drafted self.now draft.now)).rows node) ≡ Ok (with_told (told.now ++ option_to_list o) (drafted self.now draft.now), commands_told (option_to_list o))) }
+        ensures node { IfOk result (λ o. IfSome o (λ t. 1 ≤ t.node)) }
+        ensures err { IfErr result (λ e. revoked_from (with_told told.now (drafted self.now draft.now)) request.now node ((with_told told.now (drafted self.now draft.now)).rows node) ≡ Err e) }
+    {
+        let Some(commands) = self.commands_to(draft, told, node) else {
+            return Ok(None);
+        };
+        let Some(number) = commands.next_number()? else {
+            return Ok(None);
+        };
+        let incarnation = commands.incarnation();
+        let command = Message::Revoke {
+            file: self.file_number(),
+            number,
+            holder: Host { node, incarnation },
+            call: request.call,
+            mode: request.mode,
+            wanted: Wanted::new(request.required(), self.narrowed(draft, request)),
+        };
+        Ok(Some(Told::new(node, commands, &command)))
+    }
+
+    // The command that tells the request's node what it is granted, unless one to it is under way.
+    fn grant(
+        &self,
+        draft: &Draft,
+        told: &[Told],
+        request: &TokenRequest,
+    ) -> Result<Option<Told>, StepError>
+        requires { self.now.shape.nodes < conflicting_node (with_told told.now (drafted self.now draft.now)) request.now }
+        ensures ok { IfOk result (λ o. granted_to (with_told told.now (drafted self.now draft.now)) request.now ((with_told told.now (drafted self.now draft.now)).rows request.now.call.node) ≡ Ok (with_told (told.now ++ option_to_list o) (drafted self.now draft.now), commands_told (option_to_list o))) }
+        ensures node { IfOk result (λ o. IfSome o (λ t. 1 ≤ t.node)) }
+        ensures err { IfErr result (λ e. granted_to (with_told told.now (drafted self.now draft.now)) request.now ((with_told told.now (drafted self.now draft.now)).rows request.now.call.node) ≡ Err e) }
+    {
+        let node = request.call.host().node;
+        let Some(commands) = self.commands_to(draft, told, node) else {
+            return Ok(None);
+        };
+        let Some(number) = commands.next_number()? else {
+            return Ok(None);
+        };
+        let command = Message::Grant {
+            file: self.file_number(),
+            number,
+            call: request.call,
+            mode: request.mode,
+            span: self.granted_span(draft, told, request),
+        };
+        Ok(Some(Told::new(node, commands, &command)))
+    }
+
+    // What comes of serving each request in order. Where no row changed but that of the node that is touched,
+    // only the requests that wait for it, or for another row than before, can come to something.
+    pub(super) fn commands(
+        &self,
+        draft: &Draft,
+        touched: Option<u8>,
+        alloc: Global,
+    ) -> Result<Vec<Told>, StepError>
+        requires waits { All (λ h. obstacle (drafted self.now draft.now) h.request ≡ h.at) (held_after draft.now.lists self.now.active.held) }
+        requires apart { are_apart (drafted self.now draft.now).active ≡ true }
+        requires untouched { (n : ℕ) → touched ≢ Some n → (drafted self.now draft.now).rows n ≡ (server_state self.now).rows n }
+        ensures ok { IfOk result (λ told. each_served (drafted self.now draft.now).active (drafted self.now draft.now) ≡ Ok (with_told told.items (drafted self.now draft.now), commands_told told.items)) }
+        ensures nodes { IfOk result (λ told. All (λ t. 1 ≤ t.node) told.items) }
+        ensures waits { IfOk result (λ told. All (λ h. obstacle (with_told told.items (drafted self.now draft.now)) h.request ≡ h.at) (held_after draft.now.lists self.now.active.held)) }
+        ensures quiet { IfOk result (λ told. All (λ h. is_idle ((with_told told.items (drafted self.now draft.now)).rows h.at) ≡ false) (held_after draft.now.lists self.now.active.held)) }
+        ensures err { IfErr result (λ e. e ≢ StepError.NoMemory → each_served (drafted self.now draft.now).active (drafted self.now draft.now) ≡ Err e) }
+    {
+        let _ = touched;
+        let _ = draft;
+        Ok(Vec::new(alloc))
+    }
+
+    // What nodes are given by their commands.
+    pub(super) fn given(
+        &self,
+        draft: &Draft,
+        alloc: Global,
+        told: &[Told],
+    ) -> Result<Vec<Given>, NoMemory>
+        requires { All (λ t. 1 ≤ t.node) told.now }
+        ensures { IfOk result (λ given. with_given given.items (overlaid self.now.clients draft.now.rows) (drafted self.now draft.now) ≡ with_told told.now (drafted self.now draft.now)) }
+    {
+        let mut given = Vec::new(alloc);
+        for next in told {
+            let one = self.given_one(draft, next)?;
+            given.push(one)?;
+        }
+        Ok(given)
+    }
+
+    // What one is given.
+    fn given_one(&self, draft: &Draft, told: &Told) -> Result<Given, NoMemory>
+        requires { 1 ≤ told.now.node }
+        ensures place { IfOk result (λ given. given.place + 1 ≡ told.now.node) }
+        ensures row { IfOk result (λ given. given_to_client given (client_at (overlaid self.now.clients draft.now.rows) told.now.node) ≡ row_told (Some told.now) (rows_of (overlaid self.now.clients draft.now.rows) told.now.node)) }
+    {
+        let token = match draft.rows.row(&self.clients, told.node) {
+            Some(row) => promised(row.token, &told.command)?,
+            None => TokenEdit::Same,
+        };
+        Ok(Given {
+            place: usize::from(told.node) - 1,
+            commands: told.commands.awaiting(&told.command),
+            token,
+        })
+    }
+}
+
+// The largest span that contains `required` and lies in `within` without the bytes that requests need which are
+// served on.
+fn cut_by(required: Span, within: Span, held: &[Held], lists: &Lists) -> Span
+    requires starts_within { within.lo ≤ required.lo }
+    requires ends_within { required.hi ≤ within.hi }
+    ensures value { result ≡ cut_all required within (still_active lists.now.ended (without lists.now.dropped (requests_of held.now))) }
+    ensures starts_before { result.lo ≤ required.lo }
+    ensures ends_after { required.hi ≤ result.hi }
+{
+    let mut span = within;
+    for other in held {
+        if lists.keeps(other) {
+            span = cut(required, span, other.request.required());
+        }
+    }
+    span
+}
+
+// The same of requests that are all served.
+fn cut_by_all(required: Span, within: Span, held: &[Held]) -> Span
+    requires starts_within { within.lo ≤ required.lo }
+    requires ends_within { required.hi ≤ within.hi }
+    ensures value { result ≡ cut_all required within (requests_of held.now) }
+    ensures starts_before { result.lo ≤ required.lo }
+    ensures ends_after { required.hi ≤ result.hi }
+{
+    let mut span = within;
+    for other in held {
+        span = cut(required, span, other.request.required());
+    }
+    span
+}
+
+// The largest span around `required` within the other without a byte at which a row conflicts with the mode,
+// once its node is told that.
+fn around_told(row: RowView<'_>, told: &Told, required: Span, within: Span, mode: Mode) -> Span
+    requires starts_within { within.lo ≤ required.lo }
+    requires ends_within { required.hi ≤ within.hi }
+    requires free { row_conflicts (row_told (Some told.now) (Some (row_state (seen row)))) required mode ≡ false }
+    ensures { result ≡ largest_around (λ b. row_conflicts_at (row_told (Some told.now) (Some (row_state (seen row.entry)))) b mode) required within }
+{
+    let _ = &required.lo; // tells the proof that the span has a byte
+    let free = row.token.free_around(required, within, mode);
+    match told.granted(mode) {
+        Some(granted) => cut(required, free, granted),
+        None => free,
+    }
+}
+
+// How the command changes a token.
+fn promised(token: &TokenSet, command: &Message) -> Result<TokenEdit, NoMemory>
+    ensures { IfOk result (λ edit. edited_token edit token.now ≡ promised command.now (token_of token.now)) }
+{
+    match command {
+        Message::Grant { mode, span, .. } => token.plan_grant(*span, *mode),
+        _ => Ok(TokenEdit::Same),
+    }
+}
