@@ -127,7 +127,7 @@ forgotten-young s node incarnation =
     })
 
 -- a request comes into the queue, or one that waits does
-enqueued_with-each : (P : TokenRequest → Type 0) (s : ServerState) (r : TokenRequest) (own : Option TokenRequest) → P r → IfSome own P → AreRequests P s → All P (requests (enqueued_with s r own))
+pub enqueued_with-each : (P : TokenRequest → Type 0) (s : ServerState) (r : TokenRequest) (own : Option TokenRequest) → P r → IfSome own P → AreRequests P s → All P (requests (enqueued_with s r own))
 enqueued_with-each P s r None new old are = requests-whole P (enqueued_with s r None) (record { active = are.active; queue = All-push P s.queue r are.queue new; waiting = are.waiting })
 enqueued_with-each P s r (Some own) new old are = requests-whole P (enqueued_with s r (Some own)) (record {
   active = are.active;

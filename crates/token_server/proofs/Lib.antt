@@ -21,3 +21,5 @@ pub mod CareLaws
 pub mod MarkLaws
 pub mod WaitLaws
 pub mod AdmissionLaws
+pub mod OrderlyLaws
+pub mod ReadyLaws

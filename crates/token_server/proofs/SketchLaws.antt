@@ -14,6 +14,7 @@ use Rattle.token_server.specs.declared.sketch.Moved.{Moved}
 use Rattle.token_server.specs.declared.sketch.Moved.TheVariants.{Nothing}
 use Rattle.token_server.specs.declared.sketch.Changed.{Changed}
 use Rattle.token_queue.specs.Requests.{is_of_call, is_up_to}
+use Rattle.token_queue.specs.Actives.{requests_of}
 use Rattle.token_server.specs.State.{Row, ServerState, row_above, forgotten}
 use Rattle.token_server.specs.Parts.{ServerParts, server_state, with_change}
 use Rattle.token_server.specs.Server.{with_a_row, request_of, enqueued_with, enqueued, asked}
@@ -59,7 +60,7 @@ with_a_row-is s call (Some row) is = λ i. record s { rows = (sym (row_there cal
 of_call-young : (own asked : CallId) → 1 ≤ asked.incarnation → same_call own asked ≡ true → not ((own.node == asked.node) && nat_le own.incarnation (asked.incarnation - 1)) ≡ true
 of_call-young own asked counted same = grind (arith, common_steps)
 
-asked-sketched : (p : ServerParts) (r : TokenRequest) → 1 ≤ r.call.incarnation → sketched p (record { changed = Some (record { node = r.call.node; change = Asked (host_of_call r.call) }); moved = moved_for r p.active p.queue p.waiting; ended = None }) ≡ asked (server_state p) r
+asked-sketched : (p : ServerParts) (r : TokenRequest) → 1 ≤ r.call.incarnation → sketched p (record { changed = Some (record { node = r.call.node; change = Asked (host_of_call r.call) }); moved = moved_for r (requests_of p.active.held) p.queue.requests p.waiting.requests; ended = None }) ≡ asked (server_state p) r
 asked-sketched p r counted = moves ∙ same_test ∙ ap (λ (s : ServerState). enqueued s r) (sym rowed)
   where
     node : ℕ
@@ -90,7 +91,7 @@ asked-sketched p r counted = moves ∙ same_test ∙ ap (λ (s : ServerState). e
     kept requests = find-filter (is_of_call r.call) keeps requests (λ x is. of_call-young x.call r.call counted is)
 
     test : Bool
-    test = is_some (request_of r.call p.active) || is_some (request_of r.call p.queue)
+    test = is_some (request_of r.call (requests_of p.active.held)) || is_some (request_of r.call p.queue.requests)
 
     one : (o : Option TokenRequest) → made (moved_with r o) ≡ enqueued_with base r o
     one None = refl
@@ -100,17 +101,17 @@ asked-sketched p r counted = moves ∙ same_test ∙ ap (λ (s : ServerState). e
     by true o = refl
     by false o = one o
 
-    moves : made (moved_for r p.active p.queue p.waiting) ≡ cond test base (enqueued_with base r (request_of r.call p.waiting))
-    moves = by test (request_of r.call p.waiting)
+    moves : made (moved_for r (requests_of p.active.held) p.queue.requests p.waiting.requests) ≡ cond test base (enqueued_with base r (request_of r.call p.waiting.requests))
+    moves = by test (request_of r.call p.waiting.requests)
 
     tests : (requests : List TokenRequest) → is_some (request_of r.call requests) ≡ list_any (is_of_call r.call) (filter keeps requests)
     tests requests = ap is_some (sym (kept requests)) ∙ find-any (is_of_call r.call) (filter keeps requests)
 
-    same_test : cond test base (enqueued_with base r (request_of r.call p.waiting)) ≡ enqueued base r
-    same_test = λ i. cond (tests p.active i || tests p.queue i) base (enqueued_with base r (sym (kept p.waiting) i))
+    same_test : cond test base (enqueued_with base r (request_of r.call p.waiting.requests)) ≡ enqueued base r
+    same_test = λ i. cond (tests (requests_of p.active.held) i || tests p.queue.requests i) base (enqueued_with base r (sym (kept p.waiting.requests) i))
 
 -- what a request changes
-pub asked-from : (p : ServerParts) (r : TokenRequest) (node : ℕ) (host : HostFields) (moved : Moved) → 1 ≤ r.call.incarnation → node ≡ r.call.node → host ≡ host_of_call r.call → moved ≡ moved_for r p.active p.queue p.waiting → sketched p (record { changed = Some (record { node = node; change = Asked host }); moved = moved; ended = None }) ≡ asked (server_state p) r
+pub asked-from : (p : ServerParts) (r : TokenRequest) (node : ℕ) (host : HostFields) (moved : Moved) → 1 ≤ r.call.incarnation → node ≡ r.call.node → host ≡ host_of_call r.call → moved ≡ moved_for r (requests_of p.active.held) p.queue.requests p.waiting.requests → sketched p (record { changed = Some (record { node = node; change = Asked host }); moved = moved; ended = None }) ≡ asked (server_state p) r
 asked-from p r node host moved counted at by is =
     (λ i. sketched p (record { changed = Some (record { node = at i; change = Asked (by i) }); moved = is i; ended = None }))
     ∙ asked-sketched p r counted

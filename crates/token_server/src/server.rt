@@ -447,6 +447,7 @@ impl Server {
         ensures fits { IfOk result (λ change. Fits self.now change.edit) }
         ensures outcome { IfOk result (λ change. change.outcome ≡ sending []) }
     {
+        let _ = &self.shape; // tells the proof what holds between two steps
         let draft = Draft {
             rows: RowEdits::new(alloc),
             lists: Lists::same(alloc),
@@ -502,6 +503,7 @@ impl Server {
         ensures err { IfErr result (λ e. e ≢ StepError.NoMemory → resend_rule (server_state self.now) ≡ Err e) }
         ensures refused { (r : StepError) → resend_rule (server_state self.now) ≡ Err r → r ≡ StepError.Spent }
     {
+        let _ = &self.shape; // tells the proof what holds between two steps
         let (edit, served) = self.serve(&self.requeued(), alloc)?;
         let commands = self.outstanding(alloc)?;
         Ok(sending(edit, commands, served)?)
@@ -516,6 +518,7 @@ impl Server {
         ensures err { IfErr result (λ e. e ≢ StepError.NoMemory → learn_rule (server_state self.now) node incarnation ≡ Err e) }
         ensures refused { (r : StepError) → learn_rule (server_state self.now) node incarnation ≡ Err r → r ≡ StepError.Spent }
     {
+        let _ = &self.shape; // tells the proof what holds between two steps
         self.serve_after(&self.forgotten(node, incarnation), alloc, None)
     }
 

@@ -1,0 +1,297 @@
+-- What holds of a server between two steps, once a planned step is made.
+use Rattle.std.specs.Prelude.{◌≡◌, ℕ, ◌+◌, ◌<◌, ◌≤◌, Bool, true, false, not, cond, ◌&&◌, ◌||◌, ◌==◌, nat_le, List, [], ◌∷◌, ◌++◌, All, filter, find, length, Option, Some, None, Vec}
+use Rattle.std.proofs.Common.{refl, sym, ap, subst, ◌∙◌, inl, inr, arith, append-nil}
+use Rattle.std.proofs.lemmas.Bool.{both_ways, leb-true, and_from}
+use Rattle.std.proofs.lemmas.Bool.Decides.{eqb_tells}
+use Rattle.std.proofs.lemmas.List.Elements.{All-head, All-tail, All-filter}
+use Rattle.std.specs.Global.{Global}
+use Rattle.model.specs.declared.call.CallId.{CallId}
+use Rattle.token_queue.specs.declared.token_request.TokenRequest.{TokenRequest}
+use Rattle.token_queue.specs.declared.held.Held.{Held}
+use Rattle.token_queue.specs.Requests.{LineParts, is_of_call, is_up_to, AreOfDistinctCalls}
+use Rattle.token_queue.specs.Actives.{ActiveParts, requests_of, waiting_for}
+use Rattle.token_queue.proofs.CallLaws.{same_call-refl}
+use Rattle.token_server.specs.declared.client.Client.{Client}
+use Rattle.token_server.specs.declared.change.Draft.{Draft}
+use Rattle.token_server.specs.declared.change.Parts.{Parts}
+use Rattle.token_server.specs.declared.change.Edit.{Edit}
+use Rattle.token_server.specs.declared.change.Given.{Given}
+use Rattle.token_server.specs.declared.row_edits.RowEdit.{RowEdit}
+use Rattle.token_server.specs.declared.lists.Lists.{Lists}
+use Rattle.token_server.specs.declared.lists.Spares.{Spares}
+use Rattle.token_server.specs.declared.sketch.Sketch.{Sketch}
+use Rattle.token_server.specs.declared.sketch.Moved.{Moved}
+use Rattle.token_server.specs.declared.sketch.Moved.TheVariants.{Nothing, New, Again, Waiting, PutOff}
+use Rattle.token_server.specs.declared.told.Told.{Told}
+use Rattle.token_server.specs.State.{Row, ServerState, requests}
+use Rattle.token_server.specs.Serve.{meets_some, ready}
+use Rattle.token_server.specs.Told.{with_told}
+use Rattle.token_server.specs.Obstacles.{obstacle, are_apart, is_idle}
+use Rattle.token_server.specs.Admitting.{all_but, all_stay}
+use Rattle.token_server.specs.Parts.{ServerParts, server_state, rows_of, deaths_of}
+use Rattle.token_server.specs.Ready.{AreDistinct, IsOrderly, IsReady, IsServer}
+use Rattle.token_server.specs.Sketches.{rows_after, deaths_after, dropped, without, still_active, queue_moved, waiting_moved, sketched}
+use Rattle.token_server.specs.Edits.{overlaid, held_still, held_without, held_after, queue_after, waiting_after, AreListed, drafted, given_rows, with_given, many_moved, many_put_off, HasRoom, HeldHasRoom, IsNewCall, Fits}
+use Rattle.token_server.proofs.AdmitLaws.{ready-is}
+use Rattle.token_server.proofs.AdmittingLaws.{all_but-none, calls, calls-append, calls-cons, apart-fewer, admitted-keeps_apart, admitted-leaves}
+use Rattle.token_server.proofs.StayLaws.{Stay}
+use Rattle.token_server.proofs.EditLaws.{overlaid-length}
+use Rattle.token_server.proofs.OrderlyLaws.{Living, calls-kinds, calls-one, orderly-ready}
+
+-- where none of the requests is of a dead incarnation, none goes
+living-stays : (dead : ℕ → ℕ) (node incarnation : ℕ) (rs : List TokenRequest) → incarnation ≤ dead node → All (Living dead) rs → rs ≡ filter (λ r. not (is_up_to node incarnation r)) rs
+living-stays dead node incarnation [] known all = refl
+living-stays dead node incarnation (r ∷ rs) known all =
+    by (is_up_to node incarnation r) refl (living-stays dead node incarnation rs known (All-tail (Living dead) r rs all))
+  where
+    rest : List TokenRequest
+    rest = filter (λ q. not (is_up_to node incarnation q)) rs
+
+    young : is_up_to node incarnation r ≡ true → ⊥
+    young old = elim (eqb_tells r.call.node node) [
+      | inl own ↦
+          let below : nat_le r.call.incarnation incarnation ≡ true = sym (ap (λ (b : Bool). b && nat_le r.call.incarnation incarnation) own.0) ∙ old in
+          let le : r.call.incarnation ≤ incarnation = leb-true r.call.incarnation incarnation below in
+          let living : dead node < r.call.incarnation = subst (λ (n : ℕ). dead n < r.call.incarnation) own.1 (All-head (Living dead) r rs all) in
+          omega arith
+      | inr other ↦ both_ways false refl (sym (ap (λ (b : Bool). b && nat_le r.call.incarnation incarnation) other.0) ∙ old)
+    ]
+
+    by : (b : Bool) → is_up_to node incarnation r ≡ b → rs ≡ rest → r ∷ rs ≡ cond (not b) (r ∷ rest) rest
+    by true is same = absurd (young is)
+    by false is same = ap (λ (xs : List TokenRequest). r ∷ xs) same
+
+pub living-without : (dead : ℕ → ℕ) (node incarnation : ℕ) (o : Option (ℕ × ℕ)) (rs : List TokenRequest) → o ≡ Some (node, incarnation) → incarnation ≤ dead node → All (Living dead) rs → rs ≡ without o rs
+living-without dead node incarnation o rs is known all =
+    living-stays dead node incarnation rs known all ∙ ap (λ (x : Option (ℕ × ℕ)). without x rs) (sym is)
+
+filter-fewer : (p : TokenRequest → Bool) (rs : List TokenRequest) → length (filter p rs) ≤ length rs
+filter-fewer p [] = omega arith
+filter-fewer p (r ∷ rs) = by (p r) (filter-fewer p rs)
+  where
+    by : (b : Bool) → length (filter p rs) ≤ length rs → length (cond b (r ∷ filter p rs) (filter p rs)) ≤ length (r ∷ rs)
+    by true less = omega arith
+    by false less = omega arith
+
+without-fewer : (d : Option (ℕ × ℕ)) (rs : List TokenRequest) → length (without d rs) ≤ length rs
+without-fewer None rs = omega arith
+without-fewer (Some d) rs = filter-fewer (λ r. not (is_up_to d.0 d.1 r)) rs
+
+-- fewer move where some are dropped first
+pub many-fewer : (m : Moved) (d : Option (ℕ × ℕ)) (rs : List TokenRequest) → many_moved m (without d rs) ≤ many_moved m rs
+many-fewer Nothing d rs = omega arith
+many-fewer (New r) d rs = omega arith
+many-fewer (Again call r) d rs = omega arith
+many-fewer Waiting d rs = without-fewer d rs
+many-fewer (PutOff r) d rs = omega arith
+
+-- those that are served on
+still-held : (e : Option CallId) (d : Option (ℕ × ℕ)) (ats : List ℕ) (held : List Held) → requests_of (held_still e (held_without d (waiting_for ats held))) ≡ still_active e (without d (requests_of held))
+still-held e d ats held = still e (held_without d (waiting_for ats held)) ∙ ap (still_active e) (drop d (waiting_for ats held) ∙ ap (without d) (wait ats held))
+  where
+    passing : (p : TokenRequest → Bool) (hs : List Held) → requests_of (filter (λ h. p h.request) hs) ≡ filter p (requests_of hs)
+    passing p [] = refl
+    passing p (h ∷ hs) = by (p h.request) (passing p hs)
+      where
+        by : (b : Bool) → requests_of (filter (λ x. p x.request) hs) ≡ filter p (requests_of hs) → requests_of (cond b (h ∷ filter (λ x. p x.request) hs) (filter (λ x. p x.request) hs)) ≡ cond b (h.request ∷ filter p (requests_of hs)) (filter p (requests_of hs))
+        by true rest = ap (λ (xs : List TokenRequest). h.request ∷ xs) rest
+        by false rest = rest
+
+    still : (e : Option CallId) (hs : List Held) → requests_of (held_still e hs) ≡ still_active e (requests_of hs)
+    still None hs = refl
+    still (Some call) hs = passing (λ r. not (is_of_call call r)) hs
+
+    drop : (d : Option (ℕ × ℕ)) (hs : List Held) → requests_of (held_without d hs) ≡ without d (requests_of hs)
+    drop None hs = refl
+    drop (Some d) hs = passing (λ r. not (is_up_to d.0 d.1 r)) hs
+
+    wait : (ats : List ℕ) (hs : List Held) → requests_of (waiting_for ats hs) ≡ requests_of hs
+    wait [] hs = refl
+    wait (a ∷ ats) [] = refl
+    wait (a ∷ ats) (h ∷ hs) = ap (λ (xs : List TokenRequest). h.request ∷ xs) (wait ats hs)
+
+held-append : (xs ys : List Held) → requests_of (xs ++ ys) ≡ requests_of xs ++ requests_of ys
+held-append [] ys = refl
+held-append (x ∷ xs) ys = ap (λ (rs : List TokenRequest). x.request ∷ rs) (held-append xs ys)
+
+pub held_after-requests : (l : Lists) (held : List Held) → requests_of (held_after l held) ≡ still_active l.ended (without l.dropped (requests_of held)) ++ requests_of l.fresh.items
+held_after-requests l held =
+    held-append (held_still l.ended (held_without l.dropped (waiting_for l.ats.items held))) l.fresh.items
+    ∙ ap (λ (xs : List TokenRequest). xs ++ requests_of l.fresh.items) (still-held l.ended l.dropped l.ats.items held)
+
+-- what holds of all holds of those that are served on
+pub kept-all : (P : Held → Type 0) (e : Option CallId) (d : Option (ℕ × ℕ)) (held : List Held) → All P held → All P (held_still e (held_without d held))
+kept-all P e d held all = still e (held_without d held) (drop d)
+  where
+    drop : (d : Option (ℕ × ℕ)) → All P (held_without d held)
+    drop None = all
+    drop (Some d) = All-filter (λ h. not (is_up_to d.0 d.1 h.request)) P held all
+
+    still : (e : Option CallId) (hs : List Held) → All P hs → All P (held_still e hs)
+    still None hs h = h
+    still (Some call) hs h = All-filter (λ h. not (is_of_call call h.request)) P hs h
+
+-- fewer that are served need no byte in common either
+still-apart : (e : Option CallId) (d : Option (ℕ × ℕ)) (rs : List TokenRequest) → are_apart rs ≡ true → are_apart (still_active e (without d rs)) ≡ true
+still-apart e d rs apart = still e (without d rs) (drop d)
+  where
+    drop : (d : Option (ℕ × ℕ)) → are_apart (without d rs) ≡ true
+    drop None = apart
+    drop (Some d) = apart-fewer (λ r. not (is_up_to d.0 d.1 r)) rs apart
+
+    still : (e : Option CallId) (xs : List TokenRequest) → are_apart xs ≡ true → are_apart (still_active e xs) ≡ true
+    still None xs h = h
+    still (Some call) xs h = apart-fewer (λ r. not (is_of_call call r)) xs h
+
+stay-all : (active before queue : List TokenRequest) → Stay active before queue → all_stay active before queue ≡ true
+stay-all active before [] all = refl
+stay-all active before (r ∷ rest) all = and_from (meets_some r active || meets_some r before) (all_stay active (before ++ r ∷ []) rest) all.0 (stay-all active (before ++ r ∷ []) rest all.1)
+
+-- a step whose rows and requests change as the sketch has it
+module _ (p : ServerParts) (k : Sketch) (d : Draft) (listed : AreListed p k d.rows d.lists) (rows : rows_of (overlaid p.clients d.rows) ≡ rows_after k.changed (rows_of p.clients)) (deaths : deaths_of (overlaid p.clients d.rows) ≡ deaths_after k.changed (deaths_of p.clients)) where
+  active-is : requests_of (held_after d.lists p.active.held) ≡ (sketched p k).active ++ requests_of d.lists.fresh.items
+  active-is = held_after-requests d.lists p.active.held ∙ ap (λ (xs : List TokenRequest). xs ++ requests_of d.lists.fresh.items) listed.served
+
+  queue-is : queue_after d.lists p.queue.requests p.waiting.requests ≡ all_but (requests_of d.lists.fresh.items) (sketched p k).queue
+  queue-is = ap (all_but (requests_of d.lists.fresh.items)) listed.queued
+
+  -- is the sketched state, with requests from the queue
+  pub drafted-ready : drafted p d ≡ ready (sketched p k)
+  drafted-ready =
+      (λ i. record { shape = p.shape; file = p.file; rows = rows i; dead = deaths i; queue = queue-is i; active = active-is i; waiting = listed.put_off i })
+      ∙ sym (ready-is (sketched p k) ((sketched p k).active ++ requests_of d.lists.fresh.items) (all_but (requests_of d.lists.fresh.items) (sketched p k).queue) listed.comes.comes)
+
+  pub drafted-apart : are_apart (requests_of p.active.held) ≡ true → are_apart (drafted p d).active ≡ true
+  drafted-apart apart =
+      ap are_apart active-is
+      ∙ admitted-keeps_apart (sketched p k).active (sketched p k).queue (requests_of d.lists.fresh.items) listed.comes (still-apart k.ended (dropped k.changed) (requests_of p.active.held) apart)
+
+  drafted-settled : all_stay (drafted p d).active [] (drafted p d).queue ≡ true
+  drafted-settled =
+      (λ i. all_stay (active-is i) [] (queue-is i))
+      ∙ stay-all ((sketched p k).active ++ requests_of d.lists.fresh.items) [] (all_but (requests_of d.lists.fresh.items) (sketched p k).queue) (admitted-leaves (sketched p k).active (sketched p k).queue (requests_of d.lists.fresh.items) listed.comes)
+
+  -- and holds all that a server has to, once nodes are told what comes of it
+  pub told-ready : (ts : List Told) → IsOrderly (sketched p k) → are_apart (requests_of p.active.held) ≡ true → All (λ h. obstacle (with_told ts (drafted p d)) h.request ≡ h.at) (held_after d.lists p.active.held) → All (λ h. is_idle ((with_told ts (drafted p d)).rows h.at) ≡ false) (held_after d.lists p.active.held) → IsReady (with_told ts (drafted p d)) (held_after d.lists p.active.held)
+  told-ready ts orderly apart waits quiet =
+      let o : IsOrderly (drafted p d) = subst IsOrderly (sym drafted-ready) (orderly-ready (sketched p k) orderly) in
+      record {
+        waits = waits;
+        quiet = quiet;
+        apart = drafted-apart apart;
+        settled = drafted-settled;
+        orderly = record { distinct = o.distinct; living = o.living };
+      }
+
+-- none of the call is found
+none-find : (c : CallId) (rs : List TokenRequest) → calls c rs ≡ 0 → find (is_of_call c) rs ≡ None
+none-find c [] none = refl
+none-find c (r ∷ rs) none = by (is_of_call c r) (sym (calls-cons c r rs) ∙ none) (none-find c rs)
+  where
+    by : (b : Bool) → cond b 1 0 + calls c rs ≡ 0 → (calls c rs ≡ 0 → find (is_of_call c) rs ≡ None) → cond b (Some r) (find (is_of_call c) rs) ≡ None
+    by true h rest = absurd (omega arith)
+    by false h rest = rest (omega arith)
+
+none-before : (rs : List TokenRequest) (r : TokenRequest) → AreDistinct (rs ++ r ∷ []) → find (is_of_call r.call) rs ≡ None
+none-before rs r distinct =
+    let a = calls-append r.call rs (r ∷ []) in
+    let b : calls r.call (r ∷ []) ≡ 1 = calls-one r.call r true (same_call-refl r.call) in
+    let few = distinct r.call in
+    none-find r.call rs (omega arith)
+
+distinct-calls : (rs : List TokenRequest) → AreDistinct rs → AreOfDistinctCalls rs
+distinct-calls [] distinct = tt
+distinct-calls (r ∷ rs) distinct =
+    let own : calls r.call (r ∷ rs) ≡ calls r.call (r ∷ []) + calls r.call rs = calls-append r.call (r ∷ []) rs in
+    let one : calls r.call (r ∷ []) ≡ 1 = calls-one r.call r true (same_call-refl r.call) in
+    let few = distinct r.call in
+    (none-find r.call rs (omega arith), distinct-calls rs (λ c. let all : calls c (r ∷ rs) ≡ calls c (r ∷ []) + calls c rs = calls-append c (r ∷ []) rs in let less = distinct c in omega arith))
+
+-- what moves is of a call that has no request where it comes
+pub moved-new : (m : Moved) (queue waiting : List TokenRequest) → AreDistinct (queue_moved m queue waiting) → AreDistinct (waiting_moved m waiting) → IsNewCall m queue waiting
+moved-new Nothing queue waiting q w = tt
+moved-new (New r) queue waiting q w = none-before queue r q
+moved-new (Again call r) queue waiting q w = none-before queue r q
+moved-new Waiting queue waiting q w = distinct-calls (queue ++ waiting) q
+moved-new (PutOff r) queue waiting q w = none-before waiting r w
+
+pub distinct-queue : (s : ServerState) → IsOrderly s → AreDistinct s.queue
+distinct-queue s o c = let a = calls-kinds c s in let few = o.distinct c in omega arith
+
+pub distinct-waiting : (s : ServerState) → IsOrderly s → AreDistinct s.waiting
+distinct-waiting s o c = let a = calls-kinds c s in let few = o.distinct c in omega arith
+
+-- the edit of these parts was planned from that server
+pub record FitsOf (p : ServerParts) (v : Parts) : Type 0 where
+  pub new : IsNewCall v.draft.lists.moved (without v.draft.lists.dropped p.queue.requests) (without v.draft.lists.dropped p.waiting.requests)
+  pub served : HeldHasRoom p.active v.spares.active (length v.draft.lists.fresh.items)
+  pub queued : HasRoom p.queue v.spares.queue (many_moved v.draft.lists.moved (without v.draft.lists.dropped p.waiting.requests))
+  pub put_off : HasRoom p.waiting v.spares.waiting (many_put_off v.draft.lists.moved)
+  pub ready : IsReady (with_given v.given.items (overlaid p.clients v.draft.rows) (drafted p v.draft)) (held_after v.draft.lists p.active.held)
+
+pub fits-of : (p : ServerParts) (e : Edit) (v : Parts) → e.parts.value ≡ v → FitsOf p v → Fits p e
+fits-of p e v is f =
+    let g : FitsOf p e.parts.value = subst (FitsOf p) (sym is) f in
+    record {
+      new = g.new;
+      served = g.served;
+      queued = g.queued;
+      put_off = g.put_off;
+      nodes = overlaid-length p.clients e.parts.value.draft.rows;
+      ready = g.ready;
+    }
+
+-- what a planned step makes of a server holds all that a server has to
+pub applied : (p : ServerParts) (e : Edit) (v : Parts) (clients : List Client) (active : ActiveParts) (queue waiting : LineParts) → v ≡ e.parts.value → IsServer p → Fits p e → ((n : ℕ) → rows_of clients n ≡ given_rows v.given.items (overlaid p.clients v.draft.rows) n) → deaths_of clients ≡ deaths_of (overlaid p.clients v.draft.rows) → length clients ≡ length (overlaid p.clients v.draft.rows) → active.held ≡ held_after v.draft.lists p.active.held → queue.requests ≡ queue_after v.draft.lists p.queue.requests p.waiting.requests → waiting.requests ≡ waiting_after v.draft.lists p.waiting.requests → IsServer (record { shape = p.shape; file = p.file; clients = clients; active = active; queue = queue; waiting = waiting })
+applied p e v clients active queue waiting is server fits rows deaths many held queued put_off = record {
+  each_node = many ∙ overlaid-length p.clients v.draft.rows ∙ server.each_node;
+  file_in = server.file_in;
+  ready = subst (λ (x : ServerState × List Held). IsReady x.0 x.1) whole (subst (λ (w : Parts). IsReady (with_given w.given.items (overlaid p.clients w.draft.rows) (drafted p w.draft)) (held_after w.draft.lists p.active.held)) (sym is) fits.ready);
+}
+  where
+    whole : ◌≡◌ {A = ServerState × List Held} (with_given v.given.items (overlaid p.clients v.draft.rows) (drafted p v.draft), held_after v.draft.lists p.active.held) (server_state (record { shape = p.shape; file = p.file; clients = clients; active = active; queue = queue; waiting = waiting }), active.held)
+    whole = λ i. (record { shape = p.shape; file = p.file; rows = λ n. sym (rows n) i; dead = sym deaths i; queue = sym queued i; active = requests_of (sym held i); waiting = sym put_off i }, sym held i)
+
+-- lists by which nothing changes
+pub record SameLists (l : Lists) : Type 0 where
+  pub dropped : l.dropped ≡ None
+  pub ats : l.ats.items ≡ []
+  pub ended : l.ended ≡ None
+  pub moved : l.moved ≡ Nothing
+  pub fresh : l.fresh.items ≡ []
+
+module _ (p : ServerParts) (rows : List RowEdit) (l : Lists) (given : Vec Given Global) (none : rows ≡ []) (same : SameLists l) (nothing : given.items ≡ []) where
+  held-same : held_after l p.active.held ≡ p.active.held
+  held-same =
+      (λ i. held_still (same.ended i) (held_without (same.dropped i) (waiting_for (same.ats i) p.active.held)) ++ same.fresh i)
+      ∙ append-nil p.active.held
+
+  queue-same : queue_after l p.queue.requests p.waiting.requests ≡ p.queue.requests
+  queue-same =
+      (λ i. all_but (requests_of (same.fresh i)) (queue_moved (same.moved i) (without (same.dropped i) p.queue.requests) (without (same.dropped i) p.waiting.requests)))
+      ∙ all_but-none p.queue.requests
+
+  waiting-same : waiting_after l p.waiting.requests ≡ p.waiting.requests
+  waiting-same = λ i. waiting_moved (same.moved i) (without (same.dropped i) p.waiting.requests)
+
+  -- leave a server as it is
+  pub same-state : with_given given.items (overlaid p.clients rows) (drafted p (record { rows = rows; lists = l })) ≡ server_state p
+  same-state =
+      λ i. record {
+        shape = p.shape;
+        file = p.file;
+        rows = given_rows (nothing i) (overlaid p.clients (none i));
+        dead = deaths_of (overlaid p.clients (none i));
+        queue = queue-same i;
+        active = requests_of (held-same i);
+        waiting = waiting-same i;
+      }
+
+  pub same-fits : (spares : Spares) → spares ≡ record { active = None; queue = None; waiting = None } → IsReady (server_state p) p.active.held → FitsOf p (record { draft = record { rows = rows; lists = l }; given = given; spares = spares })
+  same-fits spares empty ready = record {
+    new = subst (λ (m : Moved). IsNewCall m (without l.dropped p.queue.requests) (without l.dropped p.waiting.requests)) (sym same.moved) tt;
+    served = subst (λ (h : List Held). HeldHasRoom p.active spares.active (length h)) (sym same.fresh) (subst (λ (x : Spares). HeldHasRoom p.active x.active 0) (sym empty) (omega arith));
+    queued = subst (λ (m : Moved). HasRoom p.queue spares.queue (many_moved m (without l.dropped p.waiting.requests))) (sym same.moved) (subst (λ (x : Spares). HasRoom p.queue x.queue 0) (sym empty) (omega arith));
+    put_off = subst (λ (m : Moved). HasRoom p.waiting spares.waiting (many_put_off m)) (sym same.moved) (subst (λ (x : Spares). HasRoom p.waiting x.waiting 0) (sym empty) (omega arith));
+    ready = subst (λ (x : ServerState × List Held). IsReady x.0 x.1) (λ i. let x : ServerState × List Held = (sym same-state i, sym held-same i) in x) ready;
+  }

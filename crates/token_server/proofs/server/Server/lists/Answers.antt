@@ -1,0 +1,37 @@
+use Rattle.std.specs.Prelude.{◌≡◌, ℕ, ◌≤◌, List, ◌++◌, All, Option}
+use Rattle.std.proofs.Common.{sym, ap, subst, ◌∙◌}
+use Rattle.std.proofs.lemmas.List.Elements.{All-append, All-filter}
+use Rattle.token_queue.specs.declared.token_request.TokenRequest.{TokenRequest}
+use Rattle.token_queue.specs.declared.held.Held.{Held}
+use Rattle.token_queue.specs.Actives.{requests_of, waiting_for}
+use Rattle.token_server.specs.Admitting.{IsAdmitted}
+use Rattle.token_server.specs.Obstacles.{obstacle}
+use Rattle.token_server.specs.Ready.{AreDistinct}
+use Rattle.token_server.specs.Sketches.{without, still_active, queue_moved, waiting_moved, sketched}
+use Rattle.token_server.specs.Edits.{reached}
+use Rattle.token_server.proofs.ReadyLaws.{distinct-queue, kept-all}
+use Rattle.token_server.proofs.server.Server.lists.Goals as goal
+
+pub admit-requires : goal.admit-requires
+admit-requires c =
+    let k = c.args.sketch.now in
+    let e = c.newly_dead-dropped.ensures in
+    subst AreDistinct (λ i. queue_moved k.moved (sym e.queue i) (sym e.waiting i)) (distinct-queue (sketched c.args.self.now k) c.requires.orderly)
+
+pub returns : goal.returns
+returns c =
+    let k = c.args.sketch.now in
+    let p = c.args.self.now in
+    let e = c.newly_dead-dropped.ensures in
+    let d = c.newly_dead-dropped.result in
+    let served : still_active k.ended (without d (requests_of p.active.held)) ≡ (sketched p k).active = ap (still_active k.ended) e.active in
+    let queued : queue_moved k.moved (without d p.queue.requests) (without d p.waiting.requests) ≡ (sketched p k).queue = (λ i. queue_moved k.moved (e.queue i) (e.waiting i)) in
+    let fresh : requests_of c.in_ok-hold.field-0.items ≡ c.in_ok-fresh.fresh.items = c.in_ok-hold.ensures.requests ∙ c.as_slice.ensures.value in
+    let W : Held → Type 0 = λ h. obstacle (reached p c.args.rows.now) h.request ≡ h.at in
+    record {
+      served = served;
+      queued = queued;
+      put_off = ap (waiting_moved k.moved) e.waiting;
+      comes = subst (λ (xs : List TokenRequest). IsAdmitted (sketched p k).active (sketched p k).queue xs) (sym fresh) (subst (λ (xs : List TokenRequest). IsAdmitted xs (sketched p k).queue c.in_ok-fresh.fresh.items) served (subst (λ (xs : List TokenRequest). IsAdmitted (still_active k.ended (without d (requests_of p.active.held))) xs c.in_ok-fresh.fresh.items) queued c.in_ok-fresh.ensures));
+      waits = All-append W _ c.in_ok-hold.field-0.items (kept-all W k.ended d (waiting_for c.in_ok-awaited.field-0.items p.active.held) c.in_ok-awaited.ensures) c.in_ok-hold.ensures.waits;
+    }
