@@ -14,7 +14,7 @@ use Rattle.node_core.specs.Plans.{Fits, planned as reached}
 use Rattle.node_core.specs.State.{first_node}
 use Rattle.token_server.specs.declared.change.Change.{Change as ServerChange}
 use Rattle.token_server.specs.declared.event.ServerEvent.{ServerEvent}
-use Rattle.token_server.specs.Edits.{planned}
+use Rattle.token_server.specs.Edits.{planned, Fits as ServerFits}
 use Rattle.token_server.specs.Parts.{ServerParts}
 use Rattle.token_server.specs.Server.{server_rule}
 use Rattle.cluster_core.specs.declared.world.change.Change.{Change}
@@ -44,6 +44,7 @@ pub record IsServerChange (p : WorldParts) (event : Event) (file : ℕ) (change 
   pub same_event : IsServerStepOf event step
   pub server : ServerParts
   pub there : server ≡ slice_index_or p.servers (file - 1) server
+  pub fits : ServerFits server change.edit
   pub done : server_rule ((world_state p).servers file) step ≡ Ok (planned server change.edit, change.outcome)
   pub gives : r ≡ after_server (world_state p) event file (server_rule ((world_state p).servers file) step)
 

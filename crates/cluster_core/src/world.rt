@@ -12,7 +12,7 @@ ghost use Rattle.node_core.specs.Parts.{NodeParts, node_state};
 ghost use Rattle.node_core.specs.Plans.{Fits, planned as reached};
 ghost use Rattle.token_server.specs.Server.{server_rule};
 ghost use Rattle.token_server.specs.Parts.{ServerParts, server_state};
-ghost use Rattle.token_server.specs.Edits.{planned};
+ghost use Rattle.token_server.specs.Edits.{planned, Fits as ServerFits};
 ghost use Rattle.cluster_core.specs.World.{WorldState, journal_limit, was_declared, first_world};
 ghost use Rattle.cluster_core.specs.Next.{is_known, is_fenced, has_actor, declare_rule, restart_rule, named_incarnation, after_node, after_server, taken, next};
 ghost use Rattle.cluster_core.specs.Parts.{world_state, IsStepOf, IsServerStepOf, IsTakenByNode, IsRest};
@@ -285,7 +285,7 @@ impl World {
         step: &ServerEvent,
     ) -> Result<ServerChange, StepError>
         requires { is_within self.now.shape.files file ≡ true }
-        ensures ok { IfOk result (λ change. (p : ServerParts) × (p ≡ slice_index_or self.now.servers (file - 1) p) × (server_rule ((world_state self.now).servers file) step.now ≡ Ok (planned p change.edit, change.outcome))) }
+        ensures ok { IfOk result (λ change. (p : ServerParts) × (p ≡ slice_index_or self.now.servers (file - 1) p) × ServerFits p change.edit × (server_rule ((world_state self.now).servers file) step.now ≡ Ok (planned p change.edit, change.outcome))) }
         ensures err { IfErr result (λ e. e ≢ OutOfMemory → server_rule ((world_state self.now).servers file) step.now ≡ Err e) }
         ensures refused { (r : StepError) → r ≢ StepError.Spent → server_rule ((world_state self.now).servers file) step.now ≡ Err r → result ≡ Err r }
     {
@@ -605,7 +605,8 @@ fn settle_server(
     change: ServerChange,
     sent: &mut Sent,
 ) -> Result<Outcome, NoRoom>
-    requires { index < length servers.old.items }
+    requires within { index < length servers.old.items }
+    requires fits { (p : ServerParts) → p ≡ slice_index_or servers.old.items index p → ServerFits p change.edit }
     ensures servers { OnOk result ((p : ServerParts) → p ≡ slice_index_or servers.old.items index p → (next : ServerParts) × (servers.new.items ≡ slice_set servers.old.items index next) × (server_state next ≡ planned p change.edit)) }
     ensures outcome { IfOk result (λ outcome. outcome ≡ change.outcome) }
     ensures sent { IfOk result (λ outcome. sent.new ≡ sent.old ++ outcome.sends) }

@@ -24,6 +24,8 @@ use Rattle.node_core.specs.State.{NodeState, first_node}
 use Rattle.node_core.specs.Node.{node_rule}
 use Rattle.token_server.specs.Parts.{ServerParts, server_state}
 use Rattle.token_server.specs.declared.event.ServerEvent.{ServerEvent}
+use Rattle.token_server.specs.declared.change.Change.{Change as ServerChange}
+use Rattle.token_server.specs.Edits.{Fits as ServerFits, planned as after_edit}
 use Rattle.token_server.specs.State.{ServerState, first_server}
 use Rattle.token_server.specs.Server.{server_rule}
 use Rattle.cluster_core.specs.World.{first_world, journal_limit}
@@ -152,6 +154,10 @@ read_server p file x world number is =
 pub plan_found : (r : Result NodeChange StepError) (x : NodeParts) (There : NodeParts → Type 0) (s : NodeState) (step : NodeEvent) → There x → s ≡ node_state x → IfOk r (λ change. Fits x change.edit) → IfOk r (λ change. node_rule (node_state x) step ≡ Ok (planned x change.edit, change.outcome)) → IfOk r (λ change. (y : NodeParts) × There y × Fits y change.edit × (node_rule s step ≡ Ok (planned y change.edit, change.outcome)))
 plan_found (Ok change) x There s step is here fits done = (x, is, fits, subst (λ (t : NodeState). node_rule t step ≡ Ok (planned x change.edit, change.outcome)) (sym here) done)
 plan_found (Err e) x There s step is here fits done = tt
+
+pub server_found : (r : Result ServerChange StepError) (x : ServerParts) (There : ServerParts → Type 0) (s : ServerState) (step : ServerEvent) → There x → s ≡ server_state x → IfOk r (λ change. ServerFits x change.edit) → IfOk r (λ change. server_rule (server_state x) step ≡ Ok (after_edit x change.edit, change.outcome)) → IfOk r (λ change. (y : ServerParts) × There y × ServerFits y change.edit × (server_rule s step ≡ Ok (after_edit y change.edit, change.outcome)))
+server_found (Ok change) x There s step is here fits done = (x, is, fits, subst (λ (t : ServerState). server_rule t step ≡ Ok (after_edit x change.edit, change.outcome)) (sym here) done)
+server_found (Err e) x There s step is here fits done = tt
 
 -- the new world and the entry are what the rules say
 node_done : (p : WorldParts) (event : Event) (n : ℕ) (step : NodeEvent) (next : NodeParts) (o : Outcome) (fresh : WorldParts) (e : Entry) → IsWorld p → is_within p.shape.nodes n ≡ true → alive_at p n ≡ true → node_rule ((world_state p).nodes n) step ≡ Ok (node_state next, o) → fresh ≡ with_node_parts p n next o.sends → e ≡ entry event (named_incarnation ((world_state p).nodes n) event) o → after_node (world_state p) event n (node_rule ((world_state p).nodes n) step) ≡ Ok (world_state fresh, e)

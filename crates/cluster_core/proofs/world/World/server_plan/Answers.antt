@@ -1,7 +1,6 @@
 use Rattle.std.specs.Prelude.{IfOk, IfErr, ◌≢◌, ◌-◌, slice_index_or}
 use Rattle.std.specs.declared.result.Result.TheVariants.{Ok, Err}
 use Rattle.std.proofs.Common.{◌≡◌, true, sym, subst}
-use Rattle.std.proofs.lemmas.Result.{IfOk-weaker}
 use Rattle.messages.specs.Messages.{is_within}
 use Rattle.messages.specs.declared.refusal.StepError.{StepError}
 use Rattle.messages.specs.declared.refusal.StepError.TheVariants.{NoMemory, Spent}
@@ -9,17 +8,17 @@ use Rattle.cluster_core.specs.Parts.{WorldParts, world_state}
 use Rattle.token_server.specs.Server.{server_rule}
 use Rattle.token_server.specs.State.{ServerState}
 use Rattle.token_server.specs.Parts.{ServerParts, server_state}
-use Rattle.token_server.specs.Edits.{planned}
-use Rattle.cluster_core.proofs.steps.WorldSteps.{read_server}
+use Rattle.token_server.specs.Edits.{planned, Fits}
+use Rattle.cluster_core.proofs.steps.WorldSteps.{read_server, server_found}
 use Rattle.cluster_core.proofs.world.World.server_plan.Goals as goal
 
 pub returns-clause-ok : goal.returns-clause-ok
 returns-clause-ok c =
     let x : ServerParts = c.index.result.now in
-    let P : WorldParts → Type 0 = λ p. IfOk c.plan.result (λ change. (y : ServerParts) × (y ≡ slice_index_or p.servers (c.args.file - 1) y) × (server_rule ((world_state p).servers c.args.file) c.args.step.now ≡ Ok (planned y change.edit, change.outcome))) in
+    let P : WorldParts → Type 0 = λ p. IfOk c.plan.result (λ change. (y : ServerParts) × (y ≡ slice_index_or p.servers (c.args.file - 1) y) × Fits y change.edit × (server_rule ((world_state p).servers c.args.file) c.args.step.now ≡ Ok (planned y change.edit, change.outcome))) in
     let R : WorldParts → Type 0 = λ p. is_within p.shape.files c.args.file ≡ true in
     let here = read_server (record { shape = c.self.inside.shape; nodes = c.self.inside.nodes.items; members = c.self.inside.members; servers = c.self.inside.servers.items; sent = c.self.inside.sent; length = c.self.inside.length }) c.args.file x c.self.invariant (subst R (sym c.self.view_is) c.requires) c.index.ensures in
-    subst P c.self.view_is (IfOk-weaker c.plan.result (λ change. server_rule (server_state x) c.args.step.now ≡ Ok (planned x change.edit, change.outcome)) _ (λ change done. (x, c.index.ensures, subst (λ (s : ServerState). server_rule s c.args.step.now ≡ Ok (planned x change.edit, change.outcome)) (sym here) done)) c.plan.ensures.ok)
+    subst P c.self.view_is (server_found c.plan.result x (λ y. y ≡ slice_index_or c.self.inside.servers.items (c.args.file - 1) y) _ c.args.step.now c.index.ensures here c.plan.ensures.fits c.plan.ensures.ok)
 
 pub returns-clause-err : goal.returns-clause-err
 returns-clause-err c =
