@@ -21,5 +21,6 @@ pub mod CareLaws
 pub mod MarkLaws
 pub mod WaitLaws
 pub mod AdmissionLaws
+pub mod AwaitLaws
 pub mod OrderlyLaws
 pub mod ReadyLaws

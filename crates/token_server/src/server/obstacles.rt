@@ -1,14 +1,16 @@
 //! What stands in the way of the requests that a token server serves.
-ghost use Rattle.std.specs.Prelude.{◌≡◌, ◌≤◌, ◌↔◌, not, ◌&&◌, ◌==◌, All, IsSome, IfOk, IfSome};
+ghost use Rattle.std.specs.Prelude.{◌≡◌, ◌≤◌, ◌↔◌, true, false, not, ◌&&◌, ◌==◌, All, IsSome, IfOk, IfSome, Some};
+ghost use Rattle.intervals.specs.Bytes.{Range};
 ghost use Rattle.model.specs.Limits.{IsNumber, most_nodes};
 ghost use Rattle.token_queue.specs.Actives.{requests_of, waiting_for};
 ghost use Rattle.token_server.specs.Serve.{row_conflicts, conflicting_node};
-ghost use Rattle.token_server.specs.Parts.{rows_of};
-ghost use Rattle.token_server.specs.Obstacles.{obstacle};
+ghost use Rattle.token_server.specs.Parts.{server_state, rows_of};
+ghost use Rattle.token_server.specs.Obstacles.{obstacle, is_dropped, frees};
 ghost use Rattle.token_server.specs.Sketches.{rows_after};
 ghost use Rattle.token_server.specs.Edits.{overlaid, reached};
 
 use super::Server;
+use crate::node_change::NodeChange;
 use crate::row_edits::RowEdits;
 use crate::sketch::Changed;
 use intervals::span::Span;
@@ -52,16 +54,82 @@ impl Server {
         None
     }
 
-    // The node whose row a request waits for.
+    // The node whose row a request waits for. No row stands in a reader's way where none has an exclusive byte.
     fn obstacle(&self, rows: &RowEdits, changed: &Option<Changed>, request: &TokenRequest) -> u8
         requires { rows_of (overlaid self.now.clients rows.now) ≡ rows_after changed.now (rows_of self.now.clients) }
         ensures { result ≡ obstacle (reached self.now rows.now) request.now }
     {
-        let _ = changed;
+        let _ = changed; // (the proof speaks of it)
+        let required = request.required();
+        let _ = &required.lo; // tells the proof that the span has a byte
+        if reads(request.mode) && self.clients.excludes_none() {
+            return request.call.node;
+        }
         match self.conflicting_node(rows, request) {
             Some(node) => node,
-            None => request.call.host().node,
+            None => request.call.node,
         }
+    }
+
+    // Whether the row of the node is of that incarnation or an older one.
+    fn is_dropped(&self, node: u8, incarnation: u16) -> bool
+        requires { IsNumber self.now.shape.nodes node }
+        ensures { result ≡ is_dropped incarnation (rows_of self.now.clients node) }
+    {
+        match self.clients.row(node) {
+            Some(row) => row.commands.incarnation() <= incarnation,
+            None => false,
+        }
+    }
+
+    // Whether bytes of a span may stand in the way no longer, once the row of a node changes so.
+    fn frees(&self, changed: &Changed, request: &TokenRequest) -> bool
+        requires { IsNumber self.now.shape.nodes changed.now.node }
+        ensures { result ≡ frees changed.now.change (rows_of self.now.clients changed.now.node) request.now.wanted.required }
+    {
+        match &changed.change {
+            NodeChange::Forgotten { incarnation } => self.is_dropped(changed.node, *incarnation),
+            NodeChange::Asked { host } => self.is_dropped(changed.node, host.incarnation - 1),
+            NodeChange::Answered => false,
+            NodeChange::Relieved { span, .. } => request.meets(*span),
+        }
+    }
+
+    // Whether it is known at once that no request waits for another row than before.
+    fn frees_none(&self, changed: &Changed) -> bool
+        requires { IsNumber self.now.shape.nodes changed.now.node }
+        ensures { result ≡ true → (s : Range) → frees changed.now.change (rows_of self.now.clients changed.now.node) s ≡ false }
+    {
+        match &changed.change {
+            NodeChange::Forgotten { incarnation } => !self.is_dropped(changed.node, *incarnation),
+            NodeChange::Asked { host } => !self.is_dropped(changed.node, host.incarnation - 1),
+            NodeChange::Answered => true,
+            NodeChange::Relieved { .. } => false,
+        }
+    }
+
+    // Whether a request that is served may wait for another row than before.
+    fn is_freed(&self, changed: &Changed, held: &Held) -> bool
+        requires { IsNumber self.now.shape.nodes changed.now.node }
+        ensures { result ≡ (held.now.at == changed.now.node && frees changed.now.change (rows_of self.now.clients changed.now.node) held.now.request.wanted.required) }
+    {
+        held.at == changed.node && self.frees(changed, &held.request)
+    }
+
+    // Whether no request that is served waits for another row than before.
+    fn none_freed(&self, changed: &Changed) -> bool
+        requires { IsNumber self.now.shape.nodes changed.now.node }
+        ensures { result ≡ true → All (λ h. (h.at == changed.now.node && frees changed.now.change (rows_of self.now.clients changed.now.node) h.request.wanted.required) ≡ false) self.now.active.held }
+    {
+        if self.frees_none(changed) {
+            return true;
+        }
+        for held in self.active.as_slice() {
+            if self.is_freed(changed, held) {
+                return false;
+            }
+        }
+        true
     }
 
     // The nodes whose rows the requests that are served wait for once rows changed, in order; none where no
@@ -76,11 +144,49 @@ impl Server {
         requires in_cluster { IfSome changed.now (λ c. IsNumber self.now.shape.nodes c.node) }
         ensures { IfOk result (λ ats. All (λ h. obstacle (reached self.now rows.now) h.request ≡ h.at) (waiting_for ats.items self.now.active.held)) }
     {
+        let _ = &self.shape; // tells the proof what holds between two steps
+        let Some(own) = changed else {
+            return Ok(Vec::new(alloc));
+        };
+        if self.none_freed(own) {
+            return Ok(Vec::new(alloc));
+        }
+        self.awaited_after(alloc, rows, changed, own)
+    }
+
+    // The same, where a request may wait for another row.
+    fn awaited_after(
+        &self,
+        alloc: Global,
+        rows: &RowEdits,
+        changed: &Option<Changed>,
+        own: &Changed,
+    ) -> Result<Vec<u8>, NoMemory>
+        requires rows { rows_of (overlaid self.now.clients rows.now) ≡ rows_after changed.now (rows_of self.now.clients) }
+        requires own { changed.now ≡ Some own.now }
+        requires in_cluster { IsNumber self.now.shape.nodes own.now.node }
+        ensures { IfOk result (λ ats. All (λ h. obstacle (reached self.now rows.now) h.request ≡ h.at) (waiting_for ats.items self.now.active.held)) }
+    {
+        let _ = &self.shape; // tells the proof what holds between two steps
         let mut ats = Vec::new(alloc);
         for held in self.active.as_slice() {
-            ats.push(self.obstacle(rows, changed, &held.request))?;
+            ats.push(self.at_after(rows, changed, own, held))?;
         }
         Ok(ats)
+    }
+
+    // The node whose row a request that is served waits for once rows changed.
+    fn at_after(&self, rows: &RowEdits, changed: &Option<Changed>, own: &Changed, held: &Held) -> u8
+        requires rows { rows_of (overlaid self.now.clients rows.now) ≡ rows_after changed.now (rows_of self.now.clients) }
+        requires own { changed.now ≡ Some own.now }
+        requires in_cluster { IsNumber self.now.shape.nodes own.now.node }
+        requires waits { obstacle (server_state self.now) held.now.request ≡ held.now.at }
+        ensures { obstacle (reached self.now rows.now) held.now.request ≡ result }
+    {
+        if self.is_freed(own, held) {
+            return self.obstacle(rows, changed, &held.request);
+        }
+        held.at
     }
 
     // Requests that are to be served, each with the node whose row it waits for.
@@ -104,5 +210,15 @@ impl Server {
             })?;
         }
         Ok(fresh)
+    }
+}
+
+// Whether the mode is that of a read lock.
+fn reads(mode: Mode) -> bool
+    ensures { result ≡ true → mode ≡ Mode.Read }
+{
+    match mode {
+        Mode::Read => true,
+        Mode::Write => false,
     }
 }
