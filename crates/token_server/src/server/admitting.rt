@@ -47,10 +47,10 @@ impl Server {
             ended: sketch.ended,
         };
         let mut fresh = Vec::new(alloc);
-        admit_queued(&mut fresh, gone, &self.active, &self.queue)?;
+        admit_queued(&mut fresh, &gone, &self.active, &self.queue)?;
         admit_moved(
             &mut fresh,
-            gone,
+            &gone,
             &self.active,
             &self.queue,
             &self.waiting,
@@ -62,8 +62,8 @@ impl Server {
 
 impl Gone {
     // Whether a request is dropped.
-    fn drops(self, request: &TokenRequest) -> bool
-        ensures { result ≡ is_up_to_any self.dropped request.now }
+    fn drops(&self, request: &TokenRequest) -> bool
+        ensures { result ≡ is_up_to_any self.now.dropped request.now }
     {
         match self.dropped {
             Some((node, incarnation)) => request.is_up_to(node, incarnation),
@@ -72,8 +72,8 @@ impl Gone {
     }
 
     // Whether a request is the one that is served no longer.
-    fn ends(self, request: &TokenRequest) -> bool
-        ensures { result ≡ is_of_any self.ended request.now }
+    fn ends(&self, request: &TokenRequest) -> bool
+        ensures { result ≡ is_of_any self.now.ended request.now }
     {
         match self.ended {
             Some(call) => request.is_of_call(call),
@@ -82,22 +82,22 @@ impl Gone {
     }
 
     // Whether a request that was served is served on.
-    fn keeps(self, request: &TokenRequest) -> bool
-        ensures { result ≡ keeps self.dropped self.ended request.now }
+    fn keeps(&self, request: &TokenRequest) -> bool
+        ensures { result ≡ keeps self.now.dropped self.now.ended request.now }
     {
         !self.drops(request) && !self.ends(request)
     }
 
     // Whether a request that was served is served on and needs a byte of the span.
-    fn keeps_meeting(self, request: &TokenRequest, span: Span) -> bool
-        ensures { result ≡ (meets span request.now.wanted.required && keeps self.dropped self.ended request.now) }
+    fn keeps_meeting(&self, request: &TokenRequest, span: Span) -> bool
+        ensures { result ≡ (meets span request.now.wanted.required && keeps self.now.dropped self.now.ended request.now) }
     {
         request.meets(span) && self.keeps(request)
     }
 
     // Whether a request stands in the slot that is not dropped and needs a byte of the span.
-    fn leaves_meeting(self, slot: &Option<TokenRequest>, span: Span) -> bool
-        ensures { result ≡ list_any (λ q. meets span q.wanted.required) (left_in self (slot.now ∷ [])) }
+    fn leaves_meeting(&self, slot: &Option<TokenRequest>, span: Span) -> bool
+        ensures { result ≡ list_any (λ q. meets span q.wanted.required) (left_in self.now (slot.now ∷ [])) }
     {
         match slot {
             Some(request) => request.meets(span) && !self.drops(request),
@@ -107,8 +107,8 @@ impl Gone {
 }
 
 // Whether the request needs a byte of one that is served on.
-fn meets_served(held: &[Held], gone: Gone, request: &TokenRequest) -> bool
-    ensures { result ≡ meets_some request.now (served_on gone held.now) }
+fn meets_served(held: &[Held], gone: &Gone, request: &TokenRequest) -> bool
+    ensures { result ≡ meets_some request.now (served_on gone.now held.now) }
 {
     let span = request.required();
     held.iter()
@@ -116,8 +116,8 @@ fn meets_served(held: &[Held], gone: Gone, request: &TokenRequest) -> bool
 }
 
 // Whether the request needs a byte of one that stands in the slots and is not dropped.
-fn meets_left(slots: &[Option<TokenRequest>], gone: Gone, request: &TokenRequest) -> bool
-    ensures { result ≡ meets_some request.now (left_in gone slots.now) }
+fn meets_left(slots: &[Option<TokenRequest>], gone: &Gone, request: &TokenRequest) -> bool
+    ensures { result ≡ meets_some request.now (left_in gone.now slots.now) }
 {
     let span = request.required();
     slots.iter().any(|slot| gone.leaves_meeting(slot, span))
@@ -135,12 +135,12 @@ fn needs_all_of(request: &TokenRequest, span: Span) -> bool
 // it.
 fn must_stay(
     held: &[Held],
-    gone: Gone,
+    gone: &Gone,
     front: &[Option<TokenRequest>],
     before: &[Option<TokenRequest>],
     request: &TokenRequest,
 ) -> bool
-    ensures { result ≡ (meets_some request.now (served_on gone held.now) || (meets_some request.now (left_in gone front.now) || meets_some request.now (left_in gone before.now))) }
+    ensures { result ≡ (meets_some request.now (served_on gone.now held.now) || (meets_some request.now (left_in gone.now front.now) || meets_some request.now (left_in gone.now before.now))) }
 {
     meets_served(held, gone, request)
         || (meets_left(front, gone, request) || meets_left(before, gone, request))
@@ -150,15 +150,15 @@ fn must_stay(
 fn admit_slot(
     fresh: &mut Vec<TokenRequest>,
     held: &[Held],
-    gone: Gone,
+    gone: &Gone,
     front: &[Option<TokenRequest>],
     slots: &[Option<TokenRequest>],
     place: usize,
 ) -> Result<(), NoMemory>
     requires place_in { place < length slots.now }
-    requires distinct { AreDistinct (left_in gone front.now ++ left_in gone slots.now) }
-    requires so_far { IsAdmitted (served_on gone held.now) (left_in gone front.now ++ left_in gone (take place slots.now)) fresh.old.items }
-    ensures { IfOk result (λ done. IsAdmitted (served_on gone held.now) (left_in gone front.now ++ left_in gone (take (place + 1) slots.now)) fresh.new.items) }
+    requires distinct { AreDistinct (left_in gone.now front.now ++ left_in gone.now slots.now) }
+    requires so_far { IsAdmitted (served_on gone.now held.now) (left_in gone.now front.now ++ left_in gone.now (take place slots.now)) fresh.old.items }
+    ensures { IfOk result (λ done. IsAdmitted (served_on gone.now held.now) (left_in gone.now front.now ++ left_in gone.now (take (place + 1) slots.now)) fresh.new.items) }
 {
     let Some(request) = &slots[place] else {
         return Ok(());
@@ -166,20 +166,21 @@ fn admit_slot(
     if gone.drops(request) || must_stay(held, gone, front, &slots[..place], request) {
         return Ok(());
     }
-    fresh.push(*request)
+    fresh.push(*request)?;
+    Ok(())
 }
 
 // Those of the slots that come, behind those in the slots in front.
 fn admit_each(
     fresh: &mut Vec<TokenRequest>,
     held: &[Held],
-    gone: Gone,
+    gone: &Gone,
     front: &[Option<TokenRequest>],
     slots: &[Option<TokenRequest>],
 ) -> Result<(), NoMemory>
-    requires distinct { AreDistinct (left_in gone front.now ++ left_in gone slots.now) }
-    requires so_far { IsAdmitted (served_on gone held.now) (left_in gone front.now) fresh.old.items }
-    ensures { IfOk result (λ done. IsAdmitted (served_on gone held.now) (left_in gone front.now ++ left_in gone slots.now) fresh.new.items) }
+    requires distinct { AreDistinct (left_in gone.now front.now ++ left_in gone.now slots.now) }
+    requires so_far { IsAdmitted (served_on gone.now held.now) (left_in gone.now front.now) fresh.old.items }
+    ensures { IfOk result (λ done. IsAdmitted (served_on gone.now held.now) (left_in gone.now front.now ++ left_in gone.now slots.now) fresh.new.items) }
 {
     for place in 0..slots.len() {
         admit_slot(fresh, held, gone, front, slots, place)?;
@@ -214,7 +215,7 @@ fn admit_next(
         dropped: None,
         ended: Some(call),
     };
-    admit_slot(fresh, held, gone, &[], slots, place)?;
+    admit_slot(fresh, held, &gone, &[], slots, place)?;
     Ok(needs_all_of(request, freed))
 }
 
@@ -263,15 +264,15 @@ fn admit_ended(
 // Those that come of a queue that had settled, once requests were dropped and one is served no longer.
 fn admit_queued(
     fresh: &mut Vec<TokenRequest>,
-    gone: Gone,
+    gone: &Gone,
     active: &Active,
     queue: &Line,
 ) -> Result<(), NoMemory>
     requires empty { fresh.old.items ≡ [] }
     requires settled { all_stay (requests_of active.now.held) [] queue.now.requests ≡ true }
     requires served { AreDistinct (requests_of active.now.held) }
-    requires queued { AreDistinct (without gone.dropped queue.now.requests) }
-    ensures { IfOk result (λ done. IsAdmitted (served_on gone active.now.held) (without gone.dropped queue.now.requests) fresh.new.items) }
+    requires queued { AreDistinct (without gone.now.dropped queue.now.requests) }
+    ensures { IfOk result (λ done. IsAdmitted (served_on gone.now active.now.held) (without gone.now.dropped queue.now.requests) fresh.new.items) }
 {
     if gone.dropped.is_none() {
         return admit_ended(fresh, gone.ended, active, queue);
@@ -282,33 +283,34 @@ fn admit_queued(
 // The request that comes last in the queue comes from there, unless it has to stay.
 fn admit_last(
     fresh: &mut Vec<TokenRequest>,
-    gone: Gone,
+    gone: &Gone,
     active: &Active,
     queue: &Line,
     request: &TokenRequest,
 ) -> Result<(), NoMemory>
-    requires distinct { AreDistinct (without gone.dropped queue.now.requests ++ request.now ∷ []) }
-    requires so_far { IsAdmitted (served_on gone active.now.held) (without gone.dropped queue.now.requests) fresh.old.items }
-    ensures { IfOk result (λ done. IsAdmitted (served_on gone active.now.held) (without gone.dropped queue.now.requests ++ request.now ∷ []) fresh.new.items) }
+    requires distinct { AreDistinct (without gone.now.dropped queue.now.requests ++ request.now ∷ []) }
+    requires so_far { IsAdmitted (served_on gone.now active.now.held) (without gone.now.dropped queue.now.requests) fresh.old.items }
+    ensures { IfOk result (λ done. IsAdmitted (served_on gone.now active.now.held) (without gone.now.dropped queue.now.requests ++ request.now ∷ []) fresh.new.items) }
 {
     if must_stay(active.as_slice(), gone, queue.slots(), &[], request) {
         return Ok(());
     }
-    fresh.push(*request)
+    fresh.push(*request)?;
+    Ok(())
 }
 
 // Those of the requests that move to the end of the queue that come from there.
 fn admit_moved(
     fresh: &mut Vec<TokenRequest>,
-    gone: Gone,
+    gone: &Gone,
     active: &Active,
     queue: &Line,
     waiting: &Line,
     moved: &Moved,
 ) -> Result<(), NoMemory>
-    requires distinct { AreDistinct (queue_moved moved.now (without gone.dropped queue.now.requests) (without gone.dropped waiting.now.requests)) }
-    requires so_far { IsAdmitted (served_on gone active.now.held) (without gone.dropped queue.now.requests) fresh.old.items }
-    ensures { IfOk result (λ done. IsAdmitted (served_on gone active.now.held) (queue_moved moved.now (without gone.dropped queue.now.requests) (without gone.dropped waiting.now.requests)) fresh.new.items) }
+    requires distinct { AreDistinct (queue_moved moved.now (without gone.now.dropped queue.now.requests) (without gone.now.dropped waiting.now.requests)) }
+    requires so_far { IsAdmitted (served_on gone.now active.now.held) (without gone.now.dropped queue.now.requests) fresh.old.items }
+    ensures { IfOk result (λ done. IsAdmitted (served_on gone.now active.now.held) (queue_moved moved.now (without gone.now.dropped queue.now.requests) (without gone.now.dropped waiting.now.requests)) fresh.new.items) }
 {
     match moved {
         Moved::Nothing | Moved::PutOff(_) => Ok(()),
