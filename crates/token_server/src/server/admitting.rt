@@ -274,10 +274,10 @@ fn admit_queued(
     requires queued { AreDistinct (without gone.now.dropped queue.now.requests) }
     ensures { IfOk result (λ done. IsAdmitted (served_on gone.now active.now.held) (without gone.now.dropped queue.now.requests) fresh.new.items) }
 {
-    if gone.dropped.is_none() {
-        return admit_ended(fresh, gone.ended, active, queue);
+    match gone.dropped {
+        None => admit_ended(fresh, gone.ended, active, queue),
+        Some(_) => admit_each(fresh, active.as_slice(), gone, &[], queue.slots()),
     }
-    admit_each(fresh, active.as_slice(), gone, &[], queue.slots())
 }
 
 // The request that comes last in the queue comes from there, unless it has to stay.

@@ -18,3 +18,7 @@ loop-place-init c =
 pub returns : goal.returns
 returns c =
     subst (λ (slots : List (Option TokenRequest)). IsAdmitted (still_active (Some c.args.call) (requests_of c.args.held.now)) (requests_in slots) c.loop-place.fresh.items) (take_all c.loop-place.place c.args.slots.now (omega (arith, c.loop-place-test.false))) c.loop-place.invariant
+
+pub returns-then-branch : goal.returns-then-branch
+returns-then-branch c =
+    freed-rest (requests_of c.args.held.now) c.args.slots.now c.args.call c.args.ended.now (c.loop-place.place + 1) c.admit_next.new.fresh.items c.requires.ended (c.in_ok-admit_next.ensures.all c.if-branch.true) c.in_ok-admit_next.ensures.more
