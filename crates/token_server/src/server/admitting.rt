@@ -1,5 +1,5 @@
 //! Requests that come from the queue of a token server.
-ghost use Rattle.std.specs.Prelude.{◌≡◌, ◌+◌, ◌<◌, ◌≤◌, ◌++◌, ◌∷◌, [], true, not, ◌&&◌, ◌||◌, take, length, Some, IfOk};
+ghost use Rattle.std.specs.Prelude.{◌≡◌, ◌+◌, ◌<◌, ◌≤◌, ◌++◌, ◌∷◌, [], true, ◌&&◌, ◌||◌, take, length, Some, IfOk};
 ghost use Rattle.std.specs.List.{list_any};
 ghost use Rattle.token_queue.specs.Requests.{meets, requests_in};
 ghost use Rattle.token_queue.specs.Actives.{requests_of};
@@ -21,8 +21,8 @@ use token_queue::held::Held;
 use token_queue::line::Line;
 use token_queue::token_request::TokenRequest;
 
-// Which requests go before others come from the queue: those of the incarnations of a node up to one, and of
-// those that are served the call's.
+// Which requests go before others come from the queue: those of the incarnations of a node up to one, and the
+// call's, of those that are served.
 #[derive(Clone, Copy)]
 struct Gone {
     dropped: Option<(u8, u16)>,
@@ -123,7 +123,7 @@ fn meets_left(slots: &[Option<TokenRequest>], gone: &Gone, request: &TokenReques
     slots.iter().any(|slot| gone.leaves_meeting(slot, span))
 }
 
-// Whether the request contains the span in what it needs.
+// Whether the request needs all bytes of the span.
 fn needs_all_of(request: &TokenRequest, span: Span) -> bool
     ensures { result ≡ true → (request.now.wanted.required.lo ≤ span.lo) × (span.hi ≤ request.now.wanted.required.hi) }
 {

@@ -1,4 +1,4 @@
-use Rattle.std.specs.Prelude.{◌≡◌, not, List, [], filter, find, Option, Some, None}
+use Rattle.std.specs.Prelude.{◌≡◌, not, List, [], filter, Option}
 use Rattle.std.proofs.Common.{sym, subst, ◌∙◌}
 use Rattle.model.specs.declared.call.CallId.{CallId}
 use Rattle.token_queue.specs.declared.held.Held.{Held}

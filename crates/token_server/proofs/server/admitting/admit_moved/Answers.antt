@@ -1,5 +1,5 @@
 use Rattle.std.specs.Prelude.{◌++◌}
-use Rattle.std.proofs.Common.{sym, subst}
+use Rattle.std.proofs.Common.{sym, subst, inl, inr}
 use Rattle.token_server.specs.declared.sketch.Moved.{Moved}
 use Rattle.token_server.specs.Ready.{AreDistinct}
 use Rattle.token_server.specs.Sketches.{without, queue_moved}
@@ -15,5 +15,10 @@ admit_each-requires-clause-distinct c =
 
 pub admit_last-requires-clause-distinct : goal.admit_last-requires-clause-distinct
 admit_last-requires-clause-distinct c =
-    let h = c.in-New.is in
-    ?
+    let dropped = c.args.gone.now.dropped in
+    let queue = without dropped c.args.queue.now.requests in
+    let waiting = without dropped c.args.waiting.now.requests in
+    elim c.in-New.is [
+      | inl new ↦ subst (λ (moved : Moved). AreDistinct (queue_moved moved queue waiting)) new c.requires.distinct
+      | inr again ↦ subst (λ (moved : Moved). AreDistinct (queue_moved moved queue waiting)) again.1 c.requires.distinct
+    ]
