@@ -10,12 +10,9 @@ use Rattle.token_queue.specs.Requests.{is_of_call}
 use Rattle.token_queue.specs.Requests.{meets}
 use Rattle.token_server.specs.Serve.{meets_some}
 use Rattle.token_server.specs.Admitting.{IsAdmitted}
+use Rattle.token_server.specs.Ready.{AreDistinct}
 use Rattle.token_server.proofs.StayLaws.{Stay}
 use Rattle.token_server.proofs.AdmittingLaws.{calls, calls-append, calls-cons, both-meet, admitted-stays}
-
--- no two of the requests are of one call
-abbrev pub AreDistinct : List TokenRequest → Type 0
-AreDistinct rs = (call : CallId) → calls call rs ≤ 1
 
 -- a call that has a request has no other before it
 pub distinct-before : (done rest : List TokenRequest) (r : TokenRequest) → AreDistinct (done ++ r ∷ rest) → is_of_call r.call r ≡ true → calls r.call done ≡ 0

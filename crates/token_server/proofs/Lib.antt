@@ -9,6 +9,7 @@ pub mod AdmitLaws
 pub mod StayLaws
 pub mod AdmittingLaws
 pub mod FreedLaws
+pub mod ComesLaws
 pub mod KeepLaws
 pub mod ResendLaws
 pub mod ServeLaws

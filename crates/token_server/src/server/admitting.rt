@@ -1,15 +1,33 @@
 //! Requests that come from the queue of a token server.
-ghost use Rattle.std.specs.Prelude.{◌≡◌, IfOk};
+ghost use Rattle.std.specs.Prelude.{◌≡◌, ◌+◌, ◌<◌, ◌≤◌, ◌++◌, ◌∷◌, [], true, ◌&&◌, ◌||◌, take, length, Some, IfOk};
+ghost use Rattle.std.specs.List.{list_any};
+ghost use Rattle.token_queue.specs.Requests.{meets, requests_in};
 ghost use Rattle.token_queue.specs.Actives.{requests_of};
-ghost use Rattle.token_server.specs.Admitting.{IsAdmitted};
+ghost use Rattle.token_server.specs.Serve.{meets_some};
+ghost use Rattle.token_server.specs.Admitting.{all_stay, IsAdmitted};
 ghost use Rattle.token_server.specs.Ready.{AreDistinct};
 ghost use Rattle.token_server.specs.Sketches.{without, still_active, queue_moved};
+ghost use Rattle.token_server.specs.Edits.{is_up_to_any, is_of_any, keeps};
+ghost use Rattle.token_server.specs.Comes.{served_on, left_in, NeedsAllOf, HasEnded};
 
 use super::Server;
-use crate::sketch::Sketch;
+use crate::sketch::{Moved, Sketch};
+use intervals::span::Span;
 use intervals::span_map::NoMemory;
+use model::call::CallId;
 use std::alloc::Global;
+use token_queue::active::Active;
+use token_queue::held::Held;
+use token_queue::line::Line;
 use token_queue::token_request::TokenRequest;
+
+// Which requests go before others come from the queue: those of the incarnations of a node up to one, and the
+// call's, of those that are served.
+#[derive(Clone, Copy)]
+struct Gone {
+    dropped: Option<(u8, u16)>,
+    ended: Option<CallId>,
+}
 
 impl Server {
     // The requests that come from the queue once requests were dropped, one is served no longer and requests
@@ -23,8 +41,288 @@ impl Server {
         requires { AreDistinct (queue_moved sketch.now.moved (without dropped self.now.queue.requests) (without dropped self.now.waiting.requests)) }
         ensures { IfOk result (λ fresh. IsAdmitted (still_active sketch.now.ended (without dropped (requests_of self.now.active.held))) (queue_moved sketch.now.moved (without dropped self.now.queue.requests) (without dropped self.now.waiting.requests)) fresh.items) }
     {
-        let _ = dropped;
-        let _ = sketch;
-        Ok(Vec::new(alloc))
+        let _ = &self.shape; // tells the proof that none can come while no request goes
+        let gone = Gone {
+            dropped,
+            ended: sketch.ended,
+        };
+        let mut fresh = Vec::new(alloc);
+        admit_queued(&mut fresh, &gone, &self.active, &self.queue)?;
+        admit_moved(
+            &mut fresh,
+            &gone,
+            &self.active,
+            &self.queue,
+            &self.waiting,
+            &sketch.moved,
+        )?;
+        Ok(fresh)
+    }
+}
+
+impl Gone {
+    // Whether a request is dropped.
+    fn drops(&self, request: &TokenRequest) -> bool
+        ensures { result ≡ is_up_to_any self.now.dropped request.now }
+    {
+        match self.dropped {
+            Some((node, incarnation)) => request.is_up_to(node, incarnation),
+            None => false,
+        }
+    }
+
+    // Whether a request is the one that is served no longer.
+    fn ends(&self, request: &TokenRequest) -> bool
+        ensures { result ≡ is_of_any self.now.ended request.now }
+    {
+        match self.ended {
+            Some(call) => request.is_of_call(call),
+            None => false,
+        }
+    }
+
+    // Whether a request that was served is served on.
+    fn keeps(&self, request: &TokenRequest) -> bool
+        ensures { result ≡ keeps self.now.dropped self.now.ended request.now }
+    {
+        !self.drops(request) && !self.ends(request)
+    }
+
+    // Whether a request that was served is served on and needs a byte of the span.
+    fn keeps_meeting(&self, request: &TokenRequest, span: Span) -> bool
+        ensures { result ≡ (meets span request.now.wanted.required && keeps self.now.dropped self.now.ended request.now) }
+    {
+        request.meets(span) && self.keeps(request)
+    }
+
+    // Whether a request stands in the slot that is not dropped and needs a byte of the span.
+    fn leaves_meeting(&self, slot: &Option<TokenRequest>, span: Span) -> bool
+        ensures { result ≡ list_any (λ q. meets span q.wanted.required) (left_in self.now (slot.now ∷ [])) }
+    {
+        match slot {
+            Some(request) => request.meets(span) && !self.drops(request),
+            None => false,
+        }
+    }
+}
+
+// Whether the request needs a byte of one that is served on.
+fn meets_served(held: &[Held], gone: &Gone, request: &TokenRequest) -> bool
+    ensures { result ≡ meets_some request.now (served_on gone.now held.now) }
+{
+    let span = request.required();
+    held.iter()
+        .any(|held| gone.keeps_meeting(&held.request, span))
+}
+
+// Whether the request needs a byte of one that stands in the slots and is not dropped.
+fn meets_left(slots: &[Option<TokenRequest>], gone: &Gone, request: &TokenRequest) -> bool
+    ensures { result ≡ meets_some request.now (left_in gone.now slots.now) }
+{
+    let span = request.required();
+    slots.iter().any(|slot| gone.leaves_meeting(slot, span))
+}
+
+// Whether the request needs all bytes of the span.
+fn needs_all_of(request: &TokenRequest, span: Span) -> bool
+    ensures { result ≡ true → (request.now.wanted.required.lo ≤ span.lo) × (span.hi ≤ request.now.wanted.required.hi) }
+{
+    let required = request.required();
+    required.lo <= span.lo && span.hi <= required.hi
+}
+
+// Whether the request stays in the queue: it needs a byte of one that is served on, or of one that stands before
+// it.
+fn must_stay(
+    held: &[Held],
+    gone: &Gone,
+    front: &[Option<TokenRequest>],
+    before: &[Option<TokenRequest>],
+    request: &TokenRequest,
+) -> bool
+    ensures { result ≡ (meets_some request.now (served_on gone.now held.now) || (meets_some request.now (left_in gone.now front.now) || meets_some request.now (left_in gone.now before.now))) }
+{
+    meets_served(held, gone, request)
+        || (meets_left(front, gone, request) || meets_left(before, gone, request))
+}
+
+// One slot more: the request that stands there comes, unless it is dropped or has to stay.
+fn admit_slot(
+    fresh: &mut Vec<TokenRequest>,
+    held: &[Held],
+    gone: &Gone,
+    front: &[Option<TokenRequest>],
+    slots: &[Option<TokenRequest>],
+    place: usize,
+) -> Result<(), NoMemory>
+    requires place_in { place < length slots.now }
+    requires distinct { AreDistinct (left_in gone.now front.now ++ left_in gone.now slots.now) }
+    requires so_far { IsAdmitted (served_on gone.now held.now) (left_in gone.now front.now ++ left_in gone.now (take place slots.now)) fresh.old.items }
+    ensures { IfOk result (λ done. IsAdmitted (served_on gone.now held.now) (left_in gone.now front.now ++ left_in gone.now (take (place + 1) slots.now)) fresh.new.items) }
+{
+    let Some(request) = &slots[place] else {
+        return Ok(());
+    };
+    if gone.drops(request) || must_stay(held, gone, front, &slots[..place], request) {
+        return Ok(());
+    }
+    fresh.push(*request)?;
+    Ok(())
+}
+
+// Those of the slots that come, behind those in the slots in front.
+fn admit_each(
+    fresh: &mut Vec<TokenRequest>,
+    held: &[Held],
+    gone: &Gone,
+    front: &[Option<TokenRequest>],
+    slots: &[Option<TokenRequest>],
+) -> Result<(), NoMemory>
+    requires distinct { AreDistinct (left_in gone.now front.now ++ left_in gone.now slots.now) }
+    requires so_far { IsAdmitted (served_on gone.now held.now) (left_in gone.now front.now) fresh.old.items }
+    ensures { IfOk result (λ done. IsAdmitted (served_on gone.now held.now) (left_in gone.now front.now ++ left_in gone.now slots.now) fresh.new.items) }
+{
+    for place in 0..slots.len() {
+        admit_slot(fresh, held, gone, front, slots, place)?;
+    }
+    Ok(())
+}
+
+// One slot more of a queue that had settled, once a request is served no longer: only what needs a byte of that
+// one can come. Whether all behind it stay, for it needs all that the one needed.
+fn admit_next(
+    fresh: &mut Vec<TokenRequest>,
+    held: &[Held],
+    call: CallId,
+    ended: &TokenRequest,
+    slots: &[Option<TokenRequest>],
+    place: usize,
+) -> Result<bool, NoMemory>
+    requires place_in { place < length slots.now }
+    requires ended { HasEnded (requests_of held.now) (requests_in slots.now) call ended.now }
+    requires so_far { IsAdmitted (still_active (Some call) (requests_of held.now)) (requests_in (take place slots.now)) fresh.old.items }
+    ensures more { IfOk result (λ all. IsAdmitted (still_active (Some call) (requests_of held.now)) (requests_in (take (place + 1) slots.now)) fresh.new.items) }
+    ensures all { IfOk result (λ all. all ≡ true → NeedsAllOf ended.now (requests_in (take (place + 1) slots.now))) }
+{
+    let freed = ended.required();
+    let Some(request) = &slots[place] else {
+        return Ok(false);
+    };
+    if !request.meets(freed) {
+        return Ok(false);
+    }
+    let gone = Gone {
+        dropped: None,
+        ended: Some(call),
+    };
+    admit_slot(fresh, held, &gone, &[], slots, place)?;
+    Ok(needs_all_of(request, freed))
+}
+
+// Those that come of a queue that had settled, once a request is served no longer.
+fn admit_freed(
+    fresh: &mut Vec<TokenRequest>,
+    held: &[Held],
+    call: CallId,
+    ended: &TokenRequest,
+    slots: &[Option<TokenRequest>],
+) -> Result<(), NoMemory>
+    requires empty { fresh.old.items ≡ [] }
+    requires ended { HasEnded (requests_of held.now) (requests_in slots.now) call ended.now }
+    ensures { IfOk result (λ done. IsAdmitted (still_active (Some call) (requests_of held.now)) (requests_in slots.now) fresh.new.items) }
+{
+    for place in 0..slots.len() {
+        if admit_next(fresh, held, call, ended, slots, place)? {
+            return Ok(());
+        }
+    }
+    Ok(())
+}
+
+// Those that come of a queue that had settled, once the call's request is served no longer, if one is named.
+fn admit_ended(
+    fresh: &mut Vec<TokenRequest>,
+    ended: Option<CallId>,
+    active: &Active,
+    queue: &Line,
+) -> Result<(), NoMemory>
+    requires empty { fresh.old.items ≡ [] }
+    requires settled { all_stay (requests_of active.now.held) [] queue.now.requests ≡ true }
+    requires served { AreDistinct (requests_of active.now.held) }
+    requires queued { AreDistinct queue.now.requests }
+    ensures { IfOk result (λ done. IsAdmitted (still_active ended (requests_of active.now.held)) queue.now.requests fresh.new.items) }
+{
+    let Some(call) = ended else {
+        return Ok(());
+    };
+    let Some(ended) = active.find(call) else {
+        return Ok(());
+    };
+    admit_freed(fresh, active.as_slice(), call, &ended, queue.slots())
+}
+
+// Those that come of a queue that had settled, once requests were dropped and one is served no longer.
+fn admit_queued(
+    fresh: &mut Vec<TokenRequest>,
+    gone: &Gone,
+    active: &Active,
+    queue: &Line,
+) -> Result<(), NoMemory>
+    requires empty { fresh.old.items ≡ [] }
+    requires settled { all_stay (requests_of active.now.held) [] queue.now.requests ≡ true }
+    requires served { AreDistinct (requests_of active.now.held) }
+    requires queued { AreDistinct (without gone.now.dropped queue.now.requests) }
+    ensures { IfOk result (λ done. IsAdmitted (served_on gone.now active.now.held) (without gone.now.dropped queue.now.requests) fresh.new.items) }
+{
+    match gone.dropped {
+        None => admit_ended(fresh, gone.ended, active, queue),
+        Some(_) => admit_each(fresh, active.as_slice(), gone, &[], queue.slots()),
+    }
+}
+
+// The request that comes last in the queue comes from there, unless it has to stay.
+fn admit_last(
+    fresh: &mut Vec<TokenRequest>,
+    gone: &Gone,
+    active: &Active,
+    queue: &Line,
+    request: &TokenRequest,
+) -> Result<(), NoMemory>
+    requires distinct { AreDistinct (without gone.now.dropped queue.now.requests ++ request.now ∷ []) }
+    requires so_far { IsAdmitted (served_on gone.now active.now.held) (without gone.now.dropped queue.now.requests) fresh.old.items }
+    ensures { IfOk result (λ done. IsAdmitted (served_on gone.now active.now.held) (without gone.now.dropped queue.now.requests ++ request.now ∷ []) fresh.new.items) }
+{
+    if must_stay(active.as_slice(), gone, queue.slots(), &[], request) {
+        return Ok(());
+    }
+    fresh.push(*request)?;
+    Ok(())
+}
+
+// Those of the requests that move to the end of the queue that come from there.
+fn admit_moved(
+    fresh: &mut Vec<TokenRequest>,
+    gone: &Gone,
+    active: &Active,
+    queue: &Line,
+    waiting: &Line,
+    moved: &Moved,
+) -> Result<(), NoMemory>
+    requires distinct { AreDistinct (queue_moved moved.now (without gone.now.dropped queue.now.requests) (without gone.now.dropped waiting.now.requests)) }
+    requires so_far { IsAdmitted (served_on gone.now active.now.held) (without gone.now.dropped queue.now.requests) fresh.old.items }
+    ensures { IfOk result (λ done. IsAdmitted (served_on gone.now active.now.held) (queue_moved moved.now (without gone.now.dropped queue.now.requests) (without gone.now.dropped waiting.now.requests)) fresh.new.items) }
+{
+    match moved {
+        Moved::Nothing | Moved::PutOff(_) => Ok(()),
+        Moved::New(request) | Moved::Again { request, .. } => {
+            admit_last(fresh, gone, active, queue, request)
+        }
+        Moved::Waiting => admit_each(
+            fresh,
+            active.as_slice(),
+            gone,
+            queue.slots(),
+            waiting.slots(),
+        ),
     }
 }

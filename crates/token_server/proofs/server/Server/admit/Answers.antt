@@ -1,4 +1,24 @@
+use Rattle.std.specs.Prelude.{◌++◌}
+use Rattle.std.proofs.Common.{sym, subst}
+use Rattle.token_queue.specs.Actives.{requests_of}
+use Rattle.token_server.specs.Parts.{ServerParts}
+use Rattle.token_server.specs.Ready.{AreDistinct}
+use Rattle.token_server.specs.Sketches.{without, queue_moved}
+use Rattle.token_server.proofs.ComesLaws.{distinct-first, distinct-queue}
 use Rattle.token_server.proofs.server.Server.admit.Goals as goal
 
-pub returns : goal.returns
-returns c = ?
+pub admit_queued-requires-clause-served : goal.admit_queued-requires-clause-served
+admit_queued-requires-clause-served c =
+    distinct-first (requests_of c.self.inside.active.held) (c.self.inside.queue.requests ++ c.self.inside.waiting.requests) c.self.invariant.ready.orderly.distinct
+
+pub admit_queued-requires-clause-queued : goal.admit_queued-requires-clause-queued
+admit_queued-requires-clause-queued c =
+    let p = c.args.self.now in
+    let dropped = c.args.dropped in
+    subst (λ (s : ServerParts). AreDistinct (without dropped s.queue.requests)) (sym c.self.view_is)
+    (distinct-queue c.args.sketch.now.moved (without dropped p.queue.requests) (without dropped p.waiting.requests) c.requires)
+
+pub admit_moved-requires-clause-distinct : goal.admit_moved-requires-clause-distinct
+admit_moved-requires-clause-distinct c =
+    let dropped = c.args.dropped in
+    subst (λ (s : ServerParts). AreDistinct (queue_moved c.args.sketch.now.moved (without dropped s.queue.requests) (without dropped s.waiting.requests))) (sym c.self.view_is) c.requires

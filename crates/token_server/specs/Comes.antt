@@ -1,0 +1,31 @@
+-- Requests that come from the queue of a server, slot by slot.
+use Rattle.std.specs.Prelude.{◌≡◌, ◌≤◌, true, List, [], find, count_by, Option, Some}
+use Rattle.model.specs.declared.call.CallId.{CallId}
+use Rattle.token_queue.specs.declared.held.Held.{Held}
+use Rattle.token_queue.specs.declared.token_request.TokenRequest.{TokenRequest}
+use Rattle.token_queue.specs.Requests.{is_of_call, meets, requests_in}
+use Rattle.token_queue.specs.Actives.{requests_of}
+use Rattle.token_server.specs.declared.server.admitting.Gone.{Gone}
+use Rattle.token_server.specs.Serve.{meets_some}
+use Rattle.token_server.specs.Admitting.{all_stay}
+use Rattle.token_server.specs.Ready.{AreDistinct}
+use Rattle.token_server.specs.Sketches.{without, still_active}
+
+-- those that are served on
+abbrev pub served_on : Gone → List Held → List TokenRequest
+served_on g held = still_active g.ended (without g.dropped (requests_of held))
+
+-- the requests in slots that are not dropped
+abbrev pub left_in : Gone → List (Option TokenRequest) → List TokenRequest
+left_in g slots = without g.dropped (requests_in slots)
+
+-- whoever needs a byte of the one needs a byte of one of these
+abbrev pub NeedsAllOf : TokenRequest → List TokenRequest → Type 0
+NeedsAllOf ended rs = (r : TokenRequest) → meets r.wanted.required ended.wanted.required ≡ true → meets_some r rs ≡ true
+
+-- the queue had settled beside those that were served, of which the call's is this one
+pub record HasEnded (active queue : List TokenRequest) (call : CallId) (ended : TokenRequest) : Type 0 where
+  pub few : count_by (is_of_call call) active ≤ 1
+  pub found : find (is_of_call call) active ≡ Some ended
+  pub settled : all_stay active [] queue ≡ true
+  pub distinct : AreDistinct queue
