@@ -21,3 +21,4 @@ pub mod CareLaws
 pub mod MarkLaws
 pub mod WaitLaws
 pub mod AdmissionLaws
+pub mod TurnLaws
