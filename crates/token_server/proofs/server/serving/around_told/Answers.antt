@@ -7,7 +7,7 @@ use Rattle.token_server.specs.Told.{bars}
 use Rattle.token_server.specs.Edits.{seen}
 use Rattle.token_server.proofs.GrantLaws.{row_free}
 use Rattle.token_server.proofs.BarLaws.{told-free, around-told, around-other}
-use Rattle.token_server.proofs.server.around_told.Goals as goal
+use Rattle.token_server.proofs.server.serving.around_told.Goals as goal
 
 pub free_around-free-requires-clause-free : goal.free_around-free-requires-clause-free
 free_around-free-requires-clause-free c =
