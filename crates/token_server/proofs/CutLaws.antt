@@ -1,17 +1,18 @@
 -- What is left of a span without the bytes of another.
-use Rattle.std.specs.Prelude.{◌≡◌, ℕ, ◌+◌, ◌-◌, ◌<◌, ◌≤◌, ◌⊎◌, Bool, true, false, not, ◌&&◌, ◌||◌, cond, max, min, nat_le, nat_lt, List, [], ◌∷◌, ◌++◌}
+use Rattle.std.specs.Prelude.{◌≡◌, ℕ, ◌+◌, ◌-◌, ◌<◌, ◌≤◌, ◌⊎◌, Bool, true, false, not, ◌&&◌, ◌||◌, cond, max, min, nat_le, nat_lt, List, [], ◌∷◌, ◌++◌, All}
 use Rattle.std.specs.List.{list_any}
-use Rattle.std.proofs.Common.{refl, ap, sym, ◌∙◌, inl, inr, arith}
+use Rattle.std.proofs.Common.{refl, ap, sym, subst, ◌∙◌, inl, inr, arith, append-nil, append_assoc}
 use Rattle.std.proofs.Math.Nat.{min-eq_left, min-eq_right, min-le_left, min-le_right, le-min}
 use Rattle.std.proofs.lemmas.Bool.{both_ways, and_parts, and_from, not-true, leb-true, le-leb, cases_lt}
 use Rattle.std.proofs.lemmas.Bool.Decides.{nat_tests}
 use Rattle.std.proofs.lemmas.List.Folds.{list_any-append}
+use Rattle.std.proofs.lemmas.List.Elements.{All-nil, All-head, All-tail, All-push}
 use Rattle.intervals.specs.Bytes.{Range, is_in, NoneIn, IsLargest, largest_around}
 use Rattle.intervals.proofs.SpanSearch.{largest_is_largest}
 use Rattle.token_set.proofs.AroundLaws.{largest_around-is, largest_around-same, largest_around-or, largest_around-free}
 use Rattle.token_queue.specs.declared.token_request.TokenRequest.{TokenRequest}
 use Rattle.token_server.specs.Serve.{is_needed, narrowed}
-use Rattle.token_server.specs.Told.{cut}
+use Rattle.token_server.specs.Told.{cut, cut_all}
 use Rattle.token_server.proofs.GrantLaws.{none_needed}
 
 -- the byte is one of the other span alone
@@ -216,3 +217,63 @@ left-more active q r span full l = record { order = l.order; starts = l.starts; 
 pub left-exact : (active : List TokenRequest) (r : TokenRequest) → r.wanted.required.lo ≤ r.wanted.required.hi → r.wanted.desired.lo ≡ r.wanted.required.lo → r.wanted.desired.hi ≡ r.wanted.required.hi → r.wanted.desired ≡ narrowed active r
 left-exact active r order starts ends =
     sym (largest_around-free (is_needed active r) r.wanted.required r.wanted.desired order (omega arith) (omega arith) (λ b above below. none_needed active r b (omega arith) (omega arith)))
+
+-- the request needs a byte
+abbrev pub HasByte : TokenRequest → Type 0
+HasByte r = r.wanted.required.lo ≤ r.wanted.required.hi
+
+-- what is left contains what is required, whatever the other span is
+pub cut-keeps : (required within other : Range) → within.lo ≤ required.lo → required.hi ≤ within.hi → ((cut required within other).lo ≤ required.lo) × (required.hi ≤ (cut required within other).hi)
+cut-keeps required within other starts ends = (lo, hi)
+  where
+    c : IsCut required within other (cut required within other)
+    c = cut-cases required within other
+
+    lo : (cut required within other).lo ≤ required.lo
+    lo = elim (cases_lt other.lo required.lo) [
+      | inl under ↦
+          let is = c.lo_cut under in
+          let less = min-le_right (other.hi + 1) required.lo in
+          omega (arith, is, less)
+      | inr past ↦ let is = c.lo_same past in omega (arith, is)
+    ]
+
+    hi : required.hi ≤ (cut required within other).hi
+    hi = elim (cases_lt required.hi other.hi) [
+      | inl past ↦
+          let is = c.hi_cut past in
+          let least : required.hi ≤ min within.hi (max (other.lo - 1) required.hi) = le-min ends (omega arith) in
+          omega (arith, is, least)
+      | inr under ↦ let is = c.hi_same under in omega (arith, is)
+    ]
+
+-- what is left of a span without the bytes that those requests need
+pub record AreCut (required within : Range) (xs : List TokenRequest) (span : Range) : Type 0 where
+  pub value : span ≡ cut_all required within xs
+  pub starts : span.lo ≤ required.lo
+  pub ends : required.hi ≤ span.hi
+  pub full : All HasByte xs
+
+pub cut-start : (required within : Range) → within.lo ≤ required.lo → required.hi ≤ within.hi → AreCut required within [] within
+cut-start required within starts ends = record { value = refl; starts = starts; ends = ends; full = All-nil HasByte }
+
+cut_all-push : (required : Range) (xs : List TokenRequest) (within : Range) (q : TokenRequest) → cut_all required within (xs ++ q ∷ []) ≡ cut required (cut_all required within xs) q.wanted.required
+cut_all-push required [] within q = refl
+cut_all-push required (x ∷ xs) within q = cut_all-push required xs (cut required within x.wanted.required) q
+
+pub cut-more : (required within : Range) (xs : List TokenRequest) (span : Range) (q : TokenRequest) → HasByte q → AreCut required within xs span → AreCut required within (xs ++ q ∷ []) (cut required span q.wanted.required)
+cut-more required within xs span q full c =
+    let bounds = cut-keeps required span q.wanted.required c.starts c.ends in
+    record {
+      value = ap (λ (s : Range). cut required s q.wanted.required) c.value ∙ sym (cut_all-push required xs within q);
+      starts = bounds.0;
+      ends = bounds.1;
+      full = All-push HasByte xs q c.full full;
+    }
+
+-- the same of all that are served
+pub left-all : (active xs : List TokenRequest) (r : TokenRequest) (span : Range) → All HasByte xs → IsLeft active r span → IsLeft (active ++ xs) r (cut_all r.wanted.required span xs)
+left-all active [] r span full l = subst (λ (all : List TokenRequest). IsLeft all r span) (sym (append-nil active)) l
+left-all active (q ∷ xs) r span full l =
+    subst (λ (all : List TokenRequest). IsLeft all r (cut_all r.wanted.required (cut r.wanted.required span q.wanted.required) xs)) (append_assoc active (q ∷ []) xs)
+    (left-all (active ++ q ∷ []) xs r (cut r.wanted.required span q.wanted.required) (All-tail HasByte q xs full) (left-more active q r span (All-head HasByte q xs full) l))

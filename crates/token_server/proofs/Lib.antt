@@ -25,3 +25,4 @@ pub mod AdmissionLaws
 pub mod AwaitLaws
 pub mod OrderlyLaws
 pub mod ReadyLaws
+pub mod TurnLaws

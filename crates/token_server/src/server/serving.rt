@@ -1,5 +1,5 @@
 //! How a token server serves its requests.
-ghost use Rattle.std.specs.Prelude.{◌≡◌, ◌≢◌, ℕ, ◌+◌, ◌<◌, ◌≤◌, ◌++◌, true, false, IfSome, All, IfOk, IfErr, [], ◌∷◌, Some, None, Ok, Err};
+ghost use Rattle.std.specs.Prelude.{◌≡◌, ◌≢◌, ℕ, ◌+◌, ◌<◌, ◌≤◌, ◌++◌, true, false, IfSome, All, IfOk, IfErr, OnOk, slice_index_or, [], ◌∷◌, Some, None, Ok, Err};
 ghost use Rattle.std.specs.Option.{option_map, option_to_list};
 ghost use Rattle.model.specs.Limits.{IsNumber, most_nodes};
 ghost use Rattle.intervals.specs.Bytes.{largest_around};
@@ -10,6 +10,7 @@ ghost use Rattle.token_server.specs.Obstacles.{obstacle, are_apart, is_idle};
 ghost use Rattle.token_server.specs.Parts.{server_state, row_state, client_at, rows_of};
 ghost use Rattle.token_server.specs.Sketches.{commands_of, without, still_active};
 ghost use Rattle.token_server.specs.Edits.{overlaid, held_after, drafted, seen, given_to_client, with_given};
+ghost use Rattle.token_server.specs.Turns.{kept_of, IsTurn, AreServed};
 ghost use Rattle.token_set.specs.Sets.{token_of};
 ghost use Rattle.token_set.specs.Edits.{edited as edited_token};
 
@@ -120,6 +121,7 @@ impl Server {
         ensures busy { IfOk result (λ o. is_idle ((with_told (told.now ++ option_to_list o) (drafted self.now draft.now)).rows at) ≡ false) }
         ensures err { IfErr result (λ e. served (with_told told.now (drafted self.now draft.now)) request.now ≡ Err e) }
     {
+        let _ = self.shape.nodes(); // tells the proof how many nodes there may be
         if request.is_of_node(at) {
             return self.grant(draft, told, request);
         }
@@ -186,8 +188,48 @@ impl Server {
         Ok(Some(Told::new(node, commands, &command)))
     }
 
-    // What comes of serving each request in order. Where no row changed but that of the node that is touched,
-    // only the requests that wait for it, or for another row than before, can come to something.
+    // Serves a request: what it comes to is told last.
+    fn serve_one(&self, draft: &Draft, told: &mut Vec<Told>, held: &Held) -> Result<(), StepError>
+        requires { obstacle (with_told told.old.items (drafted self.now draft.now)) held.now.request ≡ held.now.at }
+        ensures ok { OnOk result (IsTurn (drafted self.now draft.now) held.now told.old.items told.new.items) }
+        ensures err { IfErr result (λ e. e ≢ StepError.NoMemory → served (with_told told.old.items (drafted self.now draft.now)) held.now.request ≡ Err e) }
+    {
+        let request = &held.request;
+        let _ = (request.required(), request.desired()); // tells the proof how the spans lie
+        if let Some(next) = self.command(draft, told.as_slice(), request, held.at)? {
+            told.push(next)?;
+        }
+        Ok(())
+    }
+
+    // What comes of serving in order each request that is served on. Where no row changed but that of the node
+    // that is touched, only those that wait for it, or for another row than before, can come to something.
+    fn commands_kept(
+        &self,
+        draft: &Draft,
+        touched: Option<u8>,
+        alloc: Global,
+    ) -> Result<Vec<Told>, StepError>
+        requires waits { All (λ h. obstacle (drafted self.now draft.now) h.request ≡ h.at) (held_after draft.now.lists self.now.active.held) }
+        requires apart { are_apart (drafted self.now draft.now).active ≡ true }
+        requires untouched { (n : ℕ) → touched ≢ Some n → (drafted self.now draft.now).rows n ≡ (server_state self.now).rows n }
+        ensures ok { IfOk result (λ told. AreServed (drafted self.now draft.now) (held_after draft.now.lists self.now.active.held) (kept_of draft.now.lists self.now.active.held) told.items) }
+        ensures err { IfErr result (λ e. e ≢ StepError.NoMemory → each_served (drafted self.now draft.now).active (drafted self.now draft.now) ≡ Err e) }
+    {
+        let mut told = Vec::new(alloc);
+        let active = self.active.as_slice();
+        for place in 0..active.len() {
+            let held = &active[place];
+            let at = awaited(draft.lists.ats.as_slice(), place, held.at);
+            if may_come(held.at, at, touched) && draft.lists.keeps(held) {
+                let request = held.request;
+                self.serve_one(draft, &mut told, &Held { request, at })?;
+            }
+        }
+        Ok(told)
+    }
+
+    // What comes of serving each request in order: first those that are served on, then those that come.
     pub(super) fn commands(
         &self,
         draft: &Draft,
@@ -203,9 +245,11 @@ impl Server {
         ensures quiet { IfOk result (λ told. All (λ h. is_idle ((with_told told.items (drafted self.now draft.now)).rows h.at) ≡ false) (held_after draft.now.lists self.now.active.held)) }
         ensures err { IfErr result (λ e. e ≢ StepError.NoMemory → each_served (drafted self.now draft.now).active (drafted self.now draft.now) ≡ Err e) }
     {
-        let _ = touched;
-        let _ = draft;
-        Ok(Vec::new(alloc))
+        let mut told = self.commands_kept(draft, touched, alloc)?;
+        for held in draft.lists.fresh.as_slice() {
+            self.serve_one(draft, &mut told, held)?;
+        }
+        Ok(told)
     }
 
     // What nodes are given by their commands.
@@ -244,6 +288,29 @@ impl Server {
     }
 }
 
+// The node whose row the request at a place waits for, which waited for that of the node `before`: the first
+// requests wait for these rows.
+fn awaited(ats: &[u8], place: usize, before: u8) -> u8
+    ensures { result ≡ slice_index_or ats.now place before }
+{
+    match ats.get(place) {
+        Some(at) => *at,
+        None => before,
+    }
+}
+
+// Whether a command may go to the node whose row a request waits for, where none could go to the node for whose
+// row it waited before, and no row has changed but that of the node that is touched.
+fn may_come(before: u8, at: u8, touched: Option<u8>) -> bool
+    ensures same { result ≡ false → at ≡ before }
+    ensures untouched { result ≡ false → touched ≢ Some at }
+{
+    match touched {
+        Some(node) if node == at => true,
+        _ => at != before,
+    }
+}
+
 // The largest span that contains `required` and lies in `within` without the bytes that requests need which are
 // served on.
 fn cut_by(required: Span, within: Span, held: &[Held], lists: &Lists) -> Span
@@ -252,6 +319,7 @@ fn cut_by(required: Span, within: Span, held: &[Held], lists: &Lists) -> Span
     ensures value { result ≡ cut_all required within (still_active lists.now.ended (without lists.now.dropped (requests_of held.now))) }
     ensures starts_before { result.lo ≤ required.lo }
     ensures ends_after { required.hi ≤ result.hi }
+    ensures ordered { All (λ r. r.wanted.required.lo ≤ r.wanted.required.hi) (still_active lists.now.ended (without lists.now.dropped (requests_of held.now))) }
 {
     let mut span = within;
     for other in held {
@@ -269,6 +337,7 @@ fn cut_by_all(required: Span, within: Span, held: &[Held]) -> Span
     ensures value { result ≡ cut_all required within (requests_of held.now) }
     ensures starts_before { result.lo ≤ required.lo }
     ensures ends_after { required.hi ≤ result.hi }
+    ensures ordered { All (λ r. r.wanted.required.lo ≤ r.wanted.required.hi) (requests_of held.now) }
 {
     let mut span = within;
     for other in held {

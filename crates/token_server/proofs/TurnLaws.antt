@@ -1,0 +1,328 @@
+-- What comes of serving each request that is served, in order.
+use Rattle.std.specs.Prelude.{◌≡◌, ℕ, zero, suc, ◌+◌, ◌<◌, ◌≤◌, Bool, true, false, not, cond, ◌&&◌, ◌==◌, nat_le, nat_lt, List, [], ◌∷◌, ◌++◌, filter, length, slice_get, slice_index_or, All, is_some, IfSome, Option, Some, None, Result, Ok, Err}
+use Rattle.std.specs.Option.{option_to_list}
+use Rattle.std.proofs.Common.{refl, sym, ap, subst, ◌∙◌, inl, inr, arith, take, drop, get_or, append-nil, append_assoc}
+use Rattle.std.proofs.lemmas.Bool.{both_ways, and_parts, leb-true, le-leb, lt-leb, cases_lt}
+use Rattle.std.proofs.lemmas.Bool.Decides.{eqb_tells}
+use Rattle.std.proofs.lemmas.List.{map-append, take_more}
+use Rattle.std.proofs.lemmas.List.Elements.{All-nil, All-cons, All-head, All-tail, All-push, filter-append}
+use Rattle.std.proofs.lemmas.Option.{none-some, same_Some, slice_get_within, get_or_from_slice_get}
+use Rattle.intervals.proofs.SearchLaws.{first_is_first}
+use Rattle.model.specs.declared.call.CallId.{CallId}
+use Rattle.messages.specs.declared.refusal.StepError.{StepError}
+use Rattle.messages.specs.declared.refusal.StepError.TheVariants.{Spent}
+use Rattle.messages.specs.declared.message.Message.{Message}
+use Rattle.messages.specs.Messages.{greatest_number}
+use Rattle.token_set.specs.Tokens.{Token}
+use Rattle.token_queue.specs.declared.held.Held.{Held}
+use Rattle.token_queue.specs.declared.token_request.TokenRequest.{TokenRequest}
+use Rattle.token_queue.specs.Requests.{is_of_call, is_up_to}
+use Rattle.token_queue.specs.Actives.{requests_of, waiting_for}
+use Rattle.token_server.specs.declared.lists.Lists.{Lists}
+use Rattle.token_server.specs.declared.told.Told.{Told}
+use Rattle.token_server.specs.State.{Row, ServerState, with_row}
+use Rattle.token_server.specs.Sketches.{without, still_active}
+use Rattle.token_server.specs.Serve.{row_conflicts, conflicting_node, commanded, granted_to, revoked_from, served, each_served}
+use Rattle.token_server.specs.Obstacles.{obstacle, are_apart, is_idle}
+use Rattle.token_server.specs.Told.{told_to, row_told, with_told, commands_told}
+use Rattle.token_server.specs.Edits.{is_up_to_any, is_of_any, keeps, held_still, held_without, held_after}
+use Rattle.token_server.specs.Turns.{kept, kept_of, IsTurn, AreServed}
+use Rattle.token_server.proofs.GrantLaws.{conflicts_at}
+use Rattle.token_server.proofs.ObstacleLaws.{obstacle-same, served-silent}
+use Rattle.token_server.proofs.KeepLaws.{StandSame, served-same}
+use Rattle.token_server.proofs.CareLaws.{All-right}
+use Rattle.token_server.proofs.ToldLaws.{silent, told-next, nodes-next, served-spent, list-at}
+
+-- the requests that wait for other rows are the same
+pub waiting_for-requests : (ats : List ℕ) (held : List Held) → requests_of (waiting_for ats held) ≡ requests_of held
+waiting_for-requests [] held = refl
+waiting_for-requests (at ∷ ats) [] = refl
+waiting_for-requests (at ∷ ats) (h ∷ held) = ap (λ (rs : List TokenRequest). h.request ∷ rs) (waiting_for-requests ats held)
+
+pub filter-requests : (keep : TokenRequest → Bool) (held : List Held) → requests_of (filter (λ h. keep h.request) held) ≡ filter keep (requests_of held)
+filter-requests keep [] = refl
+filter-requests keep (h ∷ held) = by (keep h.request) (filter-requests keep held)
+  where
+    by : (b : Bool) → requests_of (filter (λ x. keep x.request) held) ≡ filter keep (requests_of held) → requests_of (cond b (h ∷ filter (λ x. keep x.request) held) (filter (λ x. keep x.request) held)) ≡ cond b (h.request ∷ filter keep (requests_of held)) (filter keep (requests_of held))
+    by true rest = ap (λ (rs : List TokenRequest). h.request ∷ rs) rest
+    by false rest = rest
+
+pub without-requests : (dropped : Option (ℕ × ℕ)) (held : List Held) → requests_of (held_without dropped held) ≡ without dropped (requests_of held)
+without-requests None held = refl
+without-requests (Some d) held = filter-requests (λ r. not (is_up_to d.0 d.1 r)) held
+
+pub still-requests : (ended : Option CallId) (held : List Held) → requests_of (held_still ended held) ≡ still_active ended (requests_of held)
+still-requests None held = refl
+still-requests (Some call) held = filter-requests (λ r. not (is_of_call call r)) held
+
+-- the requests that are served after the edit: those that are served on, then those that come
+pub held_after-requests : (l : Lists) (held : List Held) → requests_of (held_after l held) ≡ still_active l.ended (without l.dropped (requests_of held)) ++ requests_of l.fresh.items
+held_after-requests l held =
+    map-append (λ (h : Held). h.request) (held_still l.ended (held_without l.dropped (waiting_for l.ats.items held))) l.fresh.items
+    ∙ ap (λ (rs : List TokenRequest). rs ++ requests_of l.fresh.items)
+    (still-requests l.ended (held_without l.dropped (waiting_for l.ats.items held))
+    ∙ ap (still_active l.ended) (without-requests l.dropped (waiting_for l.ats.items held) ∙ ap (without l.dropped) (waiting_for-requests l.ats.items held)))
+
+filter-all : (held : List Held) → held ≡ filter (λ h. true) held
+filter-all [] = refl
+filter-all (h ∷ held) = ap (λ (hs : List Held). h ∷ hs) (filter-all held)
+
+filter-twice : (p q : Held → Bool) (held : List Held) → filter p (filter q held) ≡ filter (λ h. q h && p h) held
+filter-twice p q [] = refl
+filter-twice p q (h ∷ held) = by (q h) (p h) refl (filter-twice p q held)
+  where
+    both : Held → Bool
+    both x = q x && p x
+
+    by : (b c : Bool) → p h ≡ c → filter p (filter q held) ≡ filter both held → filter p (cond b (h ∷ filter q held) (filter q held)) ≡ cond (b && c) (h ∷ filter both held) (filter both held)
+    by true c is rest = ap (λ (x : Bool). cond x (h ∷ filter p (filter q held)) (filter p (filter q held))) is ∙ ap (λ (hs : List Held). cond c (h ∷ hs) hs) rest
+    by false c is rest = rest
+
+without-filter : (dropped : Option (ℕ × ℕ)) (held : List Held) → held_without dropped held ≡ filter (λ h. not (is_up_to_any dropped h.request)) held
+without-filter None held = filter-all held
+without-filter (Some d) held = refl
+
+still-filter : (ended : Option CallId) (held : List Held) → held_still ended held ≡ filter (λ h. not (is_of_any ended h.request)) held
+still-filter None held = filter-all held
+still-filter (Some call) held = refl
+
+pub kept-is : (l : Lists) (held : List Held) → held_still l.ended (held_without l.dropped held) ≡ kept l held
+kept-is l held =
+    still-filter l.ended (held_without l.dropped held)
+    ∙ ap (λ (hs : List Held). filter (λ h. not (is_of_any l.ended h.request)) hs) (without-filter l.dropped held)
+    ∙ filter-twice (λ h. not (is_of_any l.ended h.request)) (λ h. not (is_up_to_any l.dropped h.request)) held
+
+pub held_after-kept : (l : Lists) (held : List Held) → held_after l held ≡ kept_of l held ++ l.fresh.items
+held_after-kept l held = ap (λ (hs : List Held). hs ++ l.fresh.items) (kept-is l (waiting_for l.ats.items held))
+
+pub kept-requests : (l : Lists) (held : List Held) → requests_of (kept l held) ≡ still_active l.ended (without l.dropped (requests_of held))
+kept-requests l held =
+    ap requests_of (sym (kept-is l held))
+    ∙ still-requests l.ended (held_without l.dropped held)
+    ∙ ap (still_active l.ended) (without-requests l.dropped held)
+
+-- one more that is served on, and one that is not
+pub kept-more : (l : Lists) (xs next : List Held) (h : Held) → next ≡ xs ++ h ∷ [] → keeps l.dropped l.ended h.request ≡ true → kept l next ≡ kept l xs ++ h ∷ []
+kept-more l xs next h is on =
+    ap (kept l) is
+    ∙ filter-append (λ x. keeps l.dropped l.ended x.request) xs (h ∷ [])
+    ∙ ap (λ (b : Bool). kept l xs ++ cond b (h ∷ []) []) on
+
+pub kept-less : (l : Lists) (xs next : List Held) (h : Held) → next ≡ xs ++ h ∷ [] → keeps l.dropped l.ended h.request ≡ false → kept l next ≡ kept l xs
+kept-less l xs next h is off =
+    ap (kept l) is
+    ∙ filter-append (λ x. keeps l.dropped l.ended x.request) xs (h ∷ [])
+    ∙ ap (λ (b : Bool). kept l xs ++ cond b (h ∷ []) []) off
+    ∙ append-nil (kept l xs)
+
+-- the request at a place, with the row that it waits for from now on
+abbrev pub waiting_at : List ℕ → ℕ → Held → Held
+waiting_at ats i h = record { request = h.request; at = slice_index_or ats i h.at }
+
+pub waits-at : (ats : List ℕ) (held : List Held) (i : ℕ) (h : Held) → slice_get held i ≡ Some h → slice_get (waiting_for ats held) i ≡ Some (waiting_at ats i h)
+waits-at [] held i h there = there
+waits-at (a ∷ ats) [] i h there = absurd (none-some h there)
+waits-at (a ∷ ats) (x ∷ held) zero h there =
+    let same : x ≡ h = same_Some x h there in
+    ap (λ (y : Held). let o : Option Held = Some (record { request = y.request; at = a }) in o) same
+waits-at (a ∷ ats) (x ∷ held) (suc i) h there = waits-at ats held i h there
+
+pub take-next : {X : Type 0} (xs : List X) (i : ℕ) (x : X) → slice_get xs i ≡ Some x → take (i + 1) xs ≡ take i xs ++ x ∷ []
+take-next xs i x there = take_more xs i x (slice_get_within xs i x there) ∙ ap (λ y. take i xs ++ y ∷ []) (get_or_from_slice_get xs i x x there)
+
+-- those that are served on, about one of them
+pub kept-around : (l : Lists) (ws : List Held) (i : ℕ) (w : Held) → slice_get ws i ≡ Some w → keeps l.dropped l.ended w.request ≡ true → kept l ws ++ l.fresh.items ≡ kept l (take i ws) ++ w ∷ (kept l (drop (i + 1) ws) ++ l.fresh.items)
+kept-around l ws i w there on =
+    ap (λ (hs : List Held). kept l hs ++ l.fresh.items) (list-at ws i w (take-next ws i w there))
+    ∙ ap (λ (hs : List Held). hs ++ l.fresh.items)
+    (filter-append (λ x. keeps l.dropped l.ended x.request) (take i ws) (w ∷ drop (i + 1) ws)
+    ∙ ap (λ (b : Bool). kept l (take i ws) ++ cond b (w ∷ kept l (drop (i + 1) ws)) (kept l (drop (i + 1) ws))) on)
+    ∙ append_assoc (kept l (take i ws)) (w ∷ kept l (drop (i + 1) ws)) l.fresh.items
+
+abbrev Answer : Type 0
+Answer = Result (ServerState × List Message) StepError
+
+-- a row stands in its way that is not its own
+pub opposing-other : (s : ServerState) (r : TokenRequest) → conflicting_node s r ≤ s.shape.nodes → (1 ≤ conflicting_node s r) × (conflicting_node s r == r.call.node ≡ false)
+opposing-other s r within =
+    let f = first_is_first (conflicts_at s r) 1 s.shape.nodes in
+    let parts = and_parts (not (conflicting_node s r == r.call.node)) (row_conflicts (s.rows (conflicting_node s r)) r.wanted.required r.mode) (f.here (omega arith)) in
+    (f.least, by (conflicting_node s r == r.call.node) parts.0)
+  where
+    by : (b : Bool) → not b ≡ true → b ≡ false
+    by true h = absurd (cc)
+    by false h = refl
+
+above : (k n : ℕ) → nat_le k n ≡ false → n < k
+above k n h = elim (cases_lt n k) [ inl less ↦ less | inr more ↦ absurd (both_ways (nat_le k n) h (le-leb k n more)) ]
+
+-- it waits for its own row: no other stands in its way, and it is granted
+pub own-unopposed : (s : ServerState) (r : TokenRequest) (at : ℕ) → obstacle s r ≡ at → (at == r.call.node) ≡ true → s.shape.nodes < conflicting_node s r
+own-unopposed s r at is own = by (nat_le (conflicting_node s r) s.shape.nodes) refl
+  where
+    by : (b : Bool) → nat_le (conflicting_node s r) s.shape.nodes ≡ b → s.shape.nodes < conflicting_node s r
+    by true h =
+        let other = opposing-other s r (leb-true (conflicting_node s r) s.shape.nodes h) in
+        let same : conflicting_node s r ≡ at = sym (ap (λ (b : Bool). cond b (conflicting_node s r) r.call.node) h) ∙ is in
+        absurd (both_ways (conflicting_node s r == r.call.node) other.1 (ap (λ (k : ℕ). k == r.call.node) same ∙ own))
+    by false h = above (conflicting_node s r) s.shape.nodes h
+
+pub own-granted : (s : ServerState) (r : TokenRequest) (at : ℕ) → obstacle s r ≡ at → (at == r.call.node) ≡ true → served s r ≡ granted_to s r (s.rows r.call.node)
+own-granted s r at is own =
+    let node = conflicting_node s r in
+    ap (λ (b : Bool). cond b (revoked_from s r node (s.rows node)) (granted_to s r (s.rows r.call.node))) (lt-leb node s.shape.nodes (own-unopposed s r at is own))
+
+-- it waits for another row, which is within the nodes, and is revoked
+other-opposes : (s : ServerState) (r : TokenRequest) (at : ℕ) → obstacle s r ≡ at → (at == r.call.node) ≡ false → (nat_le (conflicting_node s r) s.shape.nodes ≡ true) × (conflicting_node s r ≡ at)
+other-opposes s r at is other = by (nat_le (conflicting_node s r) s.shape.nodes) refl
+  where
+    here : (k : ℕ) → k == k ≡ true
+    here k = elim (eqb_tells k k) [ inl same ↦ same.0 | inr apart ↦ absurd (apart.1 refl) ]
+
+    by : (b : Bool) → nat_le (conflicting_node s r) s.shape.nodes ≡ b → (nat_le (conflicting_node s r) s.shape.nodes ≡ true) × (conflicting_node s r ≡ at)
+    by true h = (h, sym (ap (λ (b : Bool). cond b (conflicting_node s r) r.call.node) h) ∙ is)
+    by false h =
+        let same : r.call.node ≡ at = sym (ap (λ (b : Bool). cond b (conflicting_node s r) r.call.node) h) ∙ is in
+        absurd (both_ways (at == r.call.node) other (ap (λ (k : ℕ). at == k) same ∙ here at))
+
+pub other-within : (s : ServerState) (r : TokenRequest) (at : ℕ) → obstacle s r ≡ at → (at == r.call.node) ≡ false → (1 ≤ at) × (at ≤ s.shape.nodes)
+other-within s r at is other =
+    let o = other-opposes s r at is other in
+    let within = leb-true (conflicting_node s r) s.shape.nodes o.0 in
+    (subst (λ (k : ℕ). 1 ≤ k) o.1 (opposing-other s r within).0, subst (λ (k : ℕ). k ≤ s.shape.nodes) o.1 within)
+
+pub other-revoked : (s : ServerState) (r : TokenRequest) (at : ℕ) → obstacle s r ≡ at → (at == r.call.node) ≡ false → served s r ≡ revoked_from s r at (s.rows at)
+other-revoked s r at is other =
+    let o = other-opposes s r at is other in
+    let node = conflicting_node s r in
+    ap (λ (b : Bool). cond b (revoked_from s r node (s.rows node)) (granted_to s r (s.rows r.call.node))) o.0
+    ∙ ap (λ (k : ℕ). revoked_from s r k (s.rows k)) o.1
+
+-- once a request is served no command may go to the node whose row it waits for
+silent-busy : (s t : ServerState) (node : ℕ) (out : List Message) → is_idle (s.rows node) ≡ false → ◌≡◌ {A = Answer} (Ok (s, [])) (Ok (t, out)) → is_idle (t.rows node) ≡ false
+silent-busy s t node out busy is =
+    let pair : ◌≡◌ {A = ServerState × List Message} (s, []) (t, out) = cc in
+    subst (λ (x : ServerState). is_idle (x.rows node) ≡ false) (ap (λ (p : ServerState × List Message). p.0) pair) busy
+
+commanded-busy : (s t : ServerState) (node : ℕ) (row : Row) (token : Token) (command : Message) (out : List Message) → s.rows node ≡ Some row → commanded s node row token command ≡ Ok (t, out) → is_idle (t.rows node) ≡ false
+commanded-busy s t node row token command out there is = by (is_some row.outstanding) (nat_lt row.number greatest_number) refl is
+  where
+    made : Row
+    made = record row { token = token; number = row.number + 1; outstanding = Some command }
+
+    new : ServerState
+    new = with_row s node (Some made)
+
+    here : node == node ≡ true
+    here = elim (eqb_tells node node) [ inl same ↦ same.0 | inr apart ↦ absurd (apart.1 refl) ]
+
+    by : (busy few : Bool) → is_some row.outstanding ≡ busy → ◌≡◌ {A = Answer} (cond busy (Ok (s, [])) (cond few (Ok (new, command ∷ [])) (Err Spent))) (Ok (t, out)) → is_idle (t.rows node) ≡ false
+    by true few b h = silent-busy s t node out (ap is_idle there ∙ ap not b) h
+    by false true b h =
+        let pair : ◌≡◌ {A = ServerState × List Message} (new, command ∷ []) (t, out) = cc in
+        subst (λ (x : ServerState). is_idle (x.rows node) ≡ false) (ap (λ (p : ServerState × List Message). p.0) pair) (ap (λ (e : Bool). is_idle (cond e (Some made) (s.rows node))) here)
+    by false false b h = absurd (cc)
+
+pub served-busy : (s t : ServerState) (r : TokenRequest) (at : ℕ) (out : List Message) → obstacle s r ≡ at → served s r ≡ Ok (t, out) → is_idle (t.rows at) ≡ false
+served-busy s t r at out where_is is = subst (λ (k : ℕ). is_idle (t.rows k) ≡ false) where_is (by (nat_le node s.shape.nodes) is)
+  where
+    node : ℕ
+    node = conflicting_node s r
+
+    granted : (o : Option Row) → s.rows r.call.node ≡ o → granted_to s r o ≡ Ok (t, out) → is_idle (t.rows r.call.node) ≡ false
+    granted None there h = silent-busy s t r.call.node out (ap is_idle there) h
+    granted (Some row) there h = commanded-busy s t r.call.node row _ _ out there h
+
+    revoked : (o : Option Row) → s.rows node ≡ o → revoked_from s r node o ≡ Ok (t, out) → is_idle (t.rows node) ≡ false
+    revoked None there h = silent-busy s t node out (ap is_idle there) h
+    revoked (Some row) there h = commanded-busy s t node row row.token _ out there h
+
+    by : (b : Bool) → cond b (revoked_from s r node (s.rows node)) (granted_to s r (s.rows r.call.node)) ≡ Ok (t, out) → is_idle (t.rows (cond b node r.call.node)) ≡ false
+    by true h = revoked (s.rows node) refl h
+    by false h = granted (s.rows r.call.node) refl h
+
+-- no command may go to a node of which that held before it was told something
+quiet-row : (o : Option Told) (row : Option Row) → is_idle row ≡ false → is_idle (row_told o row) ≡ false
+quiet-row None row quiet = quiet
+quiet-row (Some t) None quiet = refl
+quiet-row (Some t) (Some row) quiet = refl
+
+pub quiet-told : (ts : List Told) (s : ServerState) (n : ℕ) → is_idle (s.rows n) ≡ false → is_idle ((with_told ts s).rows n) ≡ false
+quiet-told ts s n quiet = quiet-row (told_to ts n) (s.rows n) quiet
+
+quiet-some : (t : Told) (row : Option Row) → is_idle (row_told (Some t) row) ≡ false
+quiet-some t None = refl
+quiet-some t (Some row) = refl
+
+pub quiet-more : (ts more : List Told) (s : ServerState) (n : ℕ) → is_idle ((with_told ts s).rows n) ≡ false → is_idle ((with_told (ts ++ more) s).rows n) ≡ false
+quiet-more [] more s n quiet = quiet-told more s n quiet
+quiet-more (t ∷ ts) more s n quiet = by (t.node == n) quiet (quiet-more ts more s n)
+  where
+    by : (b : Bool) → is_idle (row_told (cond b (Some t) (told_to ts n)) (s.rows n)) ≡ false → (is_idle ((with_told ts s).rows n) ≡ false → is_idle ((with_told (ts ++ more) s).rows n) ≡ false) → is_idle (row_told (cond b (Some t) (told_to (ts ++ more) n)) (s.rows n)) ≡ false
+    by true quiet rest = quiet-some t (s.rows n)
+    by false quiet rest = rest quiet
+
+-- nothing is served so far
+pub served-start : (s : ServerState) (all : List Held) → All (λ h. obstacle s h.request ≡ h.at) all → AreServed s all [] []
+served-start s all waits = record {
+  comes = refl;
+  nodes = All-nil (λ (t : Told). 1 ≤ t.node);
+  waits = waits;
+  quiet = All-nil (λ (h : Held). is_idle (s.rows h.at) ≡ false);
+}
+
+waits-same : (s t : ServerState) (held : List Held) → t.shape.nodes ≡ s.shape.nodes → All (StandSame s t) (requests_of held) → All (λ h. obstacle s h.request ≡ h.at) held → All (λ h. obstacle t h.request ≡ h.at) held
+waits-same s t [] nodes same waits = All-nil (λ (h : Held). obstacle t h.request ≡ h.at)
+waits-same s t (h ∷ held) nodes same waits =
+    All-cons (λ (x : Held). obstacle t x.request ≡ x.at) h held
+    (obstacle-same s t h.request nodes (All-head (StandSame s t) h.request (requests_of held) same) ∙ All-head (λ (x : Held). obstacle s x.request ≡ x.at) h held waits)
+    (waits-same s t held nodes (All-tail (StandSame s t) h.request (requests_of held) same) (All-tail (λ (x : Held). obstacle s x.request ≡ x.at) h held waits))
+
+requests-around : (done rest : List Held) (h : Held) → requests_of (done ++ h ∷ rest) ≡ requests_of done ++ h.request ∷ requests_of rest
+requests-around done rest h = map-append (λ (x : Held). x.request) done (h ∷ rest)
+
+-- what one waits for that has not been served
+pub waits-here : (s : ServerState) (all done rest : List Held) (h : Held) (told : List Told) → all ≡ done ++ h ∷ rest → AreServed s all done told → obstacle (with_told told s) h.request ≡ h.at
+waits-here s all done rest h told is a =
+    let P : Held → Type 0 = λ x. obstacle (with_told told s) x.request ≡ x.at in
+    All-head P h rest (All-right P done (h ∷ rest) (subst (All P) is a.waits))
+
+-- one more is served
+pub turn-next : (s : ServerState) (all done rest : List Held) (h : Held) (before after : List Told) → all ≡ done ++ h ∷ rest → s.active ≡ requests_of all → are_apart s.active ≡ true → AreServed s all done before → IsTurn s h before after → AreServed s all (done ++ h ∷ []) after
+turn-next s all done rest h before after is active apart a t =
+    subst (λ (ts : List Told). AreServed s all (done ++ h ∷ []) ts) (sym t.made) (record {
+      comes = told-next s (requests_of done) (requests_of (done ++ h ∷ [])) before new h.request t.next a.comes (requests-around done [] h) t.comes refl;
+      nodes = nodes-next before new t.next a.nodes t.node refl;
+      waits = waits-same (with_told before s) (with_told new s) all refl (subst (All (StandSame (with_told before s) (with_told new s))) (sym split) same) a.waits;
+      quiet = All-push (λ (x : Held). is_idle ((with_told new s).rows x.at) ≡ false) done h (λ k d within. quiet-more before (option_to_list t.next) s _ (a.quiet k d within)) t.busy;
+    })
+  where
+    new : List Told
+    new = before ++ option_to_list t.next
+
+    split : requests_of all ≡ requests_of done ++ h.request ∷ requests_of rest
+    split = ap requests_of is ∙ requests-around done rest h
+
+    same : All (StandSame (with_told before s) (with_told new s)) (requests_of done ++ h.request ∷ requests_of rest)
+    same = served-same (with_told before s) (with_told new s) h.request (commands_told (option_to_list t.next)) (requests_of done) (requests_of rest) (active ∙ split) apart t.order t.starts t.ends t.comes
+
+-- one is passed over, since no command may go to the node whose row it waits for
+pub turn-silent : (s : ServerState) (all done rest : List Held) (h : Held) (told : List Told) → all ≡ done ++ h ∷ rest → AreServed s all done told → is_idle (s.rows h.at) ≡ false → AreServed s all (done ++ h ∷ []) told
+turn-silent s all done rest h told is a quiet = record {
+  comes = told-next s (requests_of done) (requests_of (done ++ h ∷ [])) told told h.request None a.comes (requests-around done [] h) (nothing ∙ silent told s) (sym (append-nil told));
+  nodes = a.nodes;
+  waits = a.waits;
+  quiet = All-push (λ (x : Held). is_idle ((with_told told s).rows x.at) ≡ false) done h a.quiet here;
+}
+  where
+    here : is_idle ((with_told told s).rows h.at) ≡ false
+    here = quiet-told told s h.at quiet
+
+    nothing : served (with_told told s) h.request ≡ Ok (with_told told s, [])
+    nothing = served-silent (with_told told s) h.request (ap (λ (k : ℕ). is_idle ((with_told told s).rows k)) (waits-here s all done rest h told is a) ∙ here)
+
+-- one is refused
+pub turn-spent : (s : ServerState) (all done rest : List Held) (h : Held) (told : List Told) (e : StepError) → all ≡ done ++ h ∷ rest → s.active ≡ requests_of all → AreServed s all done told → served (with_told told s) h.request ≡ Err e → each_served s.active s ≡ Err e
+turn-spent s all done rest h told e is active a refused =
+    ap (λ (rs : List TokenRequest). each_served rs s) (active ∙ ap requests_of is ∙ requests-around done rest h)
+    ∙ served-spent s (requests_of done) told h.request a.comes (requests_of rest) e refused

@@ -1,0 +1,9 @@
+use Rattle.std.specs.Prelude.{◌++◌}
+use Rattle.std.proofs.Common.{take}
+use Rattle.token_server.specs.Edits.{held_after, drafted}
+use Rattle.token_server.specs.Turns.{kept_of, AreServed}
+use Rattle.token_server.proofs.server.Server.commands.Given as goal
+
+abbrev pub invariant-loop-held : goal.invariant-loop-held
+invariant-loop-held l =
+    AreServed (drafted l.self l.draft) (held_after l.draft.lists l.self.active.held) (kept_of l.draft.lists l.self.active.held ++ take l.held-index l.draft.lists.fresh.items) l.told.items

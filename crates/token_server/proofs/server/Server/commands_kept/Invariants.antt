@@ -1,0 +1,9 @@
+use Rattle.std.proofs.Common.{take}
+use Rattle.token_queue.specs.Actives.{waiting_for}
+use Rattle.token_server.specs.Edits.{held_after, drafted}
+use Rattle.token_server.specs.Turns.{kept, AreServed}
+use Rattle.token_server.proofs.server.Server.commands_kept.Given as goal
+
+abbrev pub invariant-loop-place : goal.invariant-loop-place
+invariant-loop-place l =
+    AreServed (drafted l.self l.draft) (held_after l.draft.lists l.self.active.held) (kept l.draft.lists (take l.place (waiting_for l.draft.lists.ats.items l.self.active.held))) l.told.items

@@ -1,0 +1,47 @@
+use Rattle.std.specs.Prelude.{◌≡◌, ◌≤◌, List, [], ◌++◌, All}
+use Rattle.std.proofs.Common.{sym, ap, subst, ◌∙◌}
+use Rattle.intervals.specs.Bytes.{Range}
+use Rattle.token_queue.specs.declared.held.Held.{Held}
+use Rattle.token_queue.specs.declared.token_request.TokenRequest.{TokenRequest}
+use Rattle.token_queue.specs.Actives.{requests_of}
+use Rattle.token_server.specs.declared.lists.Lists.{Lists}
+use Rattle.token_server.specs.Serve.{narrowed}
+use Rattle.token_server.specs.Parts.{ServerParts}
+use Rattle.token_server.specs.Sketches.{without, still_active}
+use Rattle.token_server.specs.Told.{cut_all}
+use Rattle.token_server.proofs.CutLaws.{HasByte, IsLeft, left-start, left-all, left-exact}
+use Rattle.token_server.proofs.TurnLaws.{held_after-requests}
+use Rattle.token_server.proofs.server.Server.narrowed.Goals as goal
+
+pub returns-then-desired-required-2-clause-value : goal.returns-then-desired-required-2-clause-value
+returns-then-desired-required-2-clause-value c =
+    let same_lo = c.if-desired-required.true in
+    let same_hi = c.if-desired-required-2.true in
+    let desired_lo = ap (λ (s : Range). s.lo) (c.desired.view_is ∙ c.desired-desired.ensures.value) in
+    let desired_hi = ap (λ (s : Range). s.hi) (c.desired.view_is ∙ c.desired-desired.ensures.value) in
+    let required_lo = ap (λ (s : Range). s.lo) (c.required.view_is ∙ c.required-required.ensures.value) in
+    let required_hi = ap (λ (s : Range). s.hi) (c.required.view_is ∙ c.required-required.ensures.value) in
+    let starts : c.args.request.now.wanted.desired.lo ≡ c.args.request.now.wanted.required.lo = cc in
+    let ends : c.args.request.now.wanted.desired.hi ≡ c.args.request.now.wanted.required.hi = cc in
+    c.desired-desired.ensures.value ∙ left-exact _ c.args.request.now (rw (← c.required-required.ensures.value) c.required-required.ensures.ordered) starts ends
+
+pub returns-clause-value : goal.returns-clause-value
+returns-clause-value c =
+    let r : TokenRequest = c.args.request.now in
+    let lists : Lists = c.args.draft.now.lists in
+    let held : List Held = c.args.self.now.active.held in
+    let on : List TokenRequest = still_active lists.ended (without lists.dropped (requests_of held)) in
+    let fresh : List TokenRequest = requests_of lists.fresh.items in
+    let read : c.as_slice.result.now ≡ held = c.as_slice.ensures ∙ ap (λ (p : ServerParts). p.active.held) c.self.view_is in
+    let same : still_active lists.ended (without lists.dropped (requests_of c.as_slice.result.now)) ≡ on = ap (λ (hs : List Held). still_active lists.ended (without lists.dropped (requests_of hs))) read in
+    let first : c.cut_by-span.result ≡ cut_all r.wanted.required r.wanted.desired on =
+    c.cut_by-span.ensures.value ∙ (λ i. cut_all (c.required-required.ensures.value i) (c.desired-desired.ensures.value i) (same i)) in
+    let start : IsLeft [] r r.wanted.desired =
+    left-start r (rw (← c.required-required.ensures.value) c.required-required.ensures.ordered) (rw (← c.desired-desired.ensures.value) c.desired-desired.ensures.starts_before) (rw (← c.desired-desired.ensures.value) c.desired-desired.ensures.ends_after) in
+    let some : IsLeft on r (cut_all r.wanted.required r.wanted.desired on) = left-all [] on r r.wanted.desired (subst (All HasByte) same c.cut_by-span.ensures.ordered) start in
+    let all : IsLeft (on ++ fresh) r (cut_all r.wanted.required (cut_all r.wanted.required r.wanted.desired on) fresh) =
+    left-all on fresh r (cut_all r.wanted.required r.wanted.desired on) (subst (λ (hs : List Held). All HasByte (requests_of hs)) c.as_slice-2.ensures.value c.cut_by_all.ensures.ordered) some in
+    c.cut_by_all.ensures.value
+    ∙ (λ i. cut_all (c.required-required.ensures.value i) (first i) (requests_of (c.as_slice-2.ensures.value i)))
+    ∙ all.value
+    ∙ ap (λ (rs : List TokenRequest). narrowed rs r) (sym (held_after-requests lists held))

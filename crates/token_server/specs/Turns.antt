@@ -1,0 +1,38 @@
+-- One request after the other that is served.
+use Rattle.std.specs.Prelude.{◌≡◌, ℕ, ◌≤◌, false, List, ◌++◌, filter, All, IfSome, Option, Ok}
+use Rattle.std.specs.Option.{option_to_list}
+use Rattle.token_queue.specs.declared.held.Held.{Held}
+use Rattle.token_queue.specs.Actives.{requests_of, waiting_for}
+use Rattle.token_server.specs.declared.lists.Lists.{Lists}
+use Rattle.token_server.specs.declared.told.Told.{Told}
+use Rattle.token_server.specs.State.{ServerState}
+use Rattle.token_server.specs.Serve.{served, each_served}
+use Rattle.token_server.specs.Obstacles.{obstacle, is_idle}
+use Rattle.token_server.specs.Told.{with_told, commands_told}
+use Rattle.token_server.specs.Edits.{keeps}
+
+-- those of the requests that are served on
+abbrev pub kept : Lists → List Held → List Held
+kept l held = filter (λ h. keeps l.dropped l.ended h.request) held
+
+-- those that are served on of those that were served, each with the row that it waits for from now on
+abbrev pub kept_of : Lists → List Held → List Held
+kept_of l held = kept l (waiting_for l.ats.items held)
+
+-- after those nodes were told, the request is served: the node whose row it waits for is told something if it can be, and no command may go to it then
+pub record IsTurn (s : ServerState) (h : Held) (before after : List Told) : Type 0 where
+  pub next : Option Told
+  pub made : after ≡ before ++ option_to_list next
+  pub node : IfSome next (λ t. 1 ≤ t.node)
+  pub comes : served (with_told before s) h.request ≡ Ok (with_told (before ++ option_to_list next) s, commands_told (option_to_list next))
+  pub busy : is_idle ((with_told (before ++ option_to_list next) s).rows h.at) ≡ false
+  pub order : h.request.wanted.required.lo ≤ h.request.wanted.required.hi
+  pub starts : h.request.wanted.desired.lo ≤ h.request.wanted.required.lo
+  pub ends : h.request.wanted.required.hi ≤ h.request.wanted.desired.hi
+
+-- those of all requests are served so far, and what comes of it was told: each waits for the row for which it waited, and to none of the nodes for whose rows those wait may a command go
+pub record AreServed (s : ServerState) (all done : List Held) (told : List Told) : Type 0 where
+  pub comes : each_served (requests_of done) s ≡ Ok (with_told told s, commands_told told)
+  pub nodes : All (λ t. 1 ≤ t.node) told
+  pub waits : All (λ h. obstacle (with_told told s) h.request ≡ h.at) all
+  pub quiet : All (λ h. is_idle ((with_told told s).rows h.at) ≡ false) done
