@@ -72,27 +72,52 @@ judge 'a script from standard input' 0 $? first.listing came.out none came.err
 { cat empty.lock; for _ in $(seq 25000); do echo settle; done; } | head -c 200001 | sed '$d' >long.lock
 try 'a script of 200,000 bytes' 0 empty.listing none run long.lock
 
+cp first.lock ./--journal
+try 'a script whose name is an option' 0 first.listing none run -- --journal
+rm ./--journal
+timeout 120 bash -c 'exec -a "" "$0" run first.lock' "$program" >came.out 2>came.err </dev/null
+judge 'a program without a name' 0 $? first.listing came.out none came.err
+
 # The words.
 try_text 'no words' 2 err 'Usage: lockreplay'
 try_text 'another command' 2 err 'Usage: lockreplay' walk first.lock
 try_text 'no script' 2 err 'Usage: lockreplay' run
 try_text 'two scripts' 2 err 'Usage: lockreplay' run first.lock first.lock
 try_text 'an unknown option' 2 err 'Usage: lockreplay' run --fast first.lock
+try_text 'a journal without its script' 2 err 'Usage: lockreplay' run --journal new.journal
+try_text 'an option before the command' 2 err 'Usage: lockreplay' --journal new.journal run first.lock
+try_text 'a journal left out' 2 err "a value is required for '--journal <FILE>'" run first.lock --journal
+try_text 'two journals' 2 err "'--journal <FILE>' cannot be used multiple times" \
+    run --journal new.journal --journal other.journal first.lock
+for command in audit history; do
+    try_text "no journal for $command" 2 err 'Usage: lockreplay' "$command"
+    try_text "two journals for $command" 2 err 'Usage: lockreplay' "$command" new.journal other.journal
+    try_text "help on $command" 0 out 'Usage: lockreplay ' help "$command"
+done
+try_text 'an option for audit' 2 err 'Usage: lockreplay' audit --journal new.journal
+try_text 'long help on audit' 0 out 'audit no K' audit --help
+try_text 'long help on history' 0 out 'Usage: lockreplay history' history --help
 try_text 'no such topic' 2 err 'walk' help walk
 echo 'a word of the command line is not UTF-8' >not-text
 try 'a name that is not UTF-8' 2 none not-text run $'\xff.lock'
 try_text 'short help' 0 out 'Usage: lockreplay' -h
 try_text 'long help' 0 out 'Exit status:' --help
+try_text 'the usage in the long help' 0 out 'Usage: lockreplay' --help
+try_text 'the journal in the long help' 0 out 'lockreplay run SCRIPT --journal FILE' --help
 try_text 'help on run' 0 out 'cluster nodes N files F policy P' help run
 try_text 'long help on run' 0 out 'cluster nodes N files F policy P' run --help
 try_text 'short help on run' 0 out 'Usage: lockreplay run' run -h
 try_text 'help on threads' 0 out 'receipts K' help threads
+try_text 'the usage in the help on run' 0 out 'Usage: lockreplay ' help run
+try_text 'the usage in the help on threads' 0 out 'Usage: lockreplay ' help threads
 try_text 'no script for threads' 2 err 'Usage: lockreplay threads' threads
 try_text 'two scripts for threads' 2 err 'Usage: lockreplay threads' threads first.lock first.lock
 try_text 'a seed below 0' 2 err "'-1'" threads first.lock --seed -1
-try_text 'a seed that is too great' 2 err "'--seed <N>'" threads first.lock --seed 4294967296
-try_text 'a seed that is no number' 2 err "'--seed <N>'" threads first.lock --seed many
-try_text 'a seed left out' 2 err "'--seed <N>'" threads first.lock --seed
+try_text 'a seed that is too great' 2 err "for '--seed <N>'" threads first.lock --seed 4294967296
+for seed in many '' 1.5; do
+    try_text "a seed that is no number: $seed" 2 err "for '--seed <N>'" threads first.lock --seed "$seed"
+done
+try_text 'a seed left out' 2 err "a value is required for '--seed <N>'" threads first.lock --seed
 try_text 'a seed for run' 2 err 'Usage: lockreplay run' run first.lock --seed 1
 try_text 'the version' 0 out 'lockreplay 0.1.0' --version
 
@@ -117,6 +142,124 @@ try 'a bad line' 3 none bad-line run bad.lock
 : >nothing.lock
 echo 'bad line 1' >first-bad
 try 'an empty file' 3 none first-bad run nothing.lock
+
+# The first line that is no line of a script is told. In the texts are escapes, as of a blank at the end of a line.
+try_bad_line() {
+    printf '%b' "$3" >wrong.lock
+    echo "bad line $2" >wrong
+    try "$1 with a bad line: $3" 3 none wrong "$1" wrong.lock
+}
+shape='cluster nodes 1 files 1 policy wide\n'
+try_bad_line run 1 ''
+try_bad_line run 2 '\n'
+try_bad_line run 4 '# none\n\n# at all\n'
+try_bad_line run 1 '# unfinished'
+try_bad_line run 2 '\n# unfinished'
+try_bad_line run 1 'cluster nodes 1 files 1 policy wide'
+try_bad_line run 2 "${shape}settle"
+try_bad_line run 1 "settle\n${shape}"
+try_bad_line run 5 "\n#\n${shape}\nsettle \nunfinished"
+while IFS= read -r line; do
+    try_bad_line run 1 "$line\nsettle\n"
+done <<'END'
+settle
+Cluster nodes 1 files 1 policy wide
+cluster
+cluster nodes 0 files 1 policy wide
+cluster nodes 65 files 1 policy wide
+cluster nodes 01 files 1 policy wide
+cluster nodes +1 files 1 policy wide
+cluster nodes 1 files 0 policy wide
+cluster nodes 1 files 257 policy wide
+cluster nodes 1 files 1 policy narrow
+cluster nodes 1 files 1 policy wide wide
+cluster nodes 1 files 1 policy wide\x20
+cluster  nodes 1 files 1 policy wide
+cluster nodes 1\tfiles 1 policy wide
+cluster nodes 1 files 1 policy wide\r
+cluster files 1 nodes 1 policy wide
+cluster nodes 1 files 1
+END
+while IFS= read -r line; do
+    try_bad_line run 2 "$shape$line\nsettle\n"
+done <<'END'
+cluster nodes 1 files 1 policy wide
+Settle
+settle\x20
+\x20settle
+settle 1
+call
+call 1 1
+call 1 1\x20
+call  1 1 spawn
+call 1 1 spawn\x20
+call 0 1 spawn
+call 65 1 spawn
+call 1 0 spawn
+call 1 257 spawn
+call 1 300 spawn
+call 1 01 spawn
+call 1 +1 spawn
+call\t1 1 spawn
+call 1 1\tspawn
+call 1 1 Spawn
+call 01 1 spawn
+call +1 1 spawn
+call -1 1 spawn
+call 1 18446744073709551617 spawn
+call 1 1 open 0 rw
+call 1 1 open 257 rw
+call 1 1 open 1
+call 1 1 open 1 wr
+call 1 1 open 1 x
+call 1 1 open 1 rw\x20
+call 1 1 set 256 proc write 0 1
+call 1 1 set 0 file write 0 1
+call 1 1 set 0 proc shared 0 1
+call 1 1 set 0 proc write -0 1
+call 1 1 set 0 proc write 00 1
+call 1 1 set 0 proc write +1 1
+call 1 1 set 0 proc write 9223372036854775808 1
+call 1 1 set 0 proc write 0 -9223372036854775809
+call 1 1 set 0 proc write 0
+call 1 1 set 0 proc write 0 1 2
+call 1 1 unlock 0 proc write 0 1
+call 1 1 unlock 0 file 0 1
+call 1 1 query 0 proc shared 0 1
+call 1 1 query 0 proc 0 1
+call 1 1 query 0 file write 0 1
+call 1 1 query 256 proc write 0 1
+call 1 1 query 0 proc write 0 1\x20
+call 1 1 fork
+call 1 1 fork 0
+call 1 1 fork 257
+call 1 1 dup 256
+call 1 1 close
+call 1 1 exit 0
+call 1 1 wait
+call 1 1 wait 256 proc write 0 1
+call 1 1 wait 0 proc write 0
+deliver
+deliver 0
+deliver 01
+deliver 4294967296
+deliver 1 1
+lose
+lose 0
+lose +1
+lose 4294967296
+retry 1
+retry 0 1
+retry 65 1
+retry 1 257
+retry 1 1 1
+resend 0
+resend 257
+resend 1\x20
+interrupt 1
+interrupt 65 1
+interrupt 1 257
+END
 
 # The output.
 timeout 120 "$program" run first.lock >&- 2>came.err
@@ -170,7 +313,16 @@ rm written.journal
 try 'the option before the script' 0 first.listing none run --journal written.journal first.lock
 cmp -s first.journal written.journal
 judge 'the journal that it writes then' 0 $? none none none none
+rm written.journal
+try 'the option with =' 0 first.listing none run --journal=written.journal first.lock
+cmp -s first.journal written.journal
+judge 'the journal that it writes with =' 0 $? none none none none
+rm written.journal
+try 'the option with = behind the script' 0 first.listing none run first.lock --journal=written.journal
+cmp -s first.journal written.journal
+judge 'the journal that it writes with = behind the script' 0 $? none none none none
 try 'an audit of it' 0 yes none audit written.journal
+try 'an audit of it behind --' 0 yes none audit -- written.journal
 try 'its history' 0 first.history none history written.journal
 cat first.journal first.journal >written.journal
 try 'a run with its journal in the place of a longer file' 0 first.listing none run first.lock --journal written.journal
@@ -276,6 +428,57 @@ for files in 1 64; do
     try "an audit of a crowd on $files files" 0 yes none audit crowd.journal
 done
 
+# Calls one after the other, none of which sends a message, come to the same on each run.
+{
+    cat empty.lock
+    printf 'call 1 1 spawn\nsettle\ncall 1 2 exit\ncall 2 1 spawn\n'
+} >in-turn.lock
+cat >in-turn.listing <<'END'
+refused
+line 5 code 14
+replies
+      1 1.1.1            done
+      2 1.1.2            no-process
+tokens
+locks
+history
+      1 1.1.1            1 spawn -> done
+      2 1.1.2            2 exit -> no-process
+receipts 2
+audit yes
+END
+cat >in-turn.journal <<'END'
+journal 1 nodes 1 files 1 policy wide
+entry 1 call 1.1.1 1 spawn
+reply 1.1.1 done
+entry 2 call 1.1.2 2 exit
+reply 1.1.2 no-process
+end 2
+END
+try 'calls in turn on threads' 0 in-turn.listing none threads in-turn.lock
+try 'calls in turn on threads, with their journal' 0 in-turn.listing none threads in-turn.lock --journal threads.journal
+cmp -s in-turn.journal threads.journal
+judge 'the journal of calls in turn' 0 $? none none none none
+
+# The first line that is no line of a script, or that threads do not take, is told.
+try_bad_line threads 4 "${shape}settle\n# 3\nresend 1\n"
+try_bad_line threads 2 "${shape}lose 1\nsettled\n"
+try_bad_line threads 2 "${shape}settled\nlose 1\n"
+try_bad_line threads 3 "${shape}settle\nsettled\n"
+try_bad_line threads 2 '# 1\nlose 1\nlose 1\n'
+try_bad_line threads 2 "${shape}retry 1 1\nsettle"
+try_bad_line threads 2 "${shape}learn 1 1 1\n"
+try_bad_line threads 2 "${shape}deliver 1\n"
+try_bad_line threads 2 "${shape}interrupt 1 1\n"
+try_bad_line threads 1 ''
+try_bad_line threads 3 "${shape}call 1 1 spawn\nretry 1 1\nresend 1\n"
+try_bad_line threads 4 "${shape}# none\n\nlose 1\nfoo\n"
+try_bad_line threads 3 "${shape}settle\nfoo\nlose 1\n"
+try_bad_line threads 3 "${shape}settle\nlose 1"
+try_bad_line threads 2 "${shape}lose 1\nsettle"
+printf 'cluster nodes 2 files 1 policy wide\ncall 1 1 spawn\nsettle\ndeclare 2\nrestart 2\n' >taken.lock
+try_text 'lines that threads take' 0 out 'receipts 1' threads taken.lock
+
 sed 's/^settle$/resend 1/' first.lock >resend.lock
 echo 'bad line 5' >bad-resend
 try 'a line that threads do not take' 3 none bad-resend threads resend.lock --journal kept.journal
@@ -315,6 +518,9 @@ try_journal 'a journal with a command that was never sent' 1 no-6 none
 echo 'audit no 4' >no-4
 sed 's/^send grant 1 1 1.1.3 write /send grant 1 1 1.1.3 read /' first.journal >changed.journal
 try_journal 'a journal with another grant' 1 no-4 none
+echo 'audit no 2' >no-2
+sed 's/^reply 1.1.2 fd 0/reply 1.1.2 fd 1/' first.journal >changed.journal
+try_journal 'a journal with another descriptor' 1 no-2 none
 sed 's/^reply 1.1.4 done/reply 1.1.4 no-locks/' first.journal >changed.journal
 echo 'audit no 7' >no-7
 try_journal 'a journal with another reply' 1 no-7 none

@@ -136,15 +136,79 @@ pub fn with_cluster<
     ensures one_table { IfOk result (λ made. HasOneHistory made.1.shape made.1.entries) }
 {
     let (book, seats) = Book::new(alloc, shape)?;
+    let begun = begin(alloc, shape, seats, weathers)?;
+    let book = Mutex::new(book);
+    match run_begun(rt, gate, shape, &book, begun, body) {
+        Some(made) => Ok((made, book.into_inner().into_journal())),
+        None => Err(AllocError),
+    }
+}
+
+// What a cluster begins with beside its book: a mailbox and a worker for each actor, nodes
+// first, and a place for each node.
+#[derive(Drop)]
+struct Begun<W: Weather> {
+    alloc: Global,
+    mailboxes: Vec<Mailbox>,
+    workers: Vec<Worker<W>>,
+    places: Vec<Mutex<Place>>,
+}
+
+// What a cluster of the shape begins with on these seats.
+fn begin<W: Weather>(
+    alloc: Global,
+    shape: Shape,
+    seats: Vec<Seat>,
+    weathers: Vec<W>,
+) -> Result<Begun<W>, AllocError>
+    ensures mailboxes { IfOk result (λ begun. length begun.mailboxes.items ≡ length seats.items) }
+    ensures places { IfOk result (λ begun. length begun.places.items ≡ shape.nodes) }
+{
+    let (mailboxes, workers) = posts_of(alloc, seats, weathers)?;
+    Ok(Begun {
+        alloc,
+        mailboxes,
+        workers,
+        places: places_of(alloc, shape.nodes())?,
+    })
+}
+
+// A mailbox and a worker for each seat, which meets that weather.
+fn posts_of<W: Weather>(
+    alloc: Global,
+    seats: Vec<Seat>,
+    weathers: Vec<W>,
+) -> Result<(Vec<Mailbox>, Vec<Worker<W>>), AllocError>
+    ensures { IfOk result (λ made. length made.0.items ≡ length seats.items) }
+{
     let (mailboxes, inboxes) = mailboxes_of(alloc, seats.len())?;
     let workers = workers_of(alloc, seats, weathers, inboxes)?;
-    let places = places_of(alloc, shape.nodes())?;
-    let book = Mutex::new(book);
+    Ok((mailboxes, workers))
+}
+
+// Runs a cluster of the shape on the book for as long as the body does.
+fn run_begun<
+    G: Gate + Sync,
+    W: Weather + Send,
+    R: Threads + Wait + Clock + Sync,
+    T,
+    F: FnOnce(&Cluster<'_>) -> T,
+>(rt: &R, gate: &G, shape: Shape, book: &Mutex<Book>, begun: Begun<W>, body: F) -> Option<T>
+    requires mailboxes { shape.nodes ≤ length begun.mailboxes.items }
+    requires places { length begun.places.items ≡ shape.nodes }
+    requires body { F.IsAlwaysCallable body }
+{
+    let Begun {
+        alloc,
+        mailboxes,
+        workers,
+        places,
+    } = begun;
     let stop = AtomicU64::new(0);
     let working = AtomicU64::new(0);
     let shared = Shared {
         alloc,
-        book: &book,
+        book,
         gate,
         nodes: shape.nodes(),
         mailboxes: mailboxes.as_slice(),
@@ -155,15 +219,11 @@ pub fn with_cluster<
     let cluster = Cluster {
         alloc,
         nodes: shape.nodes(),
-        book: &book,
+        book,
         mailboxes: mailboxes.as_slice(),
         places: places.as_slice(),
     };
-    let made = run_scope(rt, &shared, workers, &cluster, body);
-    match made {
-        Some(made) => Ok((made, book.into_inner().into_journal())),
-        None => Err(AllocError),
-    }
+    run_scope(rt, &shared, workers, &cluster, body)
 }
 
 // Starts the threads, calls the body and stops the threads.
@@ -204,14 +264,26 @@ fn start_all<
     }
     let mut all = true;
     for worker in workers {
-        shared.working.fetch_add(1, Ordering::SeqCst);
-        let started = scope.spawn(move || worker.work(rt, shared));
-        if started.is_err() {
-            shared.working.fetch_sub(1, Ordering::SeqCst);
+        if !start(scope, rt, shared, worker) {
             all = false;
         }
     }
     all
+}
+
+// Starts a worker. False where its thread can't be made.
+fn start<'s, 'b: 's, E, G: Gate + Sync, W: Weather + Send + 's, R: Threads + Wait + Clock + Sync>(
+    scope: &Scope<'s, E>,
+    rt: &'s R,
+    shared: &'s Shared<'b, G>,
+    worker: Worker<W>,
+) -> bool {
+    shared.working.fetch_add(1, Ordering::SeqCst);
+    let started = scope.spawn(move || worker.work(rt, shared)).is_ok();
+    if !started {
+        shared.working.fetch_sub(1, Ordering::SeqCst);
+    }
+    started
 }
 
 // So many mailboxes, and where the letters of each come out.

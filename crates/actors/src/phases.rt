@@ -80,17 +80,25 @@ impl<'a, 'b> Phases<'a, 'b> {
 
     // Puts a call into the phase. It is refused where its process can have no client.
     fn add<R: Wait>(&mut self, rt: &R, line: u32, node: u8, pid: u16, op: Op) -> Result<(), Stop> {
-        for part in self.parts.iter_mut() {
-            if part.client.is_of(node, pid) {
-                part.calls.push((line, op))?;
-                return Ok(());
-            }
+        if self.add_to_part(line, node, pid, op)? {
+            return Ok(());
         }
         match self.client(rt, node, pid) {
             Ok(client) => self.begin(client, line, op),
             Err(CallError::NoMemory) => Err(Stop::NoMemory),
             Err(why) => self.outcomes.refuse(line, why.number()),
         }
+    }
+
+    // Puts a call into the part that its process has in the phase. Whether it has one.
+    fn add_to_part(&mut self, line: u32, node: u8, pid: u16, op: Op) -> Result<bool, Stop> {
+        for part in self.parts.iter_mut() {
+            if part.client.is_of(node, pid) {
+                part.calls.push((line, op))?;
+                return Ok(true);
+            }
+        }
+        Ok(false)
     }
 
     // The client of the process: the one that it has, or else a new one.

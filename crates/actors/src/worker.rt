@@ -67,17 +67,23 @@ impl<W: Weather> Worker<W> {
     pub(crate) fn work<G: Gate, R: Wait>(self, rt: &R, shared: &Shared<'_, G>) {
         let mut worker = self;
         for _ in rt.forever() {
-            let Ok(letter) = worker.inbox.recv(rt) else {
+            let Some(letter) = worker.next_letter(rt, shared) else {
                 break;
             };
-            if shared.stop.load(Ordering::SeqCst) != 0 {
-                break;
-            }
             worker.change_seats(rt, shared);
             worker.take(rt, shared, letter);
             worker.ask_for_tick(shared);
         }
         shared.working.fetch_sub(1, Ordering::SeqCst);
+    }
+
+    // The next letter; none where there will be no more, or the workers are to stop.
+    fn next_letter<G: Gate, R: Wait>(&self, rt: &R, shared: &Shared<'_, G>) -> Option<Letter> {
+        let letter = self.inbox.recv(rt).ok()?;
+        if shared.stop.load(Ordering::SeqCst) != 0 {
+            return None;
+        }
+        Some(letter)
     }
 
     // Takes the seat of a new incarnation, if there is one.
@@ -142,33 +148,50 @@ impl<W: Weather> Worker<W> {
             seen,
             back,
         } = question;
-        if let Err(why) = self.admit(process) {
-            answer(rt, &back, Err(why));
-            return;
+        match self.begin(rt, shared, process, op, seen.as_ref()) {
+            Ok(stamp) => {
+                self.open(rt, process.pid, stamp, back);
+                if may_release(&op) {
+                    self.retry_all(rt, shared, process.node, Cause::Release);
+                }
+            }
+            Err(why) => answer(rt, &back, Err(why)),
         }
+    }
+
+    // The node takes a call of the process, for which there is room then, and its messages are sent.
+    fn begin<G: Gate, R: Wait>(
+        &mut self,
+        rt: &R,
+        shared: &Shared<'_, G>,
+        process: Process,
+        op: Op,
+        seen: Option<&Mark>,
+    ) -> Result<Stamp, CallError>
+        ensures { OnOk result (vec_len self.new.waiting.calls < vec_capacity self.new.waiting.calls) }
+    {
+        self.admit(process)?;
         let event = Event::Call {
             node: process.node,
             pid: process.pid,
             op,
         };
-        let stamp = match commit_step(rt, shared, &mut self.seat, event, seen.as_ref()) {
-            Ok(stamp) => stamp,
-            Err(why) => {
-                answer(rt, &back, Err(why));
-                return;
-            }
-        };
+        let stamp = commit_step(rt, shared, &mut self.seat, event, seen)?;
         self.outgoing.send_all(rt, shared, &stamp);
+        Ok(stamp)
+    }
+
+    // The process has made the call of this step, which is answered or open from here on.
+    fn open<R: Wait>(&mut self, rt: &R, pid: u16, stamp: Stamp, back: Sender<Answer>)
+        requires { vec_len self.old.waiting.calls < vec_capacity self.old.waiting.calls }
+    {
         // A process that has an open call only exits, which ends the call without a reply.
-        if let Some(ended) = self.waiting.take_of(process.pid) {
+        if let Some(ended) = self.waiting.take_of(pid) {
             answer(rt, &ended.back, Err(CallError::Killed));
         }
         match Receipt::of(&stamp, &stamp) {
             Some(receipt) => answer(rt, &back, Ok(receipt)),
-            None => self.waiting.add(OpenCall::new(process.pid, stamp, back)),
-        }
-        if may_release(&op) {
-            self.retry_all(rt, shared, process.node, Cause::Release);
+            None => self.waiting.add(OpenCall::new(pid, stamp, back)),
         }
     }
 
@@ -245,14 +268,18 @@ impl<W: Weather> Worker<W> {
         if !self.resends.pass_tick() {
             return;
         }
-        let Ok(prepared) = self.seat.prepare(shared.alloc, Event::Resend { file }) else {
-            return;
-        };
+        if let Ok(prepared) = self.seat.prepare(shared.alloc, Event::Resend { file }) {
+            self.send_again(rt, shared, prepared);
+        }
+    }
+
+    // The server sends what it prepared, if that is anything.
+    fn send_again<G: Gate, R: Wait>(&mut self, rt: &R, shared: &Shared<'_, G>, prepared: Prepared)
+        requires { Names prepared self.old.seat → IsStepFrom self.old.seat prepared }
+    {
         if prepared.outcome().sends.is_empty() {
             self.resends.end();
-            return;
-        }
-        if let Ok(stamp) = commit(rt, shared, &mut self.seat, prepared, None) {
+        } else if let Ok(stamp) = commit(rt, shared, &mut self.seat, prepared, None) {
             self.outgoing.send_all(rt, shared, &stamp);
         }
     }
@@ -266,14 +293,19 @@ impl<W: Weather> Worker<W> {
     ) -> Result<(), CallError> {
         let stamp = commit_step(rt, shared, &mut self.seat, event, None)?;
         self.outgoing.send_all(rt, shared, &stamp);
-        if let Some((call, receipt)) = self.waiting.take_answered(&stamp) {
-            answer(rt, &call.back, Ok(receipt));
-        }
+        self.answer_by(rt, &stamp);
         match self.seat.actor() {
             Actor::Node(_) => self.waiting.note(&stamp),
             Actor::Server(_) => self.resends.note(&event),
         }
         Ok(())
+    }
+
+    // The call that the step answers gets its receipt.
+    fn answer_by<R: Wait>(&mut self, rt: &R, stamp: &Stamp) {
+        if let Some((call, receipt)) = self.waiting.take_answered(stamp) {
+            answer(rt, &call.back, Ok(receipt));
+        }
     }
 
     // Each open call ends where the refusal says that no step of the seat is taken any more.

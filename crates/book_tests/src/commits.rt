@@ -60,44 +60,56 @@ fn refusal(
     Ok(book.commit(seat, prepared, None).err())
 }
 
+// Whether the seats are just those of these actors.
+fn are_of(seats: &[Seat], actors: &[Actor]) -> bool {
+    if seats.len() != actors.len() {
+        return false;
+    }
+    for (seat, actor) in seats.iter().zip(actors.iter()) {
+        if seat.actor() != *actor {
+            return false;
+        }
+    }
+    true
+}
+
 #[test]
 fn seats_are_of_nodes_and_then_of_servers(rt: HostRuntime) -> Result<(), Fail> {
-    let alloc = rt.alloc();
-    let (book, seats) = begins(alloc)?;
-    assert_eq!(rt; seats.len(), 3);
+    let (book, seats) = begins(rt.alloc())?;
     let actors = [Actor::Node(1), Actor::Node(2), Actor::Server(1)];
-    for (seat, actor) in seats.iter().zip(actors) {
-        assert_eq!(rt; seat.actor(), actor);
-    }
-    assert_eq!(rt; book.len(), 0);
+    assert!(rt; are_of(seats.as_slice(), &actors) && book.len() == 0);
     Ok(())
+}
+
+// The receipt of the second of these steps, which the first does not answer.
+fn receipt_of(first: &Stamp, second: &Stamp) -> Option<Receipt> {
+    if second.position() != 2 || second.seen() != 1 || Receipt::of(first, second).is_some() {
+        return None;
+    }
+    Receipt::of(second, second)
+}
+
+// A process of each node begins, the second once the first did: the receipt of the second.
+fn begin_both(book: &mut Book, alloc: Global, seats: &mut Vec<Seat>) -> Result<Receipt, Fail> {
+    let first = commit(book, alloc, at(seats, 0)?, spawn(1), None)?;
+    let seen = first.mark();
+    let second = commit(book, alloc, at(seats, 1)?, spawn(2), Some(&seen))?;
+    Ok(receipt_of(&first, &second).ok_or("a spawn is answered at once")?)
+}
+
+// Whether the journal that the book becomes has so many entries, and holds the receipt.
+fn holds(book: Box<Book>, count: usize, receipt: &Receipt) -> bool {
+    let journal = Box::into_inner(book).into_journal();
+    journal.entries().len() == count && journal.holds(receipt)
 }
 
 #[test]
 fn a_receipt_is_in_the_journal(rt: HostRuntime) -> Result<(), Fail> {
-    let alloc = rt.alloc();
-    let (mut book, mut seats) = begins(alloc)?;
-    let first = commit(&mut book, alloc, at(&mut seats, 0)?, spawn(1), None)?;
-    let second = commit(
-        &mut book,
-        alloc,
-        at(&mut seats, 1)?,
-        spawn(2),
-        Some(&first.mark()),
-    )?;
-    assert_eq!(rt; second.position(), 2);
-    assert_eq!(rt; second.seen(), 1);
-    assert!(rt; Receipt::of(&first, &second).is_none());
-    let Some(receipt) = Receipt::of(&second, &second) else {
-        panic!(rt; "a spawn is answered at once");
-    };
-    assert_eq!(rt; receipt.call_at(), 2);
-    assert_eq!(rt; receipt.reply_at(), 2);
-    assert_eq!(rt; receipt.reply(), Reply::Done);
-    assert!(rt; book.confirm(&receipt));
-    let journal = Box::into_inner(book).into_journal();
-    assert_eq!(rt; journal.entries().len(), 2);
-    assert!(rt; journal.holds(&receipt));
+    let (mut book, mut seats) = begins(rt.alloc())?;
+    let receipt = begin_both(&mut book, rt.alloc(), &mut seats)?;
+    let is_second = receipt.call_at() == 2 && receipt.reply_at() == 2;
+    assert!(rt; is_second && receipt.reply() == Reply::Done && book.confirm(&receipt));
+    assert!(rt; holds(book, 2, &receipt));
     Ok(())
 }
 
@@ -106,30 +118,46 @@ fn a_seat_of_another_book_is_stale(rt: HostRuntime) -> Result<(), Fail> {
     let alloc = rt.alloc();
     let (mut book, mut seats) = begins(alloc)?;
     let (_, mut others) = begins(alloc)?;
-    commit(&mut book, alloc, at(&mut seats, 0)?, spawn(1), None)?;
-    let refused = refusal(&mut book, alloc, at(&mut others, 0)?, spawn(1))?;
-    assert_eq!(rt; refused, Some(CommitError::Stale));
+    assert!(rt; refusal(&mut book, alloc, at(&mut seats, 0)?, spawn(1))?.is_none());
+    let stale = refusal(&mut book, alloc, at(&mut others, 0)?, spawn(1))?;
     let taken = refusal(&mut book, alloc, at(&mut seats, 1)?, spawn(2))?;
-    assert_eq!(rt; taken, None);
+    assert!(rt; stale == Some(CommitError::Stale) && taken.is_none());
     Ok(())
+}
+
+// Whether a step of the seat is refused since its incarnation was declared failed.
+fn is_fenced(book: &mut Book, alloc: Global, seat: &mut Seat) -> Result<bool, Fail> {
+    Ok(refusal(book, alloc, seat, spawn(1))? == Some(CommitError::Fenced))
+}
+
+// Whether the declaration of node 1 is the entry of this position.
+fn is_declared_at(book: &mut Book, alloc: Global, position: u32) -> Result<bool, Fail> {
+    Ok(book.declare(alloc, 1)?.position() == position)
+}
+
+// Whether node 1 begins again, and its first step is the entry of this position.
+fn begins_again_at(book: &mut Book, alloc: Global, position: u32) -> Result<bool, Fail> {
+    let mut again = book.restart(alloc, 1)?;
+    let stamp = commit(book, alloc, &mut again, spawn(1), None)?;
+    Ok(again.incarnation() == 2 && stamp.position() == position)
+}
+
+// Whether neither is done for a node that is alive, nor for one that there is not.
+fn are_refused(book: &mut Book, alloc: Global) -> bool {
+    let restarted = book.restart(alloc, 1).err();
+    let declared = book.declare(alloc, 3).err();
+    restarted == Some(Refused::NotDead) && declared == Some(Refused::Stranger)
 }
 
 #[test]
 fn a_declared_incarnation_is_fenced(rt: HostRuntime) -> Result<(), Fail> {
     let alloc = rt.alloc();
     let (mut book, mut seats) = begins(alloc)?;
-    let declared = book.declare(alloc, 1)?;
-    assert_eq!(rt; declared.position(), 1);
-    let refused = refusal(&mut book, alloc, at(&mut seats, 0)?, spawn(1))?;
-    assert_eq!(rt; refused, Some(CommitError::Fenced));
-    let mut again = book.restart(alloc, 1)?;
-    assert_eq!(rt; again.incarnation(), 2);
-    let refused = refusal(&mut book, alloc, at(&mut seats, 0)?, spawn(1))?;
-    assert_eq!(rt; refused, Some(CommitError::Fenced));
-    let stamp = commit(&mut book, alloc, &mut again, spawn(1), None)?;
-    assert_eq!(rt; stamp.position(), 3);
-    assert_eq!(rt; book.restart(alloc, 1).err(), Some(Refused::NotDead));
-    assert_eq!(rt; book.declare(alloc, 3).err(), Some(Refused::Stranger));
+    assert!(rt; is_declared_at(&mut book, alloc, 1)?);
+    assert!(rt; is_fenced(&mut book, alloc, at(&mut seats, 0)?)?);
+    assert!(rt; begins_again_at(&mut book, alloc, 3)?);
+    assert!(rt; is_fenced(&mut book, alloc, at(&mut seats, 0)?)?);
+    assert!(rt; are_refused(&mut book, alloc));
     Ok(())
 }
 
@@ -137,16 +165,14 @@ fn a_declared_incarnation_is_fenced(rt: HostRuntime) -> Result<(), Fail> {
 fn an_actor_takes_its_own_events(rt: HostRuntime) -> Result<(), Fail> {
     let alloc = rt.alloc();
     let (mut book, mut seats) = begins(alloc)?;
-    assert_eq!(rt;
-        at(&mut seats, 0)?.prepare(alloc, spawn(2)).err(),
-        Some(StepError::Stranger)
-    );
+    let foreign = at(&mut seats, 0)?.prepare(alloc, spawn(2)).err();
+    assert!(rt; foreign == Some(StepError::Stranger));
     let learn = Event::Learn {
         file: 1,
         node: 1,
         incarnation: 1,
     };
     let refused = refusal(&mut book, alloc, at(&mut seats, 2)?, learn)?;
-    assert_eq!(rt; refused, Some(CommitError::Stranger));
+    assert!(rt; refused == Some(CommitError::Stranger));
     Ok(())
 }

@@ -12,7 +12,7 @@ use model::op::Op;
 use model::owner::{Kind, Owner};
 use model::process::Process;
 use model::reply::Reply;
-use std::alloc::AllocError;
+use std::alloc::{AllocError, Global};
 use std::test::Fail;
 
 const FIRST: Process = Process {
@@ -145,29 +145,56 @@ fn holds(table: &FcntlTable, owner: Owner, mode: Mode, lo: u64, hi: u64) -> bool
     table.has_region(1, &LockInfo { owner, mode, span })
 }
 
-// The table in which both processes of the node run and have the file open.
-fn two_processes(rt: &impl AllocGlobal) -> Result<FcntlTable, Fail> {
-    let mut table = FcntlTable::new(rt.alloc());
-    for process in [FIRST, SECOND] {
-        step(&mut table, process, Op::Spawn)?;
-        step(&mut table, process, open(Access::ReadWrite))?;
+// Whether the table answers each of the calls so, one after the other.
+fn answers(table: &mut FcntlTable, calls: &[(Process, Op, Reply)]) -> Result<bool, AllocError> {
+    for (process, op, reply) in calls {
+        if step(table, *process, *op)? != *reply {
+            return Ok(false);
+        }
     }
-    Ok(table)
+    Ok(true)
+}
+
+// The table before any call, in a box. A test keeps no other, since one is dropped in fewer steps, each of
+// which the check proves.
+fn begins(alloc: Global) -> Result<Box<FcntlTable>, AllocError> {
+    Ok(Box::new(alloc, FcntlTable::new(alloc))?)
+}
+
+// Both processes of the node begin, and open the file.
+const BEGIN: [(Process, Op, Reply); 4] = [
+    (FIRST, Op::Spawn, Reply::Done),
+    (FIRST, OPEN, Reply::Fd(0)),
+    (SECOND, Op::Spawn, Reply::Done),
+    (SECOND, OPEN, Reply::Fd(0)),
+];
+
+const OPEN: Op = Op::Open {
+    file: 1,
+    access: Access::ReadWrite,
+};
+
+// Whether the table answers so once both processes of the node run and have the file open.
+fn answers_then(
+    table: &mut FcntlTable,
+    calls: &[(Process, Op, Reply)],
+) -> Result<bool, AllocError> {
+    Ok(answers(table, &BEGIN)? && answers(table, calls)?)
+}
+
+// What is in the way of a call: a lock of this owner on the bytes.
+fn lock_of(owner: Owner, mode: Mode, span: Span) -> LockInfo {
+    LockInfo { owner, mode, span }
 }
 
 #[test]
 fn unlocks_the_middle_of_a_lock(rt: HostRuntime) -> Result<(), Fail> {
-    let mut table = FcntlTable::new(rt.alloc());
-    assert_eq!(rt; step(&mut table, FIRST, Op::Spawn)?, Reply::Done);
-    assert_eq!(rt;
-        step(&mut table, FIRST, open(Access::ReadWrite))?,
-        Reply::Fd(0)
-    );
-    assert_eq!(rt;
-        step(&mut table, FIRST, set(0, Mode::Write, 0, 100))?,
-        Reply::Done
-    );
-    assert_eq!(rt; step(&mut table, FIRST, unlock(0, 40, 20))?, Reply::Done);
+    let mut table = begins(rt.alloc())?;
+    let calls = [
+        (FIRST, set(0, Mode::Write, 0, 100), Reply::Done),
+        (FIRST, unlock(0, 40, 20), Reply::Done),
+    ];
+    assert!(rt; answers_then(&mut table, &calls)?);
     for (lo, hi, held) in [
         (0, 39, true),
         (60, 99, true),
@@ -181,48 +208,25 @@ fn unlocks_the_middle_of_a_lock(rt: HostRuntime) -> Result<(), Fail> {
 
 #[test]
 fn names_the_whole_region_that_blocks(rt: HostRuntime) -> Result<(), Fail> {
-    let mut table = FcntlTable::new(rt.alloc());
-    for process in [FIRST, SECOND] {
-        assert_eq!(rt; step(&mut table, process, Op::Spawn)?, Reply::Done);
-        assert_eq!(rt;
-            step(&mut table, process, open(Access::ReadWrite))?,
-            Reply::Fd(0)
-        );
-    }
-    assert_eq!(rt;
-        step(&mut table, FIRST, set(0, Mode::Write, 0, 100))?,
-        Reply::Done
-    );
-    let blocks = LockInfo {
-        owner: FIRST_OWNER,
-        mode: Mode::Write,
-        span: Span { lo: 0, hi: 99 },
-    };
-    assert_eq!(rt;
-        step(&mut table, SECOND, set(0, Mode::Read, 99, 5))?,
-        Reply::Again(blocks)
-    );
-    assert_eq!(rt;
-        step(&mut table, SECOND, set(0, Mode::Read, 100, 5))?,
-        Reply::Done
-    );
+    let mut table = begins(rt.alloc())?;
+    let blocks = lock_of(FIRST_OWNER, Mode::Write, Span { lo: 0, hi: 99 });
+    let calls = [
+        (FIRST, set(0, Mode::Write, 0, 100), Reply::Done),
+        (SECOND, set(0, Mode::Read, 99, 5), Reply::Again(blocks)),
+        (SECOND, set(0, Mode::Read, 100, 5), Reply::Done),
+    ];
+    assert!(rt; answers_then(&mut table, &calls)?);
     Ok(())
 }
 
 #[test]
 fn queries_name_what_would_block(rt: HostRuntime) -> Result<(), Fail> {
-    let mut table = two_processes(&rt)?;
-    assert_eq!(rt;
-        step(&mut table, SECOND, open(Access::ReadOnly))?,
-        Reply::Fd(1)
-    );
-    step(&mut table, FIRST, set(0, Mode::Read, 0, 100))?;
-    let blocked = Reply::Blocked(LockInfo {
-        owner: FIRST_OWNER,
-        mode: Mode::Read,
-        span: Span { lo: 0, hi: 99 },
-    });
-    for (process, op, reply) in [
+    let mut table = begins(rt.alloc())?;
+    let blocks = lock_of(FIRST_OWNER, Mode::Read, Span { lo: 0, hi: 99 });
+    let blocked = Reply::Blocked(blocks);
+    let calls = [
+        (SECOND, open(Access::ReadOnly), Reply::Fd(1)),
+        (FIRST, set(0, Mode::Read, 0, 100), Reply::Done),
         (SECOND, query(0, Mode::Write, 99, 5), blocked),
         (SECOND, query(1, Mode::Write, 99, 5), blocked),
         (SECOND, query(0, Mode::Read, 99, 5), Reply::Free),
@@ -231,153 +235,151 @@ fn queries_name_what_would_block(rt: HostRuntime) -> Result<(), Fail> {
         (SECOND, query(2, Mode::Read, 99, 5), Reply::BadFd),
         (SECOND, query(0, Mode::Read, -1, 5), Reply::Invalid),
         (ELSEWHERE, query(0, Mode::Read, 99, 5), Reply::NoProcess),
-    ] {
-        assert_eq!(rt; step(&mut table, process, op)?, reply);
-    }
+    ];
+    assert!(rt; answers_then(&mut table, &calls)?);
     assert!(rt; holds(&table, FIRST_OWNER, Mode::Read, 0, 99));
     Ok(())
 }
 
 #[test]
 fn answers_by_the_first_test_that_fails(rt: HostRuntime) -> Result<(), Fail> {
-    let mut table = FcntlTable::new(rt.alloc());
-    for (op, reply) in [
-        (open(Access::ReadOnly), Reply::NoProcess),
-        (set(9, Mode::Read, -1, 0), Reply::NoProcess),
-        (unlock(9, -1, 0), Reply::NoProcess),
-        (Op::Spawn, Reply::Done),
-        (Op::Spawn, Reply::Exists),
-        (open(Access::ReadOnly), Reply::Fd(0)),
-        (open(Access::WriteOnly), Reply::Fd(1)),
-        (set(2, Mode::Read, -1, 0), Reply::BadFd),
-        (unlock(2, -1, 0), Reply::BadFd),
-        (set(0, Mode::Write, -1, 0), Reply::Invalid),
-        (set(0, Mode::Write, 5, -6), Reply::Invalid),
-        (set(0, Mode::Write, i64::MAX, 2), Reply::Overflow),
-        (set(0, Mode::Write, 0, 1), Reply::BadFd),
-        (set(1, Mode::Read, 0, 1), Reply::BadFd),
-        (set(0, Mode::Read, i64::MAX, 1), Reply::Done),
-        (set(1, Mode::Write, 0, 1), Reply::Done),
-        (unlock(0, 5, -6), Reply::Invalid),
-        (unlock(0, 0, 0), Reply::Done),
-    ] {
-        assert_eq!(rt; step(&mut table, FIRST, op)?, reply);
-    }
+    let mut table = begins(rt.alloc())?;
+    let calls = [
+        (FIRST, open(Access::ReadOnly), Reply::NoProcess),
+        (FIRST, set(9, Mode::Read, -1, 0), Reply::NoProcess),
+        (FIRST, unlock(9, -1, 0), Reply::NoProcess),
+        (FIRST, Op::Spawn, Reply::Done),
+        (FIRST, Op::Spawn, Reply::Exists),
+        (FIRST, open(Access::ReadOnly), Reply::Fd(0)),
+        (FIRST, open(Access::WriteOnly), Reply::Fd(1)),
+        (FIRST, set(2, Mode::Read, -1, 0), Reply::BadFd),
+        (FIRST, unlock(2, -1, 0), Reply::BadFd),
+        (FIRST, set(0, Mode::Write, -1, 0), Reply::Invalid),
+        (FIRST, set(0, Mode::Write, 5, -6), Reply::Invalid),
+        (FIRST, set(0, Mode::Write, i64::MAX, 2), Reply::Overflow),
+        (FIRST, set(0, Mode::Write, 0, 1), Reply::BadFd),
+        (FIRST, set(1, Mode::Read, 0, 1), Reply::BadFd),
+        (FIRST, set(0, Mode::Read, i64::MAX, 1), Reply::Done),
+        (FIRST, set(1, Mode::Write, 0, 1), Reply::Done),
+        (FIRST, unlock(0, 5, -6), Reply::Invalid),
+        (FIRST, unlock(0, 0, 0), Reply::Done),
+    ];
+    assert!(rt; answers(&mut table, &calls)?);
     Ok(())
 }
 
-#[test]
-fn keeps_process_and_description_locks_apart(rt: HostRuntime) -> Result<(), Fail> {
-    let mut table = two_processes(&rt)?;
-    assert_eq!(rt;
-        step(&mut table, SECOND, set(0, Mode::Read, 10, 10))?,
-        Reply::Done
-    );
-    let by_description = Op::Set {
+// A write lock of the process's description on a byte.
+fn set_by_description(start: i64) -> Op {
+    Op::Set {
         fd: 0,
         kind: Kind::OfDescription,
         mode: Mode::Write,
-        start: 15,
+        start,
         len: 1,
-    };
-    let blocks = LockInfo {
-        owner: Owner {
-            number: 2,
-            ..FIRST_OWNER
-        },
-        mode: Mode::Read,
-        span: Span { lo: 10, hi: 19 },
-    };
-    assert_eq!(rt;
-        step(&mut table, SECOND, by_description)?,
-        Reply::Again(blocks)
-    );
-    assert_eq!(rt; step(&mut table, SECOND, unlock(0, 15, 1))?, Reply::Done);
-    assert_eq!(rt; step(&mut table, SECOND, by_description)?, Reply::Done);
-    let blocks = LockInfo {
-        owner: Owner {
-            kind: Kind::OfDescription,
-            number: 2,
-            ..FIRST_OWNER
-        },
-        mode: Mode::Write,
-        span: Span { lo: 15, hi: 15 },
-    };
-    assert_eq!(rt;
-        step(&mut table, SECOND, set(0, Mode::Read, 15, 0))?,
-        Reply::Again(blocks)
-    );
+    }
+}
+
+const SECOND_OWNER: Owner = Owner {
+    number: 2,
+    ..FIRST_OWNER
+};
+
+// The description that the second process has open.
+const SECOND_DESCRIPTION: Owner = Owner {
+    kind: Kind::OfDescription,
+    number: 2,
+    ..FIRST_OWNER
+};
+
+#[test]
+fn keeps_process_and_description_locks_apart(rt: HostRuntime) -> Result<(), Fail> {
+    let mut table = begins(rt.alloc())?;
+    let of_process = lock_of(SECOND_OWNER, Mode::Read, Span { lo: 10, hi: 19 });
+    let of_description = lock_of(SECOND_DESCRIPTION, Mode::Write, Span { lo: 15, hi: 15 });
+    let calls = [
+        (SECOND, set(0, Mode::Read, 10, 10), Reply::Done),
+        (SECOND, set_by_description(15), Reply::Again(of_process)),
+        (SECOND, unlock(0, 15, 1), Reply::Done),
+        (SECOND, set_by_description(15), Reply::Done),
+        (
+            SECOND,
+            set(0, Mode::Read, 15, 0),
+            Reply::Again(of_description),
+        ),
+    ];
+    assert!(rt; answers_then(&mut table, &calls)?);
     Ok(())
+}
+
+// Whether the first process gets 1,024 regions of a byte, with one free byte after each.
+fn takes_all_regions(table: &mut FcntlTable) -> Result<bool, AllocError> {
+    for place in 0..1024u16 {
+        if step(table, FIRST, set(0, Mode::Read, 2 * place as i64, 1))? != Reply::Done {
+            return Ok(false);
+        }
+    }
+    Ok(true)
+}
+
+// Whether a region past these is refused until two of them are one, which then is not parted again.
+fn has_room_for_one(table: &mut FcntlTable) -> Result<bool, AllocError> {
+    let past = set(0, Mode::Read, 2048, 1);
+    let is_full = answers(table, &[(FIRST, past, Reply::NoLocks)])?
+        && !holds(table, FIRST_OWNER, Mode::Read, 2048, 2048);
+    let calls = [
+        (FIRST, set(0, Mode::Read, 1, 1), Reply::Done),
+        (FIRST, past, Reply::Done),
+        (FIRST, unlock(0, 1, 1), Reply::NoLocks),
+    ];
+    Ok(is_full && answers(table, &calls)? && holds(table, FIRST_OWNER, Mode::Read, 0, 2))
 }
 
 #[test]
 fn refuses_one_region_too_many(rt: HostRuntime) -> Result<(), Fail> {
-    let mut table = two_processes(&rt)?;
-    for place in 0..1024u16 {
-        assert_eq!(rt;
-            step(&mut table, FIRST, set(0, Mode::Read, 2 * place as i64, 1))?,
-            Reply::Done
-        );
-    }
-    assert_eq!(rt;
-        step(&mut table, FIRST, set(0, Mode::Read, 2048, 1))?,
-        Reply::NoLocks
-    );
-    assert!(rt; !holds(&table, FIRST_OWNER, Mode::Read, 2048, 2048));
-    assert_eq!(rt;
-        step(&mut table, FIRST, set(0, Mode::Read, 1, 1))?,
-        Reply::Done
-    );
-    assert_eq!(rt;
-        step(&mut table, FIRST, set(0, Mode::Read, 2048, 1))?,
-        Reply::Done
-    );
-    assert_eq!(rt; step(&mut table, FIRST, unlock(0, 1, 1))?, Reply::NoLocks);
-    assert!(rt; holds(&table, FIRST_OWNER, Mode::Read, 0, 2));
+    let mut table = begins(rt.alloc())?;
+    assert!(rt; answers(&mut table, &BEGIN)? && takes_all_regions(&mut table)?);
+    assert!(rt; has_room_for_one(&mut table)?);
     Ok(())
+}
+
+// A process of the node's next incarnation.
+const LATER: Process = Process {
+    incarnation: 2,
+    ..FIRST
+};
+
+// Whether an incarnation that is not the node's takes nothing with it.
+fn others_take_nothing(table: &mut FcntlTable) -> bool {
+    for (node, incarnation) in [(0, 1), (65, 1), (1, 0)] {
+        table.gone(node, incarnation);
+    }
+    holds(table, FIRST_OWNER, Mode::Write, 0, 4)
+}
+
+// Whether the node's incarnation takes its locks with it.
+fn takes_its_locks(table: &mut FcntlTable) -> bool {
+    table.gone(1, 1);
+    !holds(table, FIRST_OWNER, Mode::Write, 0, 4)
+        && !holds(table, SECOND_DESCRIPTION, Mode::Write, 10, 10)
 }
 
 #[test]
 fn fails_one_incarnation(rt: HostRuntime) -> Result<(), Fail> {
-    let mut table = two_processes(&rt)?;
-    let later = Process {
-        incarnation: 2,
-        ..FIRST
-    };
-    for process in [ELSEWHERE, later] {
-        step(&mut table, process, Op::Spawn)?;
-    }
-    let by_description = Op::Set {
-        fd: 0,
-        kind: Kind::OfDescription,
-        mode: Mode::Write,
-        start: 10,
-        len: 1,
-    };
-    step(&mut table, FIRST, set(0, Mode::Write, 0, 5))?;
-    step(&mut table, SECOND, by_description)?;
-    for (node, incarnation) in [(0, 1), (65, 1), (1, 0)] {
-        table.gone(node, incarnation);
-    }
-    assert!(rt; holds(&table, FIRST_OWNER, Mode::Write, 0, 4));
-    table.gone(1, 1);
-    assert!(rt; !holds(&table, FIRST_OWNER, Mode::Write, 0, 4));
-    let description = Owner {
-        kind: Kind::OfDescription,
-        number: 2,
-        ..FIRST_OWNER
-    };
-    assert!(rt; !holds(&table, description, Mode::Write, 10, 10));
-    for (process, reply) in [
-        (ELSEWHERE, Reply::Exists),
-        (later, Reply::Exists),
-        (SECOND, Reply::Done),
-    ] {
-        assert_eq!(rt; step(&mut table, process, Op::Spawn)?, reply);
-    }
-    assert_eq!(rt;
-        step(&mut table, SECOND, open(Access::ReadOnly))?,
-        Reply::Fd(0)
-    );
+    let mut table = begins(rt.alloc())?;
+    let before = [
+        (ELSEWHERE, Op::Spawn, Reply::Done),
+        (LATER, Op::Spawn, Reply::Done),
+        (FIRST, set(0, Mode::Write, 0, 5), Reply::Done),
+        (SECOND, set_by_description(10), Reply::Done),
+    ];
+    assert!(rt; answers_then(&mut table, &before)?);
+    assert!(rt; others_take_nothing(&mut table) && takes_its_locks(&mut table));
+    let after = [
+        (ELSEWHERE, Op::Spawn, Reply::Exists),
+        (LATER, Op::Spawn, Reply::Exists),
+        (SECOND, Op::Spawn, Reply::Done),
+        (SECOND, open(Access::ReadOnly), Reply::Fd(0)),
+    ];
+    assert!(rt; answers(&mut table, &after)?);
     Ok(())
 }

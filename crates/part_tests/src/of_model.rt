@@ -14,7 +14,7 @@ fn calls_are_of_their_node(rt: HostRuntime) {
         node: 3,
         incarnation: 7,
     };
-    assert_eq!(rt; call.host(), host);
+    assert!(rt; call.host() == host);
 }
 
 #[test]

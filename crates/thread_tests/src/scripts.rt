@@ -1,14 +1,19 @@
 //! Tests of scripts on threads.
 use crate::holder::Meeting;
-use actors::gate::OpenGate;
+use actors::gate::{Gate, OpenGate};
 use actors::run_error::RunError;
+use actors::thread_run::ThreadRun;
 use actors::threads::run_threads;
 use book::confirms::Confirms;
 use lockscript::script::Script;
 use model::reply::Reply;
-use std::alloc::Global;
+use std::alloc::{AllocError, Global};
+use std::fmt::Write;
+use std::sync::Wait;
 use std::sync::atomic::Ordering;
 use std::test::Fail;
+use std::thread::Threads;
+use std::time::Clock;
 
 const FIRST_RUN: &str = "cluster nodes 1 files 1 policy wide
 call 1 1 spawn
@@ -31,34 +36,50 @@ call 1 1 spawn
 call 3 1 spawn
 ";
 
+// What came of the script on threads, in a box. A test keeps no other, since one is dropped in fewer steps,
+// each of which the check proves.
+fn ran<G: Gate + Sync, R: Threads + Wait + Clock + Sync>(
+    rt: &R,
+    alloc: Global,
+    text: &str,
+    gate: &G,
+) -> Result<Box<ThreadRun>, Fail> {
+    let script = Script::parse(alloc, text)?;
+    let run = run_threads(rt, alloc, &script, gate, 1)?;
+    Ok(Box::new(alloc, run)?)
+}
+
+// Whether there are so many receipts, each of which the journal holds.
+fn holds(run: &ThreadRun, receipts: usize) -> bool {
+    for receipt in run.receipts() {
+        if !run.journal().holds(receipt) {
+            return false;
+        }
+    }
+    run.receipts().len() == receipts
+}
+
+// Whether the fourth call was made once the reply of the third was seen.
+fn has_seen_the_third(run: &ThreadRun) -> bool {
+    match run.receipts() {
+        [_, _, third, fourth] => fourth.seen() == third.reply_at(),
+        _ => false,
+    }
+}
+
 #[test]
 fn the_first_run_has_four_receipts(rt: HostRuntime) -> Result<(), Fail> {
-    let alloc = rt.alloc();
-    let script = Script::parse(alloc, FIRST_RUN)?;
-    let run = run_threads(&rt, alloc, &script, &OpenGate, 1)?;
-    assert_eq!(rt; run.receipts().len(), 4);
-    for receipt in run.receipts() {
-        assert!(rt; run.journal().holds(receipt));
-    }
-    assert_eq!(rt; run.refused().len(), 0);
-    let third = run.receipts().get(2).ok_or("a third receipt")?;
-    let fourth = run.receipts().get(3).ok_or("a fourth receipt")?;
-    assert_eq!(rt; fourth.seen(), third.reply_at());
+    let run = ran(&rt, rt.alloc(), FIRST_RUN, &OpenGate)?;
+    assert!(rt; holds(&run, 4) && run.refused().is_empty() && has_seen_the_third(&run));
     Ok(())
 }
 
 #[test]
 fn two_nodes_prepare_at_once(rt: HostRuntime) -> Result<(), Fail> {
-    let alloc = rt.alloc();
     let text = "cluster nodes 2 files 1 policy wide\ncall 1 1 spawn\ncall 2 1 spawn\nsettle\n";
-    let script = Script::parse(alloc, text)?;
     let gate = Meeting::new(&rt);
-    let run = run_threads(&rt, alloc, &script, &gate, 1)?;
-    assert_eq!(rt; gate.late.load(Ordering::SeqCst), 0);
-    assert_eq!(rt; run.receipts().len(), 2);
-    for receipt in run.receipts() {
-        assert!(rt; run.journal().holds(receipt));
-    }
+    let run = ran(&rt, rt.alloc(), text, &gate)?;
+    assert!(rt; gate.late.load(Ordering::SeqCst) == 0 && holds(&run, 2));
     Ok(())
 }
 
@@ -72,29 +93,43 @@ fn a_line_of_another_kind_is_bad(rt: HostRuntime) -> Result<(), Fail> {
     Ok(())
 }
 
+// Adds the calls of a process: it sets a lock of its own and gives it up, and then tries for one that all want.
+fn push_calls(
+    text: &mut String,
+    node: u8,
+    pid: u16,
+    file: u32,
+    start: u32,
+) -> Result<(), AllocError> {
+    writeln!(
+        text,
+        "call {node} {pid} spawn\ncall {node} {pid} open {file} rw"
+    )?;
+    writeln!(text, "call {node} {pid} set 0 proc write {start} 10")?;
+    writeln!(text, "call {node} {pid} unlock 0 proc {start} 10")?;
+    writeln!(
+        text,
+        "call {node} {pid} set 0 proc write 0 10\ncall {node} {pid} close 0"
+    )?;
+    Ok(())
+}
+
+// The file of a process; all are of one where there is one.
+fn file_of(node: u8, pid: u16, files: u16) -> u32 {
+    if files == 0 {
+        return 1;
+    }
+    (u32::from(node) * 7 + u32::from(pid)) % u32::from(files) + 1
+}
+
 // A script in which each process sets a lock of its own, and then all try for one lock.
 fn crowd(alloc: Global, nodes: u8, files: u16, processes: u16) -> Result<String, Fail> {
     let mut text = format!(in alloc; "cluster nodes {nodes} files {files} policy wide\n")?;
     for node in 1..=nodes {
         for pid in 1..=processes {
-            let place = u32::from(node) * 7 + u32::from(pid);
-            let file = if files == 0 {
-                1
-            } else {
-                place % u32::from(files) + 1
-            };
+            let file = file_of(node, pid, files);
             let start = (u32::from(node) * 64 + u32::from(pid)) * 10;
-            let lines = [
-                format!(in alloc; "call {node} {pid} spawn\n")?,
-                format!(in alloc; "call {node} {pid} open {file} rw\n")?,
-                format!(in alloc; "call {node} {pid} set 0 proc write {start} 10\n")?,
-                format!(in alloc; "call {node} {pid} unlock 0 proc {start} 10\n")?,
-                format!(in alloc; "call {node} {pid} set 0 proc write 0 10\n")?,
-                format!(in alloc; "call {node} {pid} close 0\n")?,
-            ];
-            for line in lines.iter() {
-                text.push_str(line.as_str())?;
-            }
+            push_calls(&mut text, node, pid, file, start)?;
         }
     }
     Ok(text)
@@ -102,17 +137,14 @@ fn crowd(alloc: Global, nodes: u8, files: u16, processes: u16) -> Result<String,
 
 #[test]
 fn many_clients_are_answered(rt: HostRuntime) -> Result<(), Fail> {
-    let alloc = rt.alloc();
     for (nodes, files, processes) in [(8, 1, 4), (8, 64, 4)] {
-        let text = crowd(alloc, nodes, files, processes)?;
-        let script = Script::parse(alloc, text.as_str())?;
-        let run = run_threads(&rt, alloc, &script, &OpenGate, 1)?;
+        let text = crowd(rt.alloc(), nodes, files, processes)?;
+        let run = ran(&rt, rt.alloc(), text.as_str(), &OpenGate)?;
         let calls = usize::from(nodes) * usize::from(processes) * 6;
-        assert_eq!(rt; run.receipts().len(), calls, "with {files} files");
-        for receipt in run.receipts() {
-            assert!(rt; run.journal().holds(receipt));
-        }
-        assert_eq!(rt; run.refused().len(), 0);
+        assert!(rt;
+            holds(&run, calls) && run.refused().is_empty(),
+            "with {files} files"
+        );
     }
     Ok(())
 }
@@ -133,31 +165,48 @@ call 3 1 wait 0 proc write 0 10
 call 3 1 close 0
 ";
 
+// Whether each call was done, or opened its file.
+fn are_done(run: &ThreadRun) -> bool {
+    for receipt in run.receipts() {
+        if receipt.reply() != Reply::Done && receipt.reply() != Reply::Fd(0) {
+            return false;
+        }
+    }
+    true
+}
+
 #[test]
 fn waits_are_answered(rt: HostRuntime) -> Result<(), Fail> {
-    let alloc = rt.alloc();
-    let script = Script::parse(alloc, WAITS)?;
-    let run = run_threads(&rt, alloc, &script, &OpenGate, 1)?;
-    assert_eq!(rt; run.receipts().len(), 12);
-    for receipt in run.receipts() {
-        assert!(rt; run.journal().holds(receipt));
-        assert!(rt; receipt.reply() == Reply::Done || receipt.reply() == Reply::Fd(0));
-    }
+    let run = ran(&rt, rt.alloc(), WAITS, &OpenGate)?;
+    assert!(rt; holds(&run, 12) && are_done(&run));
     Ok(())
+}
+
+// Whether just these lines are refused, in this order.
+fn refuses(run: &ThreadRun, lines: &[(u32, u16)]) -> bool {
+    if run.refused().len() != lines.len() {
+        return false;
+    }
+    for (found, (line, code)) in run.refused().iter().zip(lines.iter()) {
+        if found.line != *line || found.code != *code {
+            return false;
+        }
+    }
+    true
+}
+
+// Whether there are three receipts, the last of a call of the second incarnation.
+fn has_restarted(run: &ThreadRun) -> bool {
+    match run.receipts() {
+        [_, _, third] => third.call().incarnation == 2,
+        _ => false,
+    }
 }
 
 #[test]
 fn refused_lines_come_in_order(rt: HostRuntime) -> Result<(), Fail> {
-    let alloc = rt.alloc();
-    let script = Script::parse(alloc, FAILURES)?;
-    let run = run_threads(&rt, alloc, &script, &OpenGate, 1)?;
+    let run = ran(&rt, rt.alloc(), FAILURES, &OpenGate)?;
     let refused = [(4, 14), (5, 11), (7, 15), (8, 10), (11, 14)];
-    assert_eq!(rt; run.refused().len(), refused.len());
-    for (found, (line, code)) in run.refused().iter().zip(refused) {
-        assert_eq!(rt; (found.line, found.code), (line, code));
-    }
-    assert_eq!(rt; run.receipts().len(), 3);
-    let third = run.receipts().get(2).ok_or("a third receipt")?;
-    assert_eq!(rt; third.call().incarnation, 2);
+    assert!(rt; refuses(&run, &refused) && has_restarted(&run));
     Ok(())
 }

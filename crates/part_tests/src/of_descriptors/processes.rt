@@ -31,29 +31,45 @@ fn opens_after(processes: &mut Processes) -> Result<bool, ProcessError> {
     Ok(fd == 0 && processes.resolve(256, 0) == Ok(opened))
 }
 
+fn boxed(alloc: Global, processes: Processes) -> Result<Box<Processes>, AllocError> {
+    Ok(Box::new(alloc, processes)?)
+}
+
 #[test]
 fn gives_the_lowest_numbers(rt: HostRuntime) -> Result<(), Fail> {
-    let mut processes = Processes::new(rt.alloc());
-    assert!(rt; fills(&mut processes)?);
-    assert!(rt; opens_after(&mut processes)?);
+    let mut processes = boxed(rt.alloc(), Processes::new(rt.alloc()))?;
+    assert!(rt; fills(&mut processes)? && opens_after(&mut processes)?);
     Ok(())
+}
+
+// Whether process 1 is refused before it begins, and may begin once.
+fn begins_once(processes: &mut Processes) -> bool {
+    processes.resolve(1, 0) == Err(FdError::NoProcess)
+        && processes.open(1, 1, Access::ReadOnly) == Err(ProcessError::NoProcess)
+        && processes.spawn(1) == Ok(())
+        && processes.spawn(1) == Err(ProcessError::Exists)
+}
+
+// Whether each of these descriptors is refused so.
+fn are_refused(processes: &Processes, cases: &[(u16, u8, FdError)]) -> bool {
+    for (pid, fd, error) in cases {
+        if processes.resolve(*pid, *fd) != Err(*error) {
+            return false;
+        }
+    }
+    true
 }
 
 #[test]
 fn answers_by_the_first_test_that_fails(rt: HostRuntime) -> Result<(), Fail> {
-    let mut processes = Processes::new(rt.alloc());
-    assert!(rt; processes.resolve(1, 0) == Err(FdError::NoProcess));
-    assert!(rt; processes.open(1, 1, Access::ReadOnly) == Err(ProcessError::NoProcess));
-    processes.spawn(1)?;
-    assert!(rt; processes.spawn(1) == Err(ProcessError::Exists));
-    for (pid, fd, error) in [
+    let mut processes = boxed(rt.alloc(), Processes::new(rt.alloc()))?;
+    let cases = [
         (1, 0, FdError::BadFd),
         (1, 64, FdError::BadFd),
         (0, 0, FdError::NoProcess),
         (65535, 0, FdError::NoProcess),
-    ] {
-        assert!(rt; processes.resolve(pid, fd) == Err(error));
-    }
+    ];
+    assert!(rt; begins_once(&mut processes) && are_refused(&processes, &cases));
     Ok(())
 }
 
@@ -93,16 +109,19 @@ fn compares_what_runs_and_what_is_open(rt: HostRuntime) -> Result<(), Fail> {
     Ok(())
 }
 
-fn boxed(alloc: Global, processes: Processes) -> Result<Box<Processes>, AllocError> {
-    Ok(Box::new(alloc, processes)?)
-}
-
-// Two processes that have descriptor 0, the first also descriptor 1: descriptions 1 to 3.
-fn opens_three(alloc: Global) -> Result<Box<Processes>, ProcessError> {
-    let mut processes = boxed(alloc, begun(alloc, 1, 2)?)?;
+// Two processes run, and have descriptor 0, the first also descriptor 1: descriptions 1 to 3.
+fn open_three(processes: &mut Processes) -> Result<(), ProcessError> {
+    processes.spawn(1)?;
+    processes.spawn(2)?;
     for pid in [1, 1, 2] {
         processes.open(pid, 7, Access::ReadWrite)?;
     }
+    Ok(())
+}
+
+fn opens_three(alloc: Global) -> Result<Box<Processes>, ProcessError> {
+    let mut processes = boxed(alloc, Processes::new(alloc))?;
+    open_three(&mut processes)?;
     Ok(processes)
 }
 
@@ -141,22 +160,32 @@ fn opens_as(
 #[test]
 fn closes_a_descriptor(rt: HostRuntime) -> Result<(), Fail> {
     let mut processes = opens_three(rt.alloc())?;
-    assert!(rt; closes(&mut processes));
-    assert!(rt; opens_as(&mut processes, 1, 0, 1)?);
+    assert!(rt; closes(&mut processes) && opens_as(&mut processes, 1, 0, 1)?);
     assert!(rt; opens_as(&mut processes, 1, 2, 3)?);
     Ok(())
+}
+
+// Whether the first process ends, and two that don't run change nothing.
+fn end(processes: &mut Processes) -> bool {
+    for pid in [1, 3, 65535] {
+        processes.end(pid);
+        if processes.resolve(pid, 0) != Err(FdError::NoProcess) {
+            return false;
+        }
+    }
+    true
+}
+
+// Whether the first process begins again, and has nothing open.
+fn begins_anew(processes: &mut Processes) -> bool {
+    processes.spawn(1) == Ok(()) && processes.resolve(1, 0) == Err(FdError::BadFd)
 }
 
 // A process that has ended can begin again, with no descriptors; the other keeps its own.
 #[test]
 fn ends_a_process(rt: HostRuntime) -> Result<(), Fail> {
     let mut processes = opens_three(rt.alloc())?;
-    for pid in [1, 3, 65535] {
-        processes.end(pid);
-        assert!(rt; processes.resolve(pid, 0) == Err(FdError::NoProcess));
-    }
-    processes.spawn(1)?;
-    assert!(rt; processes.resolve(1, 0) == Err(FdError::BadFd));
+    assert!(rt; end(&mut processes) && begins_anew(&mut processes));
     assert!(rt; opens_as(&mut processes, 2, 1, 1)?);
     Ok(())
 }

@@ -12,67 +12,81 @@ use model::reply::Reply;
 use std::alloc::{AllocError, Global};
 use std::test::Fail;
 
-fn spawned(alloc: Global, pid: u16) -> Result<Entry, AllocError> {
-    let call = CallId {
-        node: 1,
-        incarnation: 1,
-        number: 1,
+const CALL: CallId = CallId {
+    node: 1,
+    incarnation: 1,
+    number: 1,
+};
+
+// The messages of an entry: one.
+fn one_message(alloc: Global) -> Result<Items<Message>, AllocError> {
+    let taken = Message::Taken {
+        file: FileNumber::of(2),
+        number: CommandNumber::of(5),
+        call: CALL,
     };
+    Items::one(alloc, taken)
+}
+
+fn spawned(pid: u16, sends: Items<Message>) -> Entry {
     let event = Event::Call {
         node: 1,
         pid,
         op: Op::Spawn,
     };
-    let taken = Message::Taken {
-        file: FileNumber::of(2),
-        number: CommandNumber::of(5),
-        call,
-    };
     let outcome = Outcome {
-        call: Some(call),
-        reply: Some((call, Reply::Done)),
-        sends: Items::one(alloc, taken)?,
+        call: Some(CALL),
+        reply: Some((CALL, Reply::Done)),
+        sends,
     };
-    Ok(Entry::new(event, outcome))
+    Entry::new(event, outcome)
+}
+
+// Whether the entry says this of its event.
+fn is_of(entry: &Entry, event: &Event, incarnation: u16) -> bool {
+    entry.event().same(event) && entry.incarnation() == incarnation
+}
+
+// Whether the entry says that a call was made and done, and sends a message.
+fn is_done(entry: &Entry) -> bool {
+    entry.call() == Some(CALL)
+        && entry.reply() == Some((CALL, Reply::Done))
+        && entry.sends().len() == 1
 }
 
 #[test]
 fn say_what_the_event_gave(rt: HostRuntime) -> Result<(), Fail> {
-    let entry = spawned(rt.alloc(), 4)?;
-    let call = CallId {
-        node: 1,
-        incarnation: 1,
-        number: 1,
-    };
-    assert_eq!(rt; entry.incarnation(), 0);
-    assert_eq!(rt; entry.call(), Some(call));
-    assert_eq!(rt; entry.reply(), Some((call, Reply::Done)));
-    assert_eq!(rt; entry.sends().len(), 1);
-    let event = Event::Call {
+    let entry = spawned(4, one_message(rt.alloc())?);
+    let spawn = Event::Call {
         node: 1,
         pid: 4,
         op: Op::Spawn,
     };
-    assert!(rt; entry.event().same(&event));
+    assert!(rt; is_of(&entry, &spawn, 0) && is_done(&entry));
     Ok(())
+}
+
+// Whether the entry says that there is no call, no reply and no message.
+fn is_quiet(entry: &Entry) -> bool {
+    entry.call().is_none() && entry.reply().is_none() && entry.sends().is_empty()
 }
 
 #[test]
 fn of_a_retry_have_an_incarnation(rt: HostRuntime) {
     let event = Event::Retry { node: 1, pid: 4 };
-    let outcome = Outcome::sending(Items::new(rt.alloc()));
-    let entry = Entry::at_node(event, 7, outcome);
-    assert_eq!(rt; entry.incarnation(), 7);
-    assert!(rt; entry.event().same(&event));
-    assert_eq!(rt; entry.call(), None);
-    assert_eq!(rt; entry.reply(), None);
-    assert!(rt; entry.sends().is_empty());
+    let entry = Entry::at_node(event, 7, Outcome::sending(Items::new(rt.alloc())));
+    assert!(rt; is_of(&entry, &event, 7) && is_quiet(&entry));
+}
+
+// Whether an entry of that process is the same as this one.
+fn is_same(entry: &Entry, alloc: Global, pid: u16) -> Result<bool, AllocError> {
+    let other = spawned(pid, one_message(alloc)?);
+    Ok(entry.same(&other))
 }
 
 #[test]
 fn are_one_by_value(rt: HostRuntime) -> Result<(), Fail> {
-    let entry = spawned(rt.alloc(), 4)?;
-    assert!(rt; entry.same(&spawned(rt.alloc(), 4)?));
-    assert!(rt; !entry.same(&spawned(rt.alloc(), 5)?));
+    let entry = spawned(4, one_message(rt.alloc())?);
+    assert!(rt; is_same(&entry, rt.alloc(), 4)? && !is_same(&entry, rt.alloc(), 5)?);
     Ok(())
 }

@@ -6,16 +6,18 @@ use std::test::Fail;
 use token_set::desired::desired;
 use token_set::set::TokenSet;
 
+// What the node asks for where it needs bytes 100 to 199.
+fn asked(policy: Policy, token: &TokenSet) -> (u64, u64) {
+    let span = desired(policy, Span { lo: 100, hi: 199 }, token);
+    (span.lo, span.hi)
+}
+
 #[test]
 fn a_node_asks_by_its_policy(rt: HostRuntime) -> Result<(), Fail> {
-    let required = Span { lo: 100, hi: 199 };
-    let mut token = TokenSet::new(rt.alloc());
-    let first = desired(Policy::Wide, required, &token);
-    assert_eq!(rt; (first.lo, first.hi), (0, GREATEST));
+    let mut token = Box::new(rt.alloc(), TokenSet::new(rt.alloc()))?;
+    let asks_for_all = asked(Policy::Wide, &token) == (0, GREATEST);
     token.grant(Span { lo: 0, hi: 9 }, Mode::Read)?;
-    let later = desired(Policy::Wide, required, &token);
-    assert_eq!(rt; (later.lo, later.hi), (100, GREATEST));
-    let exact = desired(Policy::Exact, required, &token);
-    assert_eq!(rt; (exact.lo, exact.hi), (100, 199));
+    let asks_above = asked(Policy::Wide, &token) == (100, GREATEST);
+    assert!(rt; asks_for_all && asks_above && asked(Policy::Exact, &token) == (100, 199));
     Ok(())
 }

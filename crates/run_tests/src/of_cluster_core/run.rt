@@ -21,16 +21,28 @@ fn begins(alloc: Global) -> Result<Box<Run>, Fail> {
     Ok(Box::new(alloc, run)?)
 }
 
+// Whether the run has so many entries once the event is taken, or refused so.
+fn comes_to(
+    run: &mut Run,
+    alloc: Global,
+    event: Event,
+    refusal: Option<Refused>,
+    entries: usize,
+) -> bool {
+    run.take(alloc, event).err() == refusal && run.entries().len() == entries
+}
+
 #[test]
 fn a_refused_event_is_not_kept(rt: HostRuntime) -> Result<(), Fail> {
-    let alloc = rt.alloc();
-    let mut run = begins(alloc)?;
-    run.take(alloc, SPAWN)?;
-    let refused = run.take(alloc, Event::Resend { file: 2 }).err();
-    assert_eq!(rt; refused, Some(Refused::Stranger));
-    assert_eq!(rt; run.entries().len(), 1);
-    run.take(alloc, Event::Resend { file: 1 })?;
-    assert_eq!(rt; run.entries().len(), 2);
-    assert_eq!(rt; run.world().sent().len(), 0);
+    let mut run = begins(rt.alloc())?;
+    let stranger = Some(Refused::Stranger);
+    for (event, refusal, entries) in [
+        (SPAWN, None, 1),
+        (Event::Resend { file: 2 }, stranger, 1),
+        (Event::Resend { file: 1 }, None, 2),
+    ] {
+        assert!(rt; comes_to(&mut run, rt.alloc(), event, refusal, entries));
+    }
+    assert!(rt; run.world().sent().is_empty());
     Ok(())
 }

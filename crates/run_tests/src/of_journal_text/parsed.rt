@@ -39,6 +39,13 @@ const HEADS: [(&str, u64); 8] = [
 
 const HEAD: &str = "journal 1 nodes 2 files 1 policy wide\n";
 
+const THREE: &str = "journal 1 nodes 2 files 1 policy wide
+entry 1 resend 1
+entry 2 resend 1
+entry 3 resend 1
+end 3
+";
+
 // What stands behind the first line, and the number of the first bad line, 0 for none.
 const BODIES: [(&str, u64); 28] = [
     ("end 0\n", 0),
@@ -123,17 +130,29 @@ fn first_bad(alloc: Global, text: &str) -> Result<u64, JournalError> {
     }
 }
 
+// Whether both tell that number.
+fn is_bad_at(alloc: Global, text: &str, number: u64) -> Result<bool, JournalError> {
+    Ok(first_bad(alloc, text)? == number && measured_bad(text)? == number)
+}
+
+#[test]
+fn tells_a_bad_first_line(rt: HostRuntime) -> Result<(), Fail> {
+    for (text, number) in HEADS {
+        assert!(rt; is_bad_at(rt.alloc(), text, number)?, "{text}");
+    }
+    Ok(())
+}
+
+// Whether both tell that number of what stands behind a first line.
+fn is_bad_behind(alloc: Global, body: &str, number: u64) -> Result<bool, Fail> {
+    let text = format!(in alloc; "{HEAD}{body}")?;
+    Ok(is_bad_at(alloc, &text, number)?)
+}
+
 #[test]
 fn tells_the_first_bad_line(rt: HostRuntime) -> Result<(), Fail> {
-    let alloc = rt.alloc();
-    for (text, number) in HEADS {
-        assert_eq!(rt; first_bad(alloc, text)?, number, "{text}");
-        assert_eq!(rt; measured_bad(text)?, number, "{text}");
-    }
     for (body, number) in BODIES {
-        let text = format!(in alloc; "{HEAD}{body}")?;
-        assert_eq!(rt; first_bad(alloc, &text)?, number, "{body}");
-        assert_eq!(rt; measured_bad(&text)?, number, "{body}");
+        assert!(rt; is_bad_behind(rt.alloc(), body, number)?, "{body}");
     }
     Ok(())
 }
@@ -142,17 +161,15 @@ fn tells_the_first_bad_line(rt: HostRuntime) -> Result<(), Fail> {
 fn is_printed_as_it_was_read(rt: HostRuntime) -> Result<(), Fail> {
     let alloc = rt.alloc();
     let (shape, entries) = parse(alloc, FIRST_RUN)?;
-    assert_eq!(rt; entries.len(), 7);
     let text = print(alloc, &shape, &entries)?;
-    assert_eq!(rt; text.as_str(), FIRST_RUN);
+    assert!(rt; entries.len() == 7 && text.as_str() == FIRST_RUN);
     Ok(())
 }
 
 #[test]
 fn is_measured(rt: HostRuntime) -> Result<(), Fail> {
     let (shape, count) = measure(FIRST_RUN)?;
-    assert_eq!(rt; shape.nodes(), 2);
-    assert_eq!(rt; count, 7);
+    assert!(rt; shape.nodes() == 2 && count == 7);
     Ok(())
 }
 
@@ -160,15 +177,10 @@ fn is_measured(rt: HostRuntime) -> Result<(), Fail> {
 fn hands_its_entries_on(rt: HostRuntime) -> Result<(), Fail> {
     let alloc = rt.alloc();
     let mut few = Tally { entries: 0 };
-    let text = format!(in alloc;
-        "{HEAD}entry 1 resend 1\nentry 2 resend 1\nentry 3 resend 1\nend 3\n"
-    )?;
-    let shape = read_each(alloc, &text, &mut few)?;
-    assert_eq!(rt; shape.files(), 1);
-    assert_eq!(rt; few.entries, 3);
+    let shape = read_each(alloc, THREE, &mut few)?;
+    assert!(rt; shape.files() == 1 && few.entries == 3);
     let mut many = Tally { entries: 0 };
-    let told = read_each(alloc, FIRST_RUN, &mut many).err();
-    assert_eq!(rt; told, Some(JournalError::NoMemory));
-    assert_eq!(rt; many.entries, 3);
+    let is_told = read_each(alloc, FIRST_RUN, &mut many) == Err(JournalError::NoMemory);
+    assert!(rt; is_told && many.entries == 3);
     Ok(())
 }

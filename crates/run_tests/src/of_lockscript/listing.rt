@@ -17,7 +17,7 @@ use model::mode::Mode;
 use model::op::Op;
 use model::owner::{Kind, Owner};
 use model::reply::Reply;
-use std::alloc::Global;
+use std::alloc::{AllocError, Global};
 use std::test::Fail;
 
 const LISTING: &str = "refused
@@ -157,42 +157,54 @@ const HISTORY: [Item; 4] = [
     },
 ];
 
-fn entry(alloc: Global, call: CallId, reply: Option<(CallId, Reply)>) -> Entry {
-    let event = Event::Call {
-        node: call.node,
-        pid: 1,
-        op: Op::Spawn,
-    };
-    let outcome = Outcome {
-        call: Some(call),
-        reply,
-        sends: Items::new(alloc),
-    };
-    Entry::new(event, outcome)
+// An entry of a call for each of these, with what it answers.
+fn entries(
+    alloc: Global,
+    calls: &[(CallId, Option<(CallId, Reply)>)],
+) -> Result<Vec<Entry>, AllocError> {
+    let mut entries = Vec::new(alloc);
+    for (call, reply) in calls {
+        let event = Event::Call {
+            node: call.node,
+            pid: 1,
+            op: Op::Spawn,
+        };
+        let outcome = Outcome {
+            call: Some(*call),
+            reply: *reply,
+            sends: Items::new(alloc),
+        };
+        entries.push(Entry::new(event, outcome))?;
+    }
+    Ok(entries)
 }
+
+const REFUSED: [RefusedLine; 2] = [
+    RefusedLine { line: 7, code: 13 },
+    RefusedLine {
+        line: 4_294_967_295,
+        code: 19,
+    },
+];
+
+const CALLS: [(CallId, Option<(CallId, Reply)>); 3] = [
+    (CALL, Some((CALL, Reply::Done))),
+    (CALL, None),
+    (CALL, Some((NEXT_CALL, Reply::Again(LOCK)))),
+];
 
 #[test]
 fn has_five_sections(rt: HostRuntime) -> Result<(), Fail> {
-    let alloc = rt.alloc();
-    let entries = vec![in alloc;
-        entry(alloc, CALL, Some((CALL, Reply::Done))),
-        entry(alloc, CALL, None),
-        entry(alloc, CALL, Some((NEXT_CALL, Reply::Again(LOCK)))),
-    ]?;
-    let refused = [
-        RefusedLine { line: 7, code: 13 },
-        RefusedLine {
-            line: 4_294_967_295,
-            code: 19,
-        },
-    ];
-    let text = listing(alloc, &refused, &entries, &TOKENS, &LOCKS, &HISTORY)?;
-    assert_eq!(rt; text.as_str(), LISTING);
-    let empty = listing(alloc, &[], &[], &[], &[], &[])?;
-    assert_eq!(rt;
-        empty.as_str(),
-        "refused\nreplies\ntokens\nlocks\nhistory\n"
-    );
+    let entries = entries(rt.alloc(), &CALLS)?;
+    let text = listing(rt.alloc(), &REFUSED, &entries, &TOKENS, &LOCKS, &HISTORY)?;
+    assert!(rt; text.as_str() == LISTING, "{text}");
+    Ok(())
+}
+
+#[test]
+fn has_five_empty_sections(rt: HostRuntime) -> Result<(), Fail> {
+    let text = listing(rt.alloc(), &[], &[], &[], &[], &[])?;
+    assert!(rt; text.as_str() == "refused\nreplies\ntokens\nlocks\nhistory\n");
     Ok(())
 }
 
@@ -242,28 +254,36 @@ const QUERIES: [Item; 2] = [
     },
 ];
 
+const QUERY_CALLS: [(CallId, Option<(CallId, Reply)>); 2] = [
+    (CALL, Some((CALL, BLOCKED))),
+    (NEXT_CALL, Some((NEXT_CALL, Reply::Free))),
+];
+
 #[test]
 fn shows_queries(rt: HostRuntime) -> Result<(), Fail> {
-    let alloc = rt.alloc();
-    let entries = vec![in alloc;
-        entry(alloc, CALL, Some((CALL, BLOCKED))),
-        entry(alloc, NEXT_CALL, Some((NEXT_CALL, Reply::Free))),
-    ]?;
-    let text = listing(alloc, &[], &entries, &[], &[], &QUERIES)?;
-    assert_eq!(rt; text.as_str(), QUERIED_LISTING);
+    let entries = entries(rt.alloc(), &QUERY_CALLS)?;
+    let text = listing(rt.alloc(), &[], &entries, &[], &[], &QUERIES)?;
+    assert!(rt; text.as_str() == QUERIED_LISTING, "{text}");
     Ok(())
 }
 
 // The listing of a run of one entry, which answers its call so.
-fn listing_of_reply(alloc: Global, reply: Reply) -> Result<String, Fail> {
-    let entries = vec![in alloc; entry(alloc, CALL, Some((CALL, reply)))]?;
-    Ok(listing(alloc, &[], &entries, &[], &[], &[])?)
+fn listing_of_reply(alloc: Global, reply: Reply) -> Result<String, AllocError> {
+    let entries = entries(alloc, &[(CALL, Some((CALL, reply)))])?;
+    listing(alloc, &[], &entries, &[], &[], &[])
+}
+
+// Whether the listing of a run of one entry has this text of its reply.
+fn is_named(alloc: Global, reply: Reply, name: &str) -> Result<bool, Fail> {
+    let text = format!(in alloc;
+        "refused\nreplies\n      1 1.1.1            {name}\ntokens\nlocks\nhistory\n"
+    )?;
+    Ok(listing_of_reply(alloc, reply)?.as_str() == text.as_str())
 }
 
 #[test]
 fn names_each_reply(rt: HostRuntime) -> Result<(), Fail> {
-    let alloc = rt.alloc();
-    let replies = [
+    for (reply, name) in [
         (Reply::Done, "done"),
         (Reply::Fd(63), "fd 63"),
         (Reply::Free, "free"),
@@ -275,13 +295,8 @@ fn names_each_reply(rt: HostRuntime) -> Result<(), Fail> {
         (Reply::NoLocks, "no-locks"),
         (Reply::Invalid, "invalid"),
         (Reply::Overflow, "overflow"),
-    ];
-    for (reply, want) in replies {
-        let made = listing_of_reply(alloc, reply)?;
-        let text = format!(in alloc;
-            "refused\nreplies\n      1 1.1.1            {want}\ntokens\nlocks\nhistory\n"
-        )?;
-        assert_eq!(rt; made.as_str(), text.as_str());
+    ] {
+        assert!(rt; is_named(rt.alloc(), reply, name)?, "{name}");
     }
     Ok(())
 }

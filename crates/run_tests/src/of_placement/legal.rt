@@ -1,4 +1,6 @@
 //! Which histories are legal.
+ghost use Rattle.std.specs.Prelude.{◌<◌};
+
 use cluster_core::item::Item;
 use intervals::span::Span;
 use model::access::Access;
@@ -10,7 +12,7 @@ use model::owner::{Kind, Owner};
 use model::reply::Reply;
 use placement::history::History;
 use placement::legal::legal;
-use std::alloc::Global;
+use std::alloc::{AllocError, Global};
 use std::test::Fail;
 
 const OPEN: Op = Op::Open {
@@ -91,9 +93,8 @@ fn blocked(span: Span) -> Reply {
     Reply::Again(region(span))
 }
 
-// Calls of node 1, each with its position and its process.
-fn calls(alloc: Global, made: &[(u32, u16, Op, Reply)]) -> Result<Vec<Item>, Fail> {
-    let mut items = Vec::new(alloc);
+// Adds calls of node 1, each with its position and its process.
+fn push_calls(items: &mut Vec<Item>, made: &[(u32, u16, Op, Reply)]) -> Result<(), AllocError> {
     for &(position, pid, op, reply) in made {
         items.push(Item::Answered {
             position,
@@ -103,12 +104,20 @@ fn calls(alloc: Global, made: &[(u32, u16, Op, Reply)]) -> Result<Vec<Item>, Fai
             reply,
         })?;
     }
-    Ok(items)
+    Ok(())
 }
 
-fn is_legal(rt: &impl AllocGlobal, items: Vec<Item>) -> Result<bool, Fail> {
+fn is_legal(alloc: Global, items: Vec<Item>) -> Result<bool, Fail> {
     let history = History::new(items)?;
-    Ok(legal(rt.alloc(), &history)?)
+    Ok(legal(alloc, &history)?)
+}
+
+// Whether these calls may be answered so, behind those with which it starts.
+fn may_follow(alloc: Global, made: &[(u32, u16, Op, Reply)]) -> Result<bool, Fail> {
+    let mut items = Vec::new(alloc);
+    push_calls(&mut items, &START)?;
+    push_calls(&mut items, made)?;
+    is_legal(alloc, items)
 }
 
 #[test]
@@ -123,11 +132,9 @@ fn allows_what_one_machine_may_answer(rt: HostRuntime) -> Result<(), Fail> {
         ((9, 256, Op::Spawn, Reply::Done), true),
         ((9, 257, Op::Spawn, Reply::Done), false),
     ] {
-        let mut made = Vec::from_slice(rt.alloc(), &START)?;
-        made.push(call)?;
-        assert_eq!(rt; is_legal(&rt, calls(rt.alloc(), &made)?)?, may);
+        assert!(rt; may_follow(rt.alloc(), &[call])? == may);
     }
-    assert!(rt; is_legal(&rt, Vec::new(rt.alloc()))?);
+    assert!(rt; is_legal(rt.alloc(), Vec::new(rt.alloc()))?);
     Ok(())
 }
 
@@ -152,9 +159,7 @@ fn allows_what_a_wait_may_be_answered(rt: HostRuntime) -> Result<(), Fail> {
         (2, QUERY, Reply::Interrupted, false),
         (3, Op::Spawn, Reply::Interrupted, false),
     ] {
-        let mut made = Vec::from_slice(rt.alloc(), &START)?;
-        made.push((9, pid, op, reply))?;
-        assert_eq!(rt; is_legal(&rt, calls(rt.alloc(), &made)?)?, may);
+        assert!(rt; may_follow(rt.alloc(), &[(9, pid, op, reply)])? == may);
     }
     Ok(())
 }
@@ -170,11 +175,43 @@ fn allows_what_a_query_may_be_told(rt: HostRuntime) -> Result<(), Fail> {
         (1, Reply::Free, true),
         (1, Reply::Blocked(region(Span { lo: 0, hi: 9 })), false),
     ] {
-        let mut made = Vec::from_slice(rt.alloc(), &START)?;
-        made.push((9, pid, QUERY, reply))?;
-        assert_eq!(rt; is_legal(&rt, calls(rt.alloc(), &made)?)?, may);
+        assert!(rt; may_follow(rt.alloc(), &[(9, pid, QUERY, reply)])? == may);
     }
     Ok(())
+}
+
+// Adds that the incarnation of node 1 is gone, and then an answer to process 1 of a node.
+fn push_gone(
+    items: &mut Vec<Item>,
+    position: u32,
+    incarnation: u16,
+    id: CallId,
+    op: Op,
+    reply: Reply,
+) -> Result<(), AllocError>
+    requires { position < u32.MAX }
+{
+    items.push(Item::Gone {
+        position,
+        node: 1,
+        incarnation,
+    })?;
+    items.push(Item::Answered {
+        position: position + 1,
+        id,
+        pid: 1,
+        op,
+        reply,
+    })?;
+    Ok(())
+}
+
+// Whether a process that begins before the incarnation of its node is gone may then be answered so.
+fn may_open_then(alloc: Global, incarnation: u16, reply: Reply) -> Result<bool, Fail> {
+    let mut items = Vec::new(alloc);
+    push_calls(&mut items, &[(1, 1, Op::Spawn, Reply::Done)])?;
+    push_gone(&mut items, 2, incarnation, CALL, OPEN, reply)?;
+    is_legal(alloc, items)
 }
 
 #[test]
@@ -184,26 +221,13 @@ fn ends_the_processes_of_a_node_that_is_gone(rt: HostRuntime) -> Result<(), Fail
         (1, Reply::Fd(0), false),
         (2, Reply::Fd(0), true),
     ] {
-        let mut items = calls(rt.alloc(), &[(1, 1, Op::Spawn, Reply::Done)])?;
-        items.push(Item::Gone {
-            position: 2,
-            node: 1,
-            incarnation,
-        })?;
-        items.push(Item::Answered {
-            position: 3,
-            id: CALL,
-            pid: 1,
-            op: OPEN,
-            reply,
-        })?;
-        assert_eq!(rt; is_legal(&rt, items)?, may);
+        assert!(rt; may_open_then(rt.alloc(), incarnation, reply)? == may);
     }
     Ok(())
 }
 
 // Process 1 of node 1 holds a write lock of bytes 0 to 9, and process 1 of node 2 has the file open.
-fn two_nodes(alloc: Global, kind: Kind) -> Result<Vec<Item>, Fail> {
+fn push_two_nodes(items: &mut Vec<Item>, kind: Kind) -> Result<(), AllocError> {
     let set = Op::Set {
         fd: 0,
         kind,
@@ -211,7 +235,6 @@ fn two_nodes(alloc: Global, kind: Kind) -> Result<Vec<Item>, Fail> {
         start: 0,
         len: 10,
     };
-    let mut items = Vec::new(alloc);
     for (position, id, op, reply) in [
         (1, CALL, Op::Spawn, Reply::Done),
         (2, ELSEWHERE, Op::Spawn, Reply::Done),
@@ -227,7 +250,15 @@ fn two_nodes(alloc: Global, kind: Kind) -> Result<Vec<Item>, Fail> {
             reply,
         })?;
     }
-    Ok(items)
+    Ok(())
+}
+
+// Whether the process of node 2 may be answered so once the incarnation of node 1 is gone.
+fn may_set_then(alloc: Global, kind: Kind, incarnation: u16, reply: Reply) -> Result<bool, Fail> {
+    let mut items = Vec::new(alloc);
+    push_two_nodes(&mut items, kind)?;
+    push_gone(&mut items, 6, incarnation, ELSEWHERE, SECOND, reply)?;
+    is_legal(alloc, items)
 }
 
 // The process of node 2 gets its lock where the node that was in the way is gone.
@@ -241,20 +272,7 @@ fn frees_the_locks_of_a_node_that_is_gone(rt: HostRuntime) -> Result<(), Fail> {
         (Kind::OfProcess, 2, Reply::Done, false),
         (Kind::OfDescription, 2, Reply::Done, false),
     ] {
-        let mut items = two_nodes(rt.alloc(), kind)?;
-        items.push(Item::Gone {
-            position: 6,
-            node: 1,
-            incarnation,
-        })?;
-        items.push(Item::Answered {
-            position: 7,
-            id: ELSEWHERE,
-            pid: 1,
-            op: SECOND,
-            reply,
-        })?;
-        assert_eq!(rt; is_legal(&rt, items)?, may);
+        assert!(rt; may_set_then(rt.alloc(), kind, incarnation, reply)? == may);
     }
     Ok(())
 }
