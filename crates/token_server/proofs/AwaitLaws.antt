@@ -1,14 +1,14 @@
 -- The nodes whose rows the requests of a server wait for.
-use Rattle.std.specs.Prelude.{◌≡◌, ℕ, ◌+◌, ◌<◌, ◌≤◌, Bool, true, false, cond, not, ◌&&◌, ◌==◌, nat_le, List, [], ◌∷◌, ◌++◌, All, map, length, Option, Some, None}
-use Rattle.std.proofs.Common.{refl, sym, ap, subst, ◌∙◌, arith}
+use Rattle.std.specs.Prelude.{◌≡◌, ℕ, Bool, false, cond, ◌&&◌, ◌==◌, List, [], ◌∷◌, ◌++◌, All, Some}
+use Rattle.std.proofs.Common.{refl, sym, ap, ◌∙◌}
 use Rattle.std.proofs.lemmas.Bool.{lt-leb}
 use Rattle.std.proofs.lemmas.List.Elements.{All-nil, All-cons, All-head, All-tail}
 use Rattle.token_queue.specs.declared.token_request.TokenRequest.{TokenRequest}
 use Rattle.token_queue.specs.declared.held.Held.{Held}
-use Rattle.token_queue.specs.Actives.{requests_of, waiting_for}
+use Rattle.token_queue.specs.Actives.{waiting_for}
 use Rattle.token_server.specs.declared.row_edits.RowEdit.{RowEdit}
 use Rattle.token_server.specs.declared.sketch.Changed.{Changed}
-use Rattle.token_server.specs.State.{Row, ServerState}
+use Rattle.token_server.specs.State.{ServerState}
 use Rattle.token_server.specs.Serve.{row_conflicts, conflicting_node}
 use Rattle.token_server.specs.Obstacles.{obstacle, frees}
 use Rattle.token_server.specs.Parts.{ServerParts, server_state, rows_of}
@@ -16,7 +16,6 @@ use Rattle.token_server.specs.Sketches.{rows_after}
 use Rattle.token_server.specs.Edits.{overlaid, reached}
 use Rattle.token_server.proofs.FreeLaws.{obstacle-changed}
 use Rattle.token_server.proofs.MarkLaws.{unopposed-none}
-use Rattle.token_server.proofs.ObstacleLaws.{obstacle-same}
 
 -- a request that no row stands in the way of waits for the row of its own node
 pub unopposed-own : (s : ServerState) (r : TokenRequest) → ((node : ℕ) → row_conflicts (s.rows node) r.wanted.required r.mode ≡ false) → r.call.node ≡ obstacle s r
@@ -41,14 +40,6 @@ await-all P (h ∷ held) (a ∷ ats) all = All-cons (λ h. P h.request h.at) (re
 await-all P [] (a ∷ ats) all = absurd all
 await-all P (h ∷ held) [] all = absurd all
 
--- rows that do not change stand in the way as before
-pub unchanged-waits : (p : ServerParts) (edits : List RowEdit) (held : List Held) → rows_of (overlaid p.clients edits) ≡ rows_after None (rows_of p.clients) → All (λ h. obstacle (server_state p) h.request ≡ h.at) held → All (λ h. obstacle (reached p edits) h.request ≡ h.at) held
-unchanged-waits p edits [] rows all = All-nil (λ h. obstacle (reached p edits) h.request ≡ h.at)
-unchanged-waits p edits (h ∷ held) rows all =
-    All-cons (λ h. obstacle (reached p edits) h.request ≡ h.at) h held
-    (obstacle-same (server_state p) (reached p edits) h.request refl (λ n. ap (λ (f : ℕ → Option Row). not (n == h.request.call.node) && row_conflicts (f n) h.request.wanted.required h.request.mode) rows) ∙ All-head (λ h. obstacle (server_state p) h.request ≡ h.at) h held all)
-    (unchanged-waits p edits held rows (All-tail (λ h. obstacle (server_state p) h.request ≡ h.at) h held all))
-
 -- one that is not freed waits as before
 pub unfreed-waits : (p : ServerParts) (edits : List RowEdit) (c : Changed) (h : Held) → rows_of (overlaid p.clients edits) ≡ rows_after (Some c) (rows_of p.clients) → obstacle (server_state p) h.request ≡ h.at → (h.at == c.node && frees c.change (rows_of p.clients c.node) h.request.wanted.required) ≡ false → obstacle (reached p edits) h.request ≡ h.at
 unfreed-waits p edits c h rows waits kept =
@@ -61,8 +52,3 @@ unfreed-all p edits c (h ∷ held) rows waits kept =
     All-cons (λ h. obstacle (reached p edits) h.request ≡ h.at) h held
     (unfreed-waits p edits c h rows (All-head (λ h. obstacle (server_state p) h.request ≡ h.at) h held waits) (All-head (λ h. (h.at == c.node && frees c.change (rows_of p.clients c.node) h.request.wanted.required) ≡ false) h held kept))
     (unfreed-all p edits c held rows (All-tail (λ h. obstacle (server_state p) h.request ≡ h.at) h held waits) (All-tail (λ h. (h.at == c.node && frees c.change (rows_of p.clients c.node) h.request.wanted.required) ≡ false) h held kept))
-
--- requests, one more
-pub requests-more : (held : List Held) (h : Held) → requests_of (held ++ h ∷ []) ≡ requests_of held ++ h.request ∷ []
-requests-more [] h = refl
-requests-more (x ∷ held) h = ap (λ (rs : List TokenRequest). x.request ∷ rs) (requests-more held h)

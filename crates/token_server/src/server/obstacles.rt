@@ -168,7 +168,7 @@ impl Server {
         ensures { IfOk result (λ ats. All (λ h. obstacle (reached self.now rows.now) h.request ≡ h.at) (waiting_for ats.items self.now.active.held)) }
     {
         let _ = &self.shape; // tells the proof what holds between two steps
-        let mut ats = Vec::new(alloc);
+        let mut ats = Vec::with_capacity(alloc, self.active.as_slice().len())?;
         for held in self.active.as_slice() {
             ats.push(self.at_after(rows, changed, own, held))?;
         }
