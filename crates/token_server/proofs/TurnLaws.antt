@@ -4,9 +4,9 @@ use Rattle.std.specs.Option.{option_to_list}
 use Rattle.std.proofs.Common.{refl, sym, ap, subst, ◌∙◌, inl, inr, arith, take, drop, get_or, append-nil, append_assoc}
 use Rattle.std.proofs.lemmas.Bool.{both_ways, and_parts, leb-true, le-leb, lt-leb, cases_lt}
 use Rattle.std.proofs.lemmas.Bool.Decides.{eqb_tells}
-use Rattle.std.proofs.lemmas.List.{map-append, take_more}
+use Rattle.std.proofs.lemmas.List.{map-append, take_more, take_all}
 use Rattle.std.proofs.lemmas.List.Elements.{All-nil, All-cons, All-head, All-tail, All-push, filter-append}
-use Rattle.std.proofs.lemmas.Option.{none-some, same_Some, slice_get_within, get_or_from_slice_get}
+use Rattle.std.proofs.lemmas.Option.{none-some, same_Some, slice_get_within, slice_get-get_or, get_or_from_slice_get}
 use Rattle.intervals.proofs.SearchLaws.{first_is_first}
 use Rattle.model.specs.declared.call.CallId.{CallId}
 use Rattle.messages.specs.declared.refusal.StepError.{StepError}
@@ -326,3 +326,69 @@ pub turn-spent : (s : ServerState) (all done rest : List Held) (h : Held) (told 
 turn-spent s all done rest h told e is active a refused =
     ap (λ (rs : List TokenRequest). each_served rs s) (active ∙ ap requests_of is ∙ requests-around done rest h)
     ∙ served-spent s (requests_of done) told h.request a.comes (requests_of rest) e refused
+
+pub read-place : (xs held : List Held) (i : ℕ) (item : Held) → xs ≡ held → i < length xs → item ≡ get_or xs i item → slice_get held i ≡ Some item
+read-place xs held i item same within is = ap (λ (ys : List Held). slice_get ys i) (sym same) ∙ slice_get-get_or xs i item within ∙ ap (λ (h : Held). Some h) (sym is)
+
+-- the request at a place, as it is read there
+pub waits-place : (l : Lists) (xs held : List Held) (i : ℕ) (item : Held) (ats : List ℕ) (at : ℕ) → xs ≡ held → ats ≡ l.ats.items → i < length xs → item ≡ get_or xs i item → at ≡ slice_index_or ats i item.at → slice_get (waiting_for l.ats.items held) i ≡ Some (record { request = item.request; at = at })
+waits-place l xs held i item ats at same same_ats within is at_is =
+    waits-at l.ats.items held i item (read-place xs held i item same within is)
+    ∙ ap (λ (k : ℕ). let o : Option Held = Some (record { request = item.request; at = k }) in o) (sym (at_is ∙ ap (λ (ys : List ℕ). slice_index_or ys i item.at) same_ats))
+
+-- none could go to the node whose row it waits for, which it waited for before, and it is not touched
+pub quiet-place : (s t : ServerState) (touched : Option ℕ) (held : List Held) (i : ℕ) (item : Held) (at : ℕ) → All (λ h. is_idle (s.rows h.at) ≡ false) held → slice_get held i ≡ Some item → at ≡ item.at → (touched ≡ Some at → ⊥) → ((n : ℕ) → (touched ≡ Some n → ⊥) → t.rows n ≡ s.rows n) → is_idle (t.rows at) ≡ false
+quiet-place s t touched held i item at quiet there same apart untouched =
+    ap is_idle (untouched at apart)
+    ∙ ap (λ (k : ℕ). is_idle (s.rows k)) same
+    ∙ subst (λ (h : Held). is_idle (s.rows h.at) ≡ false) (get_or_from_slice_get held i item item there) (quiet i item (slice_get_within held i item there))
+
+module _ (l : Lists) (held : List Held) (s : ServerState) (told : List Told) (i : ℕ) (w : Held) where
+  abbrev all : List Held
+  all = held_after l held
+
+  abbrev waiting : List Held
+  waiting = waiting_for l.ats.items held
+
+  -- a request that was served
+  module _ (there : slice_get waiting i ≡ Some w) where
+    kept-next : take (i + 1) waiting ≡ take i waiting ++ w ∷ []
+    kept-next = take-next waiting i w there
+
+    pub kept-split : keeps l.dropped l.ended w.request ≡ true → all ≡ kept l (take i waiting) ++ w ∷ (kept l (drop (i + 1) waiting) ++ l.fresh.items)
+    kept-split on = held_after-kept l held ∙ kept-around l waiting i w there on
+
+    pub kept-turn : (after : List Told) → keeps l.dropped l.ended w.request ≡ true → s.active ≡ requests_of all → are_apart s.active ≡ true → AreServed s all (kept l (take i waiting)) told → IsTurn s w told after → AreServed s all (kept l (take (i + 1) waiting)) after
+    kept-turn after on active apart a t =
+        subst (λ (hs : List Held). AreServed s all hs after) (sym (kept-more l (take i waiting) (take (i + 1) waiting) w kept-next on))
+        (turn-next s all (kept l (take i waiting)) (kept l (drop (i + 1) waiting) ++ l.fresh.items) w told after (kept-split on) active apart a t)
+
+    pub kept-left : keeps l.dropped l.ended w.request ≡ false → AreServed s all (kept l (take i waiting)) told → AreServed s all (kept l (take (i + 1) waiting)) told
+    kept-left off a = subst (λ (hs : List Held). AreServed s all hs told) (sym (kept-less l (take i waiting) (take (i + 1) waiting) w kept-next off)) a
+
+    pub kept-silent : is_idle (s.rows w.at) ≡ false → AreServed s all (kept l (take i waiting)) told → AreServed s all (kept l (take (i + 1) waiting)) told
+    kept-silent quiet a = by (keeps l.dropped l.ended w.request) refl
+      where
+        by : (b : Bool) → keeps l.dropped l.ended w.request ≡ b → AreServed s all (kept l (take (i + 1) waiting)) told
+        by false off = kept-left off a
+        by true on =
+            subst (λ (hs : List Held). AreServed s all hs told) (sym (kept-more l (take i waiting) (take (i + 1) waiting) w kept-next on))
+            (turn-silent s all (kept l (take i waiting)) (kept l (drop (i + 1) waiting) ++ l.fresh.items) w told (kept-split on) a quiet)
+
+  -- one that comes
+  module _ (there : slice_get l.fresh.items i ≡ Some w) where
+    pub fresh-split : all ≡ (kept_of l held ++ take i l.fresh.items) ++ w ∷ drop (i + 1) l.fresh.items
+    fresh-split =
+        held_after-kept l held
+        ∙ ap (λ (hs : List Held). kept_of l held ++ hs) (list-at l.fresh.items i w (take-next l.fresh.items i w there))
+        ∙ sym (append_assoc (kept_of l held) (take i l.fresh.items) (w ∷ drop (i + 1) l.fresh.items))
+
+    pub fresh-turn : (after : List Told) → s.active ≡ requests_of all → are_apart s.active ≡ true → AreServed s all (kept_of l held ++ take i l.fresh.items) told → IsTurn s w told after → AreServed s all (kept_of l held ++ take (i + 1) l.fresh.items) after
+    fresh-turn after active apart a t =
+        subst (λ (hs : List Held). AreServed s all hs after)
+        (append_assoc (kept_of l held) (take i l.fresh.items) (w ∷ []) ∙ ap (λ (hs : List Held). kept_of l held ++ hs) (sym (take-next l.fresh.items i w there)))
+        (turn-next s all (kept_of l held ++ take i l.fresh.items) (drop (i + 1) l.fresh.items) w told after fresh-split active apart a t)
+
+-- all of them
+pub served-whole : (l : Lists) (held : List Held) (i : ℕ) → length l.fresh.items ≤ i → kept_of l held ++ take i l.fresh.items ≡ held_after l held
+served-whole l held i past = ap (λ (hs : List Held). kept_of l held ++ hs) (take_all i l.fresh.items past) ∙ sym (held_after-kept l held)

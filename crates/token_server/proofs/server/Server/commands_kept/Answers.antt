@@ -1,0 +1,87 @@
+use Rattle.std.specs.Prelude.{◌≡◌, ◌+◌, ◌≤◌, true, false, List, ◌∷◌, ◌++◌, length, slice_get, All, Some}
+use Rattle.std.proofs.Common.{refl, sym, ap, subst, ◌∙◌, take, drop, arith}
+use Rattle.std.proofs.lemmas.List.{take_all}
+use Rattle.std.proofs.lemmas.Result.{err_from_is_err_and}
+use Rattle.token_queue.specs.declared.held.Held.{Held}
+use Rattle.token_queue.specs.Actives.{waiting_for}
+use Rattle.token_queue.proofs.ActiveLaws.{waiting_for-length}
+use Rattle.token_server.specs.declared.lists.Lists.{Lists}
+use Rattle.token_server.specs.declared.told.Told.{Told}
+use Rattle.token_server.specs.State.{ServerState}
+use Rattle.token_server.specs.Obstacles.{is_idle}
+use Rattle.token_server.specs.Parts.{ServerParts, server_state}
+use Rattle.token_server.specs.Edits.{keeps, held_after, drafted}
+use Rattle.token_server.specs.Turns.{kept, kept_of, AreServed}
+use Rattle.token_server.proofs.TurnLaws.{read-place, waits-place, quiet-place, waits-here, turn-spent, kept-split, kept-turn, kept-left, kept-silent}
+use Rattle.token_server.proofs.server.Server.commands_kept.Goals.{then-may_come+then-keeps+in_ok-serve_one, else-may_come, else-may_come-via-then-may_come+else-keeps, else-may_come-via-else-may_come}
+use Rattle.token_server.proofs.server.Server.commands_kept.Goals as goal
+
+pub serve_one-requires : goal.serve_one-requires
+serve_one-requires c =
+    let i = c.loop-place.place in
+    let s : ServerState = drafted c.args.self.now c.args.draft.now in
+    let l : Lists = c.args.draft.now.lists in
+    let held : List Held = c.args.self.now.active.held in
+    let item : Held = c.index-active-place.result in
+    let w : Held = record { request = item.request; at = c.awaited-at.result } in
+    let read : c.as_slice-active.result.now ≡ held = c.as_slice-active.ensures ∙ ap (λ (p : ServerParts). p.active.held) c.self.view_is in
+    let there : slice_get (waiting_for l.ats.items held) i ≡ Some w = waits-place l c.as_slice-active.result.now held i item c.as_slice.result.now c.awaited-at.result read c.as_slice.ensures.value c.loop-place-test.true c.index-active-place.is c.awaited-at.ensures in
+    let on : keeps l.dropped l.ended item.request ≡ true = sym c.keeps.ensures ∙ c.if-keeps.true in
+    let done : List Held = kept l (take i (waiting_for l.ats.items held)) in
+    let rest : List Held = kept l (drop (i + 1) (waiting_for l.ats.items held)) ++ l.fresh.items in
+    let split : held_after l held ≡ done ++ w ∷ rest = kept-split l held s c.loop-place.told.items i w there on in
+    waits-here s (held_after l held) done rest w c.loop-place.told.items split c.loop-place.invariant
+
+pub returns-in_err-serve_one-clause-err : goal.returns-in_err-serve_one-clause-err
+returns-in_err-serve_one-clause-err c =
+    let i = c.loop-place.place in
+    let s : ServerState = drafted c.args.self.now c.args.draft.now in
+    let l : Lists = c.args.draft.now.lists in
+    let held : List Held = c.args.self.now.active.held in
+    let item : Held = c.index-active-place.result in
+    let w : Held = record { request = item.request; at = c.awaited-at.result } in
+    let read : c.as_slice-active.result.now ≡ held = c.as_slice-active.ensures ∙ ap (λ (p : ServerParts). p.active.held) c.self.view_is in
+    let there : slice_get (waiting_for l.ats.items held) i ≡ Some w = waits-place l c.as_slice-active.result.now held i item c.as_slice.result.now c.awaited-at.result read c.as_slice.ensures.value c.loop-place-test.true c.index-active-place.is c.awaited-at.ensures in
+    let on : keeps l.dropped l.ended item.request ≡ true = sym c.keeps.ensures ∙ c.if-keeps.true in
+    let done : List Held = kept l (take i (waiting_for l.ats.items held)) in
+    let rest : List Held = kept l (drop (i + 1) (waiting_for l.ats.items held)) ++ l.fresh.items in
+    let split : held_after l held ≡ done ++ w ∷ rest = kept-split l held s c.loop-place.told.items i w there on in
+    let p = err_from_is_err_and c.from_residual.result c.from_residual.ensures.1 in
+    rw (p.1, p.2) (λ other. turn-spent s (held_after l held) done rest w c.loop-place.told.items _ split refl c.loop-place.invariant (c.in_err-serve_one.ensures.err other))
+
+pub loop-place-preserved : goal.loop-place-preserved
+loop-place-preserved c =
+    let i = c.loop-place.place in
+    let s : ServerState = drafted c.args.self.now c.args.draft.now in
+    let l : Lists = c.args.draft.now.lists in
+    let held : List Held = c.args.self.now.active.held in
+    let item : Held = c.index-active-place.result in
+    let w : Held = record { request = item.request; at = c.awaited-at.result } in
+    let read : c.as_slice-active.result.now ≡ held = c.as_slice-active.ensures ∙ ap (λ (p : ServerParts). p.active.held) c.self.view_is in
+    let there : slice_get (waiting_for l.ats.items held) i ≡ Some w = waits-place l c.as_slice-active.result.now held i item c.as_slice.result.now c.awaited-at.result read c.as_slice.ensures.value c.loop-place-test.true c.index-active-place.is c.awaited-at.ensures in
+    let Next : List Told → Type 0 = λ ts. AreServed s (held_after l held) (kept l (take (i + 1) (waiting_for l.ats.items held))) ts in
+    elim c.if-may_come.branch [
+      | then-may_come+then-keeps+in_ok-serve_one v ↦
+          let on : keeps l.dropped l.ended item.request ≡ true = sym v.keeps.ensures ∙ v.if-keeps.true in
+          rw v.told-is (kept-turn l held s c.loop-place.told.items i w there v.serve_one.new.told.items on refl c.requires.apart c.loop-place.invariant v.in_ok-serve_one.ensures.ok)
+      | else-may_come v ↦ rw v.told-is (elim v.else-may_come.branch as (λ b. Next c.loop-place.told.items) [
+        | else-may_come-via-then-may_come+else-keeps u ↦ kept-left l held s c.loop-place.told.items i w there (sym u.keeps.ensures ∙ u.if-keeps.false) c.loop-place.invariant
+        | else-may_come-via-else-may_come u ↦
+            let quiet : All (λ h. is_idle ((server_state c.args.self.now).rows h.at) ≡ false) held =
+            subst (λ (p : ServerParts). All (λ h. is_idle ((server_state p).rows h.at) ≡ false) p.active.held) c.self.view_is c.self.invariant.ready.quiet in
+            let here : slice_get held i ≡ Some item = read-place c.as_slice-active.result.now held i item read c.loop-place-test.true c.index-active-place.is in
+            kept-silent l held s c.loop-place.told.items i w there
+            (quiet-place (server_state c.args.self.now) s c.args.touched held i item c.awaited-at.result quiet here (c.may_come.ensures.same u.if-may_come.false) (c.may_come.ensures.untouched u.if-may_come.false) c.requires.untouched)
+            c.loop-place.invariant
+      ])
+    ]
+
+pub returns-clause-ok : goal.returns-clause-ok
+returns-clause-ok c =
+    let s : ServerState = drafted c.args.self.now c.args.draft.now in
+    let l : Lists = c.args.draft.now.lists in
+    let held : List Held = c.args.self.now.active.held in
+    let read : c.as_slice-active.result.now ≡ held = c.as_slice-active.ensures ∙ ap (λ (p : ServerParts). p.active.held) c.self.view_is in
+    let many : length (waiting_for l.ats.items held) ≡ length c.as_slice-active.result.now = waiting_for-length l.ats.items held ∙ ap (λ (hs : List Held). length hs) (sym read) in
+    let past : length (waiting_for l.ats.items held) ≤ c.loop-place.place = omega (arith, many, c.loop-place-test.false) in
+    subst (λ (hs : List Held). AreServed s (held_after l held) (kept l hs) c.loop-place.told.items) (take_all c.loop-place.place (waiting_for l.ats.items held) past) c.loop-place.invariant
