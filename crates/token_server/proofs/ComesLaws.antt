@@ -14,7 +14,7 @@ use Rattle.token_queue.specs.Actives.{requests_of}
 use Rattle.token_queue.proofs.CallLaws.{same_call-refl}
 use Rattle.token_queue.proofs.SlotLaws.{requests_in-append}
 use Rattle.token_queue.proofs.WalkLaws.{requests_in-around, requests_in-more}
-use Rattle.token_server.specs.declared.server.admitting.Gone.{Gone}
+use Rattle.token_server.specs.declared.gone.Gone.{Gone}
 use Rattle.token_server.specs.declared.sketch.Moved.{Moved}
 use Rattle.token_server.specs.declared.sketch.Moved.TheVariants.{Nothing, New, Again, Waiting, PutOff}
 use Rattle.token_server.specs.Serve.{meets_some}

@@ -36,6 +36,7 @@ use Rattle.token_server.proofs.AdmitLaws.{ready-is}
 use Rattle.token_server.proofs.AdmittingLaws.{all_but-none, calls, calls-append, calls-cons, apart-fewer, admitted-keeps_apart, admitted-leaves}
 use Rattle.token_server.proofs.StayLaws.{Stay}
 use Rattle.token_server.proofs.EditLaws.{overlaid-length}
+use Rattle.token_server.proofs.TurnLaws.{held_after-requests}
 use Rattle.token_server.proofs.OrderlyLaws.{Living, calls-kinds, calls-one, orderly-ready}
 
 -- where none of the requests is of a dead incarnation, none goes
@@ -84,40 +85,6 @@ many-fewer (New r) d rs = omega arith
 many-fewer (Again call r) d rs = omega arith
 many-fewer Waiting d rs = without-fewer d rs
 many-fewer (PutOff r) d rs = omega arith
-
--- those that are served on
-still-held : (e : Option CallId) (d : Option (ℕ × ℕ)) (ats : List ℕ) (held : List Held) → requests_of (held_still e (held_without d (waiting_for ats held))) ≡ still_active e (without d (requests_of held))
-still-held e d ats held = still e (held_without d (waiting_for ats held)) ∙ ap (still_active e) (drop d (waiting_for ats held) ∙ ap (without d) (wait ats held))
-  where
-    passing : (p : TokenRequest → Bool) (hs : List Held) → requests_of (filter (λ h. p h.request) hs) ≡ filter p (requests_of hs)
-    passing p [] = refl
-    passing p (h ∷ hs) = by (p h.request) (passing p hs)
-      where
-        by : (b : Bool) → requests_of (filter (λ x. p x.request) hs) ≡ filter p (requests_of hs) → requests_of (cond b (h ∷ filter (λ x. p x.request) hs) (filter (λ x. p x.request) hs)) ≡ cond b (h.request ∷ filter p (requests_of hs)) (filter p (requests_of hs))
-        by true rest = ap (λ (xs : List TokenRequest). h.request ∷ xs) rest
-        by false rest = rest
-
-    still : (e : Option CallId) (hs : List Held) → requests_of (held_still e hs) ≡ still_active e (requests_of hs)
-    still None hs = refl
-    still (Some call) hs = passing (λ r. not (is_of_call call r)) hs
-
-    drop : (d : Option (ℕ × ℕ)) (hs : List Held) → requests_of (held_without d hs) ≡ without d (requests_of hs)
-    drop None hs = refl
-    drop (Some d) hs = passing (λ r. not (is_up_to d.0 d.1 r)) hs
-
-    wait : (ats : List ℕ) (hs : List Held) → requests_of (waiting_for ats hs) ≡ requests_of hs
-    wait [] hs = refl
-    wait (a ∷ ats) [] = refl
-    wait (a ∷ ats) (h ∷ hs) = ap (λ (xs : List TokenRequest). h.request ∷ xs) (wait ats hs)
-
-held-append : (xs ys : List Held) → requests_of (xs ++ ys) ≡ requests_of xs ++ requests_of ys
-held-append [] ys = refl
-held-append (x ∷ xs) ys = ap (λ (rs : List TokenRequest). x.request ∷ rs) (held-append xs ys)
-
-pub held_after-requests : (l : Lists) (held : List Held) → requests_of (held_after l held) ≡ still_active l.ended (without l.dropped (requests_of held)) ++ requests_of l.fresh.items
-held_after-requests l held =
-    held-append (held_still l.ended (held_without l.dropped (waiting_for l.ats.items held))) l.fresh.items
-    ∙ ap (λ (xs : List TokenRequest). xs ++ requests_of l.fresh.items) (still-held l.ended l.dropped l.ats.items held)
 
 -- what holds of all holds of those that are served on
 pub kept-all : (P : Held → Type 0) (e : Option CallId) (d : Option (ℕ × ℕ)) (held : List Held) → All P held → All P (held_still e (held_without d held))

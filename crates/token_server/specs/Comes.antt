@@ -5,7 +5,7 @@ use Rattle.token_queue.specs.declared.held.Held.{Held}
 use Rattle.token_queue.specs.declared.token_request.TokenRequest.{TokenRequest}
 use Rattle.token_queue.specs.Requests.{is_of_call, meets, requests_in}
 use Rattle.token_queue.specs.Actives.{requests_of}
-use Rattle.token_server.specs.declared.server.admitting.Gone.{Gone}
+use Rattle.token_server.specs.declared.gone.Gone.{Gone}
 use Rattle.token_server.specs.Serve.{meets_some}
 use Rattle.token_server.specs.Admitting.{all_stay}
 use Rattle.token_server.specs.Ready.{AreDistinct}

@@ -7,6 +7,7 @@ mod clients;
 mod commands;
 mod ended;
 pub mod event;
+mod gone;
 pub mod laws;
 pub mod lists;
 mod moves;

@@ -2,6 +2,7 @@
 ghost use Rattle.std.specs.Prelude.{◌≡◌, not, ◌&&◌, None, [], length};
 ghost use Rattle.token_server.specs.Edits.{keeps};
 
+use crate::gone::Gone;
 use crate::sketch::Moved;
 use model::call::CallId;
 use std::alloc::Global;
@@ -50,15 +51,11 @@ impl Lists {
     pub(crate) fn keeps(&self, held: &Held) -> bool
         ensures { result ≡ keeps self.now.dropped self.now.ended held.now.request }
     {
-        if let Some((node, incarnation)) = self.dropped {
-            if held.is_up_to(node, incarnation) {
-                return false;
-            }
-        }
-        match self.ended {
-            Some(call) => !held.is_of_call(call),
-            None => true,
-        }
+        let gone = Gone {
+            dropped: self.dropped,
+            ended: self.ended,
+        };
+        gone.keeps(&held.request)
     }
 }
 

@@ -7,10 +7,10 @@ ghost use Rattle.token_server.specs.Serve.{meets_some};
 ghost use Rattle.token_server.specs.Admitting.{all_stay, IsAdmitted};
 ghost use Rattle.token_server.specs.Ready.{AreDistinct};
 ghost use Rattle.token_server.specs.Sketches.{without, still_active, queue_moved};
-ghost use Rattle.token_server.specs.Edits.{is_up_to_any, is_of_any, keeps};
 ghost use Rattle.token_server.specs.Comes.{served_on, left_in, NeedsAllOf, HasEnded};
 
 use super::Server;
+use crate::gone::Gone;
 use crate::sketch::{Moved, Sketch};
 use intervals::span::Span;
 use intervals::span_map::NoMemory;
@@ -20,14 +20,6 @@ use token_queue::active::Active;
 use token_queue::held::Held;
 use token_queue::line::Line;
 use token_queue::token_request::TokenRequest;
-
-// Which requests go before others come from the queue: those of the incarnations of a node up to one, and the
-// call's, of those that are served.
-#[derive(Clone, Copy)]
-struct Gone {
-    dropped: Option<(u8, u16)>,
-    ended: Option<CallId>,
-}
 
 impl Server {
     // The requests that come from the queue once requests were dropped, one is served no longer and requests
@@ -57,52 +49,6 @@ impl Server {
             &sketch.moved,
         )?;
         Ok(fresh)
-    }
-}
-
-impl Gone {
-    // Whether a request is dropped.
-    fn drops(&self, request: &TokenRequest) -> bool
-        ensures { result ≡ is_up_to_any self.now.dropped request.now }
-    {
-        match self.dropped {
-            Some((node, incarnation)) => request.is_up_to(node, incarnation),
-            None => false,
-        }
-    }
-
-    // Whether a request is the one that is served no longer.
-    fn ends(&self, request: &TokenRequest) -> bool
-        ensures { result ≡ is_of_any self.now.ended request.now }
-    {
-        match self.ended {
-            Some(call) => request.is_of_call(call),
-            None => false,
-        }
-    }
-
-    // Whether a request that was served is served on.
-    fn keeps(&self, request: &TokenRequest) -> bool
-        ensures { result ≡ keeps self.now.dropped self.now.ended request.now }
-    {
-        !self.drops(request) && !self.ends(request)
-    }
-
-    // Whether a request that was served is served on and needs a byte of the span.
-    fn keeps_meeting(&self, request: &TokenRequest, span: Span) -> bool
-        ensures { result ≡ (meets span request.now.wanted.required && keeps self.now.dropped self.now.ended request.now) }
-    {
-        request.meets(span) && self.keeps(request)
-    }
-
-    // Whether a request stands in the slot that is not dropped and needs a byte of the span.
-    fn leaves_meeting(&self, slot: &Option<TokenRequest>, span: Span) -> bool
-        ensures { result ≡ list_any (λ q. meets span q.wanted.required) (left_in self.now (slot.now ∷ [])) }
-    {
-        match slot {
-            Some(request) => request.meets(span) && !self.drops(request),
-            None => false,
-        }
     }
 }
 

@@ -1,0 +1,64 @@
+//! Requests that go as an event changes a token server.
+ghost use Rattle.std.specs.Prelude.{◌≡◌, ◌&&◌, ◌∷◌, []};
+ghost use Rattle.std.specs.List.{list_any};
+ghost use Rattle.token_queue.specs.Requests.{meets};
+ghost use Rattle.token_server.specs.Edits.{is_up_to_any, is_of_any, keeps};
+ghost use Rattle.token_server.specs.Comes.{left_in};
+
+use intervals::span::Span;
+use model::call::CallId;
+use token_queue::token_request::TokenRequest;
+
+/// Which requests go before others come from the queue: those of the incarnations of a node up to one, and the
+/// call's, of those that are served.
+#[derive(Clone, Copy)]
+pub(crate) struct Gone {
+    pub dropped: Option<(u8, u16)>,
+    pub ended: Option<CallId>,
+}
+
+impl Gone {
+    /// Whether a request is dropped.
+    pub fn drops(&self, request: &TokenRequest) -> bool
+        ensures { result ≡ is_up_to_any self.now.dropped request.now }
+    {
+        match self.dropped {
+            Some((node, incarnation)) => request.is_up_to(node, incarnation),
+            None => false,
+        }
+    }
+
+    /// Whether a request is the one that is served no longer.
+    pub fn ends(&self, request: &TokenRequest) -> bool
+        ensures { result ≡ is_of_any self.now.ended request.now }
+    {
+        match self.ended {
+            Some(call) => request.is_of_call(call),
+            None => false,
+        }
+    }
+
+    /// Whether a request that was served is served on.
+    pub fn keeps(&self, request: &TokenRequest) -> bool
+        ensures { result ≡ keeps self.now.dropped self.now.ended request.now }
+    {
+        !self.drops(request) && !self.ends(request)
+    }
+
+    /// Whether a request that was served is served on and needs a byte of the span.
+    pub fn keeps_meeting(&self, request: &TokenRequest, span: Span) -> bool
+        ensures { result ≡ (meets span request.now.wanted.required && keeps self.now.dropped self.now.ended request.now) }
+    {
+        request.meets(span) && self.keeps(request)
+    }
+
+    /// Whether a request stands in the slot that is not dropped and needs a byte of the span.
+    pub fn leaves_meeting(&self, slot: &Option<TokenRequest>, span: Span) -> bool
+        ensures { result ≡ list_any (λ q. meets span q.wanted.required) (left_in self.now (slot.now ∷ [])) }
+    {
+        match slot {
+            Some(request) => request.meets(span) && !self.drops(request),
+            None => false,
+        }
+    }
+}
