@@ -1,5 +1,5 @@
 -- One request after the other that is served.
-use Rattle.std.specs.Prelude.{◌≡◌, ℕ, ◌≤◌, false, List, ◌++◌, filter, All, IfSome, Option, Ok}
+use Rattle.std.specs.Prelude.{◌≡◌, ◌≤◌, false, List, ◌++◌, filter, All, IfSome, Option, Ok}
 use Rattle.std.specs.Option.{option_to_list}
 use Rattle.token_queue.specs.declared.held.Held.{Held}
 use Rattle.token_queue.specs.Actives.{requests_of, waiting_for}

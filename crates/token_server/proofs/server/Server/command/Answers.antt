@@ -1,4 +1,4 @@
-use Rattle.std.specs.Prelude.{◌≡◌, ◌++◌, false, Option, Ok, IfOk}
+use Rattle.std.specs.Prelude.{◌≡◌, ◌++◌, false, Option, Ok}
 use Rattle.std.specs.Option.{option_to_list}
 use Rattle.std.proofs.Common.{sym, ap, ◌∙◌, arith}
 use Rattle.std.proofs.lemmas.Result.{IfOk-weaker}

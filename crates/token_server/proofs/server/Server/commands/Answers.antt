@@ -1,5 +1,5 @@
-use Rattle.std.specs.Prelude.{◌≡◌, ◌+◌, ◌≤◌, false, List, ◌∷◌, ◌++◌, length, slice_get, All, Some, Ok}
-use Rattle.std.proofs.Common.{refl, sym, ap, subst, ◌∙◌, take, drop, arith}
+use Rattle.std.specs.Prelude.{◌≡◌, ◌+◌, false, List, ◌∷◌, ◌++◌, length, slice_get, All, Some, Ok}
+use Rattle.std.proofs.Common.{refl, ap, subst, take, drop, arith}
 use Rattle.std.proofs.lemmas.Result.{err_from_is_err_and}
 use Rattle.token_queue.specs.declared.held.Held.{Held}
 use Rattle.token_queue.specs.Actives.{requests_of}
@@ -9,7 +9,7 @@ use Rattle.token_server.specs.Obstacles.{is_idle}
 use Rattle.token_server.specs.Serve.{each_served}
 use Rattle.token_server.specs.Told.{with_told, commands_told}
 use Rattle.token_server.specs.Edits.{held_after, drafted}
-use Rattle.token_server.specs.Turns.{kept_of, AreServed}
+use Rattle.token_server.specs.Turns.{kept_of}
 use Rattle.token_server.proofs.ToldLaws.{Answer}
 use Rattle.token_server.proofs.TurnLaws.{read-place, waits-here, turn-spent, fresh-split, fresh-turn, served-whole}
 use Rattle.token_server.proofs.server.Server.commands.Goals as goal

@@ -11,7 +11,7 @@ use Rattle.token_server.specs.State.{ServerState}
 use Rattle.token_server.specs.Obstacles.{is_idle}
 use Rattle.token_server.specs.Parts.{ServerParts, server_state}
 use Rattle.token_server.specs.Edits.{keeps, held_after, drafted}
-use Rattle.token_server.specs.Turns.{kept, kept_of, AreServed}
+use Rattle.token_server.specs.Turns.{kept, AreServed}
 use Rattle.token_server.proofs.TurnLaws.{read-place, waits-place, quiet-place, waits-here, turn-spent, kept-split, kept-turn, kept-left, kept-silent}
 use Rattle.token_server.proofs.server.Server.commands_kept.Goals.{then-may_come+then-keeps+in_ok-serve_one, else-may_come, else-may_come-via-then-may_come+else-keeps, else-may_come-via-else-may_come}
 use Rattle.token_server.proofs.server.Server.commands_kept.Goals as goal

@@ -1,4 +1,4 @@
-use Rattle.std.specs.Prelude.{◌≡◌, ◌≤◌, List, [], ◌++◌, All}
+use Rattle.std.specs.Prelude.{◌≡◌, List, [], ◌++◌, All}
 use Rattle.std.proofs.Common.{sym, ap, subst, ◌∙◌}
 use Rattle.intervals.specs.Bytes.{Range}
 use Rattle.token_queue.specs.declared.held.Held.{Held}

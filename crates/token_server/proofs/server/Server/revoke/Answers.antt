@@ -12,7 +12,6 @@ use Rattle.token_server.specs.Sketches.{commands_of}
 use Rattle.token_server.specs.Told.{with_told}
 use Rattle.token_server.specs.Edits.{drafted}
 use Rattle.token_server.proofs.ToldLaws.{revoke-sent}
-use Rattle.token_server.proofs.TurnLaws.{held_after-requests}
 use Rattle.token_server.proofs.server.Server.revoke.Goals as goal
 
 pub returns-clause-ok : goal.returns-clause-ok

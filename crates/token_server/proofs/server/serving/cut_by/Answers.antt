@@ -6,7 +6,6 @@ use Rattle.token_queue.specs.declared.held.Held.{Held}
 use Rattle.token_queue.specs.declared.token_request.TokenRequest.{TokenRequest}
 use Rattle.token_queue.specs.Actives.{requests_of}
 use Rattle.token_server.specs.declared.lists.Lists.{Lists}
-use Rattle.token_server.specs.Sketches.{without, still_active}
 use Rattle.token_server.specs.Told.{cut, cut_all}
 use Rattle.token_server.specs.Turns.{kept}
 use Rattle.token_server.proofs.CutLaws.{HasByte, AreCut, cut-start, cut-more}
