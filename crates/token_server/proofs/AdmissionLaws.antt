@@ -1,7 +1,7 @@
 -- A request that needs no byte of another one is served at once.
-use Rattle.std.specs.Prelude.{◌≡◌, ℕ, ◌-◌, ◌<◌, ◌≤◌, Bool, true, false, not, cond, ◌||◌, ◌&&◌, nat_le, nat_lt, List, [], ◌∷◌, ◌++◌, filter, find, is_some, Option, Some, None, Result, Ok, Err}
+use Rattle.std.specs.Prelude.{◌≡◌, ℕ, ◌-◌, Bool, true, false, not, cond, ◌||◌, ◌&&◌, nat_le, nat_lt, List, [], ◌∷◌, ◌++◌, filter, find, is_some, Option, Some, None, Result, Ok, Err}
 use Rattle.std.specs.List.{list_any}
-use Rattle.std.proofs.Common.{refl, sym, ap, subst, ◌∙◌, arith}
+use Rattle.std.proofs.Common.{refl, sym, ap, subst, ◌∙◌}
 use Rattle.std.proofs.lemmas.Bool.{both_ways, lt-leb}
 use Rattle.std.proofs.lemmas.List.Folds.{list_any-append}
 use Rattle.messages.specs.declared.refusal.StepError.{StepError}
@@ -13,11 +13,11 @@ use Rattle.messages.specs.Messages.{greatest_number, addressee, host_of, is_with
 use Rattle.token_set.specs.Tokens.{Token}
 use Rattle.token_queue.specs.declared.token_request.TokenRequest.{TokenRequest}
 use Rattle.token_queue.specs.Requests.{is_of_call, is_up_to}
-use Rattle.token_server.specs.State.{Row, ServerState, with_row, forgotten, requests}
+use Rattle.token_server.specs.State.{Row, ServerState, forgotten}
 use Rattle.token_queue.specs.Requests.{meets}
 use Rattle.token_server.specs.Serve.{meets_some, admitted, conflicting_node, commanded, granted_to, revoked_from, served, with_more, and_then, each_served, ready, serve}
 use Rattle.token_server.specs.Resends.{sending_first}
-use Rattle.token_server.specs.Server.{Change, with_a_row, request_of, enqueued_with, enqueued, asked, is_server, delivered, then_serve}
+use Rattle.token_server.specs.Server.{with_a_row, request_of, enqueued_with, enqueued, asked, is_server, delivered, then_serve}
 use Rattle.token_server.specs.Admissions.{MeetsNone, ServesWhatMeetsNone}
 use Rattle.token_server.proofs.AdmitLaws.{Lists, admitted-append}
 

@@ -1,5 +1,5 @@
 -- Requests that come from the queue of a server.
-use Rattle.std.specs.Prelude.{◌≡◌, Bool, true, false, not, cond, ◌||◌, nat_le, length, List, [], ◌∷◌, ◌++◌, Option, Some}
+use Rattle.std.specs.Prelude.{◌≡◌, Bool, true, false, cond, ◌||◌, List, [], ◌∷◌, ◌++◌, Option, Some}
 use Rattle.std.proofs.Common.{refl, ap, sym, ◌∙◌}
 use Rattle.token_queue.specs.declared.token_request.TokenRequest.{TokenRequest}
 use Rattle.token_server.specs.State.{ServerState}

@@ -1,6 +1,6 @@
 -- Requests that come from the queue of a server, one after the other.
-use Rattle.std.specs.Prelude.{◌≡◌, ℕ, ◌+◌, ◌≤◌, Bool, true, false, cond, not, ◌&&◌, ◌||◌, nat_le, List, [], ◌∷◌, ◌++◌, filter, count_by}
-use Rattle.std.specs.List.{list_any, sum_by}
+use Rattle.std.specs.Prelude.{◌≡◌, ℕ, ◌+◌, Bool, true, false, cond, not, ◌&&◌, ◌||◌, nat_le, List, [], ◌∷◌, ◌++◌, filter, count_by}
+use Rattle.std.specs.List.{list_any}
 use Rattle.std.proofs.Common.{refl, sym, ap, subst, ◌∙◌, inl, inr, arith, append-nil, append_assoc, ◌==◌}
 use Rattle.std.proofs.lemmas.Bool.Decides.{eqb_tells}
 use Rattle.std.proofs.lemmas.Bool.{and_parts, and_from, not-true}
@@ -14,7 +14,7 @@ use Rattle.token_queue.specs.declared.token_request.TokenRequest.{TokenRequest}
 use Rattle.token_queue.specs.Requests.{is_of_call}
 use Rattle.token_queue.specs.Requests.{meets}
 use Rattle.token_server.specs.Serve.{meets_some, admitted}
-use Rattle.token_server.specs.Admitting.{has_call_of, all_but, all_stay, IsAdmitted}
+use Rattle.token_server.specs.Admitting.{has_call_of, all_but, IsAdmitted}
 use Rattle.token_server.proofs.AdmitLaws.{Lists, admitted-more}
 use Rattle.token_server.specs.Obstacles.{are_apart}
 use Rattle.token_server.proofs.StayLaws.{Stay, stay-admits, admitted-stay}

@@ -1,7 +1,7 @@
 -- What a change of a row leaves in the way of a request.
 use Rattle.std.specs.Prelude.{◌≡◌, ℕ, ◌+◌, ◌-◌, ◌<◌, ◌≤◌, Bool, true, false, not, cond, ◌&&◌, ◌==◌, nat_le, nat_lt, Option, Some, None}
 use Rattle.std.proofs.Common.{refl, sym, ap, ◌∙◌, inl, inr, arith}
-use Rattle.std.proofs.lemmas.Bool.{both_ways, and_parts, and_from, le-leb, false_from_ne_true}
+use Rattle.std.proofs.lemmas.Bool.{both_ways, and_from, le-leb, false_from_ne_true}
 use Rattle.std.proofs.lemmas.Bool.Decides.{eqb_tells}
 use Rattle.intervals.specs.Bytes.{Range, is_in, size}
 use Rattle.intervals.proofs.SearchLaws.{first_is_first}
@@ -12,11 +12,10 @@ use Rattle.model.specs.declared.level.Level.TheVariants.{Shared, Exclusive}
 use Rattle.token_set.specs.Tokens.{Token, no_token, conflicts, level_conflicts}
 use Rattle.token_set.specs.Releases.{lowered_level, lowered}
 use Rattle.token_set.proofs.SearchLaws.{first-same, some_passes-first, some_passes-from}
-use Rattle.token_set.proofs.TokenLaws.{conflicts-from, none-conflicts}
 use Rattle.token_server.specs.declared.node_change.NodeChange.{NodeChange}
 use Rattle.token_server.specs.declared.node_change.NodeChange.TheVariants.{Forgotten, Asked, Answered, Relieved}
 use Rattle.token_queue.specs.declared.token_request.TokenRequest.{TokenRequest}
-use Rattle.token_server.specs.State.{Row, ServerState, row_above, empty_row}
+use Rattle.token_server.specs.State.{Row, ServerState, row_above}
 use Rattle.token_queue.specs.Requests.{meets}
 use Rattle.token_server.specs.Serve.{row_conflicts, conflicting_node}
 use Rattle.token_server.specs.Parts.{with_change}

@@ -1,12 +1,12 @@
 -- What serving one request leaves in the way of the others.
-use Rattle.std.specs.Prelude.{◌≡◌, ℕ, ◌+◌, ◌<◌, ◌≤◌, Bool, true, false, not, cond, ◌&&◌, ◌||◌, ◌==◌, nat_le, nat_lt, List, [], ◌∷◌, ◌++◌, All, is_some, Option, Some, None, Result, Ok, Err}
+use Rattle.std.specs.Prelude.{◌≡◌, ℕ, ◌+◌, ◌≤◌, Bool, true, false, not, cond, ◌&&◌, ◌||◌, ◌==◌, nat_le, nat_lt, List, [], ◌∷◌, ◌++◌, All, is_some, Option, Some, None, Result, Ok, Err}
 use Rattle.std.specs.List.{list_any}
 use Rattle.std.proofs.Common.{refl, sym, ap, subst, ◌∙◌, inl, inr, append_assoc}
 use Rattle.std.proofs.lemmas.Bool.{and_parts, not-true}
 use Rattle.std.proofs.lemmas.Bool.Decides.{eqb_tells}
 use Rattle.std.proofs.lemmas.List.Folds.{list_any-append}
 use Rattle.std.proofs.lemmas.List.Elements.{All-nil, All-cons, All-head, All-tail, All-append}
-use Rattle.intervals.specs.Bytes.{Range, is_in}
+use Rattle.intervals.specs.Bytes.{is_in}
 use Rattle.messages.specs.declared.refusal.StepError.{StepError}
 use Rattle.messages.specs.declared.refusal.StepError.TheVariants.{Spent}
 use Rattle.messages.specs.declared.message.Message.{Message}
@@ -15,12 +15,12 @@ use Rattle.token_set.specs.Tokens.{Token}
 use Rattle.token_queue.specs.declared.token_request.TokenRequest.{TokenRequest}
 use Rattle.token_server.specs.State.{Row, ServerState, with_row}
 use Rattle.token_queue.specs.Requests.{meets}
-use Rattle.token_server.specs.Serve.{meets_some, row_conflicts, granted_span, conflicting_node, commanded, granted_to, revoked_from, served}
+use Rattle.token_server.specs.Serve.{meets_some, row_conflicts, conflicting_node, commanded, granted_to, revoked_from, served}
 use Rattle.token_server.specs.Obstacles.{are_apart}
 use Rattle.token_server.proofs.GrantLaws.{conflicts_at}
 use Rattle.token_server.proofs.AdmittingLaws.{both-meet, meets-flip, neither}
 use Rattle.token_server.proofs.CareLaws.{All-left, All-right}
-use Rattle.token_server.proofs.ObstacleLaws.{Leaves, granted-spares, served-leaves}
+use Rattle.token_server.proofs.ObstacleLaws.{granted-spares, served-leaves}
 
 -- none of the others needs a byte that the request needs
 none-each : (r : TokenRequest) (qs : List TokenRequest) → meets_some r qs ≡ false → All (λ q. meets r.wanted.required q.wanted.required ≡ false) qs

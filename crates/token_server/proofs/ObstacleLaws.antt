@@ -1,13 +1,12 @@
 -- What stands in the way of a request that is served, and what leaves it there.
-use Rattle.std.specs.Prelude.{◌≡◌, ℕ, zero, suc, pred, ◌+◌, ◌-◌, ◌<◌, ◌≤◌, Bool, true, false, not, cond, ◌&&◌, ◌==◌, nat_le, nat_lt, max, List, [], ◌∷◌, ◌++◌, is_some, Option, Some, None, Result, Ok, Err}
+use Rattle.std.specs.Prelude.{◌≡◌, ℕ, zero, suc, pred, ◌+◌, ◌-◌, ◌<◌, ◌≤◌, Bool, true, false, not, cond, nat_le, nat_lt, max, List, [], ◌∷◌, is_some, Option, Some, None, Result, Ok, Err}
 use Rattle.std.specs.List.{list_any}
 use Rattle.std.proofs.Common.{refl, sym, ap, subst, ◌∙◌, inl, inr, arith}
 use Rattle.std.proofs.lemmas.Bool.Decides.{eqb_tells}
-use Rattle.std.proofs.lemmas.Bool.{both_ways, and_parts, and_from, le-leb, leb-true, lt-leb, false_from_ne_true, not-true, not_from_false}
+use Rattle.std.proofs.lemmas.Bool.{both_ways, and_parts, and_from, le-leb, leb-true, false_from_ne_true, not_from_false}
 use Rattle.intervals.specs.Search.{first}
-use Rattle.intervals.specs.Bytes.{Range, is_in, size, IsLargest, largest_around}
+use Rattle.intervals.specs.Bytes.{Range, is_in, size, largest_around}
 use Rattle.intervals.proofs.SearchLaws.{first_is_first}
-use Rattle.intervals.proofs.SpanSearch.{largest_is_largest}
 use Rattle.model.specs.declared.mode.Mode.{Mode}
 use Rattle.token_set.specs.Tokens.{Token, raised, conflicts, level_conflicts}
 use Rattle.token_set.proofs.SearchLaws.{first-is, first-same}
@@ -18,7 +17,7 @@ use Rattle.token_server.specs.State.{Row, ServerState, with_row}
 use Rattle.messages.specs.declared.refusal.StepError.TheVariants.{Spent}
 use Rattle.messages.specs.Messages.{greatest_number}
 use Rattle.token_queue.specs.Requests.{meets}
-use Rattle.token_server.specs.Serve.{meets_some, row_conflicts, is_needed, narrowed, is_taken, granted_span, conflicting_node, commanded, granted_to, revoked_from, served}
+use Rattle.token_server.specs.Serve.{row_conflicts, narrowed, is_taken, granted_span, conflicting_node, commanded, granted_to, revoked_from, served}
 use Rattle.token_server.specs.Obstacles.{obstacle, is_idle}
 use Rattle.token_server.proofs.GrantLaws.{conflicts_at, narrowed-largest}
 

@@ -2,9 +2,8 @@
 use Rattle.std.specs.Prelude.{◌≡◌, ℕ, ◌+◌, ◌-◌, ◌<◌, ◌≤◌, Bool, true, false, not, cond, ◌&&◌, ◌||◌, ◌==◌, nat_le, max, List, [], ◌∷◌, ◌++◌, All, filter, find, IfSome, Option, Some, None}
 use Rattle.std.specs.List.{list_any}
 use Rattle.std.specs.Option.{option_map}
-use Rattle.std.proofs.Common.{refl, sym, ap, subst, ◌∙◌, inl, inr, arith, append-nil}
-use Rattle.std.proofs.lemmas.Bool.{both_ways, le-leb, leb-true, leb-false}
-use Rattle.std.proofs.lemmas.Bool.Decides.{eqb_tells}
+use Rattle.std.proofs.Common.{refl, sym, ap, subst, ◌∙◌, arith}
+use Rattle.std.proofs.lemmas.Bool.{leb-false}
 use Rattle.std.proofs.lemmas.List.Elements.{All-nil, All-cons, All-head, All-tail, All-weaker}
 use Rattle.model.specs.declared.call.CallId.{CallId}
 use Rattle.model.specs.declared.host.Host.{Host}
@@ -22,10 +21,10 @@ use Rattle.token_queue.proofs.CallLaws.{same_call-true, same_call-refl}
 use Rattle.token_server.specs.State.{Row, ServerState, forgotten, requests, requeued}
 use Rattle.token_server.specs.Server.{Change, with_a_row, request_of, enqueued_with, enqueued, asked, is_grant, revoked_mode, acknowledged, ended, put_off, postponed, denial, row_of_host, taken, released, in_conflict, freed, delivered}
 use Rattle.token_server.specs.Serve.{meets_some, admitted, ready}
-use Rattle.token_server.specs.Ready.{AreDistinct, IsOrderly}
+use Rattle.token_server.specs.Ready.{IsOrderly}
 use Rattle.token_server.proofs.AdmitLaws.{Lists}
 use Rattle.token_server.proofs.AdmittingLaws.{calls, calls-append, calls-cons}
-use Rattle.token_server.proofs.CareLaws.{AreRequests, requests-parts, ready-each, find-each, find-passes, enqueued_with-each, requeued-each, ended-each, postponed-each, forgotten-each, forgotten-young, asked-each}
+use Rattle.token_server.proofs.CareLaws.{AreRequests, requests-parts, ready-each, find-each, find-passes, enqueued_with-each, requeued-each, ended-each, postponed-each, forgotten-each, forgotten-young}
 
 -- the requests of a call, by their kinds
 pub calls-kinds : (call : CallId) (s : ServerState) → calls call (requests s) ≡ calls call s.active + (calls call s.queue + calls call s.waiting)

@@ -24,7 +24,7 @@ use Rattle.token_server.specs.declared.told.Told.{Told}
 use Rattle.token_server.specs.State.{Commands, Row, ServerState, with_row}
 use Rattle.token_server.specs.declared.client.Client.{Client}
 use Rattle.token_server.specs.declared.change.Given.{Given}
-use Rattle.token_server.specs.Parts.{ServerParts, next_number, told_commands, server_state, client_at, row_in, row_of, row_seen, row_state, rows_of}
+use Rattle.token_server.specs.Parts.{next_number, told_commands, client_at, row_in, row_of, row_seen, row_state, rows_of}
 use Rattle.token_server.specs.Edits.{given_to_row, given_to_client, with_given_row, given_rows, with_given}
 use Rattle.token_server.proofs.ServeLaws.{each_served-append}
 use Rattle.token_server.specs.Serve.{narrowed, granted_span, conflicting_node, commanded, granted_to, revoked_from, served, with_more, and_then, each_served}

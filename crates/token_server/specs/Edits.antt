@@ -1,5 +1,5 @@
 -- What a planned step changes of a server, and no more.
-use Rattle.std.specs.Prelude.{◌≡◌, ℕ, ◌+◌, ◌-◌, ◌≤◌, Bool, true, false, ◌&&◌, not, ◌==◌, if◌then◌else◌, List, [], ◌∷◌, ◌++◌, filter, find, length, All, slice_get, slice_set, Option, Some, None, Vec}
+use Rattle.std.specs.Prelude.{◌≡◌, ℕ, ◌+◌, ◌-◌, ◌≤◌, Bool, false, ◌&&◌, not, ◌==◌, if◌then◌else◌, List, [], ◌∷◌, ◌++◌, filter, find, length, All, slice_get, slice_set, Option, Some, None, Vec}
 use Rattle.std.specs.Global.{Global}
 use Rattle.model.specs.declared.call.CallId.{CallId}
 use Rattle.std.specs.Vec.{vec_capacity}
@@ -29,7 +29,7 @@ use Rattle.token_server.specs.Admitting.{all_but, IsAdmitted}
 use Rattle.token_server.specs.declared.sketch.Sketch.{Sketch}
 use Rattle.token_server.specs.Obstacles.{obstacle}
 use Rattle.token_server.specs.Sketches.{without, still_active, queue_moved, waiting_moved, sketched}
-use Rattle.token_server.specs.Parts.{ServerParts, server_state, row_in, row_seen, rows_of, deaths_of, client_at}
+use Rattle.token_server.specs.Parts.{ServerParts, row_in, row_seen, rows_of, deaths_of, client_at}
 use Rattle.token_server.specs.Ready.{IsReady}
 
 -- a row that is read, as a value

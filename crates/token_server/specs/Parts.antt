@@ -2,7 +2,6 @@
 use Rattle.std.specs.Prelude.{◌≡◌, ℕ, zero, suc, ◌+◌, ◌<◌, ◌==◌, nat_lt, if◌then◌else◌, List, length, slice_get, is_some, Option, Some, None, Result, Ok, Err}
 use Rattle.intervals.specs.Bytes.{Range}
 use Rattle.model.specs.declared.mode.Mode.{Mode}
-use Rattle.model.specs.Limits.{IsNumber}
 use Rattle.token_set.specs.Tokens.{Token, raised}
 use Rattle.token_set.specs.Releases.{lowered}
 use Rattle.token_set.specs.Sets.{token_of}

@@ -1,5 +1,5 @@
 -- What holds of a server between two steps.
-use Rattle.std.specs.Prelude.{◌≡◌, ℕ, ◌<◌, ◌≤◌, true, false, List, [], length, count_by, All}
+use Rattle.std.specs.Prelude.{◌≡◌, ◌<◌, ◌≤◌, true, false, List, [], length, count_by, All}
 use Rattle.model.specs.declared.call.CallId.{CallId}
 use Rattle.model.specs.Limits.{IsNumber}
 use Rattle.token_queue.specs.declared.held.Held.{Held}

@@ -1,5 +1,5 @@
 -- What a token server knows.
-use Rattle.std.specs.Prelude.{ℕ, Bool, not, ◌&&◌, ◌==◌, max, nat_le, if◌then◌else◌, List, [], ◌++◌, filter, Option, Some, None}
+use Rattle.std.specs.Prelude.{ℕ, not, ◌==◌, max, nat_le, if◌then◌else◌, List, [], ◌++◌, filter, Option, Some, None}
 use Rattle.token_set.specs.Tokens.{Token, no_token}
 use Rattle.messages.specs.Shapes.{ShapeFields}
 use Rattle.messages.specs.declared.message.Message.{Message}

@@ -1,4 +1,4 @@
-use Rattle.std.specs.Prelude.{◌≡◌, ◌+◌, not, List, [], ◌∷◌, ◌++◌, filter, map}
+use Rattle.std.specs.Prelude.{◌≡◌, ◌+◌, not, List, [], ◌∷◌, ◌++◌, filter}
 use Rattle.std.proofs.Common.{sym, ap, ◌∙◌, take}
 use Rattle.std.proofs.lemmas.List.{take_more, take_all, map-append}
 use Rattle.token_queue.specs.declared.held.Held.{Held}

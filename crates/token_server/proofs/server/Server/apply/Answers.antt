@@ -1,4 +1,4 @@
-use Rattle.std.specs.Prelude.{◌≡◌, ℕ, List, length}
+use Rattle.std.specs.Prelude.{List, length}
 use Rattle.std.proofs.Common.{sym, ap, subst, ◌∙◌}
 use Rattle.token_server.specs.declared.client.Client.{Client}
 use Rattle.token_server.specs.Parts.{ServerParts, deaths_of}

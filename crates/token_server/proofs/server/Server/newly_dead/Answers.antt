@@ -1,4 +1,4 @@
-use Rattle.std.specs.Prelude.{◌≡◌, ℕ, ◌≤◌, All, Some, Option}
+use Rattle.std.specs.Prelude.{◌≡◌, All}
 use Rattle.std.proofs.Common.{sym, ap, subst, ◌∙◌, arith}
 use Rattle.token_server.specs.Parts.{ServerParts, server_state, deaths_of}
 use Rattle.token_server.specs.State.{requests}

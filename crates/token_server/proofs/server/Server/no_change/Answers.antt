@@ -1,5 +1,4 @@
-use Rattle.std.specs.Prelude.{◌≡◌}
-use Rattle.std.proofs.Common.{sym, ap, subst, ◌∙◌}
+use Rattle.std.proofs.Common.{ap, subst, ◌∙◌}
 use Rattle.token_server.specs.declared.change.Draft.{Draft}
 use Rattle.token_server.specs.declared.change.Parts.{Parts}
 use Rattle.token_server.specs.Parts.{ServerParts, server_state}

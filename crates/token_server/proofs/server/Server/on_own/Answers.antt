@@ -1,6 +1,6 @@
 use Rattle.std.specs.Prelude.{◌≡◌, ◌<◌, ◌≤◌}
-use Rattle.std.specs.Option.{option_map, option_to_list}
-use Rattle.std.proofs.Common.{sym, ap, subst, ◌∙◌, arith}
+use Rattle.std.specs.Option.{option_to_list}
+use Rattle.std.proofs.Common.{ap, subst, ◌∙◌, arith}
 use Rattle.model.specs.Limits.{HostFields}
 use Rattle.messages.specs.Messages.{host_of}
 use Rattle.token_server.specs.Parts.{ServerParts, server_state, deaths_of}

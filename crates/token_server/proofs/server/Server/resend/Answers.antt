@@ -1,4 +1,4 @@
-use Rattle.std.proofs.Common.{sym, ap, subst}
+use Rattle.std.proofs.Common.{sym, subst}
 use Rattle.token_server.specs.Parts.{ServerParts, server_state}
 use Rattle.token_server.specs.Ready.{IsOrderly}
 use Rattle.token_server.proofs.OrderlyLaws.{orderly-requeued}

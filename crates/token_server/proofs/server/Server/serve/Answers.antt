@@ -4,21 +4,20 @@ use Rattle.std.proofs.lemmas.Result.{err_from_is_err_and}
 use Rattle.messages.specs.declared.message.Message.{Message}
 use Rattle.messages.specs.declared.refusal.StepError.{StepError}
 use Rattle.messages.specs.declared.refusal.StepError.TheVariants.{NoMemory}
-use Rattle.token_queue.specs.declared.held.Held.{Held}
 use Rattle.token_queue.specs.Actives.{requests_of}
 use Rattle.token_server.specs.declared.change.Draft.{Draft}
 use Rattle.token_server.specs.declared.change.Parts.{Parts}
 use Rattle.token_server.specs.declared.told.Told.{Told}
 use Rattle.token_server.specs.State.{ServerState}
-use Rattle.token_server.specs.Serve.{each_served, ready, serve}
+use Rattle.token_server.specs.Serve.{each_served, serve}
 use Rattle.token_server.specs.Told.{with_told, commands_told}
-use Rattle.token_server.specs.Obstacles.{are_apart, obstacle, is_idle}
+use Rattle.token_server.specs.Obstacles.{are_apart}
 use Rattle.token_server.specs.declared.row_edits.RowEdit.{RowEdit}
 use Rattle.token_server.specs.declared.sketch.Changed.{Changed}
 use Rattle.token_server.specs.Parts.{ServerParts, rows_of, deaths_of}
 use Rattle.token_server.specs.Ready.{AreDistinct, IsReady}
 use Rattle.token_server.specs.Sketches.{sketched, without, rows_after, deaths_after}
-use Rattle.token_server.specs.Edits.{overlaid, drafted, held_after, with_given, planned, IsNewCall}
+use Rattle.token_server.specs.Edits.{overlaid, drafted, held_after, with_given, planned}
 use Rattle.token_server.proofs.ReadyLaws.{drafted-ready, drafted-apart, told-ready, moved-new, distinct-queue, distinct-waiting, fits-of}
 use Rattle.token_server.proofs.server.Server.serve.Goals as goal
 
