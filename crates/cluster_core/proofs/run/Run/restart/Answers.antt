@@ -1,5 +1,4 @@
 use Rattle.std.proofs.Common.{◌∙◌, sym, subst, ◌≡◌}
-use Rattle.messages.specs.declared.event.Event.TheVariants.{Restart}
 use Rattle.node_core.specs.Parts.{node_state}
 use Rattle.cluster_core.specs.Journals.{RunFields}
 use Rattle.cluster_core.specs.Parts.{world_state}

@@ -1,4 +1,4 @@
-use Rattle.std.proofs.Common.{◌≡◌, ◌∙◌, sym, ap, Ok}
+use Rattle.std.proofs.Common.{◌∙◌, sym, ap}
 use Rattle.node_core.specs.Parts.{node_state}
 use Rattle.cluster_core.specs.Next.{after_node}
 use Rattle.cluster_core.specs.Parts.{world_state}

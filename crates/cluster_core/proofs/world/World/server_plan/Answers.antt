@@ -7,7 +7,7 @@ use Rattle.messages.specs.declared.refusal.StepError.TheVariants.{NoMemory, Spen
 use Rattle.cluster_core.specs.Parts.{WorldParts, world_state}
 use Rattle.token_server.specs.Server.{server_rule}
 use Rattle.token_server.specs.State.{ServerState}
-use Rattle.token_server.specs.Parts.{ServerParts, server_state}
+use Rattle.token_server.specs.Parts.{ServerParts}
 use Rattle.token_server.specs.Edits.{planned, Fits}
 use Rattle.cluster_core.proofs.steps.WorldSteps.{read_server, server_found}
 use Rattle.cluster_core.proofs.world.World.server_plan.Goals as goal
