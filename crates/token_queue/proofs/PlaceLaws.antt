@@ -137,11 +137,3 @@ module _ {S : Type 0} (slots : List (Option TokenRequest)) (m : IndexMap CallId 
 
         counted : index_map_len n ≡ length (requests_in new_slots)
         counted = omega (arith, placed.counted, len, length-cleared gone slots hole (placed.held gone hole had))
-
--- no slots, where no call has a place
-pub ArePlaced-none : {S : Type 0} (slots : List (Option TokenRequest)) (m : IndexMap CallId ℕ S) → ArePlaced slots m → requests_in slots ≡ [] → ArePlaced [] m
-ArePlaced-none slots m placed none = record {
-  found = λ call place at. absurd (none-some call at);
-  held = λ call place at. absurd (HasNone-found slots m placed call (ap (find (is_of_call call)) none) place (placed.held call place at));
-  counted = placed.counted ∙ ap length none;
-}

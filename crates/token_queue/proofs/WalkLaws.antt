@@ -1,12 +1,9 @@
 -- Walks over slots.
-use Rattle.std.specs.Prelude.{◌≤◌, cond, filter, slice_get, ◌≡◌, ℕ, ◌+◌, ◌<◌, Bool, true, false, ◌||◌, List, [], ◌∷◌, ◌++◌, length, take, drop, Option, Some, None, refl}
-use Rattle.std.specs.List.{list_any}
+use Rattle.std.specs.Prelude.{◌≤◌, ◌≡◌, ℕ, ◌+◌, ◌<◌, List, [], ◌∷◌, ◌++◌, length, take, drop, Option, Some, None, refl}
 use Rattle.std.specs.Option.{option_eq}
-use Rattle.std.proofs.Common.{zero, suc, ap, sym, ◌∙◌, get_or, arith, Decides}
+use Rattle.std.proofs.Common.{ap, sym, ◌∙◌, get_or, arith, Decides}
 use Rattle.std.proofs.lemmas.Grind.{common_steps}
 use Rattle.std.proofs.lemmas.List.{append-nil, drop_more, take_more, get_or_read, take-append-drop}
-use Rattle.std.proofs.lemmas.List.Elements.{filter-append}
-use Rattle.std.proofs.lemmas.List.Folds.{list_any-append}
 use Rattle.std.proofs.lemmas.Option.{none-some, same_Some}
 use Rattle.token_queue.specs.contracts.token_request.TokenRequestPartialEq.TheImpl as derived
 use Rattle.token_queue.specs.declared.token_request.TokenRequest.{TokenRequest}
@@ -54,26 +51,6 @@ requests_in-skip slots place low none = requests_in-from slots place low ∙ ap 
 pub requests_in-step : (slots : List (Option TokenRequest)) (place : ℕ) (r : TokenRequest) → place < length slots → request_at slots place ≡ Some r → requests_in (drop place slots) ≡ r ∷ requests_in (drop (place + 1) slots)
 requests_in-step slots place r low some = requests_in-from slots place low ∙ ap (λ (slot : Option TokenRequest). requests_in (slot ∷ drop (place + 1) slots)) some
 
--- a slot whose request passes
-pub any-here : (p : TokenRequest → Bool) (slots : List (Option TokenRequest)) (place : ℕ) (r : TokenRequest) → request_at slots place ≡ Some r → p r ≡ true → list_any p (requests_in slots) ≡ true
-any-here p [] place r at passes = absurd (none-some r at)
-any-here p (None ∷ slots) zero r at passes = absurd (none-some r at)
-any-here p (None ∷ slots) (suc place) r at passes = any-here p slots place r at passes
-any-here p (Some q ∷ slots) zero r at passes = ap (λ (b : Bool). b || list_any p (requests_in slots)) (ap p (same_Some q r at) ∙ passes)
-any-here p (Some q ∷ slots) (suc place) r at passes = by (p q) (any-here p slots place r at passes)
-  where
-    by : (b : Bool) → list_any p (requests_in slots) ≡ true → (b || list_any p (requests_in slots)) ≡ true
-    by true rest = refl
-    by false rest = rest
-
--- one slot further, in a search that has found none
-pub any-more : (p : TokenRequest → Bool) (slots : List (Option TokenRequest)) (place : ℕ) (slot : Option TokenRequest) → place < length slots → slot ≡ get_or slots place slot → list_any p (requests_in (take place slots)) ≡ false
-    → list_any p (requests_in (slot ∷ [])) ≡ false → list_any p (requests_in (take (place + 1) slots)) ≡ false
-any-more p slots place slot low read none here =
-    let is : slot ≡ request_at slots place = get_or_read slots place slot low read None in
-    ap (list_any p) (requests_in-more slots place low) ∙ list_any-append p (requests_in (take place slots)) (requests_in (request_at slots place ∷ []))
-    ∙ (λ i. none i || list_any p (requests_in (sym is i ∷ []))) ∙ here
-
 -- the requests before a slot, its own, and those after it
 pub requests_in-around : (slots : List (Option TokenRequest)) (place : ℕ) (r : TokenRequest) → place < length slots → request_at slots place ≡ Some r
     → requests_in slots ≡ requests_in (take place slots) ++ r ∷ requests_in (drop (place + 1) slots)
@@ -85,19 +62,3 @@ pub length-requests_in : (slots : List (Option TokenRequest)) → length (reques
 length-requests_in [] = omega arith
 length-requests_in (None ∷ slots) = omega (arith, length-requests_in slots)
 length-requests_in (Some r ∷ slots) = omega (arith, length-requests_in slots)
-
--- one slot further, where none that passes was found and the slot's request does not pass
-pub none-more : (p : TokenRequest → Bool) (slots : List (Option TokenRequest)) (place : ℕ) (slot : Option TokenRequest) → place < length slots → slot ≡ get_or slots place slot → filter p (requests_in (take place slots)) ≡ []
-    → filter p (requests_in (slot ∷ [])) ≡ [] → filter p (requests_in (take (place + 1) slots)) ≡ []
-none-more p slots place slot low read none here =
-    let is : slot ≡ request_at slots place = get_or_read slots place slot low read None in
-    ap (filter p) (requests_in-more slots place low) ∙ filter-append p (requests_in (take place slots)) (requests_in (request_at slots place ∷ []))
-    ∙ (λ i. none i ++ filter p (requests_in (sym is i ∷ []))) ∙ here
-
--- the first that passes
-pub first-found : (p : TokenRequest → Bool) (slots : List (Option TokenRequest)) (place : ℕ) (r : TokenRequest) → place < length slots → request_at slots place ≡ Some r → filter p (requests_in (take place slots)) ≡ []
-    → p r ≡ true → slice_get (filter p (requests_in slots)) 0 ≡ Some r
-first-found p slots place r low at none passes =
-    ap (λ rs. slice_get (filter p rs) 0) (requests_in-around slots place r low at)
-    ∙ ap (λ rs. slice_get rs 0) (filter-append p (requests_in (take place slots)) (r ∷ requests_in (drop (place + 1) slots)))
-    ∙ (λ i. slice_get (none i ++ cond (passes i) (r ∷ filter p (requests_in (drop (place + 1) slots))) (filter p (requests_in (drop (place + 1) slots)))) 0)

@@ -1,12 +1,10 @@
 //! Requests in a line, in the order in which they are to be served.
 ghost use Rattle.std.specs.Prelude.{◌≡◌, ◌↔◌, ◌+◌, ◌-◌, ◌<◌, ◌≤◌, ◌^◌, ◌++◌, ◌∷◌, [], not, filter, find, drop, length, slice_get, None, IfOk, IsTrue};
-ghost use Rattle.std.specs.List.{list_any};
-ghost use Rattle.token_queue.specs.Requests.{is_of_call, is_up_to, meets, requests_in, AreOfDistinctCalls};
+ghost use Rattle.token_queue.specs.Requests.{is_of_call, is_up_to, requests_in, AreOfDistinctCalls};
 
 use crate::slots::Slots;
 use crate::token_request::TokenRequest;
-use crate::walk::{any_meets, first_above, first_from, same_requests};
-use intervals::span::Span;
+use crate::walk::{first_from, same_requests};
 use intervals::span_map::NoMemory;
 use model::call::CallId;
 use std::alloc::{AllocError, Global};
@@ -72,13 +70,6 @@ impl Line {
         self.slots.len()
     }
 
-    /// Whether there are no requests.
-    pub fn is_empty(&self) -> bool
-        ensures { IsTrue result ↔ (self.now.requests ≡ []) }
-    {
-        self.slots.len() == 0
-    }
-
     /// How many more requests may come without asking for memory.
     pub fn room(&self) -> usize
         ensures { result ≡ self.now.room }
@@ -109,20 +100,6 @@ impl Line {
             return None;
         }
         slots[self.front]
-    }
-
-    /// The first request that is not of the node in that incarnation or an older one: a walk.
-    pub fn first_above(&self, node: u8, incarnation: u16) -> Option<TokenRequest>
-        ensures { result ≡ slice_get (filter (λ r. not (is_up_to node incarnation r)) self.now.requests) 0 }
-    {
-        first_above(self.slots(), node, incarnation)
-    }
-
-    /// Whether a request needs a byte of the span: a walk.
-    pub fn meets(&self, span: Span) -> bool
-        ensures { result ≡ list_any (λ r. meets span r.wanted.required) self.now.requests }
-    {
-        any_meets(self.slots(), span)
     }
 
     /// Whether both are the same requests in the same order: a walk.
@@ -166,16 +143,6 @@ impl Line {
                 Some(request)
             }
         }
-    }
-
-    /// Where no request is left, the room that they took is free again. Takes no memory.
-    pub fn renew(&mut self)
-        requires { self.old.requests ≡ [] }
-        ensures requests { self.new.requests ≡ [] }
-        ensures room { self.old.room ≤ self.new.room }
-    {
-        self.slots.renew();
-        self.front = 0;
     }
 
     /// Drops the requests of the node in that incarnation or an older one: a walk. The others keep their order.

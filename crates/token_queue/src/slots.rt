@@ -123,14 +123,4 @@ impl Slots {
         };
         self.slots[place] = None;
     }
-
-    /// Where no slot holds a request, the slots go, and what they took is room again. Takes no memory.
-    pub fn renew(&mut self)
-        requires { requests_in self.old.slots ≡ [] }
-        ensures slots { self.new.slots ≡ [] }
-        ensures room { self.old.room ≤ self.new.room }
-    {
-        self.slots.clear();
-        self.room = self.slots.capacity().min(self.places.capacity());
-    }
 }

@@ -1,11 +1,9 @@
 //! Walks over slots that hold requests.
-ghost use Rattle.std.specs.Prelude.{◌≡◌, ◌↔◌, ◌<◌, ◌≤◌, IsTrue, length, drop, is_some, true, not, filter, slice_get};
-ghost use Rattle.std.specs.List.{list_any};
-ghost use Rattle.token_queue.specs.Requests.{is_up_to, requests_in, meets};
+ghost use Rattle.std.specs.Prelude.{◌≡◌, ◌↔◌, ◌<◌, ◌≤◌, IsTrue, length, drop, is_some, true};
+ghost use Rattle.token_queue.specs.Requests.{requests_in};
 ghost use Rattle.token_queue.specs.Places.{request_at};
 
 use crate::token_request::TokenRequest;
-use intervals::span::Span;
 
 /// The place of the first request from that place on; the end, if there is none.
 pub fn first_from(slots: &[Option<TokenRequest>], from: usize) -> usize
@@ -20,38 +18,6 @@ pub fn first_from(slots: &[Option<TokenRequest>], from: usize) -> usize
         place += 1;
     }
     place
-}
-
-/// Whether a request needs a byte of the span.
-pub fn any_meets(slots: &[Option<TokenRequest>], span: Span) -> bool
-    ensures { result ≡ list_any (λ r. meets span r.wanted.required) (requests_in slots.now) }
-{
-    for slot in slots {
-        if let Some(request) = slot {
-            if request.meets(span) {
-                return true;
-            }
-        }
-    }
-    false
-}
-
-/// The first request that is not of the node in that incarnation or an older one.
-pub fn first_above(
-    slots: &[Option<TokenRequest>],
-    node: u8,
-    incarnation: u16,
-) -> Option<TokenRequest>
-    ensures { result ≡ slice_get (filter (λ r. not (is_up_to node incarnation r)) (requests_in slots.now)) 0 }
-{
-    for slot in slots {
-        if let Some(request) = slot {
-            if !request.is_up_to(node, incarnation) {
-                return Some(*request);
-            }
-        }
-    }
-    None
 }
 
 /// Whether both hold the same requests in the same order.

@@ -20,13 +20,10 @@ use Rattle.token_server.specs.Resends.{sending_first}
 use Rattle.token_server.specs.Server.{with_a_row, request_of, enqueued_with, enqueued, asked, is_server, delivered, then_serve}
 use Rattle.token_server.specs.Admissions.{MeetsNone, ServesWhatMeetsNone}
 use Rattle.token_server.proofs.AdmitLaws.{Lists, admitted-append}
+use Rattle.token_server.proofs.AdmittingLaws.{neither}
 
 abbrev Answer : Type 0
 Answer = Result (ServerState × List Message) StepError
-
-neither : (a b : Bool) → (a || b) ≡ false → (a ≡ false) × (b ≡ false)
-neither true b h = absurd (cc)
-neither false b h = (refl, h)
 
 none-of : (a b : Bool) → a ≡ false → b ≡ false → (a || b) ≡ false
 none-of a b x y = ap (λ (t : Bool). t || b) x ∙ y

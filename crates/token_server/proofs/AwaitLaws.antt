@@ -1,12 +1,12 @@
 -- The nodes whose rows the requests of a server wait for.
-use Rattle.std.specs.Prelude.{◌≡◌, ℕ, Bool, false, cond, ◌&&◌, ◌==◌, List, [], ◌∷◌, ◌++◌, All, Some}
+use Rattle.std.specs.Prelude.{◌≡◌, ℕ, Bool, false, cond, ◌&&◌, ◌==◌, List, [], ◌∷◌, ◌++◌, All, Option, Some}
 use Rattle.std.proofs.Common.{refl, sym, ap, ◌∙◌}
 use Rattle.std.proofs.lemmas.Bool.{lt-leb}
 use Rattle.std.proofs.lemmas.List.Elements.{All-nil, All-cons, All-head, All-tail}
 use Rattle.token_queue.specs.declared.token_request.TokenRequest.{TokenRequest}
 use Rattle.token_queue.specs.declared.held.Held.{Held}
 use Rattle.token_queue.specs.Actives.{waiting_for}
-use Rattle.token_server.specs.declared.row_edits.RowEdit.{RowEdit}
+use Rattle.token_server.specs.declared.row_edit.RowEdit.{RowEdit}
 use Rattle.token_server.specs.declared.sketch.Changed.{Changed}
 use Rattle.token_server.specs.State.{ServerState}
 use Rattle.token_server.specs.Serve.{row_conflicts, conflicting_node}
@@ -41,14 +41,14 @@ await-all P [] (a ∷ ats) all = absurd all
 await-all P (h ∷ held) [] all = absurd all
 
 -- one that is not freed waits as before
-pub unfreed-waits : (p : ServerParts) (edits : List RowEdit) (c : Changed) (h : Held) → rows_of (overlaid p.clients edits) ≡ rows_after (Some c) (rows_of p.clients) → obstacle (server_state p) h.request ≡ h.at → (h.at == c.node && frees c.change (rows_of p.clients c.node) h.request.wanted.required) ≡ false → obstacle (reached p edits) h.request ≡ h.at
-unfreed-waits p edits c h rows waits kept =
-    obstacle-changed (server_state p) (reached p edits) h.request c.node c.change refl rows (ap (λ (n : ℕ). n == c.node && frees c.change (rows_of p.clients c.node) h.request.wanted.required) waits ∙ kept)
+pub unfreed-waits : (p : ServerParts) (edit : Option RowEdit) (c : Changed) (h : Held) → rows_of (overlaid p.clients edit) ≡ rows_after (Some c) (rows_of p.clients) → obstacle (server_state p) h.request ≡ h.at → (h.at == c.node && frees c.change (rows_of p.clients c.node) h.request.wanted.required) ≡ false → obstacle (reached p edit) h.request ≡ h.at
+unfreed-waits p edit c h rows waits kept =
+    obstacle-changed (server_state p) (reached p edit) h.request c.node c.change refl rows (ap (λ (n : ℕ). n == c.node && frees c.change (rows_of p.clients c.node) h.request.wanted.required) waits ∙ kept)
     ∙ waits
 
-pub unfreed-all : (p : ServerParts) (edits : List RowEdit) (c : Changed) (held : List Held) → rows_of (overlaid p.clients edits) ≡ rows_after (Some c) (rows_of p.clients) → All (λ h. obstacle (server_state p) h.request ≡ h.at) held → All (λ h. (h.at == c.node && frees c.change (rows_of p.clients c.node) h.request.wanted.required) ≡ false) held → All (λ h. obstacle (reached p edits) h.request ≡ h.at) held
-unfreed-all p edits c [] rows waits kept = All-nil (λ h. obstacle (reached p edits) h.request ≡ h.at)
-unfreed-all p edits c (h ∷ held) rows waits kept =
-    All-cons (λ h. obstacle (reached p edits) h.request ≡ h.at) h held
-    (unfreed-waits p edits c h rows (All-head (λ h. obstacle (server_state p) h.request ≡ h.at) h held waits) (All-head (λ h. (h.at == c.node && frees c.change (rows_of p.clients c.node) h.request.wanted.required) ≡ false) h held kept))
-    (unfreed-all p edits c held rows (All-tail (λ h. obstacle (server_state p) h.request ≡ h.at) h held waits) (All-tail (λ h. (h.at == c.node && frees c.change (rows_of p.clients c.node) h.request.wanted.required) ≡ false) h held kept))
+pub unfreed-all : (p : ServerParts) (edit : Option RowEdit) (c : Changed) (held : List Held) → rows_of (overlaid p.clients edit) ≡ rows_after (Some c) (rows_of p.clients) → All (λ h. obstacle (server_state p) h.request ≡ h.at) held → All (λ h. (h.at == c.node && frees c.change (rows_of p.clients c.node) h.request.wanted.required) ≡ false) held → All (λ h. obstacle (reached p edit) h.request ≡ h.at) held
+unfreed-all p edit c [] rows waits kept = All-nil (λ h. obstacle (reached p edit) h.request ≡ h.at)
+unfreed-all p edit c (h ∷ held) rows waits kept =
+    All-cons (λ h. obstacle (reached p edit) h.request ≡ h.at) h held
+    (unfreed-waits p edit c h rows (All-head (λ h. obstacle (server_state p) h.request ≡ h.at) h held waits) (All-head (λ h. (h.at == c.node && frees c.change (rows_of p.clients c.node) h.request.wanted.required) ≡ false) h held kept))
+    (unfreed-all p edit c held rows (All-tail (λ h. obstacle (server_state p) h.request ≡ h.at) h held waits) (All-tail (λ h. (h.at == c.node && frees c.change (rows_of p.clients c.node) h.request.wanted.required) ≡ false) h held kept))

@@ -1,7 +1,7 @@
 -- Rows of nodes that are told something, and what stands in the way then.
-use Rattle.std.specs.Prelude.{◌≡◌, ℕ, ◌≤◌, Bool, true, false, cond, max, ◌||◌, nat_le, Option, Some, None}
-use Rattle.std.proofs.Common.{refl, sym, ap, ◌∙◌, inl, inr, arith}
-use Rattle.std.proofs.lemmas.Bool.{both_ways, and_parts, and_from, or_cases, leb-true, le-leb, false_from_ne_true}
+use Rattle.std.specs.Prelude.{◌≡◌, ℕ, ◌≤◌, Bool, true, false, cond, ◌||◌, Option, Some, None}
+use Rattle.std.proofs.Common.{refl, sym, ap, ◌∙◌, arith}
+use Rattle.std.proofs.lemmas.Bool.{both_ways, false_from_ne_true}
 use Rattle.intervals.specs.Bytes.{Range, is_in, NoneIn, largest_around}
 use Rattle.model.specs.declared.level.Level.{Level}
 use Rattle.model.specs.declared.level.Level.TheVariants.{Shared, Exclusive}
@@ -10,12 +10,11 @@ use Rattle.model.specs.declared.mode.Mode.TheVariants.{Read, Write}
 use Rattle.messages.specs.declared.message.Message.{Message}
 use Rattle.messages.specs.declared.message.Message.TheVariants.{Grant}
 use Rattle.token_set.specs.Tokens.{Token, raised_level, level_conflicts, conflicts}
-use Rattle.token_set.proofs.TokenLaws.{conflicts-from, conflicts-none, none-conflicts}
+use Rattle.token_set.proofs.TokenLaws.{conflicts-from}
 use Rattle.token_set.proofs.SearchLaws.{some_passes-first}
 use Rattle.token_set.proofs.AroundLaws.{largest_around-same, largest_around-or}
 use Rattle.token_server.specs.declared.told.Told.{Told}
 use Rattle.token_server.specs.State.{Row}
-use Rattle.token_queue.specs.Requests.{meets}
 use Rattle.token_server.specs.Serve.{row_conflicts, row_conflicts_at}
 use Rattle.token_server.specs.Told.{promised, row_told, barred_by, bars, cut}
 use Rattle.token_server.proofs.GrantLaws.{row_free}
@@ -78,35 +77,6 @@ told-conflicts t row span mode h =
         let above = f.above in
         let below = f.below in
         (_, f.above, omega arith, f.here)
-
--- one that grants a byte of the span does
-pub told-meets : (t : Told) (row : Row) (span granted : Range) (mode : Mode) → span.lo ≤ span.hi → granted.lo ≤ granted.hi → bars t.command mode ≡ Some granted → meets granted span ≡ true → row_conflicts (row_told (Some t) (Some row)) span mode ≡ true
-told-meets t row span granted mode order full is h =
-    let parts = and_parts (nat_le granted.lo span.hi) (nat_le span.lo granted.hi) h in
-    let starts = leb-true granted.lo span.hi parts.0 in
-    let ends = leb-true span.lo granted.hi parts.1 in
-    let b = max granted.lo span.lo in
-    let inside : is_in granted b ≡ true = and_from (nat_le granted.lo b) (nat_le b granted.hi) (le-leb granted.lo b (omega arith)) (le-leb b granted.hi (omega arith)) in
-    conflicts-from (promised t.command row.token) span mode b (omega arith) (omega arith)
-    (promised_conflicts t.command row.token mode b ∙ or_other (level_conflicts (row.token b) mode) (in_span (bars t.command mode) b) (ap (λ (o : Option Range). in_span o b) is ∙ inside))
-
--- and no other
-pub told-clear : (t : Told) (row : Row) (span : Range) (mode : Mode) → conflicts row.token span mode ≡ false → NoneIn (λ b. in_span (bars t.command mode) b ≡ true) span → row_conflicts (row_told (Some t) (Some row)) span mode ≡ false
-told-clear t row span mode free none = conflicts-none (promised t.command row.token) span mode (λ b above below h.
-    elim (or_cases (level_conflicts (row.token b) mode) (in_span (bars t.command mode) b) (sym (promised_conflicts t.command row.token mode b) ∙ h)) [
-      | inl old ↦ none-conflicts row.token span mode free b above below old
-      | inr new ↦ none b above below new
-    ])
-
-pub clear-none : (o : Option Range) (span : Range) → o ≡ None → NoneIn (λ b. in_span o b ≡ true) span
-clear-none o span is b above below h = both_ways false refl (sym (ap (λ (x : Option Range). in_span x b) is) ∙ h)
-
-pub clear-apart : (o : Option Range) (granted span : Range) → o ≡ Some granted → meets granted span ≡ false → NoneIn (λ b. in_span o b ≡ true) span
-clear-apart o granted span is apart b above below h =
-    let inside = and_parts (nat_le granted.lo b) (nat_le b granted.hi) (sym (ap (λ (x : Option Range). in_span x b) is) ∙ h) in
-    let starts = leb-true granted.lo b inside.0 in
-    let ends = leb-true b granted.hi inside.1 in
-    both_ways (meets granted span) apart (and_from (nat_le granted.lo span.hi) (nat_le span.lo granted.hi) (le-leb granted.lo span.hi (omega arith)) (le-leb span.lo granted.hi (omega arith)))
 
 -- the largest span beside such a row
 pub around-told : (t : Told) (row : Row) (required within free granted : Range) (mode : Mode) → required.lo ≤ required.hi → within.lo ≤ required.lo → required.hi ≤ within.hi → free.lo ≤ required.lo → required.hi ≤ free.hi → granted.lo ≤ granted.hi → row_conflicts (row_told (Some t) (Some row)) required mode ≡ false → free ≡ largest_around (λ b. row_conflicts_at (Some row) b mode) required within → bars t.command mode ≡ Some granted → cut required free granted ≡ largest_around (λ b. row_conflicts_at (row_told (Some t) (Some row)) b mode) required within

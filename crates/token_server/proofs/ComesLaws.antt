@@ -115,14 +115,6 @@ pub without-other : (dropped : Option (ℕ × ℕ)) (r : TokenRequest) → is_up
 without-other None r is = refl
 without-other (Some d) r is = ap (λ (b : Bool). cond (not b) (r ∷ []) []) is
 
--- whether one passes that is not dropped
-pub any-one : (test : TokenRequest → Bool) (dropped : Option (ℕ × ℕ)) (r : TokenRequest) → (test r && not (is_up_to_any dropped r)) ≡ list_any test (without dropped (r ∷ []))
-any-one test dropped r = by (is_up_to_any dropped r) refl
-  where
-    by : (b : Bool) → is_up_to_any dropped r ≡ b → (test r && not (is_up_to_any dropped r)) ≡ list_any test (without dropped (r ∷ []))
-    by true is = ap (λ (b : Bool). test r && not b) is ∙ and-none (test r) ∙ sym (ap (list_any test) (without-dropped dropped r is))
-    by false is = ap (λ (b : Bool). test r && not b) is ∙ and-end (test r) ∙ sym (or-end (test r)) ∙ sym (ap (list_any test) (without-other dropped r is))
-
 -- the first slots, one more, and all
 slot-done : (g : Gone) (front slots : List (Option TokenRequest)) (place : ℕ) → place < length slots → left_in g front ++ left_in g (take (place + 1) slots) ≡ (left_in g front ++ left_in g (take place slots)) ++ left_in g (request_at slots place ∷ [])
 slot-done g front slots place low =
@@ -240,9 +232,9 @@ distinct-first xs ys distinct = λ call.
     omega arith
 
 -- those that are queued before others move
-pub distinct-queue : (moved : Moved) (queue waiting : List TokenRequest) → AreDistinct (queue_moved moved queue waiting) → AreDistinct queue
-distinct-queue Nothing queue waiting distinct = distinct
-distinct-queue (New r) queue waiting distinct = distinct-first queue (r ∷ []) distinct
-distinct-queue (Again call r) queue waiting distinct = distinct-first queue (r ∷ []) distinct
-distinct-queue Waiting queue waiting distinct = distinct-first queue waiting distinct
-distinct-queue (PutOff r) queue waiting distinct = distinct
+pub distinct-before_moved : (moved : Moved) (queue waiting : List TokenRequest) → AreDistinct (queue_moved moved queue waiting) → AreDistinct queue
+distinct-before_moved Nothing queue waiting distinct = distinct
+distinct-before_moved (New r) queue waiting distinct = distinct-first queue (r ∷ []) distinct
+distinct-before_moved (Again call r) queue waiting distinct = distinct-first queue (r ∷ []) distinct
+distinct-before_moved Waiting queue waiting distinct = distinct-first queue waiting distinct
+distinct-before_moved (PutOff r) queue waiting distinct = distinct

@@ -7,7 +7,6 @@ use Rattle.intervals.specs.Search.{first, some_passes}
 use Rattle.intervals.specs.Bytes.{Range, is_in, NoneIn, IsLargest, largest_around}
 use Rattle.intervals.proofs.SearchLaws.{first_is_first}
 use Rattle.intervals.proofs.SpanSearch.{largest_is_largest}
-use Rattle.token_set.specs.Tokens.{level_conflicts}
 use Rattle.token_set.proofs.SearchLaws.{first-is, some_passes-first}
 use Rattle.token_set.proofs.TokenLaws.{none-conflicts}
 use Rattle.token_set.proofs.AroundLaws.{largest_around-free, largest_around-zero, largest_around-more, largest_around-skip, largest_around-same}
@@ -61,11 +60,6 @@ first-none passes nodes place end before =
     }) in
     omega arith
 
--- the same of a row behind a reference
-pub free_around-some : (row : Option Row) (there : Row) (span : Range) (mode : Mode) → row_conflicts row span mode ≡ false → row ≡ Some there → NoneIn (λ b. level_conflicts (there.token b) mode ≡ true) span
-free_around-some row there span mode free is =
-    none-conflicts there.token span mode (ap (λ row. row_conflicts row span mode) (sym is) ∙ free)
-
 -- a row conflicts at no byte of a span with which it does not conflict
 pub row_free : (row : Option Row) (span : Range) (mode : Mode) → row_conflicts row span mode ≡ false → NoneIn (λ b. row_conflicts_at row b mode ≡ true) span
 row_free None span mode free b above below here = both_ways _ free here
@@ -75,11 +69,6 @@ row_free (Some row) span mode free b above below here = none-conflicts row.token
 pub free_around-none : (row : Option Row) (required within : Range) (mode : Mode) → required.lo ≤ required.hi → within.lo ≤ required.lo → required.hi ≤ within.hi → row ≡ None → within ≡ largest_around (λ b. row_conflicts_at row b mode) required within
 free_around-none row required within mode order starts ends none =
     sym (largest_around-free (λ b. row_conflicts_at row b mode) required within order starts ends (λ b above below here. both_ways _ (ap (λ row. row_conflicts_at row b mode) none) here))
-
--- a span that is just what is needed is as large as it may be
-pub free_around-exact : (row : Option Row) (required within : Range) (mode : Mode) → required.lo ≤ required.hi → within.lo ≡ required.lo → within.hi ≡ required.hi → row_conflicts row required mode ≡ false → within ≡ largest_around (λ b. row_conflicts_at row b mode) required within
-free_around-exact row required within mode order starts ends free =
-    sym (largest_around-free (λ b. row_conflicts_at row b mode) required within order (omega arith) (omega arith) (λ b above below here. row_free row required mode free b (omega arith) (omega arith) here))
 
 -- no row of another node conflicts, where no node is found whose row does
 no_conflict : (s : ServerState) (r : TokenRequest) → s.shape.nodes < conflicting_node s r → (n : ℕ) → 1 ≤ n → n ≤ s.shape.nodes → conflicts_at s r n ≡ false
@@ -91,17 +80,6 @@ none_at_byte s r n free b above below here =
     elim (not (n == r.call.node)) as (λ t. (t && row_conflicts (s.rows n) r.wanted.required r.mode) ≡ false → (t && row_conflicts_at (s.rows n) b r.mode) ≡ true → ⊥)
     [ true ↦ λ free here. row_free (s.rows n) r.wanted.required r.mode free b above below here | false ↦ λ free here. both_ways _ free here ]
     free here
-
--- before any row the span is what the request would like to have
-pub narrowed-start : (s : ServerState) (r : TokenRequest) → r.wanted.required.lo ≤ r.wanted.required.hi → r.wanted.desired.lo ≤ r.wanted.required.lo → r.wanted.required.hi ≤ r.wanted.desired.hi → IsNarrowed s r 0 (narrowed s.active r)
-narrowed-start s r order starts ends =
-    let l = narrowed-largest s.active r order starts ends in
-    record {
-      order = order;
-      starts = l.has_first;
-      ends = l.has_last;
-      value = sym (largest_around-zero (conflicts_at_byte s r) 1 r.wanted.required (narrowed s.active r) order l.has_first l.has_last);
-    }
 
 pub narrowed-begin : (s : ServerState) (r : TokenRequest) → r.wanted.required.lo ≤ r.wanted.required.hi → (narrowed s.active r).lo ≤ r.wanted.required.lo → r.wanted.required.hi ≤ (narrowed s.active r).hi → IsNarrowed s r 0 (narrowed s.active r)
 narrowed-begin s r order starts ends = record {

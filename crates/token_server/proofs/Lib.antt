@@ -17,7 +17,6 @@ pub mod ObstacleLaws
 pub mod FreeLaws
 pub mod RefusalLaws
 pub mod EditLaws
-pub mod ViewLaws
 pub mod CareLaws
 pub mod MarkLaws
 pub mod WaitLaws

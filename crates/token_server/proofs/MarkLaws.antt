@@ -22,6 +22,7 @@ use Rattle.token_server.specs.Marks.{NoneExclusive}
 use Rattle.token_server.specs.Sketches.{row_or_empty, row_after, rows_after}
 use Rattle.token_server.proofs.ClientLaws.{client_at-read, client_at-set_same}
 use Rattle.token_server.proofs.GrantLaws.{conflicts_at, first-none, row_free}
+use Rattle.token_server.proofs.AdmittingLaws.{neither}
 
 -- what holds of the new one and of each before holds after a write
 set-either : (P : Option Client → Type 0) (xs : List Client) (i k : ℕ) (x : Client) → P (Some x) → P (slice_get xs k) → P (slice_get (slice_set xs i x) k)
@@ -87,10 +88,6 @@ unopposed-none s r free = first-none (conflicts_at s r) s.shape.nodes s.shape.no
     other : (t : Bool) {conflict : Bool} → conflict ≡ false → (t && conflict) ≡ false
     other true e = e
     other false e = refl
-
-neither : (a b : Bool) → (a || b) ≡ false → (a ≡ false) × (b ≡ false)
-neither true b h = absurd (cc)
-neither false b h = (refl, h)
 
 -- the mark, once a row is another: it is set where it was, and where the row has an exclusive byte
 pub exclusive-noted : (clients : List Client) (place : ℕ) (new read : Client) (noted mark : Bool) → place < length clients → (noted ≡ false → NoneExclusive (rows_of clients)) → read ≡ slice_index_or (slice_set clients place new) place read → mark ≡ (noted || row_conflicts (row_seen read.row) whole Read) → mark ≡ false → NoneExclusive (rows_of (slice_set clients place new))

@@ -1,5 +1,5 @@
 -- What stands in the way of a request that is served, and what leaves it there.
-use Rattle.std.specs.Prelude.{◌≡◌, ℕ, zero, suc, pred, ◌+◌, ◌-◌, ◌<◌, ◌≤◌, Bool, true, false, not, cond, nat_le, nat_lt, max, List, [], ◌∷◌, is_some, Option, Some, None, Result, Ok, Err}
+use Rattle.std.specs.Prelude.{◌≡◌, ℕ, zero, suc, pred, ◌+◌, ◌-◌, ◌<◌, ◌≤◌, Bool, true, false, not, cond, nat_le, nat_lt, List, [], ◌∷◌, is_some, Option, Some, None, Result, Ok, Err}
 use Rattle.std.specs.List.{list_any}
 use Rattle.std.proofs.Common.{refl, sym, ap, subst, ◌∙◌, inl, inr, arith}
 use Rattle.std.proofs.lemmas.Bool.Decides.{eqb_tells}
@@ -48,14 +48,6 @@ obstacle-same s t r nodes same =
     let both : conflicting_node t r ≡ conflicting_node s r =
     ap (λ (n : ℕ). first (conflicts_at t r) 1 n) nodes ∙ first-same (conflicts_at t r) (conflicts_at s r) 1 s.shape.nodes (λ k above below. same k) in
     λ i. cond (nat_le (both i) (nodes i)) (both i) r.call.node
-
--- spans without a byte in common
-meets-byte : (s t : Range) → s.lo ≤ s.hi → t.lo ≤ t.hi → meets s t ≡ true → (b : ℕ) × (s.lo ≤ b) × (b ≤ s.hi) × (t.lo ≤ b) × (b ≤ t.hi)
-meets-byte s t fs ft both =
-    let parts = and_parts (nat_le s.lo t.hi) (nat_le t.lo s.hi) both in
-    let one : s.lo ≤ t.hi = leb-true s.lo t.hi parts.0 in
-    let other : t.lo ≤ s.hi = leb-true t.lo s.hi parts.1 in
-    (max s.lo t.lo, omega arith, omega arith, omega arith, omega arith)
 
 pub meets-from : (s t : Range) (b : ℕ) → is_in s b ≡ true → is_in t b ≡ true → meets s t ≡ true
 meets-from s t b in_s in_t =

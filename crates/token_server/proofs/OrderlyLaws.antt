@@ -17,13 +17,13 @@ use Rattle.messages.specs.Messages.{same_urgency, host_of}
 use Rattle.token_set.specs.Releases.{lowered}
 use Rattle.token_queue.specs.declared.token_request.TokenRequest.{TokenRequest}
 use Rattle.token_queue.specs.Requests.{is_of_call, is_up_to}
-use Rattle.token_queue.proofs.CallLaws.{same_call-true, same_call-refl}
+use Rattle.token_queue.proofs.CallLaws.{same_call-true}
 use Rattle.token_server.specs.State.{Row, ServerState, forgotten, requests, requeued}
 use Rattle.token_server.specs.Server.{Change, with_a_row, request_of, enqueued_with, enqueued, asked, is_grant, revoked_mode, acknowledged, ended, put_off, postponed, denial, row_of_host, taken, released, in_conflict, freed, delivered}
 use Rattle.token_server.specs.Serve.{meets_some, admitted, ready}
 use Rattle.token_server.specs.Ready.{IsOrderly}
 use Rattle.token_server.proofs.AdmitLaws.{Lists}
-use Rattle.token_server.proofs.AdmittingLaws.{calls, calls-append, calls-cons}
+use Rattle.token_server.proofs.AdmittingLaws.{calls, calls-append, calls-cons, neither}
 use Rattle.token_server.proofs.CareLaws.{AreRequests, requests-parts, ready-each, find-each, find-passes, enqueued_with-each, requeued-each, ended-each, postponed-each, forgotten-each, forgotten-young}
 
 -- the requests of a call, by their kinds
@@ -74,13 +74,6 @@ find-none call (r ∷ rs) none = by (is_of_call call r) refl none (find-none cal
 -- a request has one call
 pub one-call : (r : TokenRequest) (call other : CallId) → is_of_call call r ≡ true → is_of_call other r ≡ true → call ≡ other
 one-call r call other a b = sym (same_call-true r.call call a) ∙ same_call-true r.call other b
-
-is-own : (r : TokenRequest) → is_of_call r.call r ≡ true
-is-own r = same_call-refl r.call
-
-neither : (a b : Bool) → (a || b) ≡ false → (a ≡ false) × (b ≡ false)
-neither true b h = absurd (cc)
-neither false b h = (refl, h)
 
 -- one that is served no longer, and perhaps waits
 put_off-few : (c call : CallId) (rs : List TokenRequest) → calls c (filter (λ r. not (is_of_call call r)) rs) + calls c (put_off (request_of call rs)) ≤ calls c rs

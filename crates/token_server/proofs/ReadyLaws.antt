@@ -16,7 +16,6 @@ use Rattle.token_server.specs.declared.change.Draft.{Draft}
 use Rattle.token_server.specs.declared.change.Parts.{Parts}
 use Rattle.token_server.specs.declared.change.Edit.{Edit}
 use Rattle.token_server.specs.declared.change.Given.{Given}
-use Rattle.token_server.specs.declared.row_edits.RowEdit.{RowEdit}
 use Rattle.token_server.specs.declared.lists.Lists.{Lists}
 use Rattle.token_server.specs.declared.lists.Spares.{Spares}
 use Rattle.token_server.specs.declared.sketch.Sketch.{Sketch}
@@ -31,7 +30,7 @@ use Rattle.token_server.specs.Admitting.{all_but, all_stay}
 use Rattle.token_server.specs.Parts.{ServerParts, server_state, rows_of, deaths_of}
 use Rattle.token_server.specs.Ready.{AreDistinct, IsOrderly, IsReady, IsServer}
 use Rattle.token_server.specs.Sketches.{rows_after, deaths_after, dropped, without, still_active, queue_moved, waiting_moved, sketched}
-use Rattle.token_server.specs.Edits.{overlaid, held_still, held_without, held_after, queue_after, waiting_after, AreListed, drafted, given_rows, with_given, many_moved, many_put_off, HasRoom, HeldHasRoom, IsNewCall, Fits}
+use Rattle.token_server.specs.Edits.{overlaid, held_still, held_without, held_after, queue_after, waiting_after, AreListed, drafted, given_rows, with_given, many_moved, many_put_off, HasRoom, HeldHasRoom, IsNewCall, PartsFit, Fits, made}
 use Rattle.token_server.proofs.AdmitLaws.{ready-is}
 use Rattle.token_server.proofs.AdmittingLaws.{all_but-none, calls, calls-append, calls-cons, apart-fewer, admitted-keeps_apart, admitted-leaves}
 use Rattle.token_server.proofs.StayLaws.{Stay}
@@ -85,6 +84,11 @@ many-fewer (New r) d rs = omega arith
 many-fewer (Again call r) d rs = omega arith
 many-fewer Waiting d rs = without-fewer d rs
 many-fewer (PutOff r) d rs = omega arith
+
+-- and then there is room for them
+pub room-fewer : (l : LineParts) (spare : Option LineParts) (more less : ℕ) → less ≤ more → HasRoom l spare more → HasRoom l spare less
+room-fewer l None more less fewer room = omega arith
+room-fewer l (Some spare) more less fewer room = (room.0, omega (arith, room.1))
 
 -- what holds of all holds of those that are served on
 pub kept-all : (P : Held → Type 0) (e : Option CallId) (d : Option (ℕ × ℕ)) (held : List Held) → All P held → All P (held_still e (held_without d held))
@@ -188,35 +192,15 @@ distinct-queue s o c = let a = calls-kinds c s in let few = o.distinct c in omeg
 pub distinct-waiting : (s : ServerState) → IsOrderly s → AreDistinct s.waiting
 distinct-waiting s o c = let a = calls-kinds c s in let few = o.distinct c in omega arith
 
--- the edit of these parts was planned from that server
-pub record FitsOf (p : ServerParts) (v : Parts) : Type 0 where
-  pub new : IsNewCall v.draft.lists.moved (without v.draft.lists.dropped p.queue.requests) (without v.draft.lists.dropped p.waiting.requests)
-  pub served : HeldHasRoom p.active v.spares.active (length v.draft.lists.fresh.items)
-  pub queued : HasRoom p.queue v.spares.queue (many_moved v.draft.lists.moved (without v.draft.lists.dropped p.waiting.requests))
-  pub put_off : HasRoom p.waiting v.spares.waiting (many_put_off v.draft.lists.moved)
-  pub ready : IsReady (with_given v.given.items (overlaid p.clients v.draft.rows) (drafted p v.draft)) (held_after v.draft.lists p.active.held)
-
-pub fits-of : (p : ServerParts) (e : Edit) (v : Parts) → e.parts.value ≡ v → FitsOf p v → Fits p e
-fits-of p e v is f =
-    let g : FitsOf p e.parts.value = subst (FitsOf p) (sym is) f in
-    record {
-      new = g.new;
-      served = g.served;
-      queued = g.queued;
-      put_off = g.put_off;
-      nodes = overlaid-length p.clients e.parts.value.draft.rows;
-      ready = g.ready;
-    }
-
 -- what a planned step makes of a server holds all that a server has to
 pub applied : (p : ServerParts) (e : Edit) (v : Parts) (clients : List Client) (active : ActiveParts) (queue waiting : LineParts) → v ≡ e.parts.value → IsServer p → Fits p e → ((n : ℕ) → rows_of clients n ≡ given_rows v.given.items (overlaid p.clients v.draft.rows) n) → deaths_of clients ≡ deaths_of (overlaid p.clients v.draft.rows) → length clients ≡ length (overlaid p.clients v.draft.rows) → active.held ≡ held_after v.draft.lists p.active.held → queue.requests ≡ queue_after v.draft.lists p.queue.requests p.waiting.requests → waiting.requests ≡ waiting_after v.draft.lists p.waiting.requests → IsServer (record { shape = p.shape; file = p.file; clients = clients; active = active; queue = queue; waiting = waiting })
 applied p e v clients active queue waiting is server fits rows deaths many held queued put_off = record {
   each_node = many ∙ overlaid-length p.clients v.draft.rows ∙ server.each_node;
   file_in = server.file_in;
-  ready = subst (λ (x : ServerState × List Held). IsReady x.0 x.1) whole (subst (λ (w : Parts). IsReady (with_given w.given.items (overlaid p.clients w.draft.rows) (drafted p w.draft)) (held_after w.draft.lists p.active.held)) (sym is) fits.ready);
+  ready = subst (λ (x : ServerState × List Held). IsReady x.0 x.1) whole (subst (λ (w : Parts). IsReady (made p w) (held_after w.draft.lists p.active.held)) (sym is) fits.ready);
 }
   where
-    whole : ◌≡◌ {A = ServerState × List Held} (with_given v.given.items (overlaid p.clients v.draft.rows) (drafted p v.draft), held_after v.draft.lists p.active.held) (server_state (record { shape = p.shape; file = p.file; clients = clients; active = active; queue = queue; waiting = waiting }), active.held)
+    whole : ◌≡◌ {A = ServerState × List Held} (made p v, held_after v.draft.lists p.active.held) (server_state (record { shape = p.shape; file = p.file; clients = clients; active = active; queue = queue; waiting = waiting }), active.held)
     whole = λ i. (record { shape = p.shape; file = p.file; rows = λ n. sym (rows n) i; dead = sym deaths i; queue = sym queued i; active = requests_of (sym held i); waiting = sym put_off i }, sym held i)
 
 -- lists by which nothing changes
@@ -227,7 +211,7 @@ pub record SameLists (l : Lists) : Type 0 where
   pub moved : l.moved ≡ Nothing
   pub fresh : l.fresh.items ≡ []
 
-module _ (p : ServerParts) (rows : List RowEdit) (l : Lists) (given : Vec Given Global) (none : rows ≡ []) (same : SameLists l) (nothing : given.items ≡ []) where
+module _ (p : ServerParts) (l : Lists) (given : Vec Given Global) (same : SameLists l) (nothing : given.items ≡ []) where
   held-same : held_after l p.active.held ≡ p.active.held
   held-same =
       (λ i. held_still (same.ended i) (held_without (same.dropped i) (waiting_for (same.ats i) p.active.held)) ++ same.fresh i)
@@ -242,23 +226,24 @@ module _ (p : ServerParts) (rows : List RowEdit) (l : Lists) (given : Vec Given 
   waiting-same = λ i. waiting_moved (same.moved i) (without (same.dropped i) p.waiting.requests)
 
   -- leave a server as it is
-  pub same-state : with_given given.items (overlaid p.clients rows) (drafted p (record { rows = rows; lists = l })) ≡ server_state p
+  pub same-state : with_given given.items p.clients (drafted p (record { rows = None; lists = l })) ≡ server_state p
   same-state =
       λ i. record {
         shape = p.shape;
         file = p.file;
-        rows = given_rows (nothing i) (overlaid p.clients (none i));
-        dead = deaths_of (overlaid p.clients (none i));
+        rows = given_rows (nothing i) p.clients;
+        dead = deaths_of p.clients;
         queue = queue-same i;
         active = requests_of (held-same i);
         waiting = waiting-same i;
       }
 
-  pub same-fits : (spares : Spares) → spares ≡ record { active = None; queue = None; waiting = None } → IsReady (server_state p) p.active.held → FitsOf p (record { draft = record { rows = rows; lists = l }; given = given; spares = spares })
+  pub same-fits : (spares : Spares) → spares ≡ record { active = None; queue = None; waiting = None } → IsReady (server_state p) p.active.held → PartsFit p (record { draft = record { rows = None; lists = l }; given = given; spares = spares })
   same-fits spares empty ready = record {
     new = subst (λ (m : Moved). IsNewCall m (without l.dropped p.queue.requests) (without l.dropped p.waiting.requests)) (sym same.moved) tt;
     served = subst (λ (h : List Held). HeldHasRoom p.active spares.active (length h)) (sym same.fresh) (subst (λ (x : Spares). HeldHasRoom p.active x.active 0) (sym empty) (omega arith));
     queued = subst (λ (m : Moved). HasRoom p.queue spares.queue (many_moved m (without l.dropped p.waiting.requests))) (sym same.moved) (subst (λ (x : Spares). HasRoom p.queue x.queue 0) (sym empty) (omega arith));
     put_off = subst (λ (m : Moved). HasRoom p.waiting spares.waiting (many_put_off m)) (sym same.moved) (subst (λ (x : Spares). HasRoom p.waiting x.waiting 0) (sym empty) (omega arith));
+    nodes = refl;
     ready = subst (λ (x : ServerState × List Held). IsReady x.0 x.1) (λ i. let x : ServerState × List Held = (sym same-state i, sym held-same i) in x) ready;
   }

@@ -5,7 +5,7 @@ use Rattle.std.proofs.lemmas.List.Folds.{list_any-append}
 use Rattle.token_queue.specs.declared.token_request.TokenRequest.{TokenRequest}
 use Rattle.token_queue.specs.Requests.{meets}
 use Rattle.token_server.specs.Serve.{meets_some, admitted}
-use Rattle.token_server.proofs.AdmitLaws.{Lists, admitted-append}
+use Rattle.token_server.proofs.AdmitLaws.{Lists}
 
 -- each of the requests needs a byte of one that is served, or of one before it
 abbrev pub Stay : List TokenRequest → List TokenRequest → List TokenRequest → Type 0
@@ -52,8 +52,3 @@ admitted-stay active staying (r ∷ rest) all =
     by : (b : Bool) → (meets_some r active || meets_some r staying) ≡ b → ((meets_some r active || meets_some r staying) ≡ true → Stays (admitted active (staying ++ r ∷ []) rest)) → Stays (admitted (active ++ r ∷ []) staying rest) → Stays (cond b (admitted active (staying ++ r ∷ []) rest) (admitted (active ++ r ∷ []) staying rest))
     by true is stays goes = stays is
     by false is stays goes = goes
-
--- where the queue has settled, only those that come last may come from it
-pub settled-append : (active queue more : List TokenRequest) → Stay active [] queue → admitted active [] (queue ++ more) ≡ admitted active queue more
-settled-append active queue more settled =
-    admitted-append active [] queue more ∙ ap (λ (next : Lists). admitted next.0 next.1 more) (stay-admits active [] queue settled)

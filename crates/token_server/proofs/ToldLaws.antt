@@ -1,5 +1,5 @@
 -- What nodes are told as a server serves, and the state then.
-use Rattle.std.specs.Prelude.{◌≡◌, ℕ, ◌+◌, ◌≤◌, Bool, true, false, cond, ◌||◌, ◌==◌, nat_le, nat_lt, List, [], ◌∷◌, ◌++◌, is_some, All, IfSome, Option, Some, None, Result, Ok, Err}
+use Rattle.std.specs.Prelude.{◌≡◌, ℕ, ◌+◌, ◌≤◌, Bool, true, false, cond, ◌||◌, ◌==◌, nat_lt, List, [], ◌∷◌, ◌++◌, is_some, All, IfSome, Option, Some, None, Result, Ok, Err}
 use Rattle.std.specs.List.{list_any}
 use Rattle.std.specs.Option.{option_map, option_to_list}
 use Rattle.std.proofs.lemmas.List.Elements.{All-push}
@@ -27,8 +27,8 @@ use Rattle.token_server.specs.declared.change.Given.{Given}
 use Rattle.token_server.specs.Parts.{next_number, told_commands, client_at, row_in, row_of, row_seen, row_state, rows_of}
 use Rattle.token_server.specs.Edits.{given_to_row, given_to_client, with_given_row, given_rows, with_given}
 use Rattle.token_server.proofs.ServeLaws.{each_served-append}
-use Rattle.token_server.specs.Serve.{narrowed, granted_span, conflicting_node, commanded, granted_to, revoked_from, served, with_more, and_then, each_served}
-use Rattle.token_server.specs.Sketches.{commands_of, opposing}
+use Rattle.token_server.specs.Serve.{narrowed, granted_span, commanded, granted_to, revoked_from, served, with_more, and_then, each_served}
+use Rattle.token_server.specs.Sketches.{commands_of}
 use Rattle.token_server.specs.Told.{told_to, promised, awaiting, row_told, with_told, commands_told}
 
 abbrev pub Answer : Type 0
@@ -201,21 +201,6 @@ module _ (ts : List Told) (s : ServerState) where
         ap (granted_to now r) x.1
         ∙ commanded-sent r.call.node k x.0 command t x.1 (ap next_number (sym x.2) ∙ next) to same (commands ∙ (λ i. told_commands (same i) (x.2 i)))
         ∙ ap (λ (m : Message). let a : Answer = Ok (with_told (ts ++ t ∷ []) s, m ∷ []) in a) (sym same)
-
--- what a request comes to, by the node whose token stands in its way
-abbrev pub by_opposing : ServerState → TokenRequest → Option ℕ → Result (ServerState × List Message) StepError
-by_opposing s r None = granted_to s r (s.rows r.call.node)
-by_opposing s r (Some n) = revoked_from s r n (s.rows n)
-
-pub served-opposing : (s : ServerState) (r : TokenRequest) (o : Option ℕ) → o ≡ opposing s r → served s r ≡ by_opposing s r o
-served-opposing s r o is = by (nat_le node s.shape.nodes) ∙ ap (by_opposing s r) (sym is)
-  where
-    node : ℕ
-    node = conflicting_node s r
-
-    by : (b : Bool) → cond b (revoked_from s r node (s.rows node)) (granted_to s r (s.rows r.call.node)) ≡ by_opposing s r (cond b (Some node) None)
-    by true = refl
-    by false = refl
 
 -- one more command
 pub commands_told-more : (ts more : List Told) → commands_told (ts ++ more) ≡ commands_told ts ++ commands_told more

@@ -1,5 +1,6 @@
 -- What comes of serving each request that is served, in order.
-use Rattle.std.specs.Prelude.{◌≡◌, ℕ, zero, suc, ◌+◌, ◌<◌, ◌≤◌, Bool, true, false, not, cond, ◌&&◌, ◌==◌, nat_le, nat_lt, List, [], ◌∷◌, ◌++◌, filter, length, slice_get, slice_index_or, All, is_some, Option, Some, None, Result, Ok, Err}
+use Rattle.std.specs.Prelude.{◌≡◌, ℕ, zero, suc, ◌+◌, ◌<◌, ◌≤◌, Bool, true, false, not, cond, ◌&&◌, ◌||◌, ◌==◌, nat_le, nat_lt, List, [], ◌∷◌, ◌++◌, filter, length, slice_get, slice_index_or, All, is_some, Option, Some, None, Result, Ok, Err}
+use Rattle.std.specs.List.{list_any}
 use Rattle.std.specs.Option.{option_to_list}
 use Rattle.std.proofs.Common.{refl, sym, ap, subst, ◌∙◌, inl, inr, arith, take, drop, get_or, append-nil, append_assoc}
 use Rattle.std.proofs.lemmas.Bool.{both_ways, and_parts, leb-true, le-leb, lt-leb, cases_lt}
@@ -262,6 +263,15 @@ quiet-more (t ∷ ts) more s n quiet = by (t.node == n) quiet (quiet-more ts mor
     by true quiet rest = quiet-some t (s.rows n)
     by false quiet rest = rest quiet
 
+-- a node that is told something is not idle then
+pub told-quiet : (ts : List Told) (s : ServerState) (n : ℕ) → list_any (λ t. t.node == n) ts ≡ true → is_idle ((with_told ts s).rows n) ≡ false
+told-quiet [] s n some = absurd (cc)
+told-quiet (t ∷ ts) s n some = by (t.node == n) some (told-quiet ts s n)
+  where
+    by : (b : Bool) → (b || list_any (λ x. x.node == n) ts) ≡ true → (list_any (λ x. x.node == n) ts ≡ true → is_idle ((with_told ts s).rows n) ≡ false) → is_idle (row_told (cond b (Some t) (told_to ts n)) (s.rows n)) ≡ false
+    by true some rest = quiet-some t (s.rows n)
+    by false some rest = rest some
+
 -- nothing is served so far
 pub served-start : (s : ServerState) (all : List Held) → All (λ h. obstacle s h.request ≡ h.at) all → AreServed s all [] []
 served-start s all waits = record {
@@ -307,17 +317,14 @@ turn-next s all done rest h before after is active apart a t =
     same = served-same (with_told before s) (with_told new s) h.request (commands_told (option_to_list t.next)) (requests_of done) (requests_of rest) (active ∙ split) apart t.order t.starts t.ends t.comes
 
 -- one is passed over, since no command may go to the node whose row it waits for
-pub turn-silent : (s : ServerState) (all done rest : List Held) (h : Held) (told : List Told) → all ≡ done ++ h ∷ rest → AreServed s all done told → is_idle (s.rows h.at) ≡ false → AreServed s all (done ++ h ∷ []) told
-turn-silent s all done rest h told is a quiet = record {
+pub turn-silent : (s : ServerState) (all done rest : List Held) (h : Held) (told : List Told) → all ≡ done ++ h ∷ rest → AreServed s all done told → is_idle ((with_told told s).rows h.at) ≡ false → AreServed s all (done ++ h ∷ []) told
+turn-silent s all done rest h told is a here = record {
   comes = told-next s (requests_of done) (requests_of (done ++ h ∷ [])) told told h.request None a.comes (requests-around done [] h) (nothing ∙ silent told s) (sym (append-nil told));
   nodes = a.nodes;
   waits = a.waits;
   quiet = All-push (λ (x : Held). is_idle ((with_told told s).rows x.at) ≡ false) done h a.quiet here;
 }
   where
-    here : is_idle ((with_told told s).rows h.at) ≡ false
-    here = quiet-told told s h.at quiet
-
     nothing : served (with_told told s) h.request ≡ Ok (with_told told s, [])
     nothing = served-silent (with_told told s) h.request (ap (λ (k : ℕ). is_idle ((with_told told s).rows k)) (waits-here s all done rest h told is a) ∙ here)
 
@@ -366,7 +373,7 @@ module _ (l : Lists) (held : List Held) (s : ServerState) (told : List Told) (i 
     pub kept-left : keeps l.dropped l.ended w.request ≡ false → AreServed s all (kept l (take i waiting)) told → AreServed s all (kept l (take (i + 1) waiting)) told
     kept-left off a = subst (λ (hs : List Held). AreServed s all hs told) (sym (kept-less l (take i waiting) (take (i + 1) waiting) w kept-next off)) a
 
-    pub kept-silent : is_idle (s.rows w.at) ≡ false → AreServed s all (kept l (take i waiting)) told → AreServed s all (kept l (take (i + 1) waiting)) told
+    pub kept-silent : is_idle ((with_told told s).rows w.at) ≡ false → AreServed s all (kept l (take i waiting)) told → AreServed s all (kept l (take (i + 1) waiting)) told
     kept-silent quiet a = by (keeps l.dropped l.ended w.request) refl
       where
         by : (b : Bool) → keeps l.dropped l.ended w.request ≡ b → AreServed s all (kept l (take (i + 1) waiting)) told

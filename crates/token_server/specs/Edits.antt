@@ -5,7 +5,6 @@ use Rattle.model.specs.declared.call.CallId.{CallId}
 use Rattle.std.specs.Vec.{vec_capacity}
 use Rattle.token_set.specs.declared.edit.TokenEdit.{TokenEdit}
 use Rattle.token_set.specs.Edits.{edited as edited_token}
-use Rattle.token_set.specs.Sets.{token_of}
 use Rattle.intervals.specs.declared.vec_map.VecMap.{VecMap}
 use Rattle.model.specs.declared.level.Level.{Level}
 use Rattle.token_queue.specs.declared.token_request.TokenRequest.{TokenRequest}
@@ -15,20 +14,21 @@ use Rattle.token_queue.specs.Actives.{ActiveParts, requests_of, waiting_for}
 use Rattle.token_server.specs.declared.token_holder.TokenHolder.{TokenHolder}
 use Rattle.token_server.specs.declared.token_holder.RowView.{RowView}
 use Rattle.token_server.specs.declared.client.Client.{Client}
-use Rattle.token_server.specs.declared.client.ClientView.{ClientView}
-use Rattle.token_server.specs.declared.row_edits.RowAfter.{RowAfter}
-use Rattle.token_server.specs.declared.row_edits.RowEdit.{RowEdit}
+use Rattle.token_server.specs.declared.row_edit.RowAfter.{RowAfter}
+use Rattle.token_server.specs.declared.row_edit.RowEdit.{RowEdit}
 use Rattle.token_server.specs.declared.change.Draft.{Draft}
 use Rattle.token_server.specs.declared.change.Given.{Given}
 use Rattle.token_server.specs.declared.change.Edit.{Edit}
+use Rattle.token_server.specs.declared.change.Parts.{Parts}
 use Rattle.token_server.specs.declared.lists.Lists.{Lists}
 use Rattle.token_server.specs.declared.sketch.Moved.{Moved}
 use Rattle.token_server.specs.declared.sketch.Moved.TheVariants.{Nothing, New, Again, Waiting, PutOff}
 use Rattle.token_server.specs.State.{Commands, Row, ServerState}
 use Rattle.token_server.specs.Admitting.{all_but, IsAdmitted}
 use Rattle.token_server.specs.declared.sketch.Sketch.{Sketch}
+use Rattle.token_server.specs.declared.sketch.Changed.{Changed}
 use Rattle.token_server.specs.Obstacles.{obstacle}
-use Rattle.token_server.specs.Sketches.{without, still_active, queue_moved, waiting_moved, sketched}
+use Rattle.token_server.specs.Sketches.{row_after, dead_after, rows_after, without, still_active, queue_moved, waiting_moved, sketched}
 use Rattle.token_server.specs.Parts.{ServerParts, row_in, row_seen, rows_of, deaths_of, client_at}
 use Rattle.token_server.specs.Ready.{IsReady}
 
@@ -39,22 +39,6 @@ seen r = record { commands = r.commands.now; token = r.token.now }
 abbrev pub seen_row : Option RowView → Option TokenHolder
 seen_row None = None
 seen_row (Some r) = Some (seen r)
-
-abbrev pub seen_client : ClientView → Client
-seen_client c = record { dead = c.dead; row = seen_row c.row }
-
-abbrev pub commands_in : Option TokenHolder → Option Commands
-commands_in None = None
-commands_in (Some row) = Some row.commands
-
-abbrev pub token_in : Option TokenHolder → Option (VecMap Level)
-token_in None = None
-token_in (Some row) = Some row.token
-
--- the token of a row after the change
-abbrev pub token_kept : Option (VecMap Level) → Option (VecMap Level) → Option (VecMap Level)
-token_kept None token = token
-token_kept (Some new) token = Some new
 
 -- the row with those commands, and that token if there is one
 abbrev pub row_with : Commands → Option (VecMap Level) → Option TokenHolder → Option TokenHolder
@@ -75,18 +59,24 @@ abbrev pub with_client : List Client → RowEdit → Option Client → List Clie
 with_client clients e None = clients
 with_client clients e (Some client) = slice_set clients e.place (client_after e client)
 
--- the nodes after the edits, which are made in order
-abbrev pub overlaid : List Client → List RowEdit → List Client
-overlaid clients [] = clients
-overlaid clients (e ∷ rest) = overlaid (with_client clients e (slice_get clients e.place)) rest
+-- the nodes after the edit, if there is one
+abbrev pub overlaid : List Client → Option RowEdit → List Client
+overlaid clients None = clients
+overlaid clients (Some e) = with_client clients e (slice_get clients e.place)
 
--- the edit is of the node, of which f is known from then on of its row, and g of its dead incarnations
-pub record Changes (clients : List Client) (node : ℕ) (f : Option Row → Option Row) (g : ℕ → ℕ) (e : RowEdit) : Type 0 where
-  pub place_is : e.place ≡ node - 1
-  pub client : Client
-  pub there : client_at clients node ≡ Some client
-  pub row_is : row_seen (row_kept e.row client.row) ≡ f (row_seen client.row)
-  pub dead_is : e.dead ≡ g client.dead
+-- the rows after the edit are those before it, but that of a node that changes
+abbrev pub ChangesOne : List Client → Option RowEdit → Type 0
+ChangesOne clients edit = (changed : Option Changed) × (rows_of (overlaid clients edit) ≡ rows_after changed (rows_of clients))
+
+-- the client is there, with that row
+abbrev pub IsReadAs : Option Client → Option TokenHolder → Type 0
+IsReadAs there row = (dead : ℕ) × (there ≡ Some (record { dead = dead; row = row }))
+
+-- the edit is of the node that changes so, which is this client before
+pub record Changes (client : Client) (c : Changed) (e : RowEdit) : Type 0 where
+  pub place_is : e.place ≡ c.node - 1
+  pub row_is : row_seen (row_kept e.row client.row) ≡ row_after c.change (row_seen client.row)
+  pub dead_is : e.dead ≡ dead_after c.change client.dead
 
 -- those that are served, once the call's request is served no longer
 abbrev pub held_still : Option CallId → List Held → List Held
@@ -122,12 +112,12 @@ queue_after l queue waiting = all_but (requests_of l.fresh.items) (queue_moved l
 abbrev pub waiting_after : Lists → List TokenRequest → List TokenRequest
 waiting_after l waiting = waiting_moved l.moved (without l.dropped waiting)
 
--- the state once the rows are edited, where no request moves
-abbrev pub reached : ServerParts → List RowEdit → ServerState
+-- the state once a row is edited, where no request moves
+abbrev pub reached : ServerParts → Option RowEdit → ServerState
 reached p rows = record { shape = p.shape; file = p.file; rows = rows_of (overlaid p.clients rows); dead = deaths_of (overlaid p.clients rows); queue = p.queue.requests; active = requests_of p.active.held; waiting = p.waiting.requests }
 
 -- the requests change as the sketch has it; then these come from the queue, and each that is served is known with the node whose row it waits for
-pub record AreListed (p : ServerParts) (k : Sketch) (rows : List RowEdit) (l : Lists) : Type 0 where
+pub record AreListed (p : ServerParts) (k : Sketch) (rows : Option RowEdit) (l : Lists) : Type 0 where
   pub served : still_active l.ended (without l.dropped (requests_of p.active.held)) ≡ (sketched p k).active
   pub queued : queue_moved l.moved (without l.dropped p.queue.requests) (without l.dropped p.waiting.requests) ≡ (sketched p k).queue
   pub put_off : waiting_moved l.moved (without l.dropped p.waiting.requests) ≡ (sketched p k).waiting
@@ -145,11 +135,6 @@ drafted p d = record {
   active = requests_of (held_after d.lists p.active.held);
   waiting = waiting_after d.lists p.waiting.requests;
 }
-
--- the row once its command is answered, with that token if there is one
-abbrev pub answered_with : Option (VecMap Level) → Row → Row
-answered_with None row = record row { outstanding = None }
-answered_with (Some token) row = record row { token = token_of token; outstanding = None }
 
 -- the row with those commands, and with its token changed
 abbrev pub given_row : Commands → TokenEdit → TokenHolder → Row
@@ -175,9 +160,13 @@ given_rows (g ∷ gs) clients n = if n == g.place + 1 then given_to_client g (cl
 abbrev pub with_given : List Given → List Client → ServerState → ServerState
 with_given gs clients s = record s { rows = given_rows gs clients }
 
--- the state of a server once the edit is made
+-- the state of a server once these parts of an edit are made
+abbrev pub made : ServerParts → Parts → ServerState
+made p v = with_given v.given.items (overlaid p.clients v.draft.rows) (drafted p v.draft)
+
+-- and once an edit is
 abbrev pub planned : ServerParts → Edit → ServerState
-planned p e = with_given e.parts.value.given.items (overlaid p.clients e.parts.value.draft.rows) (drafted p e.parts.value.draft)
+planned p e = made p e.parts.value
 
 -- how many requests come last in the queue
 abbrev pub many_moved : Moved → List TokenRequest → ℕ
@@ -205,11 +194,15 @@ IsNewCall (PutOff r) queue waiting = find (is_of_call r.call) waiting ≡ None
 IsNewCall Waiting queue waiting = AreOfDistinctCalls (queue ++ waiting)
 IsNewCall Nothing queue waiting = Unit {0}
 
--- the edit was planned from a server with these parts: there is room for it, and what holds between two steps holds after it
-pub record Fits (p : ServerParts) (e : Edit) : Type 0 where
-  pub new : IsNewCall e.parts.value.draft.lists.moved (without e.parts.value.draft.lists.dropped p.queue.requests) (without e.parts.value.draft.lists.dropped p.waiting.requests)
-  pub served : HeldHasRoom p.active e.parts.value.spares.active (length e.parts.value.draft.lists.fresh.items)
-  pub queued : HasRoom p.queue e.parts.value.spares.queue (many_moved e.parts.value.draft.lists.moved (without e.parts.value.draft.lists.dropped p.waiting.requests))
-  pub put_off : HasRoom p.waiting e.parts.value.spares.waiting (many_put_off e.parts.value.draft.lists.moved)
-  pub nodes : length (overlaid p.clients e.parts.value.draft.rows) ≡ length p.clients
-  pub ready : IsReady (planned p e) (held_after e.parts.value.draft.lists p.active.held)
+-- these parts of an edit were planned from a server with those: there is room for it, and what holds between two steps holds after it
+pub record PartsFit (p : ServerParts) (v : Parts) : Type 0 where
+  pub new : IsNewCall v.draft.lists.moved (without v.draft.lists.dropped p.queue.requests) (without v.draft.lists.dropped p.waiting.requests)
+  pub served : HeldHasRoom p.active v.spares.active (length v.draft.lists.fresh.items)
+  pub queued : HasRoom p.queue v.spares.queue (many_moved v.draft.lists.moved (without v.draft.lists.dropped p.waiting.requests))
+  pub put_off : HasRoom p.waiting v.spares.waiting (many_put_off v.draft.lists.moved)
+  pub nodes : length (overlaid p.clients v.draft.rows) ≡ length p.clients
+  pub ready : IsReady (made p v) (held_after v.draft.lists p.active.held)
+
+-- the edit was planned from a server with these parts
+abbrev pub Fits : ServerParts → Edit → Type 0
+Fits p e = PartsFit p e.parts.value

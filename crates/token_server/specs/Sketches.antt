@@ -1,10 +1,7 @@
 -- What an event changes of a server before it serves.
-use Rattle.std.specs.Prelude.{◌≡◌, ℕ, ◌-◌, ◌≤◌, true, not, ◌==◌, ◌||◌, nat_le, max, is_some, if◌then◌else◌, List, [], ◌∷◌, ◌++◌, filter, Option, Some, None, Result, Ok, Err}
+use Rattle.std.specs.Prelude.{ℕ, ◌-◌, not, ◌==◌, ◌||◌, max, is_some, if◌then◌else◌, List, [], ◌∷◌, ◌++◌, filter, Option, Some, None, Result, Ok, Err}
 use Rattle.std.specs.Option.{option_map}
-use Rattle.intervals.specs.Bytes.{Range}
 use Rattle.model.specs.declared.call.CallId.{CallId}
-use Rattle.model.specs.declared.mode.Mode.{Mode}
-use Rattle.token_set.specs.Tokens.{Token, level_conflicts}
 use Rattle.messages.specs.declared.refusal.StepError.{StepError}
 use Rattle.token_queue.specs.declared.token_request.TokenRequest.{TokenRequest}
 use Rattle.token_queue.specs.Actives.{requests_of}
@@ -16,13 +13,8 @@ use Rattle.token_server.specs.declared.sketch.Changed.{Changed}
 use Rattle.token_server.specs.declared.sketch.Sketch.{Sketch}
 use Rattle.token_queue.specs.Requests.{is_of_call, is_up_to}
 use Rattle.token_server.specs.State.{Commands, Row, ServerState, empty_row, row_above}
-use Rattle.token_server.specs.Serve.{conflicting_node}
 use Rattle.token_server.specs.Server.{request_of}
 use Rattle.token_server.specs.Parts.{ServerParts, answered, relieved, with_change, rows_of, deaths_of}
-
--- the token conflicts with the mode at a byte of the span that is one of those
-abbrev pub ConflictsIn : Token → Range → Mode → (ℕ → Type 0) → Type 0
-ConflictsIn t s mode among = (b : ℕ) × (s.lo ≤ b) × (b ≤ s.hi) × among b × (level_conflicts (t b) mode ≡ true)
 
 -- the commands to the node of a row
 abbrev pub commands_of : Row → Commands
@@ -111,10 +103,6 @@ sketched p k = record {
   active = still_active k.ended (without (dropped k.changed) (requests_of p.active.held));
   waiting = waiting_moved k.moved (without (dropped k.changed) p.waiting.requests);
 }
-
--- the other node whose token is revoked first, if one is
-abbrev pub opposing : ServerState → TokenRequest → Option ℕ
-opposing s r = let node = conflicting_node s r in if nat_le node s.shape.nodes then Some node else None
 
 -- the refusal, if it is one
 abbrev pub refusal_of : {A : Type 0} → Result A StepError → Option StepError

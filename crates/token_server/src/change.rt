@@ -3,17 +3,17 @@ ghost use Rattle.std.specs.Prelude.{◌≡◌, IfOk};
 
 use crate::commands::Commands;
 use crate::lists::{Lists, Spares};
-use crate::row_edits::RowEdits;
+use crate::row_edit::RowEdit;
 use intervals::span_map::NoMemory;
 use messages::outcome::Outcome;
 use std::alloc::Global;
 use token_set::edit::TokenEdit;
 
-/// What an event changes of a server before it serves: new values of some nodes, and the requests that are
+/// What an event changes of a server before it serves: the node that changes, if one does, and the requests that are
 /// served, that are queued and that wait from then on.
 #[derive(Drop)]
 pub struct Draft {
-    pub rows: RowEdits,
+    pub rows: Option<RowEdit>,
     pub lists: Lists,
 }
 

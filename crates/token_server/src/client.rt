@@ -1,20 +1,23 @@
 //! Nodes, as a token server knows them.
-ghost use Rattle.std.specs.Prelude.{◌≡◌, ◌↔◌, ◌||◌, IsTrue, IfOk, Some, None};
-ghost use Rattle.std.specs.Option.{option_map, option_copied};
+ghost use Rattle.std.specs.Prelude.{◌≡◌, ◌-◌, ◌≤◌, ◌↔◌, ◌||◌, true, IsTrue, IfOk, Some, None};
+ghost use Rattle.std.specs.Option.{option_map};
 ghost use Rattle.intervals.specs.Bytes.{whole};
 ghost use Rattle.token_server.specs.State.{row_above};
 ghost use Rattle.token_server.specs.Serve.{row_conflicts};
-ghost use Rattle.token_server.specs.Parts.{row_seen, SameKnown};
+ghost use Rattle.token_server.specs.Parts.{row_seen, answered, relieved, SameKnown};
 ghost use Rattle.token_server.specs.Resends.{outstanding_of};
-ghost use Rattle.token_server.specs.Edits.{seen_row, commands_in, token_in, client_after, row_with, row_kept, given_to_row, answered_with};
+ghost use Rattle.token_server.specs.Sketches.{row_or_empty, row_after, dead_after};
+ghost use Rattle.token_server.specs.Edits.{seen_row, client_after, row_with, row_kept, given_to_row};
 
 use crate::commands::Commands;
-use crate::row_edits::{RowAfter, RowEdit};
+use crate::node_change::NodeChange;
+use crate::row_edit::{RowAfter, RowEdit};
 use crate::token_holder::{RowView, TokenHolder};
 use intervals::span::{GREATEST, Span};
 use intervals::span_map::NoMemory;
 use messages::message::Message;
 use model::mode::Mode;
+use std::alloc::Global;
 use token_set::edit::TokenEdit;
 use token_set::set::TokenSet;
 
@@ -26,13 +29,6 @@ pub struct Client {
     pub row: Option<TokenHolder>,
 }
 
-/// A client that is read.
-#[derive(Clone, Copy)]
-pub struct ClientView<'a> {
-    pub dead: u16,
-    pub row: Option<RowView<'a>>,
-}
-
 impl Client {
     /// A node of which nothing is known yet.
     pub fn new() -> Client
@@ -41,24 +37,102 @@ impl Client {
         Client { dead: 0, row: None }
     }
 
-    /// The commands to it, if it has a row.
-    pub fn commands(&self) -> Option<&Commands>
-        ensures { option_copied result ≡ commands_in self.now.row }
+    /// Its row, if it has one.
+    pub fn row_view(&self) -> Option<RowView<'_>>
+        ensures { seen_row result ≡ self.now.row }
     {
-        match &self.row {
-            Some(row) => Some(&row.commands),
-            None => None,
+        let row = self.row.as_ref()?;
+        Some(RowView {
+            commands: &row.commands,
+            token: &row.token,
+        })
+    }
+
+    /// Whether it is known at once that a change leaves it as it is.
+    pub fn stays(&self, change: &NodeChange) -> bool
+        ensures row { result ≡ true → row_after change.now (row_seen self.now.row) ≡ row_seen self.now.row }
+        ensures dead { result ≡ true → dead_after change.now self.now.dead ≡ self.now.dead }
+    {
+        match (change.dropped_to(), &self.row) {
+            (Some(dropped), Some(row)) => {
+                dropped <= self.dead && dropped < row.commands.incarnation()
+            }
+            _ => false,
         }
     }
 
-    /// Its token, if it has a row.
-    pub fn token(&self) -> Option<&TokenSet>
-        ensures { option_copied result ≡ token_in self.now.row }
+    /// Its row once it changes so.
+    ///
+    /// # Errors
+    /// `NoMemory` where a request for memory was refused.
+    pub fn row_after(
+        &self,
+        alloc: Global,
+        change: &NodeChange,
+    ) -> Result<Option<RowAfter>, NoMemory>
+        ensures { IfOk result (λ row. row_seen (row_kept row self.now.row) ≡ row_after change.now (row_seen self.now.row)) }
+    {
+        match change {
+            NodeChange::Forgotten { incarnation } => Ok(self.row_above(*incarnation)),
+            NodeChange::Asked { host } => Ok(Some(self.asking_row(alloc, host.incarnation))),
+            NodeChange::Answered => Ok(self.answered_row()),
+            NodeChange::Relieved { span, mode } => self.relieved_row(*span, *mode),
+        }
+    }
+
+    // Its row, if that is of a later incarnation.
+    fn row_above(&self, incarnation: u16) -> Option<RowAfter>
+        ensures { row_seen (row_kept result self.now.row) ≡ row_above incarnation (row_seen self.now.row) }
     {
         match &self.row {
-            Some(row) => Some(&row.token),
-            None => None,
+            Some(row) if row.commands.incarnation() > incarnation => Some(RowAfter {
+                commands: row.commands,
+                token: None,
+            }),
+            _ => None,
         }
+    }
+
+    // Its row of that incarnation or a later one, or else an empty one of that.
+    fn asking_row(&self, alloc: Global, incarnation: u16) -> RowAfter
+        requires { 1 ≤ incarnation }
+        ensures { row_seen (row_kept (Some result) self.now.row) ≡ row_or_empty incarnation (row_above (incarnation - 1) (row_seen self.now.row)) }
+    {
+        match &self.row {
+            Some(row) if row.commands.incarnation() >= incarnation => RowAfter {
+                commands: row.commands,
+                token: None,
+            },
+            _ => RowAfter {
+                commands: Commands::new(incarnation),
+                token: Some(TokenSet::new(alloc)),
+            },
+        }
+    }
+
+    // Its row once the command to it is answered.
+    fn answered_row(&self) -> Option<RowAfter>
+        ensures { row_seen (row_kept result self.now.row) ≡ option_map answered (row_seen self.now.row) }
+    {
+        Some(RowAfter {
+            commands: self.row.as_ref()?.commands.answered(),
+            token: None,
+        })
+    }
+
+    // Its row once the command to it is answered and it gave up the span for the mode.
+    fn relieved_row(&self, span: Span, mode: Mode) -> Result<Option<RowAfter>, NoMemory>
+        ensures { IfOk result (λ after. row_seen (row_kept after self.now.row) ≡ option_map (relieved span mode) (row_seen self.now.row)) }
+    {
+        let Some(row) = &self.row else {
+            return Ok(None);
+        };
+        let mut token = row.token.copy()?;
+        token.lower(span, mode)?;
+        Ok(Some(RowAfter {
+            commands: row.commands.answered(),
+            token: Some(token),
+        }))
     }
 
     /// Makes a planned change. Takes no memory.
@@ -103,30 +177,20 @@ impl Client {
     pub fn outstanding(&self) -> Option<Message>
         ensures { result ≡ outstanding_of (row_seen self.now.row) }
     {
-        match &self.row {
-            Some(row) => row.commands.outstanding,
-            None => None,
-        }
+        self.row.as_ref()?.commands.outstanding
     }
 
     /// Whether a byte of its row's token is exclusive, or that is noted of another.
     pub fn notes_exclusive(&self, noted: bool) -> bool
         ensures { result ≡ (noted || row_conflicts (row_seen self.now.row) whole Mode.Read) }
     {
-        noted || self.has_exclusive()
-    }
-
-    // Whether a byte of its row's token is exclusive.
-    fn has_exclusive(&self) -> bool
-        ensures { result ≡ row_conflicts (row_seen self.now.row) whole Mode.Read }
-    {
         let every_byte = Span {
             lo: 0,
             hi: GREATEST,
         };
         match &self.row {
-            Some(row) => row.token.conflicts(every_byte, Mode::Read),
-            None => false,
+            Some(row) => noted || row.token.conflicts(every_byte, Mode::Read),
+            None => noted,
         }
     }
 

@@ -1,18 +1,20 @@
 //! The nodes of a cluster, as a token server knows them.
-ghost use Rattle.std.specs.Prelude.{◌≡◌, ◌≢◌, ℕ, ◌+◌, ◌<◌, ◌≤◌, ◌↔◌, true, length, slice_get, All, IsTrue, IfOk, IfSome, [], ◌∷◌, ◌++◌, ◌==◌, Some, None};
+ghost use Rattle.std.specs.Prelude.{◌≡◌, ◌≢◌, ℕ, ◌+◌, ◌<◌, ◌≤◌, ◌↔◌, true, length, slice_get, All, IsTrue, IfOk, IfSome, OnSome, MatchOption, [], ◌∷◌, ◌++◌, ◌==◌, Some, None};
 ghost use Rattle.std.specs.List.{list_any};
 ghost use Rattle.std.specs.Option.{option_copied};
 ghost use Rattle.model.specs.Limits.{IsNumber};
 ghost use Rattle.token_server.specs.Parts.{row_seen, row_state, client_at, rows_of, deaths_of, SameClients};
 ghost use Rattle.token_server.specs.Resends.{outstanding_to};
 ghost use Rattle.token_server.specs.Server.{row_of_incarnation};
-ghost use Rattle.token_server.specs.Edits.{with_client, overlaid, with_given_row, given_rows};
+ghost use Rattle.token_server.specs.Sketches.{rows_after, deaths_after};
+ghost use Rattle.token_server.specs.Edits.{seen, seen_row, with_client, overlaid, IsReadAs, with_given_row, given_rows};
 ghost use Rattle.token_server.specs.Marks.{NoneExclusive};
 
 use crate::change::Given;
 use crate::client::Client;
-use crate::row_edits::{RowEdit, RowEdits};
-use crate::token_holder::TokenHolder;
+use crate::row_edit::RowEdit;
+use crate::sketch::Changed;
+use crate::token_holder::{RowView, TokenHolder};
 use intervals::span_map::NoMemory;
 use messages::items::Items;
 use messages::message::Message;
@@ -126,10 +128,7 @@ impl Clients {
         if usize::from(node) > self.clients.len() {
             return None;
         }
-        match &self.at(node).row {
-            Some(row) => Some(row),
-            None => None,
-        }
+        self.at(node).row.as_ref()
     }
 
     /// The row of a node, if it is of that incarnation.
@@ -141,6 +140,58 @@ impl Clients {
             Some(row) if row.commands.incarnation() == host.incarnation => Some(row),
             _ => None,
         }
+    }
+
+    /// The edit by which the node changes so, if one does. There is none where it stays as it is.
+    ///
+    /// # Errors
+    /// `NoMemory` where a request for memory was refused.
+    pub fn edit(
+        &self,
+        alloc: Global,
+        changed: &Option<Changed>,
+    ) -> Result<Option<RowEdit>, NoMemory>
+        requires { IfSome changed.now (λ c. IsNumber (length self.now) c.node) }
+        ensures rows { IfOk result (λ edit. rows_of (overlaid self.now edit) ≡ rows_after changed.now (rows_of self.now)) }
+        ensures deaths { IfOk result (λ edit. deaths_of (overlaid self.now edit) ≡ deaths_after changed.now (deaths_of self.now)) }
+    {
+        let Some(changed) = changed else {
+            return Ok(None);
+        };
+        let client = self.at(changed.node);
+        if client.stays(&changed.change) {
+            return Ok(None);
+        }
+        Ok(Some(RowEdit {
+            place: usize::from(changed.node) - 1,
+            dead: changed.change.dead_after(client.dead),
+            row: client.row_after(alloc, &changed.change)?,
+        }))
+    }
+
+    // The row of a node once the edit is made.
+    fn edited_row<'a>(&'a self, edit: &'a Option<RowEdit>, node: u8) -> Option<RowView<'a>>
+        requires { IsNumber (length self.now) node }
+        ensures { IsReadAs (client_at (overlaid self.now edit.now) node) (seen_row result) }
+    {
+        let client = self.at(node);
+        match edit {
+            Some(edit) if edit.place == usize::from(node) - 1 => edit.row_over(client),
+            _ => client.row_view(),
+        }
+    }
+
+    /// The row of a node once the edit is made, if there is one.
+    pub fn row_after<'a>(&'a self, edit: &'a Option<RowEdit>, node: u8) -> Option<RowView<'a>>
+        requires { 1 ≤ node }
+        ensures row { MatchOption result (rows_of (overlaid self.now edit.now) node ≡ None) (λ row. rows_of (overlaid self.now edit.now) node ≡ Some (row_state (seen row))) }
+        ensures client { MatchOption result (rows_of (overlaid self.now edit.now) node ≡ None) (λ row. (dead : ℕ) × (client_at (overlaid self.now edit.now) node ≡ Some (record { dead = dead; row = Some (seen row) }))) }
+        ensures within { OnSome result (node ≤ length self.now) }
+    {
+        if usize::from(node) > self.clients.len() {
+            return None;
+        }
+        self.edited_row(edit, node)
     }
 
     /// Whether it is known at once that no row has an exclusive byte.
@@ -161,13 +212,11 @@ impl Clients {
         }
     }
 
-    /// The edits are made. Takes no memory.
-    pub fn apply(&mut self, edits: RowEdits)
-        ensures { self.new ≡ overlaid self.old edits }
+    /// The edit is made, if there is one. Takes no memory.
+    pub fn apply(&mut self, edit: Option<RowEdit>)
+        ensures { self.new ≡ overlaid self.old edit }
     {
-        let mut edits = edits.into_edits();
-        while !edits.is_empty() {
-            let edit = edits.remove(0);
+        if let Some(edit) = edit {
             self.change(edit);
         }
     }

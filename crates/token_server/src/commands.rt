@@ -101,9 +101,8 @@ impl Commands {
         ensures { result ≡ answered_commands self }
     {
         Commands {
-            incarnation: self.incarnation,
-            number: self.number,
             outstanding: None,
+            ..self
         }
     }
 
@@ -124,9 +123,8 @@ impl Commands {
         ensures { result ≡ awaiting command.now self }
     {
         Commands {
-            incarnation: self.incarnation,
-            number: self.number,
             outstanding: Some(*command),
+            ..self
         }
     }
 
@@ -137,17 +135,10 @@ impl Commands {
         if self.incarnation != other.incarnation || self.number != other.number {
             return false;
         }
-        same_commands(&self.outstanding, &other.outstanding)
-    }
-}
-
-// Whether both are the same command, or none.
-fn same_commands(one: &Option<Message>, other: &Option<Message>) -> bool
-    ensures { IsTrue result ↔ (one.now ≡ other.now) }
-{
-    match (one, other) {
-        (Some(command), Some(next)) => command.same(next),
-        (None, None) => true,
-        _ => false,
+        match (&self.outstanding, &other.outstanding) {
+            (Some(command), Some(next)) => command.same(next),
+            (None, None) => true,
+            _ => false,
+        }
     }
 }

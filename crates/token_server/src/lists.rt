@@ -1,11 +1,10 @@
 //! The requests of a token server, and how a planned step changes them.
-ghost use Rattle.std.specs.Prelude.{◌≡◌, not, ◌&&◌, None, [], length};
+ghost use Rattle.std.specs.Prelude.{◌≡◌};
 ghost use Rattle.token_server.specs.Edits.{keeps};
 
 use crate::gone::Gone;
 use crate::sketch::Moved;
 use model::call::CallId;
-use std::alloc::Global;
 use token_queue::held::Held;
 use token_queue::line::Line;
 
@@ -30,23 +29,6 @@ pub struct Spares {
 }
 
 impl Lists {
-    /// Nothing changes.
-    pub(crate) fn same(alloc: Global) -> Lists
-        ensures dropped { result.dropped ≡ None }
-        ensures ats { result.ats.items ≡ [] }
-        ensures ended { result.ended ≡ None }
-        ensures moved { result.moved ≡ Moved.Nothing }
-        ensures fresh { result.fresh.items ≡ [] }
-    {
-        Lists {
-            dropped: None,
-            ats: Vec::new(alloc),
-            ended: None,
-            moved: Moved::Nothing,
-            fresh: Vec::new(alloc),
-        }
-    }
-
     /// Whether a request that is served is served on.
     pub(crate) fn keeps(&self, held: &Held) -> bool
         ensures { result ≡ keeps self.now.dropped self.now.ended held.now.request }
@@ -56,18 +38,5 @@ impl Lists {
             ended: self.ended,
         };
         gone.keeps(&held.request)
-    }
-}
-
-impl Spares {
-    /// No memory.
-    pub(crate) fn none() -> Spares
-        ensures { result ≡ record { active = None; queue = None; waiting = None } }
-    {
-        Spares {
-            active: None,
-            queue: None,
-            waiting: None,
-        }
     }
 }

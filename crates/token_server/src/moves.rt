@@ -1,6 +1,5 @@
 //! How the requests of a token server change in a step. Nothing here takes memory.
 ghost use Rattle.std.specs.Prelude.{◌≡◌, ◌≤◌, ◌++◌, ◌∷◌, [], find, length, None};
-ghost use Rattle.std.specs.List.{list_any};
 ghost use Rattle.token_queue.specs.Requests.{is_of_call};
 ghost use Rattle.token_queue.specs.Actives.{requests_of, waiting_for};
 ghost use Rattle.token_server.specs.Admitting.{has_call_of, all_but};
@@ -15,18 +14,6 @@ use token_queue::held::Held;
 use token_queue::line::Line;
 use token_queue::token_request::TokenRequest;
 
-/// The requests move into the spare list, if there is one.
-pub(crate) fn refill_active(active: &mut Active, spare: Option<Vec<Held>>, more: usize)
-    requires { HeldHasRoom active.old spare more }
-    ensures held { active.new.held ≡ active.old.held }
-    ensures room { more ≤ active.new.room }
-{
-    let _ = more; // (the proof speaks of it)
-    if let Some(spare) = spare {
-        active.refill(spare);
-    }
-}
-
 /// The requests move into the spare line, if there is one.
 pub(crate) fn refill(line: &mut Line, spare: Option<Line>, more: usize)
     requires { HasRoom line.old spare more }
@@ -40,32 +27,12 @@ pub(crate) fn refill(line: &mut Line, spare: Option<Line>, more: usize)
 }
 
 /// The requests of the incarnations of a node up to one go, if it is said of one.
-pub(crate) fn forget_served(active: &mut Active, dropped: Option<(u8, u16)>)
-    ensures held { active.new.held ≡ held_without dropped active.old.held }
-    ensures room { active.new.room ≡ active.old.room }
-{
-    if let Some((node, incarnation)) = dropped {
-        active.forget(node, incarnation);
-    }
-}
-
-/// The same of a line.
 pub(crate) fn forget(line: &mut Line, dropped: Option<(u8, u16)>)
     ensures requests { line.new.requests ≡ without dropped line.old.requests }
     ensures room { line.new.room ≡ line.old.room }
 {
     if let Some((node, incarnation)) = dropped {
         line.forget(node, incarnation);
-    }
-}
-
-/// The call's request is served no longer, if one is named.
-pub(crate) fn end(active: &mut Active, ended: Option<CallId>)
-    ensures held { active.new.held ≡ held_still ended active.old.held }
-    ensures room { active.new.room ≡ active.old.room }
-{
-    if let Some(call) = ended {
-        active.end(call);
     }
 }
 
@@ -88,18 +55,11 @@ pub(crate) fn leave(queue: &mut Line, fresh: &[Held])
     }
 }
 
-// Whether one of these is of the call.
-fn any_of_call(fresh: &[Held], call: CallId) -> bool
-    ensures { result ≡ list_any (λ h. is_of_call call h.request) fresh.now }
-{
-    fresh.iter().any(|held| held.is_of_call(call))
-}
-
 // Whether the request is of the call of one of these.
 fn has_call_of(fresh: &[Held], request: &TokenRequest) -> bool
     ensures { result ≡ has_call_of (requests_of fresh.now) request.now }
 {
-    any_of_call(fresh, request.call)
+    fresh.iter().any(|held| held.is_of_call(request.call))
 }
 
 // The request comes last in the queue, unless it comes from there at once.
@@ -184,9 +144,15 @@ fn serve_on(
     requires { HeldHasRoom active.old spare (length fresh.now) }
     ensures { active.new.held ≡ held_still ended (held_without dropped (waiting_for ats.now active.old.held)) ++ fresh.now }
 {
-    refill_active(active, spare, fresh.len());
+    if let Some(spare) = spare {
+        active.refill(spare);
+    }
     active.wait_for(ats);
-    forget_served(active, dropped);
-    end(active, ended);
+    if let Some((node, incarnation)) = dropped {
+        active.forget(node, incarnation);
+    }
+    if let Some(call) = ended {
+        active.end(call);
+    }
     serve(active, fresh);
 }

@@ -1,6 +1,6 @@
 //! How an event changes what a token server knows of a node.
 ghost use Rattle.std.specs.Prelude.{◌≡◌};
-ghost use Rattle.token_server.specs.Sketches.{dropped_to};
+ghost use Rattle.token_server.specs.Sketches.{dropped_to, dead_after};
 
 use intervals::span::Span;
 use model::host::Host;
@@ -28,6 +28,17 @@ impl NodeChange {
             NodeChange::Forgotten { incarnation } => Some(*incarnation),
             NodeChange::Asked { host } => Some(host.incarnation - 1),
             NodeChange::Answered | NodeChange::Relieved { .. } => None,
+        }
+    }
+
+    /// The greatest incarnation of the node known to be dead, where it was this one before.
+    pub fn dead_after(&self, dead: u16) -> u16
+        ensures { result ≡ dead_after self.now dead }
+    {
+        match self {
+            NodeChange::Forgotten { incarnation } => dead.max(*incarnation),
+            NodeChange::Asked { host } => dead.max(host.incarnation - 1),
+            NodeChange::Answered | NodeChange::Relieved { .. } => dead,
         }
     }
 }

@@ -1,5 +1,5 @@
 //! The token server of a file.
-ghost use Rattle.std.specs.Prelude.{◌≡◌, ◌≢◌, ℕ, ◌+◌, ◌-◌, ◌<◌, ◌≤◌, ◌↔◌, ◌++◌, not, ◌&&◌, ◌||◌, ◌==◌, IsTrue, true, length, IfSome, IfOk, IfErr, MatchOption, [], Option, Some, None, Ok, Err};
+ghost use Rattle.std.specs.Prelude.{◌≡◌, ◌≢◌, ◌+◌, ◌-◌, ◌<◌, ◌↔◌, ◌++◌, not, ◌&&◌, ◌||◌, ◌==◌, IsTrue, length, IfSome, IfOk, IfErr, MatchOption, [], Option, Some, None, Ok, Err};
 ghost use Rattle.std.specs.Option.{option_map, option_to_list};
 ghost use Rattle.model.specs.Limits.{IsNumber};
 ghost use Rattle.model.specs.Owners.{host_of_call};
@@ -15,15 +15,14 @@ ghost use Rattle.token_server.specs.Ready.{IsOrderly};
 ghost use Rattle.token_server.specs.Sketches.{dropped, without, moved_for, rows_after, sketched};
 ghost use Rattle.token_server.specs.Edits.{overlaid, planned, AreListed, Fits, HasRoom, HeldHasRoom, many_moved, many_put_off};
 
-use crate::change::{Change, Draft, Edit, Given, Parts};
+use crate::change::{Change, Draft, Edit, Parts};
 use crate::clients::Clients;
-use crate::ended::{denial, put_off};
 use crate::event::ServerEvent;
 use crate::lists::{Lists, Spares};
 use crate::moves;
 use crate::node_change::NodeChange;
-use crate::row_edits::RowEdits;
-use crate::sketch::{Changed, Moved, Sketch};
+use crate::row_edit::RowEdit;
+use crate::sketch::{Moved, Sketch};
 use crate::told::Told;
 use intervals::span::Span;
 use intervals::span_map::NoMemory;
@@ -31,7 +30,7 @@ use messages::actor::Actor;
 use messages::command_number::CommandNumber;
 use messages::file_number::FileNumber;
 use messages::items::Items;
-use messages::message::Message;
+use messages::message::{Message, Urgency};
 use messages::outcome::Outcome;
 use messages::refusal::StepError;
 use messages::shape::Shape;
@@ -124,42 +123,18 @@ impl Server {
         self.waiting.same(&other.waiting) && self.clients.same(&other.clients)
     }
 
-    // Nothing changes.
-    fn no_sketch(&self) -> Sketch
-        ensures state { sketched self.now result ≡ server_state self.now }
-        ensures in_cluster { IfSome result.changed (λ c. IsNumber self.now.shape.nodes c.node) }
-    {
-        Sketch {
-            changed: None,
-            moved: Moved::Nothing,
-            ended: None,
-        }
-    }
-
-    // Those that wait come last in the queue, in their order.
-    fn requeued(&self) -> Sketch
-        ensures state { sketched self.now result ≡ requeued (server_state self.now) }
-        ensures in_cluster { IfSome result.changed (λ c. IsNumber self.now.shape.nodes c.node) }
-    {
-        Sketch {
-            changed: None,
-            moved: Moved::Waiting,
-            ended: None,
-        }
-    }
-
     // The incarnations of a node up to this one are known to be dead, and what waits is asked for again.
     fn forgotten(&self, node: u8, incarnation: u16) -> Sketch
         requires { IsNumber self.now.shape.nodes node }
         ensures state { sketched self.now result ≡ requeued (forgotten (server_state self.now) node incarnation) }
         ensures in_cluster { IfSome result.changed (λ c. IsNumber self.now.shape.nodes c.node) }
     {
-        let change = NodeChange::Forgotten { incarnation };
-        Sketch {
-            changed: Some(Changed { node, change }),
-            moved: Moved::Waiting,
-            ended: None,
-        }
+        Sketch::of(
+            node,
+            NodeChange::Forgotten { incarnation },
+            Moved::Waiting,
+            None,
+        )
     }
 
     // What comes last in the queue for a request: its call's that waits, or the request itself, unless its
@@ -184,25 +159,15 @@ impl Server {
         ensures in_cluster { IfSome result.changed (λ c. IsNumber self.now.shape.nodes c.node) }
     {
         let host = request.call.host();
-        let node = host.node;
-        Sketch {
-            changed: Some(Changed {
-                node,
-                change: NodeChange::Asked { host },
-            }),
-            moved: self.enqueued(request),
-            ended: None,
-        }
+        let moved = self.enqueued(request);
+        Sketch::of(host.node, NodeChange::Asked { host }, moved, None)
     }
 
     // The mode that the command with that number revokes, if it is under way to that holder.
     fn revoked_mode(&self, number: u32, holder: Host) -> Option<Mode>
         ensures { MatchOption (row_of_host (server_state self.now) holder) (result ≡ None) (λ row. result ≡ revoked_mode number row.outstanding) }
     {
-        match self.clients.row_of(holder) {
-            Some(row) => row.commands.revoked_mode(number),
-            None => None,
-        }
+        self.clients.row_of(holder)?.commands.revoked_mode(number)
     }
 
     // Takes a node's answer to a Grant: the call's request is served no longer. `None` where the answer
@@ -216,14 +181,8 @@ impl Server {
             Some(row) if row.commands.grants(number) => {}
             _ => return None,
         }
-        Some(Sketch {
-            changed: Some(Changed {
-                node: call.node,
-                change: NodeChange::Answered,
-            }),
-            moved: Moved::Nothing,
-            ended: Some(call),
-        })
+        let answered = NodeChange::Answered;
+        Some(Sketch::of(call.node, answered, Moved::Nothing, Some(call)))
     }
 
     // Takes a holder's answer that it gave up a span. `None` where the answer doesn't count.
@@ -233,14 +192,8 @@ impl Server {
         ensures in_cluster { IfSome result (λ k. IfSome k.changed (λ c. IsNumber self.now.shape.nodes c.node)) }
     {
         let mode = self.revoked_mode(number, holder)?;
-        Some(Sketch {
-            changed: Some(Changed {
-                node: holder.node,
-                change: NodeChange::Relieved { span, mode },
-            }),
-            moved: Moved::Nothing,
-            ended: None,
-        })
+        let relieved = NodeChange::Relieved { span, mode };
+        Some(Sketch::of(holder.node, relieved, Moved::Nothing, None))
     }
 
     // The number of the file.
@@ -273,18 +226,13 @@ impl Server {
             lock,
         };
         let own = self.active.find(call);
-        let sketch = Sketch {
-            changed: Some(Changed {
-                node: holder.node,
-                change: NodeChange::Answered,
-            }),
-            moved: match put_off(&own) {
-                Some(request) => Moved::PutOff(request),
-                None => Moved::Nothing,
-            },
-            ended: Some(call),
+        let (moved, denial) = match own {
+            Some(request) if request.urgency == Urgency::Waits => (Moved::PutOff(request), None),
+            Some(_) => (Moved::Nothing, Some(deny)),
+            None => (Moved::Nothing, None),
         };
-        Some((sketch, denial(&own, &deny)))
+        let sketch = Sketch::of(holder.node, NodeChange::Answered, moved, Some(call));
+        Some((sketch, denial))
     }
 
     // Takes that locks of the holder may be gone: where its row is of that incarnation, what waits is asked
@@ -293,10 +241,10 @@ impl Server {
         ensures state { sketched self.now result ≡ freed (server_state self.now) (row_of_host (server_state self.now) holder) }
         ensures in_cluster { IfSome result.changed (λ c. IsNumber self.now.shape.nodes c.node) }
     {
-        if self.clients.row_of(holder).is_none() {
-            return self.no_sketch();
+        match self.clients.row_of(holder) {
+            Some(_) => Sketch::moving(Moved::Waiting),
+            None => Sketch::moving(Moved::Nothing),
         }
-        self.requeued()
     }
 
     // The incarnations of a node up to one of which requests go: what is known as dead already has none.
@@ -315,7 +263,12 @@ impl Server {
     }
 
     // How the requests change.
-    fn lists(&self, alloc: Global, rows: &RowEdits, sketch: &Sketch) -> Result<Lists, NoMemory>
+    fn lists(
+        &self,
+        alloc: Global,
+        rows: &Option<RowEdit>,
+        sketch: &Sketch,
+    ) -> Result<Lists, NoMemory>
         requires rows { rows_of (overlaid self.now.clients rows.now) ≡ rows_after sketch.now.changed (rows_of self.now.clients) }
         requires in_cluster { IfSome sketch.now.changed (λ c. IsNumber self.now.shape.nodes c.node) }
         requires orderly { IsOrderly (sketched self.now sketch.now) }
@@ -328,7 +281,7 @@ impl Server {
             ats: self.awaited(alloc, rows, &sketch.changed)?,
             ended: sketch.ended,
             moved: sketch.moved,
-            fresh: self.hold(alloc, rows, &sketch.changed, fresh.as_slice())?,
+            fresh: self.hold(alloc, rows, fresh.as_slice())?,
         })
     }
 
@@ -340,16 +293,9 @@ impl Server {
     {
         Ok(Spares {
             active: spare_active(&self.active, lists.fresh.len())?,
-            queue: spare_line(&self.queue, self.queued(&lists.moved))?,
+            queue: spare_line(&self.queue, lists.moved.many(&self.waiting))?,
             waiting: spare_line(&self.waiting, lists.moved.put_off())?,
         })
-    }
-
-    // At least as many as come last in the queue.
-    fn queued(&self, moved: &Moved) -> usize
-        ensures { (dropped : Option (ℕ × ℕ)) → many_moved moved.now (without dropped self.now.waiting.requests) ≤ result }
-    {
-        moved.many(&self.waiting)
     }
 
     // Serves the requests: each is granted, but where other nodes' rows conflict with it, the token of the
@@ -361,7 +307,7 @@ impl Server {
         ensures fits { IfOk result (λ r. Fits self.now r.0) }
         ensures err { IfErr result (λ e. e ≢ StepError.NoMemory → serve (sketched self.now sketch.now) ≡ Err e) }
     {
-        let rows = RowEdits::of(&self.clients, alloc, &sketch.changed)?;
+        let rows = self.clients.edit(alloc, &sketch.changed)?;
         let lists = self.lists(alloc, &rows, sketch)?;
         let spares = self.spares(&lists)?;
         let draft = Draft { rows, lists };
@@ -448,32 +394,23 @@ impl Server {
         ensures outcome { IfOk result (λ change. change.outcome ≡ sending []) }
     {
         let _ = &self.shape; // tells the proof what holds between two steps
-        let draft = Draft {
-            rows: RowEdits::new(alloc),
-            lists: Lists::same(alloc),
+        let lists = Lists {
+            dropped: None,
+            ats: Vec::new(alloc),
+            ended: None,
+            moved: Moved::Nothing,
+            fresh: Vec::new(alloc),
         };
+        let spares = Spares {
+            active: None,
+            queue: None,
+            waiting: None,
+        };
+        let draft = Draft { rows: None, lists };
         Ok(Change {
-            edit: Edit::new(alloc, draft, Vec::new(alloc), Spares::none())?,
+            edit: Edit::new(alloc, draft, Vec::new(alloc), spares)?,
             outcome: Outcome::sending(Items::new(alloc)),
         })
-    }
-
-    // Takes a message of a node of the cluster to this server.
-    fn on_own(&self, alloc: Global, message: &Message) -> Result<Change, StepError>
-        requires { (is_server self.now.file (addressee message.now) && is_within self.now.shape.nodes (host_of message.now).node) ≡ true }
-        ensures fits { IfOk result (λ change. Fits self.now change.edit) }
-        ensures ok { IfOk result (λ change. server_rule (server_state self.now) (ServerEvent.Deliver message.now) ≡ Ok (planned self.now change.edit, change.outcome)) }
-        ensures err { IfErr result (λ e. e ≢ StepError.NoMemory → server_rule (server_state self.now) (ServerEvent.Deliver message.now) ≡ Err e) }
-        ensures refused { (r : StepError) → server_rule (server_state self.now) (ServerEvent.Deliver message.now) ≡ Err r → r ≡ StepError.Spent }
-    {
-        let host = message.host();
-        if host.incarnation <= self.clients.dead(host.node) {
-            return Ok(self.no_change(alloc)?);
-        }
-        match self.deliver(message) {
-            Some((sketch, first)) => self.serve_after(&sketch, alloc, first),
-            None => Ok(self.no_change(alloc)?),
-        }
     }
 
     // Takes a message.
@@ -486,14 +423,14 @@ impl Server {
         if !self.is_addressed_by(message) {
             return Err(StepError::Stranger);
         }
-        self.on_own(alloc, message)
-    }
-
-    // The commands that have no answer yet.
-    fn outstanding(&self, alloc: Global) -> Result<Items<Message>, NoMemory>
-        ensures { IfOk result (λ commands. commands ≡ outstanding (server_state self.now)) }
-    {
-        self.clients.outstanding(alloc)
+        let host = message.host();
+        if host.incarnation <= self.clients.dead(host.node) {
+            return Ok(self.no_change(alloc)?);
+        }
+        match self.deliver(message) {
+            Some((sketch, first)) => self.serve_after(&sketch, alloc, first),
+            None => Ok(self.no_change(alloc)?),
+        }
     }
 
     // Sends again what has no answer yet, asks again for what waits, and then serves.
@@ -504,25 +441,12 @@ impl Server {
         ensures refused { (r : StepError) → resend_rule (server_state self.now) ≡ Err r → r ≡ StepError.Spent }
     {
         let _ = &self.shape; // tells the proof what holds between two steps
-        let (edit, served) = self.serve(&self.requeued(), alloc)?;
-        let commands = self.outstanding(alloc)?;
+        let (edit, served) = self.serve(&Sketch::moving(Moved::Waiting), alloc)?;
+        let commands = self.clients.outstanding(alloc)?;
         Ok(sending(edit, commands, served)?)
     }
 
-    // The incarnation of a node of the cluster is known as dead from now on, what waits is asked for again,
-    // and then the server serves.
-    fn learn_own(&self, alloc: Global, node: u8, incarnation: u16) -> Result<Change, StepError>
-        requires { IsNumber self.now.shape.nodes node }
-        ensures fits { IfOk result (λ change. Fits self.now change.edit) }
-        ensures ok { IfOk result (λ change. learn_rule (server_state self.now) node incarnation ≡ Ok (planned self.now change.edit, change.outcome)) }
-        ensures err { IfErr result (λ e. e ≢ StepError.NoMemory → learn_rule (server_state self.now) node incarnation ≡ Err e) }
-        ensures refused { (r : StepError) → learn_rule (server_state self.now) node incarnation ≡ Err r → r ≡ StepError.Spent }
-    {
-        let _ = &self.shape; // tells the proof what holds between two steps
-        self.serve_after(&self.forgotten(node, incarnation), alloc, None)
-    }
-
-    // The incarnation is known as dead from now on, and then the server serves.
+    // The incarnation is known as dead from now on, what waits is asked for again, and then the server serves.
     fn learn(&self, alloc: Global, node: u8, incarnation: u16) -> Result<Change, StepError>
         ensures fits { IfOk result (λ change. Fits self.now change.edit) }
         ensures ok { IfOk result (λ change. learn_rule (server_state self.now) node incarnation ≡ Ok (planned self.now change.edit, change.outcome)) }
@@ -532,7 +456,8 @@ impl Server {
         if node == 0 || node > self.shape.nodes() {
             return Err(StepError::Stranger);
         }
-        self.learn_own(alloc, node, incarnation)
+        let _ = &self.shape; // tells the proof what holds between two steps
+        self.serve_after(&self.forgotten(node, incarnation), alloc, None)
     }
 
     /// What the server will do at an event, as `step` says: only what the event changes is made anew.

@@ -1,5 +1,5 @@
 //! What an event changes of a token server before it serves.
-ghost use Rattle.std.specs.Prelude.{◌≡◌};
+ghost use Rattle.std.specs.Prelude.{◌≡◌, Some, None};
 ghost use Rattle.std.specs.Option.{option_map};
 ghost use Rattle.token_server.specs.Edits.{many_moved, many_put_off};
 ghost use Rattle.token_server.specs.Sketches.{dropped};
@@ -42,27 +42,41 @@ pub struct Sketch {
 }
 
 impl Sketch {
+    /// A node changes so, then requests move, and the call's request is served no longer, if one is named.
+    pub fn of(node: u8, change: NodeChange, moved: Moved, ended: Option<CallId>) -> Sketch
+        ensures { result ≡ record { changed = Some (record { node = node; change = change }); moved = moved; ended = ended } }
+    {
+        Sketch {
+            changed: Some(Changed { node, change }),
+            moved,
+            ended,
+        }
+    }
+
+    /// Only requests move.
+    pub fn moving(moved: Moved) -> Sketch
+        ensures { result ≡ record { changed = None; moved = moved; ended = None } }
+    {
+        Sketch {
+            changed: None,
+            moved,
+            ended: None,
+        }
+    }
+
     /// The node and the incarnation up to which its requests are dropped, if any are.
     pub fn dropped(&self) -> Option<(u8, u16)>
         ensures { result ≡ dropped self.now.changed }
     {
-        match &self.changed {
-            Some(changed) => match changed.change.dropped_to() {
-                Some(incarnation) => Some((changed.node, incarnation)),
-                None => None,
-            },
-            None => None,
-        }
+        let changed = self.changed.as_ref()?;
+        Some((changed.node, changed.change.dropped_to()?))
     }
 
     /// The node whose row changes, if one does.
     pub fn touched(&self) -> Option<u8>
         ensures { result ≡ option_map (λ c. c.node) self.now.changed }
     {
-        match &self.changed {
-            Some(changed) => Some(changed.node),
-            None => None,
-        }
+        Some(self.changed.as_ref()?.node)
     }
 }
 

@@ -1,12 +1,10 @@
 //! Rows of a token server.
-ghost use Rattle.std.specs.Prelude.{◌≡◌, ◌≤◌, ◌↔◌, IsTrue, IfOk};
-ghost use Rattle.token_server.specs.State.{empty_row};
+ghost use Rattle.std.specs.Prelude.{◌≡◌, ◌↔◌, IsTrue, IfOk};
 ghost use Rattle.token_server.specs.Parts.{row_state, SameRow};
 ghost use Rattle.token_server.specs.Edits.{given_row};
 
 use crate::commands::Commands;
 use intervals::span_map::NoMemory;
-use std::alloc::Global;
 use token_set::edit::TokenEdit;
 use token_set::set::TokenSet;
 

@@ -1,9 +1,8 @@
 //! Commands that a server sends as it serves.
 ghost use Rattle.std.specs.Prelude.{◌≡◌, ◌≤◌, ◌<◌, IfSome};
-ghost use Rattle.token_queue.specs.Requests.{meets};
 ghost use Rattle.messages.specs.Messages.{greatest_number};
 ghost use Rattle.token_server.specs.Parts.{told_commands};
-ghost use Rattle.token_server.specs.Told.{told_to, barred_by, bars, cut};
+ghost use Rattle.token_server.specs.Told.{told_to, bars, cut};
 
 use crate::commands::Commands;
 use intervals::span::Span;
@@ -23,13 +22,6 @@ pub fn told_to(told: &[Told], node: u8) -> Option<Told>
     ensures { result ≡ told_to told.now node }
 {
     told.iter().find(|told| told.node == node).copied()
-}
-
-/// Whether the spans have a byte in common.
-pub fn meets(one: Span, other: Span) -> bool
-    ensures { result ≡ meets one other }
-{
-    one.lo <= other.hi && other.lo <= one.hi
 }
 
 /// The largest span that contains `required` and lies in `within` without the bytes of the other span
@@ -68,25 +60,19 @@ impl Told {
         ensures value { result ≡ bars self.now.command mode }
         ensures ordered { IfSome result (λ s. s.lo ≤ s.hi) }
     {
-        match &self.command {
-            Message::Grant {
-                mode: granted,
-                span,
-                ..
-            } => barred_by(*granted, mode, *span),
+        match (&self.command, mode) {
+            (
+                Message::Grant {
+                    mode: Mode::Read,
+                    ..
+                },
+                Mode::Read,
+            ) => None,
+            (Message::Grant { span, .. }, _) => {
+                let _ = &span.lo; // tells the proof that the span has a byte
+                Some(*span)
+            }
             _ => None,
         }
-    }
-}
-
-// The span that one lock mode grants, where it conflicts with the other.
-fn barred_by(granted: Mode, mode: Mode, span: Span) -> Option<Span>
-    ensures value { result ≡ barred_by granted mode span }
-    ensures ordered { IfSome result (λ s. s.lo ≤ s.hi) }
-{
-    let _ = &span.lo; // tells the proof that the span has a byte
-    match (granted, mode) {
-        (Mode::Read, Mode::Read) => None,
-        _ => Some(span),
     }
 }

@@ -1,6 +1,5 @@
 //! Requests that come from the queue of a token server.
 ghost use Rattle.std.specs.Prelude.{◌≡◌, ◌+◌, ◌<◌, ◌≤◌, ◌++◌, ◌∷◌, [], true, ◌&&◌, ◌||◌, take, length, Some, IfOk};
-ghost use Rattle.std.specs.List.{list_any};
 ghost use Rattle.token_queue.specs.Requests.{meets, requests_in};
 ghost use Rattle.token_queue.specs.Actives.{requests_of};
 ghost use Rattle.token_server.specs.Serve.{meets_some};
@@ -185,28 +184,6 @@ fn admit_freed(
     Ok(())
 }
 
-// Those that come of a queue that had settled, once the call's request is served no longer, if one is named.
-fn admit_ended(
-    fresh: &mut Vec<TokenRequest>,
-    ended: Option<CallId>,
-    active: &Active,
-    queue: &Line,
-) -> Result<(), NoMemory>
-    requires empty { fresh.old.items ≡ [] }
-    requires settled { all_stay (requests_of active.now.held) [] queue.now.requests ≡ true }
-    requires served { AreDistinct (requests_of active.now.held) }
-    requires queued { AreDistinct queue.now.requests }
-    ensures { IfOk result (λ done. IsAdmitted (still_active ended (requests_of active.now.held)) queue.now.requests fresh.new.items) }
-{
-    let Some(call) = ended else {
-        return Ok(());
-    };
-    let Some(ended) = active.find(call) else {
-        return Ok(());
-    };
-    admit_freed(fresh, active.as_slice(), call, &ended, queue.slots())
-}
-
 // Those that come of a queue that had settled, once requests were dropped and one is served no longer.
 fn admit_queued(
     fresh: &mut Vec<TokenRequest>,
@@ -220,10 +197,16 @@ fn admit_queued(
     requires queued { AreDistinct (without gone.now.dropped queue.now.requests) }
     ensures { IfOk result (λ done. IsAdmitted (served_on gone.now active.now.held) (without gone.now.dropped queue.now.requests) fresh.new.items) }
 {
-    match gone.dropped {
-        None => admit_ended(fresh, gone.ended, active, queue),
-        Some(_) => admit_each(fresh, active.as_slice(), gone, &[], queue.slots()),
+    if gone.dropped.is_some() {
+        return admit_each(fresh, active.as_slice(), gone, &[], queue.slots());
     }
+    let Some(call) = gone.ended else {
+        return Ok(());
+    };
+    let Some(ended) = active.find(call) else {
+        return Ok(());
+    };
+    admit_freed(fresh, active.as_slice(), call, &ended, queue.slots())
 }
 
 // The request that comes last in the queue comes from there, unless it has to stay.

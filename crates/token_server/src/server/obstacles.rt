@@ -7,13 +7,12 @@ ghost use Rattle.token_server.specs.Serve.{row_conflicts, conflicting_node};
 ghost use Rattle.token_server.specs.Parts.{server_state, rows_of};
 ghost use Rattle.token_server.specs.Obstacles.{obstacle, is_dropped, frees};
 ghost use Rattle.token_server.specs.Sketches.{rows_after};
-ghost use Rattle.token_server.specs.Edits.{overlaid, reached};
+ghost use Rattle.token_server.specs.Edits.{overlaid, reached, ChangesOne};
 
 use super::Server;
 use crate::node_change::NodeChange;
-use crate::row_edits::RowEdits;
+use crate::row_edit::RowEdit;
 use crate::sketch::Changed;
-use intervals::span::Span;
 use intervals::span_map::NoMemory;
 use model::mode::Mode;
 use std::alloc::Global;
@@ -21,27 +20,22 @@ use token_queue::held::Held;
 use token_queue::token_request::TokenRequest;
 
 impl Server {
-    // Whether the row of a node conflicts with the mode in the span.
-    fn conflicts_at(&self, rows: &RowEdits, node: u8, span: Span, mode: Mode) -> bool
+    // Whether the row of another node conflicts with what the request needs.
+    fn stands_in_way(&self, rows: &Option<RowEdit>, node: u8, request: &TokenRequest) -> bool
         requires { IsNumber self.now.shape.nodes node }
-        ensures { result ≡ row_conflicts ((reached self.now rows.now).rows node) span mode }
+        ensures { result ≡ (not (node == request.now.call.node) && row_conflicts ((reached self.now rows.now).rows node) request.now.wanted.required request.now.mode) }
     {
-        match rows.row(&self.clients, node) {
-            Some(row) => row.token.conflicts(span, mode),
+        if request.is_of_node(node) {
+            return false;
+        }
+        match self.clients.row_after(rows, node) {
+            Some(row) => row.token.conflicts(request.required(), request.mode),
             None => false,
         }
     }
 
-    // Whether the row of another node conflicts with what the request needs.
-    fn stands_in_way(&self, rows: &RowEdits, node: u8, request: &TokenRequest) -> bool
-        requires { IsNumber self.now.shape.nodes node }
-        ensures { result ≡ (not (node == request.now.call.node) && row_conflicts ((reached self.now rows.now).rows node) request.now.wanted.required request.now.mode) }
-    {
-        !request.is_of_node(node) && self.conflicts_at(rows, node, request.required(), request.mode)
-    }
-
     // The least other node whose row conflicts with what the request needs.
-    fn conflicting_node(&self, rows: &RowEdits, request: &TokenRequest) -> Option<u8>
+    fn conflicting_node(&self, rows: &Option<RowEdit>, request: &TokenRequest) -> Option<u8>
         ensures node_in { IfSome result (λ node. IsNumber self.now.shape.nodes node × IsNumber most_nodes node) }
         ensures within { IsSome result ↔ (conflicting_node (reached self.now rows.now) request.now ≤ self.now.shape.nodes) }
         ensures value { IfSome result (λ node. node ≡ conflicting_node (reached self.now rows.now) request.now) }
@@ -55,20 +49,17 @@ impl Server {
     }
 
     // The node whose row a request waits for. No row stands in a reader's way where none has an exclusive byte.
-    fn obstacle(&self, rows: &RowEdits, changed: &Option<Changed>, request: &TokenRequest) -> u8
-        requires { rows_of (overlaid self.now.clients rows.now) ≡ rows_after changed.now (rows_of self.now.clients) }
+    fn obstacle(&self, rows: &Option<RowEdit>, request: &TokenRequest) -> u8
+        requires { ChangesOne self.now.clients rows.now }
         ensures { result ≡ obstacle (reached self.now rows.now) request.now }
     {
-        let _ = changed; // (the proof speaks of it)
         let required = request.required();
         let _ = &required.lo; // tells the proof that the span has a byte
         if reads(request.mode) && self.clients.excludes_none() {
             return request.call.node;
         }
-        match self.conflicting_node(rows, request) {
-            Some(node) => node,
-            None => request.call.node,
-        }
+        self.conflicting_node(rows, request)
+            .unwrap_or(request.call.node)
     }
 
     // Whether the row of the node is of that incarnation or an older one.
@@ -137,7 +128,7 @@ impl Server {
     pub(super) fn awaited(
         &self,
         alloc: Global,
-        rows: &RowEdits,
+        rows: &Option<RowEdit>,
         changed: &Option<Changed>,
     ) -> Result<Vec<u8>, NoMemory>
         requires rows { rows_of (overlaid self.now.clients rows.now) ≡ rows_after changed.now (rows_of self.now.clients) }
@@ -145,46 +136,28 @@ impl Server {
         ensures { IfOk result (λ ats. All (λ h. obstacle (reached self.now rows.now) h.request ≡ h.at) (waiting_for ats.items self.now.active.held)) }
     {
         let _ = &self.shape; // tells the proof what holds between two steps
-        let Some(own) = changed else {
+        let Some(changed) = changed else {
             return Ok(Vec::new(alloc));
         };
-        if self.none_freed(own) {
+        if self.none_freed(changed) {
             return Ok(Vec::new(alloc));
         }
-        self.awaited_after(alloc, rows, changed, own)
-    }
-
-    // The same, where a request may wait for another row.
-    fn awaited_after(
-        &self,
-        alloc: Global,
-        rows: &RowEdits,
-        changed: &Option<Changed>,
-        own: &Changed,
-    ) -> Result<Vec<u8>, NoMemory>
-        requires rows { rows_of (overlaid self.now.clients rows.now) ≡ rows_after changed.now (rows_of self.now.clients) }
-        requires own { changed.now ≡ Some own.now }
-        requires in_cluster { IsNumber self.now.shape.nodes own.now.node }
-        ensures { IfOk result (λ ats. All (λ h. obstacle (reached self.now rows.now) h.request ≡ h.at) (waiting_for ats.items self.now.active.held)) }
-    {
-        let _ = &self.shape; // tells the proof what holds between two steps
         let mut ats = Vec::with_capacity(alloc, self.active.as_slice().len())?;
         for held in self.active.as_slice() {
-            ats.push(self.at_after(rows, changed, own, held))?;
+            ats.push(self.at_after(rows, changed, held))?;
         }
         Ok(ats)
     }
 
     // The node whose row a request that is served waits for once rows changed.
-    fn at_after(&self, rows: &RowEdits, changed: &Option<Changed>, own: &Changed, held: &Held) -> u8
-        requires rows { rows_of (overlaid self.now.clients rows.now) ≡ rows_after changed.now (rows_of self.now.clients) }
-        requires own { changed.now ≡ Some own.now }
-        requires in_cluster { IsNumber self.now.shape.nodes own.now.node }
+    fn at_after(&self, rows: &Option<RowEdit>, changed: &Changed, held: &Held) -> u8
+        requires rows { rows_of (overlaid self.now.clients rows.now) ≡ rows_after (Some changed.now) (rows_of self.now.clients) }
+        requires in_cluster { IsNumber self.now.shape.nodes changed.now.node }
         requires waits { obstacle (server_state self.now) held.now.request ≡ held.now.at }
         ensures { obstacle (reached self.now rows.now) held.now.request ≡ result }
     {
-        if self.is_freed(own, held) {
-            return self.obstacle(rows, changed, &held.request);
+        if self.is_freed(changed, held) {
+            return self.obstacle(rows, &held.request);
         }
         held.at
     }
@@ -193,17 +166,16 @@ impl Server {
     pub(super) fn hold(
         &self,
         alloc: Global,
-        rows: &RowEdits,
-        changed: &Option<Changed>,
+        rows: &Option<RowEdit>,
         requests: &[TokenRequest],
     ) -> Result<Vec<Held>, NoMemory>
-        requires { rows_of (overlaid self.now.clients rows.now) ≡ rows_after changed.now (rows_of self.now.clients) }
+        requires { ChangesOne self.now.clients rows.now }
         ensures requests { IfOk result (λ fresh. requests_of fresh.items ≡ requests.now) }
         ensures waits { IfOk result (λ fresh. All (λ h. obstacle (reached self.now rows.now) h.request ≡ h.at) fresh.items) }
     {
         let mut fresh = Vec::new(alloc);
         for request in requests {
-            let at = self.obstacle(rows, changed, request);
+            let at = self.obstacle(rows, request);
             fresh.push(Held {
                 request: *request,
                 at,

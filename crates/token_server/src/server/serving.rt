@@ -1,5 +1,6 @@
 //! How a token server serves its requests.
-ghost use Rattle.std.specs.Prelude.{◌≡◌, ◌≢◌, ℕ, ◌+◌, ◌<◌, ◌≤◌, ◌++◌, true, false, IfSome, All, IfOk, IfErr, OnOk, slice_index_or, [], ◌∷◌, Some, None, Ok, Err};
+ghost use Rattle.std.specs.Prelude.{◌≡◌, ◌==◌, ◌≢◌, ℕ, ◌+◌, ◌<◌, ◌≤◌, ◌++◌, true, false, IfSome, All, IfOk, IfErr, OnOk, slice_index_or, Some, None, Ok, Err};
+ghost use Rattle.std.specs.List.{list_any};
 ghost use Rattle.std.specs.Option.{option_map, option_to_list};
 ghost use Rattle.model.specs.Limits.{IsNumber, most_nodes};
 ghost use Rattle.intervals.specs.Bytes.{largest_around};
@@ -85,7 +86,7 @@ impl Server {
         ensures { result ≡ largest_around (λ b. row_conflicts_at ((with_told told.now (drafted self.now draft.now)).rows node) b mode) required within }
     {
         let _ = &required.lo; // tells the proof that the span has a byte
-        let Some(row) = draft.rows.row(&self.clients, node) else {
+        let Some(row) = self.clients.row_after(&draft.rows, node) else {
             return within;
         };
         match told_to(told, node) {
@@ -99,7 +100,7 @@ impl Server {
         requires { 1 ≤ node }
         ensures { result ≡ option_map commands_of ((with_told told.now (drafted self.now draft.now)).rows node) }
     {
-        let row = draft.rows.row(&self.clients, node)?;
+        let row = self.clients.row_after(&draft.rows, node)?;
         match told_to(told, node) {
             Some(told) => Some(told.commands.awaiting(&told.command)),
             None => Some(*row.commands),
@@ -221,7 +222,10 @@ impl Server {
         for place in 0..active.len() {
             let held = &active[place];
             let at = awaited(draft.lists.ats.as_slice(), place, held.at);
-            if may_come(held.at, at, touched) && draft.lists.keeps(held) {
+            if !may_come(held.at, at, touched) || is_told(told.as_slice(), at) {
+                continue;
+            }
+            if draft.lists.keeps(held) {
                 let request = held.request;
                 self.serve_one(draft, &mut told, &Held { request, at })?;
             }
@@ -276,7 +280,7 @@ impl Server {
         ensures place { IfOk result (λ given. given.place + 1 ≡ told.now.node) }
         ensures row { IfOk result (λ given. given_to_client given (client_at (overlaid self.now.clients draft.now.rows) told.now.node) ≡ row_told (Some told.now) (rows_of (overlaid self.now.clients draft.now.rows) told.now.node)) }
     {
-        let token = match draft.rows.row(&self.clients, told.node) {
+        let token = match self.clients.row_after(&draft.rows, told.node) {
             Some(row) => promised(row.token, &told.command)?,
             None => TokenEdit::Same,
         };
@@ -293,10 +297,14 @@ impl Server {
 fn awaited(ats: &[u8], place: usize, before: u8) -> u8
     ensures { result ≡ slice_index_or ats.now place before }
 {
-    match ats.get(place) {
-        Some(at) => *at,
-        None => before,
-    }
+    ats.get(place).copied().unwrap_or(before)
+}
+
+// Whether the node is told something: then no other command may go to it.
+fn is_told(told: &[Told], node: u8) -> bool
+    ensures { result ≡ list_any (λ t. t.node == node) told.now }
+{
+    told.iter().any(|told| told.node == node)
 }
 
 // Whether a command may go to the node whose row a request waits for, where none could go to the node for whose

@@ -1,6 +1,13 @@
-use Rattle.std.proofs.Common.{◌∙◌}
+use Rattle.std.proofs.Common.{◌∙◌, rules, tests}
+use Rattle.std.proofs.lemmas.Iterator.{YieldsList-from_slice}
+use Rattle.std.proofs.lemmas.Iterator.Search.{any_from_yields_List}
+use Rattle.token_queue.specs.declared.held.Held.{Held}
+use Rattle.token_queue.specs.Requests.{is_of_call}
 use Rattle.token_queue.proofs.ActiveLaws.{any-held}
 use Rattle.token_server.proofs.moves.has_call_of.Goals as goal
 
 pub returns : goal.returns
-returns c = c.any_of_call.ensures ∙ any-held c.args.request.now.call c.args.fresh.now
+returns c =
+    let call = c.args.request.now.call in
+    any_from_yields_List (λ (h : Held). is_of_call call h.request) _ _ _ c.any.ensures.ran (YieldsList-from_slice c.args.fresh.now c.iter.ensures.rest) (λ x b q k. search (rules, tests))
+    ∙ any-held call c.args.fresh.now

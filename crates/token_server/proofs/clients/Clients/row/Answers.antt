@@ -1,4 +1,4 @@
-use Rattle.std.specs.Prelude.{length, ◌<◌, []}
+use Rattle.std.specs.Prelude.{length, ◌<◌}
 use Rattle.std.proofs.Common.{arith, sym, ap, ◌∙◌}
 use Rattle.token_server.specs.Parts.{row_seen}
 use Rattle.token_server.proofs.ClientLaws.{rows_of-past}
@@ -10,8 +10,5 @@ returns-then-from-len c =
     let past : length c.args.self.now < c.args.node = omega (arith, ap length c.self.view_is) in
     sym (rows_of-past c.args.self.now c.args.node past)
 
-pub returns-in-Some : goal.returns-in-Some
-returns-in-Some c = ap row_seen (sym c.in-Some.is) ∙ sym (rows_of-there c.args.self.now [] c.args.node _ c.at.ensures)
-
-pub returns-in-None : goal.returns-in-None
-returns-in-None c = ap row_seen (sym c.in-None.is) ∙ sym (rows_of-there c.args.self.now [] c.args.node _ c.at.ensures)
+pub returns : goal.returns
+returns c = ap row_seen c.as_ref.ensures.value ∙ sym (rows_of-there c.args.self.now c.args.node _ c.at.ensures)

@@ -4,7 +4,7 @@ use Rattle.token_queue.specs.Actives.{requests_of}
 use Rattle.token_server.specs.Parts.{ServerParts}
 use Rattle.token_server.specs.Ready.{AreDistinct}
 use Rattle.token_server.specs.Sketches.{without, queue_moved}
-use Rattle.token_server.proofs.ComesLaws.{distinct-first, distinct-queue}
+use Rattle.token_server.proofs.ComesLaws.{distinct-first, distinct-before_moved}
 use Rattle.token_server.proofs.server.Server.admit.Goals as goal
 
 pub admit_queued-requires-clause-served : goal.admit_queued-requires-clause-served
@@ -16,7 +16,7 @@ admit_queued-requires-clause-queued c =
     let p = c.args.self.now in
     let dropped = c.args.dropped in
     subst (λ (s : ServerParts). AreDistinct (without dropped s.queue.requests)) (sym c.self.view_is)
-    (distinct-queue c.args.sketch.now.moved (without dropped p.queue.requests) (without dropped p.waiting.requests) c.requires)
+    (distinct-before_moved c.args.sketch.now.moved (without dropped p.queue.requests) (without dropped p.waiting.requests) c.requires)
 
 pub admit_moved-requires-clause-distinct : goal.admit_moved-requires-clause-distinct
 admit_moved-requires-clause-distinct c =

@@ -1,6 +1,7 @@
 use Rattle.std.specs.Prelude.{◌≡◌, ◌≤◌}
 use Rattle.std.proofs.Common.{arith, ap, ◌∙◌}
 use Rattle.model.specs.Limits.{HostFields}
+use Rattle.token_server.specs.Sketches.{sketched}
 use Rattle.token_server.proofs.SketchLaws.{asked-from}
 use Rattle.token_server.proofs.server.Server.ask.Goals as goal
 
@@ -10,4 +11,4 @@ returns-clause-state c =
     let node : c.host.inside.node ≡ c.args.request.call.node = ap (λ (h : HostFields). h.node) host in
     let incarnation : c.host.inside.incarnation ≡ c.args.request.call.incarnation = ap (λ (h : HostFields). h.incarnation) host in
     let counted : 1 ≤ c.args.request.call.incarnation = omega (arith, incarnation, c.host.invariant.incarnation_in) in
-    asked-from c.args.self.now c.args.request _ _ _ counted node c.host-host.ensures c.enqueued.ensures
+    ap (sketched c.args.self.now) c.of.ensures ∙ asked-from c.args.self.now c.args.request _ _ _ counted node c.host-host.ensures c.enqueued-moved.ensures

@@ -1,4 +1,5 @@
-use Rattle.std.specs.Prelude.{◌≡◌, ◌+◌, ◌≤◌, true, false, List, ◌∷◌, ◌++◌, length, slice_get, All, Some}
+use Rattle.std.specs.Prelude.{◌==◌, ◌≡◌, ◌+◌, ◌≤◌, true, false, List, ◌∷◌, ◌++◌, length, slice_get, All, Some}
+use Rattle.std.specs.List.{list_any}
 use Rattle.std.proofs.Common.{refl, sym, ap, subst, ◌∙◌, take, drop, arith}
 use Rattle.std.proofs.lemmas.List.{take_all}
 use Rattle.std.proofs.lemmas.Result.{err_from_is_err_and}
@@ -12,8 +13,8 @@ use Rattle.token_server.specs.Obstacles.{is_idle}
 use Rattle.token_server.specs.Parts.{ServerParts, server_state}
 use Rattle.token_server.specs.Edits.{keeps, held_after, drafted}
 use Rattle.token_server.specs.Turns.{kept, AreServed}
-use Rattle.token_server.proofs.TurnLaws.{read-place, waits-place, quiet-place, waits-here, turn-spent, kept-split, kept-turn, kept-left, kept-silent}
-use Rattle.token_server.proofs.server.Server.commands_kept.Goals.{then-may_come+then-keeps+in_ok-serve_one, else-may_come, else-may_come-via-then-may_come+else-keeps, else-may_come-via-else-may_come}
+use Rattle.token_server.proofs.TurnLaws.{read-place, waits-place, quiet-place, waits-here, turn-spent, kept-split, kept-turn, kept-left, kept-silent, quiet-told, told-quiet}
+use Rattle.token_server.proofs.server.Server.commands_kept.Goals.{then-keeps+in_ok-serve_one, else-keeps, then-not-may_come-via-then-not-may_come, then-not-may_come-via-else-not-may_come+then-is_told}
 use Rattle.token_server.proofs.server.Server.commands_kept.Goals as goal
 
 pub serve_one-requires : goal.serve_one-requires
@@ -59,21 +60,36 @@ loop-place-preserved c =
     let w : Held = record { request = item.request; at = c.awaited-at.result } in
     let read : c.as_slice-active.result.now ≡ held = c.as_slice-active.ensures ∙ ap (λ (p : ServerParts). p.active.held) c.self.view_is in
     let there : slice_get (waiting_for l.ats.items held) i ≡ Some w = waits-place l c.as_slice-active.result.now held i item c.as_slice.result.now c.awaited-at.result read c.as_slice.ensures.value c.loop-place-test.true c.index-active-place.is c.awaited-at.ensures in
-    let Next : List Told → Type 0 = λ ts. AreServed s (held_after l held) (kept l (take (i + 1) (waiting_for l.ats.items held))) ts in
-    elim c.if-may_come.branch [
-      | then-may_come+then-keeps+in_ok-serve_one v ↦
-          let on : keeps l.dropped l.ended item.request ≡ true = sym v.keeps.ensures ∙ v.if-keeps.true in
+    elim c.if-keeps.branch [
+      | then-keeps+in_ok-serve_one v ↦
+          let on : keeps l.dropped l.ended item.request ≡ true = sym c.keeps.ensures ∙ v.if-keeps.true in
           rw v.told-is (kept-turn l held s c.loop-place.told.items i w there v.serve_one.new.told.items on refl c.requires.apart c.loop-place.invariant v.in_ok-serve_one.ensures.ok)
-      | else-may_come v ↦ rw v.told-is (elim v.else-may_come.branch as (λ b. Next c.loop-place.told.items) [
-        | else-may_come-via-then-may_come+else-keeps u ↦ kept-left l held s c.loop-place.told.items i w there (sym u.keeps.ensures ∙ u.if-keeps.false) c.loop-place.invariant
-        | else-may_come-via-else-may_come u ↦
-            let quiet : All (λ h. is_idle ((server_state c.args.self.now).rows h.at) ≡ false) held =
-            subst (λ (p : ServerParts). All (λ h. is_idle ((server_state p).rows h.at) ≡ false) p.active.held) c.self.view_is c.self.invariant.ready.quiet in
-            let here : slice_get held i ≡ Some item = read-place c.as_slice-active.result.now held i item read c.loop-place-test.true c.index-active-place.is in
-            kept-silent l held s c.loop-place.told.items i w there
-            (quiet-place (server_state c.args.self.now) s c.args.touched held i item c.awaited-at.result quiet here (c.may_come.ensures.same u.if-may_come.false) (c.may_come.ensures.untouched u.if-may_come.false) c.requires.untouched)
-            c.loop-place.invariant
-      ])
+      | else-keeps v ↦ rw v.told-is (kept-left l held s c.loop-place.told.items i w there (sym c.keeps.ensures ∙ v.if-keeps.false) c.loop-place.invariant)
+    ]
+
+pub loop-place-preserved-then-not-may_come : goal.loop-place-preserved-then-not-may_come
+loop-place-preserved-then-not-may_come c =
+    let i = c.loop-place.place in
+    let s : ServerState = drafted c.args.self.now c.args.draft.now in
+    let l : Lists = c.args.draft.now.lists in
+    let held : List Held = c.args.self.now.active.held in
+    let item : Held = c.index-active-place.result in
+    let w : Held = record { request = item.request; at = c.awaited-at.result } in
+    let read : c.as_slice-active.result.now ≡ held = c.as_slice-active.ensures ∙ ap (λ (p : ServerParts). p.active.held) c.self.view_is in
+    let there : slice_get (waiting_for l.ats.items held) i ≡ Some w = waits-place l c.as_slice-active.result.now held i item c.as_slice.result.now c.awaited-at.result read c.as_slice.ensures.value c.loop-place-test.true c.index-active-place.is c.awaited-at.ensures in
+    let told : List Told = c.loop-place.told.items in
+    elim c.then-not-may_come.branch [
+      | then-not-may_come-via-then-not-may_come u ↦
+          let quiet : All (λ h. is_idle ((server_state c.args.self.now).rows h.at) ≡ false) held =
+          subst (λ (p : ServerParts). All (λ h. is_idle ((server_state p).rows h.at) ≡ false) p.active.held) c.self.view_is c.self.invariant.ready.quiet in
+          let here : slice_get held i ≡ Some item = read-place c.as_slice-active.result.now held i item read c.loop-place-test.true c.index-active-place.is in
+          kept-silent l held s told i w there
+          (quiet-told told s c.awaited-at.result (quiet-place (server_state c.args.self.now) s c.args.touched held i item c.awaited-at.result quiet here (c.may_come.ensures.same u.if-not-may_come.true) (c.may_come.ensures.untouched u.if-not-may_come.true) c.requires.untouched))
+          c.loop-place.invariant
+      | then-not-may_come-via-else-not-may_come+then-is_told u ↦
+          let some : list_any (λ (t : Told). t.node == c.awaited-at.result) told ≡ true =
+          ap (λ (ts : List Told). list_any (λ (t : Told). t.node == c.awaited-at.result) ts) (sym u.as_slice-else-not-may_come.ensures.value) ∙ sym u.is_told.ensures ∙ u.if-is_told.true in
+          kept-silent l held s told i w there (told-quiet told s c.awaited-at.result some) c.loop-place.invariant
     ]
 
 pub returns-clause-ok : goal.returns-clause-ok

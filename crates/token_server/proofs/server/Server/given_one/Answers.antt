@@ -14,10 +14,10 @@ returns-clause-row c =
     let t = c.args.told.now in
     let client : Option Client = client_at (overlaid c.args.self.now.clients c.args.draft.now.rows) t.node in
     let clients : c.args.self.now.clients ≡ c.self.inside.clients = ap (λ (p : ServerParts). p.clients) (sym c.self.view_is) in
-    elim c.match-row.branch [
+    elim c.match-row_after.branch [
       | in-Some+in_ok-token-in-Some w ↦
           let there = w.in-Some.ensures.client in
-          gives-told (record { place = c.from.result - 1; commands = c.awaiting.result; token = c.match-row.token }) t client (record { dead = there.0; row = Some (seen w.in-Some.row) }) (seen w.in-Some.row) (ap (λ (cs : List Client). client_at (overlaid cs c.args.draft.now.rows) t.node) clients ∙ there.1) refl c.awaiting.ensures
+          gives-told (record { place = c.from.result - 1; commands = c.awaiting.result; token = c.match-row_after.token }) t client (record { dead = there.0; row = Some (seen w.in-Some.row) }) (seen w.in-Some.row) (ap (λ (cs : List Client). client_at (overlaid cs c.args.draft.now.rows) t.node) clients ∙ there.1) refl c.awaiting.ensures
           (ap (λ e. edited_token e (seen w.in-Some.row).token) w.token-is ∙ w.in_ok-token-in-Some.ensures)
-      | in-None w ↦ gives-nothing (record { place = c.from.result - 1; commands = c.awaiting.result; token = c.match-row.token }) t client (ap (λ (cs : List Client). rows_of (overlaid cs c.args.draft.now.rows) t.node) clients ∙ w.in-None.ensures.row)
+      | in-None w ↦ gives-nothing (record { place = c.from.result - 1; commands = c.awaiting.result; token = c.match-row_after.token }) t client (ap (λ (cs : List Client). rows_of (overlaid cs c.args.draft.now.rows) t.node) clients ∙ w.in-None.ensures.row)
     ]

@@ -18,6 +18,9 @@ admit-requires c =
     let e = c.newly_dead-dropped.ensures in
     subst AreDistinct (λ i. queue_moved k.moved (sym e.queue i) (sym e.waiting i)) (distinct-queue (sketched c.args.self.now k) c.requires.orderly)
 
+pub hold-requires : goal.hold-requires
+hold-requires c = (c.args.sketch.now.changed, c.requires.rows)
+
 pub returns : goal.returns
 returns c =
     let k = c.args.sketch.now in

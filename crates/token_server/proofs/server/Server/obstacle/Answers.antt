@@ -24,6 +24,6 @@ returns-then-excludes_none c =
     let reads : r.mode ≡ Read = ap (λ (x : TokenRequest). x.mode) (sym c.request.view_is) ∙ c.reads.ensures c.if-reads.true in
     let free : (node : ℕ) → row_conflicts ((reached p c.args.rows.now).rows node) span r.mode ≡ false =
     λ node. ap (λ (m : Mode). row_conflicts ((reached p c.args.rows.now).rows node) span m) reads
-    ∙ ap (λ (f : ℕ → Option Row). row_conflicts (f node) span Read) c.requires
-    ∙ exclusive-readable c.args.changed.now (rows_of p.clients) span none within node in
+    ∙ ap (λ (f : ℕ → Option Row). row_conflicts (f node) span Read) c.requires.1
+    ∙ exclusive-readable c.requires.0 (rows_of p.clients) span none within node in
     ap (λ (x : TokenRequest). x.call.node) c.request.view_is ∙ unopposed-own (reached p c.args.rows.now) r free

@@ -12,23 +12,24 @@ use Rattle.token_server.specs.State.{ServerState}
 use Rattle.token_server.specs.Serve.{each_served, serve}
 use Rattle.token_server.specs.Told.{with_told, commands_told}
 use Rattle.token_server.specs.Obstacles.{are_apart}
-use Rattle.token_server.specs.declared.row_edits.RowEdit.{RowEdit}
+use Rattle.token_server.specs.declared.row_edit.RowEdit.{RowEdit}
 use Rattle.token_server.specs.declared.sketch.Changed.{Changed}
 use Rattle.token_server.specs.Parts.{ServerParts, rows_of, deaths_of}
 use Rattle.token_server.specs.Ready.{AreDistinct, IsReady}
 use Rattle.token_server.specs.Sketches.{sketched, without, rows_after, deaths_after}
-use Rattle.token_server.specs.Edits.{overlaid, drafted, held_after, with_given, planned}
-use Rattle.token_server.proofs.ReadyLaws.{drafted-ready, drafted-apart, told-ready, moved-new, distinct-queue, distinct-waiting, fits-of}
+use Rattle.token_server.specs.Edits.{overlaid, drafted, held_after, with_given, made, planned, PartsFit}
+use Rattle.token_server.proofs.ReadyLaws.{drafted-ready, drafted-apart, told-ready, moved-new, distinct-queue, distinct-waiting}
+use Rattle.token_server.proofs.EditLaws.{overlaid-length}
 use Rattle.token_server.proofs.server.Server.serve.Goals as goal
 
 abbrev Answer : Type 0
 Answer = Result (ServerState × List Message) StepError
 
-over : {p q : ServerParts} (edits : List RowEdit) (o : Option Changed) → p ≡ q → rows_of (overlaid p.clients edits) ≡ rows_after o (rows_of p.clients) → rows_of (overlaid q.clients edits) ≡ rows_after o (rows_of q.clients)
-over edits o is h = subst (λ (x : ServerParts). rows_of (overlaid x.clients edits) ≡ rows_after o (rows_of x.clients)) is h
+over : {p q : ServerParts} (edit : Option RowEdit) (o : Option Changed) → p ≡ q → rows_of (overlaid p.clients edit) ≡ rows_after o (rows_of p.clients) → rows_of (overlaid q.clients edit) ≡ rows_after o (rows_of q.clients)
+over edit o is h = subst (λ (x : ServerParts). rows_of (overlaid x.clients edit) ≡ rows_after o (rows_of x.clients)) is h
 
-over-deaths : {p q : ServerParts} (edits : List RowEdit) (o : Option Changed) → p ≡ q → deaths_of (overlaid p.clients edits) ≡ deaths_after o (deaths_of p.clients) → deaths_of (overlaid q.clients edits) ≡ deaths_after o (deaths_of q.clients)
-over-deaths edits o is h = subst (λ (x : ServerParts). deaths_of (overlaid x.clients edits) ≡ deaths_after o (deaths_of x.clients)) is h
+over-deaths : {p q : ServerParts} (edit : Option RowEdit) (o : Option Changed) → p ≡ q → deaths_of (overlaid p.clients edit) ≡ deaths_after o (deaths_of p.clients) → deaths_of (overlaid q.clients edit) ≡ deaths_after o (deaths_of q.clients)
+over-deaths edit o is h = subst (λ (x : ServerParts). deaths_of (overlaid x.clients edit) ≡ deaths_after o (deaths_of x.clients)) is h
 
 pub commands-requires-clause-apart : goal.commands-requires-clause-apart
 commands-requires-clause-apart c =
@@ -53,7 +54,7 @@ returns-clause-ok c =
     let is = drafted-ready p k d c.in_ok-lists.ensures (over c.in_ok-rows.rows c.args.sketch.now.changed c.self.view_is c.in_ok-rows.ensures.rows) (over-deaths c.in_ok-rows.rows c.args.sketch.now.changed c.self.view_is c.in_ok-rows.ensures.deaths) in
     let v : Parts = record { draft = d; given = c.in_ok-given.given; spares = c.in_ok-spares.spares } in
     let given : with_given c.in_ok-given.given.items (overlaid p.clients d.rows) (drafted p d) ≡ with_told told (drafted p d) = c.in_ok-given.ensures ∙ ap (λ (ts : List Told). with_told ts (drafted p d)) c.as_slice.ensures.value in
-    let after : planned p c.in_ok-new.field-0 ≡ with_told told (drafted p d) = ap (λ (x : Parts). with_given x.given.items (overlaid p.clients x.draft.rows) (drafted p x.draft)) c.in_ok-new.ensures ∙ given in
+    let after : planned p c.in_ok-new.field-0 ≡ with_told told (drafted p d) = ap (made p) c.in_ok-new.ensures ∙ given in
     let sent : c.in_ok-commands_told.field-0 ≡ commands_told told = c.in_ok-commands_told.ensures ∙ ap commands_told c.as_slice-2.ensures.value in
     ap (λ (s : ServerState). each_served s.active s) (sym is)
     ∙ c.in_ok-told.ensures.ok
@@ -69,10 +70,11 @@ returns-clause-fits c =
     let v : Parts = record { draft = d; given = c.in_ok-given.given; spares = c.in_ok-spares.spares } in
     let given : with_given c.in_ok-given.given.items (overlaid p.clients d.rows) (drafted p d) ≡ with_told told (drafted p d) = c.in_ok-given.ensures ∙ ap (λ (ts : List Told). with_told ts (drafted p d)) c.as_slice.ensures.value in
     let apart = subst (λ (p : ServerParts). are_apart (requests_of p.active.held) ≡ true) c.self.view_is c.self.invariant.ready.apart in
-    fits-of p c.in_ok-new.field-0 v c.in_ok-new.ensures (record {
+    subst (PartsFit p) (sym c.in_ok-new.ensures) (record {
       new = moved-new l.moved (without l.dropped p.queue.requests) (without l.dropped p.waiting.requests) (subst AreDistinct (sym c.in_ok-lists.ensures.queued) (distinct-queue (sketched p k) c.requires.orderly)) (subst AreDistinct (sym c.in_ok-lists.ensures.put_off) (distinct-waiting (sketched p k) c.requires.orderly));
       served = c.in_ok-spares.ensures.active;
       queued = c.in_ok-spares.ensures.queue;
       put_off = c.in_ok-spares.ensures.waiting;
+      nodes = overlaid-length p.clients c.in_ok-rows.rows;
       ready = subst (λ (s : ServerState). IsReady s (held_after l p.active.held)) (sym given) (told-ready p k d c.in_ok-lists.ensures (over c.in_ok-rows.rows c.args.sketch.now.changed c.self.view_is c.in_ok-rows.ensures.rows) (over-deaths c.in_ok-rows.rows c.args.sketch.now.changed c.self.view_is c.in_ok-rows.ensures.deaths) told c.requires.orderly apart c.in_ok-told.ensures.waits c.in_ok-told.ensures.quiet);
     })

@@ -1,0 +1,42 @@
+//! Nodes as a token server will know them once a planned step is made.
+ghost use Rattle.std.specs.Prelude.{◌≡◌};
+ghost use Rattle.token_server.specs.Edits.{seen_row, row_kept};
+
+use crate::client::Client;
+use crate::commands::Commands;
+use crate::token_holder::RowView;
+use token_set::set::TokenSet;
+
+/// A row from now on: the commands to its node, and its token, or none where that stays.
+#[derive(Drop)]
+pub struct RowAfter {
+    pub commands: Commands,
+    pub token: Option<TokenSet>,
+}
+
+/// What a node at a place (from 0) is from now on: up to which incarnation it is known to be dead, and
+/// its row, if it has one.
+#[derive(Drop)]
+pub struct RowEdit {
+    pub place: usize,
+    pub dead: u16,
+    pub row: Option<RowAfter>,
+}
+
+impl RowEdit {
+    /// The row of the node, which was this client before.
+    pub fn row_over<'a>(&'a self, client: &'a Client) -> Option<RowView<'a>>
+        ensures { seen_row result ≡ row_kept self.now.row client.now.row }
+    {
+        let after = self.row.as_ref()?;
+        let commands = &after.commands;
+        match (&after.token, &client.row) {
+            (Some(token), _) => Some(RowView { commands, token }),
+            (None, Some(row)) => Some(RowView {
+                commands,
+                token: &row.token,
+            }),
+            (None, None) => None,
+        }
+    }
+}
