@@ -1,10 +1,9 @@
 -- Planned changes of the table.
 use Rattle.std.specs.Prelude.{◌≡◌, true, []}
 use Rattle.std.specs.Vec.{vec_capacity}
-use Rattle.intervals.specs.Runs.{value_at}
-use Rattle.model.specs.Locks.{replace}
+use Rattle.model.specs.Locks.{with_lock}
 use Rattle.model.specs.Table.{Table, is_running, descriptor, closed_if, exited}
-use Rattle.lock_table.specs.Rows.{HasRoom}
+use Rattle.lock_table.specs.Rows.{HasRoom, HasRuns}
 use Rattle.descriptors.specs.Edits.{edited as edited_processes}
 use Rattle.fcntl_table.specs.declared.edit.TableEdit.{TableEdit}
 use Rattle.fcntl_table.specs.declared.edit.TableEdit.TheVariants.{Nothing, OfProcess, OfLocks, Closes, Exits}
@@ -16,7 +15,7 @@ use Rattle.fcntl_table.specs.Tables.{table_of}
 abbrev pub edited : Table → TableEdit → Table
 edited t Nothing = t
 edited t (OfProcess host e) = record t { on = with_host t.on host (edited_processes (t.on host.node host.incarnation) e) }
-edited t (OfLocks e) = record t { locks = replace t.locks e.file e.owner (value_at e.spans) }
+edited t (OfLocks e) = record t { locks = with_lock t.locks e.file e.owner e.write.span e.write.value }
 edited t (Closes p fd) = closed_if t p fd (descriptor t p fd)
 edited t (Exits p) = exited t p
 
@@ -24,6 +23,6 @@ edited t (Exits p) = exited t p
 abbrev pub Fits : FcntlTable → TableEdit → Type 0
 Fits t Nothing = Unit {0}
 Fits t (OfProcess host e) = FitsOn t.hosts host e
-Fits t (OfLocks e) = (e.room.items ≡ []) × HasRoom t.locks e.file e.owner (vec_capacity e.room)
+Fits t (OfLocks e) = (e.room.items ≡ []) × HasRoom t.locks e.file e.owner (vec_capacity e.room) × HasRuns t.locks e.file e.owner e.write.runs
 Fits t (Closes p fd) = is_running (table_of t) p ≡ true
 Fits t (Exits p) = is_running (table_of t) p ≡ true

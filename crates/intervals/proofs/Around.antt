@@ -7,7 +7,7 @@ use Rattle.intervals.specs.Bytes.{Range, IsRun, IsBarred, NoneIn, IsLargest}
 use Rattle.intervals.specs.Runs.{bytes_of, value_at, IsBarredValue, AreRuns, EndsBelow, EndsFrom, IsLowestFree, IsHighestFree}
 use Rattle.intervals.proofs.Runs.{ends_below_le, at-past, at-append}
 use Rattle.intervals.proofs.Find.{BarredLeft, left-none, barred-some, barred-value, barred-along, not_barred-none, before-none, first-some}
-use Rattle.intervals.proofs.Split.{runs-front, at-front, barred-back}
+use Rattle.intervals.proofs.Split.{ends-before, runs-front, at-front, barred-back}
 
 module _ {V : Type 0} (runs : List (Run V)) (bar : Option V) (to high : ℕ) (order : to ≤ high) where
   -- no barred run is left
@@ -44,14 +44,6 @@ pub record LeftBelow {V : Type 0} (runs rest : List (Run V)) (bar : Option V) (l
   pub part : (b : ℕ) (v : V) → value_at rest b ≡ Some v → value_at runs b ≡ Some v
   pub left : (b : ℕ) → low ≤ b → b < from → IsBarred (value_at runs) bar b → IsBarred (value_at rest) bar b
 
--- the runs before the last end where it begins
-ends_before_last : {V : Type 0} (l : List (Run V)) (r : Run V) → AreRuns (l ++ r ∷ []) → EndsBelow l r.lo
-ends_before_last [] r runs = tt
-ends_before_last (s ∷ []) r runs = (runs.1.0, tt)
-ends_before_last (s ∷ t ∷ l) r runs =
-    let later = ends_before_last (t ∷ l) r runs.2 in
-    (omega (arith, runs.1.0, runs.2.0, later.0), later)
-
 ends-front : {V : Type 0} (l m : List (Run V)) (n : ℕ) → EndsBelow (l ++ m) n → EndsBelow l n
 ends-front [] m n ends = tt
 ends-front (r ∷ l) m n ends = (ends.0, ends-front l m n ends.1)
@@ -67,7 +59,7 @@ order-last (s ∷ l) r runs = order-last l r runs.2
 -- past the last run there is no value
 none_past : {V : Type 0} (l : List (Run V)) (r : Run V) (b : ℕ) → AreRuns (l ++ r ∷ []) → r.hi < b → value_at (l ++ r ∷ []) b ≡ None
 none_past l r b runs past =
-    let ended = ends_before_last l r runs in
+    let ended = ends-before l [] r runs in
     let order = order-last l r runs in
     let none = at-past l b (ends_below_le l r.lo b (omega arith) ended) in
     let at = at-append l r b ended in
@@ -75,11 +67,11 @@ none_past l r b runs past =
 
 -- in the last run there is its value
 some_last : {V : Type 0} (l : List (Run V)) (r : Run V) (b : ℕ) → AreRuns (l ++ r ∷ []) → r.lo ≤ b → b ≤ r.hi → value_at (l ++ r ∷ []) b ≡ Some r.value
-some_last l r b runs lo hi = let at = at-append l r b (ends_before_last l r runs) in grind (arith, nat_tests)
+some_last l r b runs lo hi = let at = at-append l r b (ends-before l [] r runs) in grind (arith, nat_tests)
 
 -- any other byte has what it has before
 other_last : {V : Type 0} (l : List (Run V)) (r : Run V) (b : ℕ) → AreRuns (l ++ r ∷ []) → b < r.lo → value_at (l ++ r ∷ []) b ≡ value_at l b
-other_last l r b runs lt = let at = at-append l r b (ends_before_last l r runs) in grind (arith, nat_tests)
+other_last l r b runs lt = let at = at-append l r b (ends-before l [] r runs) in grind (arith, nat_tests)
 
 module _ {V : Type 0} (runs : List (Run V)) (bar : Option V) (low from : ℕ) where
   pub lowest_start : AreRuns runs → EndsBelow runs from → LeftBelow runs runs bar low from

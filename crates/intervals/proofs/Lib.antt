@@ -9,5 +9,11 @@ pub mod Written
 pub mod SearchLaws
 pub mod SpanLaws
 pub mod SpanSearch
-pub mod Differences
 pub mod StartsWith
+pub mod Ordered
+pub mod Rows
+pub mod RowReads
+pub mod RowCounts
+pub mod Replaced
+pub mod Placed
+pub mod Pieces

@@ -1,13 +1,12 @@
 -- What a list of runs has at a byte.
-use Rattle.std.proofs.Common.{◌≡◌, ℕ, zero, suc, ◌+◌, ◌-◌, ◌<◌, ◌≤◌, ◌⊎◌, Bool, true, false, max, min, length, get_or, set, drop, drop-cons, add-one, ◌∙◌, List, [], ◌∷◌, ◌++◌, Option, Some, None, refl, ap, sym, inl, inr, arith}
+use Rattle.std.proofs.Common.{◌≡◌, ℕ, zero, suc, ◌+◌, ◌<◌, ◌≤◌, Bool, true, false, length, get_or, set, drop, drop-cons, add-one, ◌∙◌, List, [], ◌∷◌, ◌++◌, Option, Some, None, refl, ap, inl, inr, arith}
 use Rattle.std.proofs.lemmas.Bool.{cases_lt, cases_Bool, and_parts}
 use Rattle.std.proofs.lemmas.Bool.Decides.{nat_tests}
 use Rattle.std.proofs.lemmas.Grind.{common_steps}
 use Rattle.intervals.specs.declared.run.Run.{Run}
 use Rattle.intervals.specs.Bytes.{put}
 use Rattle.intervals.specs.Runs.{bytes_of, value_at, Follows, AreRuns, EndsBelow}
-use Rattle.intervals.proofs.Join.{EndBefore, Within, over, joins, join}
-use Rattle.intervals.proofs.Find.{before-none}
+use Rattle.intervals.proofs.Join.{joins, join}
 
 -- the runs end below each greater number too
 pub ends_below_le : {V : Type 0} (l : List (Run V)) (m n : ℕ) → m ≤ n → EndsBelow l m → EndsBelow l n
@@ -102,70 +101,9 @@ set_self [] i x lt is = refl
 set_self (y ∷ l) zero x lt is = ap (λ z. z ∷ l) is
 set_self (y ∷ l) (suc i) x lt is = ap (λ z. y ∷ z) (set_self l i x (omega arith) is)
 
--- the first runs end where the rest begin, after n
-end_before_next : {V : Type 0} (l rest : List (Run V)) (r : Run V) (m n : ℕ) → Follows r rest → EndsBelow l m → m ≤ max (r.hi + 1) n → EndBefore l rest n
-end_before_next l [] r m n h below le = tt
-end_before_next l (s ∷ rest) r m n h below le = ends_below_le l m _ (omega arith) below
-
 -- what has a value at b is not below b
 pub at-below : {V : Type 0} (l : List (Run V)) (b n : ℕ) → EndsBelow l n → n ≤ b → value_at l b ≡ None
 at-below l b n h le = at-past l b (ends_below_le l n b le h)
-
--- at the start `rest` is all of runs
-pub within_start : {V : Type 0} (from to : ℕ) (runs new : List (Run V)) → AreRuns new → AreRuns runs → EndsBelow new from → from ≤ to → Within from to runs new new runs
-within_start from to [] new made left below order = record {
-  made = made;
-  left = left;
-  below = ends_below_le new from to order below;
-  before = tt;
-  inside = λ b lo hi. rw (at-below new b from below lo) refl;
-  under = λ b lt. refl;
-}
-within_start from to (r ∷ runs) new made left below order = record {
-  made = made;
-  left = left;
-  below = ends_below_le new from to order below;
-  before = ends_below_le new from _ (omega arith) below;
-  inside = λ b lo hi. rw (at-below new b from below lo) refl;
-  under = λ b lt. refl;
-}
-
--- a run that is outside
-pub within_skip : {V : Type 0} (from to : ℕ) (runs old new rest : List (Run V)) (r : Run V) → Within from to runs old new (r ∷ rest) → (r.hi < from) ⊎ (to ≤ max r.lo from) → Within from to runs old new rest
-unfolding value_at
-within_skip from to runs old new rest r w outside = record {
-  made = w.made;
-  left = w.left.2;
-  below = w.below;
-  before = end_before_next new rest r _ from w.left.1 w.before (omega (arith, w.left.0));
-  inside = λ b lo hi. grind (arith, nat_tests, w.inside b lo hi);
-  under = w.under;
-}
-
--- a run that has bytes inside
-pub within_more : {V : Type 0} (from to : ℕ) (runs old new rest more : List (Run V)) (r s : Run V) → Within from to runs old new (r ∷ rest) → s.lo ≡ max r.lo from → s.hi ≡ min r.hi (to - 1) → s.value ≡ r.value → s.lo < to → s.lo ≤ r.hi → AreRuns more → EndsBelow more (s.hi + 1) → ((b : ℕ) → value_at more b ≡ put (value_at new) (bytes_of s) (Some s.value) b) → Within from to runs old more rest
-unfolding value_at
-within_more from to runs old new rest more r s w first last same lt le made below bytes =
-    let before : EndsBelow new s.lo = ends_below_le new _ _ (omega arith) w.before in
-    record {
-      made = made;
-      left = w.left.2;
-      below = ends_below_le _ _ _ (omega arith) below;
-      before = end_before_next _ rest r _ from w.left.1 below (omega arith);
-      inside = λ b lo hi. grind (arith, nat_tests, w.inside b lo hi, bytes b, at-below new b s.lo before);
-      under = λ b lt. grind (arith, nat_tests, w.under b lt, bytes b);
-    }
-
-over_nothing : {V : Type 0} (x : Option V) → over x None ≡ x
-over_nothing None = refl
-over_nothing (Some v) = refl
-
--- no run that is left has bytes inside
-pub within_stop : {V : Type 0} (from to : ℕ) (runs old new rest : List (Run V)) (r : Run V) (b : ℕ) → Within from to runs old new (r ∷ rest) → to ≤ max r.lo from → from ≤ b → b < to → value_at new b ≡ value_at runs b
-within_stop from to runs old new rest r b w outside lo hi =
-    let none = before-none r rest b w.left (omega arith) in
-    let inside = w.inside b lo hi in
-    sym (inside ∙ rw none (over_nothing (value_at new b)))
 
 -- what is read at i is the first of the rest
 pub drop_read : {A : Type 0} (l : List A) (i : ℕ) (x : A) → i < length l → x ≡ get_or l i x → drop i l ≡ x ∷ drop (i + 1) l
@@ -174,11 +112,6 @@ drop_read l i x lt is = drop-cons l i x lt ∙ rw (← is, add-one) refl
 -- past the end there is no rest
 pub drop_all : {A : Type 0} (l : List A) (i : ℕ) → length l ≤ i → drop i l ≡ []
 drop_all l i le = grind (arith, common_steps)
-
--- with no rest left, `new` has what runs have
-pub within_end : {V : Type 0} (from to : ℕ) (runs old new : List (Run V)) (b : ℕ) → Within from to runs old new [] → from ≤ b → b < to → value_at new b ≡ value_at runs b
-unfolding value_at
-within_end from to runs old new b w lo hi = sym (w.inside b lo hi ∙ over_nothing (value_at new b))
 
 module _ {V : Type 0} (eq : V → V → Bool) (exact : (a b : V) → eq a b ≡ true → a ≡ b) (reflexive : (a : V) → eq a a ≡ true) where
   -- what one more run leaves

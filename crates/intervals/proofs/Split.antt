@@ -56,6 +56,18 @@ unfolding value_at
 at-front [] m b v some = absurd cc
 at-front (r ∷ l) m b v some = let more = at-front l m b v in grind (arith, nat_tests, more)
 
+-- one that has none in the last part has what it has in the first
+pub at-first : {V : Type 0} (l m : List (Run V)) (b : ℕ) → value_at m b ≡ None → value_at (l ++ m) b ≡ value_at l b
+unfolding value_at
+at-first [] m b none = none
+at-first (r ∷ l) m b none = rw (at-first l m b none) refl
+
+-- the first part ends before the last begins
+pub ends-before : {V : Type 0} (l m : List (Run V)) (r : Run V) → AreRuns (l ++ r ∷ m) → EndsBelow l r.lo
+ends-before [] m r runs = tt
+ends-before (s ∷ []) m r runs = (runs.1.0, tt)
+ends-before (s ∷ t ∷ l) m r runs = let later = ends-before (t ∷ l) m r runs.2 in (omega (arith, runs.1.0, runs.2.0, later.0), later)
+
 -- a longest run of the last part is one of all
 lift-back : {V : Type 0} (l m : List (Run V)) (s : Range) (v : V) → AreRuns (l ++ m) → IsRun (value_at m) s v → IsRun (value_at (l ++ m)) s v
 lift-back [] m s v runs run = run

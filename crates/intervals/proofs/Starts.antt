@@ -38,7 +38,7 @@ begin_below_none : {V : Type 0} (l : List (Run V)) → begin_below l 0 ≡ 0
 begin_below_none [] = refl
 begin_below_none (r ∷ rest) = let more = begin_below_none rest in grind (arith, nat_tests)
 
-begin_below_all : {V : Type 0} (l : List (Run V)) (n : ℕ) → AreRuns l → EndsBelow l n → begin_below l n ≡ length l
+pub begin_below_all : {V : Type 0} (l : List (Run V)) (n : ℕ) → AreRuns l → EndsBelow l n → begin_below l n ≡ length l
 begin_below_all [] n runs ends = refl
 begin_below_all (r ∷ rest) n runs ends =
     let more = begin_below_all rest n runs.2 ends.1 in

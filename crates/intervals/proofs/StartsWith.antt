@@ -1,5 +1,5 @@
 -- How many runs there are once a span is written.
-use Rattle.std.proofs.Common.{◌≡◌, ℕ, zero, suc, ◌+◌, ◌-◌, ◌<◌, ◌≤◌, Bool, true, false, nat_le, if◌then◌else◌, length, get_or, List, [], ◌∷◌, Option, Some, None, refl, ap, sym, ◌∙◌, inl, inr, arith}
+use Rattle.std.proofs.Common.{◌≡◌, ℕ, zero, suc, ◌+◌, ◌-◌, ◌<◌, ◌≤◌, Bool, true, false, if◌then◌else◌, length, get_or, List, [], ◌∷◌, Option, Some, None, refl, ap, sym, ◌∙◌, inl, inr, arith}
 use Rattle.std.proofs.lemmas.Bool.{cases_lt}
 use Rattle.std.proofs.lemmas.Bool.Decides.{nat_tests}
 use Rattle.std.specs.List.Sorted.{IsNonDecreasingBy}
@@ -37,13 +37,13 @@ begin_below_point (r ∷ l) (suc p) n le below above =
     grind (arith, nat_tests)
 
 -- a byte of the span has what was put there, each other what it had
-put-in : {V : Type 0} (f : ℕ → Option V) (s : Range) (v : Option V) (b : ℕ) → s.lo ≤ b → b ≤ s.hi → put f s v b ≡ v
+pub put-in : {V : Type 0} (f : ℕ → Option V) (s : Range) (v : Option V) (b : ℕ) → s.lo ≤ b → b ≤ s.hi → put f s v b ≡ v
 put-in f s v b lo hi = grind (arith, nat_tests)
 
-put-below : {V : Type 0} (f : ℕ → Option V) (s : Range) (v : Option V) (b : ℕ) → b < s.lo → put f s v b ≡ f b
+pub put-below : {V : Type 0} (f : ℕ → Option V) (s : Range) (v : Option V) (b : ℕ) → b < s.lo → put f s v b ≡ f b
 put-below f s v b lt = grind (arith, nat_tests)
 
-put-above : {V : Type 0} (f : ℕ → Option V) (s : Range) (v : Option V) (b : ℕ) → s.hi < b → put f s v b ≡ f b
+pub put-above : {V : Type 0} (f : ℕ → Option V) (s : Range) (v : Option V) (b : ℕ) → s.hi < b → put f s v b ≡ f b
 put-above f s v b lt = grind (arith, nat_tests)
 
 -- what stands before a byte
@@ -53,6 +53,10 @@ before f (suc b) = f b
 
 abbrev one : Bool → ℕ
 one b = if b then 1 else 0
+
+pub one_few : (b : Bool) → one b ≤ 1
+one_few true = omega arith
+one_few false = omega arith
 
 module _ {V : Type 0} (eq : V → V → Bool) (reflexive : (a : V) → eq a a ≡ true) where
   start-is : (f : ℕ → Option V) (n : ℕ) → is_start eq f n ≡ begins_after eq (before f n) (f n)

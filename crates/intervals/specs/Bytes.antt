@@ -35,10 +35,6 @@ put f s v b = if is_in s b then v else f b
 abbrev pub AllAre : {V : Type 0} → (ℕ → Option V) → Range → Option V → Type 0
 AllAre f s v = (b : ℕ) → s.lo ≤ b → b ≤ s.hi → f b ≡ v
 
--- f and g have the same at each byte out of the span
-abbrev pub IsSameOutOf : {V : Type 0} → Range → (ℕ → Option V) → (ℕ → Option V) → Type 0
-IsSameOutOf s f g = (b : ℕ) → is_in s b ≡ false → f b ≡ g b
-
 -- x is the value v
 abbrev pub has : {V : Type 0} → (V → V → Bool) → V → Option V → Bool
 has same v None = false

@@ -119,42 +119,77 @@ pub(crate) fn append<V: Exact>(runs: &mut Vec<Run<V>>, run: Run<V>)
     };
 }
 
-// Adds what the runs have from `from` on and below `to`. It reads up to the first that begins at `to`
-// or above. There is room for all of them.
-pub(crate) fn append_within<V: Exact>(new: &mut Vec<Run<V>>, runs: &[Run<V>], from: u64, to: u64)
+// Adds runs that stand above the others, all at once. There is room for them.
+fn append_all<V: Exact>(new: &mut Vec<Run<V>>, runs: &[Run<V>])
+    requires room { vec_len new.old + length runs.now ≤ vec_capacity new.old }
+    ensures items { new.new.items ≡ new.old.items ++ runs.now }
+    ensures len { vec_len new.new ≡ vec_len new.old + length runs.now }
+    ensures capacity { vec_capacity new.old ≤ vec_capacity new.new }
+{
+    let Ok(()) = new.extend_from_slice(runs) else {
+        unreachable!()
+    };
+}
+
+// Adds what the runs have below `to` to the empty list: at once those that end below it, and then the part
+// of the next that lies below. There is room for all of them.
+fn append_below<V: Exact>(new: &mut Vec<Run<V>>, runs: &[Run<V>], to: u64)
+    requires empty { new.old.items ≡ [] }
+    requires runs { AreRuns runs.now }
+    requires room { length runs.now ≤ vec_capacity new.old }
+    ensures made { AreRuns new.new.items }
+    ensures below { EndsBelow new.new.items to }
+    ensures inside { (b : ℕ) → b < to → value_at new.new.items b ≡ value_at runs.now b }
+    ensures len { vec_len new.new ≤ length runs.now }
+    ensures capacity { vec_capacity new.old ≤ vec_capacity new.new }
+{
+    let (below, rest) = split_before(runs, to);
+    append_all(new, below);
+    match rest.split_first() {
+        Some((run, _)) if run.lo < to => append(
+            new,
+            Run {
+                lo: run.lo,
+                hi: to - 1,
+                value: run.value,
+            },
+        ),
+        _ => {}
+    }
+}
+
+// Adds what the runs, which end at `from` or above, have from there on: the first of them is cut there, or
+// joins the last one, and the others follow at once. There is room for all of them.
+fn append_above<V: Exact>(new: &mut Vec<Run<V>>, runs: &[Run<V>], from: u64)
     requires made { AreRuns new.old.items }
     requires below { EndsBelow new.old.items from }
     requires runs { AreRuns runs.now }
-    requires order { from ≤ to }
+    requires reached { EndsFrom runs.now from }
+    requires bounded { EndsBelow runs.now (greatest + 1) }
+    requires start { from ≤ greatest + 1 }
     requires room { vec_len new.old + length runs.now ≤ vec_capacity new.old }
     ensures made { AreRuns new.new.items }
-    ensures below { EndsBelow new.new.items to }
-    ensures inside { (b : ℕ) → from ≤ b → b < to → value_at new.new.items b ≡ value_at runs.now b }
+    ensures below { EndsBelow new.new.items (greatest + 1) }
+    ensures inside { (b : ℕ) → from ≤ b → value_at new.new.items b ≡ value_at runs.now b }
     ensures under { (b : ℕ) → b < from → value_at new.new.items b ≡ value_at new.old.items b }
-    ensures len { vec_len new.new ≤ vec_len new.old + length runs.now }
     ensures capacity { vec_capacity new.old ≤ vec_capacity new.new }
 {
-    for run in runs {
-        let lo = run.lo.max(from);
-        if lo >= to {
-            break;
-        }
-        if lo <= run.hi {
-            append(
-                new,
-                Run {
-                    lo,
-                    hi: run.hi.min(to - 1),
-                    value: run.value,
-                },
-            );
-        }
+    if let Some((run, rest)) = runs.split_first() {
+        append(
+            new,
+            Run {
+                lo: run.lo.max(from),
+                hi: run.hi,
+                value: run.value,
+            },
+        );
+        append_all(new, rest);
     }
 }
 
 // Adds the runs with the value at each byte of the span, or with none there. There is room for twice
 // as many, and one more.
-fn splice<V: Exact>(new: &mut Vec<Run<V>>, runs: &[Run<V>], span: Span, value: Option<V>)
+pub(crate) fn splice<V: Exact>(new: &mut Vec<Run<V>>, runs: &[Run<V>], span: Span, value: Option<V>)
     requires empty { new.old.items ≡ [] }
     requires room { length runs.now + length runs.now < vec_capacity new.old }
     requires runs { AreRuns runs.now }
@@ -164,7 +199,7 @@ fn splice<V: Exact>(new: &mut Vec<Run<V>>, runs: &[Run<V>], span: Span, value: O
     ensures bytes { (b : ℕ) → value_at new.new.items b ≡ put (value_at runs.now) span value b }
     ensures capacity { vec_capacity new.old ≤ vec_capacity new.new }
 {
-    append_within(new, runs, 0, span.lo);
+    append_below(new, runs, span.lo);
     if let Some(value) = value {
         append(
             new,
@@ -176,7 +211,7 @@ fn splice<V: Exact>(new: &mut Vec<Run<V>>, runs: &[Run<V>], span: Span, value: O
         );
     }
     let (_, above) = split_before(runs, span.hi + 1);
-    append_within(new, above, span.hi + 1, GREATEST + 1);
+    append_above(new, above, span.hi + 1);
 }
 
 // Puts the new runs in place of those after the first `kept`. There is room for them.

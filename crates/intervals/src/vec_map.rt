@@ -1,10 +1,9 @@
 //! A span map as a sorted vector of runs.
-ghost use Rattle.std.specs.Prelude.{◌≡◌, ◌≤◌, ◌<◌, ◌+◌, ℕ, nat_le, length, IfOk, OnOk, OnErr, IsTrue, ◌↔◌, MatchOption, Some, None};
-ghost use Rattle.intervals.specs.Bytes.{greatest, number_of_runs, put, IsBarred, NoneIn, IsFirstIn, IsLargest, IsRun, IsSameOutOf};
+ghost use Rattle.std.specs.Prelude.{◌≡◌, ◌≤◌, ◌<◌, ◌+◌, ℕ, nat_le, length, [], IfOk, OnOk, OnErr, IsTrue, ◌↔◌, MatchOption, Some, None};
+ghost use Rattle.intervals.specs.Bytes.{greatest, nothing, number_of_runs, put, IsBarred, NoneIn, IsFirstIn, IsLargest, IsRun};
 ghost use Rattle.intervals.specs.Runs.{bytes_of, value_at};
 ghost use Rattle.intervals.specs.Edits.{written};
 
-use crate::difference::difference;
 use crate::run::{
     Run, begin_after, begin_below, highest_free, is_barred, lowest_free, split_before, write,
 };
@@ -15,8 +14,9 @@ use std::alloc::Global;
 use std::marker::Model;
 
 /// A map from bytes to values, as a sorted vector of longest runs. A look-up halves the runs until it
-/// is at the byte, and then reads only those up to the answer. A write reads and moves the runs from its
-/// span on, in place; where there is no place for more of them, all move to memory for twice as many.
+/// is at the byte, and then reads only those up to the answer. A write finds both ends of its span so, and
+/// moves the runs behind it at once, in place; where there is no place for more of them, all move to
+/// memory for twice as many.
 #[derive(Drop)]
 pub struct VecMap<V> {
     runs: Vec<Run<V>>,
@@ -120,19 +120,15 @@ impl<V: Exact> VecMap<V> {
         let next = begin_after(value, self.get(span.hi + 1));
         below + above + first + next
     }
-
-    /// A span out of which both maps have the same at each byte; `None` where they have it everywhere.
-    pub fn difference(&self, other: &Self) -> Option<Span>
-        ensures { MatchOption result (value_at self.now ≡ value_at other.now) (λ span. IsSameOutOf span (value_at self.now) (value_at other.now)) }
-    {
-        difference(&self.runs, &other.runs)
-    }
 }
 
 impl<V: Exact> SpanMap<V> for VecMap<V> {
     ghost at = { value_at };
 
-    fn new(alloc: Global) -> Self {
+    fn new(alloc: Global) -> Self
+        ensures at { value_at result ≡ nothing }
+        ensures runs { result ≡ [] }
+    {
         VecMap {
             runs: Vec::new(alloc),
         }

@@ -10,3 +10,4 @@ pub mod ListingParts
 pub mod FlagLemmas
 pub mod PageLemmas
 pub mod Regions
+pub mod Writes

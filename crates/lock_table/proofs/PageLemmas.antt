@@ -1,11 +1,11 @@
 -- What indexes of pages keep.
 use Rattle.std.proofs.Common.{◌≡◌, ℕ, ◌+◌, ◌/◌, ◌<◌, ◌≤◌, ◌⊎◌, nat_le, eqb, ◌&&◌, length, get_or, drop, List, ◌∷◌, Option, Some, None, ap, sym, ◌∙◌, inl, inr, arith}
 use Rattle.std.specs.List.{All}
-use Rattle.std.proofs.lemmas.Bool.{cases_lt, cases_Bool, and_parts, eqb-true}
+use Rattle.std.proofs.lemmas.Bool.{cases_Bool, and_parts, eqb-true}
 use Rattle.std.proofs.lemmas.Bool.Decides.{nat_tests}
 use Rattle.std.proofs.lemmas.List.{get_or_default, drop_all}
 use Rattle.intervals.specs.declared.run.Run.{Run}
-use Rattle.intervals.specs.Bytes.{Range, greatest, nothing, is_in}
+use Rattle.intervals.specs.Bytes.{Range, nothing, is_in, put}
 use Rattle.intervals.specs.Runs.{bytes_of, value_at}
 use Rattle.model.specs.declared.mode.Mode.{Mode}
 use Rattle.model.specs.declared.owner.Owner.{Owner}
@@ -13,7 +13,7 @@ use Rattle.model.specs.Locks.{FileLocks, Locks, replace, without_owner_anywhere}
 use Rattle.model.specs.Owners.{same_owner}
 use Rattle.lock_table.specs.declared.owner_locks.OwnerLocks.{OwnerLocks}
 use Rattle.lock_table.specs.declared.page_index.PageIndex.{PageIndex}
-use Rattle.lock_table.specs.Rows.{held, AreRows, IsBounded}
+use Rattle.lock_table.specs.Rows.{held, AreRows}
 use Rattle.lock_table.proofs.RowLemmas.{is_of, row_place, row_at_from, held-at}
 use Rattle.lock_table.proofs.Orders.{owner_exact, place_itself}
 use Rattle.lock_table.proofs.SameRows.{drop_read}
@@ -48,9 +48,12 @@ pub rows-end : (rows : List OwnerLocks) (i f : ℕ) (o : Owner) (b : ℕ) (m : M
 unfolding held
 rows-end rows i f o b m le at = let none : None ≡ Some m = rw (drop_all i rows le) at at in absurd cc
 
--- no byte past the greatest offset is held
-pub bounded-below : (g : ℕ → Option Mode) (b : ℕ) (m : Mode) → IsBounded g → g b ≡ Some m → b ≤ greatest
-bounded-below g b m bounded at = elim (cases_lt greatest b) [ inl past ↦ let none = bounded b past in absurd cc | inr le ↦ le ]
+-- a byte that is held once a span is written was held before, or is one of the span
+pub put-noted : (x : PageIndex) (file : ℕ) (owner : Owner) (s : Range) (v : Option Mode) (before : ℕ → Option Mode) (b : ℕ) (m : Mode) → ((c : ℕ) → s.lo ≤ c → c ≤ s.hi → MayHold x file owner c) → put before s v b ≡ Some m → (before b ≡ Some m) ⊎ MayHold x file owner b
+put-noted x file owner s v before b m noted at = elim (cases_Bool (is_in s b)) [
+  | inl within ↦ let parts = and_parts (nat_le s.lo b) (nat_le b s.hi) within in inr (noted b (grind (arith, nat_tests, parts.0)) (grind (arith, nat_tests, parts.1)))
+  | inr out ↦ inl (rw out at at)
+]
 
 -- what is covered still where an owner holds less
 pub covers-without : (x : PageIndex) (h g : Locks) (file : ℕ) (owner : Owner) → ((f : ℕ) (o : Owner) → g f o ≡ replace h file owner nothing f o) → Covers x h → Covers x g

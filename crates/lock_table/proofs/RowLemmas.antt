@@ -287,3 +287,11 @@ row_or_gap (r ∷ rest) zero zero file owner at gap = cc (at, gap.0)
 row_or_gap (r ∷ rest) zero (suc j) file owner at gap = cc (at, gap.0)
 row_or_gap (r ∷ rest) (suc i) zero file owner at gap = cc (at.0, gap.0)
 row_or_gap (r ∷ rest) (suc i) (suc j) file owner at gap = row_or_gap rest i j file owner at.1 gap.1
+
+-- and one row alone
+pub row_alone : (l : List OwnerLocks) (i j file : ℕ) (owner : Owner) (r q : OwnerLocks) → IsRowAt l i file owner → r ≡ get_or l i r → IsRowAt l j file owner → q ≡ get_or l j q → r ≡ q
+row_alone [] i j file owner r q at is also same = absurd at
+row_alone (s ∷ rest) zero zero file owner r q at is also same = is ∙ sym same
+row_alone (s ∷ rest) zero (suc j) file owner r q at is also same = absurd (let no : ⊥ = cc (at, also.0) in no)
+row_alone (s ∷ rest) (suc i) zero file owner r q at is also same = absurd (let no : ⊥ = cc (at.0, also) in no)
+row_alone (s ∷ rest) (suc i) (suc j) file owner r q at is also same = row_alone rest i j file owner r q at.1 is also.1 same

@@ -2,7 +2,7 @@
 use Rattle.std.proofs.Common.{◌≡◌, ℕ, ◌+◌, ◌<◌, ◌≤◌, ◌⊎◌, false, length, get_or, List, Option, Some, None, refl, ap, sym, ◌∙◌, inl, inr, arith}
 use Rattle.std.specs.List.{All}
 use Rattle.std.proofs.lemmas.Bool.{cases_lt, both_ways}
-use Rattle.intervals.specs.Bytes.{Range, nothing, run_from, IsRun, IsBarred, NoneIn, IsLargest}
+use Rattle.intervals.specs.Bytes.{Range, greatest, nothing, run_from, IsRun, IsBarred, NoneIn, IsLargest}
 use Rattle.intervals.specs.Runs.{value_at}
 use Rattle.intervals.proofs.Find.{not_barred-none}
 use Rattle.model.specs.declared.mode.Mode.{Mode}
@@ -14,7 +14,11 @@ use Rattle.lock_table.specs.Rows.{held, AreRows, IsBounded, locks_of}
 use Rattle.lock_table.specs.Blockers.{HasInWay}
 use Rattle.lock_table.proofs.BlockerLemmas.{IsJoin, region_left, region_right, region_cases, region_own, own_region, nothing_region, barred_from, excluded_from}
 use Rattle.lock_table.proofs.LargestLaws.{IsLargest-iff, IsLargest-or, IsLargest-whole}
-use Rattle.lock_table.proofs.PageLemmas.{bounded-below, row_held}
+use Rattle.lock_table.proofs.PageLemmas.{row_held}
+
+-- no byte past the greatest offset is held
+bounded-below : (g : ℕ → Option Mode) (b : ℕ) (m : Mode) → IsBounded g → g b ≡ Some m → b ≤ greatest
+bounded-below g b m bounded at = elim (cases_lt greatest b) [ inl past ↦ let none = bounded b past in absurd cc | inr le ↦ le ]
 
 -- a run ends no lower than the bytes that go on from its first
 ends_from : (f : ℕ → Option Mode) (m : Mode) (b lo : ℕ) (s : Range) → s.lo ≡ lo → IsRun f s m → ((c : ℕ) → lo ≤ c → c ≤ b → f c ≡ Some m) → b ≤ s.hi

@@ -1,5 +1,5 @@
 -- The rows of a lock table, and the locks that they hold.
-use Rattle.std.specs.Prelude.{◌≡◌, ◌≢◌, ℕ, zero, suc, ◌<◌, ◌≤◌, ◌⊎◌, false, Option, None, length, List, [], ◌∷◌}
+use Rattle.std.specs.Prelude.{◌≡◌, ◌≢◌, ℕ, zero, suc, ◌<◌, ◌≤◌, ◌⊎◌, false, Option, None, length, get_or, List, [], ◌∷◌}
 use Rattle.std.specs.Ordering.{nat_cmp, ordering_then}
 use Rattle.std.specs.declared.cmp.Ordering.{Ordering}
 use Rattle.std.specs.declared.cmp.Ordering.TheVariants.{Less, Equal, Greater}
@@ -58,6 +58,10 @@ IsGap (r ∷ rest) (suc i) file owner = (row_cmp r file owner ≡ Less) × IsGap
 -- where the owner has no row in the file, there is room for all rows and one more
 abbrev pub HasRoom : List OwnerLocks → ℕ → Owner → ℕ → Type 0
 HasRoom rows file owner capacity = (i : ℕ) → IsGap rows i file owner → length rows < capacity
+
+-- the owner's row in the file, if it has one, has no more runs than so many
+abbrev pub HasRuns : List OwnerLocks → ℕ → Owner → ℕ → Type 0
+HasRuns rows file owner most = (i : ℕ) (row : OwnerLocks) → IsRowAt rows i file owner → row ≡ get_or rows i row → length row.spans ≤ most
 
 -- the locks of one row, in its file
 abbrev pub locks_of : OwnerLocks → FileLocks

@@ -2,13 +2,12 @@
 ghost use Rattle.std.specs.Prelude.{◌≡◌, ℕ, ◌≤◌, ◌<◌, ◌+◌, ◌-◌, ◌/◌, All, IfOk, IfSome, length, insert, [], IsTrue, ◌↔◌, OnOk, OnErr, Err, Some, None, MatchOption, MatchResult};
 ghost use Rattle.std.specs.List.{AllZip};
 ghost use Rattle.intervals.specs.Bytes.{nothing, put, IsLargest};
-ghost use Rattle.intervals.specs.Runs.{value_at};
 ghost use Rattle.model.specs.Limits.{most_regions};
-ghost use Rattle.model.specs.Locks.{no_locks, replace, with_lock, without_owner, without_owner_anywhere, regions, IsFree, IsRegion, IsLowestBlocker, IsClear, IsLowestInWay};
+ghost use Rattle.model.specs.Locks.{no_locks, with_lock, without_owner, without_owner_anywhere, regions, IsFree, IsRegion, IsLowestBlocker, IsClear, IsLowestInWay};
 ghost use Rattle.model.specs.declared.mode.Mode.{Mode as SomeMode};
 ghost use Rattle.lock_table.specs.declared.error.LockError.TheVariants.{NoLocks};
 ghost use Rattle.std.specs.Vec.{vec_capacity};
-ghost use Rattle.lock_table.specs.Rows.{held, HoldsLess, HasRoom, AreRows, IsRowAt, IsGap, HoldsSome, IsSameRow};
+ghost use Rattle.lock_table.specs.Rows.{held, HoldsLess, HasRoom, HasRuns, AreRows, IsRowAt, IsGap, IsSameRow};
 ghost use Rattle.lock_table.specs.Blockers.{IsLowestBut, HasInWay};
 ghost use Rattle.lock_table.specs.Listing.{IsListing};
 ghost use Rattle.lock_table.specs.Pages.{HasFlag, IsKept};
@@ -19,6 +18,7 @@ use crate::order::{cmp_regions, lowest_of};
 use crate::owner_locks::{OwnerLocks, Spans};
 use crate::page_index::PageIndex;
 use intervals::span::Span;
+use intervals::span_edit::SpanEdit;
 use intervals::span_map::{NoMemory, SpanMap};
 use model::limits::MOST_REGIONS;
 use model::lock_info::LockInfo;
@@ -87,14 +87,14 @@ fn same_rows(rows: &[OwnerLocks], others: &[OwnerLocks]) -> bool
     true
 }
 
-/// What an owner will hold in a file, in a planned change. Where it has no row yet, `room` is an empty
-/// list with room for all rows and that one. Where the table is to keep an index and has none, `index`
-/// has the memory for it.
+/// What will be written of what an owner holds in a file, in a planned change. It brings the memory that
+/// it takes: where the owner has no row yet, `room` is an empty list with room for all rows and that one;
+/// where the table is to keep an index and has none, `index` has the memory for it.
 #[derive(Drop)]
 pub struct LockEdit {
     pub file: u16,
     pub owner: Owner,
-    pub spans: Spans,
+    pub write: SpanEdit<Mode>,
     pub room: Vec<OwnerLocks>,
     pub index: PageIndex,
 }
@@ -157,16 +157,6 @@ impl LockTable {
         ensures { IsTrue result ↔ (held self.now ≡ held other.now) }
     {
         same_rows(&self.rows, &other.rows)
-    }
-
-    // A copy of what an owner holds in a file.
-    fn spans_of(&self, file: u16, owner: Owner) -> Result<Spans, NoMemory>
-        ensures { IfOk result (λ spans. value_at spans ≡ held self.now file owner) }
-    {
-        match position(&self.rows, file, owner) {
-            Ok(i) => Ok(self.rows[i].spans.copy()?),
-            Err(_) => Ok(Spans::new(*self.rows.allocator())),
-        }
     }
 
     /// Gives each byte of the span the mode for this owner (POSIX.1-2017 `fcntl()`, F_SETLK with
@@ -242,8 +232,28 @@ impl LockTable {
         PageIndex::with_memory(alloc)
     }
 
-    /// What `set` (with a mode) or `unlock` (with none) would change: a copy of what the owner holds in
-    /// the file, and of no other row.
+    // The write of what an owner holds in a file.
+    fn plan_write(
+        &self,
+        file: u16,
+        owner: Owner,
+        span: Span,
+        mode: Option<Mode>,
+    ) -> Result<SpanEdit<Mode>, NoMemory>
+        ensures span { IfOk result (λ write. write.span ≡ span) }
+        ensures mode { IfOk result (λ write. write.value ≡ mode) }
+        ensures runs { IfOk result (λ write. HasRuns self.now file owner write.runs) }
+    {
+        match position(&self.rows, file, owner) {
+            Ok(i) => Ok(self.rows[i].spans.plan(span, mode)?),
+            Err(_) => {
+                let nothing = Spans::new(*self.rows.allocator());
+                Ok(nothing.plan(span, mode)?)
+            }
+        }
+    }
+
+    /// What `set` (with a mode) or `unlock` (with none) would change. It copies nothing.
     ///
     /// # Errors
     /// Those of `set` and `unlock`.
@@ -254,10 +264,11 @@ impl LockTable {
         span: Span,
         mode: Option<Mode>,
     ) -> Result<LockEdit, LockError>
-        ensures ok { IfOk result (λ e. replace (held self.now) e.file e.owner (value_at e.spans) ≡ with_lock (held self.now) file owner span mode) }
+        ensures ok { IfOk result (λ e. with_lock (held self.now) e.file e.owner e.write.span e.write.value ≡ with_lock (held self.now) file owner span mode) }
         ensures few { OnOk result (regions (put (held self.now file owner) span mode) ≤ most_regions) }
         ensures many { result ≡ Err NoLocks → most_regions < regions (put (held self.now file owner) span mode) }
         ensures refused { most_regions < regions (put (held self.now file owner) span mode) → result ≡ Err NoLocks }
+        ensures runs { IfOk result (λ e. HasRuns self.now e.file e.owner e.write.runs) }
         ensures room { IfOk result (λ e. HasRoom self.now e.file e.owner (vec_capacity e.room)) }
         ensures empty { IfOk result (λ e. e.room.items ≡ []) }
         ensures of_owner { IfOk result (λ e. e.owner ≡ owner) }
@@ -265,17 +276,13 @@ impl LockTable {
         if self.regions_with(file, owner, span, mode) > MOST_REGIONS {
             return Err(LockError::NoLocks);
         }
-        let mut spans = self.spans_of(file, owner)?;
-        match mode {
-            Some(mode) => spans.set(span, mode)?,
-            None => spans.clear(span)?,
-        }
+        let write = self.plan_write(file, owner, span, mode)?;
         let room = self.room_for(file, owner)?;
         let index = self.index_for()?;
         Ok(LockEdit {
             file,
             owner,
-            spans,
+            write,
             room,
             index,
         })
@@ -294,48 +301,77 @@ impl LockTable {
         }
     }
 
-    // Puts spans that hold some byte in place of what an owner holds in a file. Takes no memory.
-    fn put_spans(&mut self, file: u16, owner: Owner, spans: Spans, room: Vec<OwnerLocks>)
-        requires some { HoldsSome (value_at spans) }
+    // Makes the write in the owner's row, and takes the row out where it holds nothing then. Takes no
+    // memory.
+    fn write_row(&mut self, place: usize, file: u16, owner: Owner, write: SpanEdit<Mode>)
+        requires row { IsRowAt self.old place file owner }
+        requires runs { HasRuns self.old file owner write.runs }
+        ensures { held self.new ≡ with_lock (held self.old) file owner write.span write.value }
+    {
+        self.index.note_write(file, owner, &write);
+        let row = &mut self.rows[place];
+        row.spans.apply(write);
+        if !row.spans.is_empty() {
+            return;
+        }
+        self.rows.remove(place);
+    }
+
+    // The first write of an owner in a file: it has a row from then on, if it holds some byte. Takes no
+    // memory.
+    fn add_row(
+        &mut self,
+        place: usize,
+        file: u16,
+        owner: Owner,
+        write: SpanEdit<Mode>,
+        room: Vec<OwnerLocks>,
+    )
+        requires gap { IsGap self.old place file owner }
+        requires empty { room.items ≡ [] }
+        requires room { length self.old < vec_capacity room }
+        ensures { held self.new ≡ with_lock (held self.old) file owner write.span write.value }
+    {
+        self.index.note_write(file, owner, &write);
+        let mut spans = Spans::new(*self.rows.allocator());
+        spans.apply(write);
+        if spans.is_empty() {
+            return;
+        }
+        move_rows(&mut self.rows, room);
+        insert_row(&mut self.rows, place, OwnerLocks { file, owner, spans });
+    }
+
+    // Makes the write of what an owner holds in a file. Takes no memory.
+    fn write(&mut self, file: u16, owner: Owner, write: SpanEdit<Mode>, room: Vec<OwnerLocks>)
+        requires runs { HasRuns self.old file owner write.runs }
         requires empty { room.items ≡ [] }
         requires room { HasRoom self.old file owner (vec_capacity room) }
-        ensures { held self.new ≡ replace (held self.old) file owner (value_at spans) }
+        ensures { held self.new ≡ with_lock (held self.old) file owner write.span write.value }
     {
         match position(&self.rows, file, owner) {
-            Ok(i) => {
-                self.index
-                    .note_change(file, owner, &self.rows[i].spans, &spans);
-                let row = &mut self.rows[i];
-                row.spans = spans;
-            }
-            Err(i) => {
-                let nothing = Spans::new(*self.rows.allocator());
-                self.index.note_change(file, owner, &nothing, &spans);
-                move_rows(&mut self.rows, room);
-                insert_row(&mut self.rows, i, OwnerLocks { file, owner, spans });
-            }
+            Ok(place) => self.write_row(place, file, owner, write),
+            Err(place) => self.add_row(place, file, owner, write, room),
         }
     }
 
-    /// Makes a planned change. Takes no memory.
+    /// Makes a planned change: of what the owner holds in the file, only the regions from the span on are
+    /// written. Takes no memory.
     pub fn apply(&mut self, edit: LockEdit)
+        requires runs { HasRuns self.old edit.file edit.owner edit.write.runs }
         requires empty { edit.room.items ≡ [] }
         requires room { HasRoom self.old edit.file edit.owner (vec_capacity edit.room) }
-        ensures { held self.new ≡ replace (held self.old) edit.file edit.owner (value_at edit.spans) }
+        ensures { held self.new ≡ with_lock (held self.old) edit.file edit.owner edit.write.span edit.write.value }
     {
         let LockEdit {
             file,
             owner,
-            spans,
+            write,
             room,
             index,
         } = edit;
         self.refresh(index);
-        if spans.is_empty() {
-            self.drop_owner(owner, file);
-        } else {
-            self.put_spans(file, owner, spans, room);
-        }
+        self.write(file, owner, write, room);
     }
 
     /// Takes each byte of a file from an owner. Takes no memory.

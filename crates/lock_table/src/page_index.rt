@@ -1,16 +1,18 @@
 //! Which owners may hold bytes of which pages, and in which files.
-ghost use Rattle.std.specs.Prelude.{◌≡◌, ℕ, ◌-◌, ◌<◌, ◌≤◌, ◌^◌, ◌⊎◌, Some, IfOk, IfSome, IsTrue, ◌↔◌};
+ghost use Rattle.std.specs.Prelude.{◌≡◌, ℕ, ◌-◌, ◌<◌, ◌≤◌, ◌^◌, ◌⊎◌, Option, Some, IfOk, IfSome, IsTrue, ◌↔◌};
+ghost use Rattle.intervals.specs.Bytes.{put};
 ghost use Rattle.intervals.specs.Runs.{value_at};
 ghost use Rattle.model.specs.declared.mode.Mode.{Mode as SomeMode};
 ghost use Rattle.model.specs.declared.owner.Owner.{Owner as SomeOwner};
-ghost use Rattle.lock_table.specs.Rows.{held, AreRows, IsBounded};
+ghost use Rattle.lock_table.specs.Rows.{held, AreRows};
 ghost use Rattle.lock_table.specs.Pages.{Has, HasFlag, HasFile, MayHold, HasPage, IsKept, Covers, slot_of};
 
 use crate::flag_set::FlagSet;
-use crate::owner_locks::{OwnerLocks, Spans};
+use crate::owner_locks::OwnerLocks;
 use crate::owner_set::{OwnerSet, flag_of};
 use intervals::run::Run;
-use intervals::span::{GREATEST, Span};
+use intervals::span::Span;
+use intervals::span_edit::SpanEdit;
 use intervals::span_map::NoMemory;
 use model::mode::Mode;
 use model::owner::Owner;
@@ -165,16 +167,16 @@ impl PageIndex {
         self.sets[slot] = set;
     }
 
-    // Notes that the owner may hold bytes of the run.
-    fn note_run(&mut self, file: u16, owner: Owner, run: &Run<Mode>)
+    // Notes that the owner may hold the bytes from the first to the last.
+    fn note_bytes(&mut self, file: u16, owner: Owner, lo: u64, hi: u64)
         requires kept { IsKept self.old }
         ensures kept { IsKept self.new }
         ensures keeps { (f : ℕ) (o : SomeOwner) (b : ℕ) → MayHold self.old f o b → MayHold self.new f o b }
-        ensures noted { (b : ℕ) → run.now.lo ≤ b → b ≤ run.now.hi → MayHold self.new file owner b }
+        ensures noted { (b : ℕ) → lo ≤ b → b ≤ hi → MayHold self.new file owner b }
     {
         self.note_file(file, owner);
-        let first = run.lo / PAGE;
-        let last = run.hi / PAGE;
+        let first = lo / PAGE;
+        let last = hi / PAGE;
         if last.saturating_sub(first) > MOST_PAGES {
             self.long.add(owner);
             return;
@@ -184,47 +186,41 @@ impl PageIndex {
         }
     }
 
-    // Notes that the owner may hold the bytes of the runs that lie in the span or reach into it.
-    fn note_runs(&mut self, file: u16, owner: Owner, runs: &[Run<Mode>], within: Span)
-        requires kept { IsKept self.old }
-        ensures kept { IsKept self.new }
+    /// Notes what an owner holds anew in a file once the write is made.
+    pub(crate) fn note_write(&mut self, file: u16, owner: Owner, write: &SpanEdit<Mode>)
         ensures keeps { (f : ℕ) (o : SomeOwner) (b : ℕ) → MayHold self.old f o b → MayHold self.new f o b }
-        ensures noted { (b : ℕ) (m : SomeMode) → value_at runs.now b ≡ Some m → within.lo ≤ b → b ≤ within.hi → MayHold self.new file owner b }
+        ensures noted { (before : ℕ → Option SomeMode) (b : ℕ) (m : SomeMode) → put before write.now.span write.now.value b ≡ Some m → (before b ≡ Some m) ⊎ MayHold self.new file owner b }
     {
-        for run in runs {
-            if run.lo <= within.hi && within.lo <= run.hi {
-                self.note_run(file, owner, run);
-            }
+        if write.value.is_none() {
+            return;
         }
-    }
-
-    /// Notes what an owner holds anew in a file.
-    pub(crate) fn note_change(&mut self, file: u16, owner: Owner, old: &Spans, new: &Spans)
-        ensures keeps { (f : ℕ) (o : SomeOwner) (b : ℕ) → MayHold self.old f o b → MayHold self.new f o b }
-        ensures noted { (b : ℕ) (m : SomeMode) → value_at new.now b ≡ Some m → (value_at old.now b ≡ Some m) ⊎ MayHold self.new file owner b }
-    {
         if !self.is_kept() {
             return;
         }
         self.notes = self.notes.saturating_add(1);
-        if let Some(span) = old.difference(new) {
-            self.note_runs(file, owner, new.runs(), span);
+        self.note_bytes(file, owner, write.span.lo, write.span.hi);
+    }
+
+    // Notes that the owner may hold the bytes of the runs.
+    fn note_runs(&mut self, file: u16, owner: Owner, runs: &[Run<Mode>])
+        requires kept { IsKept self.old }
+        ensures kept { IsKept self.new }
+        ensures keeps { (f : ℕ) (o : SomeOwner) (b : ℕ) → MayHold self.old f o b → MayHold self.new f o b }
+        ensures noted { (b : ℕ) (m : SomeMode) → value_at runs.now b ≡ Some m → MayHold self.new file owner b }
+    {
+        for run in runs {
+            self.note_bytes(file, owner, run.lo, run.hi);
         }
     }
 
     // Notes what a row holds.
     fn note_row(&mut self, row: &OwnerLocks)
         requires kept { IsKept self.old }
-        requires bounded { IsBounded (value_at row.now.spans) }
         ensures kept { IsKept self.new }
         ensures keeps { (f : ℕ) (o : SomeOwner) (b : ℕ) → MayHold self.old f o b → MayHold self.new f o b }
         ensures noted { (b : ℕ) (m : SomeMode) → value_at row.now.spans b ≡ Some m → MayHold self.new row.now.file row.now.owner b }
     {
-        let whole = Span {
-            lo: 0,
-            hi: GREATEST,
-        };
-        self.note_runs(row.file, row.owner, row.spans.runs(), whole);
+        self.note_runs(row.file, row.owner, row.spans.runs());
     }
 
     /// Forgets all, and notes what the rows hold.

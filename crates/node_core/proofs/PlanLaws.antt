@@ -6,7 +6,6 @@ use Rattle.std.proofs.Common.{arith, ap, sym, subst, ◌∙◌}
 use Rattle.std.proofs.lemmas.Bool.{ne_eqb, le-leb, lt-leb}
 use Rattle.std.proofs.lemmas.List.Elements.{All-nil, All-cons, All-head, All-tail, All-filter, All-push}
 use Rattle.intervals.specs.Bytes.{put}
-use Rattle.intervals.specs.Runs.{value_at}
 use Rattle.model.specs.declared.mode.Mode.{Mode}
 use Rattle.model.specs.declared.call.CallId.{CallId}
 use Rattle.model.specs.declared.host.Host.{Host}
@@ -14,7 +13,7 @@ use Rattle.model.specs.declared.opened.Opened.{Opened}
 use Rattle.model.specs.declared.reply.Reply.TheVariants.{Done, NoLocks}
 use Rattle.model.specs.Descriptors.{Processes, no_processes}
 use Rattle.model.specs.Limits.{IsNumber}
-use Rattle.model.specs.Locks.{Locks, replace, with_lock, regions}
+use Rattle.model.specs.Locks.{Locks, with_lock, regions}
 use Rattle.model.specs.Table.{Table, LockTarget, regions_with, lock_within}
 use Rattle.fcntl_table.specs.Hosts.{shown}
 use Rattle.fcntl_table.proofs.ExitLaws.{at_node}
@@ -22,7 +21,7 @@ use Rattle.lock_table.specs.declared.owner_locks.OwnerLocks.{OwnerLocks}
 use Rattle.lock_table.specs.declared.error.LockError.{LockError}
 use Rattle.lock_table.specs.declared.error.LockError.TheVariants as lock
 use Rattle.lock_table.specs.declared.lock_table.LockEdit.{LockEdit}
-use Rattle.lock_table.specs.Rows.{held, HasRoom as HasRowRoom}
+use Rattle.lock_table.specs.Rows.{held, HasRoom as HasRowRoom, HasRuns}
 use Rattle.messages.specs.declared.message.Message.{Message}
 use Rattle.messages.specs.declared.message.Message.TheVariants.{Freed}
 use Rattle.messages.specs.declared.refusal.StepError.{StepError}
@@ -55,7 +54,7 @@ pub on : {A : Type 0} (b : Bool) (x y : A) → b ≡ true → (if b then x else 
 on b x y h = ap (λ (c : Bool). if c then x else y) h
 
 -- the bytes are locked within the regions that an owner may have
-pub lock-planned : (p : NodeParts) (e : LockEdit) (c : LockTarget) (mode : Option Mode) → replace (held p.locks) e.file e.owner (value_at e.spans) ≡ with_lock (held p.locks) c.file c.owner c.span mode → regions (put (held p.locks c.file c.owner) c.span mode) ≤ 1024 → lock_within (node_state p).table c mode ≡ (record (node_state p).table { locks = locks_after (node_state p).table.locks (Some e) }, Done)
+pub lock-planned : (p : NodeParts) (e : LockEdit) (c : LockTarget) (mode : Option Mode) → with_lock (held p.locks) e.file e.owner e.write.span e.write.value ≡ with_lock (held p.locks) c.file c.owner c.span mode → regions (put (held p.locks c.file c.owner) c.span mode) ≤ 1024 → lock_within (node_state p).table c mode ≡ (record (node_state p).table { locks = locks_after (node_state p).table.locks (Some e) }, Done)
 unfolding node_state
 lock-planned p e c mode same few =
     ap (λ (b : Bool). if b then (record (node_state p).table { locks = with_lock (held p.locks) c.file c.owner c.span mode }, Done) else ((node_state p).table, NoLocks)) (le-leb _ _ few)
@@ -78,6 +77,10 @@ regions-held p c mode many = many
 pub room-fits : (p : NodeParts) (edit : Option LockEdit) → LocksFit p edit → IfSome edit (λ e. HasRowRoom p.locks e.file e.owner (vec_capacity e.room))
 room-fits p None fit = tt
 room-fits p (Some e) fit = fit.1
+
+pub runs-fit : (p : NodeParts) (edit : Option LockEdit) → LocksFit p edit → IfSome edit (λ e. HasRuns p.locks e.file e.owner e.write.runs)
+runs-fit p None fit = tt
+runs-fit p (Some e) fit = fit.2
 
 -- a file that comes after those that are told stays as it is
 told-other : (files : ℕ → FileState) (freed : List ℕ) (file : ℕ) → All (λ f. f < file) freed → files_told files freed file ≡ files file

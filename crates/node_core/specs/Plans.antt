@@ -2,16 +2,15 @@
 use Rattle.std.specs.Prelude.{◌≡◌, ℕ, ◌+◌, ◌-◌, ◌<◌, ◌==◌, Bool, true, false, not, if◌then◌else◌, List, [], ◌∷◌, ◌++◌, All, filter, length, Option, Some, None}
 use Rattle.std.specs.List.{slice_get}
 use Rattle.std.specs.Vec.{vec_capacity}
-use Rattle.intervals.specs.Runs.{value_at}
 use Rattle.model.specs.declared.host.Host.{Host}
 use Rattle.model.specs.declared.opened.Opened.{Opened}
 use Rattle.model.specs.declared.reply.Reply.{Reply}
 use Rattle.model.specs.Descriptors.{Processes}
 use Rattle.model.specs.Limits.{IsNumber, most_processes}
-use Rattle.model.specs.Locks.{Locks, replace}
+use Rattle.model.specs.Locks.{Locks, with_lock}
 use Rattle.model.specs.Table.{Table, around, descriptor, with_processes, closed_if, exited}
 use Rattle.lock_table.specs.declared.lock_table.LockEdit.{LockEdit}
-use Rattle.lock_table.specs.Rows.{HasRoom as HasRowRoom}
+use Rattle.lock_table.specs.Rows.{HasRoom as HasRowRoom, HasRuns}
 use Rattle.token_set.specs.Edits.{edited as token_edited}
 use Rattle.messages.specs.Messages.{greatest_number}
 use Rattle.descriptors.specs.declared.edit.ProcessEdit.{ProcessEdit}
@@ -66,7 +65,7 @@ files_told files (file ∷ more) = files_told (told files file) more
 -- the locks once the edit is made
 abbrev pub locks_after : Locks → Option LockEdit → Locks
 locks_after h None = h
-locks_after h (Some e) = replace h e.file e.owner (value_at e.spans)
+locks_after h (Some e) = with_lock h e.file e.owner e.write.span e.write.value
 
 -- the state with those locks
 abbrev pub with_locks : NodeState → Locks → NodeState
@@ -142,11 +141,11 @@ CommandFits files (Some e) = IsNumber files e.file
 abbrev pub DraftFits : NodeParts → Draft → Type 0
 DraftFits p d = NumberFits (node_state p).calls d.numbered × CommandFits (node_state p).shape.files d.command
 
--- what the edit of locks needs: room where a row is new
+-- what the edit of locks needs: room where a row is new, and where there is one no more runs than it was planned for
 abbrev pub LocksFit : NodeParts → Option LockEdit → Type 0
 LocksFit p None = Unit {0}
 LocksFit p (Some e) =
-    (e.room.items ≡ []) × HasRowRoom p.locks e.file e.owner (vec_capacity e.room)
+    (e.room.items ≡ []) × HasRowRoom p.locks e.file e.owner (vec_capacity e.room) × HasRuns p.locks e.file e.owner e.write.runs
 
 -- what the edit of processes needs: its own, and all that is open stays of files of the shape
 abbrev pub ProcessesFit : NodeParts → Option ProcessEdit → Type 0

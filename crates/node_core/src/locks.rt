@@ -3,7 +3,7 @@ ghost use Rattle.std.specs.Prelude.{◌≡◌, ◌≤◌, ◌<◌, Err, [], IfSo
 ghost use Rattle.intervals.specs.Bytes.{put};
 ghost use Rattle.model.specs.Limits.{most_regions};
 ghost use Rattle.model.specs.Locks.{with_lock, regions};
-ghost use Rattle.lock_table.specs.Rows.{held, HasRoom};
+ghost use Rattle.lock_table.specs.Rows.{held, HasRoom, HasRuns};
 ghost use Rattle.std.specs.Vec.{vec_capacity};
 ghost use Rattle.node_core.specs.Plans.{locks_after};
 ghost use Rattle.node_core.specs.Try.{may_free};
@@ -40,6 +40,7 @@ pub fn change_locks(
 pub fn apply_locks(locks: &mut LockTable, edit: Option<LockEdit>)
     requires empty { IfSome edit (λ e. e.room.items ≡ []) }
     requires room { IfSome edit (λ e. HasRoom locks.old e.file e.owner (vec_capacity e.room)) }
+    requires runs { IfSome edit (λ e. HasRuns locks.old e.file e.owner e.write.runs) }
     ensures { held locks.new ≡ locks_after (held locks.old) edit }
 {
     match edit {

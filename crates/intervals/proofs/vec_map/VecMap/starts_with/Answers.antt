@@ -1,5 +1,4 @@
-use Rattle.std.proofs.Common.{◌≡◌, ℕ, ◌+◌, ◌≤◌, List, length, ap, sym, subst, if◌then◌else◌, ◌∙◌, arith}
-use Rattle.intervals.specs.declared.run.Run.{Run}
+use Rattle.std.proofs.Common.{◌≡◌, ℕ, ◌+◌, ◌≤◌, length, ap, subst, if◌then◌else◌, ◌∙◌, arith}
 use Rattle.intervals.specs.Bytes.{Range, greatest, begins_after, starts_below}
 use Rattle.intervals.specs.Runs.{value_at, AreRuns, EndsBelow}
 use Rattle.intervals.proofs.StartsWith.{before, before-is, number-written}

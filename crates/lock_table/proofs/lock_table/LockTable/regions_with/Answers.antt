@@ -18,4 +18,4 @@ returns-in-Ok c =
 pub returns-in-Err : goal.returns-in-Err
 returns-in-Err c =
     let gap : IsGap c.args.self.now c.in-Err.field-0 c.args.file c.args.owner = rw (← c.self.view_is, ← c.deref.ensures.value) c.in-Err.ensures in
-    c.starts_with-in-Err.ensures ∙ (runs_are_regions _ ∙ ap (λ (f : ℕ → Option Mode). regions (put f c.args.span c.args.mode)) (c.new-nothing.ensures ∙ sym (held-gap _ _ _ _ gap)))
+    c.starts_with-in-Err.ensures ∙ (runs_are_regions _ ∙ ap (λ (f : ℕ → Option Mode). regions (put f c.args.span c.args.mode)) (c.new-nothing.ensures.at ∙ sym (held-gap _ _ _ _ gap)))

@@ -1,4 +1,4 @@
-use Rattle.std.proofs.Common.{◌≡◌, ℕ, ◌≤◌, ◌⊎◌, drop, Some}
+use Rattle.std.proofs.Common.{◌≡◌, ℕ, ◌⊎◌, drop, Some}
 use Rattle.intervals.specs.Runs.{value_at}
 use Rattle.model.specs.declared.mode.Mode.{Mode}
 use Rattle.model.specs.declared.owner.Owner.{Owner}
@@ -9,5 +9,5 @@ abbrev pub invariant-loop-run : goal.invariant-loop-run
 invariant-loop-run l = record {
   kept : IsKept l.self;
   keeps : (f : ℕ) (o : Owner) (b : ℕ) → MayHold l.initial.self f o b → MayHold l.self f o b;
-  noted : (b : ℕ) (m : Mode) → value_at l.runs b ≡ Some m → l.within-inside.lo ≤ b → b ≤ l.within-inside.hi → MayHold l.self l.file l.owner b ⊎ (value_at (drop l.run-index l.runs) b ≡ Some m);
+  noted : (b : ℕ) (m : Mode) → value_at l.runs b ≡ Some m → MayHold l.self l.file l.owner b ⊎ (value_at (drop l.run-index l.runs) b ≡ Some m);
 }

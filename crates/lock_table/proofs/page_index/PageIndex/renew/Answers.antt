@@ -1,10 +1,6 @@
 use Rattle.std.proofs.Common.{inl, inr}
-use Rattle.lock_table.proofs.RowLemmas.{row_holds}
 use Rattle.lock_table.proofs.PageLemmas.{row-step, rows-end}
 use Rattle.lock_table.proofs.page_index.PageIndex.renew.Goals as goal
-
-pub note_row-requires-clause-bounded : goal.note_row-requires-clause-bounded
-note_row-requires-clause-bounded c = (row_holds _ _ c.row-item.result c.requires c.loop-row-test.true c.row-item.is).bounded
 
 pub loop-row-preserved : goal.loop-row-preserved
 loop-row-preserved c = record {

@@ -5,16 +5,20 @@ use Rattle.model.specs.declared.host.Host.{Host}
 use Rattle.model.specs.Descriptors.{Processes}
 use Rattle.descriptors.specs.Edits.{Fits as ProcessFits}
 use Rattle.descriptors.specs.Rows.{processes}
-use Rattle.lock_table.specs.Rows.{HasRoom}
+use Rattle.lock_table.specs.Rows.{HasRoom, HasRuns}
 use Rattle.node_core.specs.State.{host}
 use Rattle.node_core.specs.Parts.{NodeParts, node_state}
 use Rattle.node_core.specs.Plans.{processes_after, files_told, planned, ShutFits, Fits}
-use Rattle.node_core.proofs.PlanLaws.{Shuts, room-fits, node-planned, node-edited, processes-fit}
+use Rattle.node_core.proofs.PlanLaws.{Shuts, room-fits, runs-fit, node-planned, node-edited, processes-fit}
 use Rattle.node_core.proofs.node.Node.apply_edit.Goals as goal
 
 pub apply_locks-requires-clause-room : goal.apply_locks-requires-clause-room
 apply_locks-requires-clause-room c =
     subst (λ (p : NodeParts). IfSome c.args.edit.locks (λ e. HasRoom p.locks e.file e.owner (vec_capacity e.room))) (sym c.self.view_is) (room-fits c.args.self.now c.args.edit.locks c.requires.0.1)
+
+pub apply_locks-requires-clause-runs : goal.apply_locks-requires-clause-runs
+apply_locks-requires-clause-runs c =
+    subst (λ (p : NodeParts). IfSome c.args.edit.locks (λ e. HasRuns p.locks e.file e.owner e.write.runs)) (sym c.self.view_is) (runs-fit c.args.self.now c.args.edit.locks c.requires.0.1)
 
 pub apply_processes-requires : goal.apply_processes-requires
 apply_processes-requires c =

@@ -4,8 +4,7 @@ use Rattle.lock_table.specs.declared.error.LockError.{LockError}
 use Rattle.lock_table.specs.declared.error.LockError.TheVariants.{NoLocks}
 use Rattle.lock_table.specs.declared.lock_table.LockEdit.{LockEdit}
 use Rattle.intervals.specs.Bytes.{put}
-use Rattle.intervals.specs.Runs.{value_at}
-use Rattle.model.specs.Locks.{replace, with_lock, regions}
+use Rattle.model.specs.Locks.{with_lock, regions}
 use Rattle.model.specs.Table.{LockTarget}
 use Rattle.lock_table.specs.Rows.{held}
 use Rattle.node_core.proofs.PlanLaws.{lock-planned, lock-refused, regions-held, no-memory-told}
@@ -15,12 +14,12 @@ pub returns-in-Ok-clause-locked : goal.returns-in-Ok-clause-locked
 returns-in-Ok-clause-locked c =
     let h = held c.self.inside.locks in
     let e = c.in-Ok.edit in
-    let ok = subst (λ (t : LockTarget). replace h e.file e.owner (value_at e.spans) ≡ with_lock h t.file t.owner t.span c.args.mode) c.target.view_is c.in-Ok.ensures.ok in
+    let ok = subst (λ (t : LockTarget). with_lock h e.file e.owner e.write.span e.write.value ≡ with_lock h t.file t.owner t.span c.args.mode) c.target.view_is c.in-Ok.ensures.ok in
     let few = subst (λ (t : LockTarget). regions (put (h t.file t.owner) t.span c.args.mode) ≤ 1024) c.target.view_is c.in-Ok.ensures.few in
     rw (← c.self.view_is) (lock-planned _ e c.args.target c.args.mode ok few)
 
 pub returns-in-Ok-clause-fits : goal.returns-in-Ok-clause-fits
-returns-in-Ok-clause-fits c = rw (← c.self.view_is) (c.in-Ok.ensures.empty, c.in-Ok.ensures.room)
+returns-in-Ok-clause-fits c = rw (← c.self.view_is) (c.in-Ok.ensures.empty, c.in-Ok.ensures.room, c.in-Ok.ensures.runs)
 
 pub returns-in-Err-NoLocks-clause-locked : goal.returns-in-Err-NoLocks-clause-locked
 returns-in-Err-NoLocks-clause-locked c =

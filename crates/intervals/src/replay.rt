@@ -1,0 +1,42 @@
+//! Maps made by commands.
+ghost use Rattle.std.specs.Prelude.{◌≡◌, IfOk, OnOk};
+ghost use Rattle.intervals.specs.Bytes.{put};
+ghost use Rattle.intervals.specs.Replays.{replayed};
+
+use crate::span::Span;
+use crate::span_map::{Exact, NoMemory, SpanMap};
+use std::alloc::Global;
+
+/// A write of a map: the value at each byte of the span, or none there.
+#[derive(Clone, Copy, Debug, PartialEq, Eq)]
+pub struct Command<V> {
+    pub span: Span,
+    pub value: Option<V>,
+}
+
+// Makes one write.
+fn perform<V: Exact, S: SpanMap<V>>(map: &mut S, command: &Command<V>) -> Result<(), NoMemory>
+    ensures { OnOk result (S.at map.new ≡ put (S.at map.old) command.now.span command.now.value) }
+{
+    match command.value {
+        Some(value) => map.set(command.span, value),
+        None => map.clear(command.span),
+    }
+}
+
+/// The map in which no byte has a value, after the commands.
+///
+/// # Errors
+/// `NoMemory` where a request for memory was refused.
+pub fn replay<V: Exact, S: SpanMap<V>>(
+    alloc: Global,
+    commands: &[Command<V>],
+) -> Result<S, NoMemory>
+    ensures { IfOk result (λ map. S.at map ≡ replayed commands.now) }
+{
+    let mut map = S::new(alloc);
+    for command in commands {
+        perform(&mut map, command)?;
+    }
+    Ok(map)
+}
