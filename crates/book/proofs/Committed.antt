@@ -10,6 +10,7 @@ use Rattle.cluster_core.specs.World.{WorldState}
 use Rattle.cluster_core.specs.Next.{entry}
 use Rattle.cluster_core.specs.Parts.{world_state}
 use Rattle.cluster_core.specs.Journals.{RunFields, GoesOn}
+use Rattle.cluster_core.proofs.steps.Steps.{kept_taken}
 use Rattle.cluster_core.specs.Actors.{Records}
 use Rattle.book.specs.declared.state.State.{State}
 use Rattle.book.specs.States.{actor_of, SameState, StepsTo, HasState, made_by}
@@ -53,7 +54,8 @@ pub declared : (b d : RunFields) (n : ℕ) (t : StampFields) → GoesOn b (Decla
 declared b d n t went position said gave seen_is =
     let w = world_state b.world in
     let q : WorldState × Entry = (world_state d.world, went.0) in
-    let k = declared_entry w n q went.1 in
+    let step = (kept_taken w (Declare n) q went.1).1 in
+    let k = declared_entry w n q step in
     record {
       goes = went;
       position = position;
@@ -61,19 +63,20 @@ declared b d n t went position said gave seen_is =
       seen_is = seen_is;
       stamped = new_stamp b.entries d.entries went.0 k.0 t went.2 (k.1 ∙ (λ i. entry (sym said i) k.0 (sym gave i))) position;
       stamps = λ x h. stays b.entries d.entries went.0 x went.2 h;
-      fenced = λ s has is least. declared_fences w n q s.state went.1 has is least;
-      others = λ x ne has. declared_others w n q x.state went.1 ne has;
+      fenced = λ s has is least. declared_fences w n q s.state step has is least;
+      others = λ x ne has. declared_others w n q x.state step ne has;
     }
 
 pub restarted : (b d : RunFields) (n : ℕ) (s : SeatFields) → GoesOn b (Restart n) d → actor_of s.state ≡ ANode n → s.commits ≡ 0 → IsSeatOf d s → Restarted b n d s
 restarted b d n s went actor commits stands =
     let w = world_state b.world in
     let q : WorldState × Entry = (world_state d.world, went.0) in
+    let step = (kept_taken w (Restart n) q went.1).1 in
     record {
       goes = went;
       actor = actor;
       commits = commits;
       mine = stands;
       stamps = λ x h. stays b.entries d.entries went.0 x went.2 h;
-      others = λ x ne has. restarted_others w n q x.state went.1 ne has;
+      others = λ x ne has. restarted_others w n q x.state step ne has;
     }

@@ -4,7 +4,7 @@ ghost use Rattle.messages.specs.declared.event.Event.TheVariants.{Declare, Resta
 ghost use Rattle.messages.specs.declared.refusal.Refused.{Refused};
 ghost use Rattle.messages.specs.Shapes.{ShapeFields};
 ghost use Rattle.cluster_core.specs.World.{first_world, journal_limit};
-ghost use Rattle.cluster_core.specs.Next.{is_known, next};
+ghost use Rattle.cluster_core.specs.Next.{is_known, next, kept_next};
 ghost use Rattle.cluster_core.specs.Parts.{world_state};
 ghost use Rattle.cluster_core.specs.Runs.{Leads};
 ghost use Rattle.cluster_core.specs.Journals.{RunFields, journal_of};
@@ -182,8 +182,8 @@ impl Book {
     /// declared; `NoMemory`. The book is then as it was.
     pub fn declare(&mut self, alloc: Global, node: u8) -> Result<Stamp, Refused>
         ensures ok { IfOk result (λ t. Declared self.old node self.new t) }
-        ensures err { IfErr result (λ e. e ≢ Refused.NoMemory → next (world_state self.old.world) (Declare node) ≡ Err e) }
-        ensures refused { (e : Refused) → next (world_state self.old.world) (Declare node) ≡ Err e → result ≡ Err e }
+        ensures err { IfErr result (λ e. e ≢ Refused.NoMemory → kept_next (world_state self.old.world) (Declare node) ≡ Err e) }
+        ensures refused { (e : Refused) → kept_next (world_state self.old.world) (Declare node) ≡ Err e → result ≡ Err e }
         ensures unchanged { OnErr result (self.new ≡ self.old) }
     {
         self.run.take(alloc, Event::Declare { node })?;
@@ -200,8 +200,8 @@ impl Book {
     /// `TooManyRestarts` where it had 65,535 incarnations; `NoMemory`. The book is then as it was.
     pub fn restart(&mut self, alloc: Global, node: u8) -> Result<Seat, Refused>
         ensures ok { IfOk result (λ s. Restarted self.old node self.new s) }
-        ensures err { IfErr result (λ e. e ≢ Refused.NoMemory → next (world_state self.old.world) (Restart node) ≡ Err e) }
-        ensures refused { (e : Refused) → next (world_state self.old.world) (Restart node) ≡ Err e → result ≡ Err e }
+        ensures err { IfErr result (λ e. e ≢ Refused.NoMemory → kept_next (world_state self.old.world) (Restart node) ≡ Err e) }
+        ensures refused { (e : Refused) → kept_next (world_state self.old.world) (Restart node) ≡ Err e → result ≡ Err e }
         ensures unchanged { OnErr result (self.new ≡ self.old) }
     {
         let begun = self.run.restart(alloc, node)?;

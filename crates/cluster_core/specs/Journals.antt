@@ -1,11 +1,11 @@
 -- Journals, what a list of events comes to, and which entry is the first wrong one.
-use Rattle.std.specs.Prelude.{◌≡◌, ◌≢◌, ℕ, ◌+◌, List, [], ◌∷◌, ◌++◌, length, map, Ok, Err}
+use Rattle.std.specs.Prelude.{◌≡◌, ◌≢◌, ℕ, ◌+◌, ◌≤◌, List, [], ◌∷◌, ◌++◌, length, map, Ok, Err}
 use Rattle.messages.specs.Shapes.{ShapeFields, IsShape}
 use Rattle.messages.specs.declared.refusal.Refused.{Refused}
 use Rattle.messages.specs.declared.event.Event.{Event}
 use Rattle.messages.specs.declared.entry.Entry.{Entry}
-use Rattle.cluster_core.specs.World.{WorldState, first_world}
-use Rattle.cluster_core.specs.Next.{next}
+use Rattle.cluster_core.specs.World.{WorldState, first_world, journal_limit}
+use Rattle.cluster_core.specs.Next.{next, kept_next}
 use Rattle.cluster_core.specs.Parts.{WorldParts, world_state}
 use Rattle.cluster_core.specs.Runs.{Leads, IsRun}
 
@@ -14,10 +14,11 @@ pub record JournalFields : Type 0 where
   pub shape : ShapeFields
   pub entries : List Entry
 
--- the shape is served, and the entries are a run
+-- the shape is served, and the entries are a run, no longer than a journal may be
 pub record IsJournal (j : JournalFields) : Type 0 where
   pub served : IsShape j.shape
   pub run : IsRun j.shape j.entries
+  pub few : length j.entries ≤ journal_limit
 
 abbrev pub events_of : List Entry → List Event
 events_of es = map (λ e. e.event) es
@@ -30,7 +31,7 @@ pub record IsFirstRefusal (shape : ShapeFields) (events : List Event) (refusal :
   pub event : Event
   pub rest : List Event
   pub in_order : events ≡ events_of done ++ event ∷ rest
-  pub refused : next world event ≡ Err refusal
+  pub refused : kept_next world event ≡ Err refusal
 
 -- the entries before that position, from 1, lead to a world from which the one there is not the next: its event is refused, or makes another
 pub record IsFirstWrong (shape : ShapeFields) (entries : List Entry) (position : ℕ) : Type 0 where
@@ -52,14 +53,15 @@ pub record RunFields : Type 0 where
   pub world : WorldParts
   pub entries : List Entry
 
--- the shape is served, and the entries lead from the first world to this one
+-- the shape is served, and the entries, no more than a journal may have, lead from the first world to this one
 pub record LeadsToItsWorld (r : RunFields) : Type 0 where
   pub served : IsShape r.world.shape
+  pub few : r.world.length ≤ journal_limit
   pub leads : Leads (first_world r.world.shape) r.entries (world_state r.world)
 
 -- the run goes on by the event: its world steps, and the entry comes last
 abbrev pub GoesOn : RunFields → Event → RunFields → Type 0
-GoesOn r event s = (e : Entry) × (next (world_state r.world) event ≡ Ok (world_state s.world, e)) × (s.entries ≡ r.entries ++ e ∷ [])
+GoesOn r event s = (e : Entry) × (kept_next (world_state r.world) event ≡ Ok (world_state s.world, e)) × (s.entries ≡ r.entries ++ e ∷ [])
 
 abbrev pub journal_of : RunFields → JournalFields
 journal_of r = record { shape = r.world.shape; entries = r.entries }

@@ -114,10 +114,13 @@ taken w (Declare n) = declare_rule w n
 taken w (Restart n) = restart_rule w n
 taken w (Learn file n incarnation) = after_server w (Learn file n incarnation) file (server_rule (w.servers file) (server.Learn n incarnation))
 
--- the world after the event and the entry that it makes, or the first of its refusals: a full journal, a stranger, a step of a node that was declared failed, and then those of the step
+-- the world after the event and the entry that it makes, or the first of its refusals: a stranger, a step of a node that was declared failed, and then those of the step
 abbrev pub next : WorldState → Event → Result (WorldState × Entry) Refused
 next w event =
-    if nat_le journal_limit w.length then Err JournalFull
-    else (if not (is_known w event) then Err Stranger
+    if not (is_known w event) then Err Stranger
     else (if is_fenced w event then Err Fenced
-    else taken w event))
+    else taken w event)
+
+-- the same at what keeps a journal, which refuses each event once it is full
+abbrev pub kept_next : WorldState → Event → Result (WorldState × Entry) Refused
+kept_next w event = if nat_le journal_limit w.length then Err JournalFull else next w event

@@ -1,5 +1,5 @@
 //! Journals of runs.
-ghost use Rattle.std.specs.Prelude.{◌≡◌, ◌≢◌, ◌↔◌, ◌<◌, ℕ, true, false, Ok, length, IfOk, IfErr, OnOk, IsErrOf, IsOkUnless};
+ghost use Rattle.std.specs.Prelude.{◌≡◌, ◌≢◌, ◌↔◌, ◌<◌, ◌≤◌, ℕ, true, false, Ok, length, IfOk, IfErr, OnOk, IsErrOf, IsOkUnless};
 ghost use Rattle.messages.specs.declared.refusal.Refused.TheVariants.{NoMemory};
 ghost use Rattle.messages.specs.Shapes.{IsShape};
 ghost use Rattle.cluster_core.specs.Runs.{IsRun};
@@ -42,10 +42,11 @@ impl Model for Journal {
 }
 
 impl Journal {
-    /// The journal of these entries, which are a run.
+    /// The journal of these entries, which are a run, no longer than a journal may be.
     pub(crate) fn of_run(shape: Shape, entries: Vec<Entry>) -> Journal
         requires served { IsShape shape }
         requires run { IsRun shape entries.items }
+        requires few { length entries.items ≤ journal_limit }
         ensures { result ≡ record { shape = shape; entries = entries.items } }
     {
         Journal { shape, entries }
@@ -69,8 +70,8 @@ impl Journal {
         ensures numbers { OnOk result (LeadsToNumbers shape entries.items) }
         ensures evidence { OnOk result (DenialsHaveEvidence shape entries.items) }
 
-        // A run is refused only for want of memory.
-        ensures accepted { IsRun shape entries.items → IsOkUnless result CheckError.NoMemory }
+        // A run of no more entries than a journal may have is refused only for want of memory.
+        ensures accepted { IsRun shape entries.items → length entries.items ≤ journal_limit → IsOkUnless result CheckError.NoMemory }
         ensures full { IsErrOf result CheckError.JournalFull ↔ (journal_limit < length entries.items) }
         ensures wrong { (position : ℕ) → IsErrOf result (CheckError.NotARun position) → IsFirstWrong shape entries.items position }
     {
@@ -99,6 +100,7 @@ impl Journal {
     pub fn entries(&self) -> &[Entry]
         ensures value { result.now ≡ self.now.entries }
         ensures run { IsRun self.now.shape self.now.entries }
+        ensures few { length self.now.entries ≤ journal_limit }
         ensures safe { LeadsToSafe self.now.shape self.now.entries }
     {
         self.entries.as_slice()
@@ -113,13 +115,15 @@ impl Journal {
 }
 
 /// Whether the entry is the next step: its event happens in the world, and makes this entry. Then the
-/// world has made the step. Else it may have made another, and is of no use any more.
+/// world has made the step. Else it may have made another, and is of no use any more. No entry comes next
+/// where the world has as many as a journal may have.
 ///
 /// # Errors
 /// `NoMemory` where a request for memory was refused.
 pub fn comes_next(world: &mut World, alloc: Global, entry: &Entry) -> Result<bool, NoRoom>
     ensures made { IfOk result (λ same. same ≡ true → next (world_state world.old) entry.now.event ≡ Ok (world_state world.new, entry.now)) }
-    ensures other { IfOk result (λ same. same ≡ false → (v : WorldState) → next (world_state world.old) entry.now.event ≢ Ok (v, entry.now)) }
+    ensures room { IfOk result (λ same. same ≡ true → world.old.length < journal_limit) }
+    ensures other { IfOk result (λ same. same ≡ false → world.old.length < journal_limit → (v : WorldState) → next (world_state world.old) entry.now.event ≢ Ok (v, entry.now)) }
 {
     match world.step(alloc, entry.event()) {
         Ok(made) => Ok(made.same(entry)),

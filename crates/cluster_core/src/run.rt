@@ -5,7 +5,7 @@ ghost use Rattle.messages.specs.declared.refusal.Refused.{Refused};
 ghost use Rattle.messages.specs.declared.refusal.Refused.TheVariants.{NoMemory};
 ghost use Rattle.messages.specs.Shapes.{IsShape};
 ghost use Rattle.cluster_core.specs.World.{first_world};
-ghost use Rattle.cluster_core.specs.Next.{next};
+ghost use Rattle.cluster_core.specs.Next.{kept_next};
 ghost use Rattle.cluster_core.specs.Parts.{world_state};
 ghost use Rattle.cluster_core.specs.Runs.{Leads};
 ghost use Rattle.cluster_core.specs.Journals.{journal_of, GoesOn};
@@ -65,10 +65,10 @@ impl Run {
     /// Those of `World::step`. The run is then as it was.
     pub fn take(&mut self, alloc: Global, event: Event) -> Result<(), Refused>
         ensures ok { OnOk result (GoesOn self.old event self.new) }
-        ensures err { IfErr result (λ e. e ≢ NoMemory → next (world_state self.old.world) event ≡ Err e) }
+        ensures err { IfErr result (λ e. e ≢ NoMemory → kept_next (world_state self.old.world) event ≡ Err e) }
 
         // Want of memory never stands in the place of a refusal, but of `Spent`.
-        ensures refused { (e : Refused) → e ≢ Refused.Spent → next (world_state self.old.world) event ≡ Err e → result ≡ Err e }
+        ensures refused { (e : Refused) → e ≢ Refused.Spent → kept_next (world_state self.old.world) event ≡ Err e → result ≡ Err e }
         ensures unchanged { OnErr result (self.new ≡ self.old) }
     {
         let change = self.world.plan(alloc, &event)?;

@@ -14,7 +14,7 @@ ghost use Rattle.token_server.specs.Server.{server_rule};
 ghost use Rattle.token_server.specs.Parts.{ServerParts, server_state};
 ghost use Rattle.token_server.specs.Edits.{planned, Fits as ServerFits};
 ghost use Rattle.cluster_core.specs.World.{WorldState, journal_limit, was_declared, first_world};
-ghost use Rattle.cluster_core.specs.Next.{is_known, is_fenced, has_actor, declare_rule, restart_rule, named_incarnation, after_node, after_server, taken, next};
+ghost use Rattle.cluster_core.specs.Next.{is_known, is_fenced, has_actor, declare_rule, restart_rule, named_incarnation, after_node, after_server, taken, next, kept_next};
 ghost use Rattle.cluster_core.specs.Parts.{world_state, IsStepOf, IsServerStepOf, IsTakenByNode, IsRest};
 ghost use Rattle.cluster_core.specs.Changes.{IsNodeChange, IsServerChange, IsRestart, Makes, Plans};
 ghost use Rattle.messages.specs.declared.event.Event.TheVariants as event;
@@ -410,8 +410,8 @@ impl World {
     /// Those of `step`.
     pub(crate) fn plan(&self, alloc: Global, event: &Event) -> Result<Change, Refused>
         ensures ok { IfOk result (λ change. Plans self.now event.now change) }
-        ensures err { IfErr result (λ e. e ≢ NoMemory → next (world_state self.now) event.now ≡ Err e) }
-        ensures refused { (e : Refused) → e ≢ Refused.Spent → next (world_state self.now) event.now ≡ Err e → result ≡ Err e }
+        ensures err { IfErr result (λ e. e ≢ NoMemory → kept_next (world_state self.now) event.now ≡ Err e) }
+        ensures refused { (e : Refused) → e ≢ Refused.Spent → kept_next (world_state self.now) event.now ≡ Err e → result ≡ Err e }
     {
         if self.length >= JOURNAL_LIMIT {
             return Err(Refused::JournalFull);
@@ -531,10 +531,11 @@ impl World {
     /// then as it was.
     pub fn step(&mut self, alloc: Global, event: Event) -> Result<Entry, Refused>
         ensures ok { IfOk result (λ entry. next (world_state self.old) event ≡ Ok (world_state self.new, entry)) }
-        ensures err { IfErr result (λ e. e ≢ NoMemory → next (world_state self.old) event ≡ Err e) }
+        ensures room { OnOk result (self.old.length < journal_limit) }
+        ensures err { IfErr result (λ e. e ≢ NoMemory → kept_next (world_state self.old) event ≡ Err e) }
 
         // Want of memory never stands in the place of a refusal, but of `Spent`.
-        ensures refused { (e : Refused) → e ≢ Refused.Spent → next (world_state self.old) event ≡ Err e → result ≡ Err e }
+        ensures refused { (e : Refused) → e ≢ Refused.Spent → kept_next (world_state self.old) event ≡ Err e → result ≡ Err e }
         ensures unchanged { OnErr result (self.new ≡ self.old) }
     {
         let change = self.plan(alloc, &event)?;
@@ -550,7 +551,8 @@ impl World {
 
     // The event of an entry of a run happens again: only memory can be refused.
     fn repeat(&mut self, alloc: Global, entry: &Entry) -> Result<(), NoRoom>
-        requires { (v : WorldState) × (next (world_state self.old) entry.now.event ≡ Ok (v, entry.now)) }
+        requires room { self.old.length < journal_limit }
+        requires made { (v : WorldState) × (next (world_state self.old) entry.now.event ≡ Ok (v, entry.now)) }
         ensures { OnOk result (next (world_state self.old) entry.now.event ≡ Ok (world_state self.new, entry.now)) }
     {
         let Err(refusal) = self.step(alloc, entry.event()) else {

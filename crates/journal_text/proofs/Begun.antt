@@ -6,8 +6,8 @@ use Rattle.std.proofs.lemmas.List.{append-nil, map-append}
 use Rattle.std.proofs.lemmas.List.Elements.{All-cons, All-head, All-nil, All-push, All-tail}
 use Rattle.model.specs.declared.policy.Policy.TheVariants.{Wide}
 use Rattle.messages.specs.Shapes.{IsShape, ShapeFields}
-use Rattle.lockscript.specs.LineFeeds.{line_feed, line_feeds, BeginsWithLine}
-use Rattle.lockscript.specs.Reads.{Reads}
+use Rattle.texts.specs.LineFeeds.{line_feed, line_feeds, BeginsWithLine}
+use Rattle.texts.specs.Reads.{Reads}
 use Rattle.lockscript.proofs.Passes.{IsSingle, ended}
 use Rattle.journal_text.specs.declared.lines.JournalLine.{JournalLine}
 use Rattle.journal_text.specs.declared.lines.JournalLine.TheVariants.{End}

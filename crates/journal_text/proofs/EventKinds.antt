@@ -5,15 +5,16 @@ use Rattle.model.specs.declared.call.CallId.{CallId}
 use Rattle.model.specs.declared.host.Host.{Host}
 use Rattle.model.specs.declared.op.Op.{Op}
 use Rattle.messages.specs.declared.message.Message.{Message}
-use Rattle.lockscript.specs.Layout.{space}
-use Rattle.lockscript.specs.Reads.{Both, IsOneField, Lacks, Reads, pair_text}
+use Rattle.texts.specs.Layout.{space}
+use Rattle.texts.specs.Reads.{Both, IsOneField, Lacks, Reads, pair_text}
 use Rattle.lockscript.specs.Served.{IsServedOp}
 use Rattle.lockscript.specs.Texts.{call_text, op_text}
-use Rattle.lockscript.proofs.FieldValues.{apart-number}
-use Rattle.lockscript.proofs.Fronts.{Kinds, apart-kinds, kind_in}
+use Rattle.texts.proofs.FieldValues.{apart-number}
+use Rattle.journal_text.proofs.Fronts.{Kinds, apart-kinds, kind_in}
 use Rattle.lockscript.proofs.OperationKinds.{apart-op}
-use Rattle.lockscript.proofs.Pairs.{AreApart, apart-pair}
-use Rattle.lockscript.proofs.SingleWords.{file_words, first-word, one-word, pid_words}
+use Rattle.texts.proofs.Pairs.{AreApart, apart-pair}
+use Rattle.lockscript.proofs.SingleWords.{file_words, pid_words}
+use Rattle.texts.proofs.SingleWords.{first-word, one-word}
 use Rattle.journal_text.specs.declared.named_event.NamedEvent.{NamedEvent}
 use Rattle.journal_text.specs.declared.named_event.NamedEvent.TheVariants.{Call, Deliver, Interrupt, Retry, Resend, Declare, Restart, Learn}
 use Rattle.journal_text.specs.Events.{IsServedEvent, named_text}

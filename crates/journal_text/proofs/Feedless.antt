@@ -10,16 +10,17 @@ use Rattle.model.specs.declared.policy.Policy.TheVariants.{Wide, Exact}
 use Rattle.model.specs.Limits.{IsCall, IsNumber, IsOwner, most_nodes, most_of, most_processes}
 use Rattle.messages.specs.Shapes.{IsShape, most_files}
 use Rattle.messages.specs.declared.message.Urgency.TheVariants.{Now, Waits}
-use Rattle.lockscript.specs.LineFeeds.{line_feed}
-use Rattle.lockscript.specs.Layout.{space}
-use Rattle.lockscript.specs.Reads.{Both, Lacks, after_text, joined_text, pair_text}
+use Rattle.texts.specs.LineFeeds.{line_feed}
+use Rattle.texts.specs.Layout.{space}
+use Rattle.texts.specs.Reads.{Both, Lacks, after_text, joined_text, pair_text}
 use Rattle.lockscript.specs.Scripts.{counts_text}
 use Rattle.lockscript.specs.Served.{AreOffsets, IsAskedLock, IsDescriptor}
-use Rattle.lockscript.specs.Texts.{access_text, asked_lock_text, call_text, kind_text, lock_text, mode_text, owner_text, policy_text, segment_text}
+use Rattle.lockscript.specs.Texts.{asked_lock_text, call_text, lock_text, owner_text, segment_text}
+use Rattle.texts.specs.Words.{access_text, kind_text, mode_text, policy_text}
 use Rattle.lockscript.proofs.Clusters.{IsCounts, counts-fit, counts-parts, counts_of, parts_text}
-use Rattle.lockscript.proofs.Fronts.{Kinds}
-use Rattle.lockscript.proofs.Pairs.{AllLack}
-use Rattle.lockscript.proofs.SingleWords.{decimal-lacks, lacks-tested}
+use Rattle.journal_text.proofs.Fronts.{Kinds}
+use Rattle.texts.proofs.Pairs.{AllLack}
+use Rattle.texts.proofs.SingleWords.{decimal-lacks, lacks-tested}
 use Rattle.journal_text.specs.Journals.{head_text}
 use Rattle.journal_text.specs.Parts.{AreCounted, AreNumbered, AreOffsetsAndOwner, IsOffset, at_sign, counted_text, dot, numbered_text, offset_and_owner_text, offset_and_span_text, offsets_and_owner_text}
 use Rattle.journal_text.specs.Served.{AreServedWants, IsCommandNumber, IsFile, IsHolder, IsServedLock, IsServedSpan}

@@ -1,11 +1,11 @@
 -- No event's text has a line feed.
 use Rattle.std.proofs.Common.{refl, decimal}
 use Rattle.model.specs.Limits.{IsCall, IsNumber, most_processes}
-use Rattle.lockscript.specs.LineFeeds.{line_feed}
-use Rattle.lockscript.specs.Reads.{Both, Lacks, pair_text}
+use Rattle.texts.specs.LineFeeds.{line_feed}
+use Rattle.texts.specs.Reads.{Both, Lacks, pair_text}
 use Rattle.lockscript.specs.Served.{IsServedOp}
 use Rattle.lockscript.specs.Texts.{call_text, op_text}
-use Rattle.lockscript.proofs.SingleWords.{lacks-tested}
+use Rattle.texts.proofs.SingleWords.{lacks-tested}
 use Rattle.journal_text.specs.Events.{IsServedEvent, named_text}
 use Rattle.journal_text.specs.Served.{IsFile, IsHolder}
 use Rattle.journal_text.specs.Texts.{holder_text}

@@ -2,12 +2,12 @@
 use Rattle.std.proofs.Common.{refl, arith, decimal}
 use Rattle.model.specs.Limits.{IsCall}
 use Rattle.messages.specs.Shapes.{IsShape, ShapeFields}
-use Rattle.lockscript.specs.LineFeeds.{line_feed}
-use Rattle.lockscript.specs.Reads.{Lacks}
+use Rattle.texts.specs.LineFeeds.{line_feed}
+use Rattle.texts.specs.Reads.{Lacks}
 use Rattle.lockscript.specs.Texts.{call_text, reply_text}
 use Rattle.lockscript.proofs.Feeds.{none_is-line_feeds}
 use Rattle.lockscript.proofs.Passes.{IsSingle}
-use Rattle.lockscript.proofs.SingleWords.{lacks-tested}
+use Rattle.texts.proofs.SingleWords.{lacks-tested}
 use Rattle.journal_text.specs.declared.lines.JournalLine.{JournalLine}
 use Rattle.journal_text.specs.Events.{IsServedEvent, named_text}
 use Rattle.journal_text.specs.Journals.{head_text}

@@ -2,10 +2,11 @@
 use Rattle.std.proofs.Common.{refl, decimal}
 use Rattle.std.specs.Prelude.{⊤}
 use Rattle.model.specs.Limits.{IsCall}
-use Rattle.lockscript.specs.LineFeeds.{line_feed}
-use Rattle.lockscript.specs.Reads.{Both, Lacks, pair_text}
-use Rattle.lockscript.specs.Texts.{call_text, lock_text, mode_text}
-use Rattle.lockscript.proofs.SingleWords.{lacks-tested}
+use Rattle.texts.specs.LineFeeds.{line_feed}
+use Rattle.texts.specs.Reads.{Both, Lacks, pair_text}
+use Rattle.lockscript.specs.Texts.{call_text, lock_text}
+use Rattle.texts.specs.Words.{mode_text}
+use Rattle.texts.proofs.SingleWords.{lacks-tested}
 use Rattle.journal_text.specs.Served.{AreServedWants, IsCommandNumber, IsFile, IsHolder, IsServedLock, IsServedMessage, IsServedSpan}
 use Rattle.journal_text.specs.Texts.{holder_text, message_text, span_text, urgency_text, wants_text}
 use Rattle.journal_text.proofs.Feedless.{HasNone, commands, files, holders, modes, named_calls, of_kinds, pair, served_locks, served_spans, served_wants, urgencies}

@@ -1,9 +1,9 @@
 -- No reply's text has a line feed.
 use Rattle.std.proofs.Common.{refl}
-use Rattle.lockscript.specs.LineFeeds.{line_feed}
-use Rattle.lockscript.specs.Reads.{Lacks}
+use Rattle.texts.specs.LineFeeds.{line_feed}
+use Rattle.texts.specs.Reads.{Lacks}
 use Rattle.lockscript.specs.Texts.{reply_text}
-use Rattle.lockscript.proofs.SingleWords.{lacks-tested}
+use Rattle.texts.proofs.SingleWords.{lacks-tested}
 use Rattle.journal_text.specs.Served.{IsServedReply}
 use Rattle.journal_text.proofs.Feedless.{HasNone, fds, nothing, of_kinds, served_locks}
 use Rattle.journal_text.proofs.ReplyKinds.{Fit, ReplyKind, front, replies, rest}

@@ -1,3 +1,4 @@
+pub mod Fronts
 pub mod Views
 pub mod Names
 pub mod SpanParts
@@ -20,3 +21,4 @@ pub mod FeedlessLines
 pub mod Printed
 pub mod OneReading
 pub mod Limits
+pub mod Writes

@@ -1,5 +1,5 @@
 -- The entries of a run are within the limits of a journal's text, where they fit their types.
-use Rattle.std.proofs.Common.{◌≡◌, ℕ, ◌+◌, ◌≤◌, true, List, [], ◌∷◌, ◌++◌, length, map, Option, Some, None, Ok, refl, sym, ap, subst, ◌∙◌, arith}
+use Rattle.std.proofs.Common.{◌≡◌, ℕ, ◌+◌, ◌≤◌, true, List, [], ◌∷◌, ◌++◌, length, map, Option, Some, None, refl, sym, ap, subst, ◌∙◌, arith}
 use Rattle.std.specs.Prelude.{◌&&◌, IfSome, nat_le}
 use Rattle.std.specs.List.{All}
 use Rattle.std.proofs.lemmas.Bool.{and_parts}
@@ -12,20 +12,18 @@ use Rattle.model.specs.declared.op.Op.TheVariants as op
 use Rattle.model.specs.declared.reply.Reply.{Reply}
 use Rattle.model.specs.Limits.{IsCall, IsHost, IsNumber, most_nodes, most_processes}
 use Rattle.messages.specs.Entries.{EntryFields, NamesItsCall, NamesItsIncarnation}
-use Rattle.messages.specs.Messages.{addressee, is_among, is_within}
+use Rattle.messages.specs.Messages.{is_within}
 use Rattle.messages.specs.Shapes.{IsShape, ShapeFields, most_files}
 use Rattle.messages.specs.declared.event.Event.{Event}
 use Rattle.messages.specs.declared.event.Event.TheVariants as event
 use Rattle.messages.specs.declared.message.Message.{Message}
 use Rattle.node_core.specs.Calls.{is_in_shape, is_pid}
-use Rattle.cluster_core.specs.Next.{has_actor, is_known, next}
+use Rattle.cluster_core.specs.Next.{is_known}
 use Rattle.cluster_core.specs.Runs.{IsRun, Leads}
 use Rattle.cluster_core.specs.World.{WorldState, first_world, has_file, has_node, journal_limit, was_declared}
-use Rattle.cluster_core.proofs.common.Lengths.{run-length}
 use Rattle.cluster_core.proofs.runs.JournalRuns.{leads_shape}
 use Rattle.cluster_core.proofs.steps.Steps.{next_taken}
 use Rattle.lockscript.specs.Served.{IsServedOp}
-use Rattle.journal_text.specs.declared.lines.JournalLine.{JournalLine}
 use Rattle.journal_text.specs.declared.lines.JournalLine.TheVariants.{Answer, End, Entry, Send}
 use Rattle.journal_text.specs.declared.named_entry.NamedEntry.{NamedEntry}
 use Rattle.journal_text.specs.declared.named_event.NamedEvent.{NamedEvent}
@@ -33,9 +31,9 @@ use Rattle.journal_text.specs.declared.named_event.NamedEvent.TheVariants as nam
 use Rattle.journal_text.specs.Events.{IsServedEvent, call_of, event_of, incarnation_of}
 use Rattle.journal_text.specs.Fits.{FitsEntry, FitsEvent, FitsIncarnation, FitsOp, IsServedAnswer}
 use Rattle.journal_text.specs.Journals.{journal_text}
-use Rattle.journal_text.specs.Lines.{IsPosition, IsServedLine}
+use Rattle.journal_text.specs.Lines.{IsServedLine}
 use Rattle.journal_text.specs.OneText.{IsServedJournal}
-use Rattle.journal_text.specs.Readings.{WritesJournal, answer_lines, body_lines, entry_in, entry_lines, lines_of}
+use Rattle.journal_text.specs.Readings.{WritesJournal, answer_lines, entry_in, entry_lines, lines_of}
 use Rattle.journal_text.specs.Served.{IsServedMessage}
 use Rattle.journal_text.proofs.Printed.{read-printed}
 
@@ -175,7 +173,6 @@ entries-served s es shape few good =
     }
 
 -- what is printed of a run is read as that run
-pub read-run : (s : ShapeFields) (es : List EntryFields) → IsShape s → IsRun s es → All FitsEntry es → WritesJournal (journal_text s es) s es
-read-run s es shape run fits =
-    let few = run-length s es run in
+pub read-run : (s : ShapeFields) (es : List EntryFields) → IsShape s → length es ≤ journal_limit → IsRun s es → All FitsEntry es → WritesJournal (journal_text s es) s es
+read-run s es shape few run fits =
     read-printed s es (entries-served s es shape (omega (arith, few)) (leads-served (first_world s) run.0 es shape run.1 fits))

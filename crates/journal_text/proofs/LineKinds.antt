@@ -5,13 +5,13 @@ use Rattle.model.specs.Limits.{IsCall}
 use Rattle.model.specs.declared.call.CallId.{CallId}
 use Rattle.model.specs.declared.reply.Reply.{Reply}
 use Rattle.messages.specs.declared.message.Message.{Message}
-use Rattle.lockscript.specs.Layout.{space}
-use Rattle.lockscript.specs.Reads.{Both, IsOneField, Lacks, Reads, pair_text}
+use Rattle.texts.specs.Layout.{space}
+use Rattle.texts.specs.Reads.{Both, IsOneField, Lacks, Reads, pair_text}
 use Rattle.lockscript.specs.Texts.{call_text, reply_text}
-use Rattle.lockscript.proofs.FieldValues.{apart-number}
-use Rattle.lockscript.proofs.Fronts.{Kinds, apart-kinds, kind_in}
-use Rattle.lockscript.proofs.Pairs.{AreApart, AreWords, apart-pair}
-use Rattle.lockscript.proofs.SingleWords.{Lacks-decimal, first-word, one-word}
+use Rattle.texts.proofs.FieldValues.{apart-number}
+use Rattle.journal_text.proofs.Fronts.{Kinds, apart-kinds, kind_in}
+use Rattle.texts.proofs.Pairs.{AreApart, AreWords, apart-pair}
+use Rattle.texts.proofs.SingleWords.{Lacks-decimal, first-word, one-word}
 use Rattle.journal_text.specs.declared.named_event.NamedEvent.{NamedEvent}
 use Rattle.journal_text.specs.declared.lines.JournalLine.{JournalLine}
 use Rattle.journal_text.specs.declared.lines.JournalLine.TheVariants.{Entry, Answer, Send, End}

@@ -11,13 +11,15 @@ use Rattle.messages.specs.Wants.{Wants}
 use Rattle.messages.specs.declared.message.Message.{Message}
 use Rattle.messages.specs.declared.message.Message.TheVariants.{Request, Grant, Revoke, Taken, Released, Conflict, Deny, Freed}
 use Rattle.messages.specs.declared.message.Urgency.{Urgency}
-use Rattle.lockscript.specs.Layout.{space}
-use Rattle.lockscript.specs.Reads.{Both, IsOneField, Lacks, Reads, pair_text}
-use Rattle.lockscript.specs.Texts.{call_text, lock_text, mode_text}
-use Rattle.lockscript.proofs.FieldValues.{apart-mode, apart-number}
-use Rattle.lockscript.proofs.Fronts.{Kinds, apart-kinds, kind_in}
-use Rattle.lockscript.proofs.Pairs.{AreApart, apart-pair}
-use Rattle.lockscript.proofs.SingleWords.{file_words, first-word, message_words, mode_words, one-word}
+use Rattle.texts.specs.Layout.{space}
+use Rattle.texts.specs.Reads.{Both, IsOneField, Lacks, Reads, pair_text}
+use Rattle.lockscript.specs.Texts.{call_text, lock_text}
+use Rattle.texts.specs.Words.{mode_text}
+use Rattle.texts.proofs.FieldValues.{apart-mode, apart-number}
+use Rattle.journal_text.proofs.Fronts.{Kinds, apart-kinds, kind_in}
+use Rattle.texts.proofs.Pairs.{AreApart, apart-pair}
+use Rattle.lockscript.proofs.SingleWords.{file_words, message_words}
+use Rattle.texts.proofs.SingleWords.{first-word, mode_words, one-word}
 use Rattle.journal_text.specs.Served.{AreServedWants, IsCommandNumber, IsFile, IsHolder, IsServedLock, IsServedMessage, IsServedSpan}
 use Rattle.journal_text.specs.Texts.{holder_text, message_text, span_text, urgency_text, wants_text}
 use Rattle.journal_text.proofs.Names.{apart-call, apart-holder}

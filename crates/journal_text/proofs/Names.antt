@@ -6,12 +6,12 @@ use Rattle.model.specs.declared.owner.Kind.{Kind}
 use Rattle.model.specs.declared.owner.Kind.TheVariants.{OfProcess, OfDescription}
 use Rattle.model.specs.declared.owner.Owner.{Owner}
 use Rattle.model.specs.Limits.{IsCall, IsNumber, IsOwner, most_nodes, most_of}
-use Rattle.lockscript.specs.Reads.{Reads}
+use Rattle.texts.specs.Reads.{Reads}
 use Rattle.lockscript.specs.Texts.{call_text, host_text, owner_letter, owner_text}
-use Rattle.lockscript.proofs.FieldValues.{apart-number}
-use Rattle.lockscript.proofs.Fronts.{Kinds, apart-kinds}
-use Rattle.lockscript.proofs.Pairs.{AllLack, AreApart, apart-joined}
-use Rattle.lockscript.proofs.SingleWords.{decimal-lacks}
+use Rattle.texts.proofs.FieldValues.{apart-number}
+use Rattle.journal_text.proofs.Fronts.{Kinds, apart-kinds}
+use Rattle.texts.proofs.Pairs.{AllLack, AreApart, apart-joined}
+use Rattle.texts.proofs.SingleWords.{decimal-lacks}
 use Rattle.journal_text.specs.Parts.{AreCallParts, AreCounted, AreNodeParts, AreNumbered, at_sign, call_parts_text, counted_text, dot, node_parts_text, numbered_text}
 use Rattle.journal_text.specs.Served.{IsCommandNumber, IsHolder}
 use Rattle.journal_text.specs.Texts.{holder_text}

@@ -8,12 +8,12 @@ use Rattle.model.specs.declared.reply.Reply.{Reply}
 use Rattle.messages.specs.Entries.{EntryFields}
 use Rattle.messages.specs.Shapes.{IsShape, ShapeFields}
 use Rattle.messages.specs.declared.message.Message.{Message}
-use Rattle.lockscript.specs.LineFeeds.{line_feed, BeginsWithLine}
+use Rattle.texts.specs.LineFeeds.{line_feed, BeginsWithLine}
 use Rattle.lockscript.specs.Scripts.{counts_text}
 use Rattle.lockscript.proofs.Clusters.{apart-shape}
 use Rattle.lockscript.proofs.Feeds.{line_feeds-line}
 use Rattle.lockscript.proofs.OneReading.{Further, begins-front, ends, further, line-same}
-use Rattle.lockscript.proofs.Pairs.{AreApart, cancel-front}
+use Rattle.texts.proofs.Pairs.{AreApart, cancel-front}
 use Rattle.lockscript.proofs.Passes.{IsSingle, ended}
 use Rattle.journal_text.specs.declared.lines.JournalLine.{JournalLine}
 use Rattle.journal_text.specs.declared.lines.JournalLine.TheVariants.{End, Send}

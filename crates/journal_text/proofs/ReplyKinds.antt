@@ -4,14 +4,14 @@ use Rattle.std.specs.Prelude.{⊤}
 use Rattle.model.specs.declared.lock_info.LockInfo.{LockInfo}
 use Rattle.model.specs.declared.reply.Reply.{Reply}
 use Rattle.model.specs.declared.reply.Reply.TheVariants.{Done, Fd, Again, Free, Blocked, Interrupted, NoProcess, Exists, BadFd, TooManyFiles, NoLocks, Invalid, Overflow}
-use Rattle.lockscript.specs.Layout.{space}
-use Rattle.lockscript.specs.Reads.{IsOneField, Lacks, Reads}
+use Rattle.texts.specs.Layout.{space}
+use Rattle.texts.specs.Reads.{IsOneField, Lacks, Reads}
 use Rattle.lockscript.specs.Served.{IsDescriptor}
 use Rattle.lockscript.specs.Texts.{lock_text, reply_text}
-use Rattle.lockscript.proofs.FieldValues.{apart-fd}
-use Rattle.lockscript.proofs.Fronts.{Kinds, apart-kinds, kind_in}
-use Rattle.lockscript.proofs.Pairs.{AreApart}
-use Rattle.lockscript.proofs.SingleWords.{first-word, not-one, one-word}
+use Rattle.texts.proofs.FieldValues.{apart-byte}
+use Rattle.journal_text.proofs.Fronts.{Kinds, apart-kinds, kind_in}
+use Rattle.texts.proofs.Pairs.{AreApart}
+use Rattle.texts.proofs.SingleWords.{first-word, not-one, one-word}
 use Rattle.journal_text.specs.Served.{IsServedLock, IsServedReply}
 use Rattle.journal_text.proofs.SpanParts.{apart-lock}
 
@@ -115,7 +115,7 @@ Fit overflows = λ _. ⊤
 
 apart-rest : (k : ReplyKind) → AreApart (rest k) (Fit k)
 apart-rest dones = λ p q p_fits q_fits e. refl
-apart-rest fds = apart-fd
+apart-rest fds = apart-byte
 apart-rest agains = apart-lock
 apart-rest frees = λ p q p_fits q_fits e. refl
 apart-rest blocks = apart-lock

@@ -8,11 +8,12 @@ use Rattle.model.specs.declared.mode.Mode.{Mode}
 use Rattle.model.specs.declared.owner.Owner.{Owner}
 use Rattle.model.specs.Limits.{IsOwner}
 use Rattle.messages.specs.Wants.{Wants}
-use Rattle.lockscript.specs.Reads.{Both}
-use Rattle.lockscript.specs.Texts.{lock_text, mode_text, owner_text}
-use Rattle.lockscript.proofs.FieldValues.{apart-mode}
-use Rattle.lockscript.proofs.Pairs.{AreApart, AreWords, apart-pair}
-use Rattle.lockscript.proofs.SingleWords.{Lacks-decimal, mode_words}
+use Rattle.texts.specs.Reads.{Both}
+use Rattle.lockscript.specs.Texts.{lock_text, owner_text}
+use Rattle.texts.specs.Words.{mode_text}
+use Rattle.texts.proofs.FieldValues.{apart-mode}
+use Rattle.texts.proofs.Pairs.{AreApart, AreWords, apart-pair}
+use Rattle.texts.proofs.SingleWords.{Lacks-decimal, mode_words}
 use Rattle.journal_text.specs.Parts.{AreLockParts, AreOffsets, AreOffsetsAndOwner, AreOffsetsAndSpan, IsOffset, lock_parts_text, offset_and_owner_text, offset_and_span_text, offsets_and_owner_text, offsets_and_span_text, offsets_text}
 use Rattle.journal_text.specs.Served.{AreServedWants, IsServedLock, IsServedSpan}
 use Rattle.journal_text.specs.Texts.{span_text, wants_text}

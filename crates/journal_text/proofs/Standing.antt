@@ -3,7 +3,7 @@ use Rattle.std.proofs.Common.{◌≡◌, ℕ, ◌+◌, List, [], length, map, re
 use Rattle.std.specs.Prelude.{◌≢◌}
 use Rattle.std.proofs.lemmas.List.{length-map}
 use Rattle.messages.specs.Shapes.{IsShape, ShapeFields}
-use Rattle.lockscript.specs.LineFeeds.{BeginsWithLine}
+use Rattle.texts.specs.LineFeeds.{BeginsWithLine}
 use Rattle.journal_text.specs.declared.error.JournalError.{JournalError}
 use Rattle.journal_text.specs.declared.error.JournalError.TheVariants.{NoMemory, BadLine}
 use Rattle.journal_text.specs.declared.lines.JournalLine.{JournalLine}

@@ -1,7 +1,7 @@
 -- What the next line of a journal is, or why it may not stand there.
 use Rattle.std.proofs.Common.{◌≡◌, List, ℕ, Option, Some, None, Result, Err, ok_or, sym, subst, ◌∙◌}
-use Rattle.lockscript.specs.LineFeeds.{BeginsWithLine}
-use Rattle.lockscript.specs.Reads.{Reads}
+use Rattle.texts.specs.LineFeeds.{BeginsWithLine}
+use Rattle.texts.specs.Reads.{Reads}
 use Rattle.journal_text.specs.declared.error.JournalError.{JournalError}
 use Rattle.journal_text.specs.declared.lines.JournalLine.{JournalLine}
 use Rattle.journal_text.specs.declared.place.Place.{Place}

@@ -1,7 +1,7 @@
 -- Values that are made of others, with the same texts.
 use Rattle.std.proofs.Common.{◌≡◌, ℕ, List, Some, None, sym, ◌∙◌}
-use Rattle.lockscript.specs.Reads.{Reads}
-use Rattle.lockscript.proofs.Pairs.{AreApart}
+use Rattle.texts.specs.Reads.{Reads}
+use Rattle.texts.proofs.Pairs.{AreApart}
 
 -- B's values are made of A's
 pub record Views (A B : Type 0) (f : A → List ℕ) (P : A → Type 0) (g : B → List ℕ) (Q : B → Type 0) : Type 0 where

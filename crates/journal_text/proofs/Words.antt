@@ -3,11 +3,11 @@ use Rattle.std.proofs.Common.{ℕ, zero, suc, List, [], ◌∷◌, ◌++◌, ref
 use Rattle.std.specs.Prelude.{⊤}
 use Rattle.model.specs.Limits.{IsCall}
 use Rattle.messages.specs.declared.message.Urgency.TheVariants.{Now, Waits}
-use Rattle.lockscript.specs.Layout.{space}
-use Rattle.lockscript.specs.Reads.{Lacks}
+use Rattle.texts.specs.Layout.{space}
+use Rattle.texts.specs.Reads.{Lacks}
 use Rattle.lockscript.specs.Texts.{call_text, host_text}
-use Rattle.lockscript.proofs.Pairs.{AreApart, AreWords, heads}
-use Rattle.lockscript.proofs.SingleWords.{Lacks-decimal, one-word}
+use Rattle.texts.proofs.Pairs.{AreApart, AreWords, heads}
+use Rattle.texts.proofs.SingleWords.{Lacks-decimal, one-word}
 use Rattle.journal_text.specs.Served.{IsHolder}
 use Rattle.journal_text.specs.Texts.{holder_text, urgency_text}
 

@@ -9,3 +9,4 @@ pub mod Places
 pub mod Readings
 pub mod Built
 pub mod OneText
+pub mod OneField

@@ -1,7 +1,7 @@
 -- Lines of journals behind the first.
 use Rattle.std.specs.Prelude.{ℕ, ◌≤◌, List, ◌++◌, codes, decimal}
 use Rattle.model.specs.Limits.{IsCall, IsNumber}
-use Rattle.lockscript.specs.Reads.{pair_text}
+use Rattle.texts.specs.Reads.{pair_text}
 use Rattle.lockscript.specs.Texts.{call_text, reply_text}
 use Rattle.journal_text.specs.declared.lines.JournalLine.{JournalLine}
 use Rattle.journal_text.specs.declared.lines.JournalLine.TheVariants.{Entry, Answer, Send, End}

@@ -5,8 +5,9 @@ use Rattle.model.specs.declared.host.Host.{Host}
 use Rattle.model.specs.declared.mode.Mode.{Mode}
 use Rattle.model.specs.declared.owner.Owner.{Owner}
 use Rattle.model.specs.Limits.{IsNumber, IsOwner, most_nodes}
-use Rattle.lockscript.specs.Reads.{Both, joined_text, pair_text}
-use Rattle.lockscript.specs.Texts.{mode_text, owner_text}
+use Rattle.texts.specs.Reads.{Both, joined_text, pair_text}
+use Rattle.lockscript.specs.Texts.{owner_text}
+use Rattle.texts.specs.Words.{mode_text}
 use Rattle.journal_text.specs.Served.{IsCommandNumber, IsHolder, IsServedSpan}
 use Rattle.journal_text.specs.Texts.{holder_text, span_text}
 

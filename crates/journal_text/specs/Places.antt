@@ -1,6 +1,6 @@
 -- Where a line of a journal may stand.
 use Rattle.std.specs.Prelude.{◌≡◌, ℕ, ◌+◌, ◌==◌, if◌then◌else◌, List, [], Option, Some, None}
-use Rattle.lockscript.specs.LineFeeds.{line_feeds, BeginsWithLine}
+use Rattle.texts.specs.LineFeeds.{line_feeds, BeginsWithLine}
 use Rattle.journal_text.specs.declared.lines.JournalLine.{JournalLine}
 use Rattle.journal_text.specs.declared.lines.JournalLine.TheVariants.{Entry, Answer, Send, End}
 use Rattle.journal_text.specs.declared.place.Phase.{Phase}

@@ -4,7 +4,7 @@ use Rattle.model.specs.declared.call.CallId.{CallId}
 use Rattle.model.specs.declared.reply.Reply.{Reply}
 use Rattle.messages.specs.Entries.{EntryFields}
 use Rattle.messages.specs.Shapes.{IsShape, ShapeFields}
-use Rattle.lockscript.specs.LineFeeds.{line_feed, line_feeds, BeginsWithLine}
+use Rattle.texts.specs.LineFeeds.{line_feed, line_feeds, BeginsWithLine}
 use Rattle.journal_text.specs.declared.error.JournalError.{JournalError}
 use Rattle.journal_text.specs.declared.error.JournalError.TheVariants.{NoMemory, BadLine}
 use Rattle.journal_text.specs.declared.named_entry.NamedEntry.{NamedEntry}

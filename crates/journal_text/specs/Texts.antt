@@ -10,8 +10,9 @@ use Rattle.messages.specs.declared.message.Message.{Message}
 use Rattle.messages.specs.declared.message.Message.TheVariants.{Request, Grant, Revoke, Taken, Released, Conflict, Deny, Freed}
 use Rattle.messages.specs.declared.message.Urgency.{Urgency}
 use Rattle.messages.specs.declared.message.Urgency.TheVariants.{Now, Waits}
-use Rattle.lockscript.specs.Reads.{pair_text}
-use Rattle.lockscript.specs.Texts.{call_text, host_text, lock_text, mode_text, op_text}
+use Rattle.texts.specs.Reads.{pair_text}
+use Rattle.lockscript.specs.Texts.{call_text, host_text, lock_text, op_text}
+use Rattle.texts.specs.Words.{mode_text}
 
 abbrev pub urgency_text : Urgency → List ℕ
 urgency_text Now = codes "now"

@@ -1,22 +1,15 @@
 //! Events from their texts.
-ghost use Rattle.std.specs.Prelude.{◌∷◌, ◌++◌, codes, decimal};
-ghost use Rattle.model.specs.Limits.{IsCall, IsNumber, most_processes};
-ghost use Rattle.lockscript.specs.Layout.{space};
-ghost use Rattle.lockscript.specs.Reads.{Both, Lacks, Reads, pair_text};
-ghost use Rattle.lockscript.specs.Served.{IsServedOp};
-ghost use Rattle.lockscript.specs.Texts.{call_text, op_text};
+ghost use Rattle.std.specs.Prelude.{◌∷◌, ◌++◌, codes};
+ghost use Rattle.texts.specs.Layout.{space};
+ghost use Rattle.texts.specs.Reads.{Lacks, Reads};
 ghost use Rattle.journal_text.specs.Events.{IsServedEvent, named_text};
-ghost use Rattle.journal_text.specs.Served.{IsFile, IsHolder};
-ghost use Rattle.journal_text.specs.Texts.{holder_text};
 
 use crate::message::message_of;
 use crate::named_event::NamedEvent;
-use crate::parts::{call_of, host_of};
-use lockscript::fields::{file_of, pid_of, split_field};
-use lockscript::operations::op_of;
-use model::call::CallId;
-use model::host::Host;
-use model::op::Op;
+use crate::operands::{CallFields, LearnFields, ProcessFields};
+use crate::parts::host_of;
+use lockscript::fields::FileField;
+use texts::text::{Text, split_field};
 
 /// The event that the text writes, with the names in it.
 pub fn event_of(text: &str) -> Option<NamedEvent>
@@ -50,7 +43,7 @@ fn event_with(word: &str, operands: &str) -> Option<NamedEvent>
 fn call_event(operands: &str) -> Option<NamedEvent>
     ensures { Reads named_text IsServedEvent (codes "call " ++ operands.now) result }
 {
-    let (call, (pid, op)) = call_operands(operands)?;
+    let (call, (pid, op)) = CallFields::read(operands)?;
     Some(NamedEvent::Call { call, pid, op })
 }
 
@@ -66,7 +59,7 @@ fn deliver_event(operands: &str) -> Option<NamedEvent>
 fn interrupt_event(operands: &str) -> Option<NamedEvent>
     ensures { Reads named_text IsServedEvent (codes "interrupt " ++ operands.now) result }
 {
-    let (host, pid) = host_and_pid(operands)?;
+    let (host, pid) = ProcessFields::read(operands)?;
     Some(NamedEvent::Interrupt { host, pid })
 }
 
@@ -74,7 +67,7 @@ fn interrupt_event(operands: &str) -> Option<NamedEvent>
 fn retry_event(operands: &str) -> Option<NamedEvent>
     ensures { Reads named_text IsServedEvent (codes "retry " ++ operands.now) result }
 {
-    let (host, pid) = host_and_pid(operands)?;
+    let (host, pid) = ProcessFields::read(operands)?;
     Some(NamedEvent::Retry { host, pid })
 }
 
@@ -82,7 +75,7 @@ fn retry_event(operands: &str) -> Option<NamedEvent>
 fn resend_event(operands: &str) -> Option<NamedEvent>
     ensures { Reads named_text IsServedEvent (codes "resend " ++ operands.now) result }
 {
-    let file = file_of(operands)?;
+    let file = FileField::read(operands)?;
     Some(NamedEvent::Resend { file })
 }
 
@@ -106,46 +99,6 @@ fn restart_event(operands: &str) -> Option<NamedEvent>
 fn learn_event(operands: &str) -> Option<NamedEvent>
     ensures { Reads named_text IsServedEvent (codes "learn " ++ operands.now) result }
 {
-    let (file, host) = learn_operands(operands)?;
+    let (file, host) = LearnFields::read(operands)?;
     Some(NamedEvent::Learn { file, host })
-}
-
-// `CALL PID OP`.
-fn call_operands(text: &str) -> Option<(CallId, (u16, Op))>
-    ensures { Reads (pair_text call_text (pair_text decimal op_text)) (Both IsCall (Both (IsNumber most_processes) IsServedOp)) text.now result }
-{
-    match split_field(text) {
-        Some((call, rest)) => call_of(call).zip(pid_and_op(rest)),
-        None => None,
-    }
-}
-
-// `PID OP`.
-fn pid_and_op(text: &str) -> Option<(u16, Op)>
-    ensures { Reads (pair_text decimal op_text) (Both (IsNumber most_processes) IsServedOp) text.now result }
-{
-    match split_field(text) {
-        Some((pid, op)) => pid_of(pid).zip(op_of(op)),
-        None => None,
-    }
-}
-
-// `N.I PID`.
-fn host_and_pid(text: &str) -> Option<(Host, u16)>
-    ensures { Reads (pair_text holder_text decimal) (Both IsHolder (IsNumber most_processes)) text.now result }
-{
-    match split_field(text) {
-        Some((host, pid)) => host_of(host).zip(pid_of(pid)),
-        None => None,
-    }
-}
-
-// `F N.I`.
-fn learn_operands(text: &str) -> Option<(u16, Host)>
-    ensures { Reads (pair_text decimal holder_text) (Both IsFile IsHolder) text.now result }
-{
-    match split_field(text) {
-        Some((file, host)) => file_of(file).zip(host_of(host)),
-        None => None,
-    }
 }

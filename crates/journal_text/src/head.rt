@@ -1,11 +1,11 @@
 //! The first line of a journal.
 ghost use Rattle.messages.specs.Shapes.{IsShape};
-ghost use Rattle.lockscript.specs.Reads.{Reads};
+ghost use Rattle.texts.specs.Reads.{Reads};
 ghost use Rattle.journal_text.specs.Journals.{head_text};
 
 use lockscript::cluster_line::shape_operands;
-use lockscript::fields::after;
 use messages::shape::Shape;
+use texts::text::after;
 
 /// The shape that `journal 1 nodes N files F policy P` names, if the line is that and such a cluster
 /// is served.

@@ -1,12 +1,12 @@
 //! Journals.
 ghost use Rattle.std.specs.Prelude.{◌≡◌, ◌++◌, codes, flat_map, reverse as reversed, string_bytes, IfOk, OnOk};
-ghost use Rattle.lockscript.specs.Texts.{policy_text};
+ghost use Rattle.texts.specs.Words.{policy_text};
 ghost use Rattle.journal_text.specs.Journals.{end_text, entries_text, entry_text, head_text, journal_text, reply_line, send_line};
 
-use crate::texts::{push_event, push_message};
+use crate::writing::{push_event, push_message};
 use cluster_core::journal::Journal;
 use intervals::span_map::NoMemory;
-use lockscript::texts::{push_call, push_reply};
+use lockscript::names::{push_call, push_reply};
 use messages::entry::Entry;
 use messages::message::Message;
 use messages::shape::Shape;

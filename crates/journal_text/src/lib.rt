@@ -4,6 +4,7 @@
 mod builder;
 pub mod error;
 pub mod events;
+mod fields;
 mod fits;
 pub mod head;
 pub mod journal;
@@ -20,4 +21,4 @@ mod reader;
 pub mod replies;
 pub mod sink;
 mod spans;
-pub mod texts;
+pub mod writing;

@@ -1,22 +1,18 @@
 //! Lines of journals from their texts.
-ghost use Rattle.std.specs.Prelude.{◌∷◌, ◌++◌, codes, decimal};
-ghost use Rattle.model.specs.Limits.{IsCall};
-ghost use Rattle.lockscript.specs.Layout.{space};
-ghost use Rattle.lockscript.specs.Reads.{Both, Lacks, Reads, pair_text};
-ghost use Rattle.lockscript.specs.Texts.{call_text, reply_text};
-ghost use Rattle.journal_text.specs.Lines.{IsCount, IsServedLine, line_text};
-ghost use Rattle.journal_text.specs.Served.{IsServedReply};
+ghost use Rattle.std.specs.Prelude.{◌∷◌, ◌++◌, codes};
+ghost use Rattle.texts.specs.Layout.{space};
+ghost use Rattle.texts.specs.Reads.{Lacks, Reads};
+ghost use Rattle.journal_text.specs.Lines.{IsServedLine, line_text};
 
 use crate::events::event_of;
 use crate::message::message_of;
 use crate::named_event::NamedEvent;
-use crate::parts::{call_of, counted_of};
-use crate::replies::reply_of;
-use lockscript::fields::split_field;
-use lockscript::number::number_of;
+use crate::operands::AnswerFields;
+use crate::parts::Counted;
 use messages::message::Message;
 use model::call::CallId;
 use model::reply::Reply;
+use texts::text::{Text, split_field};
 
 /// A line of a journal behind the first.
 #[derive(Clone, Copy)]
@@ -30,9 +26,6 @@ pub enum JournalLine {
     /// The journal has so many entries.
     End { count: u32 },
 }
-
-/// The greatest number of entries.
-const GREATEST_COUNT: u64 = 4_294_967_295;
 
 /// What a line behind the first says.
 pub fn line_of(line: &str) -> Option<JournalLine>
@@ -73,7 +66,7 @@ fn entry_of(word: &str, rest: &str) -> Option<JournalLine>
     requires { Lacks space word.now }
     ensures { Reads line_text IsServedLine (codes "entry " ++ (word.now ++ space ∷ rest.now)) result }
 {
-    let position = counted_of(word)?;
+    let position = Counted::read(word)?;
     let event = event_of(rest)?;
     Some(JournalLine::Entry { position, event })
 }
@@ -82,7 +75,7 @@ fn entry_of(word: &str, rest: &str) -> Option<JournalLine>
 fn reply_line(operands: &str) -> Option<JournalLine>
     ensures { Reads line_text IsServedLine (codes "reply " ++ operands.now) result }
 {
-    let (call, reply) = reply_operands(operands)?;
+    let (call, reply) = AnswerFields::read(operands)?;
     Some(JournalLine::Answer { call, reply })
 }
 
@@ -98,26 +91,6 @@ fn send_line(operands: &str) -> Option<JournalLine>
 fn end_line(operands: &str) -> Option<JournalLine>
     ensures { Reads line_text IsServedLine (codes "end " ++ operands.now) result }
 {
-    let count = count_of(operands)?;
+    let count = u32::read(operands)?;
     Some(JournalLine::End { count })
-}
-
-// `CALL REPLY`.
-fn reply_operands(text: &str) -> Option<(CallId, Reply)>
-    ensures { Reads (pair_text call_text reply_text) (Both IsCall IsServedReply) text.now result }
-{
-    match split_field(text) {
-        Some((call, reply)) => call_of(call).zip(reply_of(reply)),
-        None => None,
-    }
-}
-
-// How many entries there are.
-fn count_of(word: &str) -> Option<u32>
-    ensures { Reads decimal IsCount word.now result }
-{
-    match number_of(word, 0, GREATEST_COUNT) {
-        Some(number) => Some(number as u32),
-        None => None,
-    }
 }

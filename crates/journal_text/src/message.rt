@@ -1,16 +1,16 @@
 //! Messages from their texts.
 ghost use Rattle.std.specs.Prelude.{◌∷◌, ◌++◌, codes};
-ghost use Rattle.lockscript.specs.Layout.{space};
-ghost use Rattle.lockscript.specs.Reads.{Lacks, Reads};
+ghost use Rattle.texts.specs.Layout.{space};
+ghost use Rattle.texts.specs.Reads.{Lacks, Reads};
 ghost use Rattle.journal_text.specs.Served.{IsServedMessage};
 ghost use Rattle.journal_text.specs.Texts.{message_text};
 
 use crate::operands::{
-    conflict_operands, deny_operands, freed_operands, grant_operands, released_operands,
-    request_operands, revoke_operands, taken_operands,
+    ConflictFields, DenyFields, FreedFields, GrantFields, ReleasedFields, RequestFields,
+    RevokeFields, TakenFields,
 };
-use lockscript::fields::split_field;
 use messages::message::Message;
+use texts::text::{Text, split_field};
 
 /// The message that the text writes.
 pub fn message_of(text: &str) -> Option<Message>
@@ -44,7 +44,7 @@ fn message_with(word: &str, operands: &str) -> Option<Message>
 fn request_of(operands: &str) -> Option<Message>
     ensures { Reads message_text IsServedMessage (codes "request " ++ operands.now) result }
 {
-    let (file, (call, (urgency, (mode, wanted)))) = request_operands(operands)?;
+    let (file, (call, (urgency, (mode, wanted)))) = RequestFields::read(operands)?;
     Some(Message::Request {
         file,
         call,
@@ -58,7 +58,7 @@ fn request_of(operands: &str) -> Option<Message>
 fn grant_of(operands: &str) -> Option<Message>
     ensures { Reads message_text IsServedMessage (codes "grant " ++ operands.now) result }
 {
-    let (file, (number, (call, (mode, span)))) = grant_operands(operands)?;
+    let (file, (number, (call, (mode, span)))) = GrantFields::read(operands)?;
     Some(Message::Grant {
         file,
         number,
@@ -72,7 +72,7 @@ fn grant_of(operands: &str) -> Option<Message>
 fn revoke_of(operands: &str) -> Option<Message>
     ensures { Reads message_text IsServedMessage (codes "revoke " ++ operands.now) result }
 {
-    let (file, (number, (holder, (call, (mode, wanted))))) = revoke_operands(operands)?;
+    let (file, (number, (holder, (call, (mode, wanted))))) = RevokeFields::read(operands)?;
     Some(Message::Revoke {
         file,
         number,
@@ -87,7 +87,7 @@ fn revoke_of(operands: &str) -> Option<Message>
 fn taken_of(operands: &str) -> Option<Message>
     ensures { Reads message_text IsServedMessage (codes "taken " ++ operands.now) result }
 {
-    let (file, (number, call)) = taken_operands(operands)?;
+    let (file, (number, call)) = TakenFields::read(operands)?;
     Some(Message::Taken { file, number, call })
 }
 
@@ -95,7 +95,7 @@ fn taken_of(operands: &str) -> Option<Message>
 fn released_of(operands: &str) -> Option<Message>
     ensures { Reads message_text IsServedMessage (codes "released " ++ operands.now) result }
 {
-    let (file, (number, (holder, (call, span)))) = released_operands(operands)?;
+    let (file, (number, (holder, (call, span)))) = ReleasedFields::read(operands)?;
     Some(Message::Released {
         file,
         number,
@@ -109,7 +109,7 @@ fn released_of(operands: &str) -> Option<Message>
 fn conflict_of(operands: &str) -> Option<Message>
     ensures { Reads message_text IsServedMessage (codes "conflict " ++ operands.now) result }
 {
-    let (file, (number, (holder, (call, lock)))) = conflict_operands(operands)?;
+    let (file, (number, (holder, (call, lock)))) = ConflictFields::read(operands)?;
     Some(Message::Conflict {
         file,
         number,
@@ -123,7 +123,7 @@ fn conflict_of(operands: &str) -> Option<Message>
 fn deny_of(operands: &str) -> Option<Message>
     ensures { Reads message_text IsServedMessage (codes "deny " ++ operands.now) result }
 {
-    let (file, (call, (holder, (number, lock)))) = deny_operands(operands)?;
+    let (file, (call, (holder, (number, lock)))) = DenyFields::read(operands)?;
     Some(Message::Deny {
         file,
         call,
@@ -137,6 +137,6 @@ fn deny_of(operands: &str) -> Option<Message>
 fn freed_of(operands: &str) -> Option<Message>
     ensures { Reads message_text IsServedMessage (codes "freed " ++ operands.now) result }
 {
-    let (file, holder) = freed_operands(operands)?;
+    let (file, holder) = FreedFields::read(operands)?;
     Some(Message::Freed { file, holder })
 }

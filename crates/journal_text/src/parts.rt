@@ -1,65 +1,28 @@
 //! Names of nodes, calls and owners.
-ghost use Rattle.std.specs.Prelude.{◌≡◌, ◌≢◌, ◌∷◌, ◌++◌, List, ℕ, codes, decimal, MatchOption, ⊤};
-ghost use Rattle.model.specs.Limits.{IsCall, IsNumber, IsOwner, most_descriptions, most_processes};
-ghost use Rattle.lockscript.specs.Reads.{Lacks, Reads};
+ghost use Rattle.std.specs.Prelude.{◌≡◌, ◌≢◌, ◌∷◌, ◌++◌, List, ℕ, codes, MatchOption};
+ghost use Rattle.model.specs.Limits.{IsCall, IsOwner, most_descriptions, most_processes};
+ghost use Rattle.texts.specs.Reads.{Lacks, Reads};
 ghost use Rattle.lockscript.specs.Texts.{call_text, owner_text};
 ghost use Rattle.journal_text.specs.Parts.{AreCallParts, AreCounted, AreNodeParts, AreNumbered, at_sign, call_parts_text, counted_text, dot, node_parts_text, numbered_text};
-ghost use Rattle.journal_text.specs.Served.{IsCommandNumber, IsFile, IsHolder};
-ghost use Rattle.journal_text.specs.Texts.{holder_text, urgency_text};
+ghost use Rattle.journal_text.specs.Served.{IsHolder};
+ghost use Rattle.journal_text.specs.Texts.{holder_text};
 
-use lockscript::fields;
-use lockscript::fields::{after, incarnation_of, node_of, pid_of};
-use lockscript::number::number_of;
-use messages::command_number::CommandNumber;
-use messages::file_number::FileNumber;
-use messages::message::Urgency;
+use lockscript::fields::{IncarnationField, NodeField, PidField};
 use model::call::CallId;
 use model::host::Host;
 use model::limits::MOST_DESCRIPTIONS;
 use model::owner::{Kind, Owner};
+use texts::number::{Medium, Short};
+use texts::text::{Text, after};
 
 /// The greatest number of a call or a command.
-const GREATEST_NUMBER: u64 = 4_294_967_295;
-
-/// The number of a file.
-pub(crate) fn file_of(word: &str) -> Option<FileNumber>
-    ensures { Reads decimal IsFile word.now result }
-{
-    match fields::file_of(word) {
-        Some(number) => Some(FileNumber::of(number)),
-        None => None,
-    }
-}
-
-/// The number of a command.
-pub(crate) fn command_of(word: &str) -> Option<CommandNumber>
-    ensures { Reads decimal IsCommandNumber word.now result }
-{
-    match counted_of(word) {
-        Some(number) => Some(CommandNumber::of(number)),
-        None => None,
-    }
-}
+const GREATEST_NUMBER: u32 = 4_294_967_295;
 
 /// The number of a call or a command.
-pub(crate) fn counted_of(word: &str) -> Option<u32>
-    ensures { Reads decimal IsCommandNumber word.now result }
-{
-    match number_of(word, 1, GREATEST_NUMBER) {
-        Some(number) => Some(number as u32),
-        None => None,
-    }
-}
+pub(crate) type Counted = Medium<1, GREATEST_NUMBER>;
 
-// The number of an open file description.
-fn description_of(word: &str) -> Option<u16>
-    ensures { Reads decimal (IsNumber most_descriptions) word.now result }
-{
-    match number_of(word, 1, MOST_DESCRIPTIONS as u64) {
-        Some(number) => Some(number as u16),
-        None => None,
-    }
-}
+/// The number of an open file description.
+type DescriptionField = Short<1, MOST_DESCRIPTIONS>;
 
 // What stands before the first dot of a word, and behind it.
 fn split_dot(word: &str) -> Option<(&str, &str)>
@@ -91,7 +54,7 @@ fn node_parts(word: &str) -> Option<(u8, u16)>
     ensures { Reads node_parts_text AreNodeParts word.now result }
 {
     match split_dot(word) {
-        Some((node, incarnation)) => node_of(node).zip(incarnation_of(incarnation)),
+        Some((node, incarnation)) => NodeField::read(node).zip(IncarnationField::read(incarnation)),
         None => None,
     }
 }
@@ -112,7 +75,7 @@ fn call_parts(word: &str) -> Option<(u8, (u16, u32))>
     ensures { Reads call_parts_text AreCallParts word.now result }
 {
     match split_dot(word) {
-        Some((node, counted)) => node_of(node).zip(counted_parts(counted)),
+        Some((node, counted)) => NodeField::read(node).zip(counted_parts(counted)),
         None => None,
     }
 }
@@ -122,7 +85,9 @@ fn counted_parts(word: &str) -> Option<(u16, u32)>
     ensures { Reads counted_text AreCounted word.now result }
 {
     match split_dot(word) {
-        Some((incarnation, number)) => incarnation_of(incarnation).zip(counted_of(number)),
+        Some((incarnation, number)) => IncarnationField::read(incarnation).zip(Counted::read(
+            number,
+        )),
         None => None,
     }
 }
@@ -171,7 +136,7 @@ fn numbered_process(text: &str) -> Option<(u16, Host)>
     ensures { Reads numbered_text (AreNumbered most_processes) text.now result }
 {
     match split_at_sign(text) {
-        Some((pid, host)) => pid_of(pid).zip(host_of(host)),
+        Some((pid, host)) => PidField::read(pid).zip(host_of(host)),
         None => None,
     }
 }
@@ -181,18 +146,7 @@ fn numbered_description(text: &str) -> Option<(u16, Host)>
     ensures { Reads numbered_text (AreNumbered most_descriptions) text.now result }
 {
     match split_at_sign(text) {
-        Some((number, host)) => description_of(number).zip(host_of(host)),
+        Some((number, host)) => DescriptionField::read(number).zip(host_of(host)),
         None => None,
-    }
-}
-
-/// What the word says of a request: `now` or `wait`.
-pub(crate) fn urgency_of(word: &str) -> Option<Urgency>
-    ensures { Reads urgency_text (λ _. ⊤) word.now result }
-{
-    match word {
-        "now" => Some(Urgency::Now),
-        "wait" => Some(Urgency::Waits),
-        _ => None,
     }
 }

@@ -1,7 +1,7 @@
 //! Reading a journal line by line.
 ghost use Rattle.std.specs.Prelude.{◌≡◌, ◌+◌, ◌<◌, ◌^◌, [], true, false, Some, length, IfErr, IfOk, MatchOption};
 ghost use Rattle.messages.specs.Shapes.{IsShape};
-ghost use Rattle.lockscript.specs.LineFeeds.{line_feeds, BeginsWithLine};
+ghost use Rattle.texts.specs.LineFeeds.{line_feeds, BeginsWithLine};
 ghost use Rattle.journal_text.specs.declared.error.JournalError.TheVariants.{BadLine};
 ghost use Rattle.journal_text.specs.declared.lines.JournalLine.{JournalLine as Line};
 ghost use Rattle.journal_text.specs.declared.place.Phase.TheVariants as phase;

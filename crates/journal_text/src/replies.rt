@@ -1,13 +1,13 @@
 //! Replies from their texts.
 ghost use Rattle.std.specs.Prelude.{◌∷◌, ◌++◌, codes};
-ghost use Rattle.lockscript.specs.Layout.{space};
-ghost use Rattle.lockscript.specs.Reads.{IsOneField, Lacks, Reads};
+ghost use Rattle.texts.specs.Layout.{space};
+ghost use Rattle.texts.specs.Reads.{IsOneField, Lacks, Reads};
 ghost use Rattle.lockscript.specs.Texts.{reply_text};
 ghost use Rattle.journal_text.specs.Served.{IsServedReply};
 
 use crate::spans::lock_of;
-use lockscript::fields::{descriptor_of, split_field};
 use model::reply::Reply;
+use texts::text::{Text, split_field};
 
 /// The reply that the text writes.
 pub fn reply_of(text: &str) -> Option<Reply>
@@ -56,7 +56,7 @@ fn reply_alone(word: &str) -> Option<Reply>
 fn fd_of(operand: &str) -> Option<Reply>
     ensures { Reads reply_text IsServedReply (codes "fd " ++ operand.now) result }
 {
-    let fd = descriptor_of(operand)?;
+    let fd = u8::read(operand)?;
     Some(Reply::Fd(fd))
 }
 

@@ -3,11 +3,11 @@ use Rattle.std.proofs.Common.{◌≡◌, ◌≢◌, ℕ, ◌+◌, List, [], ◌�
 use Rattle.std.proofs.lemmas.List.{append-nil, map-append}
 use Rattle.std.proofs.lemmas.List.Elements.{All-nil, All-push}
 use Rattle.messages.specs.Shapes.{ShapeFields, IsShape}
-use Rattle.lockscript.specs.LineFeeds.{line_feeds, FindsLine, PassesLines}
+use Rattle.texts.specs.LineFeeds.{line_feeds, FindsLine, PassesLines}
 use Rattle.lockscript.specs.Scripts.{Begun, IsBad, IsBadFirst, IsBadLine, IsFirstBad, IsLine, IsMisplaced, IsNoLine, IsNoShape, IsRefused, IsScript, LineFields, ScriptFields, line_text, script_of, shape_text}
 use Rattle.lockscript.specs.declared.error.ParseError.{ParseError}
 use Rattle.lockscript.specs.declared.error.ParseError.TheVariants.{NoMemory, BadLine}
-use Rattle.lockscript.specs.Scripts.IsBad.{stands_wrong, has_no_cluster, has_no_end}
+use Rattle.lockscript.specs.Scripts.IsBad.{stands_wrong, has_no_end}
 use Rattle.lockscript.proofs.Passes.{passes-join, passes-found}
 
 -- skipped lines add nothing

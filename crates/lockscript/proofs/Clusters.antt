@@ -1,16 +1,16 @@
 -- The `cluster` line.
-use Rattle.std.proofs.Common.{◌≡◌, ℕ, List, ◌++◌, Some, None, Result, Ok, Err, refl, sym, ◌∙◌, ap, arith, codes, decimal, append_assoc}
+use Rattle.std.proofs.Common.{◌≡◌, ℕ, List, Some, None, Result, Ok, Err, refl, sym, ◌∙◌, ap, arith, codes, decimal, append_assoc}
 use Rattle.std.specs.Prelude.{⊤, IfOk, IsOk, ◌↔◌}
 use Rattle.std.specs.Result.{result_ok}
 use Rattle.std.proofs.lemmas.Bool.{false≢true}
 use Rattle.model.specs.Limits.{IsNumber, most_nodes}
 use Rattle.model.specs.declared.policy.Policy.{Policy}
 use Rattle.messages.specs.Shapes.{IsShape, IsServed, ShapeFields, most_files}
-use Rattle.lockscript.specs.Reads.{Reads, Both, after_text, pair_text}
+use Rattle.texts.specs.Reads.{Reads, Both, after_text, pair_text}
 use Rattle.lockscript.specs.Scripts.{counts_text, shape_text}
-use Rattle.lockscript.specs.Texts.{policy_text}
-use Rattle.lockscript.proofs.FieldValues.{apart-number, apart-policy}
-use Rattle.lockscript.proofs.Pairs.{AreApart, apart-after, apart-pair, cancel-front}
+use Rattle.texts.specs.Words.{policy_text}
+use Rattle.texts.proofs.FieldValues.{apart-number, apart-policy}
+use Rattle.texts.proofs.Pairs.{AreApart, apart-after, apart-pair, cancel-front}
 use Rattle.lockscript.proofs.SingleWords.{file_words, node_words}
 
 abbrev pub IsCounts : ℕ × (ℕ × Policy) → Type 0

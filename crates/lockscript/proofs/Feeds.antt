@@ -2,7 +2,7 @@
 use Rattle.std.proofs.Common.{◌≡◌, ◌≢◌, ℕ, suc, ◌+◌, ◌<◌, List, [], ◌∷◌, length, get_or, Option, Some, None, MatchOption, Bor, refl, arith, eqb, cond}
 use Rattle.std.proofs.lemmas.Str.Pattern.{IsSplitOnceResult, split_parts}
 use Rattle.std.proofs.lemmas.List.Sums.{sum_by-append, sum_by-cons}
-use Rattle.lockscript.specs.LineFeeds.{line_feed, line_feeds, BeginsWithLine}
+use Rattle.texts.specs.LineFeeds.{line_feed, line_feeds, BeginsWithLine}
 
 -- a text has no line feed where no byte of it is one
 pub none_is-line_feeds : (bs : List ℕ) → ((i : ℕ) → i < length bs → get_or bs i 0 ≢ line_feed) → line_feeds bs ≡ 0

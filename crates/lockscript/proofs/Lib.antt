@@ -3,14 +3,10 @@ pub mod Passes
 pub mod Begun
 pub mod OneReading
 pub mod ThreadScripts
-pub mod Outcomes
-pub mod Pairs
 pub mod SingleWords
-pub mod Fronts
 pub mod FieldValues
 pub mod OperationKinds
 pub mod CommandKinds
 pub mod Clusters
 pub mod SameLines
 pub mod Padding
-pub mod Writes

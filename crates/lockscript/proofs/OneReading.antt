@@ -5,16 +5,16 @@ use Rattle.std.specs.List.{All, flat_map}
 use Rattle.std.proofs.lemmas.List.{append-nil}
 use Rattle.std.proofs.lemmas.List.Elements.{All-head, All-tail}
 use Rattle.std.proofs.lemmas.List.Sums.{sum_by-cons}
-use Rattle.lockscript.specs.LineFeeds.{line_feed, line_feeds, is_skipped, kept_lines, BeginsWithLine, PassesLines}
+use Rattle.texts.specs.LineFeeds.{line_feed, line_feeds, is_skipped, kept_lines, BeginsWithLine, PassesLines}
 use Rattle.lockscript.specs.Readings.{HasOneReading}
-use Rattle.lockscript.specs.Reads.{Lacks}
+use Rattle.texts.specs.Reads.{Lacks}
 use Rattle.lockscript.specs.Scripts.{BeginsScript, IsBad, IsFirstBad, IsLine, IsMisplaced, IsScript, LineFields, ScriptFields, Writes, line_text, shape_text, script_of}
 use Rattle.lockscript.specs.Scripts.IsBad.{stands_wrong, has_no_cluster, has_no_end}
 use Rattle.messages.specs.Shapes.{ShapeFields}
 use Rattle.lockscript.proofs.Feeds.{line_feeds-line}
 use Rattle.lockscript.proofs.Clusters.{apart-shape}
 use Rattle.lockscript.proofs.SameLines.{first-same, lines-same, rest-same}
-use Rattle.lockscript.proofs.Pairs.{same-split}
+use Rattle.texts.proofs.Pairs.{same-split}
 use Rattle.lockscript.proofs.Passes.{IsSingle, ended, kept_lines-append}
 
 lacks-feed : (bytes : List ℕ) → line_feeds bytes ≡ 0 → Lacks line_feed bytes

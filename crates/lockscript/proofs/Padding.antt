@@ -3,7 +3,8 @@ use Rattle.std.proofs.Common.{◌≡◌, ◌==◌, ℕ, zero, suc, ◌-◌, ◌^
 use Rattle.std.specs.Fmt.{char_count, decimal, format_spec, padded_integral, styled_decimal}
 use Rattle.std.specs.List.{repeat}
 use Rattle.std.proofs.lemmas.List.{append-nil}
-use Rattle.lockscript.specs.Layout.{right_in, space}
+use Rattle.lockscript.specs.Layout.{right_in}
+use Rattle.texts.specs.Layout.{space}
 
 spaces : (n : ℕ) → repeat n (space ∷ []) ≡ replicate n space
 spaces zero = refl

@@ -1,9 +1,9 @@
 -- Texts of scripts whose lines threads take, of which some lines were read.
-use Rattle.std.proofs.Common.{◌≡◌, ◌≢◌, ℕ, ◌+◌, Bool, false, true, not, cond, List, [], ◌∷◌, ◌++◌, map, Option, Some, None, refl, sym, ap, subst, ◌∙◌}
+use Rattle.std.proofs.Common.{◌≡◌, ◌≢◌, ℕ, ◌+◌, Bool, false, true, not, cond, List, [], ◌∷◌, ◌++◌, map, Some, None, refl, sym, ap, subst, ◌∙◌}
 use Rattle.std.specs.Option.{option_map}
 use Rattle.std.specs.List.{find}
 use Rattle.std.proofs.lemmas.Option.{none-some}
-use Rattle.lockscript.specs.LineFeeds.{line_feeds, FindsLine, PassesLines}
+use Rattle.texts.specs.LineFeeds.{line_feeds, FindsLine, PassesLines}
 use Rattle.lockscript.specs.Scripts.{Begun, IsBadFirst, IsLine, IsNoLine, IsRefused, IsScript, LineFields, ScriptFields, Writes, line_text, script_of, shape_text}
 use Rattle.lockscript.specs.ThreadLines.{bad_line, is_for_threads, IsBadOnThreads, IsForThreads, IsRefusedOnThreads}
 use Rattle.lockscript.specs.ThreadLines.IsBadOnThreads.{is_not_taken, stands_wrong}

@@ -1,8 +1,6 @@
 -- Columns of listings.
 use Rattle.std.specs.Prelude.{ℕ, ◌-◌, List, ◌++◌, length, replicate}
-
-abbrev pub space : ℕ
-space = 32
+use Rattle.texts.specs.Layout.{space}
 
 -- the text at the right end of a column of this width, or all of it where it is longer
 unfoldable pub right_in : ℕ → List ℕ → List ℕ

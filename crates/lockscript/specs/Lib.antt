@@ -1,9 +1,7 @@
 pub mod Texts
 pub mod Served
-pub mod LineFeeds
 pub mod Scripts
 pub mod ThreadLines
 pub mod Readings
 pub mod Layout
-pub mod Reads
 pub mod Listing

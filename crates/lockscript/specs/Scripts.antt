@@ -7,11 +7,11 @@ use Rattle.lockscript.specs.declared.error.ParseError.{ParseError}
 use Rattle.lockscript.specs.declared.error.ParseError.TheVariants.{NoMemory, BadLine}
 use Rattle.messages.specs.Shapes.{ShapeFields, IsShape, most_files}
 use Rattle.cluster_core.specs.World.{most_incarnations}
-use Rattle.model.specs.declared.policy.Policy.{Policy}
-use Rattle.lockscript.specs.Reads.{after_text, pair_text}
-use Rattle.lockscript.specs.Texts.{op_text, policy_text}
+use Rattle.texts.specs.Reads.{pair_text}
+use Rattle.lockscript.specs.Texts.{op_text}
+use Rattle.texts.specs.Words.{policy_text}
 use Rattle.lockscript.specs.Served.{IsServedOp}
-use Rattle.lockscript.specs.LineFeeds.{line_feeds, is_skipped, BeginsWithLine, PassesLines}
+use Rattle.texts.specs.LineFeeds.{line_feeds, is_skipped, BeginsWithLine, PassesLines}
 
 pub record LineFields : Type 0 where
   pub number : ℕ

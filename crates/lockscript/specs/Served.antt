@@ -7,7 +7,7 @@ use Rattle.model.specs.declared.op.Op.{Op}
 use Rattle.model.specs.declared.op.Op.TheVariants.{Spawn, Fork, Open, Dup, Close, Exit, Set, Wait, Unlock, Query}
 use Rattle.model.specs.Limits.{IsNumber, most_processes}
 use Rattle.messages.specs.Shapes.{most_files}
-use Rattle.lockscript.specs.Reads.{Both}
+use Rattle.texts.specs.Reads.{Both}
 
 -- a descriptor that a script may name, open or not
 abbrev pub IsDescriptor : ℕ → Type 0

@@ -1,45 +1,18 @@
 -- Texts of what scripts and listings name.
 use Rattle.std.specs.Prelude.{ℕ, ℤ, List, ◌++◌, codes, decimal}
 use Rattle.std.specs.Fmt.{signed_decimal}
-use Rattle.model.specs.declared.access.Access.{Access}
-use Rattle.model.specs.declared.access.Access.TheVariants.{ReadOnly, WriteOnly, ReadWrite}
-use Rattle.model.specs.declared.level.Level.{Level}
-use Rattle.model.specs.declared.level.Level.TheVariants.{Shared, Exclusive}
 use Rattle.model.specs.declared.mode.Mode.{Mode}
-use Rattle.model.specs.declared.mode.Mode.TheVariants.{Read, Write}
 use Rattle.model.specs.declared.owner.Kind.{Kind}
 use Rattle.model.specs.declared.owner.Kind.TheVariants.{OfProcess, OfDescription}
 use Rattle.model.specs.declared.owner.Owner.{Owner}
-use Rattle.model.specs.declared.policy.Policy.{Policy}
-use Rattle.model.specs.declared.policy.Policy.TheVariants.{Wide, Exact}
 use Rattle.model.specs.declared.call.CallId.{CallId}
 use Rattle.model.specs.declared.lock_info.LockInfo.{LockInfo}
 use Rattle.model.specs.declared.op.Op.{Op}
 use Rattle.model.specs.declared.op.Op.TheVariants.{Spawn, Fork, Open, Dup, Close, Exit, Set, Wait, Unlock, Query}
-use Rattle.lockscript.specs.Reads.{pair_text}
+use Rattle.texts.specs.Reads.{pair_text}
+use Rattle.texts.specs.Words.{access_text, kind_text, mode_text}
 use Rattle.model.specs.declared.reply.Reply.{Reply}
 use Rattle.model.specs.declared.reply.Reply.TheVariants.{Done, Fd, Again, Free, Blocked, Interrupted, NoProcess, Exists, BadFd, TooManyFiles, NoLocks, Invalid, Overflow}
-
-abbrev pub mode_text : Mode → List ℕ
-mode_text Read = codes "read"
-mode_text Write = codes "write"
-
-abbrev pub level_text : Level → List ℕ
-level_text Shared = codes "shared"
-level_text Exclusive = codes "exclusive"
-
-abbrev pub access_text : Access → List ℕ
-access_text ReadOnly = codes "r"
-access_text WriteOnly = codes "w"
-access_text ReadWrite = codes "rw"
-
-abbrev pub kind_text : Kind → List ℕ
-kind_text OfProcess = codes "proc"
-kind_text OfDescription = codes "desc"
-
-abbrev pub policy_text : Policy → List ℕ
-policy_text Wide = codes "wide"
-policy_text Exact = codes "exact"
 
 -- a node in one incarnation
 abbrev pub host_text : ℕ → ℕ → List ℕ

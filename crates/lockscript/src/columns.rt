@@ -1,10 +1,11 @@
 //! Columns of listings.
 ghost use Rattle.std.specs.Prelude.{◌≡◌, ◌≤◌, ◌-◌, ◌++◌, codes, replicate, string_bytes, string_len, OnOk};
-ghost use Rattle.lockscript.specs.Layout.{left_in, space};
+ghost use Rattle.lockscript.specs.Layout.{left_in};
+ghost use Rattle.texts.specs.Layout.{space};
 ghost use Rattle.lockscript.specs.Listing.{placed, span_columns};
 ghost use Rattle.lockscript.specs.Texts.{call_text, host_text, owner_text};
 
-use crate::texts::{push_call, push_host, push_owner};
+use crate::names::{push_call, push_host, push_owner};
 use intervals::span::Span;
 use model::call::CallId;
 use model::owner::Owner;

@@ -5,8 +5,9 @@ ghost use Rattle.lockscript.specs.Listing.{listing_text, listing_start, history_
 ghost use Rattle.lockscript.specs.Texts.{reply_text};
 
 use crate::columns::{push_host_column, push_owner_column, push_placed, push_span_line};
+use crate::names::push_reply;
+use crate::operations::Operation;
 use crate::refused_line::RefusedLine;
-use crate::texts::{level_word, mode_word, push_op, push_reply};
 use cluster_core::held_lock::HeldLock;
 use cluster_core::item::Item;
 use cluster_core::token_run::TokenRun;
@@ -17,6 +18,8 @@ use model::op::Op;
 use model::reply::Reply;
 use std::alloc::{AllocError, Global};
 use std::fmt::Write;
+use texts::text::Text;
+use texts::words::{level_word, mode_word};
 
 /// The listing of a run, in five sections with their headings: the refused lines of its script, each
 /// with the number of its refusal, the replies of the entries, tokens, locks and the history, each in
@@ -184,7 +187,7 @@ fn push_answered(
 {
     push_placed(out, u64::from(position), id)?;
     write!(out, "{pid} ")?;
-    push_op(out, op)?;
+    Operation::write(op, out)?;
     out.push_str(" -> ")?;
     push_reply_end(out, reply)
 }

@@ -1,29 +1,105 @@
 //! Operations in scripts.
-ghost use Rattle.std.specs.Prelude.{◌∷◌, ◌++◌, codes, decimal, FitsSigned, ⊤};
-ghost use Rattle.std.specs.Fmt.{signed_decimal};
-ghost use Rattle.std.specs.Int.{w64};
-ghost use Rattle.model.specs.Limits.{IsNumber};
-ghost use Rattle.messages.specs.Shapes.{most_files};
-ghost use Rattle.lockscript.specs.Layout.{space};
-ghost use Rattle.lockscript.specs.Reads.{Both, IsOneField, Lacks, Reads, pair_text};
-ghost use Rattle.lockscript.specs.Served.{AreOffsets, IsAskedLock, IsDescriptor, IsServedOp};
-ghost use Rattle.lockscript.specs.Texts.{access_text, asked_lock_text, kind_text, mode_text, op_text, segment_text};
+ghost use Rattle.std.specs.Prelude.{◌≡◌, ◌∷◌, ◌++◌};
+ghost use Rattle.model.specs.declared.op.Op.TheVariants.{Open, Query, Set, Unlock, Wait};
+ghost use Rattle.texts.specs.Layout.{space};
+ghost use Rattle.texts.specs.Reads.{IsOneField, Lacks, Reads};
+ghost use Rattle.lockscript.specs.Served.{IsServedOp};
+ghost use Rattle.lockscript.specs.Texts.{op_text};
 
-use crate::fields::{descriptor_of, file_of, pid_of, split_field};
-use crate::number::offset_of;
-use crate::words::{access_of, kind_of, mode_of};
+use crate::fields::{FileField, PidField};
 use model::access::Access;
 use model::mode::Mode;
 use model::op::Op;
 use model::owner::Kind;
+use std::alloc::AllocError;
+use texts::text::{Text, split_field};
 
-/// The operation that the text writes.
-pub fn op_of(text: &str) -> Option<Op>
-    ensures { Reads op_text IsServedOp text.now result }
-{
-    match split_field(text) {
-        Some((word, operands)) => op_with(word, operands),
-        None => op_alone(text),
+/// `START LEN`.
+type Segment = (i64, i64);
+
+/// `FD KIND MODE START LEN`.
+type AskedLock = (u8, (Kind, (Mode, Segment)));
+
+/// `FD KIND START LEN`.
+type Unlocked = (u8, (Kind, Segment));
+
+/// An operation.
+pub struct Operation;
+
+impl Text for Operation {
+    type Value = Op;
+
+    ghost text_of = { op_text };
+
+    ghost is_served = { IsServedOp };
+
+    fn read(text: &str) -> Option<Op> {
+        match split_field(text) {
+            Some((word, operands)) => op_with(word, operands),
+            None => op_alone(text),
+        }
+    }
+
+    fn write(value: &Op, out: &mut String) -> Result<(), AllocError> {
+        match value {
+            Op::Spawn => out.push_str("spawn"),
+            Op::Fork { child } => {
+                out.push_str("fork ")?;
+                PidField::write(child, out)
+            }
+            Op::Open { file, access } => {
+                out.push_str("open ")?;
+                <(FileField, Access)>::write(&(*file, *access), out)
+            }
+            Op::Dup { fd } => {
+                out.push_str("dup ")?;
+                u8::write(fd, out)
+            }
+            Op::Close { fd } => {
+                out.push_str("close ")?;
+                u8::write(fd, out)
+            }
+            Op::Exit => out.push_str("exit"),
+            Op::Set {
+                fd,
+                kind,
+                mode,
+                start,
+                len,
+            } => {
+                out.push_str("set ")?;
+                AskedLock::write(&(*fd, (*kind, (*mode, (*start, *len)))), out)
+            }
+            Op::Wait {
+                fd,
+                kind,
+                mode,
+                start,
+                len,
+            } => {
+                out.push_str("wait ")?;
+                AskedLock::write(&(*fd, (*kind, (*mode, (*start, *len)))), out)
+            }
+            Op::Unlock {
+                fd,
+                kind,
+                start,
+                len,
+            } => {
+                out.push_str("unlock ")?;
+                Unlocked::write(&(*fd, (*kind, (*start, *len))), out)
+            }
+            Op::Query {
+                fd,
+                kind,
+                mode,
+                start,
+                len,
+            } => {
+                out.push_str("query ")?;
+                AskedLock::write(&(*fd, (*kind, (*mode, (*start, *len)))), out)
+            }
+        }
     }
 }
 
@@ -33,14 +109,17 @@ fn op_with(word: &str, operands: &str) -> Option<Op>
     ensures { Reads op_text IsServedOp (word.now ++ space ∷ operands.now) result }
 {
     match word {
-        "fork" => fork_of(operands),
-        "open" => open_of(operands),
-        "dup" => dup_of(operands),
-        "close" => close_of(operands),
-        "set" => set_of(operands),
-        "wait" => wait_of(operands),
-        "unlock" => unlock_of(operands),
-        "query" => query_of(operands),
+        "fork" => PidField::read(operands).map(|child| Op::Fork { child }),
+        "open" => <(FileField, Access)>::read(operands).map(|(file, access)| Op::Open {
+            file,
+            access,
+        }),
+        "dup" => u8::read(operands).map(|fd| Op::Dup { fd }),
+        "close" => u8::read(operands).map(|fd| Op::Close { fd }),
+        "set" => AskedLock::read(operands).map(set_of),
+        "wait" => AskedLock::read(operands).map(wait_of),
+        "unlock" => Unlocked::read(operands).map(unlock_of),
+        "query" => AskedLock::read(operands).map(query_of),
         _ => None,
     }
 }
@@ -57,159 +136,53 @@ fn op_alone(word: &str) -> Option<Op>
     }
 }
 
-// `fork` with these operands.
-fn fork_of(operands: &str) -> Option<Op>
-    ensures { Reads op_text IsServedOp (codes "fork " ++ operands.now) result }
+fn set_of(fields: AskedLock) -> Op
+    ensures { result ≡ Set fields.0 fields.1.0 fields.1.1.0 fields.1.1.1.0 fields.1.1.1.1 }
 {
-    let child = pid_of(operands)?;
-    Some(Op::Fork { child })
-}
-
-// `dup` with these operands.
-fn dup_of(operands: &str) -> Option<Op>
-    ensures { Reads op_text IsServedOp (codes "dup " ++ operands.now) result }
-{
-    let fd = descriptor_of(operands)?;
-    Some(Op::Dup { fd })
-}
-
-// `close` with these operands.
-fn close_of(operands: &str) -> Option<Op>
-    ensures { Reads op_text IsServedOp (codes "close " ++ operands.now) result }
-{
-    let fd = descriptor_of(operands)?;
-    Some(Op::Close { fd })
-}
-
-// `open` with these operands.
-fn open_of(operands: &str) -> Option<Op>
-    ensures { Reads op_text IsServedOp (codes "open " ++ operands.now) result }
-{
-    let (file, access) = open_operands(operands)?;
-    Some(Op::Open { file, access })
-}
-
-// `set` with these operands.
-fn set_of(operands: &str) -> Option<Op>
-    ensures { Reads op_text IsServedOp (codes "set " ++ operands.now) result }
-{
-    let (fd, (kind, (mode, (start, len)))) = asked_lock(operands)?;
-    Some(Op::Set {
+    let (fd, (kind, (mode, (start, len)))) = fields;
+    Op::Set {
         fd,
         kind,
         mode,
         start,
         len,
-    })
+    }
 }
 
-// `wait` with these operands.
-fn wait_of(operands: &str) -> Option<Op>
-    ensures { Reads op_text IsServedOp (codes "wait " ++ operands.now) result }
+fn wait_of(fields: AskedLock) -> Op
+    ensures { result ≡ Wait fields.0 fields.1.0 fields.1.1.0 fields.1.1.1.0 fields.1.1.1.1 }
 {
-    let (fd, (kind, (mode, (start, len)))) = asked_lock(operands)?;
-    Some(Op::Wait {
+    let (fd, (kind, (mode, (start, len)))) = fields;
+    Op::Wait {
         fd,
         kind,
         mode,
         start,
         len,
-    })
+    }
 }
 
-// `unlock` with these operands.
-fn unlock_of(operands: &str) -> Option<Op>
-    ensures { Reads op_text IsServedOp (codes "unlock " ++ operands.now) result }
+fn unlock_of(fields: Unlocked) -> Op
+    ensures { result ≡ Unlock fields.0 fields.1.0 fields.1.1.0 fields.1.1.1 }
 {
-    let (fd, (kind, (start, len))) = unlock_operands(operands)?;
-    Some(Op::Unlock {
+    let (fd, (kind, (start, len))) = fields;
+    Op::Unlock {
         fd,
         kind,
         start,
         len,
-    })
+    }
 }
 
-// `query` with these operands.
-fn query_of(operands: &str) -> Option<Op>
-    ensures { Reads op_text IsServedOp (codes "query " ++ operands.now) result }
+fn query_of(fields: AskedLock) -> Op
+    ensures { result ≡ Query fields.0 fields.1.0 fields.1.1.0 fields.1.1.1.0 fields.1.1.1.1 }
 {
-    let (fd, (kind, (mode, (start, len)))) = asked_lock(operands)?;
-    Some(Op::Query {
+    let (fd, (kind, (mode, (start, len)))) = fields;
+    Op::Query {
         fd,
         kind,
         mode,
         start,
         len,
-    })
-}
-
-// `F ACCESS`.
-fn open_operands(text: &str) -> Option<(u16, Access)>
-    ensures { Reads (pair_text decimal access_text) (Both (IsNumber most_files) (λ _. ⊤)) text.now result }
-{
-    match split_field(text) {
-        Some((file, access)) => file_of(file).zip(access_of(access)),
-        None => None,
-    }
-}
-
-// `FD KIND MODE START LEN`.
-fn asked_lock(text: &str) -> Option<(u8, (Kind, (Mode, (i64, i64))))>
-    ensures { Reads asked_lock_text IsAskedLock text.now result }
-{
-    match split_field(text) {
-        Some((fd, rest)) => descriptor_of(fd).zip(kind_mode_segment(rest)),
-        None => None,
-    }
-}
-
-// `KIND MODE START LEN`.
-fn kind_mode_segment(text: &str) -> Option<(Kind, (Mode, (i64, i64)))>
-    ensures { Reads (pair_text kind_text (pair_text mode_text segment_text)) (Both (λ _. ⊤) (Both (λ _. ⊤) AreOffsets)) text.now result }
-{
-    match split_field(text) {
-        Some((kind, rest)) => kind_of(kind).zip(mode_segment(rest)),
-        None => None,
-    }
-}
-
-// `MODE START LEN`.
-fn mode_segment(text: &str) -> Option<(Mode, (i64, i64))>
-    ensures { Reads (pair_text mode_text segment_text) (Both (λ _. ⊤) AreOffsets) text.now result }
-{
-    match split_field(text) {
-        Some((mode, rest)) => mode_of(mode).zip(segment(rest)),
-        None => None,
-    }
-}
-
-// `FD KIND START LEN`.
-fn unlock_operands(text: &str) -> Option<(u8, (Kind, (i64, i64)))>
-    ensures { Reads (pair_text decimal (pair_text kind_text segment_text)) (Both IsDescriptor (Both (λ _. ⊤) AreOffsets)) text.now result }
-{
-    match split_field(text) {
-        Some((fd, rest)) => descriptor_of(fd).zip(kind_segment(rest)),
-        None => None,
-    }
-}
-
-// `KIND START LEN`.
-fn kind_segment(text: &str) -> Option<(Kind, (i64, i64))>
-    ensures { Reads (pair_text kind_text segment_text) (Both (λ _. ⊤) AreOffsets) text.now result }
-{
-    match split_field(text) {
-        Some((kind, rest)) => kind_of(kind).zip(segment(rest)),
-        None => None,
-    }
-}
-
-// `START LEN`.
-fn segment(text: &str) -> Option<(i64, i64)>
-    ensures { Reads segment_text AreOffsets text.now result }
-{
-    match split_field(text) {
-        Some((start, len)) => offset_of(start).zip(offset_of(len)),
-        None => None,
     }
 }

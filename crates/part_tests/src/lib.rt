@@ -16,4 +16,6 @@ mod of_messages;
 #[cfg(test)]
 mod of_model;
 #[cfg(test)]
+mod of_token_queue;
+#[cfg(test)]
 mod of_token_set;

@@ -488,3 +488,25 @@ fn names_the_largest_free_span(rt: HostRuntime) -> Result<(), Fail> {
     assert!(rt; has_free(&table, &cases));
     Ok(())
 }
+
+// A planned change is made when it is applied: in a new row, in the row that is there, which then goes.
+#[test]
+fn planned_changes_are_made_when_they_are_applied(rt: HostRuntime) -> Result<(), Fail> {
+    let mut table = LockTable::new(rt.alloc());
+    let all = Span { lo: 0, hi: 9 };
+    let edit = table.plan(FIRST, FILE, all, Some(Mode::Write))?;
+    assert_eq!(rt; table.locks(FILE)?.len(), 0);
+    table.apply(edit);
+    let edit = table.plan(FIRST, FILE, Span { lo: 4, hi: 5 }, None)?;
+    table.apply(edit);
+    let low = region(FIRST, Mode::Write, Span { lo: 0, hi: 3 });
+    let high = region(FIRST, Mode::Write, Span { lo: 6, hi: 9 });
+    assert_eq!(rt; table.locks(FILE)?.as_slice(), [low, high].as_slice());
+    let edit = table.plan(FIRST, FILE, all, None)?;
+    table.apply(edit);
+    assert_eq!(rt; table.locks(FILE)?.len(), 0);
+    let edit = table.plan(FIRST, FILE, all, None)?;
+    table.apply(edit);
+    assert_eq!(rt; table.locks(FILE)?.len(), 0);
+    Ok(())
+}

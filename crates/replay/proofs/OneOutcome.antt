@@ -11,7 +11,7 @@ use Rattle.messages.specs.declared.event.Event.TheVariants as event
 use Rattle.messages.specs.declared.message.Message.{Message}
 use Rattle.messages.specs.declared.entry.Entry.{Entry}
 use Rattle.cluster_core.specs.World.{WorldState}
-use Rattle.cluster_core.specs.Next.{next}
+use Rattle.cluster_core.specs.Next.{kept_next}
 use Rattle.lockscript.specs.declared.script_line.Command.{Command}
 use Rattle.lockscript.specs.declared.script_line.Command.TheVariants.{Call, Deliver, Lose, Settle, Interrupt, Retry, Resend, Declare, Restart, Learn}
 use Rattle.lockscript.specs.Scripts.{LineFields}
@@ -54,9 +54,9 @@ settled_next p i m settled is = false≢true (sym is.least.unsettled ∙ settled
 delivers_one : (line : ℕ) (p : Progress) (q s : End) (m n : Message) → Delivers line m p q → Delivers line n p s → q ≡ s
 delivers_one line p q s m n a b =
     let same = next_one p a.0 b.0 m n a.1 b.1 in
-    let P : Message → Type 0 = λ x. Passes line (settling b.0 p) (next p.world (event.Deliver x)) s in
-    let Q : ℕ → Type 0 = λ k. Passes line (settling k p) (next p.world (event.Deliver m)) s in
-    passes_one line (settling a.0 p) q s (next p.world (event.Deliver m)) a.2 (subst Q (sym same.0) (subst P (sym same.1) b.2))
+    let P : Message → Type 0 = λ x. Passes line (settling b.0 p) (kept_next p.world (event.Deliver x)) s in
+    let Q : ℕ → Type 0 = λ k. Passes line (settling k p) (kept_next p.world (event.Deliver m)) s in
+    passes_one line (settling a.0 p) q s (kept_next p.world (event.Deliver m)) a.2 (subst Q (sym same.0) (subst P (sym same.1) b.2))
 
 -- where nothing is left to deliver, nothing is delivered
 none_left : (line : ℕ) (p : Progress) (q mid : End) (m : Message) → q ≡ Some p → IfSome q IsSettled → Delivers line m p mid → ⊥
@@ -74,17 +74,17 @@ settles_one line (Some p) q s (m ∷ ms) (n ∷ ns) a q_settled b s_settled =
     settles_one line a.0 q s ms ns a.2 q_settled (subst P (sym (delivers_one line p a.0 b.0 m n a.1 b.1)) b.2) s_settled
 
 does_one : (line : ℕ) (c : Command) (p : Progress) (q s : End) → Does line c p q → Does line c p s → q ≡ s
-does_one line (Call node pid op) p q s a b = ends_one line p q s (next p.world (event.Call node pid op)) a b
+does_one line (Call node pid op) p q s a b = ends_one line p q s (kept_next p.world (event.Call node pid op)) a b
 does_one line (Deliver number) p q s a b =
     let made = delivery p (slice_get p.world.sent (index_of number)) in
     ends_one line (after_delivery (index_of number) p made) q s made a b
 does_one line (Lose number) p q s a b = a ∙ sym b
-does_one line (Interrupt node pid) p q s a b = ends_one line p q s (next p.world (event.Interrupt node pid)) a b
-does_one line (Retry node pid) p q s a b = ends_one line p q s (next p.world (event.Retry node pid)) a b
-does_one line (Resend file) p q s a b = ends_one line p q s (next p.world (event.Resend file)) a b
-does_one line (Declare node) p q s a b = ends_one line p q s (next p.world (event.Declare node)) a b
-does_one line (Restart node) p q s a b = ends_one line p q s (next p.world (event.Restart node)) a b
-does_one line (Learn file node incarnation) p q s a b = ends_one line p q s (next p.world (event.Learn file node incarnation)) a b
+does_one line (Interrupt node pid) p q s a b = ends_one line p q s (kept_next p.world (event.Interrupt node pid)) a b
+does_one line (Retry node pid) p q s a b = ends_one line p q s (kept_next p.world (event.Retry node pid)) a b
+does_one line (Resend file) p q s a b = ends_one line p q s (kept_next p.world (event.Resend file)) a b
+does_one line (Declare node) p q s a b = ends_one line p q s (kept_next p.world (event.Declare node)) a b
+does_one line (Restart node) p q s a b = ends_one line p q s (kept_next p.world (event.Restart node)) a b
+does_one line (Learn file node incarnation) p q s a b = ends_one line p q s (kept_next p.world (event.Learn file node incarnation)) a b
 does_one line Settle p q s a b = settles_one line (Some p) q s a.0 b.0 a.1 a.2 b.1 b.2
 
 -- the lines are run in order, from an end

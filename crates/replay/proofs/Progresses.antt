@@ -12,9 +12,10 @@ use Rattle.messages.specs.declared.message.Message.{Message}
 use Rattle.messages.specs.declared.entry.Entry.{Entry}
 use Rattle.messages.specs.Shapes.{ShapeFields}
 use Rattle.cluster_core.specs.World.{WorldState, first_world, journal_limit}
-use Rattle.cluster_core.specs.Next.{next}
+use Rattle.cluster_core.specs.Next.{next, kept_next}
 use Rattle.cluster_core.specs.Runs.{Leads}
 use Rattle.cluster_core.proofs.runs.JournalRuns.{leads_push, entry_event}
+use Rattle.cluster_core.proofs.steps.Steps.{kept_taken}
 use Rattle.lockscript.specs.declared.script_line.Command.{Command}
 use Rattle.lockscript.specs.declared.script_line.Command.TheVariants.{Call, Deliver, Lose, Settle, Interrupt, Retry, Resend, Declare, Restart, Learn}
 use Rattle.lockscript.specs.Scripts.{LineFields}
@@ -32,24 +33,25 @@ EndLeads w end = IfSome end (LeadsFrom w)
 end_leads : (w : WorldState) (end its : End) → its ≡ end → EndLeads w end → EndLeads w its
 end_leads w end its is leads = subst (EndLeads w) (sym is) leads
 
-ends_leads : (w : WorldState) (line : ℕ) (ev : Event) (p : Progress) (end : End) (r : Result (WorldState × Entry) Refused) → next p.world ev ≡ r → LeadsFrom w p → Ends line p r end → EndLeads w end
+ends_leads : (w : WorldState) (line : ℕ) (ev : Event) (p : Progress) (end : End) (r : Result (WorldState × Entry) Refused) → kept_next p.world ev ≡ r → LeadsFrom w p → Ends line p r end → EndLeads w end
 ends_leads w line ev p end (Ok made) is leads ends =
-    let of = entry_event p.world made.0 ev made.1 is in
+    let step = (kept_taken p.world ev made is).1 in
+    let of = entry_event p.world made.0 ev made.1 step in
     let P : Event → Type 0 = λ x. next p.world x ≡ Ok made in
-    end_leads w (Some (after_entry p made)) end ends (leads_push w p.world made.0 p.entries made.1 leads (subst P (sym of) is))
+    end_leads w (Some (after_entry p made)) end ends (leads_push w p.world made.0 p.entries made.1 leads (subst P (sym of) step))
 ends_leads w line ev p end (Err NoMemory) is leads ends = absurd ends
 ends_leads w line ev p end (Err JournalFull) is leads ends = end_leads w None end ends tt
 ends_leads w line ev p end (Err refusal) is leads ends = end_leads w (Some (after_refusal p line refusal)) end ends leads
 
 happens_leads : (w : WorldState) (line : ℕ) (ev : Event) (p : Progress) (end : End) → LeadsFrom w p → Happens line ev p end → EndLeads w end
-happens_leads w line ev p end leads happens = ends_leads w line ev p end (next p.world ev) refl leads happens
+happens_leads w line ev p end leads happens = ends_leads w line ev p end (kept_next p.world ev) refl leads happens
 
-passes_leads : (w : WorldState) (line : ℕ) (ev : Event) (p : Progress) (end : End) (r : Result (WorldState × Entry) Refused) → next p.world ev ≡ r → LeadsFrom w p → Passes line p r end → EndLeads w end
+passes_leads : (w : WorldState) (line : ℕ) (ev : Event) (p : Progress) (end : End) (r : Result (WorldState × Entry) Refused) → kept_next p.world ev ≡ r → LeadsFrom w p → Passes line p r end → EndLeads w end
 passes_leads w line ev p end (Err Fenced) is leads passes = end_leads w (Some p) end passes leads
 passes_leads w line ev p end r is leads passes = ends_leads w line ev p end r is leads passes
 
 delivers_leads : (w : WorldState) (line : ℕ) (m : Message) (p : Progress) (end : End) → LeadsFrom w p → Delivers line m p end → EndLeads w end
-delivers_leads w line m p end leads delivers = passes_leads w line (event.Deliver m) (settling delivers.0 p) end (next p.world (event.Deliver m)) refl leads delivers.2
+delivers_leads w line m p end leads delivers = passes_leads w line (event.Deliver m) (settling delivers.0 p) end (kept_next p.world (event.Deliver m)) refl leads delivers.2
 
 -- what each keeps, all keep, one after the other
 turns_lead : {A : Type 0} (Is : A → Progress → End → Type 0) (w : WorldState) → ((x : A) (p : Progress) (end : End) → LeadsFrom w p → Is x p end → EndLeads w end) → (from : End) (xs : List A) (end : End) → EndLeads w from → InTurn Is from xs end → EndLeads w end
@@ -57,7 +59,7 @@ turns_lead Is w each None xs end leads is = end_leads w None end is leads
 turns_lead Is w each (Some p) [] end leads is = end_leads w (Some p) end is leads
 turns_lead Is w each (Some p) (x ∷ xs) end leads turns = turns_lead Is w each turns.0 xs end (each x p turns.0 leads turns.1) turns.2
 
-deliver_leads : (w : WorldState) (line index : ℕ) (m : Message) (p : Progress) (end : End) (r : Result (WorldState × Entry) Refused) → next p.world (event.Deliver m) ≡ r → LeadsFrom w p → Comes line index p r end → EndLeads w end
+deliver_leads : (w : WorldState) (line index : ℕ) (m : Message) (p : Progress) (end : End) (r : Result (WorldState × Entry) Refused) → kept_next p.world (event.Deliver m) ≡ r → LeadsFrom w p → Comes line index p r end → EndLeads w end
 deliver_leads w line index m p end (Ok made) is leads comes = ends_leads w line (event.Deliver m) (settling index p) end (Ok made) is leads comes
 deliver_leads w line index m p end (Err refusal) is leads comes = ends_leads w line (event.Deliver m) p end (Err refusal) is leads comes
 
@@ -66,7 +68,7 @@ unsent_leads w line p end true leads ends = end_leads w None end ends tt
 unsent_leads w line p end false leads ends = end_leads w (Some (after_refusal p line Stranger)) end ends leads
 
 comes_leads : (w : WorldState) (line index : ℕ) (p : Progress) (end : End) (o : Option Message) → LeadsFrom w p → Comes line index p (delivery p o) end → EndLeads w end
-comes_leads w line index p end (Some m) leads comes = deliver_leads w line index m p end (next p.world (event.Deliver m)) refl leads comes
+comes_leads w line index p end (Some m) leads comes = deliver_leads w line index m p end (kept_next p.world (event.Deliver m)) refl leads comes
 comes_leads w line index p end None leads comes = unsent_leads w line p end (nat_le journal_limit (length p.entries)) leads comes
 
 lost_leads : (w : WorldState) (line index : ℕ) (p : Progress) (b : Bool) → LeadsFrom w p → LeadsFrom w (if b then settling index p else after_refusal p line Stranger)

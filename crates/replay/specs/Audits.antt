@@ -32,10 +32,10 @@ abbrev pub IsAudited : JournalFields → Audited → Type 0
 IsAudited j (Run journal) = (journal ≡ j) × IsRun j.shape j.entries
 IsAudited j (Wrong position) = IsFirstWrong j.shape j.entries position
 
--- what an audit that goes on knows of the entries so far: that they lead to this world, and how many they are, or the first wrong one
+-- what an audit that goes on knows of the entries so far: that they lead to this world, and how many they are, or, of no more than a journal may have, the first wrong one
 abbrev pub Knows : ShapeFields → WorldState → ℕ → Option ℕ → List Entry → Type 0
 Knows shape world taken None es = Leads (first_world shape) es world × (taken ≡ length es)
-Knows shape world taken (Some position) es = IsFirstWrong shape es position
+Knows shape world taken (Some position) es = length es ≤ journal_limit → IsFirstWrong shape es position
 
 -- they are a run where no position is told, else the first wrong one is there
 abbrev pub IsVerdict : JournalFields → Option ℕ → Type 0

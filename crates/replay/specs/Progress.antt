@@ -9,7 +9,7 @@ use Rattle.messages.specs.declared.entry.Entry.{Entry}
 use Rattle.messages.specs.Refusals.{number_of}
 use Rattle.messages.specs.Shapes.{ShapeFields}
 use Rattle.cluster_core.specs.World.{WorldState, first_world, journal_limit}
-use Rattle.cluster_core.specs.Next.{next}
+use Rattle.cluster_core.specs.Next.{kept_next}
 use Rattle.lockscript.specs.declared.refused_line.RefusedLine.{RefusedLine}
 use Rattle.lockscript.specs.declared.script_line.Command.{Command}
 use Rattle.lockscript.specs.declared.script_line.Command.TheVariants.{Call, Deliver, Lose, Settle, Interrupt, Retry, Resend, Declare, Restart, Learn}
@@ -46,7 +46,7 @@ Ends line p (Err refusal) end = end ≡ Some (after_refusal p line refusal)
 
 -- an event of a line
 abbrev pub Happens : ℕ → Event → Progress → End → Type 0
-Happens line event p end = Ends line p (next p.world event) end
+Happens line event p end = Ends line p (kept_next p.world event) end
 
 -- one after the other is done, the next by what came of those before it, until the journal is full
 abbrev pub InTurn : {A : Type 0} → (A → Progress → End → Type 0) → End → List A → End → Type 0
@@ -78,7 +78,7 @@ Passes line p made end = Ends line p made end
 
 -- that message is settled: it is delivered, or passed over where its delivery is refused
 abbrev pub Delivers : ℕ → Message → Progress → End → Type 0
-Delivers line m p end = (index : ℕ) × IsNextMessage p index m × Passes line (settling index p) (next p.world (event.Deliver m)) end
+Delivers line m p end = (index : ℕ) × IsNextMessage p index m × Passes line (settling index p) (kept_next p.world (event.Deliver m)) end
 
 -- every message that was sent is settled
 abbrev pub IsSettled : Progress → Type 0
@@ -94,7 +94,7 @@ index_of number = number - 1
 
 -- the delivery of a message that a line names, if it was sent; of one that was not, it is refused
 abbrev pub delivery : Progress → Option Message → Result (WorldState × Entry) Refused
-delivery p (Some m) = next p.world (event.Deliver m)
+delivery p (Some m) = kept_next p.world (event.Deliver m)
 delivery p None = Err (if nat_le journal_limit (length p.entries) then JournalFull else Stranger)
 
 -- a delivery that a line names settles the message, unless it is refused

@@ -1,7 +1,5 @@
 -- How many entries a run has.
-use Rattle.std.proofs.Common.{◌≡◌, ℕ, ◌+◌, ◌<◌, ◌≤◌, Bool, true, false, not, if◌then◌else◌, refl, sym, ◌∙◌, ap, arith, nat_le, List, [], ◌∷◌, length, Result, Ok, Err}
-use Rattle.std.proofs.lemmas.Bool.Decides.{nat_tests}
-use Rattle.messages.specs.Shapes.{ShapeFields}
+use Rattle.std.proofs.Common.{◌≡◌, ℕ, ◌+◌, refl, sym, ◌∙◌, ap, arith, nat_le, List, [], ◌∷◌, length, Result, Ok, Err}
 use Rattle.messages.specs.Messages.{addressee}
 use Rattle.messages.specs.declared.actor.Actor.{Actor}
 use Rattle.messages.specs.declared.actor.Actor.TheVariants.{Node as ANode, Server as AServer}
@@ -9,7 +7,7 @@ use Rattle.messages.specs.declared.message.Message.{Message}
 use Rattle.messages.specs.declared.outcome.Outcome.{Outcome}
 use Rattle.messages.specs.declared.refusal.StepError.{StepError}
 use Rattle.messages.specs.declared.refusal.Refused.{Refused}
-use Rattle.messages.specs.declared.refusal.Refused.TheVariants.{Stranger, JournalFull, NotAlive, NotDead, TooManyRestarts, Fenced}
+use Rattle.messages.specs.declared.refusal.Refused.TheVariants.{NotAlive, NotDead, TooManyRestarts}
 use Rattle.messages.specs.Refusals.{refused_by}
 use Rattle.messages.specs.declared.event.Event.{Event}
 use Rattle.messages.specs.declared.event.Event.TheVariants.{Call, Deliver, Interrupt, Retry, Resend, Declare, Restart, Learn}
@@ -20,10 +18,11 @@ use Rattle.node_core.specs.Node.{node_rule}
 use Rattle.token_server.specs.declared.event.ServerEvent.TheVariants as server
 use Rattle.token_server.specs.State.{ServerState}
 use Rattle.token_server.specs.Server.{server_rule}
-use Rattle.cluster_core.specs.World.{WorldState, first_world, journal_limit, most_incarnations}
-use Rattle.cluster_core.specs.Next.{next, is_known, taken, delivered, after_node, after_server, recorded, named_incarnation, with_node, with_server, is_fenced, declared, restarted, silent}
-use Rattle.cluster_core.specs.Runs.{Leads, IsRun}
+use Rattle.cluster_core.specs.World.{WorldState, most_incarnations}
+use Rattle.cluster_core.specs.Next.{next, taken, delivered, after_node, after_server, recorded, named_incarnation, with_node, with_server, declared, restarted, silent}
+use Rattle.cluster_core.specs.Runs.{Leads}
 use Rattle.cluster_core.proofs.common.Choices.{if_either}
+use Rattle.cluster_core.proofs.steps.Steps.{next_taken}
 
 -- a step that is not refused makes one entry more
 abbrev GrowsBy : ℕ → Result (WorldState × Entry) Refused → Type 0
@@ -63,38 +62,13 @@ taken-grows w (Restart n) =
     if_either (GrowsBy w.length) (w.alive n) _ _ (refused-grows w.length NotDead)
     (if_either (GrowsBy w.length) (nat_le (w.nodes n).incarnation most_incarnations) _ _ (made-grows w.length (silent (restarted w n) (Restart n) (w.nodes n).incarnation) refl) (refused-grows w.length TooManyRestarts))
 
--- and comes only where there is room
-let_through : {A E : Type 0} (full known fenced : Bool) (x : Result A E) (p : A) (a b c : E) → ◌≡◌ {A = Result A E} (if full then Err a else (if not known then Err b else (if fenced then Err c else x))) (Ok p) → (full ≡ false) × (x ≡ Ok p)
-let_through true known fenced x p a b c h = absurd (cc)
-let_through false true false x p a b c h = (refl, h)
-let_through false true true x p a b c h = absurd (cc)
-let_through false false fenced x p a b c h = absurd (cc)
-
-pub grows : (w v : WorldState) (event : Event) (e : Entry) → next w event ≡ Ok (v, e) → (w.length < journal_limit) × (v.length ≡ w.length + 1)
-grows w v event e step =
-    let through = let_through (nat_le journal_limit w.length) (is_known w event) (is_fenced w event) (taken w event) (v, e) JournalFull Stranger Fenced step in
-    (room w.length through.0, taken-grows w event (v, e) through.1)
-  where
-    room : (n : ℕ) → nat_le journal_limit n ≡ false → n < journal_limit
-    room n h = grind (arith, nat_tests, h)
-
-leads-length : (w v : WorldState) (es : List Entry) → w.length ≤ journal_limit → Leads w es v → w.length + length es ≤ journal_limit
-leads-length w v [] within leads = omega arith
-leads-length w v (e ∷ es) within leads =
-    let one = grows w leads.0 e.event e leads.1 in
-    let room = one.0 in
-    let more = one.1 in
-    let rest = leads-length leads.0 v es (omega arith) leads.2 in
-    omega arith
-
--- a run has no more entries than a journal may have
-pub run-length : (shape : ShapeFields) (es : List Entry) → IsRun shape es → length es ≤ journal_limit
-run-length shape es run = let all = leads-length (first_world shape) run.0 es (omega arith) run.1 in omega arith
+pub grows : (w v : WorldState) (event : Event) (e : Entry) → next w event ≡ Ok (v, e) → v.length ≡ w.length + 1
+grows w v event e step = taken-grows w event (v, e) (next_taken w event (v, e) step).1
 
 -- a run makes as many entries as it has
 pub leads-count : (w v : WorldState) (es : List Entry) → Leads w es v → v.length ≡ w.length + length es
 leads-count w v [] leads = ap (λ (x : WorldState). x.length) (sym leads) ∙ omega arith
 leads-count w v (e ∷ es) leads =
-    let one = (grows w leads.0 e.event e leads.1).1 in
+    let one = grows w leads.0 e.event e leads.1 in
     let rest = leads-count leads.0 v es leads.2 in
     omega arith

@@ -1,17 +1,18 @@
 -- Runs, one entry more at a time.
-use Rattle.std.proofs.Common.{◌≡◌, ℕ, ◌+◌, ◌<◌, ◌≤◌, refl, sym, ◌∙◌, ap, subst, List, [], ◌∷◌, ◌++◌, length, take, drop, get_or, Ok, Err}
+use Rattle.std.proofs.Common.{◌≡◌, ℕ, ◌+◌, ◌<◌, ◌≤◌, arith, refl, sym, ◌∙◌, ap, subst, List, [], ◌∷◌, ◌++◌, length, take, drop, get_or, Ok, Err}
 use Rattle.std.proofs.lemmas.List.{map-append, take_all, take-append-drop}
 use Rattle.messages.specs.Shapes.{ShapeFields, IsShape}
 use Rattle.messages.specs.declared.refusal.Refused.{Refused}
 use Rattle.messages.specs.declared.event.Event.{Event}
 use Rattle.messages.specs.declared.entry.Entry.{Entry}
 use Rattle.cluster_core.specs.World.{WorldState, first_world}
-use Rattle.cluster_core.specs.Next.{next}
+use Rattle.cluster_core.specs.Next.{next, kept_next}
 use Rattle.cluster_core.specs.Parts.{world_state}
 use Rattle.cluster_core.specs.Runs.{Leads}
 use Rattle.cluster_core.specs.Journals.{events_of, IsFirstRefusal, RunFields, LeadsToItsWorld, GoesOn}
+use Rattle.cluster_core.proofs.common.Lengths.{grows}
 use Rattle.cluster_core.proofs.common.Places.{take_read, drop_read}
-use Rattle.cluster_core.proofs.steps.Steps.{next_step}
+use Rattle.cluster_core.proofs.steps.Steps.{next_step, kept_taken}
 
 -- a run goes on by one more entry
 pub leads_push : (w v u : WorldState) (es : List Entry) (e : Entry) → Leads w es v → next v e.event ≡ Ok (u, e) → Leads w (es ++ e ∷ []) u
@@ -38,8 +39,9 @@ pub entry_event : (w v : WorldState) (event : Event) (e : Entry) → next w even
 entry_event w v event e step = next_step w (λ q. q.1.event ≡ event) event (v, e) (λ n s done is. refl) (λ file s done is. refl) (λ n is alive. refl) (λ n is dead few. refl) step
 
 -- one more event happened
-pub ran_more : (shape : ShapeFields) (events : List Event) (i : ℕ) (es fs : List Entry) (w v : WorldState) (event : Event) (e : Entry) → i < length events → event ≡ get_or events i event → Ran shape events i es w → next w event ≡ Ok (v, e) → fs ≡ es ++ e ∷ [] → Ran shape events (i + 1) fs v
-ran_more shape events i es fs w v event e lt is ran step made =
+pub ran_more : (shape : ShapeFields) (events : List Event) (i : ℕ) (es fs : List Entry) (w v : WorldState) (event : Event) (e : Entry) → i < length events → event ≡ get_or events i event → Ran shape events i es w → kept_next w event ≡ Ok (v, e) → fs ≡ es ++ e ∷ [] → Ran shape events (i + 1) fs v
+ran_more shape events i es fs w v event e lt is ran kept made =
+    let step = (kept_taken w event (v, e) kept).1 in
     let of = entry_event w v event e step in
     let P : List Entry → Type 0 = λ xs. Ran shape events (i + 1) xs v in
     let Q : Event → Type 0 = λ x. next w x ≡ Ok (v, e) in
@@ -57,7 +59,7 @@ pub ran_all : (shape : ShapeFields) (events : List Event) (i : ℕ) (es : List E
 ran_all shape events i es w past ran = ran.so_far ∙ take_all i events past
 
 -- the events up to one happened, and that one is refused
-pub first_refusal : (shape : ShapeFields) (events : List Event) (i : ℕ) (es : List Entry) (w : WorldState) (event : Event) (refusal : Refused) → i < length events → event ≡ get_or events i event → Ran shape events i es w → next w event ≡ Err refusal → IsFirstRefusal shape events refusal
+pub first_refusal : (shape : ShapeFields) (events : List Event) (i : ℕ) (es : List Entry) (w : WorldState) (event : Event) (refusal : Refused) → i < length events → event ≡ get_or events i event → Ran shape events i es w → kept_next w event ≡ Err refusal → IsFirstRefusal shape events refusal
 first_refusal shape events i es w event refusal lt is ran refused = record {
   done = es;
   world = w;
@@ -83,11 +85,14 @@ leads_shape w v (e ∷ es) leads = leads_shape leads.0 v es leads.2 ∙ next_sha
 pub goes_on : (r s : RunFields) (event : Event) → LeadsToItsWorld r → GoesOn r event s → LeadsToItsWorld s
 goes_on r s event led on =
     let e : Entry = on.0 in
-    let of = entry_event (world_state r.world) (world_state s.world) event e on.1 in
-    let shape = next_shape (world_state r.world) (world_state s.world) event e on.1 in
-    let step = subst (λ (x : Event). next (world_state r.world) x ≡ Ok (world_state s.world, e)) (sym of) on.1 in
+    let kept = kept_taken (world_state r.world) event (world_state s.world, e) on.1 in
+    let of = entry_event (world_state r.world) (world_state s.world) event e kept.1 in
+    let shape = next_shape (world_state r.world) (world_state s.world) event e kept.1 in
+    let step = subst (λ (x : Event). next (world_state r.world) x ≡ Ok (world_state s.world, e)) (sym of) kept.1 in
     let more = leads_push (first_world r.world.shape) (world_state r.world) (world_state s.world) r.entries e led.leads step in
+    let one = grows (world_state r.world) (world_state s.world) event e kept.1 in
     record {
       served = subst IsShape (sym shape) led.served;
+      few = omega (arith, kept.0, one);
       leads = subst (λ (x : ShapeFields). Leads (first_world x) s.entries (world_state s.world)) (sym shape) (subst (λ (es : List Entry). Leads (first_world r.world.shape) es (world_state s.world)) (sym on.2) more);
     }

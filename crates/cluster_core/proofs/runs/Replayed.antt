@@ -1,16 +1,18 @@
 -- A run done again, entry by entry.
-use Rattle.std.proofs.Common.{◌≡◌, ℕ, ◌+◌, ◌<◌, ◌≤◌, sym, ◌∙◌, ap, subst, List, length, take, drop, get_or, Result, Ok, Err}
-use Rattle.std.proofs.lemmas.List.{take_all}
+use Rattle.std.proofs.Common.{◌≡◌, ℕ, ◌+◌, ◌<◌, ◌≤◌, arith, sym, ◌∙◌, ap, subst, List, length, take, drop, get_or, Result, Ok, Err}
+use Rattle.std.proofs.lemmas.List.{take_all, length-take-le}
 use Rattle.messages.specs.Shapes.{ShapeFields}
 use Rattle.messages.specs.declared.refusal.Refused.{Refused}
 use Rattle.messages.specs.declared.event.Event.{Event}
 use Rattle.messages.specs.declared.entry.Entry.{Entry}
-use Rattle.cluster_core.specs.World.{WorldState, first_world}
-use Rattle.cluster_core.specs.Next.{next}
+use Rattle.cluster_core.specs.World.{WorldState, first_world, journal_limit}
+use Rattle.cluster_core.specs.Next.{next, kept_next}
 use Rattle.cluster_core.specs.Runs.{Leads, IsRun}
+use Rattle.cluster_core.proofs.common.Lengths.{leads-count}
 use Rattle.cluster_core.proofs.common.Places.{drop_read}
 use Rattle.cluster_core.proofs.common.Refusals.{ok_is}
 use Rattle.cluster_core.proofs.runs.JournalRuns.{leads_read}
+use Rattle.cluster_core.proofs.steps.Steps.{kept_of}
 
 -- the first i entries lead to this world, and the others on from it
 pub record Replayed (shape : ShapeFields) (es : List Entry) (i : ℕ) (w : WorldState) : Type 0 where
@@ -20,6 +22,10 @@ pub record Replayed (shape : ShapeFields) (es : List Entry) (i : ℕ) (w : World
 
 pub replayed_none : (shape : ShapeFields) (es : List Entry) (w : WorldState) → w ≡ first_world shape → IsRun shape es → Replayed shape es 0 w
 replayed_none shape es w is run = record { done = sym is; last = run.0; left = subst (λ (v : WorldState). Leads v es run.0) (sym is) run.1 }
+
+-- the world has as many entries as were done
+pub replayed_count : (shape : ShapeFields) (es : List Entry) (i : ℕ) (w : WorldState) → i ≤ length es → Leads (first_world shape) (take i es) w → w.length ≡ i
+replayed_count shape es i w within leads = omega (arith, leads-count (first_world shape) w (take i es) leads, length-take-le i es within)
 
 -- the entry that stands there comes next
 pub replayed_next : (shape : ShapeFields) (es : List Entry) (i : ℕ) (w : WorldState) (e : Entry) → i < length es → e ≡ get_or es i e → Replayed shape es i w → (v : WorldState) × (next w e.event ≡ Ok (v, e))
@@ -36,9 +42,9 @@ pub made_again : (w v u : WorldState) (e made : Entry) (event : Event) → event
 made_again w v u e made event of is again =
     is ∙ ap (λ (x : WorldState). Ok (x, e)) (one_world w v u e made is (subst (λ (x : Event). next w x ≡ Ok (u, made)) of again))
 
-pub not_refused : (w v : WorldState) (e : Entry) (refusal : Refused) (event : Event) → event ≡ e.event → next w e.event ≡ Ok (v, e) → next w event ≡ Err refusal → ⊥
-not_refused w v e refusal event of is refused =
-    let both : ◌≡◌ {A = Result (WorldState × Entry) Refused} (Ok (v, e)) (Err refusal) = sym is ∙ (ap (next w) (sym of) ∙ refused) in
+pub not_refused : (w v : WorldState) (e : Entry) (refusal : Refused) (event : Event) → w.length < journal_limit → event ≡ e.event → next w e.event ≡ Ok (v, e) → kept_next w event ≡ Err refusal → ⊥
+not_refused w v e refusal event room of is refused =
+    let both : ◌≡◌ {A = Result (WorldState × Entry) Refused} (Ok (v, e)) (Err refusal) = sym (kept_of w e.event (Ok (v, e)) room is) ∙ (ap (kept_next w) (sym of) ∙ refused) in
     absurd (cc)
 
 pub replayed_more : (shape : ShapeFields) (es : List Entry) (i : ℕ) (w v : WorldState) (e : Entry) → i < length es → e ≡ get_or es i e → Replayed shape es i w → next w e.event ≡ Ok (v, e) → Replayed shape es (i + 1) v

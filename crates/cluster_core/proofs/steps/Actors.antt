@@ -1,7 +1,6 @@
 -- What an actor's own step at an event makes of a world.
-use Rattle.std.proofs.Common.{◌≡◌, ℕ, ◌<◌, Bool, true, false, not, nat_le, if◌then◌else◌, refl, sym, ◌∙◌, ap, arith, Option, Some, None, Result, Ok, Err}
+use Rattle.std.proofs.Common.{◌≡◌, ℕ, Bool, true, false, not, if◌then◌else◌, refl, sym, ◌∙◌, ap, Option, Some, None, Result, Ok, Err}
 use Rattle.std.proofs.lemmas.Bool.{eqb-true}
-use Rattle.std.proofs.lemmas.Bool.Decides.{nat_tests}
 use Rattle.std.specs.Prelude.{◌==◌}
 use Rattle.messages.specs.Messages.{addressee}
 use Rattle.messages.specs.declared.actor.Actor.{Actor}
@@ -12,7 +11,7 @@ use Rattle.messages.specs.declared.event.Event.TheVariants.{Call, Deliver, Inter
 use Rattle.messages.specs.declared.entry.Entry.{Entry}
 use Rattle.messages.specs.declared.outcome.Outcome.{Outcome}
 use Rattle.messages.specs.declared.refusal.Refused.{Refused}
-use Rattle.messages.specs.declared.refusal.Refused.TheVariants.{Stranger, JournalFull, Fenced}
+use Rattle.messages.specs.declared.refusal.Refused.TheVariants.{Stranger, Fenced}
 use Rattle.node_core.specs.declared.event.NodeEvent.{NodeEvent}
 use Rattle.node_core.specs.declared.event.NodeEvent.TheVariants as node
 use Rattle.node_core.specs.State.{NodeState}
@@ -22,10 +21,10 @@ use Rattle.token_server.specs.declared.event.ServerEvent.{ServerEvent}
 use Rattle.token_server.specs.declared.event.ServerEvent.TheVariants as server
 use Rattle.token_server.specs.State.{ServerState}
 use Rattle.token_server.specs.Server.{server_rule, is_server}
-use Rattle.cluster_core.specs.World.{WorldState, journal_limit}
-use Rattle.cluster_core.specs.Next.{is_known, is_stopped, is_fenced, after_node, after_server, delivered, taken, next}
+use Rattle.cluster_core.specs.World.{WorldState}
+use Rattle.cluster_core.specs.Next.{is_known, is_stopped, is_fenced, after_node, after_server, delivered, taken, next, kept_next}
 use Rattle.cluster_core.specs.Parts.{IsStepOf, IsServerStepOf}
-use Rattle.cluster_core.proofs.steps.Steps.{next_taken, restart_step}
+use Rattle.cluster_core.proofs.steps.Steps.{next_taken, kept_taken, restart_step}
 use Rattle.cluster_core.specs.Actors.{node_event, server_event, node_at, server_at, NodeSteps, ServerSteps, made_by_node, made_by_server}
 
 -- one event, or none
@@ -107,27 +106,22 @@ pub server_done_by : (s : ServerState) (event : Option ServerEvent) (done : Serv
 server_done_by s None done e = absurd (cc)
 server_done_by s (Some step) done e = (step, refl, e)
 
-has_room : (n : ℕ) → n < journal_limit → nat_le journal_limit n ≡ false
-has_room n h = grind (arith, nat_tests, h)
-
 -- what is taken from an actor that may step is the next of the world
-goes : (w : WorldState) (event : Event) (r : Result (WorldState × Entry) Refused) → w.length < journal_limit → is_known w event ≡ true → is_fenced w event ≡ false → taken w event ≡ r → next w event ≡ r
-goes w event r room known free is =
-    let roomy = has_room w.length room in
-    λ i. if roomy i then Err JournalFull else (if not (known i) then Err Stranger else (if free i then Err Fenced else is i))
+goes : (w : WorldState) (event : Event) (r : Result (WorldState × Entry) Refused) → is_known w event ≡ true → is_fenced w event ≡ false → taken w event ≡ r → next w event ≡ r
+goes w event r known free is = λ i. if not (known i) then Err Stranger else (if free i then Err Fenced else is i)
 
-pub node_next : (w : WorldState) (event : Event) (n : ℕ) (s : NodeState) (o : Outcome) → w.length < journal_limit → is_known w event ≡ true → NodeSteps w event n s o → next w event ≡ Ok (made_by_node w event n s o)
-node_next w event n s o room known steps =
+pub node_next : (w : WorldState) (event : Event) (n : ℕ) (s : NodeState) (o : Outcome) → is_known w event ≡ true → NodeSteps w event n s o → next w event ≡ Ok (made_by_node w event n s o)
+node_next w event n s o known steps =
     let by = node_done_by (w.nodes n) (node_event n event) (s, o) steps.done in
     let takes = node_takes w event n by.0 by.1 in
-    goes w event _ room known (takes.fenced ∙ ap not steps.alive) (takes.takes ∙ ap (after_node w event n) by.2)
+    goes w event _ known (takes.fenced ∙ ap not steps.alive) (takes.takes ∙ ap (after_node w event n) by.2)
 
-pub server_next : (w : WorldState) (event : Event) (f : ℕ) (s : ServerState) (o : Outcome) → w.length < journal_limit → is_known w event ≡ true → ServerSteps w event f s o → next w event ≡ Ok (made_by_server w event f s o)
-server_next w event f s o room known steps =
+pub server_next : (w : WorldState) (event : Event) (f : ℕ) (s : ServerState) (o : Outcome) → is_known w event ≡ true → ServerSteps w event f s o → next w event ≡ Ok (made_by_server w event f s o)
+server_next w event f s o known steps =
     let by = server_done_by (w.servers f) (server_event f event) (s, o) steps.done in
     let takes = server_takes w event f by.0 by.1 in
-    goes w event _ room known takes.fenced (takes.takes ∙ ap (after_server w event f) by.2)
+    goes w event _ known takes.fenced (takes.takes ∙ ap (after_server w event f) by.2)
 
 -- a node that begins again is as it was
-pub restart_keeps : (w : WorldState) (n : ℕ) (q : WorldState × Entry) → next w (Restart n) ≡ Ok q → q.0.nodes n ≡ w.nodes n
-restart_keeps w n q h = restart_step w (λ p. p.0.nodes n ≡ w.nodes n) n q (λ m is dead few. refl) (next_taken w (Restart n) q h).1
+pub restart_keeps : (w : WorldState) (n : ℕ) (q : WorldState × Entry) → kept_next w (Restart n) ≡ Ok q → q.0.nodes n ≡ w.nodes n
+restart_keeps w n q h = restart_step w (λ p. p.0.nodes n ≡ w.nodes n) n q (λ m is dead few. refl) (next_taken w (Restart n) q (kept_taken w (Restart n) q h).1).1

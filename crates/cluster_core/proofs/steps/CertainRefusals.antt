@@ -12,7 +12,7 @@ use Rattle.messages.specs.declared.refusal.StepError.{StepError}
 use Rattle.node_core.specs.State.{NodeState}
 use Rattle.token_server.specs.State.{ServerState}
 use Rattle.cluster_core.specs.World.{WorldState, journal_limit, has_node}
-use Rattle.cluster_core.specs.Next.{after_node, after_server, next}
+use Rattle.cluster_core.specs.Next.{after_node, after_server, kept_next}
 
 pub err_is : {A E : Type 0} (a b : E) → ◌≡◌ {A = Result A E} (Err a) (Err b) → a ≡ b
 err_is a b e = cc
@@ -39,7 +39,7 @@ server_goes w event file x done q r is gives refused =
     absurd (cc)
 
 -- a declaration is not refused for want of a number
-pub declare-unspent : (w : WorldState) (n : ℕ) (e : Refused) → next w (Declare n) ≡ Err e → e ≢ Spent
+pub declare-unspent : (w : WorldState) (n : ℕ) (e : Refused) → kept_next w (Declare n) ≡ Err e → e ≢ Spent
 declare-unspent w n e h = by (nat_le journal_limit w.length) (has_node w n) (w.alive n) _ h
   where
     by : (full known alive : Bool) (made : WorldState × Entry) → cond full (Err JournalFull) (cond (not known) (Err Stranger) (cond alive (Ok made) (Err NotAlive))) ≡ Err e → e ≢ Spent

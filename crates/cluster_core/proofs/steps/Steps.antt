@@ -1,6 +1,7 @@
 -- A step of the cluster is a step of one of its nodes or servers.
-use Rattle.std.proofs.Common.{◌≡◌, ℕ, ◌≤◌, true, false, not, nat_le, refl, subst, Result, Ok, Err}
+use Rattle.std.proofs.Common.{◌≡◌, ℕ, ◌<◌, ◌≤◌, if◌then◌else◌, arith, true, false, not, nat_le, refl, subst, Result, Ok, Err}
 use Rattle.std.proofs.lemmas.Bool.{not-false, leb-true}
+use Rattle.std.proofs.lemmas.Bool.Decides.{nat_tests}
 use Rattle.messages.specs.Messages.{addressee}
 use Rattle.messages.specs.declared.actor.Actor.{Actor}
 use Rattle.messages.specs.declared.actor.Actor.TheVariants.{Node as ANode, Server as AServer}
@@ -9,6 +10,7 @@ use Rattle.messages.specs.declared.event.Event.{Event}
 use Rattle.messages.specs.declared.event.Event.TheVariants.{Call, Deliver, Interrupt, Retry, Resend, Declare, Restart, Learn}
 use Rattle.messages.specs.declared.entry.Entry.{Entry}
 use Rattle.messages.specs.declared.outcome.Outcome.{Outcome}
+use Rattle.messages.specs.declared.refusal.Refused.{Refused}
 use Rattle.messages.specs.declared.refusal.Refused.TheVariants.{Stranger, JournalFull, NotAlive, NotDead, TooManyRestarts, Fenced}
 use Rattle.messages.specs.declared.refusal.StepError.{StepError}
 use Rattle.node_core.specs.declared.event.NodeEvent.{NodeEvent}
@@ -20,23 +22,38 @@ use Rattle.token_server.specs.declared.event.ServerEvent.TheVariants as server
 use Rattle.token_server.specs.State.{ServerState}
 use Rattle.token_server.specs.Server.{server_rule}
 use Rattle.cluster_core.specs.World.{WorldState, journal_limit, most_incarnations}
-use Rattle.cluster_core.specs.Next.{is_known, is_fenced, recorded, named_incarnation, with_node, with_server, after_node, after_server, declared, restarted, silent, delivered, taken, next}
+use Rattle.cluster_core.specs.Next.{is_known, is_fenced, recorded, named_incarnation, with_node, with_server, after_node, after_server, declared, restarted, silent, delivered, taken, next, kept_next}
 use Rattle.cluster_core.proofs.common.Refusals.{ok_is, if_ok, unless_refused}
 
 -- a step that is not refused is of actors, processes and messages that the world knows
 pub next_taken : (w : WorldState) (event : Event) (q : WorldState × Entry) → next w event ≡ Ok q → (is_known w event ≡ true) × (taken w event ≡ Ok q)
 next_taken w event q h =
-    let room = unless_refused (nat_le journal_limit w.length) _ q JournalFull h in
-    let known = unless_refused (not (is_known w event)) _ q Stranger room.1 in
+    let known = unless_refused (not (is_known w event)) _ q Stranger h in
     let free = unless_refused (is_fenced w event) (taken w event) q Fenced known.1 in
     (not-false (is_known w event) known.0, free.1)
 
 -- nor is it one of a node that was declared failed
 pub next_unfenced : (w : WorldState) (event : Event) (q : WorldState × Entry) → next w event ≡ Ok q → is_fenced w event ≡ false
 next_unfenced w event q h =
-    let room = unless_refused (nat_le journal_limit w.length) _ q JournalFull h in
-    let known = unless_refused (not (is_known w event)) _ q Stranger room.1 in
+    let known = unless_refused (not (is_known w event)) _ q Stranger h in
     (unless_refused (is_fenced w event) (taken w event) q Fenced known.1).0
+
+full_not : (n : ℕ) → nat_le journal_limit n ≡ false → n < journal_limit
+full_not n h = grind (arith, nat_tests, h)
+
+not_full : (n : ℕ) → n < journal_limit → nat_le journal_limit n ≡ false
+not_full n h = grind (arith, nat_tests, h)
+
+-- what is kept in a journal is a step, for which there is room
+pub kept_taken : (w : WorldState) (event : Event) (q : WorldState × Entry) → kept_next w event ≡ Ok q → (w.length < journal_limit) × (next w event ≡ Ok q)
+kept_taken w event q h =
+    let room = unless_refused (nat_le journal_limit w.length) (next w event) q JournalFull h in
+    (full_not w.length room.0, room.1)
+
+pub kept_of : (w : WorldState) (event : Event) (r : Result (WorldState × Entry) Refused) → w.length < journal_limit → next w event ≡ r → kept_next w event ≡ r
+kept_of w event r room is =
+    let roomy = not_full w.length room in
+    λ i. if roomy i then Err JournalFull else is i
 
 -- what holds after a step of its actor holds after the step
 module _ (w : WorldState) (P : WorldState × Entry → Type 0) where

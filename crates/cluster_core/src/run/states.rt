@@ -6,7 +6,7 @@ ghost use Rattle.messages.specs.declared.refusal.Refused.TheVariants.{NoMemory};
 ghost use Rattle.node_core.specs.Parts.{node_state};
 ghost use Rattle.token_server.specs.Parts.{server_state};
 ghost use Rattle.cluster_core.specs.World.{journal_limit};
-ghost use Rattle.cluster_core.specs.Next.{is_known, next};
+ghost use Rattle.cluster_core.specs.Next.{is_known, kept_next};
 ghost use Rattle.cluster_core.specs.Parts.{world_state};
 ghost use Rattle.cluster_core.specs.Journals.{GoesOn};
 ghost use Rattle.cluster_core.specs.Actors.{NodeSteps, ServerSteps, made_by_node, made_by_server, Records};
@@ -86,8 +86,8 @@ impl Run {
     pub fn restart(&mut self, alloc: Global, node: u8) -> Result<Box<Node>, Refused>
         ensures ok { OnOk result (GoesOn self.old (Restart node) self.new) }
         ensures begun { IfOk result (λ begun. node_state begun.value ≡ (world_state self.new.world).nodes node) }
-        ensures err { IfErr result (λ e. e ≢ NoMemory → next (world_state self.old.world) (Restart node) ≡ Err e) }
-        ensures refused { (e : Refused) → next (world_state self.old.world) (Restart node) ≡ Err e → result ≡ Err e }
+        ensures err { IfErr result (λ e. e ≢ NoMemory → kept_next (world_state self.old.world) (Restart node) ≡ Err e) }
+        ensures refused { (e : Refused) → kept_next (world_state self.old.world) (Restart node) ≡ Err e → result ≡ Err e }
         ensures unchanged { OnErr result (self.new ≡ self.old) }
     {
         self.world.may_restart(node)?;

@@ -7,7 +7,7 @@ ghost use Rattle.messages.specs.Messages.{is_within};
 ghost use Rattle.node_core.specs.Parts.{node_state};
 ghost use Rattle.token_server.specs.Parts.{server_state};
 ghost use Rattle.cluster_core.specs.World.{WorldState, journal_limit, has_node, was_declared};
-ghost use Rattle.cluster_core.specs.Next.{is_known, next, restart_rule};
+ghost use Rattle.cluster_core.specs.Next.{is_known, next, restart_rule, kept_next};
 ghost use Rattle.cluster_core.specs.Parts.{world_state};
 ghost use Rattle.cluster_core.specs.Actors.{HasNode, HasServer, NodeSteps, ServerSteps, made_by_node, made_by_server};
 
@@ -139,8 +139,8 @@ impl World {
     /// In this order: `JournalFull`, `Stranger`, `NotDead`, `TooManyRestarts`, as `step` says.
     pub(crate) fn may_restart(&self, node: u8) -> Result<(), Refused>
         ensures ok { OnOk result ((is_within self.now.shape.nodes node ≡ true) × (made : WorldState × Entry) × (restart_rule (world_state self.now) node ≡ Ok made)) }
-        ensures goes { OnOk result ((e : Refused) → next (world_state self.now) (Restart node) ≢ Err e) }
-        ensures err { IfErr result (λ e. next (world_state self.now) (Restart node) ≡ Err e) }
+        ensures goes { OnOk result ((e : Refused) → kept_next (world_state self.now) (Restart node) ≢ Err e) }
+        ensures err { IfErr result (λ e. kept_next (world_state self.now) (Restart node) ≡ Err e) }
     {
         if self.length >= JOURNAL_LIMIT {
             return Err(Refused::JournalFull);

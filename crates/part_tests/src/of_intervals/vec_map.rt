@@ -13,12 +13,12 @@ const A: Mode = Mode::Read;
 const B: Mode = Mode::Write;
 
 // A map without a run.
-fn begins<S: SpanMap<Mode>>(alloc: Global) -> S {
+pub(super) fn begins<S: SpanMap<Mode>>(alloc: Global) -> S {
     S::new(alloc)
 }
 
 // Whether each of these bytes is in that run, if in any.
-fn has_runs<S: SpanMap<Mode>>(map: &S, cases: &[(u64, Option<(Span, Mode)>)]) -> bool {
+pub(super) fn has_runs<S: SpanMap<Mode>>(map: &S, cases: &[(u64, Option<(Span, Mode)>)]) -> bool {
     for (byte, run) in cases {
         if map.run_at(*byte) != *run {
             return false;
@@ -28,7 +28,7 @@ fn has_runs<S: SpanMap<Mode>>(map: &S, cases: &[(u64, Option<(Span, Mode)>)]) ->
 }
 
 // Whether each of these bytes has that value, if any.
-fn has_values<S: SpanMap<Mode>>(map: &S, cases: &[(u64, Option<Mode>)]) -> bool {
+pub(super) fn has_values<S: SpanMap<Mode>>(map: &S, cases: &[(u64, Option<Mode>)]) -> bool {
     for (byte, value) in cases {
         if map.get(*byte) != *value {
             return false;
@@ -48,7 +48,7 @@ fn has_first<S: SpanMap<Mode>>(map: &S, cases: &[(Span, Option<Mode>, Option<u64
 }
 
 // A value inside a run splits it in three, and the run's value there makes it one again.
-fn splits_and_joins<S: SpanMap<Mode>>(map: &mut S) -> Result<bool, NoMemory> {
+pub(super) fn splits_and_joins<S: SpanMap<Mode>>(map: &mut S) -> Result<bool, NoMemory> {
     map.set(Span { lo: 0, hi: 9 }, A)?;
     map.set(Span { lo: 4, hi: 5 }, B)?;
     let is_split = map.starts() == 3 && has_runs(map, &[(6, Some((Span { lo: 6, hi: 9 }, A)))]);
@@ -58,7 +58,7 @@ fn splits_and_joins<S: SpanMap<Mode>>(map: &mut S) -> Result<bool, NoMemory> {
 }
 
 // A run may reach to the greatest offset, and loses its last byte alone.
-fn clears_the_last_byte<S: SpanMap<Mode>>(map: &mut S) -> Result<bool, NoMemory> {
+pub(super) fn clears_the_last_byte<S: SpanMap<Mode>>(map: &mut S) -> Result<bool, NoMemory> {
     let whole = Span {
         lo: 0,
         hi: GREATEST,
@@ -81,14 +81,14 @@ fn clears_the_last_byte<S: SpanMap<Mode>>(map: &mut S) -> Result<bool, NoMemory>
 }
 
 // From 0 to 9 A, then nothing, from 20 to 29 B, and from 30 to 34 A.
-fn set_three<S: SpanMap<Mode>>(map: &mut S) -> Result<(), NoMemory> {
+pub(super) fn set_three<S: SpanMap<Mode>>(map: &mut S) -> Result<(), NoMemory> {
     map.set(Span { lo: 0, hi: 9 }, A)?;
     map.set(Span { lo: 20, hi: 29 }, B)?;
     map.set(Span { lo: 30, hi: 34 }, A)
 }
 
 // Whether the three are found.
-fn looks_up<S: SpanMap<Mode>>(map: &S) -> bool {
+pub(super) fn looks_up<S: SpanMap<Mode>>(map: &S) -> bool {
     let covers = map.covers(Span { lo: 30, hi: 34 }, A)
         && !map.covers(Span { lo: 30, hi: 35 }, A)
         && !map.covers(Span { lo: 29, hi: 30 }, A);
@@ -120,7 +120,7 @@ fn grows_to<S: SpanMap<Mode>>(
 }
 
 // How far a span goes on each side of the required one.
-fn grows<S: SpanMap<Mode>>(map: &mut S) -> Result<bool, NoMemory> {
+pub(super) fn grows<S: SpanMap<Mode>>(map: &mut S) -> Result<bool, NoMemory> {
     let whole = Span {
         lo: 0,
         hi: GREATEST,
@@ -136,7 +136,7 @@ fn grows<S: SpanMap<Mode>>(map: &mut S) -> Result<bool, NoMemory> {
 }
 
 // Whether a copy of the map becomes another where it changes, and the map stays.
-fn copies<S: SpanMap<Mode>>(map: &S) -> Result<bool, NoMemory> {
+pub(super) fn copies<S: SpanMap<Mode>>(map: &S) -> Result<bool, NoMemory> {
     let mut copy = map.copy()?;
     let was_same = map.same(&copy);
     let changed = copy.set(Span { lo: 3, hi: 3 }, B).is_ok();
@@ -188,7 +188,7 @@ fn clear_again<S: SpanMap<Mode>>(map: &mut S, span: Span) -> Result<bool, NoMemo
 
 // Where one request for memory is refused, the map is as it was, and the same call then goes through.
 // `rt try --test --fail-alloc N` refuses the Nth request of each test, and this one passes at each N.
-fn keeps_what_it_had<S: SpanMap<Mode>>(map: &mut S) -> Result<bool, NoMemory> {
+pub(super) fn keeps_what_it_had<S: SpanMap<Mode>>(map: &mut S) -> Result<bool, NoMemory> {
     for lo in 0..4 {
         let span = Span {
             lo: 10 * lo,
@@ -201,7 +201,7 @@ fn keeps_what_it_had<S: SpanMap<Mode>>(map: &mut S) -> Result<bool, NoMemory> {
     Ok(clear_again(map, Span { lo: 12, hi: 13 })? && map.starts() == 5)
 }
 
-fn is_same_as_its_copy<S: SpanMap<Mode>>(map: &S) -> Result<bool, NoMemory> {
+pub(super) fn is_same_as_its_copy<S: SpanMap<Mode>>(map: &S) -> Result<bool, NoMemory> {
     let copy = copy_again(map)?;
     Ok(map.same(&copy))
 }

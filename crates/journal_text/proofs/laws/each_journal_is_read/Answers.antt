@@ -9,4 +9,4 @@ pub returns : goal.returns
 returns c =
     let journal = c.args.journal.now in
     let fits = subst (λ (es : List EntryFields). All FitsEntry es) c.entries.ensures.value c.entries_fit.ensures in
-    read-run journal.shape journal.entries (subst IsShape c.shape-shape.ensures.value c.shape-shape.ensures.served) c.entries.ensures.run fits
+    read-run journal.shape journal.entries (subst IsShape c.shape-shape.ensures.value c.shape-shape.ensures.served) c.entries.ensures.few c.entries.ensures.run fits

@@ -1,6 +1,6 @@
 use Rattle.std.specs.Fmt.{decimal}
-use Rattle.lockscript.proofs.Fronts.{none-of_kind}
-use Rattle.lockscript.proofs.Pairs.{reads-pair_none}
+use Rattle.journal_text.proofs.Fronts.{none-of_kind}
+use Rattle.texts.proofs.Pairs.{reads-pair_none}
 use Rattle.journal_text.specs.Events.{IsServedEvent, named_text}
 use Rattle.journal_text.specs.Lines.{IsPosition}
 use Rattle.journal_text.proofs.LineKinds.{lines, position_words}

@@ -1,8 +1,8 @@
 use Rattle.std.proofs.Common.{◌++◌, ◌∷◌, Some, None, refl}
 use Rattle.std.specs.Fmt.{decimal}
-use Rattle.lockscript.specs.Layout.{space}
-use Rattle.lockscript.proofs.Fronts.{none-of_kind}
-use Rattle.lockscript.proofs.Pairs.{reads-first_none, reads-pair}
+use Rattle.texts.specs.Layout.{space}
+use Rattle.journal_text.proofs.Fronts.{none-of_kind}
+use Rattle.texts.proofs.Pairs.{reads-first_none, reads-pair}
 use Rattle.journal_text.specs.Events.{IsServedEvent, named_text}
 use Rattle.journal_text.specs.Lines.{IsPosition}
 use Rattle.journal_text.proofs.LineKinds.{lines, position_words}

@@ -1,4 +1,4 @@
-use Rattle.lockscript.proofs.Fronts.{none-of_kind}
+use Rattle.journal_text.proofs.Fronts.{none-of_kind}
 use Rattle.journal_text.proofs.MessageKinds.{messages}
 use Rattle.journal_text.proofs.MessageKinds.MessageKind.{revokes}
 use Rattle.journal_text.proofs.message.revoke_of.Goals as goal

@@ -4,7 +4,7 @@ use Rattle.model.specs.Limits.{IsNumber}
 use Rattle.journal_text.specs.Parts.{dot}
 use Rattle.journal_text.specs.Served.{IsCommandNumber}
 use Rattle.journal_text.proofs.Names.{dot-lacks}
-use Rattle.lockscript.proofs.Pairs.{reads-joined, reads-joined_none}
+use Rattle.texts.proofs.Pairs.{reads-joined, reads-joined_none}
 use Rattle.journal_text.proofs.parts.counted_parts.Goals as goal
 
 pub returns-in-None : goal.returns-in-None
@@ -12,4 +12,4 @@ returns-in-None c = reads-joined_none dot decimal decimal (IsNumber 65535) IsCom
 
 pub returns-in-Some : goal.returns-in-Some
 returns-in-Some c =
-    rw c.zip.ensures (reads-joined dot decimal decimal (IsNumber 65535) IsCommandNumber c.args.word.now c.in-Some.incarnation.now c.in-Some.number.now (dot-lacks 65535 (omega arith)) c.in-Some.ensures.0 c.in-Some.ensures.1 c.incarnation_of.result c.counted_of.result c.incarnation_of.ensures c.counted_of.ensures)
+    rw c.zip.ensures (reads-joined dot decimal decimal (IsNumber 65535) IsCommandNumber c.args.word.now c.in-Some.incarnation.now c.in-Some.number.now (dot-lacks 65535 (omega arith)) c.in-Some.ensures.0 c.in-Some.ensures.1 c.read.result c.read-in-Some.result c.read.ensures c.read-in-Some.ensures)

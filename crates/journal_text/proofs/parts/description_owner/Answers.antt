@@ -1,5 +1,5 @@
 use Rattle.model.specs.declared.owner.Kind.TheVariants.{OfDescription}
-use Rattle.lockscript.proofs.Fronts.{none-of_kind}
+use Rattle.journal_text.proofs.Fronts.{none-of_kind}
 use Rattle.journal_text.proofs.Names.{owners}
 use Rattle.journal_text.proofs.parts.description_owner.Goals as goal
 

@@ -3,7 +3,7 @@ use Rattle.std.specs.Fmt.{decimal}
 use Rattle.model.specs.Limits.{IsNumber, most_nodes}
 use Rattle.journal_text.specs.Parts.{dot}
 use Rattle.journal_text.proofs.Names.{dot-lacks}
-use Rattle.lockscript.proofs.Pairs.{reads-joined, reads-joined_none}
+use Rattle.texts.proofs.Pairs.{reads-joined, reads-joined_none}
 use Rattle.journal_text.proofs.parts.node_parts.Goals as goal
 
 pub returns-in-None : goal.returns-in-None
@@ -11,4 +11,4 @@ returns-in-None c = reads-joined_none dot decimal decimal (IsNumber most_nodes) 
 
 pub returns-in-Some : goal.returns-in-Some
 returns-in-Some c =
-    rw c.zip.ensures (reads-joined dot decimal decimal (IsNumber most_nodes) (IsNumber 65535) c.args.word.now c.in-Some.node.now c.in-Some.incarnation.now (dot-lacks most_nodes (omega arith)) c.in-Some.ensures.0 c.in-Some.ensures.1 c.node_of.result c.incarnation_of.result c.node_of.ensures c.incarnation_of.ensures)
+    rw c.zip.ensures (reads-joined dot decimal decimal (IsNumber most_nodes) (IsNumber 65535) c.args.word.now c.in-Some.node.now c.in-Some.incarnation.now (dot-lacks most_nodes (omega arith)) c.in-Some.ensures.0 c.in-Some.ensures.1 c.read.result c.read-in-Some.result c.read.ensures c.read-in-Some.ensures)

@@ -5,7 +5,7 @@ use Rattle.journal_text.specs.Parts.{at_sign}
 use Rattle.journal_text.specs.Served.{IsHolder}
 use Rattle.journal_text.specs.Texts.{holder_text}
 use Rattle.journal_text.proofs.Names.{at_sign-lacks}
-use Rattle.lockscript.proofs.Pairs.{reads-joined, reads-joined_none}
+use Rattle.texts.proofs.Pairs.{reads-joined, reads-joined_none}
 use Rattle.journal_text.proofs.parts.numbered_process.Goals as goal
 
 pub returns-in-None : goal.returns-in-None
@@ -13,4 +13,4 @@ returns-in-None c = reads-joined_none at_sign decimal holder_text (IsNumber most
 
 pub returns-in-Some : goal.returns-in-Some
 returns-in-Some c =
-    rw c.zip.ensures (reads-joined at_sign decimal holder_text (IsNumber most_processes) IsHolder c.args.text.now c.in-Some.pid.now c.in-Some.host.now (at_sign-lacks most_processes (omega arith)) c.in-Some.ensures.0 c.in-Some.ensures.1 c.pid_of.result c.host_of.result c.pid_of.ensures c.host_of.ensures)
+    rw c.zip.ensures (reads-joined at_sign decimal holder_text (IsNumber most_processes) IsHolder c.args.text.now c.in-Some.pid.now c.in-Some.host.now (at_sign-lacks most_processes (omega arith)) c.in-Some.ensures.0 c.in-Some.ensures.1 c.read.result c.host_of.result c.read.ensures c.host_of.ensures)

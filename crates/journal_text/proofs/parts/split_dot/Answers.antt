@@ -1,5 +1,5 @@
 use Rattle.std.proofs.Common.{arith}
-use Rattle.lockscript.proofs.SingleWords.{split-first}
+use Rattle.texts.proofs.SingleWords.{split-first}
 use Rattle.journal_text.specs.Parts.{dot}
 use Rattle.journal_text.proofs.parts.split_dot.Goals as goal
 

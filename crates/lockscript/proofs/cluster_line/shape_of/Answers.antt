@@ -1,7 +1,7 @@
 use Rattle.std.specs.Prelude.{codes}
 use Rattle.messages.specs.Shapes.{IsShape}
 use Rattle.lockscript.specs.Scripts.{counts_text}
-use Rattle.lockscript.proofs.Pairs.{reads-after, reads-after_none}
+use Rattle.texts.proofs.Pairs.{reads-after, reads-after_none}
 use Rattle.lockscript.proofs.cluster_line.shape_of.Goals as goal
 
 pub returns-in-None : goal.returns-in-None

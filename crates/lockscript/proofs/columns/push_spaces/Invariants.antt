@@ -1,5 +1,5 @@
 use Rattle.std.proofs.Common.{◌≡◌, ◌++◌, replicate, string_bytes}
-use Rattle.lockscript.specs.Layout.{space}
+use Rattle.texts.specs.Layout.{space}
 use Rattle.lockscript.proofs.columns.push_spaces.Given as goal
 
 abbrev pub invariant-loop : goal.invariant-loop

@@ -1,5 +1,22 @@
-use Rattle.lockscript.proofs.CommandKinds.{no_command_with}
+use Rattle.std.proofs.Common.{rules}
+use Rattle.texts.proofs.FirstWords.{none-with}
+use Rattle.texts.proofs.OfKinds.{reads-made}
+use Rattle.lockscript.proofs.CommandKinds.{begins-command, calls, interrupts, learns, retries}
 use Rattle.lockscript.proofs.commands.command_with.Goals as goal
 
+pub returns-in-call : goal.returns-in-call
+returns-in-call c = rw c.in-call.is (reads-made calls c.args.operands.now c.read.result c.map.result c.read.ensures c.map.ensures.cases (λ f x made. search rules))
+
+pub returns-in-interrupt : goal.returns-in-interrupt
+returns-in-interrupt c = rw c.in-interrupt.is (reads-made interrupts c.args.operands.now c.read-in-interrupt.result c.map-in-interrupt.result c.read-in-interrupt.ensures c.map-in-interrupt.ensures.cases (λ f x made. search rules))
+
+pub returns-in-retry : goal.returns-in-retry
+returns-in-retry c = rw c.in-retry.is (reads-made retries c.args.operands.now c.read-in-retry.result c.map-in-retry.result c.read-in-retry.ensures c.map-in-retry.ensures.cases (λ f x made. search rules))
+
+pub returns-in-learn : goal.returns-in-learn
+returns-in-learn c = rw c.in-learn.is (reads-made learns c.args.operands.now c.read-in-learn.result c.map-in-learn.result c.read-in-learn.ensures c.map-in-learn.ensures.cases (λ f x made. search rules))
+
 pub returns-in_default : goal.returns-in_default
-returns-in_default c = no_command_with c.args.word.now c.args.operands.now c.requires c.in_default.not-call c.in_default.not-deliver c.in_default.not-lose c.in_default.not-interrupt c.in_default.not-retry c.in_default.not-resend c.in_default.not-declare c.in_default.not-restart c.in_default.not-learn
+returns-in_default c =
+    let other = c.in_default in
+    none-with begins-command c.args.word.now c.args.operands.now c.requires (other.not-call, (other.not-deliver, (other.not-lose, (other.not-interrupt, (other.not-retry, (other.not-resend, (other.not-declare, (other.not-restart, (other.not-learn, tt)))))))))

@@ -2,14 +2,13 @@ use Rattle.std.proofs.Common.{◌≤◌, List, length, sym, ◌∙◌, subst}
 use Rattle.messages.specs.Shapes.{IsShape}
 use Rattle.messages.specs.declared.entry.Entry.{Entry}
 use Rattle.cluster_core.specs.World.{journal_limit}
-use Rattle.cluster_core.proofs.common.Lengths.{run-length}
 use Rattle.placement.proofs.Placements.{is_placed}
 use Rattle.placement.proofs.placed.placed.Goals as goal
 
 pub items_of-requires : goal.items_of-requires
 items_of-requires c =
     let P : List Entry → Type 0 = λ es. length es ≤ journal_limit in
-    subst P (sym c.entries.ensures.value) (run-length c.args.journal.now.shape c.args.journal.now.entries c.entries.ensures.run)
+    subst P (sym c.entries.ensures.value) c.entries.ensures.few
 
 pub of_rising-requires : goal.of_rising-requires
 of_rising-requires c =

@@ -32,4 +32,4 @@ returns-clause-verdict c =
     let first = c.in_ok-auditor.auditor in
     let after = c.read_each.new.sink in
     let empty = subst (λ (s : ShapeFields). Knows s (world_state first.world) first.taken first.wrong []) (sym again.0) c.in_ok-auditor.ensures in
-    (record { shape = shape; entries = read.0 }, again.1, verdict shape (world_state after.world) after.taken after.wrong read.0 (read.2 empty))
+    (record { shape = shape; entries = read.0 }, again.1, verdict shape (world_state after.world) after.taken after.wrong read.0 again.1.1 (read.2 empty))

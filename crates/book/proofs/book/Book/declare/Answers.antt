@@ -2,7 +2,7 @@ use Rattle.std.proofs.Common.{◌≡◌, sym, ap, ◌∙◌, subst, Err}
 use Rattle.std.proofs.lemmas.Result.{err_from_is_err_and}
 use Rattle.messages.specs.declared.event.Event.TheVariants.{Declare}
 use Rattle.messages.specs.declared.refusal.Refused.{Refused}
-use Rattle.cluster_core.specs.Next.{next}
+use Rattle.cluster_core.specs.Next.{kept_next}
 use Rattle.cluster_core.specs.Parts.{world_state}
 use Rattle.cluster_core.proofs.steps.CertainRefusals.{err_is, declare-unspent}
 use Rattle.messages.specs.Messages.{sending}
@@ -26,7 +26,7 @@ returns-clause-ok c =
 
 pub returns-in_err-take-clause-refused : goal.returns-in_err-take-clause-refused
 returns-in_err-take-clause-refused c = λ e refused.
-    let before : next (world_state c.self.inside.run.world) (Declare c.args.node) ≡ Err e = subst (λ (r : RunFields). next (world_state r.world) (Declare c.args.node) ≡ Err e) (sym c.self.view_is) refused in
+    let before : kept_next (world_state c.self.inside.run.world) (Declare c.args.node) ≡ Err e = subst (λ (r : RunFields). kept_next (world_state r.world) (Declare c.args.node) ≡ Err e) (sym c.self.view_is) refused in
     let told = err_from_is_err_and c.from_residual.result c.from_residual.ensures.1 in
     let same = c.in_err-take.ensures.refused e (declare-unspent (world_state c.self.inside.run.world) c.args.node e before) before in
     told.1 ∙ ap (λ (r : Refused). Err r) (told.2 ∙ err_is _ _ same)

@@ -1,9 +1,11 @@
 use Rattle.std.proofs.Common.{◌≡◌, refl, sym, subst}
+use Rattle.messages.specs.declared.event.Event.TheVariants.{Restart}
 use Rattle.messages.specs.declared.entry.Entry.{Entry}
 use Rattle.node_core.specs.Parts.{node_state}
 use Rattle.cluster_core.specs.World.{WorldState}
 use Rattle.cluster_core.specs.Parts.{world_state}
 use Rattle.cluster_core.specs.Journals.{RunFields}
+use Rattle.cluster_core.proofs.steps.Steps.{kept_taken}
 use Rattle.book.specs.declared.state.State.TheVariants.{OfNode}
 use Rattle.book.specs.Fields.{SeatFields}
 use Rattle.book.specs.Turns.{Restarted}
@@ -19,7 +21,7 @@ returns-clause-ok c =
     let went = c.in_ok-begun.ensures.ok in
     let q : WorldState × Entry = (world_state d.world, went.0) in
     let seat : SeatFields = record { state = OfNode n c.in_ok-begun.begun; commits = 0 } in
-    let stands = restarted_mine (world_state b.world) n q (node_state c.in_ok-begun.begun.value) went.1 c.in_ok-begun.ensures.begun in
+    let stands = restarted_mine (world_state b.world) n q (node_state c.in_ok-begun.begun.value) (kept_taken (world_state b.world) (Restart n) q went.1).1 c.in_ok-begun.ensures.begun in
     let made : Restarted b n d seat = restarted b d n seat went refl refl stands in
     let same : Restarted b n d c.new.result = subst (λ (x : SeatFields). Restarted b n d x) (sym c.new.ensures) made in
     subst (λ (x : RunFields). Restarted x n d c.new.result) c.self.view_is same

@@ -1,33 +1,35 @@
-use Rattle.std.proofs.Common.{◌≡◌, ℕ, ◌+◌, subst, arith, List}
+use Rattle.std.proofs.Common.{◌≡◌, ℕ, ◌+◌, ◌<◌, subst, arith, List}
 use Rattle.std.proofs.lemmas.List.{take_all}
 use Rattle.messages.specs.declared.entry.Entry.{Entry}
-use Rattle.cluster_core.specs.World.{first_world}
+use Rattle.cluster_core.specs.World.{first_world, journal_limit}
 use Rattle.cluster_core.specs.Parts.{world_state}
 use Rattle.cluster_core.specs.Runs.{Leads}
 use Rattle.cluster_core.specs.Journals.{IsFirstWrong}
-use Rattle.cluster_core.proofs.common.Lengths.{run-length}
 use Rattle.cluster_core.proofs.runs.JournalRuns.{leads_read}
 use Rattle.cluster_core.proofs.runs.Checked.{first_wrong, none_wrong}
+use Rattle.cluster_core.proofs.runs.Replayed.{replayed_count}
 use Rattle.cluster_core.proofs.runs.Runs.{every_run, every_plain, safe_run, every_denial}
 use Rattle.cluster_core.proofs.tokens.Apart.{numbers_after}
 use Rattle.cluster_core.proofs.journal.Journal.check.Goals as goal
 
 pub returns-then-len-clause-accepted : goal.returns-then-len-clause-accepted
-returns-then-len-clause-accepted c = λ run.
-    let within = run-length c.args.shape c.args.entries.items run in
-    absurd (omega (arith, c.if-len.true, c.len.ensures))
+returns-then-len-clause-accepted c = λ run few. absurd (omega (arith, few, c.if-len.true, c.len.ensures))
 
 pub loop-index-preserved : goal.loop-index-preserved
 loop-index-preserved c = leads_read (first_world c.args.shape) (world_state c.loop-index.world) (world_state c.comes_next.new.world) c.args.entries.items c.loop-index.index c.index.result.now (omega (arith, c.loop-index-test.true)) c.index.ensures c.loop-index.invariant (c.in_ok-comes_next.ensures.made c.if-not-branch.false)
 
 pub returns-then-not-branch-clause-accepted : goal.returns-then-not-branch-clause-accepted
-returns-then-not-branch-clause-accepted c = λ run.
-    let wrong = first_wrong c.args.shape c.args.entries.items c.loop-index.index (world_state c.loop-index.world) c.index.result.now (omega (arith, c.loop-index-test.true)) c.index.ensures c.loop-index.invariant (c.in_ok-comes_next.ensures.other c.if-not-branch.true) in
+returns-then-not-branch-clause-accepted c = λ run few.
+    let count = replayed_count c.args.shape c.args.entries.items c.loop-index.index (world_state c.loop-index.world) (omega (arith, c.loop-index-test.true)) c.loop-index.invariant in
+    let room : (world_state c.loop-index.world).length < journal_limit = omega (arith, count, few, c.loop-index-test.true) in
+    let wrong = first_wrong c.args.shape c.args.entries.items c.loop-index.index (world_state c.loop-index.world) c.index.result.now (omega (arith, c.loop-index-test.true)) c.index.ensures c.loop-index.invariant (c.in_ok-comes_next.ensures.other c.if-not-branch.true room) in
     absurd (none_wrong c.args.shape c.args.entries.items (c.loop-index.index + 1) wrong run)
 
 pub returns-then-not-branch-clause-wrong : goal.returns-then-not-branch-clause-wrong
 returns-then-not-branch-clause-wrong c = λ position told.
-    let wrong = first_wrong c.args.shape c.args.entries.items c.loop-index.index (world_state c.loop-index.world) c.index.result.now (omega (arith, c.loop-index-test.true)) c.index.ensures c.loop-index.invariant (c.in_ok-comes_next.ensures.other c.if-not-branch.true) in
+    let count = replayed_count c.args.shape c.args.entries.items c.loop-index.index (world_state c.loop-index.world) (omega (arith, c.loop-index-test.true)) c.loop-index.invariant in
+    let room : (world_state c.loop-index.world).length < journal_limit = omega (arith, count, c.if-len.false, c.len.ensures, c.loop-index-test.true) in
+    let wrong = first_wrong c.args.shape c.args.entries.items c.loop-index.index (world_state c.loop-index.world) c.index.result.now (omega (arith, c.loop-index-test.true)) c.index.ensures c.loop-index.invariant (c.in_ok-comes_next.ensures.other c.if-not-branch.true room) in
     let P : ℕ → Type 0 = λ k. IsFirstWrong c.args.shape c.args.entries.items k in
     let same : c.loop-index.index + 1 ≡ position = cc in
     subst P same wrong

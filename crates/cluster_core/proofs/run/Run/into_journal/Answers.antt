@@ -1,4 +1,4 @@
-use Rattle.std.proofs.Common.{◌≡◌, ◌∙◌, sym, subst}
+use Rattle.std.proofs.Common.{◌≡◌, ◌∙◌, sym, subst, arith}
 use Rattle.cluster_core.specs.Journals.{JournalFields, journal_of}
 use Rattle.cluster_core.specs.Parts.{world_state}
 use Rattle.cluster_core.specs.Histories.{HasOneHistory}
@@ -6,9 +6,16 @@ use Rattle.cluster_core.specs.Plain.{HasPlainHistory}
 use Rattle.cluster_core.specs.Safe.{LeadsToSafe}
 use Rattle.cluster_core.specs.Numbers.{LeadsToNumbers}
 use Rattle.cluster_core.specs.Evidence.{DenialsHaveEvidence}
+use Rattle.cluster_core.specs.World.{first_world}
+use Rattle.cluster_core.proofs.common.Lengths.{leads-count}
 use Rattle.cluster_core.proofs.tokens.Apart.{numbers_after}
 use Rattle.cluster_core.proofs.runs.Runs.{every_run, every_plain, safe_run, every_denial}
 use Rattle.cluster_core.proofs.run.Run.into_journal.Goals as goal
+
+pub of_run-requires-clause-few : goal.of_run-requires-clause-few
+of_run-requires-clause-few c =
+    let count = leads-count (first_world c.self.inside.world.shape) (world_state c.self.inside.world) c.self.inside.entries.items c.self.invariant.leads in
+    omega (arith, count, c.self.invariant.few)
 
 pub returns-clause-one_table : goal.returns-clause-one_table
 returns-clause-one_table c =

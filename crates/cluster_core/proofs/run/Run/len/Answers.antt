@@ -1,14 +1,14 @@
-use Rattle.std.proofs.Common.{◌≡◌, ◌≤◌, arith, subst, length}
-use Rattle.cluster_core.specs.World.{first_world, journal_limit}
+use Rattle.std.proofs.Common.{◌≡◌, arith, subst}
+use Rattle.cluster_core.specs.World.{first_world}
 use Rattle.cluster_core.specs.Parts.{world_state}
 use Rattle.cluster_core.specs.Journals.{RunFields}
-use Rattle.cluster_core.proofs.common.Lengths.{run-length, leads-count}
+use Rattle.cluster_core.proofs.common.Lengths.{leads-count}
 use Rattle.cluster_core.proofs.run.Run.len.Goals as goal
 
 pub overflow_cast-result : goal.overflow_cast-result
 overflow_cast-result c =
-    let few : length c.self.inside.entries.items ≤ journal_limit = run-length c.self.inside.world.shape c.self.inside.entries.items (world_state c.self.inside.world, c.self.invariant.leads) in
-    omega (arith, few, c.len.ensures)
+    let count = leads-count (first_world c.self.inside.world.shape) (world_state c.self.inside.world) c.self.inside.entries.items c.self.invariant.leads in
+    omega (arith, count, c.self.invariant.few, c.len.ensures)
 
 pub returns-clause-of_world : goal.returns-clause-of_world
 returns-clause-of_world c =
@@ -18,5 +18,5 @@ returns-clause-of_world c =
 
 pub returns-clause-within : goal.returns-clause-within
 returns-clause-within c =
-    let few : length c.self.inside.entries.items ≤ journal_limit = run-length c.self.inside.world.shape c.self.inside.entries.items (world_state c.self.inside.world, c.self.invariant.leads) in
-    omega (arith, few, c.len.ensures)
+    let count = leads-count (first_world c.self.inside.world.shape) (world_state c.self.inside.world) c.self.inside.entries.items c.self.invariant.leads in
+    omega (arith, count, c.self.invariant.few, c.len.ensures)

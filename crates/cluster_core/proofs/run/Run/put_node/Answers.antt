@@ -1,7 +1,10 @@
-use Rattle.std.proofs.Common.{◌∙◌, ap, sym, List, ◌++◌, ◌∷◌, [], Ok}
+use Rattle.std.proofs.Common.{◌<◌, ◌∙◌, ap, sym, subst, List, ◌++◌, ◌∷◌, [], Ok}
 use Rattle.messages.specs.declared.entry.Entry.{Entry}
+use Rattle.cluster_core.specs.World.{journal_limit}
 use Rattle.cluster_core.specs.Journals.{RunFields}
+use Rattle.cluster_core.specs.Parts.{world_state}
 use Rattle.cluster_core.proofs.runs.JournalRuns.{goes_on}
+use Rattle.cluster_core.proofs.steps.Steps.{kept_of}
 use Rattle.cluster_core.proofs.run.Run.put_node.Goals as goal
 
 pub invariant_of-self-2 : goal.invariant_of-self-2
@@ -10,4 +13,4 @@ invariant_of-self-2 c =
     let after : RunFields = record { world = c.put_node.new.self; entries = c.push_reserved.new.self.items } in
     let e : Entry = c.in_ok-entry.entry in
     let step = c.in_ok-entry.ensures.next ∙ (λ i. Ok (sym c.in_ok-entry.ensures.ok i)) in
-    goes_on before after c.args.event c.self.invariant (e, step, c.push_reserved.ensures.items ∙ ap (λ (es : List Entry). es ++ e ∷ []) c.reserve.ensures.items)
+    goes_on before after c.args.event c.self.invariant (e, kept_of (world_state c.self.inside.world) c.args.event _ (subst (λ (r : RunFields). r.world.length < journal_limit) (sym c.self.view_is) c.requires.room) step, c.push_reserved.ensures.items ∙ ap (λ (es : List Entry). es ++ e ∷ []) c.reserve.ensures.items)

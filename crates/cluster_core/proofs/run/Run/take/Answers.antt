@@ -1,7 +1,9 @@
 use Rattle.std.proofs.Common.{◌∙◌, ap, List, ◌++◌, ◌∷◌, []}
 use Rattle.messages.specs.declared.entry.Entry.{Entry}
 use Rattle.cluster_core.specs.Journals.{RunFields}
+use Rattle.cluster_core.specs.Parts.{world_state}
 use Rattle.cluster_core.proofs.runs.JournalRuns.{goes_on}
+use Rattle.cluster_core.proofs.steps.Steps.{kept_of}
 use Rattle.cluster_core.proofs.run.Run.take.Goals as goal
 
 pub invariant_of-self-2 : goal.invariant_of-self-2
@@ -9,4 +11,4 @@ invariant_of-self-2 c =
     let before : RunFields = record { world = c.self.inside.world; entries = c.self.inside.entries.items } in
     let after : RunFields = record { world = c.settle.new.self; entries = c.push_reserved.new.self.items } in
     let e : Entry = c.in_ok-entry.entry in
-    goes_on before after c.args.event c.self.invariant (e, c.in_ok-entry.ensures.ok, c.push_reserved.ensures.items ∙ ap (λ (es : List Entry). es ++ e ∷ []) c.reserve.ensures.items)
+    goes_on before after c.args.event c.self.invariant (e, kept_of (world_state c.self.inside.world) c.args.event _ c.in_ok-change.ensures.ok.room c.in_ok-entry.ensures.ok, c.push_reserved.ensures.items ∙ ap (λ (es : List Entry). es ++ e ∷ []) c.reserve.ensures.items)

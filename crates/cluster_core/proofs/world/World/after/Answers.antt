@@ -2,14 +2,22 @@ use Rattle.std.proofs.Common.{◌≡◌, ◌∙◌, ◌<◌, ◌≤◌, List, le
 use Rattle.messages.specs.declared.entry.Entry.{Entry}
 use Rattle.cluster_core.specs.World.{first_world}
 use Rattle.cluster_core.specs.Parts.{world_state}
-use Rattle.cluster_core.proofs.runs.Replayed.{replayed_none, replayed_next, replayed_more, replayed_all}
+use Rattle.cluster_core.proofs.runs.Replayed.{replayed_none, replayed_count, replayed_next, replayed_more, replayed_all}
 use Rattle.cluster_core.proofs.world.World.after.Goals as goal
 
 pub loop-entry-init : goal.loop-entry-init
 loop-entry-init c = replayed_none c.args.journal.now.shape c.args.journal.now.entries (world_state c.in_ok-world.world) (c.in_ok-world.ensures.first ∙ ap first_world c.shape.ensures.value) c.entries-entry-items.ensures.run
 
-pub repeat-requires : goal.repeat-requires
-repeat-requires c =
+pub repeat-requires-clause-room : goal.repeat-requires-clause-room
+repeat-requires-clause-room c =
+    let i = c.loop-entry.entry-index in
+    let same = c.entries-entry-items.ensures.value in
+    let within : i < length c.args.journal.now.entries = subst (λ (es : List Entry). i < length es) same c.loop-entry-test.true in
+    let count = replayed_count c.args.journal.now.shape c.args.journal.now.entries i (world_state c.loop-entry.world) (omega (arith, within)) c.loop-entry.invariant.done in
+    omega (arith, within, count, c.entries-entry-items.ensures.few)
+
+pub repeat-requires-clause-made : goal.repeat-requires-clause-made
+repeat-requires-clause-made c =
     let i = c.loop-entry.entry-index in
     let e = c.entry-item.result in
     let same = c.entries-entry-items.ensures.value in

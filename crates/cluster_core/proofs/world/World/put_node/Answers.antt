@@ -9,7 +9,7 @@ use Rattle.cluster_core.proofs.steps.WorldSteps.{node_settled, node_named, node_
 use Rattle.cluster_core.proofs.world.World.put_node.Goals as goal
 
 pub returns-in_err-put_in-clause-next : goal.returns-in_err-put_in-clause-next
-returns-in_err-put_in-clause-next c = node_next (world_state c.args.self.now) c.args.event c.args.node (node_state c.args.state.value) c.args.outcome c.requires.room c.requires.known c.requires.step
+returns-in_err-put_in-clause-next c = node_next (world_state c.args.self.now) c.args.event c.args.node (node_state c.args.state.value) c.args.outcome c.requires.known c.requires.step
 
 pub at_node-requires-clause-named : goal.at_node-requires-clause-named
 at_node-requires-clause-named c =
@@ -24,7 +24,7 @@ invariant_of-self-2 c =
     node_settled _ _ c.self.view_is c.self.invariant c.args.outcome _ _ c.in_ok-put_in.ensures.sent c.as_slice-sends.ensures c.args.node by.0 c.args.state.value _ c.in_ok-put_in.ensures.items c.requires.step.number c.requires.step.alive by.2 c.requires.room
 
 pub returns-clause-next : goal.returns-clause-next
-returns-clause-next c = node_next (world_state c.args.self.now) c.args.event c.args.node (node_state c.args.state.value) c.args.outcome c.requires.room c.requires.known c.requires.step
+returns-clause-next c = node_next (world_state c.args.self.now) c.args.event c.args.node (node_state c.args.state.value) c.args.outcome c.requires.known c.requires.step
 
 pub returns-clause-ok : goal.returns-clause-ok
 returns-clause-ok c =

@@ -1,6 +1,6 @@
 use Rattle.std.proofs.Common.{◌≡◌, ◌+◌, ◌∙◌, sym, true, false, [], arith}
 use Rattle.std.proofs.lemmas.Result.{err_from_is_err_and}
-use Rattle.lockscript.specs.LineFeeds.{is_skipped}
+use Rattle.texts.specs.LineFeeds.{is_skipped}
 use Rattle.lockscript.proofs.Passes.{passes-none, passes-join, passes-skipped, shorter-line}
 use Rattle.lockscript.proofs.lines.Lines.next_command.Goals as goal
 

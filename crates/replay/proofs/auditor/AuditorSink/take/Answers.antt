@@ -17,6 +17,6 @@ returns c = λ s es knows.
     let counted : old.taken ≤ journal_limit → position ≡ old.taken + 1 = λ few. omega (arith, c.saturating_add-position.ensures) in
     let none = sym c.is_some.ensures ∙ c.if-is_some.false in
     elim c.if-branch.branch [
-      | then-branch w ↦ rw w.self-is (knows-next s (world_state old.world) (world_state c.comes_next.new.world) old.taken position old.wrong es c.args.entry none counted (c.in_ok-comes_next.ensures.made w.if-branch.true) knows)
+      | then-branch w ↦ rw w.self-is (knows-next s (world_state old.world) (world_state c.comes_next.new.world) old.taken position old.wrong es c.args.entry none counted (c.in_ok-comes_next.ensures.room w.if-branch.true) (c.in_ok-comes_next.ensures.made w.if-branch.true) knows)
       | else-branch w ↦ rw w.self-is (knows-wrong s (world_state old.world) (world_state c.comes_next.new.world) old.taken position old.taken old.wrong es c.args.entry none counted (c.in_ok-comes_next.ensures.other w.if-branch.false) knows)
     ]

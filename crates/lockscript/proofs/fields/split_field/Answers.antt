@@ -1,5 +1,0 @@
-use Rattle.lockscript.proofs.SingleWords.{split-first_field}
-use Rattle.lockscript.proofs.fields.split_field.Goals as goal
-
-pub returns : goal.returns
-returns c = split-first_field c.args.text.now c.split_once.result c.split_once.ensures.cases

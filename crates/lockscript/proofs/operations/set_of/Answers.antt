@@ -1,7 +1,0 @@
-use Rattle.lockscript.proofs.Fronts.{none-of_kind}
-use Rattle.lockscript.proofs.OperationKinds.{operations}
-use Rattle.lockscript.proofs.OperationKinds.OpKind.{sets}
-use Rattle.lockscript.proofs.operations.set_of.Goals as goal
-
-pub returns-in_err-fd : goal.returns-in_err-fd
-returns-in_err-fd c = rw c.from_residual.ensures (none-of_kind operations sets c.args.operands.now c.in_err-fd.ensures)

@@ -1,0 +1,6 @@
+pub mod Pairs
+pub mod SingleWords
+pub mod Outcomes
+pub mod OfKinds
+pub mod FirstWords
+pub mod FieldValues

@@ -1,0 +1,7 @@
+//! Values and their texts: numbers, words, and lines of fields.
+#![tactic(auto)]
+
+pub mod front;
+pub mod number;
+pub mod text;
+pub mod words;

@@ -1,0 +1,70 @@
+//! Ways to write values.
+ghost use Rattle.std.specs.Prelude.{◌≡◌, ◌≢◌, ◌++◌, ◌∷◌, ℕ, List, MatchOption, OnOk, string_bytes, true};
+ghost use Rattle.texts.specs.Layout.{space};
+ghost use Rattle.texts.specs.Reads.{Both, Lacks, Reads, has_no_space, pair_text};
+
+use std::alloc::AllocError;
+
+/// A way to write values: a field of a line, or several.
+pub trait Text {
+    /// What it writes.
+    type Value: Drop;
+
+    /// The text of a value.
+    ghost text_of: { Self.Value → List ℕ };
+
+    /// The value is within its limits.
+    ghost is_served: { Self.Value → Type 0 };
+
+    /// The value within its limits that the text writes.
+    fn read(text: &str) -> Option<Self::Value>
+        ensures { Reads text_of is_served text.now result };
+
+    /// Writes the value.
+    fn write(value: &Self::Value, out: &mut String) -> Result<(), AllocError>
+        ensures { OnOk result (string_bytes out.new ≡ string_bytes out.old ++ text_of value.now) };
+}
+
+/// A way to write values in one field.
+pub trait Word: Text {
+    /// No text of a value has a space.
+    ghost is_one_field: { (value : Self.Value) → Self.is_served value → has_no_space (Self.text_of value) ≡ true };
+}
+
+/// The first field of a text, and what stands after the space behind it.
+pub fn split_field(text: &str) -> Option<(&str, &str)>
+    ensures { MatchOption result
+        ((word rest : List ℕ) → Lacks space word → text.now ≢ word ++ space ∷ rest)
+        (λ parts. Lacks space parts.0.now × (text.now ≡ parts.0.now ++ space ∷ parts.1.now)) }
+{
+    text.split_once(' ')
+}
+
+/// What stands behind the front of a text.
+pub fn after<'a>(text: &'a str, front: &str) -> Option<&'a str>
+    ensures { MatchOption result ((rest : List ℕ) → text.entry.now ≢ front.now ++ rest) (λ rest. text.entry.now ≡ front.now ++ rest.now) }
+{
+    text.strip_prefix(front)
+}
+
+/// A field, a space, and what stands behind it.
+impl<A: Word, B: Text> Text for (A, B) {
+    type Value = (A::Value, B::Value);
+
+    ghost text_of = { pair_text A.text_of B.text_of };
+
+    ghost is_served = { Both A.is_served B.is_served };
+
+    fn read(text: &str) -> Option<(A::Value, B::Value)> {
+        match split_field(text) {
+            Some((word, rest)) => A::read(word).zip(B::read(rest)),
+            None => None,
+        }
+    }
+
+    fn write(value: &(A::Value, B::Value), out: &mut String) -> Result<(), AllocError> {
+        A::write(&value.0, out)?;
+        out.push_str(" ")?;
+        B::write(&value.1, out)
+    }
+}
