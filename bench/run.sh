@@ -12,7 +12,7 @@ if [ -z "$folder" ]; then
     folder=$(mktemp -d) || exit 1
     trap 'rm -rf "$folder"' EXIT
 fi
-[ $# -gt 0 ] || set -- covered readers lossy fight storm crowd walk churn failures turns queue rivals
+[ $# -gt 0 ] || set -- covered readers lossy fight storm crowd walk scattered regions churn failures turns queue rivals
 mkdir -p "$folder" || exit 1
 "$here/../lockreplay" --help >/dev/null || exit 1
 program=$here/../crates/lockreplay/out/lockreplay
@@ -34,6 +34,7 @@ for kind in "$@"; do
         fight) share=38 ;;
         storm) share=75 ;;
         walk) share=25 ;;
+        scattered) share=60 ;;
         failures) share=88 ;;
         turns) share=3 start=190 ;;
         queue) sizes="100000:5:512 1000000:5:512 1000000:5:16384" ;;

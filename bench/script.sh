@@ -14,6 +14,10 @@
 #          million bytes, so that each comes to hold hundreds of regions; the node's token covers all of it
 # walk     a process on each of 64 nodes reads ten bytes of one file, all at one place, then all at the next: so their tokens
 #          come to have thousands of runs, since each asks for just those bytes
+# scattered a process on each of 64 nodes sets and unlocks one byte, from a high one down, the next node the next byte but one: so
+#          their tokens come to have thousands of runs, each written at the low end
+# regions  a process of one node has some thousand regions of ten bytes in one file, all of which the token of its node covers,
+#          and unlocks or sets again one of them, anywhere, at each line
 # churn    a process of one node forks children, 64 at once: each opens one of four files, locks bytes of it for itself and
 #          for the description, closes one of its two descriptors of that, locks again and exits; the node's token
 #          covers all of it
@@ -128,6 +132,35 @@ function storm() {
         else
             put("call " node " 1 set " about (act < 8 ? "read " : "write ") range)
         put("settle")
+    }
+}
+
+function scattered() {
+    put("cluster nodes 64 files 1 policy exact")
+    for (node = 1; node <= 64; node++)
+        begin(node, 1)
+    for (number = 0; written < lines; number++) {
+        node = number % 64 + 1
+        byte = 1000000000 - 2 * number
+        put("call " node " 1 set 0 proc write " byte " 1")
+        put("settle")
+        put("call " node " 1 unlock 0 proc " byte " 1")
+    }
+}
+
+function regions() {
+    seed = 1
+    put("cluster nodes 1 files 1 policy wide")
+    begin(1, 1)
+    for (place = 0; place < 1000; place++) {
+        put("call 1 1 set 0 proc write " 20 * place " 10")
+        if (place == 0)
+            put("settle")
+    }
+    while (written < lines) {
+        place = draw(1000)
+        put("call 1 1 " (gone[place] ? "set 0 proc write " : "unlock 0 proc ") 20 * place " 10")
+        gone[place] = !gone[place]
     }
 }
 
@@ -299,6 +332,10 @@ BEGIN {
         crowd()
     else if (kind == "walk")
         walk()
+    else if (kind == "scattered")
+        scattered()
+    else if (kind == "regions")
+        regions()
     else if (kind == "churn")
         churn()
     else if (kind == "failures")
