@@ -26,7 +26,7 @@ serve_one-requires c =
     let item : Held = c.index-active-place.result in
     let w : Held = record { request = item.request; at = c.awaited-at.result } in
     let read : c.as_slice-active.result.now ≡ held = c.as_slice-active.ensures ∙ ap (λ (p : ServerParts). p.active.held) c.self.view_is in
-    let there : slice_get (waiting_for l.ats.items held) i ≡ Some w = waits-place l c.as_slice-active.result.now held i item c.as_slice.result.now c.awaited-at.result read c.as_slice.ensures.value c.loop-place-test.true c.index-active-place.is c.awaited-at.ensures in
+    let there : slice_get (waiting_for l.ats.items held) i ≡ Some w = waits-place l c.as_slice-active.result.now held i item c.as_slice-ats.result.now c.awaited-at.result read c.as_slice-ats.ensures.value c.loop-place-test.true c.index-active-place.is c.awaited-at.ensures in
     let on : keeps l.dropped l.ended item.request ≡ true = sym c.keeps.ensures ∙ c.if-keeps.true in
     let done : List Held = kept l (take i (waiting_for l.ats.items held)) in
     let rest : List Held = kept l (drop (i + 1) (waiting_for l.ats.items held)) ++ l.fresh.items in
@@ -42,7 +42,7 @@ returns-in_err-serve_one-clause-err c =
     let item : Held = c.index-active-place.result in
     let w : Held = record { request = item.request; at = c.awaited-at.result } in
     let read : c.as_slice-active.result.now ≡ held = c.as_slice-active.ensures ∙ ap (λ (p : ServerParts). p.active.held) c.self.view_is in
-    let there : slice_get (waiting_for l.ats.items held) i ≡ Some w = waits-place l c.as_slice-active.result.now held i item c.as_slice.result.now c.awaited-at.result read c.as_slice.ensures.value c.loop-place-test.true c.index-active-place.is c.awaited-at.ensures in
+    let there : slice_get (waiting_for l.ats.items held) i ≡ Some w = waits-place l c.as_slice-active.result.now held i item c.as_slice-ats.result.now c.awaited-at.result read c.as_slice-ats.ensures.value c.loop-place-test.true c.index-active-place.is c.awaited-at.ensures in
     let on : keeps l.dropped l.ended item.request ≡ true = sym c.keeps.ensures ∙ c.if-keeps.true in
     let done : List Held = kept l (take i (waiting_for l.ats.items held)) in
     let rest : List Held = kept l (drop (i + 1) (waiting_for l.ats.items held)) ++ l.fresh.items in
@@ -59,7 +59,7 @@ loop-place-preserved c =
     let item : Held = c.index-active-place.result in
     let w : Held = record { request = item.request; at = c.awaited-at.result } in
     let read : c.as_slice-active.result.now ≡ held = c.as_slice-active.ensures ∙ ap (λ (p : ServerParts). p.active.held) c.self.view_is in
-    let there : slice_get (waiting_for l.ats.items held) i ≡ Some w = waits-place l c.as_slice-active.result.now held i item c.as_slice.result.now c.awaited-at.result read c.as_slice.ensures.value c.loop-place-test.true c.index-active-place.is c.awaited-at.ensures in
+    let there : slice_get (waiting_for l.ats.items held) i ≡ Some w = waits-place l c.as_slice-active.result.now held i item c.as_slice-ats.result.now c.awaited-at.result read c.as_slice-ats.ensures.value c.loop-place-test.true c.index-active-place.is c.awaited-at.ensures in
     elim c.if-keeps.branch [
       | then-keeps+in_ok-serve_one v ↦
           let on : keeps l.dropped l.ended item.request ≡ true = sym c.keeps.ensures ∙ v.if-keeps.true in
@@ -76,21 +76,29 @@ loop-place-preserved-then-not-may_come c =
     let item : Held = c.index-active-place.result in
     let w : Held = record { request = item.request; at = c.awaited-at.result } in
     let read : c.as_slice-active.result.now ≡ held = c.as_slice-active.ensures ∙ ap (λ (p : ServerParts). p.active.held) c.self.view_is in
-    let there : slice_get (waiting_for l.ats.items held) i ≡ Some w = waits-place l c.as_slice-active.result.now held i item c.as_slice.result.now c.awaited-at.result read c.as_slice.ensures.value c.loop-place-test.true c.index-active-place.is c.awaited-at.ensures in
+    let there : slice_get (waiting_for l.ats.items held) i ≡ Some w = waits-place l c.as_slice-active.result.now held i item c.as_slice-ats.result.now c.awaited-at.result read c.as_slice-ats.ensures.value c.loop-place-test.true c.index-active-place.is c.awaited-at.ensures in
     let told : List Told = c.loop-place.told.items in
-    elim c.then-not-may_come.branch [
-      | then-not-may_come-via-then-not-may_come u ↦
-          let quiet : All (λ h. is_idle ((server_state c.args.self.now).rows h.at) ≡ false) held =
-          subst (λ (p : ServerParts). All (λ h. is_idle ((server_state p).rows h.at) ≡ false) p.active.held) c.self.view_is c.self.invariant.ready.quiet in
-          let here : slice_get held i ≡ Some item = read-place c.as_slice-active.result.now held i item read c.loop-place-test.true c.index-active-place.is in
-          kept-silent l held s told i w there
-          (quiet-told told s c.awaited-at.result (quiet-place (server_state c.args.self.now) s c.args.touched held i item c.awaited-at.result quiet here (c.may_come.ensures.same u.if-not-may_come.true) (c.may_come.ensures.untouched u.if-not-may_come.true) c.requires.untouched))
-          c.loop-place.invariant
-      | then-not-may_come-via-else-not-may_come+then-is_told u ↦
-          let some : list_any (λ (t : Told). t.node == c.awaited-at.result) told ≡ true =
-          ap (λ (ts : List Told). list_any (λ (t : Told). t.node == c.awaited-at.result) ts) (sym u.as_slice-else-not-may_come.ensures.value) ∙ sym u.is_told.ensures ∙ u.if-is_told.true in
-          kept-silent l held s told i w there (told-quiet told s c.awaited-at.result some) c.loop-place.invariant
-    ]
+    let quiet : All (λ h. is_idle ((server_state c.args.self.now).rows h.at) ≡ false) held =
+    subst (λ (p : ServerParts). All (λ h. is_idle ((server_state p).rows h.at) ≡ false) p.active.held) c.self.view_is c.self.invariant.ready.quiet in
+    let here : slice_get held i ≡ Some item = read-place c.as_slice-active.result.now held i item read c.loop-place-test.true c.index-active-place.is in
+    kept-silent l held s told i w there
+    (quiet-told told s c.awaited-at.result (quiet-place (server_state c.args.self.now) s c.args.touched held i item c.awaited-at.result quiet here (c.may_come.ensures.same c.if-not-may_come.true) (c.may_come.ensures.untouched c.if-not-may_come.true) c.requires.untouched))
+    c.loop-place.invariant
+
+pub loop-place-preserved-then-is_told : goal.loop-place-preserved-then-is_told
+loop-place-preserved-then-is_told c =
+    let i = c.loop-place.place in
+    let s : ServerState = drafted c.args.self.now c.args.draft.now in
+    let l : Lists = c.args.draft.now.lists in
+    let held : List Held = c.args.self.now.active.held in
+    let item : Held = c.index-active-place.result in
+    let w : Held = record { request = item.request; at = c.awaited-at.result } in
+    let read : c.as_slice-active.result.now ≡ held = c.as_slice-active.ensures ∙ ap (λ (p : ServerParts). p.active.held) c.self.view_is in
+    let there : slice_get (waiting_for l.ats.items held) i ≡ Some w = waits-place l c.as_slice-active.result.now held i item c.as_slice-ats.result.now c.awaited-at.result read c.as_slice-ats.ensures.value c.loop-place-test.true c.index-active-place.is c.awaited-at.ensures in
+    let told : List Told = c.loop-place.told.items in
+    let some : list_any (λ (t : Told). t.node == c.awaited-at.result) told ≡ true =
+    ap (λ (ts : List Told). list_any (λ (t : Told). t.node == c.awaited-at.result) ts) (sym c.as_slice.ensures.value) ∙ sym c.is_told.ensures ∙ c.if-is_told.true in
+    kept-silent l held s told i w there (told-quiet told s c.awaited-at.result some) c.loop-place.invariant
 
 pub returns-clause-ok : goal.returns-clause-ok
 returns-clause-ok c =
