@@ -29,8 +29,8 @@ loop-place-preserved c =
     let next : take (i + 1) held ≡ take i held ++ item ∷ [] = take-next held i item (read-place c.as_slice-active.result.now held i item read within c.index-active-place.is) in (
       omega (arith, c.loop-place-test.true),
       subst (λ (xs : List Held). Await P xs c.push.new.self.items) (sym next)
-      (subst (λ (ats : List ℕ). Await P (take i held ++ item ∷ []) ats) (sym c.in_ok-push.ensures.items)
-      (await-more P (take i held) c.loop-place.ats.items item c.at_after.result c.loop-place.invariant.1 c.at_after.ensures)),
+          (subst (λ (ats : List ℕ). Await P (take i held ++ item ∷ []) ats) (sym c.in_ok-push.ensures.items)
+          (await-more P (take i held) c.loop-place.ats.items item c.at_after.result c.loop-place.invariant.1 c.at_after.ensures)),
     )
 
 pub returns : goal.returns
