@@ -413,6 +413,12 @@ kept-rest l held s told (suc d) i past quiet a = elim (slice_get_cases (waiting_
   | inr p ↦ subst (λ (hs : List Held). AreServed s (held_after l held) (kept l hs) told) (take_all i (waiting_for l.ats.items held) p.0) a
 ]
 
+-- past the first requests each waits for the row for which it waited
+pub index-past : (ats : List ℕ) (i d : ℕ) → length ats ≤ i → slice_index_or ats i d ≡ d
+index-past [] i d past = refl
+index-past (a ∷ ats) zero d past = absurd (omega arith)
+index-past (a ∷ ats) (suc i) d past = index-past ats i d (omega (arith, past))
+
 -- where requests wait for the rows for which they waited, no command may go to the nodes of those, but to the one that is touched
 module _ (s t : ServerState) (l : Lists) (held : List Held) (told : List Told) (touched : Option ℕ) (i : ℕ) (quiet : All (λ h. is_idle (s.rows h.at) ≡ false) held) (untouched : (n : ℕ) → (touched ≡ Some n → ⊥) → t.rows n ≡ s.rows n) (past : length l.ats.items ≤ i) where
   rest-apart : (j : ℕ) (w : Held) → i ≤ j → slice_get (waiting_for l.ats.items held) j ≡ Some w → (touched ≡ Some w.at → ⊥) → is_idle ((with_told told t).rows w.at) ≡ false

@@ -1,5 +1,5 @@
 //! How a token server serves its requests.
-ghost use Rattle.std.specs.Prelude.{◌≡◌, ◌==◌, ◌≢◌, ℕ, ◌+◌, ◌<◌, ◌≤◌, ◌++◌, true, false, IfSome, All, IfOk, IfErr, OnOk, slice_index_or, Some, None, Ok, Err};
+ghost use Rattle.std.specs.Prelude.{◌≡◌, ◌==◌, ◌≢◌, ℕ, ◌+◌, ◌<◌, ◌≤◌, ◌++◌, true, false, length, IfSome, All, IfOk, IfErr, OnOk, slice_index_or, Some, None, Ok, Err};
 ghost use Rattle.std.specs.List.{list_any};
 ghost use Rattle.std.specs.Option.{option_map, option_to_list};
 ghost use Rattle.model.specs.Limits.{IsNumber, most_nodes};
@@ -221,7 +221,7 @@ impl Server {
         let mut told = Vec::new(alloc);
         let active = self.active.as_slice();
         let ats = draft.lists.ats.as_slice();
-        if ats.is_empty() && touched.is_none() {
+        if none_may_come(ats, touched) {
             return Ok(told);
         }
         for place in 0..active.len() {
@@ -329,6 +329,15 @@ fn may_come(before: u8, at: u8, touched: Option<u8>) -> bool
         Some(node) if node == at => true,
         _ => at != before,
     }
+}
+
+// Whether no command may go to the node for whose row a request waits that was served: each waits for the row for
+// which it waited before, and no row has changed.
+fn none_may_come(ats: &[u8], touched: Option<u8>) -> bool
+    ensures same { result ≡ true → length ats.now ≡ 0 }
+    ensures untouched { result ≡ true → touched ≡ None }
+{
+    ats.is_empty() && touched.is_none()
 }
 
 // The largest span that contains `required` and lies in `within` without the bytes that requests need which are

@@ -1,4 +1,4 @@
-use Rattle.std.specs.Prelude.{◌≡◌, ℕ, ◌+◌, ◌<◌, ◌≤◌, List, ◌∷◌, [], ◌++◌, length, slice_get, All, Option, Some}
+use Rattle.std.specs.Prelude.{◌≡◌, ℕ, ◌+◌, ◌<◌, List, ◌∷◌, [], ◌++◌, length, All, Option}
 use Rattle.std.proofs.Common.{sym, ap, subst, ◌∙◌, take, drop, arith}
 use Rattle.std.proofs.lemmas.List.Elements.{All-drop}
 use Rattle.token_queue.specs.declared.held.Held.{Held}

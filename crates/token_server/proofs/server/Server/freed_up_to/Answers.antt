@@ -1,5 +1,5 @@
 use Rattle.std.specs.Prelude.{◌≡◌, ◌+◌, ◌≤◌, List, false, ◌&&◌, ◌==◌, All, length, slice_get, Some}
-use Rattle.std.proofs.Common.{sym, ap, subst, ◌∙◌, take, drop, arith}
+use Rattle.std.proofs.Common.{sym, ap, subst, ◌∙◌, drop, arith}
 use Rattle.std.proofs.lemmas.List.{take_all}
 use Rattle.token_queue.specs.declared.held.Held.{Held}
 use Rattle.token_server.specs.Obstacles.{frees}
