@@ -1,10 +1,12 @@
 -- Requests that are served, and the nodes whose rows they wait for.
-use Rattle.std.specs.Prelude.{◌≡◌, ℕ, zero, suc, ◌+◌, ◌<◌, ◌≤◌, Bool, true, false, cond, ◌||◌, List, [], ◌∷◌, ◌++◌, length, slice_get, slice_set, slice_index_or, find, Option, Some}
-use Rattle.std.specs.List.{list_any}
+use Rattle.std.specs.Prelude.{◌≡◌, ℕ, zero, suc, ◌+◌, ◌<◌, ◌≤◌, Bool, true, false, cond, ◌||◌, List, [], ◌∷◌, ◌++◌, length, All, filter, slice_get, slice_set, slice_index_or, find, Option, Some}
+use Rattle.std.specs.List.{list_any, remove}
 use Rattle.std.specs.Option.{option_map}
-use Rattle.std.proofs.Common.{refl, sym, ap, ◌∙◌, take, arith}
-use Rattle.std.proofs.lemmas.List.{take_more}
-use Rattle.std.proofs.lemmas.Option.{slice_get_within, get_or_from_slice_get}
+use Rattle.std.proofs.Common.{refl, sym, ap, subst, ◌∙◌, take, arith}
+use Rattle.std.proofs.lemmas.List.{take_more, take_all}
+use Rattle.std.proofs.lemmas.List.Edits.{length-remove}
+use Rattle.std.proofs.lemmas.List.Elements.{All-nil, All-head, All-tail, All-push}
+use Rattle.std.proofs.lemmas.Option.{none-some, same_Some, slice_get_within, get_or_from_slice_get}
 use Rattle.model.specs.declared.call.CallId.{CallId}
 use Rattle.token_queue.specs.declared.held.Held.{Held}
 use Rattle.token_queue.specs.declared.token_request.TokenRequest.{TokenRequest}
@@ -80,3 +82,59 @@ request-same one other i x y here there same =
 pub any-held : (call : CallId) (held : List Held) → list_any (λ h. is_of_call call h.request) held ≡ list_any (is_of_call call) (requests_of held)
 any-held call [] = refl
 any-held call (h ∷ held) = ap (λ (b : Bool). is_of_call call h.request || b) (any-held call held)
+
+-- the requests that are kept, once one that is not goes
+pub filter-remove : (keep : Held → Bool) (held : List Held) (i : ℕ) (h : Held) → slice_get held i ≡ Some h → keep h ≡ false → filter keep (remove held i) ≡ filter keep held
+filter-remove keep [] i h there off = absurd (none-some h there)
+filter-remove keep (x ∷ held) zero h there off =
+    let same : x ≡ h = same_Some x h there in
+    sym (ap (λ (b : Bool). cond b (x ∷ filter keep held) (filter keep held)) (ap keep same ∙ off))
+filter-remove keep (x ∷ held) (suc i) h there off = ap (λ (hs : List Held). cond (keep x) (x ∷ hs) hs) (filter-remove keep held i h there off)
+
+take-remove : (held : List Held) (i : ℕ) → take i (remove held i) ≡ take i held
+take-remove [] zero = refl
+take-remove [] (suc i) = refl
+take-remove (x ∷ held) zero = refl
+take-remove (x ∷ held) (suc i) = ap (λ (hs : List Held). x ∷ hs) (take-remove held i)
+
+filter-all : (keep : Held → Bool) (held : List Held) → All (λ h. keep h ≡ true) held → filter keep held ≡ held
+filter-all keep [] all = refl
+filter-all keep (h ∷ held) all =
+    ap (λ (b : Bool). cond b (h ∷ filter keep held) (filter keep held)) (All-head (λ x. keep x ≡ true) h held all)
+    ∙ ap (λ (hs : List Held). h ∷ hs) (filter-all keep held (All-tail (λ x. keep x ≡ true) h held all))
+
+-- what is left of requests, where those up to a place are kept and the others have not been looked at
+pub record IsSifted (keep : Held → Bool) (before held : List Held) (i : ℕ) : Type 0 where
+  pub within : i ≤ length held
+  pub few : length held ≤ length before
+  pub kept : All (λ h. keep h ≡ true) (take i held)
+  pub same : filter keep held ≡ filter keep before
+
+pub sifted-start : (keep : Held → Bool) (held : List Held) → IsSifted keep held held 0
+sifted-start keep held = record { within = omega arith; few = omega arith; kept = All-nil (λ (h : Held). keep h ≡ true); same = refl }
+
+pub sifted-gone : (keep : Held → Bool) (before held : List Held) (i : ℕ) (h : Held) → slice_get held i ≡ Some h → keep h ≡ false → IsSifted keep before held i → IsSifted keep before (remove held i) i
+sifted-gone keep before held i h there off s =
+    let within : i < length held = slice_get_within held i h there in
+    let fewer : length (remove held i) + 1 ≡ length held = length-remove held i within in
+    record {
+      within = omega (arith, within, fewer);
+      few = omega (arith, fewer, s.few);
+      kept = subst (All (λ x. keep x ≡ true)) (sym (take-remove held i)) s.kept;
+      same = filter-remove keep held i h there off ∙ s.same;
+    }
+
+pub sifted-kept : (keep : Held → Bool) (before held : List Held) (i : ℕ) (h : Held) → slice_get held i ≡ Some h → keep h ≡ true → IsSifted keep before held i → IsSifted keep before held (i + 1)
+sifted-kept keep before held i h there on s =
+    let within : i < length held = slice_get_within held i h there in
+    let next : take (i + 1) held ≡ take i held ++ h ∷ [] = take_more held i h within ∙ ap (λ (x : Held). take i held ++ x ∷ []) (get_or_from_slice_get held i h h there) in
+    record {
+      within = omega (arith, within);
+      few = s.few;
+      kept = subst (All (λ x. keep x ≡ true)) (sym next) (All-push (λ x. keep x ≡ true) (take i held) h s.kept on);
+      same = s.same;
+    }
+
+pub sifted-all : (keep : Held → Bool) (before held : List Held) (i : ℕ) → length held ≤ i → IsSifted keep before held i → held ≡ filter keep before
+sifted-all keep before held i past s =
+    sym (filter-all keep held (subst (All (λ x. keep x ≡ true)) (take_all i held past) s.kept)) ∙ s.same

@@ -190,13 +190,20 @@ fn find(held: &[Held], call: CallId) -> Option<Held>
     held.iter().find(|held| held.is_of_call(call)).copied()
 }
 
-// The request of the call goes.
+// The request of the call goes: those behind it move, and no others.
 fn end(held: &mut Vec<Held>, call: CallId)
     ensures items { held.new.items ≡ filter (λ h. not (is_of_call call h.request)) held.old.items }
     ensures len { length held.new.items ≤ length held.old.items }
     ensures capacity { vec_capacity held.new ≡ vec_capacity held.old }
 {
-    held.retain(|held| !held.is_of_call(call));
+    let mut place = 0;
+    while place < held.len() {
+        if held[place].is_of_call(call) {
+            held.remove(place);
+        } else {
+            place += 1;
+        }
+    }
 }
 
 // The requests of the node in that incarnation or an older one go.

@@ -1,8 +1,10 @@
 -- The nodes whose rows the requests of a server wait for.
-use Rattle.std.specs.Prelude.{◌≡◌, ℕ, Bool, false, cond, ◌&&◌, ◌==◌, List, [], ◌∷◌, ◌++◌, All, Option, Some}
-use Rattle.std.proofs.Common.{refl, sym, ap, ◌∙◌}
+use Rattle.std.specs.Prelude.{◌≡◌, ℕ, zero, suc, ◌+◌, ◌<◌, ◌≤◌, Bool, false, cond, ◌&&◌, ◌==◌, List, [], ◌∷◌, ◌++◌, length, slice_get, All, Option, Some}
+use Rattle.std.proofs.Common.{refl, sym, ap, subst, ◌∙◌, take, drop, arith}
 use Rattle.std.proofs.lemmas.Bool.{lt-leb}
-use Rattle.std.proofs.lemmas.List.Elements.{All-nil, All-cons, All-head, All-tail}
+use Rattle.std.proofs.lemmas.List.{length-take, length-take-le, drop_all, drop-append-le}
+use Rattle.std.proofs.lemmas.Option.{slice_get_within}
+use Rattle.std.proofs.lemmas.List.Elements.{All-nil, All-cons, All-head, All-tail, All-push}
 use Rattle.token_queue.specs.declared.token_request.TokenRequest.{TokenRequest}
 use Rattle.token_queue.specs.declared.held.Held.{Held}
 use Rattle.token_queue.specs.Actives.{waiting_for}
@@ -16,6 +18,7 @@ use Rattle.token_server.specs.Sketches.{rows_after}
 use Rattle.token_server.specs.Edits.{overlaid, reached}
 use Rattle.token_server.proofs.FreeLaws.{obstacle-changed}
 use Rattle.token_server.proofs.MarkLaws.{unopposed-none}
+use Rattle.token_server.proofs.TurnLaws.{take-next}
 
 -- a request that no row stands in the way of waits for the row of its own node
 pub unopposed-own : (s : ServerState) (r : TokenRequest) → ((node : ℕ) → row_conflicts (s.rows node) r.wanted.required r.mode ≡ false) → r.call.node ≡ obstacle s r
@@ -34,11 +37,27 @@ await-more P (x ∷ held) (y ∷ ats) h a all one = (all.0, await-more P held at
 await-more P [] (y ∷ ats) h a all one = absurd all
 await-more P (x ∷ held) [] h a all one = absurd all
 
-pub await-all : (P : TokenRequest → ℕ → Type 0) (held : List Held) (ats : List ℕ) → Await P held ats → All (λ h. P h.request h.at) (waiting_for ats held)
-await-all P [] [] all = All-nil (λ h. P h.request h.at)
-await-all P (h ∷ held) (a ∷ ats) all = All-cons (λ h. P h.request h.at) (record { request = h.request; at = a }) (waiting_for ats held) all.0 (await-all P held ats all.1)
-await-all P [] (a ∷ ats) all = absurd all
-await-all P (h ∷ held) [] all = absurd all
+-- the first requests wait for the nodes beside them, and the rest for those for which they waited
+pub await-first : (P : TokenRequest → ℕ → Type 0) (n : ℕ) (held : List Held) (ats : List ℕ) → Await P (take n held) ats → All (λ h. P h.request h.at) (drop n held) → All (λ h. P h.request h.at) (waiting_for ats held)
+await-first P zero held [] all rest = rest
+await-first P zero held (a ∷ ats) all rest = absurd all
+await-first P (suc n) [] [] all rest = All-nil (λ h. P h.request h.at)
+await-first P (suc n) [] (a ∷ ats) all rest = absurd all
+await-first P (suc n) (h ∷ held) [] all rest = absurd all
+await-first P (suc n) (h ∷ held) (a ∷ ats) all rest = All-cons (λ h. P h.request h.at) (record { request = h.request; at = a }) (waiting_for ats held) all.0 (await-first P n held ats all.1 rest)
+
+-- of those so far, none from a place on is freed: one more that is not
+pub rest-more : (P : Held → Type 0) (held : List Held) (many i : ℕ) (h : Held) → many ≤ i → slice_get held i ≡ Some h → P h → All P (drop many (take i held)) → All P (drop many (take (i + 1) held))
+rest-more P held many i h few there one all =
+    let within : i < length held = slice_get_within held i h there in
+    let len : length (take i held) ≡ i = length-take-le i held (omega (arith, within)) in
+    subst (All P) (sym (ap (λ (hs : List Held). drop many hs) (take-next held i h there) ∙ drop-append-le many (take i held) (h ∷ []) (omega (arith, few, len)))) (All-push P (drop many (take i held)) h all one)
+
+-- one more that is
+pub rest-none : (P : Held → Type 0) (held : List Held) (i : ℕ) → All P (drop i (take i held))
+rest-none P held i =
+    let len : length (take i held) ≤ i = omega (arith, length-take i held) in
+    subst (All P) (sym (drop_all i (take i held) len)) (All-nil P)
 
 -- one that is not freed waits as before
 pub unfreed-waits : (p : ServerParts) (edit : Option RowEdit) (c : Changed) (h : Held) → rows_of (overlaid p.clients edit) ≡ rows_after (Some c) (rows_of p.clients) → obstacle (server_state p) h.request ≡ h.at → (h.at == c.node && frees c.change (rows_of p.clients c.node) h.request.wanted.required) ≡ false → obstacle (reached p edit) h.request ≡ h.at

@@ -11,6 +11,7 @@ use Rattle.intervals.specs.Bytes.{Range, is_in, NoneIn, IsLargest, largest_aroun
 use Rattle.intervals.proofs.SpanSearch.{largest_is_largest}
 use Rattle.token_set.proofs.AroundLaws.{largest_around-is, largest_around-same, largest_around-or, largest_around-free}
 use Rattle.token_queue.specs.declared.token_request.TokenRequest.{TokenRequest}
+use Rattle.token_queue.specs.Requests.{meets}
 use Rattle.token_server.specs.Serve.{is_needed, narrowed}
 use Rattle.token_server.specs.Told.{cut, cut_all}
 use Rattle.token_server.proofs.GrantLaws.{none_needed}
@@ -245,6 +246,50 @@ cut-keeps required within other starts ends = (lo, hi)
           let least : required.hi ≤ min within.hi (max (other.lo - 1) required.hi) = le-min ends (omega arith) in
           omega (arith, is, least)
       | inr under ↦ let is = c.hi_same under in omega (arith, is)
+    ]
+
+-- a span that has no byte of the other one loses none
+pub cut-clear : (required within other : Range) → required.lo ≤ required.hi → within.lo ≤ required.lo → required.hi ≤ within.hi → other.lo ≤ other.hi → meets within other ≡ false → cut required within other ≡ within
+cut-clear required within other order starts ends full apart = λ i. record { lo = lo i; hi = hi i }
+  where
+    c : IsCut required within other (cut required within other)
+    c = cut-cases required within other
+
+    sides : (other.hi < within.lo) ⊎ (within.hi < other.lo)
+    sides = elim (cases_lt other.hi within.lo) [
+      | inl below ↦ inl below
+      | inr from ↦ elim (cases_lt within.hi other.lo) [
+        | inl past ↦ inr past
+        | inr to ↦ absurd (both_ways (meets within other) apart (and_from (nat_le within.lo other.hi) (nat_le other.lo within.hi) (le-leb within.lo other.hi from) (le-leb other.lo within.hi to)))
+      ]
+    ]
+
+    lo : (cut required within other).lo ≡ within.lo
+    lo = elim (cases_lt other.lo required.lo) [
+      | inl under ↦
+          let is = c.lo_cut under in
+          elim sides [
+            | inl below ↦ elim (mins (other.hi + 1) required.lo) [
+              | inl m ↦ let least = m.1 in omega arith
+              | inr m ↦ let least = m.1 in let few = m.0 in omega arith
+            ]
+            | inr past ↦ absurd (omega arith)
+          ]
+      | inr past ↦ c.lo_same past
+    ]
+
+    hi : (cut required within other).hi ≡ within.hi
+    hi = elim (cases_lt required.hi other.hi) [
+      | inl past ↦
+          let is = c.hi_cut past in
+          elim sides [
+            | inl below ↦ absurd (omega arith)
+            | inr beyond ↦ elim (mins within.hi (max (other.lo - 1) required.hi)) [
+              | inl m ↦ let least = m.1 in omega arith
+              | inr m ↦ let least = m.1 in let few = m.0 in omega arith
+            ]
+          ]
+      | inr under ↦ c.hi_same under
     ]
 
 -- what is left of a span without the bytes that those requests need

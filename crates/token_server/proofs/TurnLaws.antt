@@ -7,7 +7,8 @@ use Rattle.std.proofs.lemmas.Bool.{both_ways, and_parts, leb-true, le-leb, lt-le
 use Rattle.std.proofs.lemmas.Bool.Decides.{eqb_tells}
 use Rattle.std.proofs.lemmas.List.{map-append, take_more, take_all}
 use Rattle.std.proofs.lemmas.List.Elements.{All-nil, All-cons, All-head, All-tail, All-push, filter-append}
-use Rattle.std.proofs.lemmas.Option.{none-some, same_Some, slice_get_within, slice_get-get_or, get_or_from_slice_get}
+use Rattle.std.proofs.lemmas.Option.{none-some, same_Some, slice_get_within, slice_get-get_or, slice_get_cases, get_or_from_slice_get}
+use Rattle.intervals.specs.Bytes.{Range}
 use Rattle.intervals.proofs.SearchLaws.{first_is_first}
 use Rattle.model.specs.declared.call.CallId.{CallId}
 use Rattle.messages.specs.declared.refusal.StepError.{StepError}
@@ -19,16 +20,18 @@ use Rattle.token_queue.specs.declared.held.Held.{Held}
 use Rattle.token_queue.specs.declared.token_request.TokenRequest.{TokenRequest}
 use Rattle.token_queue.specs.Requests.{is_of_call, is_up_to}
 use Rattle.token_queue.specs.Actives.{requests_of, waiting_for}
+use Rattle.token_queue.proofs.ActiveLaws.{waiting_for-at, waiting_for-length}
 use Rattle.token_server.specs.declared.lists.Lists.{Lists}
 use Rattle.token_server.specs.declared.told.Told.{Told}
 use Rattle.token_server.specs.State.{Row, ServerState, with_row}
 use Rattle.token_server.specs.Sketches.{without, still_active}
 use Rattle.token_server.specs.Serve.{row_conflicts, conflicting_node, commanded, granted_to, revoked_from, served, each_served}
 use Rattle.token_server.specs.Obstacles.{obstacle, are_apart, is_idle}
-use Rattle.token_server.specs.Told.{told_to, row_told, with_told, commands_told}
+use Rattle.token_server.specs.Told.{told_to, row_told, with_told, commands_told, cut}
 use Rattle.token_server.specs.Edits.{is_up_to_any, is_of_any, keeps, held_still, held_without, held_after}
 use Rattle.token_server.specs.Turns.{kept, kept_of, IsTurn, AreServed}
 use Rattle.token_server.proofs.GrantLaws.{conflicts_at}
+use Rattle.token_server.proofs.CutLaws.{HasByte, AreCut, cut-more}
 use Rattle.token_server.proofs.ObstacleLaws.{obstacle-same, served-silent}
 use Rattle.token_server.proofs.KeepLaws.{StandSame, served-same}
 use Rattle.token_server.proofs.CareLaws.{All-right}
@@ -399,3 +402,51 @@ module _ (l : Lists) (held : List Held) (s : ServerState) (told : List Told) (i 
 -- all of them
 pub served-whole : (l : Lists) (held : List Held) (i : ℕ) → length l.fresh.items ≤ i → kept_of l held ++ take i l.fresh.items ≡ held_after l held
 served-whole l held i past = ap (λ (hs : List Held). kept_of l held ++ hs) (take_all i l.fresh.items past) ∙ sym (held_after-kept l held)
+
+-- all from a place on wait for rows to whose nodes no command may go: they are passed over
+pub kept-rest : (l : Lists) (held : List Held) (s : ServerState) (told : List Told) (d i : ℕ) → length held ≤ i + d → ((j : ℕ) (w : Held) → i ≤ j → slice_get (waiting_for l.ats.items held) j ≡ Some w → is_idle ((with_told told s).rows w.at) ≡ false) → AreServed s (held_after l held) (kept l (take i (waiting_for l.ats.items held))) told → AreServed s (held_after l held) (kept_of l held) told
+kept-rest l held s told zero i past quiet a =
+    subst (λ (hs : List Held). AreServed s (held_after l held) (kept l hs) told) (take_all i (waiting_for l.ats.items held) (omega (arith, past, waiting_for-length l.ats.items held))) a
+kept-rest l held s told (suc d) i past quiet a = elim (slice_get_cases (waiting_for l.ats.items held) i).1 [
+  | inl f ↦
+      kept-rest l held s told d (i + 1) (omega (arith, past)) (λ j w above. quiet j w (omega (arith, above))) (kept-silent l held s told i f.0 f.2 (quiet i f.0 (omega arith) f.2) a)
+  | inr p ↦ subst (λ (hs : List Held). AreServed s (held_after l held) (kept l hs) told) (take_all i (waiting_for l.ats.items held) p.0) a
+]
+
+-- past the first requests each waits for the row for which it waited
+pub index-past : (ats : List ℕ) (i d : ℕ) → length ats ≤ i → slice_index_or ats i d ≡ d
+index-past [] i d past = refl
+index-past (a ∷ ats) zero d past = absurd (omega arith)
+index-past (a ∷ ats) (suc i) d past = index-past ats i d (omega (arith, past))
+
+-- where requests wait for the rows for which they waited, no command may go to the nodes of those, but to the one that is touched
+module _ (s t : ServerState) (l : Lists) (held : List Held) (told : List Told) (touched : Option ℕ) (i : ℕ) (quiet : All (λ h. is_idle (s.rows h.at) ≡ false) held) (untouched : (n : ℕ) → (touched ≡ Some n → ⊥) → t.rows n ≡ s.rows n) (past : length l.ats.items ≤ i) where
+  rest-apart : (j : ℕ) (w : Held) → i ≤ j → slice_get (waiting_for l.ats.items held) j ≡ Some w → (touched ≡ Some w.at → ⊥) → is_idle ((with_told told t).rows w.at) ≡ false
+  rest-apart j w above there apart =
+      let here : slice_get held j ≡ Some w = sym (waiting_for-at l.ats.items held j (omega (arith, past, above))) ∙ there in
+      quiet-told told t w.at (quiet-place s t touched held j w w.at quiet here refl apart untouched)
+
+  -- where none is touched
+  pub rest-untouched : touched ≡ None → (j : ℕ) (w : Held) → i ≤ j → slice_get (waiting_for l.ats.items held) j ≡ Some w → is_idle ((with_told told t).rows w.at) ≡ false
+  rest-untouched none j w above there = rest-apart j w above there (λ h. none-some w.at (sym none ∙ h))
+
+  -- where that node was told something
+  pub rest-told : (at : ℕ) → touched ≡ Some at → list_any (λ (x : Told). x.node == at) told ≡ true → (j : ℕ) (w : Held) → i ≤ j → slice_get (waiting_for l.ats.items held) j ≡ Some w → is_idle ((with_told told t).rows w.at) ≡ false
+  rest-told at is some j w above there = elim (eqb_tells w.at at) [
+    | inl same ↦ subst (λ (k : ℕ). is_idle ((with_told told t).rows k) ≡ false) (sym same.1) (told-quiet told t at some)
+    | inr other ↦ rest-apart j w above there (λ h. other.1 (same_Some w.at at (sym h ∙ is)))
+  ]
+
+-- what is left of a span, by one request more
+pub cut-next : (required within : Range) (l : Lists) (xs next : List Held) (h : Held) (span new : Range) → next ≡ xs ++ h ∷ [] → HasByte h.request → (keeps l.dropped l.ended h.request ≡ true → new ≡ cut required span h.request.wanted.required) → (keeps l.dropped l.ended h.request ≡ false → new ≡ span) → AreCut required within (requests_of (kept l xs)) span → AreCut required within (requests_of (kept l next)) new
+cut-next required within l xs next h span new is full on off a = by (keeps l.dropped l.ended h.request) refl
+  where
+    by : (b : Bool) → keeps l.dropped l.ended h.request ≡ b → AreCut required within (requests_of (kept l next)) new
+    by true k =
+        let more : requests_of (kept l next) ≡ requests_of (kept l xs) ++ h.request ∷ [] =
+        ap requests_of (kept-more l xs next h is k) ∙ map-append (λ (x : Held). x.request) (kept l xs) (h ∷ []) in
+        subst (λ (rs : List TokenRequest). AreCut required within rs new) (sym more)
+        (subst (λ (s : Range). AreCut required within (requests_of (kept l xs) ++ h.request ∷ []) s) (sym (on k)) (cut-more required within (requests_of (kept l xs)) span h.request full a))
+    by false k =
+        subst (λ (hs : List Held). AreCut required within (requests_of hs) new) (sym (kept-less l xs next h is k))
+        (subst (λ (s : Range). AreCut required within (requests_of (kept l xs)) s) (sym (off k)) a)

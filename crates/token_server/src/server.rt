@@ -1,5 +1,5 @@
 //! The token server of a file.
-ghost use Rattle.std.specs.Prelude.{◌≡◌, ◌≢◌, ◌+◌, ◌-◌, ◌<◌, ◌↔◌, ◌++◌, not, ◌&&◌, ◌||◌, ◌==◌, IsTrue, length, IfSome, IfOk, IfErr, MatchOption, [], Option, Some, None, Ok, Err};
+ghost use Rattle.std.specs.Prelude.{◌≡◌, ◌≢◌, ℕ, ◌+◌, ◌-◌, ◌<◌, ◌↔◌, ◌++◌, not, ◌&&◌, ◌||◌, ◌==◌, IsTrue, length, IfSome, IfOk, IfErr, MatchOption, [], Option, Some, None, Ok, Err};
 ghost use Rattle.std.specs.Option.{option_map, option_to_list};
 ghost use Rattle.model.specs.Limits.{IsNumber};
 ghost use Rattle.model.specs.Owners.{host_of_call};
@@ -298,6 +298,17 @@ impl Server {
         })
     }
 
+    // The node whose row is edited, if one is.
+    fn touched(&self, rows: &Option<RowEdit>, sketch: &Sketch) -> Option<u8>
+        requires { rows_of (overlaid self.now.clients rows.now) ≡ rows_after sketch.now.changed (rows_of self.now.clients) }
+        ensures { (n : ℕ) → result ≢ Some n → rows_of (overlaid self.now.clients rows.now) n ≡ rows_of self.now.clients n }
+    {
+        if rows.is_none() {
+            return None;
+        }
+        sketch.touched()
+    }
+
     // Serves the requests: each is granted, but where other nodes' rows conflict with it, the token of the
     // least such node is revoked first.
     fn serve(&self, sketch: &Sketch, alloc: Global) -> Result<(Edit, Items<Message>), StepError>
@@ -311,7 +322,8 @@ impl Server {
         let lists = self.lists(alloc, &rows, sketch)?;
         let spares = self.spares(&lists)?;
         let draft = Draft { rows, lists };
-        let told = self.commands(&draft, sketch.touched(), alloc)?;
+        let touched = self.touched(&draft.rows, sketch);
+        let told = self.commands(&draft, touched, alloc)?;
         let given = self.given(&draft, alloc, told.as_slice())?;
         Ok((
             Edit::new(alloc, draft, given, spares)?,

@@ -1,5 +1,5 @@
 //! What stands in the way of the requests that a token server serves.
-ghost use Rattle.std.specs.Prelude.{◌≡◌, ◌≤◌, ◌↔◌, true, false, not, ◌&&◌, ◌==◌, All, IsSome, IfOk, IfSome, Some};
+ghost use Rattle.std.specs.Prelude.{◌≡◌, ◌≤◌, ◌↔◌, true, false, not, ◌&&◌, ◌==◌, All, length, drop, IsSome, IfOk, IfSome, Some};
 ghost use Rattle.intervals.specs.Bytes.{Range};
 ghost use Rattle.model.specs.Limits.{IsNumber, most_nodes};
 ghost use Rattle.token_queue.specs.Actives.{requests_of, waiting_for};
@@ -107,24 +107,27 @@ impl Server {
         held.at == changed.node && self.frees(changed, &held.request)
     }
 
-    // Whether no request that is served waits for another row than before.
-    fn none_freed(&self, changed: &Changed) -> bool
+    // How many of the requests that are served stand up to the last one that may wait for another row than before.
+    fn freed_up_to(&self, changed: &Changed) -> usize
         requires { IsNumber self.now.shape.nodes changed.now.node }
-        ensures { result ≡ true → All (λ h. (h.at == changed.now.node && frees changed.now.change (rows_of self.now.clients changed.now.node) h.request.wanted.required) ≡ false) self.now.active.held }
+        ensures within { result ≤ length self.now.active.held }
+        ensures rest { All (λ h. (h.at == changed.now.node && frees changed.now.change (rows_of self.now.clients changed.now.node) h.request.wanted.required) ≡ false) (drop result self.now.active.held) }
     {
         if self.frees_none(changed) {
-            return true;
+            return 0;
         }
-        for held in self.active.as_slice() {
-            if self.is_freed(changed, held) {
-                return false;
+        let mut many = 0;
+        let active = self.active.as_slice();
+        for place in 0..active.len() {
+            if self.is_freed(changed, &active[place]) {
+                many = place + 1;
             }
         }
-        true
+        many
     }
 
-    // The nodes whose rows the requests that are served wait for once rows changed, in order; none where no
-    // request waits for another one than before.
+    // The nodes whose rows the requests that are served wait for once rows changed, in order, up to the last request
+    // that may wait for another one than before.
     pub(super) fn awaited(
         &self,
         alloc: Global,
@@ -139,12 +142,11 @@ impl Server {
         let Some(changed) = changed else {
             return Ok(Vec::new(alloc));
         };
-        if self.none_freed(changed) {
-            return Ok(Vec::new(alloc));
-        }
-        let mut ats = Vec::with_capacity(alloc, self.active.as_slice().len())?;
-        for held in self.active.as_slice() {
-            ats.push(self.at_after(rows, changed, held))?;
+        let many = self.freed_up_to(changed);
+        let mut ats = Vec::with_capacity(alloc, many)?;
+        let active = self.active.as_slice();
+        for place in 0..many {
+            ats.push(self.at_after(rows, changed, &active[place]))?;
         }
         Ok(ats)
     }

@@ -1,16 +1,16 @@
 //! How a token server serves its requests.
-ghost use Rattle.std.specs.Prelude.{◌≡◌, ◌==◌, ◌≢◌, ℕ, ◌+◌, ◌<◌, ◌≤◌, ◌++◌, true, false, IfSome, All, IfOk, IfErr, OnOk, slice_index_or, Some, None, Ok, Err};
+ghost use Rattle.std.specs.Prelude.{◌≡◌, ◌==◌, ◌≢◌, ℕ, ◌+◌, ◌<◌, ◌≤◌, ◌++◌, true, false, length, IfSome, All, IfOk, IfErr, OnOk, slice_index_or, Some, None, Ok, Err};
 ghost use Rattle.std.specs.List.{list_any};
 ghost use Rattle.std.specs.Option.{option_map, option_to_list};
 ghost use Rattle.model.specs.Limits.{IsNumber, most_nodes};
 ghost use Rattle.intervals.specs.Bytes.{largest_around};
 ghost use Rattle.token_queue.specs.Actives.{requests_of};
 ghost use Rattle.token_server.specs.Serve.{narrowed, row_conflicts, row_conflicts_at, granted_span, conflicting_node, granted_to, revoked_from, served, each_served};
-ghost use Rattle.token_server.specs.Told.{promised, row_told, with_told, commands_told, cut_all};
+ghost use Rattle.token_server.specs.Told.{promised, row_told, with_told, commands_told, cut, cut_all};
 ghost use Rattle.token_server.specs.Obstacles.{obstacle, are_apart, is_idle};
 ghost use Rattle.token_server.specs.Parts.{server_state, row_state, client_at, rows_of};
 ghost use Rattle.token_server.specs.Sketches.{commands_of, without, still_active};
-ghost use Rattle.token_server.specs.Edits.{overlaid, held_after, drafted, seen, given_to_client, with_given};
+ghost use Rattle.token_server.specs.Edits.{overlaid, keeps, held_after, drafted, seen, given_to_client, with_given};
 ghost use Rattle.token_server.specs.Turns.{kept_of, IsTurn, AreServed};
 ghost use Rattle.token_set.specs.Sets.{token_of};
 ghost use Rattle.token_set.specs.Edits.{edited as edited_token};
@@ -204,7 +204,8 @@ impl Server {
     }
 
     // What comes of serving in order each request that is served on. Where no row changed but that of the node
-    // that is touched, only those that wait for it, or for another row than before, can come to something.
+    // that is touched, only those that wait for it, or for another row than before, can come to something, and
+    // none of those that wait for it once its node is told something.
     fn commands_kept(
         &self,
         draft: &Draft,
@@ -219,10 +220,20 @@ impl Server {
     {
         let mut told = Vec::new(alloc);
         let active = self.active.as_slice();
+        let ats = draft.lists.ats.as_slice();
+        if none_may_come(ats, touched) {
+            return Ok(told);
+        }
         for place in 0..active.len() {
             let held = &active[place];
-            let at = awaited(draft.lists.ats.as_slice(), place, held.at);
-            if !may_come(held.at, at, touched) || is_told(told.as_slice(), at) {
+            let at = awaited(ats, place, held.at);
+            if !may_come(held.at, at, touched) {
+                continue;
+            }
+            if is_told(told.as_slice(), at) {
+                if ats.len() <= place {
+                    return Ok(told);
+                }
                 continue;
             }
             if draft.lists.keeps(held) {
@@ -312,11 +323,21 @@ fn is_told(told: &[Told], node: u8) -> bool
 fn may_come(before: u8, at: u8, touched: Option<u8>) -> bool
     ensures same { result ≡ false → at ≡ before }
     ensures untouched { result ≡ false → touched ≢ Some at }
+    ensures only { result ≡ true → at ≡ before → touched ≡ Some at }
 {
     match touched {
         Some(node) if node == at => true,
         _ => at != before,
     }
+}
+
+// Whether no command may go to the node for whose row a request waits that was served: each waits for the row for
+// which it waited before, and no row has changed.
+fn none_may_come(ats: &[u8], touched: Option<u8>) -> bool
+    ensures same { result ≡ true → length ats.now ≡ 0 }
+    ensures untouched { result ≡ true → touched ≡ None }
+{
+    ats.is_empty() && touched.is_none()
 }
 
 // The largest span that contains `required` and lies in `within` without the bytes that requests need which are
@@ -331,11 +352,28 @@ fn cut_by(required: Span, within: Span, held: &[Held], lists: &Lists) -> Span
 {
     let mut span = within;
     for other in held {
-        if lists.keeps(other) {
-            span = cut(required, span, other.request.required());
-        }
+        span = cut_by_one(required, span, other, lists);
     }
     span
+}
+
+// The same of one request, if it is served on. One that needs no byte of the span takes none away.
+fn cut_by_one(required: Span, within: Span, other: &Held, lists: &Lists) -> Span
+    requires starts_within { within.lo ≤ required.lo }
+    requires ends_within { required.hi ≤ within.hi }
+    ensures kept { keeps lists.now.dropped lists.now.ended other.now.request ≡ true → result ≡ cut required within other.now.request.wanted.required }
+    ensures gone { keeps lists.now.dropped lists.now.ended other.now.request ≡ false → result ≡ within }
+    ensures ordered { other.now.request.wanted.required.lo ≤ other.now.request.wanted.required.hi }
+{
+    let _ = &required.lo; // tells the proof that the span has a byte
+    let needed = other.request.required();
+    if !other.request.meets(within) {
+        return within;
+    }
+    if !lists.keeps(other) {
+        return within;
+    }
+    cut(required, within, needed)
 }
 
 // The same of requests that are all served.

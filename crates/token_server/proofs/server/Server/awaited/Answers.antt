@@ -1,52 +1,48 @@
-use Rattle.std.specs.Prelude.{◌≡◌, ℕ, ◌+◌, ◌≤◌, List, [], ◌∷◌, ◌++◌, length, All, Option}
-use Rattle.std.proofs.Common.{sym, ap, subst, ◌∙◌, take, arith}
-use Rattle.std.proofs.lemmas.List.{take_more, take_all}
+use Rattle.std.specs.Prelude.{◌≡◌, ℕ, ◌+◌, ◌<◌, List, ◌∷◌, [], ◌++◌, length, All, Option}
+use Rattle.std.proofs.Common.{sym, ap, subst, ◌∙◌, take, drop, arith}
+use Rattle.std.proofs.lemmas.List.Elements.{All-drop}
 use Rattle.token_queue.specs.declared.held.Held.{Held}
 use Rattle.token_queue.specs.declared.token_request.TokenRequest.{TokenRequest}
-use Rattle.token_queue.specs.Actives.{waiting_for}
 use Rattle.token_server.specs.declared.sketch.Changed.{Changed}
 use Rattle.token_server.specs.Obstacles.{obstacle}
 use Rattle.token_server.specs.Parts.{ServerParts, server_state, rows_of}
 use Rattle.token_server.specs.Sketches.{rows_after}
 use Rattle.token_server.specs.Edits.{overlaid, reached}
-use Rattle.token_server.proofs.AwaitLaws.{Await, await-more, await-all, unfreed-all}
+use Rattle.token_server.proofs.AwaitLaws.{Await, await-more, await-first, unfreed-all}
+use Rattle.token_server.proofs.TurnLaws.{read-place, take-next}
 use Rattle.token_server.proofs.server.Server.awaited.Goals as goal
-
-pub returns-then-none_freed : goal.returns-then-none_freed
-returns-then-none_freed c =
-    let p = c.args.self.now in
-    let edit = c.args.rows.now in
-    let W : Held → Type 0 = λ h. obstacle (reached p edit) h.request ≡ h.at in
-    let rows = subst (λ (o : Option Changed). rows_of (overlaid p.clients edit) ≡ rows_after o (rows_of p.clients)) c.in-Some.is c.requires.rows in
-    let waits = subst (λ (q : ServerParts). All (λ h. obstacle (server_state q) h.request ≡ h.at) q.active.held) c.self.view_is c.self.invariant.ready.waits in
-    subst (λ (ats : List ℕ). All W (waiting_for ats p.active.held)) (sym c.new-then-none_freed.ensures.items)
-    (unfreed-all p edit c.in-Some.changed p.active.held rows waits (c.none_freed.ensures c.if-none_freed.true))
 
 pub at_after-requires-clause-rows : goal.at_after-requires-clause-rows
 at_after-requires-clause-rows c =
     let p = c.args.self.now in
     subst (λ (o : Option Changed). rows_of (overlaid p.clients c.args.rows.now) ≡ rows_after o (rows_of p.clients)) c.in-Some.is c.requires.rows
 
-pub loop-held-preserved : goal.loop-held-preserved
-loop-held-preserved c =
-    let i = c.loop-held.held-index in
+pub loop-place-preserved : goal.loop-place-preserved
+loop-place-preserved c =
+    let i = c.loop-place.place in
     let held : List Held = c.args.self.now.active.held in
-    let item : Held = c.held-item.result in
+    let item : Held = c.index-active-place.result in
     let P : TokenRequest → ℕ → Type 0 = λ r a. obstacle (reached c.args.self.now c.args.rows.now) r ≡ a in
-    let read : c.as_slice-held-items.result.now ≡ held = c.as_slice-held-items.ensures ∙ ap (λ (p : ServerParts). p.active.held) c.self.view_is in
-    let next : take (i + 1) held ≡ take i held ++ item ∷ [] =
-    ap (λ (xs : List Held). take (i + 1) xs) (sym read)
-    ∙ take_more c.as_slice-held-items.result.now i item c.loop-held-test.true
-    ∙ ap (λ (x : Held). take i c.as_slice-held-items.result.now ++ x ∷ []) (sym c.held-item.is)
-    ∙ ap (λ (xs : List Held). take i xs ++ item ∷ []) read in
-    subst (λ (xs : List Held). Await P xs c.push.new.self.items) (sym next)
-    (subst (λ (ats : List ℕ). Await P (take i held ++ item ∷ []) ats) (sym c.in_ok-push.ensures.items)
-    (await-more P (take i held) c.loop-held.ats.items item c.at_after.result c.loop-held.invariant c.at_after.ensures))
+    let read : c.as_slice-active.result.now ≡ held = c.as_slice-active.ensures ∙ ap (λ (p : ServerParts). p.active.held) c.self.view_is in
+    let many : length c.as_slice-active.result.now ≡ length held = ap (λ (hs : List Held). length hs) read in
+    let within : i < length c.as_slice-active.result.now = omega (arith, many, c.freed_up_to-many.ensures.within, c.loop-place-test.true) in
+    let next : take (i + 1) held ≡ take i held ++ item ∷ [] = take-next held i item (read-place c.as_slice-active.result.now held i item read within c.index-active-place.is) in (
+      omega (arith, c.loop-place-test.true),
+      subst (λ (xs : List Held). Await P xs c.push.new.self.items) (sym next)
+          (subst (λ (ats : List ℕ). Await P (take i held ++ item ∷ []) ats) (sym c.in_ok-push.ensures.items)
+          (await-more P (take i held) c.loop-place.ats.items item c.at_after.result c.loop-place.invariant.1 c.at_after.ensures)),
+    )
 
 pub returns : goal.returns
 returns c =
-    let held : List Held = c.args.self.now.active.held in
-    let P : TokenRequest → ℕ → Type 0 = λ r a. obstacle (reached c.args.self.now c.args.rows.now) r ≡ a in
-    let read : length c.as_slice-held-items.result.now ≡ length held = ap (λ (xs : List Held). length xs) (c.as_slice-held-items.ensures ∙ ap (λ (p : ServerParts). p.active.held) c.self.view_is) in
-    let past : length held ≤ c.loop-held.held-index = omega (arith, c.loop-held-test.false, read) in
-    await-all P held c.loop-held.ats.items (subst (λ (xs : List Held). Await P xs c.loop-held.ats.items) (take_all c.loop-held.held-index held past) c.loop-held.invariant)
+    let p = c.args.self.now in
+    let edit = c.args.rows.now in
+    let held : List Held = p.active.held in
+    let n = c.freed_up_to-many.result in
+    let P : TokenRequest → ℕ → Type 0 = λ r a. obstacle (reached p edit) r ≡ a in
+    let end : c.loop-place.place ≡ n = omega (arith, c.loop-place-test.false, c.loop-place.invariant.0) in
+    let rows = subst (λ (o : Option Changed). rows_of (overlaid p.clients edit) ≡ rows_after o (rows_of p.clients)) c.in-Some.is c.requires.rows in
+    let waits = subst (λ (q : ServerParts). All (λ h. obstacle (server_state q) h.request ≡ h.at) q.active.held) c.self.view_is c.self.invariant.ready.waits in
+    await-first P n held c.loop-place.ats.items
+    (subst (λ (k : ℕ). Await P (take k held) c.loop-place.ats.items) end c.loop-place.invariant.1)
+    (unfreed-all p edit c.in-Some.changed (drop n held) rows (All-drop (λ h. obstacle (server_state p) h.request ≡ h.at) n held waits) c.freed_up_to-many.ensures.rest)

@@ -1,9 +1,9 @@
-use Rattle.std.specs.Prelude.{◌≡◌}
+use Rattle.std.specs.Prelude.{◌≡◌, ◌≤◌}
 use Rattle.std.proofs.Common.{take}
 use Rattle.token_server.specs.Obstacles.{obstacle}
 use Rattle.token_server.specs.Edits.{reached}
 use Rattle.token_server.proofs.AwaitLaws.{Await}
 use Rattle.token_server.proofs.server.Server.awaited.Given as goal
 
-abbrev pub invariant-loop-held : goal.invariant-loop-held
-invariant-loop-held l = Await (λ r a. obstacle (reached l.self l.rows) r ≡ a) (take l.held-index l.self.active.held) l.ats.items
+abbrev pub invariant-loop-place : goal.invariant-loop-place
+invariant-loop-place l = (l.place ≤ l.many) × Await (λ r a. obstacle (reached l.self l.rows) r ≡ a) (take l.place l.self.active.held) l.ats.items

@@ -1,4 +1,4 @@
-use Rattle.std.specs.Prelude.{◌==◌, ◌≡◌, ◌+◌, ◌≤◌, true, false, List, ◌∷◌, ◌++◌, length, slice_get, All, Some}
+use Rattle.std.specs.Prelude.{◌==◌, ◌≡◌, ◌+◌, ◌≤◌, ℕ, true, false, List, [], ◌∷◌, ◌++◌, length, slice_get, slice_index_or, All, Some}
 use Rattle.std.specs.List.{list_any}
 use Rattle.std.proofs.Common.{refl, sym, ap, subst, ◌∙◌, take, drop, arith}
 use Rattle.std.proofs.lemmas.List.{take_all}
@@ -12,9 +12,9 @@ use Rattle.token_server.specs.State.{ServerState}
 use Rattle.token_server.specs.Obstacles.{is_idle}
 use Rattle.token_server.specs.Parts.{ServerParts, server_state}
 use Rattle.token_server.specs.Edits.{keeps, held_after, drafted}
-use Rattle.token_server.specs.Turns.{kept, AreServed}
-use Rattle.token_server.proofs.TurnLaws.{read-place, waits-place, quiet-place, waits-here, turn-spent, kept-split, kept-turn, kept-left, kept-silent, quiet-told, told-quiet}
-use Rattle.token_server.proofs.server.Server.commands_kept.Goals.{then-keeps+in_ok-serve_one, else-keeps, then-not-may_come-via-then-not-may_come, then-not-may_come-via-else-not-may_come+then-is_told}
+use Rattle.token_server.specs.Turns.{kept, kept_of, AreServed}
+use Rattle.token_server.proofs.TurnLaws.{read-place, waits-place, quiet-place, waits-here, turn-spent, kept-split, kept-turn, kept-left, kept-silent, kept-rest, quiet-told, told-quiet, served-start, index-past, rest-untouched, rest-told}
+use Rattle.token_server.proofs.server.Server.commands_kept.Goals.{then-keeps+in_ok-serve_one, else-keeps}
 use Rattle.token_server.proofs.server.Server.commands_kept.Goals as goal
 
 pub serve_one-requires : goal.serve_one-requires
@@ -26,7 +26,7 @@ serve_one-requires c =
     let item : Held = c.index-active-place.result in
     let w : Held = record { request = item.request; at = c.awaited-at.result } in
     let read : c.as_slice-active.result.now ≡ held = c.as_slice-active.ensures ∙ ap (λ (p : ServerParts). p.active.held) c.self.view_is in
-    let there : slice_get (waiting_for l.ats.items held) i ≡ Some w = waits-place l c.as_slice-active.result.now held i item c.as_slice.result.now c.awaited-at.result read c.as_slice.ensures.value c.loop-place-test.true c.index-active-place.is c.awaited-at.ensures in
+    let there : slice_get (waiting_for l.ats.items held) i ≡ Some w = waits-place l c.as_slice-active.result.now held i item c.as_slice-ats.result.now c.awaited-at.result read c.as_slice-ats.ensures.value c.loop-place-test.true c.index-active-place.is c.awaited-at.ensures in
     let on : keeps l.dropped l.ended item.request ≡ true = sym c.keeps.ensures ∙ c.if-keeps.true in
     let done : List Held = kept l (take i (waiting_for l.ats.items held)) in
     let rest : List Held = kept l (drop (i + 1) (waiting_for l.ats.items held)) ++ l.fresh.items in
@@ -42,7 +42,7 @@ returns-in_err-serve_one-clause-err c =
     let item : Held = c.index-active-place.result in
     let w : Held = record { request = item.request; at = c.awaited-at.result } in
     let read : c.as_slice-active.result.now ≡ held = c.as_slice-active.ensures ∙ ap (λ (p : ServerParts). p.active.held) c.self.view_is in
-    let there : slice_get (waiting_for l.ats.items held) i ≡ Some w = waits-place l c.as_slice-active.result.now held i item c.as_slice.result.now c.awaited-at.result read c.as_slice.ensures.value c.loop-place-test.true c.index-active-place.is c.awaited-at.ensures in
+    let there : slice_get (waiting_for l.ats.items held) i ≡ Some w = waits-place l c.as_slice-active.result.now held i item c.as_slice-ats.result.now c.awaited-at.result read c.as_slice-ats.ensures.value c.loop-place-test.true c.index-active-place.is c.awaited-at.ensures in
     let on : keeps l.dropped l.ended item.request ≡ true = sym c.keeps.ensures ∙ c.if-keeps.true in
     let done : List Held = kept l (take i (waiting_for l.ats.items held)) in
     let rest : List Held = kept l (drop (i + 1) (waiting_for l.ats.items held)) ++ l.fresh.items in
@@ -59,7 +59,7 @@ loop-place-preserved c =
     let item : Held = c.index-active-place.result in
     let w : Held = record { request = item.request; at = c.awaited-at.result } in
     let read : c.as_slice-active.result.now ≡ held = c.as_slice-active.ensures ∙ ap (λ (p : ServerParts). p.active.held) c.self.view_is in
-    let there : slice_get (waiting_for l.ats.items held) i ≡ Some w = waits-place l c.as_slice-active.result.now held i item c.as_slice.result.now c.awaited-at.result read c.as_slice.ensures.value c.loop-place-test.true c.index-active-place.is c.awaited-at.ensures in
+    let there : slice_get (waiting_for l.ats.items held) i ≡ Some w = waits-place l c.as_slice-active.result.now held i item c.as_slice-ats.result.now c.awaited-at.result read c.as_slice-ats.ensures.value c.loop-place-test.true c.index-active-place.is c.awaited-at.ensures in
     elim c.if-keeps.branch [
       | then-keeps+in_ok-serve_one v ↦
           let on : keeps l.dropped l.ended item.request ≡ true = sym c.keeps.ensures ∙ v.if-keeps.true in
@@ -76,21 +76,61 @@ loop-place-preserved-then-not-may_come c =
     let item : Held = c.index-active-place.result in
     let w : Held = record { request = item.request; at = c.awaited-at.result } in
     let read : c.as_slice-active.result.now ≡ held = c.as_slice-active.ensures ∙ ap (λ (p : ServerParts). p.active.held) c.self.view_is in
-    let there : slice_get (waiting_for l.ats.items held) i ≡ Some w = waits-place l c.as_slice-active.result.now held i item c.as_slice.result.now c.awaited-at.result read c.as_slice.ensures.value c.loop-place-test.true c.index-active-place.is c.awaited-at.ensures in
+    let there : slice_get (waiting_for l.ats.items held) i ≡ Some w = waits-place l c.as_slice-active.result.now held i item c.as_slice-ats.result.now c.awaited-at.result read c.as_slice-ats.ensures.value c.loop-place-test.true c.index-active-place.is c.awaited-at.ensures in
     let told : List Told = c.loop-place.told.items in
-    elim c.then-not-may_come.branch [
-      | then-not-may_come-via-then-not-may_come u ↦
-          let quiet : All (λ h. is_idle ((server_state c.args.self.now).rows h.at) ≡ false) held =
-          subst (λ (p : ServerParts). All (λ h. is_idle ((server_state p).rows h.at) ≡ false) p.active.held) c.self.view_is c.self.invariant.ready.quiet in
-          let here : slice_get held i ≡ Some item = read-place c.as_slice-active.result.now held i item read c.loop-place-test.true c.index-active-place.is in
-          kept-silent l held s told i w there
-          (quiet-told told s c.awaited-at.result (quiet-place (server_state c.args.self.now) s c.args.touched held i item c.awaited-at.result quiet here (c.may_come.ensures.same u.if-not-may_come.true) (c.may_come.ensures.untouched u.if-not-may_come.true) c.requires.untouched))
-          c.loop-place.invariant
-      | then-not-may_come-via-else-not-may_come+then-is_told u ↦
-          let some : list_any (λ (t : Told). t.node == c.awaited-at.result) told ≡ true =
-          ap (λ (ts : List Told). list_any (λ (t : Told). t.node == c.awaited-at.result) ts) (sym u.as_slice-else-not-may_come.ensures.value) ∙ sym u.is_told.ensures ∙ u.if-is_told.true in
-          kept-silent l held s told i w there (told-quiet told s c.awaited-at.result some) c.loop-place.invariant
-    ]
+    let quiet : All (λ h. is_idle ((server_state c.args.self.now).rows h.at) ≡ false) held =
+    subst (λ (p : ServerParts). All (λ h. is_idle ((server_state p).rows h.at) ≡ false) p.active.held) c.self.view_is c.self.invariant.ready.quiet in
+    let here : slice_get held i ≡ Some item = read-place c.as_slice-active.result.now held i item read c.loop-place-test.true c.index-active-place.is in
+    kept-silent l held s told i w there
+    (quiet-told told s c.awaited-at.result (quiet-place (server_state c.args.self.now) s c.args.touched held i item c.awaited-at.result quiet here (c.may_come.ensures.same c.if-not-may_come.true) (c.may_come.ensures.untouched c.if-not-may_come.true) c.requires.untouched))
+    c.loop-place.invariant
+
+pub loop-place-preserved-then-is_told : goal.loop-place-preserved-then-is_told
+loop-place-preserved-then-is_told c =
+    let i = c.loop-place.place in
+    let s : ServerState = drafted c.args.self.now c.args.draft.now in
+    let l : Lists = c.args.draft.now.lists in
+    let held : List Held = c.args.self.now.active.held in
+    let item : Held = c.index-active-place.result in
+    let w : Held = record { request = item.request; at = c.awaited-at.result } in
+    let read : c.as_slice-active.result.now ≡ held = c.as_slice-active.ensures ∙ ap (λ (p : ServerParts). p.active.held) c.self.view_is in
+    let there : slice_get (waiting_for l.ats.items held) i ≡ Some w = waits-place l c.as_slice-active.result.now held i item c.as_slice-ats.result.now c.awaited-at.result read c.as_slice-ats.ensures.value c.loop-place-test.true c.index-active-place.is c.awaited-at.ensures in
+    let told : List Told = c.loop-place.told.items in
+    let some : list_any (λ (t : Told). t.node == c.awaited-at.result) told ≡ true =
+    ap (λ (ts : List Told). list_any (λ (t : Told). t.node == c.awaited-at.result) ts) (sym c.as_slice.ensures.value) ∙ sym c.is_told.ensures ∙ c.if-is_told.true in
+    kept-silent l held s told i w there (told-quiet told s c.awaited-at.result some) c.loop-place.invariant
+
+pub returns-then-none_may_come-clause-ok : goal.returns-then-none_may_come-clause-ok
+returns-then-none_may_come-clause-ok c =
+    let s : ServerState = drafted c.args.self.now c.args.draft.now in
+    let l : Lists = c.args.draft.now.lists in
+    let held : List Held = c.args.self.now.active.held in
+    let quiet : All (λ h. is_idle ((server_state c.args.self.now).rows h.at) ≡ false) held =
+    subst (λ (p : ServerParts). All (λ h. is_idle ((server_state p).rows h.at) ≡ false) p.active.held) c.self.view_is c.self.invariant.ready.quiet in
+    let many : length c.as_slice-ats.result.now ≡ length l.ats.items = ap (λ (xs : List ℕ). length xs) c.as_slice-ats.ensures.value in
+    let past : length l.ats.items ≤ 0 = omega (arith, many, c.none_may_come.ensures.same c.if-none_may_come.true) in
+    subst (λ (ts : List Told). AreServed s (held_after l held) (kept_of l held) ts) (sym c.new-told.ensures.items)
+    (kept-rest l held s [] (length held) 0 (omega arith) (rest-untouched (server_state c.args.self.now) s l held [] c.args.touched 0 quiet c.requires.untouched past (c.none_may_come.ensures.untouched c.if-none_may_come.true)) (served-start s (held_after l held) c.requires.waits))
+
+pub returns-then-ats-place-clause-ok : goal.returns-then-ats-place-clause-ok
+returns-then-ats-place-clause-ok c =
+    let i = c.loop-place.place in
+    let s : ServerState = drafted c.args.self.now c.args.draft.now in
+    let l : Lists = c.args.draft.now.lists in
+    let held : List Held = c.args.self.now.active.held in
+    let item : Held = c.index-active-place.result in
+    let w : Held = record { request = item.request; at = c.awaited-at.result } in
+    let read : c.as_slice-active.result.now ≡ held = c.as_slice-active.ensures ∙ ap (λ (p : ServerParts). p.active.held) c.self.view_is in
+    let there : slice_get (waiting_for l.ats.items held) i ≡ Some w = waits-place l c.as_slice-active.result.now held i item c.as_slice-ats.result.now c.awaited-at.result read c.as_slice-ats.ensures.value c.loop-place-test.true c.index-active-place.is c.awaited-at.ensures in
+    let told : List Told = c.loop-place.told.items in
+    let quiet : All (λ h. is_idle ((server_state c.args.self.now).rows h.at) ≡ false) held =
+    subst (λ (p : ServerParts). All (λ h. is_idle ((server_state p).rows h.at) ≡ false) p.active.held) c.self.view_is c.self.invariant.ready.quiet in
+    let some : list_any (λ (t : Told). t.node == c.awaited-at.result) told ≡ true =
+    ap (λ (ts : List Told). list_any (λ (t : Told). t.node == c.awaited-at.result) ts) (sym c.as_slice.ensures.value) ∙ sym c.is_told.ensures ∙ c.if-is_told.true in
+    let many : length c.as_slice-ats.result.now ≡ length l.ats.items = ap (λ (xs : List ℕ). length xs) c.as_slice-ats.ensures.value in
+    let past : length l.ats.items ≤ i = omega (arith, many, c.if-ats-place.true) in
+    let same : c.awaited-at.result ≡ item.at = c.awaited-at.ensures ∙ ap (λ (xs : List ℕ). slice_index_or xs i item.at) c.as_slice-ats.ensures.value ∙ index-past l.ats.items i item.at past in
+    kept-rest l held s told (length held) i (omega arith) (rest-told (server_state c.args.self.now) s l held told c.args.touched i quiet c.requires.untouched past c.awaited-at.result (c.may_come.ensures.only c.if-not-may_come.false same) some) c.loop-place.invariant
 
 pub returns-clause-ok : goal.returns-clause-ok
 returns-clause-ok c =
