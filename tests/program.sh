@@ -324,7 +324,7 @@ awk 'BEGIN {
     at[++count] = count + 3; calls[count] = "unlock 0 proc 1 1"; replies[count] = "no-locks"
     print "refused\nreplies"
     for (i = 1; i <= count; i++) printf "%7d %-16s %s\n", at[i], "1.1." i, replies[i]
-    print "tokens\n1.1        1                   0 9223372036854775807 exclusive\nlocks"
+    print "tokens\n1.1        1                   0 9223372036854775807 shared\nlocks"
     printf "%-16s   1 %19d %19d read\n", "p1@1.1", 0, 2
     for (lo = 4; lo <= 2048; lo += 2) printf "%-16s   1 %19d %19d read\n", "p1@1.1", lo, lo
     print "history"

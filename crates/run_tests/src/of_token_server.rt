@@ -24,6 +24,8 @@ use token_server::server::Server;
 
 const LOW: Span = Span { lo: 0, hi: 9 };
 
+const HIGH: Span = Span { lo: 200, hi: 299 };
+
 const WHOLE: Span = Span {
     lo: 0,
     hi: GREATEST,
@@ -59,17 +61,24 @@ const ASKS: CallId = CallId { node: 2, ..HELD };
 
 const OTHER: CallId = CallId { number: 9, ..ASKS };
 
-// A request of ten bytes, or, if it can be, of all.
-fn request(file: u16, call: CallId) -> ServerEvent
+// A request of those bytes, or, if it can be, of all.
+fn asks(file: u16, call: CallId, urgency: Urgency, required: Span) -> ServerEvent
     requires { IsNumber most_files file }
 {
+    let _ = &required.lo; // tells the proof that the span ends by the greatest offset
     ServerEvent::Deliver(Message::Request {
         file: FileNumber::of(file),
         call,
-        urgency: Urgency::Now,
+        urgency,
         mode: Mode::Write,
-        wanted: Wanted::new(LOW, WHOLE),
+        wanted: Wanted::new(required, WHOLE),
     })
+}
+
+fn request(file: u16, call: CallId) -> ServerEvent
+    requires { IsNumber most_files file }
+{
+    asks(file, call, Urgency::Now, LOW)
 }
 
 fn grant(number: u32, call: CallId) -> Message
@@ -232,6 +241,20 @@ fn denies(alloc: Global, server: &mut Box<Server>) -> Result<bool, StepError> {
     take(alloc, server, &moves)
 }
 
+// Whether a call that waits is asked for as it was first, when it asks again, when locks may be gone and at a resend.
+fn puts_off(alloc: Global, server: &mut Box<Server>) -> Result<bool, StepError> {
+    let moves = [
+        (asks(2, ASKS, Urgency::Waits, LOW), Some(revoke(5)), true),
+        (conflict(5, ASKS), None, true),
+        (asks(2, ASKS, Urgency::Waits, HIGH), Some(revoke(6)), true),
+        (conflict(6, ASKS), None, true),
+        (freed(1), Some(revoke(7)), true),
+        (conflict(7, ASKS), None, true),
+        (ServerEvent::Resend, Some(revoke(8)), true),
+    ];
+    take(alloc, server, &moves)
+}
+
 fn is_copied(server: &Server) -> Result<bool, StepError> {
     let copy = server.copy()?;
     Ok(copy.same(server))
@@ -242,7 +265,7 @@ fn an_answer_ends_what_it_names(rt: HostRuntime) -> Result<(), Fail> {
     let alloc = rt.alloc();
     let mut server = begins(alloc)?;
     assert!(rt; grants(alloc, &mut server)? && denies(alloc, &mut server)?);
-    assert!(rt; is_copied(&server)?);
+    assert!(rt; puts_off(alloc, &mut server)? && is_copied(&server)?);
     Ok(())
 }
 
