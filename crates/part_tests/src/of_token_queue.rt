@@ -85,10 +85,10 @@ fn serve(active: &mut Active, node: u8) -> bool {
     true
 }
 
-// Whether just that request is served, and waits for that row.
-fn has_only(active: &Active, request: TokenRequest, at: u8) -> bool {
+// Whether just the request of the node is served, and waits for that row.
+fn has_only(active: &Active, node: u8, at: u8) -> bool {
     match active.as_slice() {
-        [held] => held.request == request && held.at == at,
+        [held] => held.request == request_of(node) && held.at == at,
         _ => false,
     }
 }
@@ -105,12 +105,16 @@ fn serves(active: &mut Active) -> Result<bool, AllocError> {
     Ok(!had_room && came && was_same && !copy.same(active))
 }
 
-// Whether the other is found by its call, waits for another row, and goes with its incarnation.
+// Whether the request of the node is found by its call.
+fn is_found(active: &Active, node: u8) -> bool {
+    active.find(call_of(node)) == Some(request_of(node))
+}
+
+// Whether the other waits for another row, and goes with its incarnation.
 fn goes(active: &mut Active) -> bool {
-    let request = request_of(2);
-    let is_left = active.find(request.call) == Some(request) && has_only(active, request, 1);
+    let is_left = has_only(active, 2, 1) && is_found(active, 2);
     active.wait_for(&[7]);
-    let waits = has_only(active, request, 7);
+    let waits = has_only(active, 2, 7);
     active.forget(2, 1);
     is_left && waits && active.as_slice().is_empty()
 }
