@@ -302,6 +302,50 @@ echo 'call 1 1 spawn' >>full.lock
 echo 'journal full' >no-room
 try 'a full journal' 4 none no-room run full.lock
 
+# A process has 1,024 regions of a byte, with one free byte after each. There is no room for another one until two of them become one, by the
+# byte between them, and then none to part these again. (The first lock is done at 5, once its token comes.)
+{
+    cat empty.lock
+    printf 'call 1 1 spawn\ncall 1 1 open 1 rw\ncall 1 1 set 0 proc read 0 1\nsettle\n'
+    for at in $(seq 2 2 2046); do echo "call 1 1 set 0 proc read $at 1"; done
+    printf 'call 1 1 set 0 proc read 2048 1\ncall 1 1 set 0 proc read 1 1\n'
+    printf 'call 1 1 set 0 proc read 2048 1\ncall 1 1 unlock 0 proc 1 1\n'
+} >regions.lock
+awk 'BEGIN {
+    at[++count] = 1; calls[count] = "spawn"; replies[count] = "done"
+    at[++count] = 2; calls[count] = "open 1 rw"; replies[count] = "fd 0"
+    at[++count] = 5; calls[count] = "set 0 proc read 0 1"; replies[count] = "done"
+    for (lo = 2; lo <= 2046; lo += 2) {
+        at[++count] = count + 3; calls[count] = "set 0 proc read " lo " 1"; replies[count] = "done"
+    }
+    at[++count] = count + 3; calls[count] = "set 0 proc read 2048 1"; replies[count] = "no-locks"
+    at[++count] = count + 3; calls[count] = "set 0 proc read 1 1"; replies[count] = "done"
+    at[++count] = count + 3; calls[count] = "set 0 proc read 2048 1"; replies[count] = "done"
+    at[++count] = count + 3; calls[count] = "unlock 0 proc 1 1"; replies[count] = "no-locks"
+    print "refused\nreplies"
+    for (i = 1; i <= count; i++) printf "%7d %-16s %s\n", at[i], "1.1." i, replies[i]
+    print "tokens\n1.1        1                   0 9223372036854775807 shared\nlocks"
+    printf "%-16s   1 %19d %19d read\n", "p1@1.1", 0, 2
+    for (lo = 4; lo <= 2048; lo += 2) printf "%-16s   1 %19d %19d read\n", "p1@1.1", lo, lo
+    print "history"
+    for (i = 1; i <= count; i++) printf "%7d %-16s 1 %s -> %s\n", at[i], "1.1." i, calls[i], replies[i]
+}' >regions.listing
+try 'more regions than there may be' 0 regions.listing none run regions.lock
+
+# A node restarts until it has the greatest incarnation, and then no more.
+{
+    cat empty.lock
+    awk 'BEGIN { for (i = 1; i < 65535; i++) print "declare 1\nrestart 1" }'
+    printf 'call 1 1 spawn\ndeclare 1\nrestart 1\ncall 1 1 spawn\n'
+} >restarts.lock
+awk 'BEGIN {
+    print "refused\nline 131072 code 12\nline 131073 code 15\nreplies"
+    printf "%7d %-16s done\ntokens\nlocks\nhistory\n", 131069, "1.65535.1"
+    for (i = 1; i < 65535; i++) printf "%7d %-16s 1.%d\n", 2 * i - 1, "gone", i
+    printf "%7d %-16s 1 spawn -> done\n%7d %-16s 1.65535\n", 131069, "1.65535.1", 131070, "gone"
+}' >restarts.listing
+try 'more restarts than there may be' 0 restarts.listing none run restarts.lock
+
 # Journals that are written.
 cp "$tests/first-run.journal" first.journal
 sed -n '/^history$/,$p' first.listing >first.history
@@ -427,6 +471,51 @@ for files in 1 64; do
     judge "a crowd on $files files" 0 "$came" crowd-held came.out none came.err
     try "an audit of a crowd on $files files" 0 yes none audit crowd.journal
 done
+
+# What three clients wait for goes from one to the next, and each call is done.
+{
+    printf 'cluster nodes 3 files 1 policy wide\n'
+    for node in 1 2 3; do
+        printf 'call %s 1 spawn\ncall %s 1 open 1 rw\ncall %s 1 wait 0 proc write 0 10\ncall %s 1 close 0\n' $node $node $node $node
+    done
+} >waits.lock
+timeout 120 "$program" threads waits.lock >threads.out 2>came.err </dev/null
+came=$?
+{
+    replies_of threads.out | sed '1d;$d' | sed 's/  */ /g' | sort
+    sed -n '/^tokens$/,/^history$/p' threads.out | sed -n '/^locks$/,$p'
+    tail -n 2 threads.out
+} >came.out
+{
+    for node in 1 2 3; do printf '%s.1.1 done\n%s.1.2 fd 0\n%s.1.3 done\n%s.1.4 done\n' $node $node $node $node; done | sort
+    printf 'locks\nhistory\nreceipts 12\naudit yes\n'
+} >wanted
+judge 'three clients that wait on threads' 0 "$came" wanted came.out none came.err
+
+# Lines are refused in their order, and a node goes on in its next incarnation. What node 1 and node 2 are answered is of their own order.
+cat >failures.lock <<'END'
+cluster nodes 2 files 1 policy wide
+call 2 1 spawn
+call 1 1 spawn
+call 1 1 open 2 rw
+restart 1
+declare 1
+call 1 1 open 1 rw
+declare 1
+restart 1
+call 1 1 spawn
+call 3 1 spawn
+END
+timeout 120 "$program" threads failures.lock >threads.out 2>came.err </dev/null
+came=$?
+{
+    sed -n '/^refused$/,/^replies$/p' threads.out
+    replies_of threads.out | sed '1d;$d' | sed 's/  */ /g' | sort
+    tail -n 2 threads.out
+} >came.out
+printf 'refused\nline 4 code 14\nline 5 code 11\nline 7 code 15\nline 8 code 10\nline 11 code 14\nreplies\n' >wanted
+printf '1.1.1 done\n1.2.1 done\n2.1.1 done\nreceipts 3\naudit yes\n' >>wanted
+judge 'lines that threads refuse, in their order' 0 "$came" wanted came.out none came.err
 
 # Calls one after the other, none of which sends a message, come to the same on each run.
 {
@@ -554,6 +643,101 @@ judge 'an audit where standard output is full' 3 $? none none no-output came.err
 timeout 120 "$program" history first.journal >/dev/full 2>came.err
 judge 'a history where standard output is full' 3 $? none none no-output came.err
 
+# The first line that is no line of a journal is told, by both. Where there is no bad line, an audit says yes, or that the first entry is
+# wrong. In the texts are escapes.
+try_lines() {
+    printf '%b' "$2" >changed.journal
+    case $1 in
+        yes) try "an audit of a journal of lines: $2" 0 yes none audit changed.journal ;;
+        no) try_journal "a journal of lines: $2" 1 no-1 none ;;
+        *)
+            echo "bad line $1" >wanted
+            try_journal "a journal with a bad line: $2" 3 none wanted
+            ;;
+    esac
+}
+head='journal 1 nodes 2 files 1 policy wide\n'
+try_lines 1 'journal 1 nodes 2 files 1 policy wide'
+while IFS= read -r line; do
+    try_lines 1 "$line\nend 0\n"
+done <<'END'
+journal 2 nodes 2 files 1 policy wide
+journal 1 nodes 0 files 1 policy wide
+journal 1 nodes 65 files 1 policy wide
+journal 1 nodes 2 files 257 policy wide
+\njournal 1 nodes 2 files 1 policy wide
+END
+try_lines yes 'journal 1 nodes 64 files 256 policy exact\nend 0\n'
+while read -r number body; do
+    try_lines "$number" "$head$body"
+done <<'END'
+yes end 0\n
+no entry 1 resend 256\nend 1\n
+2
+2 end 0
+2 end 1\n
+2 end -0\n
+3 end 0\n\n
+3 end 0\nx
+3 end 0\nend 0\n
+2 \nend 0\n
+2 end 4294967296\n
+2 entry 2 resend 1\nend 1\n
+2 entry 0 resend 1\nend 1\n
+2 entry 01 resend 1\nend 1\n
+3 entry 1 resend 1\n
+3 entry 1 resend 1\nend 2\n
+3 entry 1 resend 1\nentry 1 resend 1\nend 2\n
+2 entry 1 resend 0\nend 1\n
+2 entry 1 resend 257\nend 1\n
+2 reply 1.1.1 done\nend 0\n
+2 send taken 1 1 1.1.1\nend 0\n
+4 entry 1 resend 1\nreply 1.1.1 done\nreply 1.1.1 done\nend 1\n
+4 entry 1 resend 1\nsend taken 1 1 1.1.1\nreply 1.1.1 done\nend 1\n
+END
+# Events, replies and messages, each with whether it is one.
+while read -r number event; do
+    try_lines "$number" "${head}entry 1 $event\nend 1\n"
+done <<'END'
+no call 1.1.3 1 set 0 proc write 0 100
+no call 1.1.3 1 wait 0 proc write 0 100
+no deliver taken 1 1 1.1.3
+no interrupt 1.2 256
+no restart 1.2
+2 interrupt 1 256
+2 restart 1.0
+2 learn 1 1 2
+2 call 1.1.4294967296 1 spawn
+2 call 1.1.1 1 set 0 proc write -0 1
+END
+while read -r number reply; do
+    try_lines "$number" "${head}entry 1 resend 1\nreply 1.1.1 $reply\nend 1\n"
+done <<'END'
+no done
+no interrupted
+no again write 0 99 p1@1.1
+no blocked read 5 5 d16384@64.65535
+3 interrupt
+3 fd 256
+3 again write 99 0 p1@1.1
+END
+while read -r number message; do
+    try_lines "$number" "${head}entry 1 resend 1\nsend $message\nend 1\n"
+done <<'END'
+no grant 1 1 1.1.3 write 0 99
+no request 256 64.65535.4294967295 now read 5 9 0 9
+no conflict 1 2 1.1 2.1.3 write 0 99 d16384@1.1
+3 grant 1 1 1.1.3 write 0 99\x20
+3 grant 1 01 1.1.3 write 0 99
+3 grant 1 0 1.1.3 write 0 99
+3 grant 1 1 65.1.3 write 0 99
+3 grant 1 1 1.1.3 write 99 0
+3 grant 1 1 1.1.3 write 9 9223372036854775808
+3 request 1 1.1.3 now read 5 9 6 9
+3 request 1 1.1.3 now read 0 9 0 8
+3 conflict 1 2 1.1 2.1.3 write 0 99 p257@1.1
+END
+
 # A journal that is cut anywhere is bad at the first line that is not whole.
 wrong=
 size=$(wc -c <first.journal)
@@ -593,6 +777,9 @@ large() {
 }
 large 1048576 >large.journal
 try 'an audit of a journal with all the entries that one may have' 0 yes none audit large.journal
+echo 'audit no 1048576' >no-last
+large 1048576 | sed 's/^reply 1.1.1048576 exists$/reply 1.1.1048576 done/' >large.journal
+try 'an audit of a journal whose last entry is wrong' 1 no-last none audit large.journal
 large 1048577 >large.journal
 try 'an audit of a journal with an entry more' 4 none no-room audit large.journal
 

@@ -1,4 +1,4 @@
-//! Tests of the parts of nodes and servers, through their public calls.
+//! Tests of the parts of nodes and servers, through their public calls, with values that no run of the program can bring there.
 #![tactic(auto)]
 
 #[cfg(test)]
@@ -9,8 +9,6 @@ mod of_fcntl_table;
 mod of_intervals;
 #[cfg(test)]
 mod of_lock_table;
-#[cfg(test)]
-mod of_members;
 #[cfg(test)]
 mod of_messages;
 #[cfg(test)]

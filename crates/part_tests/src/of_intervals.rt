@@ -1,5 +1,5 @@
-//! Spans of bytes, and maps from bytes to values.
+//! What each span map does, at values that were worked out by hand: kept as a sorted vector, and as a row of small ordered
+//! maps. A test keeps its map in a box, since one is dropped in fewer steps, each of which the check proves.
 mod replay;
-mod span;
+mod steps;
 mod tree_map;
-mod vec_map;

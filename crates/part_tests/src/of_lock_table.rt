@@ -1,8 +1,6 @@
-//! What the lock table does, at values that were worked out by hand.
-ghost use Rattle.std.specs.Prelude.{◌≤◌};
-ghost use Rattle.intervals.specs.Bytes.{greatest};
-
-use intervals::span::{GREATEST, Span};
+//! What the lock table does that no node asks of it: owners of two incarnations in one table, regions that are told from
+//! their pieces, and tables that are compared.
+use intervals::span::Span;
 use intervals::span_map::NoMemory;
 use lock_table::error::LockError;
 use lock_table::lock_table::LockTable;
@@ -22,33 +20,35 @@ const FIRST: Owner = Owner {
     number: 1,
 };
 
-// Another, which comes after it.
-const SECOND: Owner = Owner {
-    node: 1,
-    incarnation: 1,
-    kind: Kind::OfProcess,
-    number: 2,
+const TEN: Span = Span { lo: 10, hi: 19 };
+
+const BYTE: Span = Span { lo: 15, hi: 15 };
+
+// The lock of a process of the node's next incarnation, which comes after all owners of the one before.
+const LAST: LockInfo = LockInfo {
+    owner: Owner {
+        incarnation: 2,
+        ..FIRST
+    },
+    ..LOW
 };
 
-// A description of the same node, which comes after its processes.
-const DESCRIPTION: Owner = Owner {
-    node: 1,
-    incarnation: 1,
-    kind: Kind::OfDescription,
-    number: 1,
+// The lock of a description, which comes after the processes of its node.
+const MIDDLE: LockInfo = LockInfo {
+    owner: Owner {
+        kind: Kind::OfDescription,
+        ..FIRST
+    },
+    span: TEN,
+    ..LOW
 };
 
-// A process of the node's next incarnation, which comes after all owners of the one before.
-const LATER: Owner = Owner {
-    node: 1,
-    incarnation: 2,
-    kind: Kind::OfProcess,
-    number: 1,
+// The lock of the second process.
+const LOW: LockInfo = LockInfo {
+    owner: Owner { number: 2, ..FIRST },
+    mode: Mode::Read,
+    span: Span { lo: 10, hi: 29 },
 };
-
-fn region(owner: Owner, mode: Mode, span: Span) -> LockInfo {
-    LockInfo { owner, mode, span }
-}
 
 // The table without a lock, in a box. A test keeps no other, since one is dropped in fewer steps, each of
 // which the check proves.
@@ -57,14 +57,11 @@ fn begins(alloc: Global) -> Result<Box<LockTable>, AllocError> {
 }
 
 // Sets each of these in the file.
-fn set_all(table: &mut LockTable, locks: &[(Owner, u64, u64, Mode)]) -> Result<bool, LockError> {
-    for (owner, lo, hi, mode) in locks {
-        if *lo > *hi || *hi > GREATEST {
-            return Ok(false);
-        }
-        table.set(*owner, FILE, Span { lo: *lo, hi: *hi }, *mode)?;
+fn set_all(table: &mut LockTable, locks: &[LockInfo]) -> Result<(), LockError> {
+    for lock in locks {
+        table.set(lock.owner, FILE, lock.span, lock.mode)?;
     }
-    Ok(true)
+    Ok(())
 }
 
 // Whether the file has just these locks.
@@ -72,228 +69,61 @@ fn has_locks(table: &LockTable, locks: &[LockInfo]) -> Result<bool, NoMemory> {
     Ok(table.locks(FILE)?.as_slice() == locks)
 }
 
-// Whether the file has so many locks.
-fn has_count(table: &LockTable, count: usize) -> Result<bool, NoMemory> {
-    Ok(table.locks(FILE)?.len() == count)
-}
-
-// Whether each of these locks would be blocked by that region, if by any.
-fn are_blocked_by(table: &LockTable, cases: &[(Owner, u16, Span, Mode, Option<LockInfo>)]) -> bool {
-    for (owner, file, span, mode, region) in cases {
-        if table.blocker(*owner, *file, *span, *mode) != *region {
+// Whether a write lock of the owner on the byte would be blocked by that region, if by any.
+fn are_blocked_by(table: &LockTable, cases: &[(Owner, u16, Option<LockInfo>)]) -> bool {
+    for (owner, file, region) in cases {
+        if table.blocker(*owner, *file, BYTE, Mode::Write) != *region {
             return false;
         }
     }
     true
 }
 
-// One owner has 1,024 regions of three bytes, with one free byte after each.
-fn fill(table: &mut LockTable) -> Result<(), LockError> {
-    for k in 0u64..1024 {
-        let span = Span {
-            lo: 4 * k,
-            hi: 4 * k + 2,
-        };
-        table.set(FIRST, FILE, span, Mode::Read)?;
-    }
-    Ok(())
-}
-
-// Whether there is no room for a region more, behind the others or out of one of them.
-fn is_full(table: &mut LockTable) -> bool {
-    let past = Span { lo: 4096, hi: 4096 };
-    table.unlock(FIRST, FILE, Span { lo: 1, hi: 1 }) == Err(LockError::NoLocks)
-        && table.set(FIRST, FILE, past, Mode::Write) == Err(LockError::NoLocks)
-}
-
-// The same, and whether the table is then as it was.
-fn stays_full(table: &mut LockTable) -> Result<bool, NoMemory> {
-    let before = table.copy()?;
-    Ok(is_full(table) && table.same(&before))
-}
-
+// The lowest first byte goes before the lowest owner, processes go before descriptions, and these before the next
+// incarnation.
 #[test]
-fn refuses_more_regions_than_there_may_be(rt: HostRuntime) -> Result<(), Fail> {
+fn equal_first_bytes_are_told_by_owner(rt: HostRuntime) -> Result<(), Fail> {
     let mut table = begins(rt.alloc())?;
-    fill(&mut table)?;
-    assert!(rt; stays_full(&mut table)? && has_count(&table, 1024)?);
-    table.set(FIRST, FILE, Span { lo: 3, hi: 3 }, Mode::Read)?;
-    assert!(rt; has_count(&table, 1023)?);
-    Ok(())
-}
-
-// A read lock in the middle of a write lock of the same owner makes three regions.
-#[test]
-fn names_whole_regions(rt: HostRuntime) -> Result<(), Fail> {
-    let mut table = begins(rt.alloc())?;
-    let locks = [(FIRST, 0, 99, Mode::Write), (FIRST, 40, 59, Mode::Read)];
-    assert!(rt; set_all(&mut table, &locks)?);
-    let all = Span { lo: 0, hi: 99 };
-    let middle = Span { lo: 40, hi: 59 };
-    let low = region(FIRST, Mode::Write, Span { lo: 0, hi: 39 });
-    let mid = region(FIRST, Mode::Read, middle);
-    let high = region(FIRST, Mode::Write, Span { lo: 60, hi: 99 });
-    assert!(rt; has_locks(&table, &[low, mid, high])?);
+    set_all(&mut table, &[LAST, MIDDLE, LOW])?;
     let cases = [
-        (
-            SECOND,
-            FILE,
-            Span { lo: 45, hi: 45 },
-            Mode::Write,
-            Some(mid),
-        ),
-        (SECOND, FILE, all, Mode::Read, Some(low)),
-        (SECOND, FILE, middle, Mode::Read, None),
-        (FIRST, FILE, all, Mode::Write, None),
-        (SECOND, FILE + 1, all, Mode::Write, None),
-        (SECOND, FILE, Span { lo: 100, hi: 200 }, Mode::Write, None),
+        (FIRST, FILE, Some(LOW)),
+        (LOW.owner, FILE, Some(MIDDLE)),
+        (FIRST, FILE + 1, None),
     ];
-    assert!(rt; are_blocked_by(&table, &cases));
+    assert!(rt; are_blocked_by(&table, &cases) && has_locks(&table, &[LOW, MIDDLE, LAST])?);
     Ok(())
 }
 
-// Whether each of these is told to be a region or not.
-fn tells_regions(table: &LockTable, cases: &[(u16, LockInfo, bool)]) -> bool {
-    for (file, lock, is_region) in cases {
-        if table.has_region(*file, lock) != *is_region {
+// Bytes, a mode, and whether they are a whole region of the second process in the file. A region is a run of one owner in one
+// mode.
+const REGIONS: [(u64, u64, Mode, bool); 6] = [
+    (10, 29, Mode::Read, true),
+    (10, 29, Mode::Write, false),
+    (10, 28, Mode::Read, false),
+    (11, 29, Mode::Read, false),
+    (10, 30, Mode::Read, false),
+    (40, 41, Mode::Read, false),
+];
+
+fn tells_regions(table: &LockTable) -> bool {
+    for (lo, hi, mode, is_region) in REGIONS {
+        if lo > hi || hi > 99 {
+            return false;
+        }
+        let span = Span { lo, hi };
+        let lock = LockInfo { mode, span, ..LOW };
+        if table.has_region(FILE, &lock) != is_region || table.has_region(FILE + 1, &lock) {
             return false;
         }
     }
-    true
+    !table.has_region(FILE, &LAST)
 }
 
-fn write(lo: u64, hi: u64) -> LockInfo
-    requires ordered { lo ≤ hi }
-    requires ends { hi ≤ greatest }
-{
-    region(FIRST, Mode::Write, Span { lo, hi })
-}
-
-// A region is a whole run of one owner in one mode.
 #[test]
-fn tells_regions_from_pieces_of_them(rt: HostRuntime) -> Result<(), Fail> {
+fn regions_are_told_from_pieces_of_them(rt: HostRuntime) -> Result<(), Fail> {
     let mut table = begins(rt.alloc())?;
-    let locks = [(FIRST, 0, 9, Mode::Write), (FIRST, 20, 29, Mode::Read)];
-    assert!(rt; set_all(&mut table, &locks)?);
-    let low = Span { lo: 0, hi: 9 };
-    let high = Span { lo: 20, hi: 29 };
-    let cases = [
-        (FILE, write(0, 9), true),
-        (FILE, region(FIRST, Mode::Read, high), true),
-        (FILE, region(FIRST, Mode::Read, low), false),
-        (FILE, write(0, 8), false),
-        (FILE, write(1, 9), false),
-        (FILE, write(0, 10), false),
-        (FILE, write(12, 15), false),
-        (FILE, region(SECOND, Mode::Write, low), false),
-        (FILE + 1, write(0, 9), false),
-    ];
-    assert!(rt; tells_regions(&table, &cases));
-    Ok(())
-}
-
-// Whether the first lock in the way is told by its owner where two begin at one byte.
-fn tells_by_owner(table: &LockTable) -> Result<bool, NoMemory> {
-    let byte = Span { lo: 15, hi: 15 };
-    let long = Span { lo: 10, hi: 29 };
-    let second = region(SECOND, Mode::Read, long);
-    let description = region(DESCRIPTION, Mode::Read, Span { lo: 10, hi: 19 });
-    let later = region(LATER, Mode::Read, long);
-    let cases = [
-        (FIRST, FILE, byte, Mode::Write, Some(second)),
-        (SECOND, FILE, byte, Mode::Write, Some(description)),
-    ];
-    Ok(are_blocked_by(table, &cases) && has_locks(table, &[second, description, later])?)
-}
-
-// Whether it is the one that begins lowest, of whatever owner.
-fn tells_by_first_byte(table: &mut LockTable) -> Result<bool, LockError> {
-    let is_set = set_all(table, &[(LATER, 9, 15, Mode::Read)])?;
-    let lowest = region(LATER, Mode::Read, Span { lo: 9, hi: 29 });
-    let byte = Span { lo: 15, hi: 15 };
-    let cases = [(FIRST, FILE, byte, Mode::Write, Some(lowest))];
-    Ok(is_set && are_blocked_by(table, &cases))
-}
-
-// The lowest first byte goes before the lowest owner, processes go before descriptions, and these
-// before the next incarnation.
-#[test]
-fn tells_equal_first_bytes_by_owner(rt: HostRuntime) -> Result<(), Fail> {
-    let mut table = begins(rt.alloc())?;
-    let locks = [
-        (LATER, 10, 29, Mode::Read),
-        (DESCRIPTION, 10, 19, Mode::Read),
-        (SECOND, 10, 29, Mode::Read),
-    ];
-    assert!(rt; set_all(&mut table, &locks)? && tells_by_owner(&table)?);
-    assert!(rt; tells_by_first_byte(&mut table)?);
-    Ok(())
-}
-
-const TEN: Span = Span { lo: 0, hi: 9 };
-
-// Whether the table is another with a lock of the first owner, and as before without its locks, also
-// where it has none.
-fn drops_first(table: &mut LockTable, before: &LockTable) -> Result<bool, LockError> {
-    table.set(FIRST, FILE, TEN, Mode::Read)?;
-    let changed = !table.same(before);
-    table.drop_owner(FIRST, FILE);
-    let dropped = table.same(before);
-    table.drop_owner(FIRST, FILE);
-    Ok(changed && dropped && table.same(before))
-}
-
-// Whether the table is as before where the first owner unlocks all that it has locked.
-fn unlocks_first(table: &mut LockTable, before: &LockTable) -> Result<bool, LockError> {
-    table.set(FIRST, FILE, TEN, Mode::Read)?;
-    table.unlock(FIRST, FILE, Span { lo: 0, hi: 20 })?;
-    Ok(table.same(before))
-}
-
-// Whether both are so.
-fn loses_first(table: &mut LockTable) -> Result<bool, LockError> {
-    let before = table.copy()?;
-    Ok(drops_first(table, &before)? && unlocks_first(table, &before)?)
-}
-
-// Other files and other owners keep their locks, and an owner without locks is no trace of one.
-#[test]
-fn drops_one_owner_of_one_file(rt: HostRuntime) -> Result<(), Fail> {
-    let mut table = begins(rt.alloc())?;
-    table.set(FIRST, FILE + 1, TEN, Mode::Write)?;
-    table.set(SECOND, FILE, TEN, Mode::Read)?;
-    assert!(rt; loses_first(&mut table)?);
-    assert!(rt; has_locks(&table, &[region(SECOND, Mode::Read, TEN)])?);
-    Ok(())
-}
-
-// One process has locks in two files, and another process and a description of the same node have some
-// in these.
-fn set_several(table: &mut LockTable) -> Result<(), LockError> {
-    for (owner, file) in [
-        (FIRST, FILE),
-        (SECOND, FILE),
-        (FIRST, FILE + 1),
-        (DESCRIPTION, FILE + 1),
-    ] {
-        table.set(owner, file, TEN, Mode::Read)?;
-    }
-    Ok(())
-}
-
-// Whether nobody but this owner has a lock in the file.
-fn has_only(table: &LockTable, file: u16, owner: Owner) -> Result<bool, NoMemory> {
-    let locks = table.locks(file)?;
-    Ok(locks.len() == 1 && locks.iter().all(|lock| lock.owner == owner))
-}
-
-// Each other owner keeps its locks, also the description with the process's number.
-#[test]
-fn drops_one_owner_of_every_file(rt: HostRuntime) -> Result<(), Fail> {
-    let mut table = begins(rt.alloc())?;
-    set_several(&mut table)?;
-    table.drop_owner_anywhere(FIRST);
-    assert!(rt; has_only(&table, FILE, SECOND)? && has_only(&table, FILE + 1, DESCRIPTION)?);
+    set_all(&mut table, &[LOW])?;
+    assert!(rt; tells_regions(&table));
     Ok(())
 }
 
@@ -304,63 +134,28 @@ fn copy_again(table: &LockTable) -> Result<LockTable, NoMemory> {
     }
 }
 
-// Sets the lock, again where memory for it is refused. Whether the table is then as it was before.
-fn set_over(
+// Sets the lock, or unlocks its bytes.
+fn change(table: &mut LockTable, lock: &LockInfo, sets: bool) -> Result<(), LockError> {
+    if sets {
+        table.set(lock.owner, FILE, lock.span, lock.mode)
+    } else {
+        table.unlock(lock.owner, FILE, lock.span)
+    }
+}
+
+// Changes the locks, again where memory for it is refused. Whether the table is then as it was before.
+fn changes_over(
     table: &mut LockTable,
     before: &LockTable,
-    owner: Owner,
-    span: Span,
+    lock: &LockInfo,
+    sets: bool,
 ) -> Result<bool, LockError> {
-    match table.set(owner, FILE, span, Mode::Read) {
-        Err(LockError::NoMemory) if table.same(before) => {
-            table.set(owner, FILE, span, Mode::Read)?;
-            Ok(true)
-        }
-        first => Ok(first.is_ok()),
+    if change(table, lock, sets).is_ok() {
+        return Ok(true);
     }
-}
-
-fn set_again(table: &mut LockTable, owner: Owner, span: Span) -> Result<bool, LockError> {
-    let before = copy_again(table)?;
-    set_over(table, &before, owner, span)
-}
-
-// Unlocks the bytes, again where memory for it is refused. Whether the table is then as it was before.
-fn unlock_over(
-    table: &mut LockTable,
-    before: &LockTable,
-    owner: Owner,
-    span: Span,
-) -> Result<bool, LockError> {
-    match table.unlock(owner, FILE, span) {
-        Err(LockError::NoMemory) if table.same(before) => {
-            table.unlock(owner, FILE, span)?;
-            Ok(true)
-        }
-        first => Ok(first.is_ok()),
-    }
-}
-
-fn unlock_again(table: &mut LockTable, owner: Owner, span: Span) -> Result<bool, LockError> {
-    let before = copy_again(table)?;
-    unlock_over(table, &before, owner, span)
-}
-
-// Whether two owners get four regions each, and lose some bytes of them.
-fn change_again(table: &mut LockTable) -> Result<bool, LockError> {
-    for lo in 0..4 {
-        let span = Span {
-            lo: 10 * lo,
-            hi: 10 * lo + 5,
-        };
-        if !set_again(table, FIRST, span)? || !set_again(table, SECOND, span)? {
-            return Ok(false);
-        }
-    }
-    Ok(
-        unlock_again(table, FIRST, Span { lo: 12, hi: 13 })?
-            && unlock_again(table, SECOND, Span { lo: 0, hi: 99 })?,
-    )
+    let is_same = table.same(before);
+    change(table, lock, sets)?;
+    Ok(is_same)
 }
 
 fn count_again(table: &LockTable) -> Result<usize, NoMemory> {
@@ -370,143 +165,43 @@ fn count_again(table: &LockTable) -> Result<usize, NoMemory> {
     }
 }
 
+// Locks of three owners, and bytes of them that are unlocked.
+const CHANGES: [(LockInfo, bool); 5] = [
+    (LAST, true),
+    (MIDDLE, true),
+    (LOW, true),
+    (LockInfo { span: BYTE, ..LOW }, false),
+    (LockInfo { span: TEN, ..LAST }, false),
+];
+
+fn all_change(table: &mut LockTable) -> Result<bool, LockError> {
+    for (lock, sets) in CHANGES {
+        let before = copy_again(table)?;
+        if !changes_over(table, &before, &lock, sets)? {
+            return Ok(false);
+        }
+    }
+    Ok(count_again(table)? == 4)
+}
+
 // Where one request for memory is refused, the table is as it was, and the same call then goes
 // through. `rt try --test --fail-alloc N` refuses the Nth request of each test, and this one passes
 // at each N, so it keeps no table in a box.
 #[test]
 fn keeps_what_it_had(rt: HostRuntime) -> Result<(), Fail> {
     let mut table = LockTable::new(rt.alloc());
-    assert!(rt; change_again(&mut table)? && count_again(&table)? == 5);
+    assert!(rt; all_change(&mut table)?);
+    table.drop_owner(LOW.owner, FILE);
+    table.drop_owner(LOW.owner, FILE);
+    assert!(rt; count_again(&table)? == 2);
     Ok(())
 }
 
 #[test]
 fn regions_stand_by_first_byte_and_then_by_owner(rt: HostRuntime) {
-    let low = region(SECOND, Mode::Read, Span { lo: 0, hi: 9 });
-    let first = region(FIRST, Mode::Write, Span { lo: 0, hi: 3 });
-    let high = region(FIRST, Mode::Read, Span { lo: 1, hi: 1 });
-    for (other, order) in [
-        (high, Ordering::Less),
-        (first, Ordering::Greater),
-        (low, Ordering::Equal),
-    ] {
-        assert!(rt; cmp_regions(&low, &other) == order);
-    }
-}
-
-#[test]
-fn the_lowest_of_two_regions_comes_first(rt: HostRuntime) {
-    let span = Span { lo: 0, hi: 9 };
-    let low = region(FIRST, Mode::Read, span);
-    let high = region(SECOND, Mode::Read, span);
-    let is_low = lowest_of(Some(high), Some(low)) == Some(region(FIRST, Mode::Read, span));
-    assert!(rt; is_low && lowest_of(None, None).is_none());
-}
-
-// The bytes 10 to 19 held for write, and from 40 on by two owners for read.
-const THREE: [(Owner, u64, u64, Mode); 3] = [
-    (SECOND, 10, 19, Mode::Write),
-    (DESCRIPTION, 40, 59, Mode::Read),
-    (FIRST, 40, 49, Mode::Read),
-];
-
-// Whether each of these bytes has that lowest region in the way of the mode, if any.
-fn has_lowest(table: &LockTable, cases: &[(u16, Span, Mode, Option<LockInfo>)]) -> bool {
-    for (file, span, mode, lowest) in cases {
-        if table.lowest_in_way(*file, *span, *mode) != *lowest {
-            return false;
-        }
-    }
-    true
-}
-
-// The lowest region in the way is one of any owner, and of two that begin at one byte the first owner's.
-#[test]
-fn names_the_lowest_in_the_way(rt: HostRuntime) -> Result<(), Fail> {
-    let mut table = begins(rt.alloc())?;
-    assert!(rt; set_all(&mut table, &THREE)?);
-    let all = Span { lo: 0, hi: 99 };
-    let above = Span { lo: 20, hi: 99 };
-    let written = region(SECOND, Mode::Write, Span { lo: 10, hi: 19 });
-    let read = region(FIRST, Mode::Read, Span { lo: 40, hi: 49 });
-    let cases = [
-        (FILE, all, Mode::Write, Some(written)),
-        (FILE, all, Mode::Read, Some(written)),
-        (FILE, above, Mode::Write, Some(read)),
-        (FILE, above, Mode::Read, None),
-        (FILE + 1, all, Mode::Write, None),
-    ];
-    assert!(rt; has_lowest(&table, &cases));
-    Ok(())
-}
-
-// The largest free span of the file around the bytes, or none where a lock is in the way of them.
-fn free(table: &LockTable, required: Span, mode: Mode) -> Option<Span> {
-    let _ = &required.lo; // tells the proof where the span ends
-    let whole = Span {
-        lo: 0,
-        hi: GREATEST,
-    };
-    match table.lowest_in_way(FILE, required, mode) {
-        Some(_) => None,
-        None => Some(table.free_around(FILE, required, whole, mode)),
-    }
-}
-
-// Whether each of these bytes has that free span around it for the mode.
-fn has_free(table: &LockTable, cases: &[(Span, Mode, Option<Span>)]) -> bool {
-    for (required, mode, around) in cases {
-        if free(table, *required, *mode) != *around {
-            return false;
-        }
-    }
-    true
-}
-
-// Bytes are free up to the nearest region in the way below and above.
-#[test]
-fn names_the_largest_free_span(rt: HostRuntime) -> Result<(), Fail> {
-    let mut table = begins(rt.alloc())?;
-    assert!(rt; set_all(&mut table, &THREE)?);
-    let middle = Span { lo: 25, hi: 29 };
-    let between = Span { lo: 20, hi: 39 };
-    let above = Span {
-        lo: 20,
-        hi: GREATEST,
-    };
-    let past = Span { lo: 60, hi: 60 };
-    let rest = Span {
-        lo: 60,
-        hi: GREATEST,
-    };
-    let cases = [
-        (middle, Mode::Write, Some(between)),
-        (middle, Mode::Read, Some(above)),
-        (past, Mode::Write, Some(rest)),
-        (Span { lo: 19, hi: 20 }, Mode::Read, None),
-    ];
-    assert!(rt; has_free(&table, &cases));
-    Ok(())
-}
-
-// A planned change is made when it is applied: in a new row, in the row that is there, which then goes.
-#[test]
-fn planned_changes_are_made_when_they_are_applied(rt: HostRuntime) -> Result<(), Fail> {
-    let mut table = LockTable::new(rt.alloc());
-    let all = Span { lo: 0, hi: 9 };
-    let edit = table.plan(FIRST, FILE, all, Some(Mode::Write))?;
-    assert_eq!(rt; table.locks(FILE)?.len(), 0);
-    table.apply(edit);
-    let edit = table.plan(FIRST, FILE, Span { lo: 4, hi: 5 }, None)?;
-    table.apply(edit);
-    let low = region(FIRST, Mode::Write, Span { lo: 0, hi: 3 });
-    let high = region(FIRST, Mode::Write, Span { lo: 6, hi: 9 });
-    assert_eq!(rt; table.locks(FILE)?.as_slice(), [low, high].as_slice());
-    let edit = table.plan(FIRST, FILE, all, None)?;
-    table.apply(edit);
-    assert_eq!(rt; table.locks(FILE)?.len(), 0);
-    let edit = table.plan(FIRST, FILE, all, None)?;
-    table.apply(edit);
-    assert_eq!(rt; table.locks(FILE)?.len(), 0);
-    Ok(())
+    let early = LockInfo { span: BYTE, ..LOW };
+    let are_ordered = cmp_regions(&LOW, &LAST) == Ordering::Less
+        && cmp_regions(&early, &MIDDLE) == Ordering::Greater
+        && cmp_regions(&LOW, &LOW) == Ordering::Equal;
+    assert!(rt; are_ordered && lowest_of(Some(LAST), Some(LOW)) == Some(LOW));
 }

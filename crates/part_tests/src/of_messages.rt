@@ -1,10 +1,58 @@
-//! Messages, and what stands in the journal.
-mod entry;
-mod event;
-mod items;
-mod message;
-mod numbers;
-mod outcome;
-mod refusal;
-mod shape;
-mod wanted;
+//! Lists that contracts see as lists, and the numbers and texts of refusals.
+use messages::items::Items;
+use messages::refusal::{Refused, StepError};
+use std::alloc::{AllocError, Global};
+use std::test::Fail;
+
+// Whether the list is the same as its copy, and as one of these numbers.
+fn is_listed(items: &Items<u16>, alloc: Global, numbers: &[u16]) -> Result<bool, AllocError> {
+    let same = Items::from_slice(alloc, numbers)?;
+    let copy = items.copy(alloc)?;
+    Ok(items.as_slice() == same.as_slice() && copy.as_slice() == items.as_slice())
+}
+
+#[test]
+fn lists_keep_the_order(rt: HostRuntime) -> Result<(), Fail> {
+    let mut items: Items<u16> = Items::new(rt.alloc());
+    items.push(3)?;
+    items.push(1)?;
+    assert!(rt; is_listed(&items, rt.alloc(), &[3, 1])?);
+    Ok(())
+}
+
+const STEP_ERRORS: [(StepError, u16, &str); 4] = [
+    (StepError::NoMemory, 3, "no memory"),
+    (StepError::Busy, 13, "the process has an open call"),
+    (StepError::Stranger, 14, "not of this cluster"),
+    (StepError::Spent, 19, "no number is left"),
+];
+
+const REFUSALS: [(Refused, &str); 9] = [
+    (Refused::NoMemory, "no memory"),
+    (Refused::Busy, "the process has an open call"),
+    (Refused::Stranger, "not of this cluster"),
+    (Refused::JournalFull, "the journal is full"),
+    (Refused::Spent, "no number is left"),
+    (Refused::NotAlive, "the node is not alive"),
+    (Refused::NotDead, "the node is alive"),
+    (Refused::TooManyRestarts, "the node was restarted too often"),
+    (Refused::Fenced, "the node was declared failed"),
+];
+
+#[test]
+fn refusals_of_a_step_say_why(rt: HostRuntime) -> Result<(), Fail> {
+    for (error, number, text) in STEP_ERRORS {
+        let said = format!(in rt.alloc(); "{error}")?;
+        assert!(rt; said.as_str() == text && Refused::from(error).number() == number);
+    }
+    Ok(())
+}
+
+#[test]
+fn refusals_of_an_event_say_why(rt: HostRuntime) -> Result<(), Fail> {
+    for (refusal, text) in REFUSALS {
+        let said = format!(in rt.alloc(); "{refusal}")?;
+        assert!(rt; said.as_str() == text, "{text}");
+    }
+    Ok(())
+}

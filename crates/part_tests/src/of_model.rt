@@ -1,26 +1,17 @@
 //! The words of lock calls.
-use model::call::CallId;
-use model::host::Host;
 use model::mode::Mode;
 
-#[test]
-fn calls_are_of_their_node(rt: HostRuntime) {
-    let call = CallId {
-        node: 3,
-        incarnation: 7,
-        number: 9,
-    };
-    let host = Host {
-        node: 3,
-        incarnation: 7,
-    };
-    assert!(rt; call.host() == host);
-}
+// Whether the two modes may not be held side by side.
+const PAIRS: [(Mode, Mode, bool); 4] = [
+    (Mode::Read, Mode::Read, false),
+    (Mode::Read, Mode::Write, true),
+    (Mode::Write, Mode::Read, true),
+    (Mode::Write, Mode::Write, true),
+];
 
 #[test]
 fn read_locks_alone_share(rt: HostRuntime) {
-    assert!(rt; !Mode::Read.excludes(Mode::Read));
-    assert!(rt; Mode::Read.excludes(Mode::Write));
-    assert!(rt; Mode::Write.excludes(Mode::Read));
-    assert!(rt; Mode::Write.excludes(Mode::Write));
+    for (one, other, excludes) in PAIRS {
+        assert!(rt; one.excludes(other) == excludes);
+    }
 }

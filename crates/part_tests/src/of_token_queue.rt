@@ -51,48 +51,27 @@ fn gives(line: &mut Line, nodes: &[u8]) -> bool {
     line.take_first().is_none()
 }
 
-// Whether three requests come in, and a fourth has no room.
-fn fills(line: &mut Line) -> bool {
-    put(line, 3) && put(line, 1) && put(line, 2) && !put(line, 4)
-}
-
-#[test]
-fn a_line_keeps_the_order_in_which_requests_came(rt: HostRuntime) -> Result<(), Fail> {
-    let mut line = Box::new(rt.alloc(), Line::with_room(rt.alloc(), 3)?)?;
-    assert!(rt; fills(&mut line));
-    assert!(rt; gives(&mut line, &[3, 1, 2]));
-    Ok(())
+// Whether a full line takes one more once it has a spare line's room.
+fn grows(line: &mut Line) -> Result<bool, AllocError> {
+    let was_full = put(line, 3) && put(line, 1) && put(line, 2) && !put(line, 4);
+    let copy = line.copy()?;
+    let spare = line.spare_for(1)?;
+    line.refill(spare);
+    Ok(was_full && copy.same(line) && put(line, 4) && !copy.same(line))
 }
 
 // Whether the request of node 1 comes out by its call, and the one of node 2 with its incarnation.
 fn lets_go(line: &mut Line) -> bool {
     line.take_out(call_of(1));
-    let left = line.len() == 2 && line.find(call_of(1)).is_none();
+    let left = line.len() == 3 && line.find(call_of(1)).is_none();
     line.forget(2, 1);
-    left && gives(line, &[3])
+    left && line.first() == Some(request_of(3)) && gives(line, &[3, 4])
 }
 
 #[test]
-fn a_request_comes_out_by_its_call_or_its_incarnation(rt: HostRuntime) -> Result<(), Fail> {
+fn a_line_keeps_the_order_in_which_requests_came(rt: HostRuntime) -> Result<(), Fail> {
     let mut line = Box::new(rt.alloc(), Line::with_room(rt.alloc(), 3)?)?;
-    assert!(rt; fills(&mut line));
-    assert!(rt; lets_go(&mut line));
-    Ok(())
-}
-
-// Whether a full line takes one more once it has a spare line's room.
-fn grows(line: &mut Line) -> Result<bool, AllocError> {
-    let copy = line.copy()?;
-    let spare = line.spare_for(1)?;
-    line.refill(spare);
-    Ok(copy.same(line) && put(line, 4) && !copy.same(line) && gives(line, &[3, 1, 2, 4]))
-}
-
-#[test]
-fn a_full_line_takes_more_with_a_spare_one(rt: HostRuntime) -> Result<(), Fail> {
-    let mut line = Box::new(rt.alloc(), Line::with_room(rt.alloc(), 3)?)?;
-    assert!(rt; fills(&mut line));
-    assert!(rt; grows(&mut line)?);
+    assert!(rt; grows(&mut line)? && lets_go(&mut line));
     Ok(())
 }
 
@@ -106,31 +85,43 @@ fn serve(active: &mut Active, node: u8) -> bool {
     true
 }
 
-// The one that is served, and the node whose row it waits for.
-fn only(active: &Active) -> Option<(TokenRequest, u8)> {
+// Whether just the request of the node is served, and waits for that row.
+fn has_only(active: &Active, node: u8, at: u8) -> bool {
     match active.as_slice() {
-        [held] => Some((held.request, held.at)),
-        _ => None,
+        [held] => held.request == request_of(node) && held.at == at,
+        _ => false,
     }
 }
 
-// Whether the list without room takes two with a spare one's, and lets them go.
+// Whether the list without room takes two with a spare one's, and a copy is the same until it changes.
 fn serves(active: &mut Active) -> Result<bool, AllocError> {
     let had_room = serve(active, 3);
     let spare = active.spare_for(2)?;
     active.refill(spare);
     let came = serve(active, 3) && serve(active, 2);
+    let copy = active.copy()?;
+    let was_same = copy.same(active);
     active.end(call_of(3));
-    let left = only(active) == Some((request_of(2), 1));
+    Ok(!had_room && came && was_same && !copy.same(active))
+}
+
+// Whether the request of the node is found by its call.
+fn is_found(active: &Active, node: u8) -> bool {
+    active.find(call_of(node)) == Some(request_of(node))
+}
+
+// Whether the other waits for another row, and goes with its incarnation.
+fn goes(active: &mut Active) -> bool {
+    let is_left = has_only(active, 2, 1) && is_found(active, 2);
     active.wait_for(&[7]);
-    let waits = only(active) == Some((request_of(2), 7));
+    let waits = has_only(active, 2, 7);
     active.forget(2, 1);
-    Ok(!had_room && came && left && waits && active.as_slice().is_empty())
+    is_left && waits && active.as_slice().is_empty()
 }
 
 #[test]
 fn a_served_request_ends_by_its_call(rt: HostRuntime) -> Result<(), Fail> {
     let mut active = Box::new(rt.alloc(), Active::new(rt.alloc()))?;
-    assert!(rt; serves(&mut active)?);
+    assert!(rt; serves(&mut active)? && goes(&mut active));
     Ok(())
 }

@@ -1,6 +1,13 @@
-//! Tests of runs: of the cluster, their histories, scripts, listings and journals, through the public calls.
+//! Tests of nodes, servers, runs and clusters on threads, through their public calls, where no script leads: messages that no
+//! run sends, histories that no run has, seats and steps of a book, gates that hold an actor.
 #![tactic(auto)]
 
+#[cfg(test)]
+mod gates;
+#[cfg(test)]
+mod of_actors;
+#[cfg(test)]
+mod of_book;
 #[cfg(test)]
 mod of_cluster_core;
 #[cfg(test)]
@@ -10,6 +17,8 @@ mod of_journal_text;
 #[cfg(test)]
 mod of_lockscript;
 #[cfg(test)]
+mod of_node_core;
+#[cfg(test)]
 mod of_placement;
 #[cfg(test)]
-mod of_replay;
+mod of_token_server;

@@ -1,5 +1,5 @@
 //! What lists of writes make, for either map.
-use super::vec_map::{has_runs, has_values};
+use super::steps::{A, B, has};
 use intervals::replay::{Command, replay};
 use intervals::span::{GREATEST, Span};
 use intervals::span_map::{NoMemory, SpanMap};
@@ -8,10 +8,6 @@ use intervals::vec_map::VecMap;
 use model::mode::Mode;
 use std::alloc::Global;
 use std::test::Fail;
-
-const A: Mode = Mode::Read;
-
-const B: Mode = Mode::Write;
 
 const WHOLE: Span = Span {
     lo: 0,
@@ -23,82 +19,66 @@ const LAST: Span = Span {
     hi: GREATEST,
 };
 
-fn set(span: Span, value: Mode) -> Command<Mode> {
+fn of(lo: u8, hi: u8, value: Option<Mode>) -> Command<Mode> {
+    let lo = u64::from(lo.min(hi));
+    let hi = u64::from(hi);
     Command {
-        span,
-        value: Some(value),
+        span: Span { lo, hi },
+        value,
     }
 }
 
-fn clear(span: Span) -> Command<Mode> {
-    Command { span, value: None }
+fn made<S: SpanMap<Mode>>(alloc: Global, commands: &[Command<Mode>]) -> Result<Box<S>, NoMemory> {
+    let map = replay(alloc, commands)?;
+    Ok(Box::new(alloc, map)?)
 }
 
-const ALL: Span = Span { lo: 0, hi: 9 };
-
-const SOME: Span = Span { lo: 4, hi: 5 };
-
-// A map of three runs, and of one.
-fn splits_and_joins<S: SpanMap<Mode>>(alloc: Global) -> Result<(S, S), NoMemory> {
-    let split = replay(alloc, &[set(ALL, A), set(SOME, B)])?;
-    let joined = replay(alloc, &[set(ALL, A), set(SOME, B), set(SOME, A)])?;
-    Ok((split, joined))
-}
-
-// Whether the first has three runs, and the second one.
-fn is_split_and_joined<S: SpanMap<Mode>>(split: &S, joined: &S) -> bool {
-    split.starts() == 3
-        && has_runs(split, &[(6, Some((Span { lo: 6, hi: 9 }, A)))])
-        && joined.starts() == 1
-        && has_runs(joined, &[(4, Some((Span { lo: 0, hi: 9 }, A)))])
+// A map of three runs, or of one where the bytes in the middle get the value around them again.
+fn three<S: SpanMap<Mode>>(alloc: Global, value: Option<Mode>) -> Result<Box<S>, NoMemory> {
+    made(alloc, &[of(0, 9, A), of(4, 5, B), of(4, 5, value)])
 }
 
 // A map with a value at each byte but the last.
-fn lacks_the_last<S: SpanMap<Mode>>(alloc: Global) -> Result<S, NoMemory> {
-    let commands = [set(SOME, B), clear(WHOLE), set(WHOLE, A), clear(LAST)];
-    replay(alloc, &commands)
-}
-
-// Whether it has.
-fn has_all_but_the_last<S: SpanMap<Mode>>(map: &S) -> bool {
-    let rest = Span {
-        lo: 0,
-        hi: GREATEST - 1,
+fn lacks_the_last<S: SpanMap<Mode>>(alloc: Global) -> Result<Box<S>, NoMemory> {
+    let of_all = |value| Command { span: WHOLE, value };
+    let last = Command {
+        span: LAST,
+        value: None,
     };
-    has_runs(map, &[(0, Some((rest, A)))]) && has_values(map, &[(GREATEST, None)])
+    made(alloc, &[of(4, 5, B), of_all(None), of_all(A), last])
 }
 
-// A map of one run far off.
-fn far<S: SpanMap<Mode>>(alloc: Global) -> Result<S, NoMemory> {
-    replay(alloc, &[set(Span { lo: 20, hi: 29 }, B)])
+// Whether these are as they are made.
+fn are_made<S: SpanMap<Mode>>(split: &S, joined: &S, lacking: &S) -> bool {
+    has(split, 3, 6, Some((6, 9, Mode::Read)))
+        && has(joined, 1, 4, Some((0, 9, Mode::Read)))
+        && has(lacking, 1, 0, Some((0, GREATEST - 1, Mode::Read)))
+        && lacking.get(GREATEST).is_none()
 }
 
-// Whether the free bytes before it are found.
+// Whether the free bytes before the one run of the map, from 20 to 29, are found.
 fn has_room_before<S: SpanMap<Mode>>(map: &S) -> bool {
-    if map.first_where(SOME, Some(B)).is_some() {
-        return false;
-    }
-    map.largest_around(SOME, WHOLE, Some(B)) == Span { lo: 0, hi: 19 }
+    let some = Span { lo: 4, hi: 5 };
+    map.first_where(some, B).is_none()
+        && map.largest_around(some, WHOLE, B) == Span { lo: 0, hi: 19 }
 }
 
 #[test]
 fn vec_map_replays(rt: HostRuntime) -> Result<(), Fail> {
-    let maps: (VecMap<Mode>, VecMap<Mode>) = splits_and_joins(rt.alloc())?;
-    assert!(rt; is_split_and_joined(&maps.0, &maps.1));
-    let most: VecMap<Mode> = lacks_the_last(rt.alloc())?;
-    assert!(rt; has_all_but_the_last(&most));
-    let map: VecMap<Mode> = far(rt.alloc())?;
-    assert!(rt; has_room_before(&map));
+    let split: Box<VecMap<Mode>> = three(rt.alloc(), B)?;
+    let joined = three(rt.alloc(), A)?;
+    let lacking = lacks_the_last(rt.alloc())?;
+    let far: Box<VecMap<Mode>> = made(rt.alloc(), &[of(20, 29, B)])?;
+    assert!(rt; are_made(&*split, &*joined, &*lacking) && has_room_before(&*far));
     Ok(())
 }
 
 #[test]
 fn tree_map_replays(rt: HostRuntime) -> Result<(), Fail> {
-    let maps: (TreeMap<Mode>, TreeMap<Mode>) = splits_and_joins(rt.alloc())?;
-    assert!(rt; is_split_and_joined(&maps.0, &maps.1));
-    let most: TreeMap<Mode> = lacks_the_last(rt.alloc())?;
-    assert!(rt; has_all_but_the_last(&most));
-    let map: TreeMap<Mode> = far(rt.alloc())?;
-    assert!(rt; has_room_before(&map));
+    let split: Box<TreeMap<Mode>> = three(rt.alloc(), B)?;
+    let joined = three(rt.alloc(), A)?;
+    let lacking = lacks_the_last(rt.alloc())?;
+    let far: Box<TreeMap<Mode>> = made(rt.alloc(), &[of(20, 29, B)])?;
+    assert!(rt; are_made(&*split, &*joined, &*lacking) && has_room_before(&*far));
     Ok(())
 }

@@ -1,0 +1,85 @@
+//! Gates that hold actors, at most 10,000 turns of one millisecond.
+use actors::gate::{Gate, Point};
+use messages::actor::Actor;
+use std::sync::atomic::{AtomicU64, Ordering};
+use std::thread;
+use std::time::{Clock, Duration};
+
+const TURNS: u64 = 10_000;
+
+/// Waits until the word is set, and says whether it was.
+pub fn wait_for<R: Clock>(rt: &R, word: &AtomicU64) -> bool {
+    for _ in 0..TURNS {
+        if word.load(Ordering::SeqCst) != 0 {
+            return true;
+        }
+        thread::sleep(rt, Duration::from_millis(1));
+    }
+    false
+}
+
+/// Once armed, holds the next step that node 1 prepares until it is let go. A step that node 2 commits
+/// meanwhile lets it go.
+#[derive(Drop)]
+pub struct Holder<'a, R: Clock> {
+    pub rt: &'a R,
+    pub armed: AtomicU64,
+    pub came: AtomicU64,
+    pub let_go: AtomicU64,
+    pub late: AtomicU64,
+}
+
+impl<'a, R: Clock> Holder<'a, R> {
+    pub fn new(rt: &'a R) -> Holder<'a, R> {
+        Holder {
+            rt,
+            armed: AtomicU64::new(0),
+            came: AtomicU64::new(0),
+            let_go: AtomicU64::new(0),
+            late: AtomicU64::new(0),
+        }
+    }
+}
+
+impl<R: Clock> Gate for Holder<'_, R> {
+    fn at(&self, point: Point) {
+        match point {
+            Point::Prepared(Actor::Node(1)) => {
+                if self.armed.swap(0, Ordering::SeqCst) == 1 {
+                    self.came.store(1, Ordering::SeqCst);
+                    if !wait_for(self.rt, &self.let_go) {
+                        self.late.store(1, Ordering::SeqCst);
+                    }
+                }
+            }
+            Point::Committed(Actor::Node(2), _) => {
+                if self.came.load(Ordering::SeqCst) == 1 {
+                    self.let_go.store(1, Ordering::SeqCst);
+                }
+            }
+            _ => {}
+        }
+    }
+}
+
+/// Holds nothing, and marks that node 1 has committed a step.
+#[derive(Drop)]
+pub struct Commits {
+    pub one: AtomicU64,
+}
+
+impl Commits {
+    pub fn new() -> Commits {
+        Commits {
+            one: AtomicU64::new(0),
+        }
+    }
+}
+
+impl Gate for Commits {
+    fn at(&self, point: Point) {
+        if let Point::Committed(Actor::Node(1), _) = point {
+            self.one.store(1, Ordering::SeqCst);
+        }
+    }
+}

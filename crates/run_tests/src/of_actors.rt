@@ -1,0 +1,242 @@
+//! Clusters on threads, where a gate holds an actor or a node is declared failed meanwhile.
+use crate::gates::{Commits, Holder, wait_for};
+use actors::call_error::CallError;
+use actors::client::Client;
+use actors::cluster::with_cluster;
+use actors::gate::OpenGate;
+use actors::weather::Fair;
+use book::confirms::Confirms;
+use book::receipt::Receipt;
+use cluster_core::journal::Journal;
+use messages::actor::Actor;
+use messages::entry::Entry;
+use messages::event::Event;
+use messages::shape::Shape;
+use model::access::Access;
+use model::mode::Mode;
+use model::op::Op;
+use model::owner::Kind;
+use model::policy::Policy;
+use model::reply::Reply;
+use std::sync::Wait;
+use std::sync::atomic::Ordering;
+use std::test::Fail;
+use std::thread;
+use std::thread::Threads;
+use std::time::Clock;
+
+// A lock of a process on descriptor 0.
+fn set(start: i64, len: i64) -> Op {
+    Op::Set {
+        fd: 0,
+        kind: Kind::OfProcess,
+        mode: Mode::Write,
+        start,
+        len,
+    }
+}
+
+// Gives a lock up.
+fn unlock(start: i64, len: i64) -> Op {
+    Op::Unlock {
+        fd: 0,
+        kind: Kind::OfProcess,
+        start,
+        len,
+    }
+}
+
+// A wait of a process for the first ten bytes.
+const WAIT: Op = Op::Wait {
+    fd: 0,
+    kind: Kind::OfProcess,
+    mode: Mode::Write,
+    start: 0,
+    len: 10,
+};
+
+// The process begins, opens file 1 and sets a lock.
+fn begin<R: Wait>(rt: &R, client: &mut Client<'_>, op: Op) -> Option<Receipt> {
+    client.call(rt, Op::Spawn).ok()?;
+    let open = Op::Open {
+        file: 1,
+        access: Access::ReadWrite,
+    };
+    client.call(rt, open).ok()?;
+    client.call(rt, op).ok()
+}
+
+#[test]
+fn a_node_commits_while_another_is_held(rt: HostRuntime) -> Result<(), Fail> {
+    let alloc = rt.alloc();
+    let gate = Holder::new(&rt);
+    let shape = Shape::new(2, 1, Policy::Exact)?;
+    let weathers = vec![in alloc; Fair, Fair, Fair]?;
+    let (made, journal) = with_cluster(&rt, alloc, shape, &gate, weathers, |cluster| {
+        let mut one = cluster.client(&rt, 1, 1).ok()?;
+        let mut two = cluster.client(&rt, 2, 1).ok()?;
+        let first = begin(&rt, &mut one, set(0, 10))?;
+        two.told(&first);
+        let second = begin(&rt, &mut two, set(20, 10))?;
+        gate.armed.store(1, Ordering::SeqCst);
+        let (third, fourth) = thread::join(
+            &rt,
+            || one.call(&rt, unlock(0, 10)),
+            || {
+                wait_for(&rt, &gate.came);
+                two.call(&rt, set(20, 5))
+            },
+        );
+        Some([first, second, third.ok()?, fourth.ok()?])
+    })?;
+    let receipts = made.ok_or("four receipts")?;
+    assert_eq!(rt; gate.late.load(Ordering::SeqCst), 0);
+    assert_eq!(rt; gate.let_go.load(Ordering::SeqCst), 1);
+    for receipt in receipts.iter() {
+        assert!(rt; journal.holds(receipt));
+    }
+    Ok(())
+}
+
+#[test]
+fn a_step_of_a_declared_node_is_not_taken(rt: HostRuntime) -> Result<(), Fail> {
+    let alloc = rt.alloc();
+    let gate = Holder::new(&rt);
+    gate.armed.store(1, Ordering::SeqCst);
+    let shape = Shape::new(1, 1, Policy::Wide)?;
+    let weathers = vec![in alloc; Fair, Fair]?;
+    let (made, journal) = with_cluster(&rt, alloc, shape, &gate, weathers, |cluster| {
+        let mut client = cluster.client(&rt, 1, 1).ok()?;
+        let (called, declared) = thread::join(
+            &rt,
+            || client.call(&rt, Op::Spawn).err(),
+            || {
+                let came = wait_for(&rt, &gate.came);
+                let declared = cluster.declare(&rt, 1).is_ok();
+                gate.let_go.store(1, Ordering::SeqCst);
+                came && declared
+            },
+        );
+        Some((called, declared))
+    })?;
+    assert_eq!(rt; made, Some((Some(CallError::Fenced), true)));
+    let events = journal.entries();
+    assert!(rt;
+        events
+            .iter()
+            .any(|entry| entry.event() == Event::Declare { node: 1 })
+    );
+    assert!(rt; events.iter().all(|entry| entry.call().is_none()));
+    Ok(())
+}
+
+#[test]
+fn a_wait_ends_as_its_node_is_declared(rt: HostRuntime) -> Result<(), Fail> {
+    let alloc = rt.alloc();
+    let shape = Shape::new(2, 1, Policy::Wide)?;
+    let weathers = vec![in alloc; Fair, Fair, Fair]?;
+    let (made, journal) = with_cluster(&rt, alloc, shape, &OpenGate, weathers, |cluster| {
+        let mut one = cluster.client(&rt, 1, 1).ok()?;
+        let mut two = cluster.client(&rt, 2, 1).ok()?;
+        let held = begin(&rt, &mut one, set(0, 10))?;
+        two.told(&held);
+        begin(&rt, &mut two, set(20, 10))?;
+        let (killed, _) = thread::join(
+            &rt,
+            || two.call(&rt, WAIT).err(),
+            || {
+                thread::sleep(&rt, std::time::Duration::from_millis(50));
+                cluster.declare(&rt, 2).is_ok()
+            },
+        );
+        let fenced = two.call(&rt, Op::Spawn).err();
+        let refused = cluster.client(&rt, 2, 1).err();
+        cluster.restart(&rt, 2).ok()?;
+        let mut again = cluster.client(&rt, 2, 1).ok()?;
+        let receipt = again.call(&rt, Op::Spawn).ok()?;
+        let old = two.call(&rt, Op::Spawn).err();
+        Some(([killed, fenced, refused, old], receipt))
+    })?;
+    let (errors, receipt) = made.ok_or("a receipt")?;
+    let fenced = Some(CallError::Fenced);
+    assert_eq!(rt; errors, [Some(CallError::Killed), fenced, fenced, fenced]);
+    assert!(rt; journal.holds(&receipt));
+    assert_eq!(rt; receipt.call().incarnation, 2);
+    assert_eq!(rt; receipt.call().number, 1);
+    Ok(())
+}
+
+// Whether the entry is a step of a node.
+fn is_of_node(entry: &Entry) -> bool {
+    match entry.event() {
+        Event::Call { .. } | Event::Retry { .. } | Event::Interrupt { .. } => true,
+        Event::Deliver(message) => matches!(message.addressee(), Actor::Node(_)),
+        _ => false,
+    }
+}
+
+// Whether a step of a node stands between these positions.
+fn has_node_step(journal: &Journal, first: u32, last: u32) -> bool {
+    let mut position = 0;
+    for entry in journal.entries() {
+        position = u32::saturating_add(position, 1);
+        if first < position && position < last && is_of_node(entry) {
+            return true;
+        }
+    }
+    false
+}
+
+// One process waits for the lock of another on its node, which gives it up after the node took the
+// wait: the receipts of the wait and of the unlock.
+fn pass_on<R: Threads + Wait + Clock + Sync>(
+    rt: &R,
+    gate: &Commits,
+    from: &mut Client<'_>,
+    to: &mut Client<'_>,
+) -> Option<(Receipt, Receipt)> {
+    gate.one.store(0, Ordering::SeqCst);
+    let (waited, given) = thread::join(
+        rt,
+        || to.call(rt, WAIT),
+        || {
+            wait_for(rt, &gate.one);
+            from.call(rt, unlock(0, 10))
+        },
+    );
+    Some((waited.ok()?, given.ok()?))
+}
+
+#[test]
+fn a_lock_goes_on_to_a_wait_of_its_node_at_once(rt: HostRuntime) -> Result<(), Fail> {
+    let alloc = rt.alloc();
+    let gate = Commits::new();
+    let shape = Shape::new(1, 1, Policy::Wide)?;
+    let weathers = vec![in alloc; Fair, Fair]?;
+    let (made, journal) = with_cluster(&rt, alloc, shape, &gate, weathers, |cluster| {
+        let mut one = cluster.client(&rt, 1, 1).ok()?;
+        let mut two = cluster.client(&rt, 1, 2).ok()?;
+        begin(&rt, &mut one, set(0, 10))?;
+        begin(&rt, &mut two, set(20, 10))?;
+        let mut passed = Vec::new(alloc);
+        for _ in 0..5 {
+            passed.push(pass_on(&rt, &gate, &mut one, &mut two)?).ok()?;
+            passed.push(pass_on(&rt, &gate, &mut two, &mut one)?).ok()?;
+        }
+        Some(passed)
+    })?;
+    let mut waits = 0u32;
+    for (wait, unlock) in made.ok_or("ten locks are passed on")? {
+        assert_eq!(rt; wait.reply(), Reply::Done);
+        if wait.call_at() > unlock.call_at() {
+            continue;
+        }
+        waits = u32::saturating_add(waits, 1);
+        assert!(rt;
+            !has_node_step(&journal, unlock.call_at(), wait.reply_at()),
+            "no step of the node comes first"
+        );
+    }
+    assert!(rt; waits > 0, "a wait was open as the lock was given up");
+    Ok(())
+}
