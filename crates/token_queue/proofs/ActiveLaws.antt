@@ -3,9 +3,8 @@ use Rattle.std.specs.Prelude.{◌≡◌, ℕ, zero, suc, ◌+◌, ◌<◌, ◌�
 use Rattle.std.specs.List.{list_any, remove}
 use Rattle.std.specs.Option.{option_map}
 use Rattle.std.proofs.Common.{refl, sym, ap, subst, ◌∙◌, take, arith}
-use Rattle.std.proofs.lemmas.List.{take_more, take_all}
-use Rattle.std.proofs.lemmas.List.Edits.{length-remove}
-use Rattle.std.proofs.lemmas.List.Elements.{All-nil, All-head, All-tail, All-push}
+use Rattle.std.proofs.lemmas.List.{take_more}
+use Rattle.std.proofs.lemmas.List.Elements.{All-head, All-tail, All-push}
 use Rattle.std.proofs.lemmas.Option.{none-some, same_Some, slice_get_within, get_or_from_slice_get}
 use Rattle.model.specs.declared.call.CallId.{CallId}
 use Rattle.token_queue.specs.declared.held.Held.{Held}
@@ -91,50 +90,14 @@ filter-remove keep (x ∷ held) zero h there off =
     sym (ap (λ (b : Bool). cond b (x ∷ filter keep held) (filter keep held)) (ap keep same ∙ off))
 filter-remove keep (x ∷ held) (suc i) h there off = ap (λ (hs : List Held). cond (keep x) (x ∷ hs) hs) (filter-remove keep held i h there off)
 
-take-remove : (held : List Held) (i : ℕ) → take i (remove held i) ≡ take i held
-take-remove [] zero = refl
-take-remove [] (suc i) = refl
-take-remove (x ∷ held) zero = refl
-take-remove (x ∷ held) (suc i) = ap (λ (hs : List Held). x ∷ hs) (take-remove held i)
-
-filter-all : (keep : Held → Bool) (held : List Held) → All (λ h. keep h ≡ true) held → filter keep held ≡ held
+pub filter-all : (keep : Held → Bool) (held : List Held) → All (λ h. keep h ≡ true) held → filter keep held ≡ held
 filter-all keep [] all = refl
 filter-all keep (h ∷ held) all =
     ap (λ (b : Bool). cond b (h ∷ filter keep held) (filter keep held)) (All-head (λ x. keep x ≡ true) h held all)
     ∙ ap (λ (hs : List Held). h ∷ hs) (filter-all keep held (All-tail (λ x. keep x ≡ true) h held all))
 
--- what is left of requests, where those up to a place are kept and the others have not been looked at
-pub record IsSifted (keep : Held → Bool) (before held : List Held) (i : ℕ) : Type 0 where
-  pub within : i ≤ length held
-  pub few : length held ≤ length before
-  pub kept : All (λ h. keep h ≡ true) (take i held)
-  pub same : filter keep held ≡ filter keep before
-
-pub sifted-start : (keep : Held → Bool) (held : List Held) → IsSifted keep held held 0
-sifted-start keep held = record { within = omega arith; few = omega arith; kept = All-nil (λ (h : Held). keep h ≡ true); same = refl }
-
-pub sifted-gone : (keep : Held → Bool) (before held : List Held) (i : ℕ) (h : Held) → slice_get held i ≡ Some h → keep h ≡ false → IsSifted keep before held i → IsSifted keep before (remove held i) i
-sifted-gone keep before held i h there off s =
-    let within : i < length held = slice_get_within held i h there in
-    let fewer : length (remove held i) + 1 ≡ length held = length-remove held i within in
-    record {
-      within = omega (arith, within, fewer);
-      few = omega (arith, fewer, s.few);
-      kept = subst (All (λ x. keep x ≡ true)) (sym (take-remove held i)) s.kept;
-      same = filter-remove keep held i h there off ∙ s.same;
-    }
-
-pub sifted-kept : (keep : Held → Bool) (before held : List Held) (i : ℕ) (h : Held) → slice_get held i ≡ Some h → keep h ≡ true → IsSifted keep before held i → IsSifted keep before held (i + 1)
-sifted-kept keep before held i h there on s =
-    let within : i < length held = slice_get_within held i h there in
-    let next : take (i + 1) held ≡ take i held ++ h ∷ [] = take_more held i h within ∙ ap (λ (x : Held). take i held ++ x ∷ []) (get_or_from_slice_get held i h h there) in
-    record {
-      within = omega (arith, within);
-      few = s.few;
-      kept = subst (All (λ x. keep x ≡ true)) (sym next) (All-push (λ x. keep x ≡ true) (take i held) h s.kept on);
-      same = s.same;
-    }
-
-pub sifted-all : (keep : Held → Bool) (before held : List Held) (i : ℕ) → length held ≤ i → IsSifted keep before held i → held ≡ filter keep before
-sifted-all keep before held i past s =
-    sym (filter-all keep held (subst (All (λ x. keep x ≡ true)) (take_all i held past) s.kept)) ∙ s.same
+-- one more that is kept
+pub kept-next : (keep : Held → Bool) (held : List Held) (i : ℕ) (h : Held) → slice_get held i ≡ Some h → keep h ≡ true → All (λ x. keep x ≡ true) (take i held) → All (λ x. keep x ≡ true) (take (i + 1) held)
+kept-next keep held i h there on all =
+    let next : take (i + 1) held ≡ take i held ++ h ∷ [] = take_more held i h (slice_get_within held i h there) ∙ ap (λ (x : Held). take i held ++ x ∷ []) (get_or_from_slice_get held i h h there) in
+    subst (All (λ x. keep x ≡ true)) (sym next) (All-push (λ x. keep x ≡ true) (take i held) h all on)

@@ -1,5 +1,6 @@
 //! The requests that a server serves, in order.
-ghost use Rattle.std.specs.Prelude.{◌≡◌, ◌↔◌, ◌+◌, ◌<◌, ◌≤◌, ◌++◌, ◌∷◌, [], not, filter, find, map, length, IfOk, IsTrue};
+ghost use Rattle.std.specs.Prelude.{◌≡◌, ◌↔◌, ◌+◌, ◌<◌, ◌≤◌, ◌++◌, ◌∷◌, [], not, filter, find, map, length, IfSome, IfOk, IsTrue, None};
+ghost use Rattle.std.specs.List.{remove};
 ghost use Rattle.std.specs.Option.{option_map};
 ghost use Rattle.std.specs.Vec.{vec_capacity};
 ghost use Rattle.token_queue.specs.Requests.{is_of_call, is_up_to};
@@ -190,19 +191,28 @@ fn find(held: &[Held], call: CallId) -> Option<Held>
     held.iter().find(|held| held.is_of_call(call)).copied()
 }
 
+// The place of the first request of the call, if there is one: without it those of other calls are the same.
+fn place_of(held: &[Held], call: CallId) -> Option<usize>
+    ensures within { IfSome result (λ place. place < length held.now) }
+    ensures gone { IfSome result (λ place. filter (λ h. not (is_of_call call h.request)) (remove held.now place) ≡ filter (λ h. not (is_of_call call h.request)) held.now) }
+    ensures none { result ≡ None → filter (λ h. not (is_of_call call h.request)) held.now ≡ held.now }
+{
+    for place in 0..held.len() {
+        if held[place].is_of_call(call) {
+            return Some(place);
+        }
+    }
+    None
+}
+
 // The request of the call goes: those behind it move, and no others.
 fn end(held: &mut Vec<Held>, call: CallId)
     ensures items { held.new.items ≡ filter (λ h. not (is_of_call call h.request)) held.old.items }
     ensures len { length held.new.items ≤ length held.old.items }
     ensures capacity { vec_capacity held.new ≡ vec_capacity held.old }
 {
-    let mut place = 0;
-    while place < held.len() {
-        if held[place].is_of_call(call) {
-            held.remove(place);
-        } else {
-            place += 1;
-        }
+    while let Some(place) = place_of(held, call) {
+        held.remove(place);
     }
 }
 

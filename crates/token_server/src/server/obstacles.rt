@@ -1,8 +1,9 @@
 //! What stands in the way of the requests that a token server serves.
-ghost use Rattle.std.specs.Prelude.{◌≡◌, ◌≤◌, ◌↔◌, true, false, not, ◌&&◌, ◌==◌, All, length, drop, IsSome, IfOk, IfSome, Some};
+ghost use Rattle.std.specs.Prelude.{◌≡◌, ◌≤◌, ◌↔◌, true, false, not, ◌&&◌, ◌==◌, All, length, drop, IsSome, IfOk, IfSome, Option, Some};
 ghost use Rattle.intervals.specs.Bytes.{Range};
 ghost use Rattle.model.specs.Limits.{IsNumber, most_nodes};
 ghost use Rattle.token_queue.specs.Actives.{requests_of, waiting_for};
+ghost use Rattle.token_server.specs.State.{Row};
 ghost use Rattle.token_server.specs.Serve.{row_conflicts, conflicting_node};
 ghost use Rattle.token_server.specs.Parts.{server_state, rows_of};
 ghost use Rattle.token_server.specs.Obstacles.{obstacle, is_dropped, frees};
@@ -119,7 +120,7 @@ impl Server {
         let mut many = 0;
         let active = self.active.as_slice();
         for place in 0..active.len() {
-            if self.is_freed(changed, &active[place]) {
+            if may_be_freed(changed, &active[place]) {
                 many = place + 1;
             }
         }
@@ -185,6 +186,25 @@ impl Server {
         }
         Ok(fresh)
     }
+}
+
+// Whether bytes that a request needs may stand in the way no longer, once a row changes so: it is not asked here
+// which row that is.
+fn may_free(change: &NodeChange, request: &TokenRequest) -> bool
+    ensures { result ≡ false → (row : Option Row) → frees change.now row request.now.wanted.required ≡ false }
+{
+    match change {
+        NodeChange::Forgotten { .. } | NodeChange::Asked { .. } => true,
+        NodeChange::Answered => false,
+        NodeChange::Relieved { span, .. } => request.meets(*span),
+    }
+}
+
+// Whether a request that is served may wait for another row than before.
+fn may_be_freed(changed: &Changed, held: &Held) -> bool
+    ensures { result ≡ false → (row : Option Row) → (held.now.at == changed.now.node && frees changed.now.change row held.now.request.wanted.required) ≡ false }
+{
+    held.at == changed.node && may_free(&changed.change, &held.request)
 }
 
 // Whether the mode is that of a read lock.

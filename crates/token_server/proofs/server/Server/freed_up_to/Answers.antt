@@ -1,12 +1,12 @@
 use Rattle.std.specs.Prelude.{◌≡◌, ◌+◌, ◌≤◌, List, false, ◌&&◌, ◌==◌, All, length, slice_get, Some}
-use Rattle.std.proofs.Common.{sym, ap, subst, ◌∙◌, drop, arith}
+use Rattle.std.proofs.Common.{ap, subst, ◌∙◌, drop, arith}
 use Rattle.std.proofs.lemmas.List.{take_all}
 use Rattle.token_queue.specs.declared.held.Held.{Held}
 use Rattle.token_server.specs.Obstacles.{frees}
 use Rattle.token_server.specs.Parts.{ServerParts, rows_of}
 use Rattle.token_server.proofs.AwaitLaws.{rest-more, rest-none}
 use Rattle.token_server.proofs.TurnLaws.{read-place}
-use Rattle.token_server.proofs.server.Server.freed_up_to.Goals.{then-is_freed, else-is_freed}
+use Rattle.token_server.proofs.server.Server.freed_up_to.Goals.{then-may_be_freed, else-may_be_freed}
 use Rattle.token_server.proofs.server.Server.freed_up_to.Goals as goal
 
 pub loop-place-preserved : goal.loop-place-preserved
@@ -18,10 +18,10 @@ loop-place-preserved c =
     let read : c.as_slice-active.result.now ≡ held = c.as_slice-active.ensures ∙ ap (λ (p : ServerParts). p.active.held) c.self.view_is in
     let many : length c.as_slice-active.result.now ≡ length held = ap (λ (hs : List Held). length hs) read in
     let there : slice_get held i ≡ Some item = read-place c.as_slice-active.result.now held i item read c.loop-place-test.true c.index-active-place.is in
-    elim c.if-is_freed.branch [
-      | then-is_freed w ↦ rw w.many-is (omega arith, omega (arith, many, c.loop-place-test.true), rest-none P held (i + 1))
-      | else-is_freed w ↦
-          rw w.many-is (omega (arith, c.loop-place.invariant.0), c.loop-place.invariant.1, rest-more P held c.loop-place.many i item c.loop-place.invariant.0 there (sym c.is_freed.ensures ∙ w.if-is_freed.false) c.loop-place.invariant.2)
+    elim c.if-may_be_freed.branch [
+      | then-may_be_freed w ↦ rw w.many-is (omega arith, omega (arith, many, c.loop-place-test.true), rest-none P held (i + 1))
+      | else-may_be_freed w ↦
+          rw w.many-is (omega (arith, c.loop-place.invariant.0), c.loop-place.invariant.1, rest-more P held c.loop-place.many i item c.loop-place.invariant.0 there (c.may_be_freed.ensures w.if-may_be_freed.false (rows_of c.args.self.now.clients c.args.changed.now.node)) c.loop-place.invariant.2)
     ]
 
 pub returns-clause-rest : goal.returns-clause-rest
