@@ -1,7 +1,7 @@
 #!/usr/bin/env bash
 # Runs the program as a user does, and looks at its status, its standard output and its standard error: words left out
 # and added, files that can't be read, outputs that can't be written, little memory, a full journal, journals that are
-# written, changed and cut, and the help.
+# written, changed, cut and gone on from, and the help.
 # Prints a line for each case that failed, and last `N passed, M failed`. The status is 0 where none failed.
 # usage: tests/program.sh PROGRAM
 program=$(readlink -f -- "${1:?usage: tests/program.sh PROGRAM}") || exit 2
@@ -94,6 +94,11 @@ for command in audit history; do
     try_text "two journals for $command" 2 err 'Usage: lockreplay' "$command" new.journal other.journal
     try_text "help on $command" 0 out 'Usage: lockreplay ' help "$command"
 done
+try_text 'a journal before it left out' 2 err "a value is required for '--after <JOURNAL>'" run first.lock --after
+try_text 'two journals before it' 2 err "'--after <JOURNAL>' cannot be used multiple times" \
+    run --after new.journal --after other.journal first.lock
+try_text 'a journal before it without its script' 2 err 'Usage: lockreplay' run --after new.journal
+try_text 'the journal before it in the help on run' 0 out '--after JOURNAL' help run
 try_text 'an option for audit' 2 err 'Usage: lockreplay' audit --journal new.journal
 try_text 'long help on audit' 0 out 'audit no K' audit --help
 try_text 'long help on history' 0 out 'Usage: lockreplay history' history --help
@@ -302,31 +307,31 @@ echo 'call 1 1 spawn' >>full.lock
 echo 'journal full' >no-room
 try 'a full journal' 4 none no-room run full.lock
 
-# A process has 1,024 regions of a byte, with one free byte after each. There is no room for another one until two of them become one, by the
+# A process has 16,384 regions of a byte, with one free byte after each. There is no room for another one until two of them become one, by the
 # byte between them, and then none to part these again. (The first lock is done at 5, once its token comes.)
 {
     cat empty.lock
     printf 'call 1 1 spawn\ncall 1 1 open 1 rw\ncall 1 1 set 0 proc read 0 1\nsettle\n'
-    for at in $(seq 2 2 2046); do echo "call 1 1 set 0 proc read $at 1"; done
-    printf 'call 1 1 set 0 proc read 2048 1\ncall 1 1 set 0 proc read 1 1\n'
-    printf 'call 1 1 set 0 proc read 2048 1\ncall 1 1 unlock 0 proc 1 1\n'
+    for at in $(seq 2 2 32766); do echo "call 1 1 set 0 proc read $at 1"; done
+    printf 'call 1 1 set 0 proc read 32768 1\ncall 1 1 set 0 proc read 1 1\n'
+    printf 'call 1 1 set 0 proc read 32768 1\ncall 1 1 unlock 0 proc 1 1\n'
 } >regions.lock
 awk 'BEGIN {
     at[++count] = 1; calls[count] = "spawn"; replies[count] = "done"
     at[++count] = 2; calls[count] = "open 1 rw"; replies[count] = "fd 0"
     at[++count] = 5; calls[count] = "set 0 proc read 0 1"; replies[count] = "done"
-    for (lo = 2; lo <= 2046; lo += 2) {
+    for (lo = 2; lo <= 32766; lo += 2) {
         at[++count] = count + 3; calls[count] = "set 0 proc read " lo " 1"; replies[count] = "done"
     }
-    at[++count] = count + 3; calls[count] = "set 0 proc read 2048 1"; replies[count] = "no-locks"
+    at[++count] = count + 3; calls[count] = "set 0 proc read 32768 1"; replies[count] = "no-locks"
     at[++count] = count + 3; calls[count] = "set 0 proc read 1 1"; replies[count] = "done"
-    at[++count] = count + 3; calls[count] = "set 0 proc read 2048 1"; replies[count] = "done"
+    at[++count] = count + 3; calls[count] = "set 0 proc read 32768 1"; replies[count] = "done"
     at[++count] = count + 3; calls[count] = "unlock 0 proc 1 1"; replies[count] = "no-locks"
     print "refused\nreplies"
     for (i = 1; i <= count; i++) printf "%7d %-16s %s\n", at[i], "1.1." i, replies[i]
     print "tokens\n1.1        1                   0 9223372036854775807 shared\nlocks"
     printf "%-16s   1 %19d %19d read\n", "p1@1.1", 0, 2
-    for (lo = 4; lo <= 2048; lo += 2) printf "%-16s   1 %19d %19d read\n", "p1@1.1", lo, lo
+    for (lo = 4; lo <= 32768; lo += 2) printf "%-16s   1 %19d %19d read\n", "p1@1.1", lo, lo
     print "history"
     for (i = 1; i <= count; i++) printf "%7d %-16s 1 %s -> %s\n", at[i], "1.1." i, calls[i], replies[i]
 }' >regions.listing
@@ -537,7 +542,7 @@ receipts 2
 audit yes
 END
 cat >in-turn.journal <<'END'
-journal 1 nodes 1 files 1 policy wide
+journal 2 nodes 1 files 1 policy wide
 entry 1 call 1.1.1 1 spawn
 reply 1.1.1 done
 entry 2 call 1.1.2 2 exit
@@ -602,10 +607,10 @@ echo 'bad line 2' >bad-2
 } >changed.journal
 try_journal 'a journal with its numbers out of order' 3 none bad-2
 echo 'audit no 6' >no-6
-sed 's/^entry 6 .*/entry 6 deliver grant 1 2 1.1.3 write 0 9223372036854775807/' first.journal >changed.journal
+sed 's/^entry 6 .*/entry 6 deliver grant 1 1 2 1.1.3 write 0 9223372036854775807/' first.journal >changed.journal
 try_journal 'a journal with a command that was never sent' 1 no-6 none
 echo 'audit no 4' >no-4
-sed 's/^send grant 1 1 1.1.3 write /send grant 1 1 1.1.3 read /' first.journal >changed.journal
+sed 's/^send grant 1 1 1 1.1.3 write /send grant 1 1 1 1.1.3 read /' first.journal >changed.journal
 try_journal 'a journal with another grant' 1 no-4 none
 echo 'audit no 2' >no-2
 sed 's/^reply 1.1.2 fd 0/reply 1.1.2 fd 1/' first.journal >changed.journal
@@ -631,7 +636,21 @@ try_journal 'a journal with a line behind its last' 3 none bad-17
 try_journal 'an empty journal' 3 none first-bad
 cp first.lock changed.journal
 try_journal 'a script in the place of a journal' 3 none first-bad
-printf 'journal 1 nodes 1 files 1 policy wide\n# \xff\n' >changed.journal
+
+# Each version is read as itself: a grant of the other one is the first bad line.
+cp "$tests/version-1/first-run.journal" changed.journal
+try 'an audit of a journal of version 1' 0 yes none audit changed.journal
+try 'the history of a journal of version 1' 0 first.history none history changed.journal
+echo 'bad line 9' >bad-9
+sed '1s/^journal 1 /journal 2 /' "$tests/version-1/first-run.journal" >changed.journal
+try_journal 'a journal of version 1 that calls itself version 2' 3 none bad-9
+sed '1s/^journal 2 /journal 1 /' first.journal >changed.journal
+try_journal 'a journal of version 2 that calls itself version 1' 3 none bad-9
+sed 's/^send grant 1 1 /send grant 1 2 /' first.journal >changed.journal
+try_journal 'a journal with another epoch' 3 none bad-9
+sed '1s/^journal 2 /journal 3 /' first.journal >changed.journal
+try_journal 'a journal of a version that there is not' 3 none first-bad
+printf 'journal 2 nodes 1 files 1 policy wide\n# \xff\n' >changed.journal
 echo 'cannot read changed.journal' >no-text
 try_journal 'a journal that is not UTF-8' 3 none no-text
 rm changed.journal
@@ -661,13 +680,15 @@ try_lines 1 'journal 1 nodes 2 files 1 policy wide'
 while IFS= read -r line; do
     try_lines 1 "$line\nend 0\n"
 done <<'END'
-journal 2 nodes 2 files 1 policy wide
+journal 3 nodes 2 files 1 policy wide
+journal 2 nodes 65 files 1 policy wide
 journal 1 nodes 0 files 1 policy wide
 journal 1 nodes 65 files 1 policy wide
 journal 1 nodes 2 files 257 policy wide
 \njournal 1 nodes 2 files 1 policy wide
 END
 try_lines yes 'journal 1 nodes 64 files 256 policy exact\nend 0\n'
+try_lines yes 'journal 2 nodes 64 files 256 policy exact\nend 0\n'
 while read -r number body; do
     try_lines "$number" "$head$body"
 done <<'END'
@@ -736,6 +757,24 @@ no conflict 1 2 1.1 2.1.3 write 0 99 d16384@1.1
 3 request 1 1.1.3 now read 5 9 6 9
 3 request 1 1.1.3 now read 0 9 0 8
 3 conflict 1 2 1.1 2.1.3 write 0 99 p257@1.1
+3 grant 1 1 1 1.1.3 write 0 99
+3 deny 1 2.1.3 1.1 1 2 write 0 99 p1@1.1
+END
+# The same in version 2, where commands have an epoch.
+head='journal 2 nodes 2 files 1 policy wide\n'
+while read -r number message; do
+    try_lines "$number" "${head}entry 1 resend 1\nsend $message\nend 1\n"
+done <<'END'
+no grant 1 1 1 1.1.3 write 0 99
+no deny 1 2.1.3 1.1 1 2 write 0 99 p1@1.1
+no request 256 64.65535.4294967295 now read 5 9 0 9
+no conflict 1 1 2 1.1 2.1.3 write 0 99 d16384@1.1
+3 grant 1 1 1.1.3 write 0 99
+3 grant 1 2 1 1.1.3 write 0 99
+3 grant 1 01 1 1.1.3 write 0 99
+3 grant 1 0 1 1.1.3 write 0 99
+3 grant 1 1 0 1.1.3 write 0 99
+3 deny 1 2.1.3 1.1 2 write 0 99 p1@1.1
 END
 
 # A journal that is cut anywhere is bad at the first line that is not whole.
@@ -767,10 +806,108 @@ done
 echo "$wrong" >came.out
 judge 'a journal with a line out of place' 0 0 nothing-wrong came.out none none
 
+# A run goes on behind a journal: messages are counted on, and those of the journal are settled.
+cat >begun.lock <<'END'
+cluster nodes 1 files 1 policy wide
+call 1 1 spawn
+call 1 1 open 1 rw
+call 1 1 set 0 proc write 0 100
+END
+cat >going.lock <<'END'
+# Message 1 of the journal is passed over, and message 2 is sent in its place.
+cluster nodes 1 files 1 policy wide
+settle
+retry 1 1
+lose 9
+settle
+END
+cat >going.listing <<'END'
+refused
+line 5 code 14
+replies
+      1 1.1.1            done
+      2 1.1.2            fd 0
+      6 1.1.3            done
+tokens
+1.1        1                   0 9223372036854775807 exclusive
+locks
+p1@1.1             1                   0                  99 write
+history
+      1 1.1.1            1 spawn -> done
+      2 1.1.2            1 open 1 rw -> fd 0
+      6 1.1.3            1 set 0 proc write 0 100 -> done
+END
+cat >going.journal <<'END'
+journal 2 nodes 1 files 1 policy wide
+entry 1 call 1.1.1 1 spawn
+reply 1.1.1 done
+entry 2 call 1.1.2 1 open 1 rw
+reply 1.1.2 fd 0
+entry 3 call 1.1.3 1 set 0 proc write 0 100
+send request 1 1.1.3 now write 0 99 0 9223372036854775807
+entry 4 retry 1.1 1
+send request 1 1.1.3 now write 0 99 0 9223372036854775807
+entry 5 deliver request 1 1.1.3 now write 0 99 0 9223372036854775807
+send grant 1 1 1 1.1.3 write 0 9223372036854775807
+entry 6 deliver grant 1 1 1 1.1.3 write 0 9223372036854775807
+reply 1.1.3 done
+send taken 1 1 1 1.1.3
+entry 7 deliver taken 1 1 1 1.1.3
+end 7
+END
+timeout 120 "$program" run begun.lock --journal begun.journal >came.out 2>came.err
+try 'a run behind a journal' 0 going.listing none run going.lock --after begun.journal
+try 'a run behind a journal, with its journal' 0 going.listing none run going.lock --after begun.journal --journal written.journal
+cmp -s going.journal written.journal
+judge 'the journal of a run behind a journal' 0 $? none none none none
+try 'a run behind a journal, with the options before it' 0 going.listing none \
+    run --journal written.journal --after begun.journal going.lock
+cp begun.journal both.journal
+try 'a journal written in the place of the one before' 0 going.listing none run going.lock --after both.journal --journal both.journal
+cmp -s going.journal both.journal
+judge 'the journal in the place of the one before' 0 $? none none none none
+try 'no lines behind a journal' 0 first.listing none run empty.lock --after first.journal
+
+# What is wrong with the journal comes first, then what is wrong with the script; and no file changes.
+try_after() {
+    local name=$1 status=$2 out=$3 err=$4
+    cp kept.journal untouched
+    try "$name" "$status" "$out" "$err" run "$5" --after "$6" --journal kept.journal
+    judge "$name: the file that was there before" 0 0 untouched kept.journal none none
+}
+echo 'cannot read missing.journal' >no-journal
+try_after 'a missing journal behind which to run' 3 none no-journal missing.lock missing.journal
+echo 'old journal' >too-old
+try_after 'a journal of version 1 behind which to run' 3 none too-old missing.lock "$tests/version-1/first-run.journal"
+head -n 1 "$tests/version-1/first-run.journal" >changed.journal
+try_after 'the first line of a journal of version 1' 3 none too-old missing.lock changed.journal
+head -n 1 "$tests/version-1/first-run.journal" | head -c -1 >changed.journal
+try_after 'a first line of version 1 without its end' 3 none first-bad missing.lock changed.journal
+sed '$d' first.journal >changed.journal
+try_after 'a journal without its last line behind which to run' 3 none bad-16 missing.lock changed.journal
+sed 's/^reply 1.1.2 fd 0/reply 1.1.2 fd 1/' first.journal >changed.journal
+try_after 'a journal of no run behind which to run' 1 no-2 none missing.lock changed.journal
+try_after 'a missing script behind a journal' 3 none no-file missing.lock first.journal
+printf '\n# 2\ncluster nodes 2 files 1 policy wide\nsettled\n' >other.lock
+echo 'bad line 3' >bad-3
+try_after 'a script of another cluster' 3 none bad-3 other.lock first.journal
+printf 'cluster nodes 1 files 1 policy wide\n# 2\nsettled\n' >other.lock
+try_after 'a script with a bad line behind a journal' 3 none bad-3 other.lock first.journal
+try_after 'a full journal behind a journal' 4 none no-room full.lock first.journal
+wrong=
+for length in $(seq 0 $((size - 1))); do
+    head -c "$length" first.journal >cut.journal
+    echo "bad line $(($(wc -l <cut.journal) + 1))" >bad-cut
+    timeout 120 "$program" run missing.lock --after cut.journal >came.out 2>came.err
+    [ $? = 3 ] && cmp -s none came.out && cmp -s bad-cut came.err || wrong="$wrong $length"
+done
+echo "$wrong" >came.out
+judge 'a journal cut at each byte, behind which to run' 0 0 nothing-wrong came.out none none
+
 # Large journals.
 large() {
     awk -v count="$1" 'BEGIN {
-        print "journal 1 nodes 1 files 1 policy wide"
+        print "journal 2 nodes 1 files 1 policy wide"
         for (i = 1; i <= count; i++) print "entry " i " call 1.1." i " 1 spawn\nreply 1.1." i (i == 1 ? " done" : " exists")
         print "end " count
     }'
@@ -782,6 +919,7 @@ large 1048576 | sed 's/^reply 1.1.1048576 exists$/reply 1.1.1048576 done/' >larg
 try 'an audit of a journal whose last entry is wrong' 1 no-last none audit large.journal
 large 1048577 >large.journal
 try 'an audit of a journal with an entry more' 4 none no-room audit large.journal
+try_after 'a journal with an entry more behind which to run' 4 none no-room missing.lock large.journal
 
 # The scripts are as they were.
 cmp -s first.lock "$data/data/first.lock"

@@ -11,6 +11,8 @@ use Rattle.model.specs.declared.process.Process.{Process}
 use Rattle.model.specs.Limits.{IsProcess}
 use Rattle.model.specs.Table.{Table, empty_table, gone}
 use Rattle.model.specs.Step.{Step}
+use Rattle.messages.specs.declared.version.Version.{Version}
+use Rattle.messages.specs.Versions.{most_regions}
 use Rattle.messages.specs.Shapes.{ShapeFields, IsShape}
 use Rattle.messages.specs.Messages.{is_conflict}
 use Rattle.messages.specs.declared.message.Message.TheVariants.{Deny}
@@ -45,9 +47,9 @@ abbrev pub Legal : Table → List Item → Table → Type 0
 Legal old [] new = old ≡ new
 Legal old (i ∷ is) new = (mid : Table) × ItemStep old i mid × Legal mid is new
 
--- a history is legal: from the empty table it leads somewhere
-abbrev pub IsLegal : List Item → Type 0
-IsLegal h = (last : Table) × Legal empty_table h last
+-- a history is legal: from the empty table, with the limit of its version, it leads somewhere
+abbrev pub IsLegal : Version → List Item → Type 0
+IsLegal version h = (last : Table) × Legal (empty_table (most_regions version)) h last
 
 -- an item that leaves every table as it was where it may stand
 abbrev pub IsReadOnly : Item → Type 0
@@ -147,7 +149,7 @@ pub record IsHistory (Fitting : List Entry → List Item → Type 0) (shape : Sh
   pub one_call : OneCall es
   pub one_reply : OneReply es
   pub fits : Fitting es h
-  pub legal : Legal empty_table h (union world)
+  pub legal : Legal (empty_table (most_regions shape.version)) h (union world)
 
 abbrev pub HasHistory : ShapeFields → List Entry → List Item → Type 0
 HasHistory shape es h = IsHistory Fits shape es h

@@ -3,11 +3,13 @@ use Rattle.std.specs.Prelude.{◌&&◌, if◌then◌else◌}
 use Rattle.intervals.specs.Bytes.{nothing}
 use Rattle.model.specs.Descriptors.{no_processes}
 use Rattle.model.specs.Table.{Table}
+use Rattle.messages.specs.Versions.{most_regions}
 use Rattle.cluster_core.specs.World.{WorldState, is_alive, is_live}
 
 -- the processes, descriptors and locks of all nodes; those that are not alive have none
 abbrev pub union : WorldState → Table
 union w = record {
+  limit = most_regions w.shape.version;
   on = λ node incarnation. if is_live w node incarnation then (w.nodes node).table.on node incarnation else no_processes;
   locks = λ file owner. if is_live w owner.node owner.incarnation then (w.nodes owner.node).table.locks file owner else nothing;
 }
@@ -15,6 +17,7 @@ union w = record {
 -- and of those alone that are alive
 abbrev pub live_union : WorldState → Table
 live_union w = record {
+  limit = most_regions w.shape.version;
   on = λ node incarnation. if is_alive w node && is_live w node incarnation then (w.nodes node).table.on node incarnation else no_processes;
   locks = λ file owner. if is_alive w owner.node && is_live w owner.node owner.incarnation then (w.nodes owner.node).table.locks file owner else nothing;
 }

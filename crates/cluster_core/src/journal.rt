@@ -108,7 +108,9 @@ impl Journal {
 
     /// The entries, the first at position 1, where the journal itself is needed no longer.
     pub fn into_entries(self) -> Vec<Entry>
-        ensures { result.items ≡ self.entries }
+        ensures value { result.items ≡ self.entries }
+        ensures served { IsShape self.shape }
+        ensures few { length result.items ≤ journal_limit }
     {
         self.entries
     }

@@ -59,6 +59,21 @@ impl Run {
         })
     }
 
+    /// The run of a journal, which goes on behind it.
+    ///
+    /// # Errors
+    /// `NoMemory` where a request for memory was refused.
+    pub fn after(alloc: Global, journal: Journal) -> Result<Run, NoRoom>
+        ensures leads { IfOk result (λ run. Leads (first_world journal.shape) journal.entries (world_state run.world)) }
+        ensures entries { IfOk result (λ run. run.entries ≡ journal.entries) }
+    {
+        let world = World::after(alloc, &journal)?;
+        Ok(Run {
+            world,
+            entries: journal.into_entries(),
+        })
+    }
+
     /// The event happens, as `World::step` has it, and its entry comes last.
     ///
     /// # Errors

@@ -86,13 +86,13 @@ initial met = option_map_or (λ (values : Values). unwrap_or (slice_get values.0
 
 -- by the first byte of the name that was met
 abbrev letter : Task → ℕ
-letter (run s j) = 114
+letter (run s a j) = 114
 letter (threads s n j) = 116
 letter (audit j) = 97
 letter (history j) = 104
 
 begins : (p : Text × List Row) (task : Task) → IsMet (Some p) task → unwrap_or (slice_get p.0 0) 0 ≡ letter task
-begins p (run s j) met = ap initial met
+begins p (run s a j) met = ap initial met
 begins p (threads s n j) met = ap initial met.1
 begins p (audit j) met = ap initial met
 begins p (history j) met = ap initial met
@@ -101,11 +101,11 @@ unmet : (values : Values) → ◌≡◌ {A = Option Values} None (Some values) �
 unmet values is = cc
 
 one_met : (met : Option (Text × List Row)) (one other : Task) → IsMet met one → IsMet met other → one ≡ other
-one_met None (run s j) other first second = cc
+one_met None (run s a j) other first second = cc
 one_met None (threads s m j) other first second = absurd (unmet _ first.1)
 one_met None (audit j) other first second = cc
 one_met None (history j) other first second = cc
-one_met (Some p) (run s j) (run t k) first second = ap (λ (v : Option Values). run (path_at 0 v) (value_at 1 v)) (sym first ∙ second)
+one_met (Some p) (run s a j) (run t b k) first second = ap (λ (v : Option Values). run (path_at 0 v) (value_at 1 v) (value_at 2 v)) (sym first ∙ second)
 one_met (Some p) (threads s m j) (threads t n k) first second =
     let same = sym first.1 ∙ second.1 in
     let script : s ≡ t = ap (path_at 0) same in
@@ -115,16 +115,16 @@ one_met (Some p) (threads s m j) (threads t n k) first second =
     λ i. threads (script i) (seed i) (file i)
 one_met (Some p) (audit j) (audit k) first second = ap (λ (v : Option Values). audit (path_at 0 v)) (sym first ∙ second)
 one_met (Some p) (history j) (history k) first second = ap (λ (v : Option Values). history (path_at 0 v)) (sym first ∙ second)
-one_met (Some p) (run s j) (threads t n k) first second = absurd (omega (arith, begins p (run s j) first, begins p (threads t n k) second))
-one_met (Some p) (run s j) (audit k) first second = absurd (omega (arith, begins p (run s j) first, begins p (audit k) second))
-one_met (Some p) (run s j) (history k) first second = absurd (omega (arith, begins p (run s j) first, begins p (history k) second))
-one_met (Some p) (threads s m j) (run t k) first second = absurd (omega (arith, begins p (threads s m j) first, begins p (run t k) second))
+one_met (Some p) (run s a j) (threads t n k) first second = absurd (omega (arith, begins p (run s a j) first, begins p (threads t n k) second))
+one_met (Some p) (run s a j) (audit k) first second = absurd (omega (arith, begins p (run s a j) first, begins p (audit k) second))
+one_met (Some p) (run s a j) (history k) first second = absurd (omega (arith, begins p (run s a j) first, begins p (history k) second))
+one_met (Some p) (threads s m j) (run t b k) first second = absurd (omega (arith, begins p (threads s m j) first, begins p (run t b k) second))
 one_met (Some p) (threads s m j) (audit k) first second = absurd (omega (arith, begins p (threads s m j) first, begins p (audit k) second))
 one_met (Some p) (threads s m j) (history k) first second = absurd (omega (arith, begins p (threads s m j) first, begins p (history k) second))
-one_met (Some p) (audit j) (run t k) first second = absurd (omega (arith, begins p (audit j) first, begins p (run t k) second))
+one_met (Some p) (audit j) (run t b k) first second = absurd (omega (arith, begins p (audit j) first, begins p (run t b k) second))
 one_met (Some p) (audit j) (threads t n k) first second = absurd (omega (arith, begins p (audit j) first, begins p (threads t n k) second))
 one_met (Some p) (audit j) (history k) first second = absurd (omega (arith, begins p (audit j) first, begins p (history k) second))
-one_met (Some p) (history j) (run t k) first second = absurd (omega (arith, begins p (history j) first, begins p (run t k) second))
+one_met (Some p) (history j) (run t b k) first second = absurd (omega (arith, begins p (history j) first, begins p (run t b k) second))
 one_met (Some p) (history j) (threads t n k) first second = absurd (omega (arith, begins p (history j) first, begins p (threads t n k) second))
 one_met (Some p) (history j) (audit k) first second = absurd (omega (arith, begins p (history j) first, begins p (audit k) second))
 
@@ -134,13 +134,13 @@ asks_one words one other first second = one_met (subcommand_of program_app words
 
 -- where nothing is met, or a name that no task has, or a name without its path
 pub nothing_met : (task : Task) → IsMet None task → ⊥
-nothing_met (run s j) is = cc
+nothing_met (run s a j) is = cc
 nothing_met (threads s n j) is = unmet _ is.1
 nothing_met (audit j) is = cc
 nothing_met (history j) is = cc
 
 abbrev pub name_of : Task → Text
-name_of (run s j) = codes "run"
+name_of (run s a j) = codes "run"
 name_of (threads s n j) = codes "threads"
 name_of (audit j) = codes "audit"
 name_of (history j) = codes "history"
@@ -149,13 +149,13 @@ abbrev name_in : Option Values → Text
 name_in met = option_map_or (λ (values : Values). values.0) met []
 
 pub name_is : (p : Text × List Row) (task : Task) → IsMet (Some p) task → p.0 ≡ name_of task
-name_is p (run s j) met = ap name_in met
+name_is p (run s a j) met = ap name_in met
 name_is p (threads s n j) met = ap name_in met.1
 name_is p (audit j) met = ap name_in met
 name_is p (history j) met = ap name_in met
 
 pub other_name : (p : Text × List Row) → p.0 ≢ codes "run" → p.0 ≢ codes "threads" → p.0 ≢ codes "audit" → p.0 ≢ codes "history" → (task : Task) → IsMet (Some p) task → ⊥
-other_name p not_run not_threads not_audit not_history (run s j) met = not_run (name_is p (run s j) met)
+other_name p not_run not_threads not_audit not_history (run s a j) met = not_run (name_is p (run s a j) met)
 other_name p not_run not_threads not_audit not_history (threads s n j) met = not_threads (name_is p (threads s n j) met)
 other_name p not_run not_threads not_audit not_history (audit j) met = not_audit (name_is p (audit j) met)
 other_name p not_run not_threads not_audit not_history (history j) met = not_history (name_is p (history j) met)
@@ -164,31 +164,31 @@ nowhere : (text : Text) (value : Option Text) → value ≡ None → value ≡ S
 nowhere text value none some = cc
 
 pub no_script : (rows : List Row) → first_of (codes "SCRIPT") rows ≡ None → (task : Task) → IsMet (Some (codes "run", rows)) task → ⊥
-no_script rows none (run s j) met = nowhere s _ none (ap (value_at 0) met)
+no_script rows none (run s a j) met = nowhere s _ none (ap (value_at 0) met)
 no_script rows none (threads s n j) met = absurd (omega (arith, begins (codes "run", rows) (threads s n j) met))
 no_script rows none (audit j) met = absurd (omega (arith, begins (codes "run", rows) (audit j) met))
 no_script rows none (history j) met = absurd (omega (arith, begins (codes "run", rows) (history j) met))
 
 pub no_threads_script : (rows : List Row) → first_of (codes "SCRIPT") rows ≡ None → (task : Task) → IsMet (Some (codes "threads", rows)) task → ⊥
-no_threads_script rows none (run s j) met = absurd (omega (arith, begins (codes "threads", rows) (run s j) met))
+no_threads_script rows none (run s a j) met = absurd (omega (arith, begins (codes "threads", rows) (run s a j) met))
 no_threads_script rows none (threads s n j) met = nowhere s _ none (ap (value_at 0) met.1)
 no_threads_script rows none (audit j) met = absurd (omega (arith, begins (codes "threads", rows) (audit j) met))
 no_threads_script rows none (history j) met = absurd (omega (arith, begins (codes "threads", rows) (history j) met))
 
 pub no_seed : (rows : List Row) → ((text : Text) (seed : ℕ) → one_of (codes "N") rows ≡ Some text → IsSeed text seed → ⊥) → (task : Task) → IsMet (Some (codes "threads", rows)) task → ⊥
-no_seed rows none (run s j) met = absurd (omega (arith, begins (codes "threads", rows) (run s j) met))
+no_seed rows none (run s a j) met = absurd (omega (arith, begins (codes "threads", rows) (run s a j) met))
 no_seed rows none (threads s n j) met = none met.0 n (ap (value_at 1) met.1) met.2
 no_seed rows none (audit j) met = absurd (omega (arith, begins (codes "threads", rows) (audit j) met))
 no_seed rows none (history j) met = absurd (omega (arith, begins (codes "threads", rows) (history j) met))
 
 pub no_audit : (rows : List Row) → first_of (codes "JOURNAL") rows ≡ None → (task : Task) → IsMet (Some (codes "audit", rows)) task → ⊥
-no_audit rows none (run s j) met = absurd (omega (arith, begins (codes "audit", rows) (run s j) met))
+no_audit rows none (run s a j) met = absurd (omega (arith, begins (codes "audit", rows) (run s a j) met))
 no_audit rows none (threads s n j) met = absurd (omega (arith, begins (codes "audit", rows) (threads s n j) met))
 no_audit rows none (audit j) met = nowhere j _ none (ap (value_at 0) met)
 no_audit rows none (history j) met = absurd (omega (arith, begins (codes "audit", rows) (history j) met))
 
 pub no_history : (rows : List Row) → first_of (codes "JOURNAL") rows ≡ None → (task : Task) → IsMet (Some (codes "history", rows)) task → ⊥
-no_history rows none (run s j) met = absurd (omega (arith, begins (codes "history", rows) (run s j) met))
+no_history rows none (run s a j) met = absurd (omega (arith, begins (codes "history", rows) (run s a j) met))
 no_history rows none (threads s n j) met = absurd (omega (arith, begins (codes "history", rows) (threads s n j) met))
 no_history rows none (audit j) met = absurd (omega (arith, begins (codes "history", rows) (audit j) met))
 no_history rows none (history j) met = nowhere j _ none (ap (value_at 0) met)

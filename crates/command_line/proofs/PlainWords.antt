@@ -36,11 +36,11 @@ is_path (x ∷ xs) plain =
 abbrev words_of : Text → Task → List Text
 words_of program task = program ∷ plain_words_of task
 
-run_met : (program script : Text) → strip_byte 45 script ≡ None → bytes_eq script (45 ∷ 45 ∷ []) ≡ false → IsMet (subcommand_of program_app (words_of program (run script None))) (run script None)
+run_met : (program script : Text) → strip_byte 45 script ≡ None → bytes_eq script (45 ∷ 45 ∷ []) ≡ false → IsMet (subcommand_of program_app (words_of program (run script None None))) (run script None None)
 unfolding clap_on_literals
 run_met program script no_minus no_dashes = rw (no_dashes, no_minus, no_minus) refl
 
-run_taken : (program script : Text) → strip_byte 45 script ≡ None → bytes_eq script (45 ∷ 45 ∷ []) ≡ false → fault_of program_app (words_of program (run script None)) ≡ []
+run_taken : (program script : Text) → strip_byte 45 script ≡ None → bytes_eq script (45 ∷ 45 ∷ []) ≡ false → fault_of program_app (words_of program (run script None None)) ≡ []
 unfolding clap_on_literals
 run_taken program script no_minus no_dashes = rw (no_dashes, no_minus, no_minus) refl
 
@@ -62,13 +62,34 @@ history_taken program journal no_minus no_dashes = rw (no_dashes, no_minus, no_m
 
 module _ (program script file : Text) (script_minus : strip_byte 45 script ≡ None) (script_dashes : bytes_eq script (45 ∷ 45 ∷ []) ≡ false)
     (file_minus : strip_byte 45 file ≡ None) (file_dashes : bytes_eq file (45 ∷ 45 ∷ []) ≡ false) where
-  run_to_met : IsMet (subcommand_of program_app (words_of program (run script (Some file)))) (run script (Some file))
+  run_to_met : IsMet (subcommand_of program_app (words_of program (run script None (Some file)))) (run script None (Some file))
   unfolding clap_on_literals
   run_to_met = rw (script_dashes, script_minus, script_minus, file_dashes, file_minus, file_minus) refl
 
-  run_to_taken : fault_of program_app (words_of program (run script (Some file))) ≡ []
+  run_to_taken : fault_of program_app (words_of program (run script None (Some file))) ≡ []
   unfolding clap_on_literals
   run_to_taken = rw (script_dashes, script_minus, script_minus, file_dashes, file_minus, file_minus) refl
+
+module _ (program script after : Text) (script_minus : strip_byte 45 script ≡ None) (script_dashes : bytes_eq script (45 ∷ 45 ∷ []) ≡ false)
+    (after_minus : strip_byte 45 after ≡ None) (after_dashes : bytes_eq after (45 ∷ 45 ∷ []) ≡ false) where
+  run_after_met : IsMet (subcommand_of program_app (words_of program (run script (Some after) None))) (run script (Some after) None)
+  unfolding clap_on_literals
+  run_after_met = rw (script_dashes, script_minus, script_minus, after_dashes, after_minus, after_minus) refl
+
+  run_after_taken : fault_of program_app (words_of program (run script (Some after) None)) ≡ []
+  unfolding clap_on_literals
+  run_after_taken = rw (script_dashes, script_minus, script_minus, after_dashes, after_minus, after_minus) refl
+
+module _ (program script after file : Text) (script_minus : strip_byte 45 script ≡ None) (script_dashes : bytes_eq script (45 ∷ 45 ∷ []) ≡ false)
+    (after_minus : strip_byte 45 after ≡ None) (after_dashes : bytes_eq after (45 ∷ 45 ∷ []) ≡ false)
+    (file_minus : strip_byte 45 file ≡ None) (file_dashes : bytes_eq file (45 ∷ 45 ∷ []) ≡ false) where
+  run_after_to_met : IsMet (subcommand_of program_app (words_of program (run script (Some after) (Some file)))) (run script (Some after) (Some file))
+  unfolding clap_on_literals
+  run_after_to_met = rw (script_dashes, script_minus, script_minus, after_dashes, after_minus, after_minus, file_dashes, file_minus, file_minus) refl
+
+  run_after_to_taken : fault_of program_app (words_of program (run script (Some after) (Some file))) ≡ []
+  unfolding clap_on_literals
+  run_after_to_taken = rw (script_dashes, script_minus, script_minus, after_dashes, after_minus, after_minus, file_dashes, file_minus, file_minus) refl
 
 -- `threads SCRIPT`, of which the seed is 1
 module _ (program script : Text) (no_minus : strip_byte 45 script ≡ None) (no_dashes : bytes_eq script (45 ∷ 45 ∷ []) ≡ false) where
@@ -98,13 +119,25 @@ module _ (program script number : Text) (seed : ℕ) (script_minus : strip_byte 
   seeded_taken = rw (script_dashes, script_minus, script_minus, number_dashes, number_minus, number_minus, fits) refl
 
 plain_task : (program : Text) (task : Task) → All (λ path. slice_get path 0 ≢ Some 45) (paths_of task) → HasPlainWords task → AsksFor (words_of program task) task
-plain_task program (run script None) plain within =
+plain_task program (run script None None) plain within =
     let p = is_path script (plain 0 [] (omega arith)) in
     record { taken = run_taken program script p.no_minus p.no_dashes; met = run_met program script p.no_minus p.no_dashes }
-plain_task program (run script (Some file)) plain within =
+plain_task program (run script None (Some file)) plain within =
     let p = is_path script (plain 0 [] (omega arith)) in
     let q = is_path file (plain 1 [] (omega arith)) in
     record { taken = run_to_taken program script file p.no_minus p.no_dashes q.no_minus q.no_dashes; met = run_to_met program script file p.no_minus p.no_dashes q.no_minus q.no_dashes }
+plain_task program (run script (Some after) None) plain within =
+    let p = is_path script (plain 0 [] (omega arith)) in
+    let q = is_path after (plain 1 [] (omega arith)) in
+    record { taken = run_after_taken program script after p.no_minus p.no_dashes q.no_minus q.no_dashes; met = run_after_met program script after p.no_minus p.no_dashes q.no_minus q.no_dashes }
+plain_task program (run script (Some after) (Some file)) plain within =
+    let p = is_path script (plain 0 [] (omega arith)) in
+    let q = is_path after (plain 1 [] (omega arith)) in
+    let r = is_path file (plain 2 [] (omega arith)) in
+    record {
+      taken = run_after_to_taken program script after file p.no_minus p.no_dashes q.no_minus q.no_dashes r.no_minus r.no_dashes;
+      met = run_after_to_met program script after file p.no_minus p.no_dashes q.no_minus q.no_dashes r.no_minus r.no_dashes;
+    }
 plain_task program (threads script seed None) plain within =
     let p = is_path script (plain 0 [] (omega arith)) in
     let n = seed_text seed within in

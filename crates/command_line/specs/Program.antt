@@ -18,8 +18,12 @@ file_rule = record (new_rule (codes "FILE")) { long = Some (codes "journal") }
 abbrev pub seed_rule : Rule
 seed_rule = record (new_rule (codes "N")) { long = Some (codes "seed"); defaults = codes "1" ∷ []; parser = Some (Signed (pos 0) (pos greatest_seed)) }
 
+-- `--after JOURNAL`, which may be left out
+abbrev pub after_rule : Rule
+after_rule = record (new_rule (codes "JOURNAL")) { long = Some (codes "after") }
+
 abbrev pub run_app : App
-run_app = with_rule (with_rule (new_app (codes "run")) (path_rule (codes "SCRIPT"))) file_rule
+run_app = with_rule (with_rule (with_rule (new_app (codes "run")) (path_rule (codes "SCRIPT"))) after_rule) file_rule
 
 abbrev pub threads_app : App
 threads_app = with_rule (with_rule (with_rule (new_app (codes "threads")) (path_rule (codes "SCRIPT"))) seed_rule) file_rule
@@ -53,7 +57,7 @@ pub record IsSeed (text : Text) (seed : ℕ) : Type 0 where
 
 -- it is the command of the task, with its paths and its seed
 abbrev pub IsMet : Option (Text × List Row) → Task → Type 0
-IsMet met (run script journal) = values_in (codes "SCRIPT" ∷ codes "FILE" ∷ []) met ≡ Some (codes "run", Some script ∷ journal ∷ [])
+IsMet met (run script after journal) = values_in (codes "SCRIPT" ∷ codes "JOURNAL" ∷ codes "FILE" ∷ []) met ≡ Some (codes "run", Some script ∷ after ∷ journal ∷ [])
 IsMet met (threads script seed journal) = (text : Text) × (threads_values_in met ≡ Some (codes "threads", Some script ∷ Some text ∷ journal ∷ [])) × IsSeed text seed
 IsMet met (audit journal) = values_in (codes "JOURNAL" ∷ []) met ≡ Some (codes "audit", Some journal ∷ [])
 IsMet met (history journal) = values_in (codes "JOURNAL" ∷ []) met ≡ Some (codes "history", Some journal ∷ [])

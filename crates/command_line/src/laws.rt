@@ -3,9 +3,9 @@ ghost use Rattle.std.specs.Prelude.{◌≡◌, ◌≢◌, List, ℕ, [], ◌∷�
 ghost use Rattle.command_line.specs.Tasks.{Task, threads};
 ghost use Rattle.command_line.specs.Words.{AsksFor, IsPlain};
 
-/// The words `PROGRAM run SCRIPT`, `PROGRAM run SCRIPT --journal FILE`, `PROGRAM threads SCRIPT --seed N`,
-/// `PROGRAM audit JOURNAL` and `PROGRAM history JOURNAL` ask for just that, by the program's table of
-/// arguments.
+/// The words `PROGRAM run SCRIPT`, with `--after JOURNAL`, `--journal FILE`, both or none behind it,
+/// `PROGRAM threads SCRIPT --seed N`, `PROGRAM audit JOURNAL` and `PROGRAM history JOURNAL` ask for just
+/// that, by the program's table of arguments.
 pub fn plain_words_ask_for_their_task()
     ensures { (words : List (List ℕ)) (task : Task) → IsPlain words task → AsksFor words task }
 {}

@@ -2,7 +2,7 @@
 ghost use Rattle.std.specs.Prelude.{◌≡◌, codes, List, map, IfErr, IfOk, Some};
 ghost use Rattle.clap.specs.Words.{app_of, found_of, kind_of, rows_of, rule_of, subcommand_rows_of};
 ghost use Rattle.command_line.specs.Kinds.{IsKindOf, IsLineOf};
-ghost use Rattle.command_line.specs.Program.{audit_app, file_rule, history_app, path_rule, program_app, run_app, threads_app};
+ghost use Rattle.command_line.specs.Program.{after_rule, audit_app, file_rule, history_app, path_rule, program_app, run_app, threads_app};
 ghost use Rattle.command_line.specs.Tasks.{task_of};
 ghost use Rattle.command_line.specs.Words.{AsksFor, IsRefusal};
 
@@ -16,10 +16,12 @@ use std::convert::AsStr;
 /// What the words of a command line ask for. Each text is a path.
 #[derive(Clone, Copy, Debug, PartialEq, Eq)]
 pub enum Line<'a> {
-    /// `run SCRIPT [--journal FILE]`: to run each line of the script in order and print the listing,
-    /// and first to write the journal of the run to the file, if there is one.
+    /// `run SCRIPT [--after JOURNAL] [--journal FILE]`: to run each line of the script in order, in a
+    /// cluster that begins or behind the run of a journal, and print the listing, and first to write the
+    /// journal of the run to the file, if there is one.
     Run {
         script: &'a str,
+        after: Option<&'a str>,
         journal: Option<&'a str>,
     },
     /// `threads SCRIPT [--seed N] [--journal FILE]`: to run the script on threads, with this seed or 1, to
@@ -88,8 +90,13 @@ fn run_in<'a>(values: &ArgMatches<'a>) -> Option<Line<'a>>
     ensures { IsLineOf (Some (codes "run", rows_of (found_of values.now))) result }
 {
     let script = values.get_str("SCRIPT")?;
+    let after = values.get_str("JOURNAL");
     let journal = values.get_str("FILE");
-    Some(Line::Run { script, journal })
+    Some(Line::Run {
+        script,
+        after,
+        journal,
+    })
 }
 
 fn threads_in<'a>(values: &ArgMatches<'a>) -> Option<Line<'a>>
@@ -141,6 +148,7 @@ fn run_command<'a>(alloc: Global) -> Result<Command<'a>, AllocError>
         .about("Run each line of a script in order and print the listing")
         .after_long_help(RUN_NOTES)
         .arg(script_argument(alloc))?
+        .arg(after_argument(alloc))?
         .arg(file_argument(alloc))
 }
 
@@ -185,6 +193,15 @@ fn script_argument<'a>(alloc: Global) -> Arg<'a>
     Arg::new(alloc, "SCRIPT")
         .required(true)
         .help("The script: a file of lines, or /dev/stdin")
+}
+
+// The path of the journal behind which a script is run.
+fn after_argument<'a>(alloc: Global) -> Arg<'a>
+    ensures { rule_of result ≡ after_rule }
+{
+    Arg::new(alloc, "JOURNAL")
+        .long("after")
+        .help("Go on behind the run of JOURNAL")
 }
 
 // The path of the file for the journal of a run.

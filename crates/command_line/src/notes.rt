@@ -7,10 +7,11 @@ pub(crate) const VERSION: &str = "0.1.0";
 pub(crate) const PROGRAM_NOTES: &str = "\
 Exit status:
   0  done; of audit and history: the journal is one of a run
-  1  audit or history: the journal is not one of a run; threads: it lacks a receipt
+  1  audit, history or --after: the journal is not one of a run; threads: it lacks a
+     receipt
   2  the words of the command line are refused
-  3  SCRIPT or JOURNAL has a bad line or can't be read, or FILE or the text can't be
-     written
+  3  SCRIPT or JOURNAL has a bad line or can't be read, JOURNAL is too old to go on
+     from, or FILE or the text can't be written
   4  no memory, or more entries than a journal may have (1048576)
 A line on standard error says which, of 2 to 4.
 
@@ -20,6 +21,8 @@ entries are a run, and to print their history:
   lockreplay run SCRIPT --journal FILE
   lockreplay audit FILE
   lockreplay history FILE
+To go on behind it:
+  lockreplay run SCRIPT --after FILE
 
 'lockreplay help run' tells how a script is written and what the listing shows.";
 
@@ -74,7 +77,13 @@ These refusals end the run (see the exit status):
    3  no memory       9  bad line       16  journal full
 
 With --journal FILE the journal of the run is written to FILE, in the place of what was
-there, before the listing is printed. A run that fails before that leaves FILE as it was.";
+there, before the listing is printed. A run that fails before that leaves FILE as it was.
+
+With --after JOURNAL the script goes on behind the run of JOURNAL, a file that --journal
+wrote. Its first line has to name the same cluster. Messages are counted on, 'settle'
+passes over those of JOURNAL, and the listing and FILE hold the whole run; 'refused' is
+of the script. JOURNAL is audited first: where it is no run, 'audit no K' is the text, and
+the exit status is 1. One of version 1 is refused as an 'old journal' (exit status 3).";
 
 /// What stands under the options of `threads`.
 pub(crate) const THREADS_NOTES: &str = "\

@@ -18,8 +18,8 @@
 //!   The messages of a step are sent, and its reply is told, only after it.
 //! - Servers don't fail: none loses what it knows, and none begins anew.
 //!
-//! The law of the one history is proved of runs of at most 1,048,576 entries: so many does the
-//! journal hold that `World` and `Run` keep. Here is one node that never fails, so nothing is declared,
+//! The law of the one history is of runs of any length; `World` and `Run`, which keep a journal, end
+//! at 1,048,576 entries. Here is one node that never fails, so nothing is declared,
 //! and the server learns nothing.
 #![tactic(auto)]
 

@@ -7,8 +7,7 @@ use Rattle.model.specs.Owners.{process_owner, description_owner}
 use Rattle.model.specs.Locks.{Locks, without_owner, without_owner_anywhere}
 use Rattle.model.specs.Descriptors.{Processes, is_open, with_process, with_descriptor}
 use Rattle.model.specs.Table.{Table, around, is_running, descriptor, with_processes, closed_if, closed_below}
-use Rattle.lock_table.specs.declared.owner_locks.OwnerLocks.{OwnerLocks}
-use Rattle.lock_table.specs.Rows.{held}
+use Rattle.lock_table.specs.Rows.{TableParts, held}
 use Rattle.model.proofs.OwnerLaws.{host_refl}
 use Rattle.descriptors.specs.declared.process_entry.ProcessEntry.{ProcessEntry}
 use Rattle.descriptors.specs.Rows.{processes}
@@ -28,20 +27,20 @@ twice on host first second i = λ n k. either ((n == host.node) && (k == host.in
     either false x y z = refl
 
 -- whether the process runs
-pub runs-at : (on : ℕ → ℕ → Processes) (host : Host) (rows : List ProcessEntry) (locks : List OwnerLocks) (pid : ℕ) → is_running (shown on host rows locks) (process_at host pid) ≡ (processes rows).runs pid
+pub runs-at : (on : ℕ → ℕ → Processes) (host : Host) (rows : List ProcessEntry) (locks : TableParts) (pid : ℕ) → is_running (shown on host rows locks) (process_at host pid) ≡ (processes rows).runs pid
 runs-at on host rows locks pid = ap (λ (ps : Processes). ps.runs pid) (at_node on host (processes rows))
 
 -- a descriptor that is not there
-pub closed-none : (on : ℕ → ℕ → Processes) (host : Host) (rows new : List ProcessEntry) (locks : List OwnerLocks) (pid fd : ℕ) → Closes (processes rows) pid fd None (processes new) → (processes rows).runs pid ≡ true → shown on host new locks ≡ closed_if (shown on host rows locks) (process_at host pid) fd (descriptor (shown on host rows locks) (process_at host pid) fd)
+pub closed-none : (on : ℕ → ℕ → Processes) (host : Host) (rows new : List ProcessEntry) (locks : TableParts) (pid fd : ℕ) → Closes (processes rows) pid fd None (processes new) → (processes rows).runs pid ≡ true → shown on host new locks ≡ closed_if (shown on host rows locks) (process_at host pid) fd (descriptor (shown on host rows locks) (process_at host pid) fd)
 closed-none on host rows new locks pid fd closes runs =
     let t : Table = shown on host rows locks in
     let nothing_there : descriptor t (process_at host pid) fd ≡ None = ap (λ (ps : Processes). ps.opened pid fd) (at_node on host (processes rows)) ∙ closes.0 runs in
-    let same : shown on host new locks ≡ t = λ i. record { on = with_host on host (closes.1 i); locks = held locks } in
+    let same : shown on host new locks ≡ t = λ i. record { limit = locks.limit; on = with_host on host (closes.1 i); locks = held locks } in
     same ∙ sym (ap (closed_if t (process_at host pid) fd) nothing_there)
 
 -- a descriptor that is there: the locks of the process in that file go, and where the description goes, so do its own
-pub closed-some : (on : ℕ → ℕ → Processes) (host : Host) (rows new : List ProcessEntry) (locks left : List OwnerLocks) (pid fd : ℕ) (opened : Opened) (went : Bool) → Closes (processes rows) pid fd (Some (opened, went)) (processes new) → held left ≡ (if went then without_owner_anywhere (without_owner (held locks) opened.file (process_owner (process_at host pid))) (description_owner (process_at host pid) opened.description) else without_owner (held locks) opened.file (process_owner (process_at host pid))) → shown on host new left ≡ closed_if (shown on host rows locks) (process_at host pid) fd (descriptor (shown on host rows locks) (process_at host pid) fd)
-closed-some on host rows new locks left pid fd opened went closes dropped_too =
+pub closed-some : (on : ℕ → ℕ → Processes) (host : Host) (rows new : List ProcessEntry) (locks left : TableParts) (pid fd : ℕ) (opened : Opened) (went : Bool) → Closes (processes rows) pid fd (Some (opened, went)) (processes new) → left.limit ≡ locks.limit → held left ≡ (if went then without_owner_anywhere (without_owner (held locks) opened.file (process_owner (process_at host pid))) (description_owner (process_at host pid) opened.description) else without_owner (held locks) opened.file (process_owner (process_at host pid))) → shown on host new left ≡ closed_if (shown on host rows locks) (process_at host pid) fd (descriptor (shown on host rows locks) (process_at host pid) fd)
+closed-some on host rows new locks left pid fd opened went closes same_limit dropped_too =
     let p : Process = process_at host pid in
     let t : Table = shown on host rows locks in
     let fewer : Processes = with_descriptor (around t p) pid fd None in
@@ -54,7 +53,7 @@ closed-some on host rows new locks left pid fd opened went closes dropped_too =
     let there : descriptor t p fd ≡ Some opened = ap (λ (ps : Processes). ps.opened pid fd) own ∙ closes.0 in
     let now : with_host on host (processes new) ≡ shut.on = ap (with_host on host) is_fewer ∙ sym (twice on host (processes rows) fewer) in
     let tables : Bool → Table = λ b. if b then shut else record shut { locks = anywhere } in
-    (λ i. record { on = now i; locks = dropped_too i })
+    (λ i. record { limit = same_limit i; on = now i; locks = dropped_too i })
     ∙ (by shut anywhere (is_open (processes new) opened.description) went closes.2
     ∙ (ap (λ (ps : Processes). tables (is_open ps opened.description)) (sym here)
     ∙ sym (ap (closed_if t p fd) there)))
@@ -87,9 +86,9 @@ pub closed_below-runs : (t now : Table) (p : Process) (n : ℕ) → now ≡ clos
 closed_below-runs t now p n so_far runs = ap (λ (x : Table). is_running x p) so_far ∙ (still-runs t p n ∙ runs)
 
 -- a process that ends
-pub ended-table : (on : ℕ → ℕ → Processes) (host : Host) (rows new : List ProcessEntry) (locks : List OwnerLocks) (pid : ℕ) → processes new ≡ with_process (processes rows) pid false (λ fd. None) → shown on host new locks ≡ with_processes (shown on host rows locks) (process_at host pid) (with_process (around (shown on host rows locks) (process_at host pid)) pid false (λ fd. None))
+pub ended-table : (on : ℕ → ℕ → Processes) (host : Host) (rows new : List ProcessEntry) (locks : TableParts) (pid : ℕ) → processes new ≡ with_process (processes rows) pid false (λ fd. None) → shown on host new locks ≡ with_processes (shown on host rows locks) (process_at host pid) (with_process (around (shown on host rows locks) (process_at host pid)) pid false (λ fd. None))
 ended-table on host rows new locks pid is =
     let none : Processes = with_process (around (shown on host rows locks) (process_at host pid)) pid false (λ fd. None) in
     let gone : processes new ≡ none = is ∙ ap (λ (ps : Processes). with_process ps pid false (λ fd. None)) (sym (at_node on host (processes rows))) in
     let now : with_host on host (processes new) ≡ with_host (with_host on host (processes rows)) host none = ap (with_host on host) gone ∙ sym (twice on host (processes rows) none) in
-    λ i. record { on = now i; locks = held locks }
+    λ i. record { limit = locks.limit; on = now i; locks = held locks }

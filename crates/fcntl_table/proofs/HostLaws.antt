@@ -11,8 +11,7 @@ use Rattle.model.specs.contracts.host.HostPartialEq.TheImpl as derived
 use Rattle.model.specs.Limits.{IsHost}
 use Rattle.model.specs.Descriptors.{Processes, no_processes}
 use Rattle.model.specs.Table.{Table}
-use Rattle.lock_table.specs.declared.owner_locks.OwnerLocks.{OwnerLocks}
-use Rattle.lock_table.specs.Rows.{held}
+use Rattle.lock_table.specs.Rows.{TableParts, held}
 use Rattle.model.specs.Owners.{same_host}
 use Rattle.descriptors.specs.declared.process_entry.ProcessEntry.{ProcessEntry}
 use Rattle.descriptors.specs.declared.edit.ProcessEdit.{ProcessEdit}
@@ -204,12 +203,12 @@ made_on old new host before after edit changes is =
     changes.is ∙ ap (with_host (processes_of old) host) (is ∙ ap (λ (ps : Processes). edited ps edit) (sym changes.was))
 
 -- what a change of one node's processes and of the locks makes of the whole table
-pub shut_on : (F : Table → Table) (old new : HostRows) (host : Host) (rows written : List ProcessEntry) (locks left : List OwnerLocks) → Changes old host (processes rows) (processes written) new → ((on : ℕ → ℕ → Processes) → shown on host written left ≡ F (shown on host rows locks)) → table_with new (held left) ≡ F (table_with old (held locks))
+pub shut_on : (F : Table → Table) (old new : HostRows) (host : Host) (rows written : List ProcessEntry) (locks left : TableParts) → Changes old host (processes rows) (processes written) new → ((on : ℕ → ℕ → Processes) → shown on host written left ≡ F (shown on host rows locks)) → table_with new left ≡ F (table_with old locks)
 shut_on F old new host rows written locks left changes made =
     let on : ℕ → ℕ → Processes = processes_of old in
     let whole : with_host on host (processes rows) ≡ on = ap (with_host on host) (sym changes.was) ∙ with_host-same on host in
-    let after : table_with new (held left) ≡ shown on host written left = λ i. record { on = changes.is i; locks = held left } in
-    let before : shown on host rows locks ≡ table_with old (held locks) = λ i. record { on = whole i; locks = held locks } in
+    let after : table_with new left ≡ shown on host written left = λ i. record { limit = left.limit; on = changes.is i; locks = held left } in
+    let before : shown on host rows locks ≡ table_with old locks = λ i. record { limit = locks.limit; on = whole i; locks = held locks } in
     after ∙ (made on ∙ ap F before)
 
 -- a process runs only on a node of which something is kept

@@ -36,9 +36,9 @@ use Rattle.descriptors.specs.declared.edit.ProcessEdit.{ProcessEdit}
 use Rattle.descriptors.specs.Edits.{edited as edited_processes}
 
 -- at first
-pub table-empty : (m : FcntlTable) → ((node incarnation : ℕ) → processes_of m.hosts node incarnation ≡ no_processes) → held m.locks ≡ no_locks → table_of m ≡ empty_table
+pub table-empty : (m : FcntlTable) → ((node incarnation : ℕ) → processes_of m.hosts node incarnation ≡ no_processes) → held m.locks ≡ no_locks → table_of m ≡ empty_table m.locks.limit
 unfolding table_of
-table-empty m none free i = record { on = λ n k. none n k i; locks = free i }
+table-empty m none free i = record { limit = m.locks.limit; on = λ n k. none n k i; locks = free i }
 
 -- the node, in its incarnation, of a process
 abbrev pub host_of : Process → Host

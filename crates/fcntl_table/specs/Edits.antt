@@ -23,6 +23,6 @@ edited t (Exits p) = exited t p
 abbrev pub Fits : FcntlTable → TableEdit → Type 0
 Fits t Nothing = Unit {0}
 Fits t (OfProcess host e) = FitsOn t.hosts host e
-Fits t (OfLocks e) = (e.room.items ≡ []) × HasRoom t.locks e.file e.owner (vec_capacity e.room) × HasRuns t.locks e.file e.owner e.write.runs
+Fits t (OfLocks e) = (e.room.items ≡ []) × HasRoom t.locks.rows e.file e.owner (vec_capacity e.room) × HasRuns t.locks.rows e.file e.owner e.write.runs
 Fits t (Closes p fd) = is_running (table_of t) p ≡ true
 Fits t (Exits p) = is_running (table_of t) p ≡ true

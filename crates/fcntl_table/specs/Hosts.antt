@@ -5,12 +5,10 @@ use Rattle.model.specs.declared.host.Host.{Host}
 use Rattle.model.specs.declared.opened.Opened.{Opened}
 use Rattle.model.specs.declared.process.Process.{Process}
 use Rattle.model.specs.Limits.{IsHost}
-use Rattle.model.specs.Locks.{Locks}
 use Rattle.model.specs.Descriptors.{Processes, is_open, with_descriptor}
 use Rattle.model.specs.Table.{Table}
 use Rattle.model.specs.Owners.{same_host}
-use Rattle.lock_table.specs.declared.owner_locks.OwnerLocks.{OwnerLocks}
-use Rattle.lock_table.specs.Rows.{held}
+use Rattle.lock_table.specs.Rows.{TableParts, held}
 use Rattle.descriptors.specs.declared.process_entry.ProcessEntry.{ProcessEntry}
 use Rattle.descriptors.specs.declared.edit.ProcessEdit.{ProcessEdit}
 use Rattle.descriptors.specs.Rows.{processes}
@@ -37,8 +35,8 @@ abbrev pub process_at : Host → ℕ → Process
 process_at host pid = record { node = host.node; incarnation = host.incarnation; pid = pid }
 
 -- the table with these processes and locks
-abbrev pub table_with : HostRows → Locks → Table
-table_with hosts locks = record { on = processes_of hosts; locks = locks }
+abbrev pub table_with : HostRows → TableParts → Table
+table_with hosts locks = record { limit = locks.limit; on = processes_of hosts; locks = held locks }
 
 -- something is kept of the node
 abbrev pub IsKept : HostRows → Host → Type 0
@@ -51,8 +49,8 @@ pub record FitsOn (hosts : HostRows) (host : Host) (edit : ProcessEdit) : Type 0
   pub fits : Fits rows edit
 
 -- the table in which the node has these processes, with these locks
-abbrev pub shown : (ℕ → ℕ → Processes) → Host → List ProcessEntry → List OwnerLocks → Table
-shown on host rows locks = record { on = with_host on host (processes rows); locks = held locks }
+abbrev pub shown : (ℕ → ℕ → Processes) → Host → List ProcessEntry → TableParts → Table
+shown on host rows locks = record { limit = locks.limit; on = with_host on host (processes rows); locks = held locks }
 
 -- a descriptor is closed: it referred to this, and the description went or not. Where there is none, nothing changes
 abbrev pub Closes : Processes → ℕ → ℕ → Option (Opened × Bool) → Processes → Type 0

@@ -4,7 +4,6 @@ ghost use Rattle.model.specs.declared.reply.Reply.TheVariants.{Done, Fd};
 ghost use Rattle.model.specs.Limits.{IsHost, IsNumber, most_processes, most_descriptions};
 ghost use Rattle.model.specs.Descriptors.{no_processes, after_spawn, after_fork, after_open, after_dup};
 ghost use Rattle.model.specs.Table.{descriptor, closed_if, exited};
-ghost use Rattle.lock_table.specs.Rows.{held};
 ghost use Rattle.descriptors.specs.Rows.{resolved, Refuses};
 ghost use Rattle.descriptors.specs.Edits.{edited};
 ghost use Rattle.fcntl_table.specs.Hosts.{FitsOn, IsKept, process_at, processes_of, table_with, with_host};
@@ -203,7 +202,7 @@ impl Hosts {
     pub(crate) fn close(&mut self, locks: &mut LockTable, host: Host, pid: u16, fd: u8)
         requires number { IsNumber most_processes pid }
         requires runs { (processes_of self.old host.node host.incarnation).runs pid ≡ true }
-        ensures { table_with self.new (held locks.new) ≡ closed_if (table_with self.old (held locks.old)) (process_at host pid) fd (descriptor (table_with self.old (held locks.old)) (process_at host pid) fd) }
+        ensures { table_with self.new locks.new ≡ closed_if (table_with self.old locks.old) (process_at host pid) fd (descriptor (table_with self.old locks.old) (process_at host pid) fd) }
     {
         let Some(node) = self.by_host.get_mut(&host) else {
             return;
@@ -215,7 +214,7 @@ impl Hosts {
     pub(crate) fn exit(&mut self, locks: &mut LockTable, host: Host, pid: u16)
         requires number { IsNumber most_processes pid }
         requires runs { (processes_of self.old host.node host.incarnation).runs pid ≡ true }
-        ensures { table_with self.new (held locks.new) ≡ exited (table_with self.old (held locks.old)) (process_at host pid) }
+        ensures { table_with self.new locks.new ≡ exited (table_with self.old locks.old) (process_at host pid) }
     {
         let Some(node) = self.by_host.get_mut(&host) else {
             return;

@@ -3,7 +3,7 @@ ghost use Rattle.std.specs.Prelude.{◌≡◌, ◌≢◌, ◌<◌, None, IfOk, I
 ghost use Rattle.model.specs.Locks.{IsRegion, IsLowestBlocker};
 ghost use Rattle.model.specs.Descriptors.{Processes, after_spawn, after_fork, after_open, after_dup};
 ghost use Rattle.model.specs.declared.reply.Reply.{Reply};
-ghost use Rattle.model.specs.Limits.{IsNumber, most_processes, most_regions};
+ghost use Rattle.model.specs.Limits.{IsNumber, most_processes};
 ghost use Rattle.model.specs.Table.{empty_table, around, beside, target, regions_with, lock_within, after_close, after_exit};
 ghost use Rattle.model.specs.Step.{Is, Unblocked};
 ghost use Rattle.descriptors.specs.Rows.{Refuses};
@@ -75,13 +75,14 @@ fn refused_outright(error: ProcessError) -> Planned
 }
 
 impl FcntlTable {
-    /// The table in which no process runs, nothing is open and no byte is locked.
-    pub fn new(alloc: Global) -> Self
-        ensures { table_of result ≡ empty_table }
+    /// The table in which no process runs, nothing is open and no byte is locked, and in which an owner
+    /// may have so many regions in a file.
+    pub fn new(alloc: Global, limit: usize) -> Self
+        ensures { table_of result ≡ empty_table limit }
     {
         FcntlTable {
             hosts: Hosts::new(alloc),
-            locks: LockTable::new(alloc),
+            locks: LockTable::new(alloc, limit),
         }
     }
 
@@ -257,14 +258,14 @@ impl FcntlTable {
     }
 
     /// What `lock_within` would change, and its reply: `Done`, or `NoLocks` where the owner would have more
-    /// than 1,024 regions in the file.
+    /// regions in the file than the limit.
     ///
     /// # Errors
     /// `NoMemory`, never in place of `NoLocks`.
     #[tactic(auto, unfolding(crate::specs::Tables::table_of))]
     pub fn plan_lock(&self, call: LockTarget, mode: Option<Mode>) -> Result<Planned, NoMemory>
         ensures ok { IfOk result (λ planned. Is (lock_within (table_of self.now) call mode) planned.reply (edited (table_of self.now) planned.edit)) }
-        ensures refused { most_regions < regions_with (table_of self.now) call mode → result ≡ Ok (record { edit = Nothing; reply = Reply.NoLocks }) }
+        ensures refused { (table_of self.now).limit < regions_with (table_of self.now) call mode → result ≡ Ok (record { edit = Nothing; reply = Reply.NoLocks }) }
         ensures fits { IfOk result (λ planned. Fits self.now planned.edit) }
     {
         match self.locks.plan(call.owner, call.file, call.span, mode) {
@@ -373,13 +374,13 @@ impl FcntlTable {
 
     /// The bytes of the call are locked in the mode, or freed, whatever other owners hold: a caller that
     /// wants no two locks to conflict asks `blocker` first. Answers `Done`, or `NoLocks` where the owner
-    /// would have more than 1,024 regions in the file (ENOLCK).
+    /// would have more regions in the file than the limit (ENOLCK).
     ///
     /// # Errors
     /// `NoMemory`, never in place of `NoLocks`.
     pub fn lock_within(&mut self, call: LockTarget, mode: Option<Mode>) -> Result<Reply, NoMemory>
         ensures ok { IfOk result (λ reply. Is (lock_within (table_of self.old) call mode) reply (table_of self.new)) }
-        ensures refused { most_regions < regions_with (table_of self.old) call mode → result ≡ Ok Reply.NoLocks }
+        ensures refused { (table_of self.old).limit < regions_with (table_of self.old) call mode → result ≡ Ok Reply.NoLocks }
         ensures unchanged { OnErr result (table_of self.new ≡ table_of self.old) }
     {
         let Planned { edit, reply } = self.plan_lock(call, mode)?;

@@ -12,8 +12,8 @@ pub mod SpanSearch
 pub mod StartsWith
 pub mod Ordered
 pub mod Rows
-pub mod RowReads
-pub mod RowCounts
 pub mod Replaced
-pub mod Placed
+pub mod Places
 pub mod Pieces
+pub mod RowCounts
+pub mod RowReads

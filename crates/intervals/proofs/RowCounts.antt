@@ -1,12 +1,15 @@
 -- How many runs of a row begin below a byte.
-use Rattle.std.proofs.Common.{◌≡◌, ℕ, ◌+◌, ◌<◌, ◌≤◌, length, take, drop, List, [], ◌∷◌, ◌++◌, subst, ap, ◌∙◌, arith}
+use Rattle.std.proofs.Common.{◌≡◌, ℕ, ◌+◌, ◌<◌, ◌≤◌, length, List, [], ◌∷◌, ◌++◌, subst, refl, ap, ◌∙◌, arith}
 use Rattle.std.proofs.lemmas.Bool.Decides.{nat_tests}
 use Rattle.intervals.specs.declared.run.Run.{Run}
 use Rattle.intervals.specs.Runs.{AreRuns, EndsBelow}
-use Rattle.intervals.specs.Parts.{all_runs, AreSmall, begins_at}
+use Rattle.intervals.specs.Entries.{BeginAbove}
 use Rattle.intervals.proofs.Starts as starts
+use Rattle.intervals.specs.declared.row.Row.{Row}
+use Rattle.intervals.specs.Parts.{row_runs, runs_below, part_at, runs_above}
 use Rattle.intervals.proofs.Runs.{ends_below_le}
-use Rattle.intervals.proofs.Rows.{all_runs-split, first_of, runs_from}
+use Rattle.intervals.proofs.Split.{runs-front}
+use Rattle.intervals.proofs.Places.{row_split}
 
 pub begin_below-both : {V : Type 0} (l m : List (Run V)) (n : ℕ) → starts.begin_below (l ++ m) n ≡ starts.begin_below l n + starts.begin_below m n
 begin_below-both [] m n = omega arith
@@ -24,18 +27,30 @@ none_below : {V : Type 0} (r : Run V) (l : List (Run V)) (n : ℕ) → AreRuns (
 none_below r [] n runs le = grind (arith, nat_tests)
 none_below r (s ∷ l) n runs le = let more = none_below s l n runs.2 (omega (arith, runs.0, runs.1.0)) in grind (arith, nat_tests)
 
-module _ {V : Type 0} (parts : List (List (Run V))) (made : AreRuns (all_runs parts)) (small : AreSmall parts) where
-  -- what is counted up to a small map that begins at the second byte or above is all
-  pub counted_to : (i lo hi count : ℕ) (part : List (Run V)) (rest : List (List (Run V))) → drop i parts ≡ part ∷ rest → 0 < length part → lo ≤ hi → hi ≤ begins_at part → starts.begin_below (all_runs (take i parts)) lo + count ≡ starts.begin_below (all_runs (take i parts)) hi → starts.begin_below (all_runs parts) lo + count ≡ starts.begin_below (all_runs parts) hi
-  counted_to i lo hi count part rest here some order past counted =
-      let it = first_of part rest some in
-      let last : all_runs (drop i parts) ≡ it.first ∷ it.others = ap all_runs here ∙ it.whole in
-      let runs : AreRuns (it.first ∷ it.others) = subst AreRuns last (runs_from parts made small i) in
-      let first = none_below it.first it.others lo runs (omega (arith, it.begins)) in
-      let second = none_below it.first it.others hi runs (omega (arith, it.begins)) in
-      let both : (n : ℕ) → starts.begin_below (all_runs parts) n ≡ starts.begin_below (all_runs (take i parts)) n + starts.begin_below (it.first ∷ it.others) n = λ n. ap (λ l. starts.begin_below l n) (all_runs-split parts i) ∙ (begin_below-both (all_runs (take i parts)) (all_runs (drop i parts)) n ∙ ap (λ l. starts.begin_below (all_runs (take i parts)) n + starts.begin_below l n) last) in
-      omega (arith, both lo, both hi)
+-- and so do those that begin above it
+pub none_begin : {V : Type 0} (l : List (Run V)) (n : ℕ) → BeginAbove l n → starts.begin_below l n ≡ 0
+none_begin [] n above = refl
+none_begin (r ∷ l) n above = let more = none_begin l n above.1 in let first : n < r.lo = above.0 in grind (arith, nat_tests)
 
--- one more small map
+-- what is counted up to a run that begins at the second byte or above is all
+pub counted_to : {V : Type 0} (l : List (Run V)) (r : Run V) (m : List (Run V)) (lo hi count : ℕ) → AreRuns (r ∷ m) → lo ≤ hi → hi ≤ r.lo → starts.begin_below l lo + count ≡ starts.begin_below l hi → starts.begin_below (l ++ r ∷ m) lo + count ≡ starts.begin_below (l ++ r ∷ m) hi
+counted_to l r m lo hi count runs order past counted =
+    let first = none_below r m lo runs (omega arith) in
+    let second = none_below r m hi runs past in
+    omega (arith, begin_below-both l (r ∷ m) lo, begin_below-both l (r ∷ m) hi)
+
+-- one more part
 pub counted_more : {V : Type 0} (l part : List (Run V)) (lo hi count more : ℕ) → starts.begin_below l lo + count ≡ starts.begin_below l hi → starts.begin_below part lo + more ≡ starts.begin_below part hi → starts.begin_below (l ++ part) lo + (count + more) ≡ starts.begin_below (l ++ part) hi
 counted_more l part lo hi count more counted here = omega (arith, begin_below-both l part lo, begin_below-both l part hi)
+
+-- what is counted near a place is counted of the whole row
+pub counted_all : {V : Type 0} (row : Row V) (i lo hi count : ℕ) → i ≤ length row.rest.items → lo ≤ hi → AreRuns (row_runs row) → EndsBelow (runs_below row i) lo → starts.begin_below (part_at row i ++ runs_above row i) lo + count ≡ starts.begin_below (part_at row i ++ runs_above row i) hi → starts.begin_below (row_runs row) lo + count ≡ starts.begin_below (row_runs row) hi
+counted_all row i lo hi count le order runs ends counted =
+    let below = runs_below row i in
+    let near = part_at row i ++ runs_above row i in
+    let whole : row_runs row ≡ below ++ near = row_split row i le in
+    let all : AreRuns (below ++ near) = subst AreRuns whole runs in
+    let ended = ended_both below lo hi order (runs-front below near all) ends in
+    let first : starts.begin_below (row_runs row) lo ≡ starts.begin_below below lo + starts.begin_below near lo = ap (λ l. starts.begin_below l lo) whole ∙ begin_below-both below near lo in
+    let second : starts.begin_below (row_runs row) hi ≡ starts.begin_below below hi + starts.begin_below near hi = ap (λ l. starts.begin_below l hi) whole ∙ begin_below-both below near hi in
+    omega (arith, first, second, ended, counted)

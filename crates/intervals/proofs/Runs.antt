@@ -1,5 +1,5 @@
 -- What a list of runs has at a byte.
-use Rattle.std.proofs.Common.{◌≡◌, ℕ, zero, suc, ◌+◌, ◌<◌, ◌≤◌, Bool, true, false, length, get_or, set, drop, drop-cons, add-one, ◌∙◌, List, [], ◌∷◌, ◌++◌, Option, Some, None, refl, ap, inl, inr, arith}
+use Rattle.std.proofs.Common.{◌≡◌, ℕ, zero, suc, ◌+◌, ◌<◌, ◌≤◌, Bool, true, false, length, get_or, set, drop, drop-cons, add-one, ◌∙◌, List, [], ◌∷◌, ◌++◌, Some, None, refl, ap, inl, inr, arith}
 use Rattle.std.proofs.lemmas.Bool.{cases_lt, cases_Bool, and_parts}
 use Rattle.std.proofs.lemmas.Bool.Decides.{nat_tests}
 use Rattle.std.proofs.lemmas.Grind.{common_steps}
@@ -121,19 +121,6 @@ module _ {V : Type 0} (eq : V → V → Bool) (exact : (a b : V) → eq a b ≡ 
     below = rw e (ends_below-join eq l s below rises);
     bytes = λ b. rw e (at-join eq exact reflexive l s b made below rises);
   }
-
--- what is below lo, then the value, and then what is above hi
-pub spliced_bytes : {V : Type 0} (runs first middle last : List (Run V)) (lo hi all : ℕ) (value : Option V) → lo ≤ hi → ((b : ℕ) → 0 ≤ b → b < lo → value_at first b ≡ value_at runs b) → ((b : ℕ) → value_at middle b ≡ put (value_at first) (record { lo = lo; hi = hi }) value b) → ((b : ℕ) → hi + 1 ≤ b → b < all → value_at last b ≡ value_at runs b) → ((b : ℕ) → b < hi + 1 → value_at last b ≡ value_at middle b) → EndsBelow last all → EndsBelow runs all → (b : ℕ) → value_at last b ≡ put (value_at runs) (record { lo = lo; hi = hi }) value b
-spliced_bytes runs first middle last lo hi all value order below here above under last_ends runs_end b = elim (cases_lt hi b) [
-  | inl past ↦ elim (cases_lt b all) [
-    | inl lt ↦ let e = above b (omega arith) lt in grind (arith, nat_tests)
-    | inr ge ↦ let none = at-below last b all last_ends ge in let nothing = at-below runs b all runs_end ge in grind (arith, nat_tests)
-  ]
-  | inr le ↦ let e = under b (omega arith) in let m = here b in elim (cases_lt b lo) [
-    | inl lt ↦ let f = below b (omega arith) lt in grind (arith, nat_tests)
-    | inr ge ↦ grind (arith, nat_tests)
-  ]
-]
 
 -- no value, where there was none
 pub put_none : {V : Type 0} (l : List (Run V)) (lo hi b : ℕ) → EndsBelow l lo → value_at l b ≡ put (value_at l) (record { lo = lo; hi = hi }) None b

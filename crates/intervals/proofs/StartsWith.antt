@@ -46,6 +46,16 @@ put-below f s v b lt = grind (arith, nat_tests)
 pub put-above : {V : Type 0} (f : ℕ → Option V) (s : Range) (v : Option V) (b : ℕ) → s.hi < b → put f s v b ≡ f b
 put-above f s v b lt = grind (arith, nat_tests)
 
+-- what has the value in the span, and each other byte what it had, is what was put
+pub put-pieces : {V : Type 0} (f h : ℕ → Option V) (s : Range) (v : Option V) → ((b : ℕ) → b < s.lo → h b ≡ f b) → ((b : ℕ) → s.lo ≤ b → b ≤ s.hi → h b ≡ v) → ((b : ℕ) → s.hi < b → h b ≡ f b) → (b : ℕ) → h b ≡ put f s v b
+put-pieces f h s v below inside above b = elim (cases_lt b s.lo) [
+  | inl lt ↦ below b lt ∙ sym (put-below f s v b lt)
+  | inr ge ↦ elim (cases_lt s.hi b) [
+    | inl past ↦ above b past ∙ sym (put-above f s v b past)
+    | inr within ↦ inside b ge within ∙ sym (put-in f s v b ge within)
+  ]
+]
+
 -- what stands before a byte
 abbrev pub before : {V : Type 0} → (ℕ → Option V) → ℕ → Option V
 before f zero = None

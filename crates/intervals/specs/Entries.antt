@@ -1,26 +1,13 @@
--- The runs of an ordered map from a run's first byte to its last byte and value.
-use Rattle.std.specs.Prelude.{◌≡◌, ℕ, ◌<◌, ◌≤◌, ◌++◌, Option, None, List, [], ◌∷◌, map}
+-- Which of some runs stand about a byte.
+use Rattle.std.specs.Prelude.{◌≡◌, ℕ, ◌<◌, ◌≤◌, ◌++◌, Option, None, List, [], ◌∷◌}
 use Rattle.intervals.specs.declared.run.Run.{Run}
 use Rattle.intervals.specs.Bytes.{greatest, IsRun}
 use Rattle.intervals.specs.Runs.{bytes_of}
-
--- the run of an entry
-abbrev pub entry_run : {V : Type 0} → ℕ × (ℕ × V) → Run V
-entry_run e = record { lo = e.0; hi = e.1.0; value = e.1.1 }
-
--- and the runs of the entries
-abbrev pub runs_of : {V : Type 0} → List (ℕ × (ℕ × V)) → List (Run V)
-runs_of es = map entry_run es
 
 -- each run begins above byte n
 abbrev pub BeginAbove : {V : Type 0} → List (Run V) → ℕ → Type 0
 BeginAbove [] n = Unit {0}
 BeginAbove (r ∷ rest) n = (n < r.lo) × BeginAbove rest n
-
--- each run begins below byte n
-abbrev pub BeginBelow : {V : Type 0} → List (Run V) → ℕ → Type 0
-BeginBelow [] n = Unit {0}
-BeginBelow (r ∷ rest) n = (r.lo < n) × BeginBelow rest n
 
 -- r is the last of the runs that begins at byte n or below
 pub record IsLastTo {V : Type 0} (runs : List (Run V)) (n : ℕ) (r : Run V) : Type 0 where
@@ -29,14 +16,6 @@ pub record IsLastTo {V : Type 0} (runs : List (Run V)) (n : ℕ) (r : Run V) : T
   pub whole : runs ≡ before ++ r ∷ after
   pub begins : r.lo ≤ n
   pub above : BeginAbove after n
-
--- r is the first of the runs that begins at byte n or above
-pub record IsFirstFrom {V : Type 0} (runs : List (Run V)) (n : ℕ) (r : Run V) : Type 0 where
-  pub before : List (Run V)
-  pub after : List (Run V)
-  pub whole : runs ≡ before ++ r ∷ after
-  pub begins : n ≤ r.lo
-  pub below : BeginBelow before n
 
 -- no byte from the first on has a value
 abbrev pub NoneFrom : {V : Type 0} → (ℕ → Option V) → ℕ → Type 0

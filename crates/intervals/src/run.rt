@@ -1,10 +1,11 @@
 //! Runs of bytes that have one value, and what is searched and made in vectors of them.
-ghost use Rattle.std.specs.Prelude.{◌≡◌, ◌≤◌, ◌<◌, ◌+◌, ◌++◌, [], take, length, ℕ, if◌then◌else◌, Some, IsTrue, ◌↔◌};
+ghost use Rattle.std.specs.Prelude.{◌≡◌, ◌≤◌, ◌<◌, ◌+◌, ◌++◌, [], take, length, ℕ, if◌then◌else◌, Some, IsTrue, ◌↔◌, MatchOption};
 ghost use Rattle.std.specs.Vec.{vec_len, vec_capacity};
 ghost use Rattle.intervals.specs.Bytes.{greatest, put, begins_after, starts_below, IsBarred};
 ghost use Rattle.intervals.specs.Runs.{bytes_of, value_at, IsBarredValue, AreRuns, EndsBelow, EndsFrom, IsLowestFree, IsHighestFree};
+ghost use Rattle.intervals.specs.Entries.{BeginAbove, IsLastTo};
 
-use crate::span::{GREATEST, Span};
+use crate::span::Span;
 use crate::span_map::Exact;
 
 /// Consecutive bytes of a file, from `lo` to `hi`, both included, that have one value.
@@ -25,6 +26,18 @@ pub(crate) fn split_before<V>(runs: &[Run<V>], byte: u64) -> (&[Run<V>], &[Run<V
     ensures reached { EndsFrom result.1.now byte }
 {
     runs.split_at(runs.partition_point(|run| run.hi < byte))
+}
+
+// The last run that begins at the byte or below. It halves what is left at each step.
+pub(crate) fn last_to<V: Exact>(runs: &[Run<V>], byte: u64) -> Option<Run<V>>
+    requires { AreRuns runs.now }
+    ensures { MatchOption result (BeginAbove runs.now byte) (IsLastTo runs.now byte) }
+{
+    let (below, _) = runs.split_at(runs.partition_point(|run| run.lo <= byte));
+    match below.split_last() {
+        Some((run, _)) => Some(*run),
+        None => None,
+    }
 }
 
 // How many runs begin below the byte. It halves what is left at each step.
@@ -120,7 +133,8 @@ pub(crate) fn append<V: Exact>(runs: &mut Vec<Run<V>>, run: Run<V>)
 }
 
 // Adds runs that stand above the others, all at once. There is room for them.
-fn append_all<V: Exact>(new: &mut Vec<Run<V>>, runs: &[Run<V>])
+#[inline]
+pub(crate) fn append_all<V: Exact>(new: &mut Vec<Run<V>>, runs: &[Run<V>])
     requires room { vec_len new.old + length runs.now ≤ vec_capacity new.old }
     ensures items { new.new.items ≡ new.old.items ++ runs.now }
     ensures len { vec_len new.new ≡ vec_len new.old + length runs.now }
@@ -187,19 +201,28 @@ fn append_above<V: Exact>(new: &mut Vec<Run<V>>, runs: &[Run<V>], from: u64)
     }
 }
 
-// Adds the runs with the value at each byte of the span, or with none there. There is room for twice
-// as many, and one more.
-pub(crate) fn splice<V: Exact>(new: &mut Vec<Run<V>>, runs: &[Run<V>], span: Span, value: Option<V>)
+// Adds what the first runs have below the span, the value at each byte of it, or none there, and what the
+// others have above it. There is room for all of them, and one more.
+pub(crate) fn splice<V: Exact>(
+    new: &mut Vec<Run<V>>,
+    first: &[Run<V>],
+    last: &[Run<V>],
+    span: Span,
+    value: Option<V>,
+)
     requires empty { new.old.items ≡ [] }
-    requires room { length runs.now + length runs.now < vec_capacity new.old }
-    requires runs { AreRuns runs.now }
-    requires bounded { EndsBelow runs.now (greatest + 1) }
+    requires room { length first.now + length last.now < vec_capacity new.old }
+    requires first { AreRuns first.now }
+    requires last { AreRuns last.now }
+    requires bounded { EndsBelow last.now (greatest + 1) }
     ensures runs { AreRuns new.new.items }
     ensures bounded { EndsBelow new.new.items (greatest + 1) }
-    ensures bytes { (b : ℕ) → value_at new.new.items b ≡ put (value_at runs.now) span value b }
+    ensures below { (b : ℕ) → b < span.lo → value_at new.new.items b ≡ value_at first.now b }
+    ensures inside { (b : ℕ) → span.lo ≤ b → b ≤ span.hi → value_at new.new.items b ≡ value }
+    ensures above { (b : ℕ) → span.hi < b → value_at new.new.items b ≡ value_at last.now b }
     ensures capacity { vec_capacity new.old ≤ vec_capacity new.new }
 {
-    append_below(new, runs, span.lo);
+    append_below(new, first, span.lo);
     if let Some(value) = value {
         append(
             new,
@@ -210,7 +233,7 @@ pub(crate) fn splice<V: Exact>(new: &mut Vec<Run<V>>, runs: &[Run<V>], span: Spa
             },
         );
     }
-    let (_, above) = split_before(runs, span.hi + 1);
+    let (_, above) = split_before(last, span.hi + 1);
     append_above(new, above, span.hi + 1);
 }
 
@@ -245,12 +268,12 @@ pub(crate) fn write<V: Exact>(
 {
     let (kept, rest) = split_before(runs, span.lo.saturating_sub(1));
     let kept = kept.len();
-    splice(&mut room, rest, span, value);
+    splice(&mut room, rest, rest, span, value);
     if room.len() <= runs.capacity() - kept {
         replace_rest(runs, kept, room);
     } else {
         room.clear();
-        splice(&mut room, runs, span, value);
+        splice(&mut room, runs, runs, span, value);
         *runs = room;
     }
 }

@@ -1,30 +1,29 @@
-//! A span map as a row of small ordered maps of runs.
-ghost use Rattle.std.specs.Prelude.{◌≡◌, ◌≤◌, ◌+◌, ℕ, true, None, IfOk, MatchOption};
-ghost use Rattle.intervals.specs.Bytes.{greatest, number_of_runs, put, IsRun, IsBarred, NoneIn, IsFirstIn, IsLargest};
-ghost use Rattle.intervals.specs.Runs.{bytes_of, IsLowestFree, IsHighestFree};
-ghost use Rattle.intervals.specs.Entries.{BeginAbove, BeginBelow, IsLastTo, IsFirstFrom, NoneFrom, NoneBelow, IsNext, IsPrevious};
-ghost use Rattle.intervals.specs.Parts.{all_runs, tree_at, fits_row, tree_written};
+//! A span map as a row of small sorted vectors of runs.
+ghost use Rattle.std.specs.Prelude.{◌≡◌, ◌≤◌, ◌+◌, ℕ, nat_le, length, None, [], IfOk, MatchOption};
+ghost use Rattle.intervals.specs.Bytes.{greatest, nothing, number_of_runs, put, IsRun, IsBarred, NoneIn, IsFirstIn, IsLargest};
+ghost use Rattle.intervals.specs.Runs.{bytes_of, value_at, IsLowestFree, IsHighestFree};
+ghost use Rattle.intervals.specs.Edits.{written};
+ghost use Rattle.intervals.specs.Entries.{NoneFrom, NoneBelow, IsNext, IsPrevious};
 
-use crate::part::Part;
-use crate::parts::{
-    begin_above, begin_to, begin_within, copies, cut, first_from, have, last_to, list, replace,
-    spliced,
-};
-use crate::run::{Run, begin_after, is_barred};
+use crate::row::{Row, next_of};
+use crate::run::{Run, begin_after, is_barred, last_to, split_before};
 use crate::span::Span;
+use crate::span_edit::SpanEdit;
 use crate::span_map::{Exact, NoMemory, SpanMap};
-use crate::tree_edit::TreeEdit;
 use std::alloc::Global;
 use std::marker::Model;
 
-/// A map from bytes to values, as a sorted row of small ordered maps from the first byte of each longest
-/// run to its last byte and value, none empty, and none of more than 15 runs. A look-up halves the row, and
-/// then searches one small map. A write makes anew the small maps around its span, one as a rule.
+// Memory for a write of more runs than this is asked for by the thousand.
+const MANY: usize = 1024;
+
+/// A map from bytes to values, as a row of sorted vectors of longest runs, of some 64 runs at most. A look-up halves
+/// the row, and then one vector, until it is at the byte. A write finds both ends of its span so, and moves the runs
+/// behind it in its vector alone. A vector that comes to have more runs than it is to have is cut in two, where the
+/// planned write has memory for that.
 #[derive(Drop)]
 pub struct TreeMap<V> {
-    parts: Vec<Part<V>>,
+    row: Row<V>,
     starts: usize,
-    alloc: Global,
 }
 
 impl<V> Model for TreeMap<V> {
@@ -32,124 +31,104 @@ impl<V> Model for TreeMap<V> {
     ghost use Rattle.intervals.specs.declared.run.Run.{Run};
     ghost use Rattle.intervals.specs.Bytes.{greatest};
     ghost use Rattle.intervals.specs.Runs.{AreRuns, EndsBelow};
-    ghost use Rattle.intervals.specs.Parts.{all_runs, AreSmall};
+    ghost use Rattle.intervals.specs.Parts.{row_runs, AreSome};
 
-    ghost Value = { List (List (Run V)) };
+    ghost Value = { List (Run V) };
 
-    ghost view = { λ m. m.parts.items };
+    ghost view = { λ m. row_runs m.row };
 
-    ghost invariant = { λ m. AreRuns (all_runs m.parts.items) × EndsBelow (all_runs m.parts.items) (greatest + 1) × AreSmall m.parts.items × (m.starts ≡ length (all_runs m.parts.items)) };
+    ghost invariant = { λ m. AreRuns (row_runs m.row) × EndsBelow (row_runs m.row) (greatest + 1) × AreSome m.row.rest.items × (m.starts ≡ length (row_runs m.row)) };
+}
+
+// For how many runs a write brings memory, where the map has so many. So the request for it seldom changes as a map grows.
+fn rounded(runs: usize) -> usize
+    ensures { runs ≤ result }
+{
+    if runs < MANY {
+        return runs;
+    }
+    runs.saturating_add(MANY - runs % MANY)
 }
 
 impl<V: Exact> TreeMap<V> {
     /// A write that is planned: the value at each byte of the span, or none there. It is sure to be
-    /// made as long as the map stays as it is.
+    /// made as long as the map has no more runs than now.
     ///
     /// # Errors
     /// `NoMemory` where a request for memory was refused.
-    pub fn plan(&self, span: Span, value: Option<V>) -> Result<TreeEdit<V>, NoMemory>
-        ensures written { IfOk result (λ edit. tree_written V.PartialEq.eq edit self.now ≡ put (tree_at self.now) span value) }
-        ensures fits { IfOk result (λ edit. fits_row V.PartialEq.eq edit self.now ≡ true) }
+    pub fn plan(&self, span: Span, value: Option<V>) -> Result<SpanEdit<V>, NoMemory>
+        ensures written { IfOk result (λ edit. written edit self.now ≡ put (value_at self.now) span value) }
         ensures span { IfOk result (λ edit. edit.span ≡ span) }
         ensures value { IfOk result (λ edit. edit.value ≡ value) }
+        ensures enough { IfOk result (λ edit. length self.now ≤ edit.runs) }
     {
-        let from = begin_to(&self.parts, span.lo.saturating_sub(1)).saturating_sub(1);
-        let (_, rest) = self.parts.split_at(from);
-        let count = begin_to(rest, span.hi + 1).max(1).min(rest.len());
-        let (near, _) = rest.split_at(count);
-        let runs = list(self.alloc, near)?;
-        let written = spliced(self.alloc, &runs, span, value)?;
-        let new = cut(self.alloc, &written)?;
-        let most = self.parts.len().saturating_add(new.len()).saturating_mul(2);
-        let room = Vec::with_capacity(self.alloc, most)?;
-        Ok(TreeEdit {
+        let runs = self.starts;
+        let most = rounded(runs).saturating_mul(2).saturating_add(2);
+        let alloc = *self.row.rest.allocator();
+        Ok(SpanEdit {
             span,
             value,
-            parts: self.parts.len(),
-            from,
-            count,
             runs,
-            starts: written.len(),
-            new,
-            room,
+            room: Vec::with_capacity(alloc, most)?,
+            spare: self.row.spare_for(span)?,
         })
     }
 
-    /// Whether `apply` makes this write: the map has the small maps that it was planned for.
-    pub fn fits(&self, edit: &TreeEdit<V>) -> bool
-        ensures { result ≡ fits_row V.PartialEq.eq edit.now self.now }
+    /// Whether `apply` makes this write: the map has no more runs than the edit has room for.
+    pub fn fits(&self, edit: &SpanEdit<V>) -> bool
+        ensures { result ≡ nat_le (length self.now) edit.now.runs }
     {
-        if self.parts.len() != edit.parts {
-            return false;
-        }
-        let span = edit.span;
-        let (_, rest) = self.parts.split_at(edit.from);
-        let (near, above) = rest.split_at(edit.count);
-        have(near, &edit.runs) && begin_above(above, span.hi + 1)
+        self.starts <= edit.runs
     }
 
-    /// Makes a planned write, and takes no memory. A map that it was not planned for stays as it is.
-    pub fn apply(&mut self, edit: TreeEdit<V>)
-        ensures { tree_at self.new ≡ tree_written V.PartialEq.eq edit self.old }
+    /// Makes a planned write, and takes no memory. A map of more runs than the edit has room for stays
+    /// as it is.
+    pub fn apply(&mut self, edit: SpanEdit<V>)
+        ensures { value_at self.new ≡ written edit self.old }
     {
-        if !self.fits(&edit) {
+        if self.starts > edit.runs {
             return;
         }
-        let TreeEdit {
-            span: _,
-            value: _,
-            parts: _,
-            from,
-            count,
-            runs,
-            starts,
-            new,
+        let SpanEdit {
+            span,
+            value,
+            runs: _,
             room,
+            spare,
         } = edit;
-        replace(&mut self.parts, from, count, new, room);
-        self.starts = self.starts - runs.len() + starts;
-    }
-
-    // The last run that begins at the byte or below.
-    fn last_to(&self, byte: u64) -> Option<Run<V>>
-        ensures { MatchOption result (BeginAbove (all_runs self.now) byte) (IsLastTo (all_runs self.now) byte) }
-    {
-        last_to(&self.parts, byte)
-    }
-
-    // The first run that begins at the byte or above.
-    fn first_from(&self, byte: u64) -> Option<Run<V>>
-        ensures { MatchOption result (BeginBelow (all_runs self.now) byte) (IsFirstFrom (all_runs self.now) byte) }
-    {
-        first_from(&self.parts, byte)
+        let (had, has) = self.row.write(span, value, room, spare);
+        self.starts = self.starts - had + has;
     }
 
     // The run that has the byte.
+    #[inline]
     fn run_of(&self, byte: u64) -> Option<Run<V>>
-        ensures { MatchOption result (tree_at self.now byte ≡ None) (λ run. IsRun (tree_at self.now) (bytes_of run) run.value × (run.lo ≤ byte) × (byte ≤ run.hi) × (run.hi ≤ greatest)) }
+        ensures { MatchOption result (value_at self.now byte ≡ None) (λ run. IsRun (value_at self.now) (bytes_of run) run.value × (run.lo ≤ byte) × (byte ≤ run.hi) × (run.hi ≤ greatest)) }
     {
-        let _ = &self.parts;
-        match self.last_to(byte) {
-            Some(run) if byte <= run.hi => Some(run),
+        let at = self.row.place(byte);
+        let (_, runs) = split_before(self.row.part(at), byte);
+        match runs.split_first() {
+            Some((run, _)) if run.lo <= byte => Some(*run),
             _ => None,
         }
     }
 
     /// The first run that ends at the byte or above.
     pub fn next(&self, byte: u64) -> Option<Run<V>>
-        ensures { MatchOption result (NoneFrom (tree_at self.now) byte) (IsNext (tree_at self.now) byte) }
+        ensures { MatchOption result (NoneFrom (value_at self.now) byte) (IsNext (value_at self.now) byte) }
     {
-        let _ = &self.parts;
-        match self.run_of(byte) {
-            Some(run) => Some(run),
-            None => self.first_from(byte),
+        let at = self.row.place(byte);
+        let (_, runs) = split_before(self.row.part(at), byte);
+        match next_of(runs, self.row.above(at)) {
+            Some((run, _, _)) => Some(run),
+            None => None,
         }
     }
 
     // The value of the byte before this one, if there is one.
     fn before(&self, byte: u64) -> Option<V>
         ensures first { byte ≡ 0 → result ≡ None }
-        ensures other { (b : ℕ) → b + 1 ≡ byte → result ≡ tree_at self.now b }
+        ensures other { (b : ℕ) → b + 1 ≡ byte → result ≡ value_at self.now b }
     {
         if byte == 0 {
             return None;
@@ -158,11 +137,11 @@ impl<V: Exact> TreeMap<V> {
     }
 
     /// The number of bytes at which a longest run would begin with the value at each byte of the span, or
-    /// with none there. Takes no memory. It reads the small maps around the span alone.
+    /// with none there. Takes no memory. It reads the vectors around the span alone.
     pub fn starts_with(&self, span: Span, value: Option<V>) -> usize
-        ensures { result ≡ number_of_runs V.PartialEq.eq (put (tree_at self.now) span value) }
+        ensures { result ≡ number_of_runs V.PartialEq.eq (put (value_at self.now) span value) }
     {
-        let within = begin_within(&self.parts, span.lo, span.hi + 2);
+        let within = self.row.begin_within(span.lo, span.hi + 2);
         let first = begin_after(self.before(span.lo), value);
         let next = begin_after(value, self.get(span.hi + 1));
         self.starts - within + first + next
@@ -170,20 +149,20 @@ impl<V: Exact> TreeMap<V> {
 
     // The last run that begins below the byte.
     fn previous(&self, byte: u64) -> Option<Run<V>>
-        ensures { MatchOption result (NoneBelow (tree_at self.now) byte) (IsPrevious (tree_at self.now) byte) }
+        ensures { MatchOption result (NoneBelow (value_at self.now) byte) (IsPrevious (value_at self.now) byte) }
     {
-        let _ = &self.parts;
         if byte == 0 {
             return None;
         }
-        self.last_to(byte - 1)
+        let part = self.row.part(self.row.place(byte - 1));
+        last_to(part, byte - 1)
     }
 
     // The lowest byte down to which none below `from` is barred, but not below `low`.
     fn lowest_free(&self, low: u64, from: u64, bar: Option<V>) -> u64
-        requires free { IsBarred (tree_at self.now) bar from → ⊥ }
+        requires free { IsBarred (value_at self.now) bar from → ⊥ }
         requires order { low ≤ from }
-        ensures { IsLowestFree (IsBarred (tree_at self.now) bar) low from result }
+        ensures { IsLowestFree (IsBarred (value_at self.now) bar) low from result }
     {
         let mut end = from;
         while let Some(run) = self.previous(end) {
@@ -202,7 +181,7 @@ impl<V: Exact> TreeMap<V> {
     fn highest_free(&self, to: u64, high: u64, bar: Option<V>) -> u64
         requires order { to ≤ high }
         requires bounded { high ≤ greatest }
-        ensures { IsHighestFree (IsBarred (tree_at self.now) bar) to high result }
+        ensures { IsHighestFree (IsBarred (value_at self.now) bar) to high result }
     {
         let mut start = to + 1;
         while let Some(run) = self.next(start) {
@@ -219,13 +198,15 @@ impl<V: Exact> TreeMap<V> {
 }
 
 impl<V: Exact> SpanMap<V> for TreeMap<V> {
-    ghost at = { tree_at };
+    ghost at = { value_at };
 
-    fn new(alloc: Global) -> Self {
+    fn new(alloc: Global) -> Self
+        ensures at { value_at result ≡ nothing }
+        ensures runs { result ≡ [] }
+    {
         TreeMap {
-            parts: Vec::new(alloc),
+            row: Row::new(alloc),
             starts: 0,
-            alloc,
         }
     }
 
@@ -257,17 +238,20 @@ impl<V: Exact> SpanMap<V> for TreeMap<V> {
     }
 
     fn first_where(&self, span: Span, bar: Option<V>) -> Option<u64>
-        ensures { MatchOption result (NoneIn (IsBarred (tree_at self.now) bar) span) (λ b. IsFirstIn (IsBarred (tree_at self.now) bar) span b) }
+        ensures { MatchOption result (NoneIn (IsBarred (value_at self.now) bar) span) (λ b. IsFirstIn (IsBarred (value_at self.now) bar) span b) }
     {
-        let mut from = span.lo;
-        while let Some(run) = self.next(from) {
+        let at = self.row.place(span.lo);
+        let (_, mut runs) = split_before(self.row.part(at), span.lo);
+        let mut parts = self.row.above(at);
+        while let Some((run, more, later)) = next_of(runs, parts) {
             if run.lo > span.hi {
                 break;
             }
             if is_barred(bar, run.value) {
                 return Some(run.lo.max(span.lo));
             }
-            from = run.hi + 1;
+            runs = more;
+            parts = later;
         }
         None
     }
@@ -290,8 +274,8 @@ impl<V: Exact> SpanMap<V> for TreeMap<V> {
     fn largest_around(&self, required: Span, within: Span, bar: Option<V>) -> Span
         requires starts_within { within.lo ≤ required.lo }
         requires ends_within { required.hi ≤ within.hi }
-        requires free { NoneIn (IsBarred (tree_at self.now) bar) required }
-        ensures { IsLargest (IsBarred (tree_at self.now) bar) required within result }
+        requires free { NoneIn (IsBarred (value_at self.now) bar) required }
+        ensures { IsLargest (IsBarred (value_at self.now) bar) required within result }
     {
         Span {
             lo: self.lowest_free(within.lo, required.lo, bar),
@@ -301,9 +285,8 @@ impl<V: Exact> SpanMap<V> for TreeMap<V> {
 
     fn copy(&self) -> Result<Self, NoMemory> {
         Ok(TreeMap {
-            parts: copies(self.alloc, &self.parts)?,
+            row: self.row.copy()?,
             starts: self.starts,
-            alloc: self.alloc,
         })
     }
 

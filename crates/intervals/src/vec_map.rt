@@ -49,11 +49,13 @@ impl<V: Exact> VecMap<V> {
     {
         let runs = self.runs.len();
         let most = runs.saturating_mul(2).saturating_add(2);
+        let alloc = *self.runs.allocator();
         Ok(SpanEdit {
             span,
             value,
             runs,
-            room: Vec::with_capacity(*self.runs.allocator(), most)?,
+            room: Vec::with_capacity(alloc, most)?,
+            spare: None,
         })
     }
 
@@ -67,6 +69,7 @@ impl<V: Exact> VecMap<V> {
             value,
             runs,
             room,
+            spare: _,
         } = edit;
         if self.runs.len() <= runs {
             write(&mut self.runs, room, span, value);

@@ -6,6 +6,8 @@ use Rattle.std.proofs.lemmas.List.{append-nil, map-append}
 use Rattle.std.proofs.lemmas.List.Elements.{All-cons, All-head, All-nil, All-push, All-tail}
 use Rattle.model.specs.declared.policy.Policy.TheVariants.{Wide}
 use Rattle.messages.specs.Shapes.{IsShape, ShapeFields}
+use Rattle.messages.specs.declared.version.Version.{Version}
+use Rattle.messages.specs.declared.version.Version.TheVariants.{Second}
 use Rattle.texts.specs.LineFeeds.{line_feed, line_feeds, BeginsWithLine}
 use Rattle.texts.specs.Reads.{Reads}
 use Rattle.lockscript.proofs.Passes.{IsSingle, ended}
@@ -20,6 +22,7 @@ use Rattle.journal_text.specs.Places.{IsMisplaced, IsStuck, StandsNext, place, s
 use Rattle.journal_text.specs.Places.IsStuck.{misplaced, no_line}
 use Rattle.journal_text.specs.Readings.{BeginsJournal, IsBad, IsFirstBad, IsJournalText, Passes, Writes, body_lines}
 use Rattle.journal_text.specs.Readings.IsBad.{has_no_line, stands_wrong}
+use Rattle.journal_text.proofs.HeadKinds.{apart-head}
 use Rattle.journal_text.proofs.LineKinds.{apart-line}
 use Rattle.journal_text.proofs.Runs.{run, run-append, run-journal, run-none}
 use Rattle.journal_text.proofs.Steps.{Further, Reading, empty-open, entries, named, none-some, phase_of-open, place_of, read_lines, some-same}
@@ -27,7 +30,7 @@ use Rattle.journal_text.proofs.Steps.Reading.{nothing, some, whole}
 
 -- the texts of lines, behind the first line
 abbrev pub texts_of : ShapeFields → List JournalLine → List (List ℕ)
-texts_of s js = head_text s ∷ map line_text js
+texts_of s js = head_text s ∷ map (line_text s.version) js
 
 -- the text begins with these lines of a journal
 pub record Begun (text : List ℕ) (s : ShapeFields) (r : Reading) (rest : List ℕ) (taken : ℕ) : Type 0 where
@@ -60,17 +63,17 @@ begun-first text s rest begins shape_in = record {
   ran = refl;
 }
 
-texts-push : (s : ShapeFields) (js : List JournalLine) (j : JournalLine) → texts_of s js ++ line_text j ∷ [] ≡ texts_of s (js ++ j ∷ [])
-texts-push s js j = ap (λ (ls : List (List ℕ)). head_text s ∷ ls) (sym (map-append line_text js (j ∷ [])))
+texts-push : (s : ShapeFields) (js : List JournalLine) (j : JournalLine) → texts_of s js ++ line_text s.version j ∷ [] ≡ texts_of s (js ++ j ∷ [])
+texts-push s js j = ap (λ (ls : List (List ℕ)). head_text s ∷ ls) (sym (map-append (line_text s.version) js (j ∷ [])))
 
 pub begun-line : (text : List ℕ) (s : ShapeFields) (r : Reading) (rest : List ℕ) (taken : ℕ) (j : JournalLine) (q : Place) (after : List ℕ)
-    → Begun text s r rest taken → StandsNext (place_of r) rest j q after → (f : Further r j q) → Begun text s f.reading after (taken + 1)
+    → Begun text s r rest taken → StandsNext s.version (place_of r) rest j q after → (f : Further r j q) → Begun text s f.reading after (taken + 1)
 begun-line text s r rest taken j q after begun stands f =
     let texts = texts-push s (read_lines r) j ∙ ap (texts_of s) (sym f.lines) in
-    let passes = passes-line text (texts_of s (read_lines r)) rest (line_text j) after begun.passes stands.begins in
+    let passes = passes-line text (texts_of s (read_lines r)) rest (line_text s.version j) after begun.passes stands.begins in
     record {
       passes = subst (λ (ls : List (List ℕ)). Passes text ls after) texts passes;
-      counted = omega (arith, begun.counted, ap length texts, length-append (texts_of s (read_lines r)) (line_text j ∷ []));
+      counted = omega (arith, begun.counted, ap length texts, length-append (texts_of s (read_lines r)) (line_text s.version j ∷ []));
       shape_in = begun.shape_in;
       lines_in = subst (All IsServedLine) (sym f.lines) (All-push IsServedLine (read_lines r) j begun.lines_in stands.served);
       fits = f.fits stands.served begun.fits;
@@ -92,7 +95,7 @@ begins-end : (s : ShapeFields) (es : List NamedEntry) (js : List JournalLine) �
 begins-end s es js e shape_in lines_in fits = record {
   shape = s;
   entries = es;
-  more = line_text (End (length es)) ∷ [];
+  more = line_text s.version (End (length es)) ∷ [];
   writes = record {
     texts = texts-push s js (End (length es)) ∙ ap (texts_of s) (sym e);
     shape_in = shape_in;
@@ -120,36 +123,36 @@ pub tails : (x y : List ℕ) (xs ys : List (List ℕ)) → x ∷ xs ≡ y ∷ ys
 tails x y xs ys e = cc
 
 -- lines that are written alike
-pub lines-same : (js ks : List JournalLine) → All IsServedLine js → All IsServedLine ks → map line_text js ≡ map line_text ks → js ≡ ks
-lines-same [] [] js_in ks_in e = refl
-lines-same [] (k ∷ ks) js_in ks_in e = absurd (cc)
-lines-same (j ∷ js) [] js_in ks_in e = absurd (cc)
-lines-same (j ∷ js) (k ∷ ks) js_in ks_in e =
-    let one = apart-line j k (All-head IsServedLine j js js_in) (All-head IsServedLine k ks ks_in) (heads (line_text j) (line_text k) (map line_text js) (map line_text ks) e) in
-    let rest = lines-same js ks (All-tail IsServedLine j js js_in) (All-tail IsServedLine k ks ks_in) (tails (line_text j) (line_text k) (map line_text js) (map line_text ks) e) in
+pub lines-same : (v : Version) (js ks : List JournalLine) → All IsServedLine js → All IsServedLine ks → map (line_text v) js ≡ map (line_text v) ks → js ≡ ks
+lines-same v [] [] js_in ks_in e = refl
+lines-same v [] (k ∷ ks) js_in ks_in e = absurd (cc)
+lines-same v (j ∷ js) [] js_in ks_in e = absurd (cc)
+lines-same v (j ∷ js) (k ∷ ks) js_in ks_in e =
+    let one = apart-line v j k (All-head IsServedLine j js js_in) (All-head IsServedLine k ks ks_in) (heads (line_text v j) (line_text v k) (map (line_text v) js) (map (line_text v) ks) e) in
+    let rest = lines-same v js ks (All-tail IsServedLine j js js_in) (All-tail IsServedLine k ks ks_in) (tails (line_text v j) (line_text v k) (map (line_text v) js) (map (line_text v) ks) e) in
     ap (λ (x : JournalLine). x ∷ js) one ∙ ap (λ (xs : List JournalLine). k ∷ xs) rest
 
 -- lines that begin as others do, with one line behind them
-record Continues (js ks : List JournalLine) (line : List ℕ) : Type 0 where
+record Continues (v : Version) (js ks : List JournalLine) (line : List ℕ) : Type 0 where
   next_line : JournalLine
   behind : List JournalLine
   same : ks ≡ js ++ next_line ∷ behind
-  text : line ≡ line_text next_line
+  text : line ≡ line_text v next_line
   served : IsServedLine next_line
 
-continues : (js ks : List JournalLine) (line : List ℕ) (more : List (List ℕ)) → All IsServedLine js → All IsServedLine ks → map line_text js ++ line ∷ more ≡ map line_text ks → Continues js ks line
-continues [] [] line more js_in ks_in e = absurd (cc)
-continues [] (k ∷ ks) line more js_in ks_in e = record {
+continues : (v : Version) (js ks : List JournalLine) (line : List ℕ) (more : List (List ℕ)) → All IsServedLine js → All IsServedLine ks → map (line_text v) js ++ line ∷ more ≡ map (line_text v) ks → Continues v js ks line
+continues v [] [] line more js_in ks_in e = absurd (cc)
+continues v [] (k ∷ ks) line more js_in ks_in e = record {
   next_line = k;
   behind = ks;
   same = refl;
-  text = heads line (line_text k) more (map line_text ks) e;
+  text = heads line (line_text v k) more (map (line_text v) ks) e;
   served = All-head IsServedLine k ks ks_in;
 }
-continues (j ∷ js) [] line more js_in ks_in e = absurd (cc)
-continues (j ∷ js) (k ∷ ks) line more js_in ks_in e =
-    let one = apart-line j k (All-head IsServedLine j js js_in) (All-head IsServedLine k ks ks_in) (heads (line_text j) (line_text k) (map line_text js ++ line ∷ more) (map line_text ks) e) in
-    let rest = continues js ks line more (All-tail IsServedLine j js js_in) (All-tail IsServedLine k ks ks_in) (tails (line_text j) (line_text k) (map line_text js ++ line ∷ more) (map line_text ks) e) in
+continues v (j ∷ js) [] line more js_in ks_in e = absurd (cc)
+continues v (j ∷ js) (k ∷ ks) line more js_in ks_in e =
+    let one = apart-line v j k (All-head IsServedLine j js js_in) (All-head IsServedLine k ks ks_in) (heads (line_text v j) (line_text v k) (map (line_text v) js ++ line ∷ more) (map (line_text v) ks) e) in
+    let rest = continues v js ks line more (All-tail IsServedLine j js js_in) (All-tail IsServedLine k ks ks_in) (tails (line_text v j) (line_text v k) (map (line_text v) js ++ line ∷ more) (map (line_text v) ks) e) in
     record {
       next_line = rest.next_line;
       behind = rest.behind;
@@ -159,44 +162,50 @@ continues (j ∷ js) (k ∷ ks) line more js_in ks_in e =
     }
 
 -- no journal goes on with a line that may not stand there
-not-next : (js : List JournalLine) (p : Place) (es : List NamedEntry) (line : List ℕ) → run (Some start) js ≡ Some p → IsMisplaced p line → Continues js (body_lines es) line → ⊥
-not-next js p es line ran wrong c =
+not-next : (v : Version) (js : List JournalLine) (p : Place) (es : List NamedEntry) (line : List ℕ) → run (Some start) js ≡ Some p → IsMisplaced v p line → Continues v js (body_lines es) line → ⊥
+not-next v js p es line ran wrong c =
     let stopped = run-append (Some start) js (c.next_line ∷ c.behind) ∙ ap (λ (q : Option Place). run q (c.next_line ∷ c.behind)) ran
     ∙ ap (λ (q : Option Place). run q c.behind) (wrong c.next_line c.served c.text) ∙ run-none c.behind in
     let ends = sym (run-journal es) ∙ ap (run (Some start)) c.same ∙ stopped in
     none-some (place (length es) Ended) (sym ends)
 
-not-begun : (s : ShapeFields) (js : List JournalLine) (p : Place) (line : List ℕ) → All IsServedLine js → run (Some start) js ≡ Some p → IsMisplaced p line → BeginsJournal (texts_of s js ++ line ∷ []) → ⊥
-not-begun s js p line js_in ran wrong b =
+-- lines behind one head are of its version
+pub one-version : (s t : ShapeFields) (texts : List (List ℕ)) (ks : List JournalLine) → IsShape s → IsShape t → head_text s ∷ texts ≡ head_text t ∷ map (line_text t.version) ks → texts ≡ map (line_text s.version) ks
+one-version s t texts ks s_in t_in e =
+    let same = apart-head s t s_in t_in (heads (head_text s) (head_text t) texts (map (line_text t.version) ks) e) in
+    tails (head_text s) (head_text t) texts (map (line_text t.version) ks) e ∙ sym (ap (λ (x : ShapeFields). map (line_text x.version) ks) same)
+
+not-begun : (s : ShapeFields) (js : List JournalLine) (p : Place) (line : List ℕ) → IsShape s → All IsServedLine js → run (Some start) js ≡ Some p → IsMisplaced s.version p line → BeginsJournal (texts_of s js ++ line ∷ []) → ⊥
+not-begun s js p line s_in js_in ran wrong b =
     let e = sym (append_assoc (texts_of s js) (line ∷ []) b.more) ∙ b.writes.texts in
-    let rest = tails (head_text s) (head_text b.shape) (map line_text js ++ line ∷ b.more) (map line_text (body_lines b.entries)) e in
-    not-next js p b.entries line ran wrong (continues js (body_lines b.entries) line b.more js_in b.writes.lines_in rest)
+    let rest = one-version s b.shape (map (line_text s.version) js ++ line ∷ b.more) (body_lines b.entries) s_in b.writes.shape_in e in
+    not-next s.version js p b.entries line ran wrong (continues s.version js (body_lines b.entries) line b.more js_in b.writes.lines_in rest)
 
 -- lines behind which the last one may stand are no journal
-not-whole : (s t : ShapeFields) (js : List JournalLine) (p : Place) (es : List NamedEntry) → All IsServedLine js → run (Some start) js ≡ Some p → (p.phase ≡ Ended → ⊥) → Writes (texts_of s js) t es → ⊥
-not-whole s t js p es js_in ran unended w =
-    let same = lines-same js (body_lines es) js_in w.lines_in (tails (head_text s) (head_text t) (map line_text js) (map line_text (body_lines es)) w.texts) in
+not-whole : (s t : ShapeFields) (js : List JournalLine) (p : Place) (es : List NamedEntry) → IsShape s → All IsServedLine js → run (Some start) js ≡ Some p → (p.phase ≡ Ended → ⊥) → Writes (texts_of s js) t es → ⊥
+not-whole s t js p es s_in js_in ran unended w =
+    let same = lines-same s.version js (body_lines es) js_in w.lines_in (one-version s t (map (line_text s.version) js) (body_lines es) s_in w.shape_in w.texts) in
     let ends = sym ran ∙ ap (run (Some start)) same ∙ run-journal es in
     let here = some-same p (place (length es) Ended) ends in
     unended (ap (λ (q : Place). q.phase) here)
 
-bad-begun : (s : ShapeFields) (js : List JournalLine) (p : Place) (rest : List ℕ) → All IsServedLine js → run (Some start) js ≡ Some p → IsStuck p rest → IsBad (texts_of s js) rest
-bad-begun s js p rest js_in ran (no_line none unended) = has_no_line none (λ gone t es w. not-whole s t js p es js_in ran (unended gone) w)
-bad-begun s js p rest js_in ran (misplaced line after begins wrong) = stands_wrong line after begins (not-begun s js p line js_in ran wrong)
+bad-begun : (s : ShapeFields) (js : List JournalLine) (p : Place) (rest : List ℕ) → IsShape s → All IsServedLine js → run (Some start) js ≡ Some p → IsStuck s.version p rest → IsBad (texts_of s js) rest
+bad-begun s js p rest s_in js_in ran (no_line none unended) = has_no_line none (λ gone t es w. not-whole s t js p es s_in js_in ran (unended gone) w)
+bad-begun s js p rest s_in js_in ran (misplaced line after begins wrong) = stands_wrong line after begins (not-begun s js p line s_in js_in ran wrong)
 
-pub stuck-begun : (text : List ℕ) (s : ShapeFields) (r : Reading) (rest : List ℕ) (taken : ℕ) → Begun text s r rest taken → IsStuck (place_of r) rest → IsFirstBad text (taken + 1)
+pub stuck-begun : (text : List ℕ) (s : ShapeFields) (r : Reading) (rest : List ℕ) (taken : ℕ) → Begun text s r rest taken → IsStuck s.version (place_of r) rest → IsFirstBad text (taken + 1)
 stuck-begun text s r rest taken begun stuck = record {
   lines = texts_of s (read_lines r);
   rest = rest;
   before = begun.passes;
   counted = ap (λ (k : ℕ). k + 1) begun.counted;
   good = good-begun text s r rest taken begun;
-  bad = bad-begun s (read_lines r) (place_of r) rest begun.lines_in begun.ran stuck;
+  bad = bad-begun s (read_lines r) (place_of r) rest begun.shape_in begun.lines_in begun.ran stuck;
 }
 
 -- some journal begins with no line
 abbrev smallest : ShapeFields
-smallest = record { nodes = 1; files = 1; policy = Wide }
+smallest = record { version = Second; nodes = 1; files = 1; policy = Wide }
 
 some-journal : BeginsJournal []
 some-journal = record {
@@ -223,4 +232,4 @@ bad-no_line text none = bad-at-first text (has_no_line none (λ gone s es w. no-
 -- the first line names no shape
 pub bad-first : (text line after : List ℕ) → BeginsWithLine text line after → Reads head_text IsShape line None → IsFirstBad text 1
 bad-first text line after begins none =
-    bad-at-first text (stands_wrong line after begins (λ b. none b.shape b.writes.shape_in (heads line (head_text b.shape) b.more (map line_text (body_lines b.entries)) b.writes.texts)))
+    bad-at-first text (stands_wrong line after begins (λ b. none b.shape b.writes.shape_in (heads line (head_text b.shape) b.more (map (line_text b.shape.version) (body_lines b.entries)) b.writes.texts)))

@@ -5,6 +5,7 @@ use Rattle.model.specs.declared.call.CallId.{CallId}
 use Rattle.model.specs.declared.host.Host.{Host}
 use Rattle.model.specs.declared.op.Op.{Op}
 use Rattle.messages.specs.declared.message.Message.{Message}
+use Rattle.messages.specs.declared.version.Version.{Version}
 use Rattle.texts.specs.Layout.{space}
 use Rattle.texts.specs.Reads.{Both, IsOneField, Lacks, Reads, pair_text}
 use Rattle.lockscript.specs.Served.{IsServedOp}
@@ -72,15 +73,15 @@ told calls bytes = refl
 told k bytes = refl
 
 -- what stands behind the front
-abbrev pub rest : (k : EventKind) → Operands k → List ℕ
-rest calls = pair_text call_text (pair_text decimal op_text)
-rest delivers = message_text
-rest interrupts = pair_text holder_text decimal
-rest retries = pair_text holder_text decimal
-rest resends = decimal
-rest declares = holder_text
-rest restarts = holder_text
-rest learns = pair_text decimal holder_text
+abbrev pub rest : Version → (k : EventKind) → Operands k → List ℕ
+rest version calls = pair_text call_text (pair_text decimal op_text)
+rest version delivers = message_text version
+rest version interrupts = pair_text holder_text decimal
+rest version retries = pair_text holder_text decimal
+rest version resends = decimal
+rest version declares = holder_text
+rest version restarts = holder_text
+rest version learns = pair_text decimal holder_text
 
 abbrev pub Fit : (k : EventKind) → Operands k → Type 0
 Fit calls = Both IsCall (Both (IsNumber most_processes) IsServedOp)
@@ -98,16 +99,16 @@ apart-file = apart-number 256 (omega arith)
 apart-pid : AreApart decimal (IsNumber most_processes)
 apart-pid = apart-number most_processes (omega arith)
 
-apart-rest : (k : EventKind) → AreApart (rest k) (Fit k)
-apart-rest calls = apart-pair call_text (pair_text decimal op_text) IsCall (Both (IsNumber most_processes) IsServedOp) call_words apart-call
+apart-rest : (version : Version) (k : EventKind) → AreApart (rest version k) (Fit k)
+apart-rest version calls = apart-pair call_text (pair_text decimal op_text) IsCall (Both (IsNumber most_processes) IsServedOp) call_words apart-call
     (apart-pair decimal op_text (IsNumber most_processes) IsServedOp pid_words apart-pid apart-op)
-apart-rest delivers = apart-message
-apart-rest interrupts = apart-pair holder_text decimal IsHolder (IsNumber most_processes) holder_words apart-holder apart-pid
-apart-rest retries = apart-pair holder_text decimal IsHolder (IsNumber most_processes) holder_words apart-holder apart-pid
-apart-rest resends = apart-file
-apart-rest declares = apart-holder
-apart-rest restarts = apart-holder
-apart-rest learns = apart-pair decimal holder_text IsFile IsHolder file_words apart-file apart-holder
+apart-rest version delivers = apart-message version
+apart-rest version interrupts = apart-pair holder_text decimal IsHolder (IsNumber most_processes) holder_words apart-holder apart-pid
+apart-rest version retries = apart-pair holder_text decimal IsHolder (IsNumber most_processes) holder_words apart-holder apart-pid
+apart-rest version resends = apart-file
+apart-rest version declares = apart-holder
+apart-rest version restarts = apart-holder
+apart-rest version learns = apart-pair decimal holder_text IsFile IsHolder file_words apart-file apart-holder
 
 abbrev pub make : (k : EventKind) → Operands k → NamedEvent
 make calls p = Call p.0 p.1.0 p.1.1
@@ -147,49 +148,49 @@ pub made : (e : NamedEvent) → make (kind_of e) (operands_of e) ≡ e
 made (Call call pid op) = refl
 made e = refl
 
-pub written : (e : NamedEvent) → named_text e ≡ front (kind_of e) ++ rest (kind_of e) (operands_of e)
-written (Call call pid op) = refl
-written e = refl
+pub written : (version : Version) (e : NamedEvent) → named_text version e ≡ front (kind_of e) ++ rest version (kind_of e) (operands_of e)
+written version (Call call pid op) = refl
+written version e = refl
 
-abbrev pub events : Kinds NamedEvent named_text IsServedEvent
-events = record {
+abbrev pub events : (version : Version) → Kinds NamedEvent (named_text version) IsServedEvent
+events version = record {
   Kind = EventKind;
   Operands = Operands;
   front = front;
   table = table;
   told = told;
-  rest = rest;
+  rest = rest version;
   Fit = Fit;
   kind_of = kind_of;
   operands_of = operands_of;
   fit = fit;
-  written = written;
+  written = written version;
   make = make;
   made = made;
 }
 
-pub apart-event : AreApart named_text IsServedEvent
-apart-event = apart-kinds events apart-rest
+pub apart-event : (version : Version) → AreApart (named_text version) IsServedEvent
+apart-event version = apart-kinds (events version) (apart-rest version)
 
 -- one word is no event
-pub no_event_alone : (word : List ℕ) → IsOneField word → Reads named_text IsServedEvent word None
-no_event_alone word one (Call call pid op) served e = one (codes "call") _ (one-word (codes "call") refl) e
-no_event_alone word one (Deliver message) served e = one (codes "deliver") _ (one-word (codes "deliver") refl) e
-no_event_alone word one (Interrupt host pid) served e = one (codes "interrupt") _ (one-word (codes "interrupt") refl) e
-no_event_alone word one (Retry host pid) served e = one (codes "retry") _ (one-word (codes "retry") refl) e
-no_event_alone word one (Resend file) served e = one (codes "resend") _ (one-word (codes "resend") refl) e
-no_event_alone word one (Declare host) served e = one (codes "declare") _ (one-word (codes "declare") refl) e
-no_event_alone word one (Restart host) served e = one (codes "restart") _ (one-word (codes "restart") refl) e
-no_event_alone word one (Learn file host) served e = one (codes "learn") _ (one-word (codes "learn") refl) e
+pub no_event_alone : (version : Version) (word : List ℕ) → IsOneField word → Reads (named_text version) IsServedEvent word None
+no_event_alone version word one (Call call pid op) served e = one (codes "call") _ (one-word (codes "call") refl) e
+no_event_alone version word one (Deliver message) served e = one (codes "deliver") _ (one-word (codes "deliver") refl) e
+no_event_alone version word one (Interrupt host pid) served e = one (codes "interrupt") _ (one-word (codes "interrupt") refl) e
+no_event_alone version word one (Retry host pid) served e = one (codes "retry") _ (one-word (codes "retry") refl) e
+no_event_alone version word one (Resend file) served e = one (codes "resend") _ (one-word (codes "resend") refl) e
+no_event_alone version word one (Declare host) served e = one (codes "declare") _ (one-word (codes "declare") refl) e
+no_event_alone version word one (Restart host) served e = one (codes "restart") _ (one-word (codes "restart") refl) e
+no_event_alone version word one (Learn file host) served e = one (codes "learn") _ (one-word (codes "learn") refl) e
 
 -- a word of none of them is no event, whatever stands behind it
-pub no_event_with : (word operands : List ℕ) → Lacks space word → word ≢ codes "call" → word ≢ codes "deliver" → word ≢ codes "interrupt" → word ≢ codes "retry" → word ≢ codes "resend" → word ≢ codes "declare" → word ≢ codes "restart" → word ≢ codes "learn"
-    → Reads named_text IsServedEvent (word ++ space ∷ operands) None
-no_event_with word operands lacks no_call no_deliver no_interrupt no_retry no_resend no_declare no_restart no_learn (Call call pid op) served e = no_call (first-word word (codes "call") operands _ lacks refl e)
-no_event_with word operands lacks no_call no_deliver no_interrupt no_retry no_resend no_declare no_restart no_learn (Deliver message) served e = no_deliver (first-word word (codes "deliver") operands _ lacks refl e)
-no_event_with word operands lacks no_call no_deliver no_interrupt no_retry no_resend no_declare no_restart no_learn (Interrupt host pid) served e = no_interrupt (first-word word (codes "interrupt") operands _ lacks refl e)
-no_event_with word operands lacks no_call no_deliver no_interrupt no_retry no_resend no_declare no_restart no_learn (Retry host pid) served e = no_retry (first-word word (codes "retry") operands _ lacks refl e)
-no_event_with word operands lacks no_call no_deliver no_interrupt no_retry no_resend no_declare no_restart no_learn (Resend file) served e = no_resend (first-word word (codes "resend") operands _ lacks refl e)
-no_event_with word operands lacks no_call no_deliver no_interrupt no_retry no_resend no_declare no_restart no_learn (Declare host) served e = no_declare (first-word word (codes "declare") operands _ lacks refl e)
-no_event_with word operands lacks no_call no_deliver no_interrupt no_retry no_resend no_declare no_restart no_learn (Restart host) served e = no_restart (first-word word (codes "restart") operands _ lacks refl e)
-no_event_with word operands lacks no_call no_deliver no_interrupt no_retry no_resend no_declare no_restart no_learn (Learn file host) served e = no_learn (first-word word (codes "learn") operands _ lacks refl e)
+pub no_event_with : (version : Version) (word operands : List ℕ) → Lacks space word → word ≢ codes "call" → word ≢ codes "deliver" → word ≢ codes "interrupt" → word ≢ codes "retry" → word ≢ codes "resend" → word ≢ codes "declare" → word ≢ codes "restart" → word ≢ codes "learn"
+    → Reads (named_text version) IsServedEvent (word ++ space ∷ operands) None
+no_event_with version word operands lacks no_call no_deliver no_interrupt no_retry no_resend no_declare no_restart no_learn (Call call pid op) served e = no_call (first-word word (codes "call") operands _ lacks refl e)
+no_event_with version word operands lacks no_call no_deliver no_interrupt no_retry no_resend no_declare no_restart no_learn (Deliver message) served e = no_deliver (first-word word (codes "deliver") operands _ lacks refl e)
+no_event_with version word operands lacks no_call no_deliver no_interrupt no_retry no_resend no_declare no_restart no_learn (Interrupt host pid) served e = no_interrupt (first-word word (codes "interrupt") operands _ lacks refl e)
+no_event_with version word operands lacks no_call no_deliver no_interrupt no_retry no_resend no_declare no_restart no_learn (Retry host pid) served e = no_retry (first-word word (codes "retry") operands _ lacks refl e)
+no_event_with version word operands lacks no_call no_deliver no_interrupt no_retry no_resend no_declare no_restart no_learn (Resend file) served e = no_resend (first-word word (codes "resend") operands _ lacks refl e)
+no_event_with version word operands lacks no_call no_deliver no_interrupt no_retry no_resend no_declare no_restart no_learn (Declare host) served e = no_declare (first-word word (codes "declare") operands _ lacks refl e)
+no_event_with version word operands lacks no_call no_deliver no_interrupt no_retry no_resend no_declare no_restart no_learn (Restart host) served e = no_restart (first-word word (codes "restart") operands _ lacks refl e)
+no_event_with version word operands lacks no_call no_deliver no_interrupt no_retry no_resend no_declare no_restart no_learn (Learn file host) served e = no_learn (first-word word (codes "learn") operands _ lacks refl e)

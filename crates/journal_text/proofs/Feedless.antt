@@ -10,6 +10,8 @@ use Rattle.model.specs.declared.policy.Policy.TheVariants.{Wide, Exact}
 use Rattle.model.specs.Limits.{IsCall, IsNumber, IsOwner, most_nodes, most_of, most_processes}
 use Rattle.messages.specs.Shapes.{IsShape, most_files}
 use Rattle.messages.specs.declared.message.Urgency.TheVariants.{Now, Waits}
+use Rattle.messages.specs.declared.version.Version.{Version}
+use Rattle.messages.specs.declared.version.Version.TheVariants.{First, Second}
 use Rattle.texts.specs.LineFeeds.{line_feed}
 use Rattle.texts.specs.Layout.{space}
 use Rattle.texts.specs.Reads.{Both, Lacks, after_text, joined_text, pair_text}
@@ -21,10 +23,10 @@ use Rattle.lockscript.proofs.Clusters.{IsCounts, counts-fit, counts-parts, count
 use Rattle.journal_text.proofs.Fronts.{Kinds}
 use Rattle.texts.proofs.Pairs.{AllLack}
 use Rattle.texts.proofs.SingleWords.{decimal-lacks, lacks-tested}
-use Rattle.journal_text.specs.Journals.{head_text}
+use Rattle.journal_text.specs.Journals.{head_front, head_text}
 use Rattle.journal_text.specs.Parts.{AreCounted, AreNumbered, AreOffsetsAndOwner, IsOffset, at_sign, counted_text, dot, numbered_text, offset_and_owner_text, offset_and_span_text, offsets_and_owner_text}
 use Rattle.journal_text.specs.Served.{AreServedWants, IsCommandNumber, IsFile, IsHolder, IsServedLock, IsServedSpan}
-use Rattle.journal_text.specs.Texts.{holder_text, span_text, urgency_text, wants_text}
+use Rattle.journal_text.specs.Texts.{command_text, epoch_text, holder_text, span_text, urgency_text, wants_text}
 use Rattle.journal_text.proofs.Names.{calls, hosts, owners}
 use Rattle.journal_text.proofs.SpanParts.{locks, spans, wants}
 use Rattle.journal_text.proofs.Views.{Views}
@@ -63,6 +65,14 @@ files = numbers most_files (omega arith)
 
 pub commands : HasNone decimal IsCommandNumber
 commands = numbers 4294967295 (omega arith)
+
+epoch : (version : Version) → Lacks line_feed (epoch_text version)
+epoch First = lacks-tested line_feed (epoch_text First) refl
+epoch Second = lacks-tested line_feed (epoch_text Second) refl
+
+-- the number of a command and what follows, with or without an epoch
+pub numbered_by : {A : Type 0} (version : Version) (f : A → List ℕ) (P : A → Type 0) → HasNone f P → HasNone (command_text version f) (Both IsCommandNumber P)
+numbered_by version f P one = after (epoch_text version) (pair_text decimal f) (Both IsCommandNumber P) (epoch version) (pair decimal f IsCommandNumber P commands one)
 
 pub pids : HasNone decimal (IsNumber most_processes)
 pids = numbers most_processes (omega arith)
@@ -153,7 +163,11 @@ counts = pair decimal (after_text (codes "files ") (pair_text decimal (after_tex
     (pair decimal (after_text (codes "policy ") policy_text) (IsNumber most_files) (λ _. ⊤) files
     (after (codes "policy ") policy_text (λ _. ⊤) (lacks-tested line_feed (codes "policy ") refl) policies)))
 
+head-front : (version : Version) → Lacks line_feed (head_front version)
+head-front First = lacks-tested line_feed (head_front First) refl
+head-front Second = lacks-tested line_feed (head_front Second) refl
+
 pub heads : HasNone head_text IsShape
 heads s fits =
-    lacks-append line_feed (codes "journal 1 nodes ") (counts_text s) (lacks-tested line_feed (codes "journal 1 nodes ") refl)
+    lacks-append line_feed (head_front s.version) (counts_text s) (head-front s.version)
     (subst (Lacks line_feed) (sym (counts-parts s)) (counts (counts_of s) (counts-fit s fits)))

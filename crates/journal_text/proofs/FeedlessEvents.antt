@@ -1,6 +1,7 @@
 -- No event's text has a line feed.
 use Rattle.std.proofs.Common.{refl, decimal}
 use Rattle.model.specs.Limits.{IsCall, IsNumber, most_processes}
+use Rattle.messages.specs.declared.version.Version.{Version}
 use Rattle.texts.specs.LineFeeds.{line_feed}
 use Rattle.texts.specs.Reads.{Both, Lacks, pair_text}
 use Rattle.lockscript.specs.Served.{IsServedOp}
@@ -19,16 +20,16 @@ fronts : (k : EventKind) → Lacks line_feed (front k)
 fronts calls = lacks-tested line_feed (front calls) refl
 fronts k = lacks-tested line_feed (front k) refl
 
-rests : (k : EventKind) → HasNone (rest k) (Fit k)
-rests calls = pair call_text (pair_text decimal op_text) IsCall (Both (IsNumber most_processes) IsServedOp) named_calls
+rests : (version : Version) (k : EventKind) → HasNone (rest version k) (Fit k)
+rests version calls = pair call_text (pair_text decimal op_text) IsCall (Both (IsNumber most_processes) IsServedOp) named_calls
     (pair decimal op_text (IsNumber most_processes) IsServedOp pids feedless-op)
-rests delivers = feedless-message
-rests interrupts = pair holder_text decimal IsHolder (IsNumber most_processes) holders pids
-rests retries = pair holder_text decimal IsHolder (IsNumber most_processes) holders pids
-rests resends = files
-rests declares = holders
-rests restarts = holders
-rests learns = pair decimal holder_text IsFile IsHolder files holders
+rests version delivers = feedless-message version
+rests version interrupts = pair holder_text decimal IsHolder (IsNumber most_processes) holders pids
+rests version retries = pair holder_text decimal IsHolder (IsNumber most_processes) holders pids
+rests version resends = files
+rests version declares = holders
+rests version restarts = holders
+rests version learns = pair decimal holder_text IsFile IsHolder files holders
 
-pub feedless-event : HasNone named_text IsServedEvent
-feedless-event = of_kinds events fronts rests
+pub feedless-event : (version : Version) → HasNone (named_text version) IsServedEvent
+feedless-event version = of_kinds (events version) fronts (rests version)

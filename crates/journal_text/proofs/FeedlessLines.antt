@@ -2,6 +2,7 @@
 use Rattle.std.proofs.Common.{refl, arith, decimal}
 use Rattle.model.specs.Limits.{IsCall}
 use Rattle.messages.specs.Shapes.{IsShape, ShapeFields}
+use Rattle.messages.specs.declared.version.Version.{Version}
 use Rattle.texts.specs.LineFeeds.{line_feed}
 use Rattle.texts.specs.Reads.{Lacks}
 use Rattle.lockscript.specs.Texts.{call_text, reply_text}
@@ -27,17 +28,17 @@ fronts k = lacks-tested line_feed (front k) refl
 counts : HasNone decimal IsCount
 counts n fits = number n (omega (arith, fits))
 
-rests : (k : LineKind) → HasNone (rest k) (Fit k)
-rests entries = pair decimal named_text IsPosition IsServedEvent commands feedless-event
-rests answers = pair call_text reply_text IsCall IsServedReply named_calls feedless-reply
-rests sends = feedless-message
-rests ends = counts
+rests : (version : Version) (k : LineKind) → HasNone (rest version k) (Fit k)
+rests version entries = pair decimal (named_text version) IsPosition IsServedEvent commands (feedless-event version)
+rests version answers = pair call_text reply_text IsCall IsServedReply named_calls feedless-reply
+rests version sends = feedless-message version
+rests version ends = counts
 
-feedless-line : HasNone line_text IsServedLine
-feedless-line = of_kinds lines fronts rests
+feedless-line : (version : Version) → HasNone (line_text version) IsServedLine
+feedless-line version = of_kinds (lines version) fronts (rests version)
 
-pub line-single : (j : JournalLine) → IsServedLine j → IsSingle (line_text j)
-line-single j fits = none_is-line_feeds (line_text j) (feedless-line j fits)
+pub line-single : (version : Version) (j : JournalLine) → IsServedLine j → IsSingle (line_text version j)
+line-single version j fits = none_is-line_feeds (line_text version j) (feedless-line version j fits)
 
 pub head-single : (s : ShapeFields) → IsShape s → IsSingle (head_text s)
 head-single s fits = none_is-line_feeds (head_text s) (heads s fits)

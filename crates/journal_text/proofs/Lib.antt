@@ -7,6 +7,7 @@ pub mod MessageKinds
 pub mod EventKinds
 pub mod ReplyKinds
 pub mod LineKinds
+pub mod HeadKinds
 pub mod Steps
 pub mod Runs
 pub mod Begun
@@ -20,5 +21,6 @@ pub mod FeedlessEvents
 pub mod FeedlessLines
 pub mod Printed
 pub mod OneReading
+pub mod OldTexts
 pub mod Limits
 pub mod Writes

@@ -5,6 +5,7 @@ use Rattle.model.specs.Limits.{IsCall}
 use Rattle.model.specs.declared.call.CallId.{CallId}
 use Rattle.model.specs.declared.reply.Reply.{Reply}
 use Rattle.messages.specs.declared.message.Message.{Message}
+use Rattle.messages.specs.declared.version.Version.{Version}
 use Rattle.texts.specs.Layout.{space}
 use Rattle.texts.specs.Reads.{Both, IsOneField, Lacks, Reads, pair_text}
 use Rattle.lockscript.specs.Texts.{call_text, reply_text}
@@ -57,11 +58,11 @@ told entries bytes = refl
 told k bytes = refl
 
 -- what stands behind the front
-abbrev pub rest : (k : LineKind) → Operands k → List ℕ
-rest entries = pair_text decimal named_text
-rest answers = pair_text call_text reply_text
-rest sends = message_text
-rest ends = decimal
+abbrev pub rest : Version → (k : LineKind) → Operands k → List ℕ
+rest version entries = pair_text decimal (named_text version)
+rest version answers = pair_text call_text reply_text
+rest version sends = message_text version
+rest version ends = decimal
 
 abbrev pub Fit : (k : LineKind) → Operands k → Type 0
 Fit entries = Both IsPosition IsServedEvent
@@ -78,11 +79,11 @@ apart-position = apart-number 4294967295 (omega arith)
 apart-count : AreApart decimal IsCount
 apart-count m n m_in n_in e = decimal_injective m n (omega (arith, m_in)) (omega (arith, n_in)) e
 
-apart-rest : (k : LineKind) → AreApart (rest k) (Fit k)
-apart-rest entries = apart-pair decimal named_text IsPosition IsServedEvent position_words apart-position apart-event
-apart-rest answers = apart-pair call_text reply_text IsCall IsServedReply call_words apart-call apart-reply
-apart-rest sends = apart-message
-apart-rest ends = apart-count
+apart-rest : (version : Version) (k : LineKind) → AreApart (rest version k) (Fit k)
+apart-rest version entries = apart-pair decimal (named_text version) IsPosition IsServedEvent position_words apart-position (apart-event version)
+apart-rest version answers = apart-pair call_text reply_text IsCall IsServedReply call_words apart-call apart-reply
+apart-rest version sends = apart-message version
+apart-rest version ends = apart-count
 
 abbrev pub make : (k : LineKind) → Operands k → JournalLine
 make entries p = Entry p.0 p.1
@@ -112,41 +113,41 @@ pub made : (x : JournalLine) → make (kind_of x) (operands_of x) ≡ x
 made (Entry position event) = refl
 made x = refl
 
-pub written : (x : JournalLine) → line_text x ≡ front (kind_of x) ++ rest (kind_of x) (operands_of x)
-written (Entry position event) = refl
-written x = refl
+pub written : (version : Version) (x : JournalLine) → line_text version x ≡ front (kind_of x) ++ rest version (kind_of x) (operands_of x)
+written version (Entry position event) = refl
+written version x = refl
 
-abbrev pub lines : Kinds JournalLine line_text IsServedLine
-lines = record {
+abbrev pub lines : (version : Version) → Kinds JournalLine (line_text version) IsServedLine
+lines version = record {
   Kind = LineKind;
   Operands = Operands;
   front = front;
   table = table;
   told = told;
-  rest = rest;
+  rest = rest version;
   Fit = Fit;
   kind_of = kind_of;
   operands_of = operands_of;
   fit = fit;
-  written = written;
+  written = written version;
   make = make;
   made = made;
 }
 
-pub apart-line : AreApart line_text IsServedLine
-apart-line = apart-kinds lines apart-rest
+pub apart-line : (version : Version) → AreApart (line_text version) IsServedLine
+apart-line version = apart-kinds (lines version) (apart-rest version)
 
 -- one word is no line with operands
-pub no_line_alone : (word : List ℕ) → IsOneField word → Reads line_text IsServedLine word None
-no_line_alone word one (Entry position event) served e = one (codes "entry") _ (one-word (codes "entry") refl) e
-no_line_alone word one (Answer call reply) served e = one (codes "reply") _ (one-word (codes "reply") refl) e
-no_line_alone word one (Send message) served e = one (codes "send") _ (one-word (codes "send") refl) e
-no_line_alone word one (End count) served e = one (codes "end") _ (one-word (codes "end") refl) e
+pub no_line_alone : (version : Version) (word : List ℕ) → IsOneField word → Reads (line_text version) IsServedLine word None
+no_line_alone version word one (Entry position event) served e = one (codes "entry") _ (one-word (codes "entry") refl) e
+no_line_alone version word one (Answer call reply) served e = one (codes "reply") _ (one-word (codes "reply") refl) e
+no_line_alone version word one (Send message) served e = one (codes "send") _ (one-word (codes "send") refl) e
+no_line_alone version word one (End count) served e = one (codes "end") _ (one-word (codes "end") refl) e
 
 -- a word of none of them is no line, whatever stands behind it
-pub no_line_with : (word operands : List ℕ) → Lacks space word → word ≢ codes "entry" → word ≢ codes "reply" → word ≢ codes "send" → word ≢ codes "end"
-    → Reads line_text IsServedLine (word ++ space ∷ operands) None
-no_line_with word operands lacks no_entry no_reply no_send no_end (Entry position event) served e = no_entry (first-word word (codes "entry") operands _ lacks refl e)
-no_line_with word operands lacks no_entry no_reply no_send no_end (Answer call reply) served e = no_reply (first-word word (codes "reply") operands _ lacks refl e)
-no_line_with word operands lacks no_entry no_reply no_send no_end (Send message) served e = no_send (first-word word (codes "send") operands _ lacks refl e)
-no_line_with word operands lacks no_entry no_reply no_send no_end (End count) served e = no_end (first-word word (codes "end") operands _ lacks refl e)
+pub no_line_with : (version : Version) (word operands : List ℕ) → Lacks space word → word ≢ codes "entry" → word ≢ codes "reply" → word ≢ codes "send" → word ≢ codes "end"
+    → Reads (line_text version) IsServedLine (word ++ space ∷ operands) None
+no_line_with version word operands lacks no_entry no_reply no_send no_end (Entry position event) served e = no_entry (first-word word (codes "entry") operands _ lacks refl e)
+no_line_with version word operands lacks no_entry no_reply no_send no_end (Answer call reply) served e = no_reply (first-word word (codes "reply") operands _ lacks refl e)
+no_line_with version word operands lacks no_entry no_reply no_send no_end (Send message) served e = no_send (first-word word (codes "send") operands _ lacks refl e)
+no_line_with version word operands lacks no_entry no_reply no_send no_end (End count) served e = no_end (first-word word (codes "end") operands _ lacks refl e)

@@ -11,17 +11,18 @@ use Rattle.messages.specs.Wants.{Wants}
 use Rattle.messages.specs.declared.message.Message.{Message}
 use Rattle.messages.specs.declared.message.Message.TheVariants.{Request, Grant, Revoke, Taken, Released, Conflict, Deny, Freed}
 use Rattle.messages.specs.declared.message.Urgency.{Urgency}
+use Rattle.messages.specs.declared.version.Version.{Version}
 use Rattle.texts.specs.Layout.{space}
 use Rattle.texts.specs.Reads.{Both, IsOneField, Lacks, Reads, pair_text}
 use Rattle.lockscript.specs.Texts.{call_text, lock_text}
 use Rattle.texts.specs.Words.{mode_text}
 use Rattle.texts.proofs.FieldValues.{apart-mode, apart-number}
 use Rattle.journal_text.proofs.Fronts.{Kinds, apart-kinds, kind_in}
-use Rattle.texts.proofs.Pairs.{AreApart, apart-pair}
+use Rattle.texts.proofs.Pairs.{AreApart, apart-after, apart-pair}
 use Rattle.lockscript.proofs.SingleWords.{file_words, message_words}
 use Rattle.texts.proofs.SingleWords.{first-word, mode_words, one-word}
 use Rattle.journal_text.specs.Served.{AreServedWants, IsCommandNumber, IsFile, IsHolder, IsServedLock, IsServedMessage, IsServedSpan}
-use Rattle.journal_text.specs.Texts.{holder_text, message_text, span_text, urgency_text, wants_text}
+use Rattle.journal_text.specs.Texts.{command_text, epoch_text, holder_text, message_text, span_text, urgency_text, wants_text}
 use Rattle.journal_text.proofs.Names.{apart-call, apart-holder}
 use Rattle.journal_text.proofs.SpanParts.{apart-lock, apart-span, apart-wants}
 use Rattle.journal_text.proofs.Words.{apart-urgency, call_words, holder_words, urgency_words}
@@ -74,15 +75,15 @@ told requests bytes = refl
 told k bytes = refl
 
 -- what stands behind the front
-abbrev pub rest : (k : MessageKind) → Operands k → List ℕ
-rest requests = pair_text decimal (pair_text call_text (pair_text urgency_text (pair_text mode_text wants_text)))
-rest grants = pair_text decimal (pair_text decimal (pair_text call_text (pair_text mode_text span_text)))
-rest revokes = pair_text decimal (pair_text decimal (pair_text holder_text (pair_text call_text (pair_text mode_text wants_text))))
-rest takens = pair_text decimal (pair_text decimal call_text)
-rest releases = pair_text decimal (pair_text decimal (pair_text holder_text (pair_text call_text span_text)))
-rest conflicts = pair_text decimal (pair_text decimal (pair_text holder_text (pair_text call_text lock_text)))
-rest denials = pair_text decimal (pair_text call_text (pair_text holder_text (pair_text decimal lock_text)))
-rest frees = pair_text decimal holder_text
+abbrev pub rest : Version → (k : MessageKind) → Operands k → List ℕ
+rest version requests = pair_text decimal (pair_text call_text (pair_text urgency_text (pair_text mode_text wants_text)))
+rest version grants = pair_text decimal (command_text version (pair_text call_text (pair_text mode_text span_text)))
+rest version revokes = pair_text decimal (command_text version (pair_text holder_text (pair_text call_text (pair_text mode_text wants_text))))
+rest version takens = pair_text decimal (command_text version call_text)
+rest version releases = pair_text decimal (command_text version (pair_text holder_text (pair_text call_text span_text)))
+rest version conflicts = pair_text decimal (command_text version (pair_text holder_text (pair_text call_text lock_text)))
+rest version denials = pair_text decimal (pair_text call_text (pair_text holder_text (command_text version lock_text)))
+rest version frees = pair_text decimal holder_text
 
 abbrev pub Fit : (k : MessageKind) → Operands k → Type 0
 Fit requests = Both IsFile (Both IsCall (Both (λ _. ⊤) (Both (λ _. ⊤) AreServedWants)))
@@ -97,38 +98,40 @@ Fit frees = Both IsFile IsHolder
 apart-file : AreApart decimal IsFile
 apart-file = apart-number 256 (omega arith)
 
-apart-command : AreApart decimal IsCommandNumber
-apart-command = apart-number 4294967295 (omega arith)
+-- what follows the number of a command tells it apart, with or without an epoch
+apart-command : {A : Type 0} (version : Version) (f : A → List ℕ) (P : A → Type 0) → AreApart f P → AreApart (command_text version f) (Both IsCommandNumber P)
+apart-command version f P one =
+    apart-after (epoch_text version) (pair_text decimal f) (Both IsCommandNumber P) (apart-pair decimal f IsCommandNumber P message_words (apart-number 4294967295 (omega arith)) one)
 
-apart-rest : (k : MessageKind) → AreApart (rest k) (Fit k)
-apart-rest requests = apart-pair decimal (pair_text call_text (pair_text urgency_text (pair_text mode_text wants_text))) IsFile (Both IsCall (Both (λ _. ⊤) (Both (λ _. ⊤) AreServedWants))) file_words apart-file
+apart-rest : (version : Version) (k : MessageKind) → AreApart (rest version k) (Fit k)
+apart-rest version requests = apart-pair decimal (pair_text call_text (pair_text urgency_text (pair_text mode_text wants_text))) IsFile (Both IsCall (Both (λ _. ⊤) (Both (λ _. ⊤) AreServedWants))) file_words apart-file
     (apart-pair call_text (pair_text urgency_text (pair_text mode_text wants_text)) IsCall (Both (λ _. ⊤) (Both (λ _. ⊤) AreServedWants)) call_words apart-call
     (apart-pair urgency_text (pair_text mode_text wants_text) (λ _. ⊤) (Both (λ _. ⊤) AreServedWants) urgency_words apart-urgency
     (apart-pair mode_text wants_text (λ _. ⊤) AreServedWants mode_words apart-mode apart-wants)))
-apart-rest grants = apart-pair decimal (pair_text decimal (pair_text call_text (pair_text mode_text span_text))) IsFile (Both IsCommandNumber (Both IsCall (Both (λ _. ⊤) IsServedSpan))) file_words apart-file
-    (apart-pair decimal (pair_text call_text (pair_text mode_text span_text)) IsCommandNumber (Both IsCall (Both (λ _. ⊤) IsServedSpan)) message_words apart-command
+apart-rest version grants = apart-pair decimal (command_text version (pair_text call_text (pair_text mode_text span_text))) IsFile (Both IsCommandNumber (Both IsCall (Both (λ _. ⊤) IsServedSpan))) file_words apart-file
+    (apart-command version (pair_text call_text (pair_text mode_text span_text)) (Both IsCall (Both (λ _. ⊤) IsServedSpan))
     (apart-pair call_text (pair_text mode_text span_text) IsCall (Both (λ _. ⊤) IsServedSpan) call_words apart-call
     (apart-pair mode_text span_text (λ _. ⊤) IsServedSpan mode_words apart-mode apart-span)))
-apart-rest revokes = apart-pair decimal (pair_text decimal (pair_text holder_text (pair_text call_text (pair_text mode_text wants_text)))) IsFile (Both IsCommandNumber (Both IsHolder (Both IsCall (Both (λ _. ⊤) AreServedWants)))) file_words apart-file
-    (apart-pair decimal (pair_text holder_text (pair_text call_text (pair_text mode_text wants_text))) IsCommandNumber (Both IsHolder (Both IsCall (Both (λ _. ⊤) AreServedWants))) message_words apart-command
+apart-rest version revokes = apart-pair decimal (command_text version (pair_text holder_text (pair_text call_text (pair_text mode_text wants_text)))) IsFile (Both IsCommandNumber (Both IsHolder (Both IsCall (Both (λ _. ⊤) AreServedWants)))) file_words apart-file
+    (apart-command version (pair_text holder_text (pair_text call_text (pair_text mode_text wants_text))) (Both IsHolder (Both IsCall (Both (λ _. ⊤) AreServedWants)))
     (apart-pair holder_text (pair_text call_text (pair_text mode_text wants_text)) IsHolder (Both IsCall (Both (λ _. ⊤) AreServedWants)) holder_words apart-holder
     (apart-pair call_text (pair_text mode_text wants_text) IsCall (Both (λ _. ⊤) AreServedWants) call_words apart-call
     (apart-pair mode_text wants_text (λ _. ⊤) AreServedWants mode_words apart-mode apart-wants))))
-apart-rest takens = apart-pair decimal (pair_text decimal call_text) IsFile (Both IsCommandNumber IsCall) file_words apart-file
-    (apart-pair decimal call_text IsCommandNumber IsCall message_words apart-command apart-call)
-apart-rest releases = apart-pair decimal (pair_text decimal (pair_text holder_text (pair_text call_text span_text))) IsFile (Both IsCommandNumber (Both IsHolder (Both IsCall IsServedSpan))) file_words apart-file
-    (apart-pair decimal (pair_text holder_text (pair_text call_text span_text)) IsCommandNumber (Both IsHolder (Both IsCall IsServedSpan)) message_words apart-command
+apart-rest version takens = apart-pair decimal (command_text version call_text) IsFile (Both IsCommandNumber IsCall) file_words apart-file
+    (apart-command version call_text IsCall apart-call)
+apart-rest version releases = apart-pair decimal (command_text version (pair_text holder_text (pair_text call_text span_text))) IsFile (Both IsCommandNumber (Both IsHolder (Both IsCall IsServedSpan))) file_words apart-file
+    (apart-command version (pair_text holder_text (pair_text call_text span_text)) (Both IsHolder (Both IsCall IsServedSpan))
     (apart-pair holder_text (pair_text call_text span_text) IsHolder (Both IsCall IsServedSpan) holder_words apart-holder
     (apart-pair call_text span_text IsCall IsServedSpan call_words apart-call apart-span)))
-apart-rest conflicts = apart-pair decimal (pair_text decimal (pair_text holder_text (pair_text call_text lock_text))) IsFile (Both IsCommandNumber (Both IsHolder (Both IsCall IsServedLock))) file_words apart-file
-    (apart-pair decimal (pair_text holder_text (pair_text call_text lock_text)) IsCommandNumber (Both IsHolder (Both IsCall IsServedLock)) message_words apart-command
+apart-rest version conflicts = apart-pair decimal (command_text version (pair_text holder_text (pair_text call_text lock_text))) IsFile (Both IsCommandNumber (Both IsHolder (Both IsCall IsServedLock))) file_words apart-file
+    (apart-command version (pair_text holder_text (pair_text call_text lock_text)) (Both IsHolder (Both IsCall IsServedLock))
     (apart-pair holder_text (pair_text call_text lock_text) IsHolder (Both IsCall IsServedLock) holder_words apart-holder
     (apart-pair call_text lock_text IsCall IsServedLock call_words apart-call apart-lock)))
-apart-rest denials = apart-pair decimal (pair_text call_text (pair_text holder_text (pair_text decimal lock_text))) IsFile (Both IsCall (Both IsHolder (Both IsCommandNumber IsServedLock))) file_words apart-file
-    (apart-pair call_text (pair_text holder_text (pair_text decimal lock_text)) IsCall (Both IsHolder (Both IsCommandNumber IsServedLock)) call_words apart-call
-    (apart-pair holder_text (pair_text decimal lock_text) IsHolder (Both IsCommandNumber IsServedLock) holder_words apart-holder
-    (apart-pair decimal lock_text IsCommandNumber IsServedLock message_words apart-command apart-lock)))
-apart-rest frees = apart-pair decimal holder_text IsFile IsHolder file_words apart-file apart-holder
+apart-rest version denials = apart-pair decimal (pair_text call_text (pair_text holder_text (command_text version lock_text))) IsFile (Both IsCall (Both IsHolder (Both IsCommandNumber IsServedLock))) file_words apart-file
+    (apart-pair call_text (pair_text holder_text (command_text version lock_text)) IsCall (Both IsHolder (Both IsCommandNumber IsServedLock)) call_words apart-call
+    (apart-pair holder_text (command_text version lock_text) IsHolder (Both IsCommandNumber IsServedLock) holder_words apart-holder
+    (apart-command version lock_text IsServedLock apart-lock)))
+apart-rest version frees = apart-pair decimal holder_text IsFile IsHolder file_words apart-file apart-holder
 
 abbrev pub make : (k : MessageKind) → Operands k → Message
 make requests p = Request p.0 p.1.0 p.1.1.0 p.1.1.1.0 p.1.1.1.1
@@ -174,49 +177,49 @@ pub made : (m : Message) → make (kind_of m) (operands_of m) ≡ m
 made (Request file call urgency mode wanted) = refl
 made m = refl
 
-pub written : (m : Message) → message_text m ≡ front (kind_of m) ++ rest (kind_of m) (operands_of m)
-written (Request file call urgency mode wanted) = refl
-written m = refl
+pub written : (version : Version) (m : Message) → message_text version m ≡ front (kind_of m) ++ rest version (kind_of m) (operands_of m)
+written version (Request file call urgency mode wanted) = refl
+written version m = refl
 
-abbrev pub messages : Kinds Message message_text IsServedMessage
-messages = record {
+abbrev pub messages : (version : Version) → Kinds Message (message_text version) IsServedMessage
+messages version = record {
   Kind = MessageKind;
   Operands = Operands;
   front = front;
   table = table;
   told = told;
-  rest = rest;
+  rest = rest version;
   Fit = Fit;
   kind_of = kind_of;
   operands_of = operands_of;
   fit = fit;
-  written = written;
+  written = written version;
   make = make;
   made = made;
 }
 
-pub apart-message : AreApart message_text IsServedMessage
-apart-message = apart-kinds messages apart-rest
+pub apart-message : (version : Version) → AreApart (message_text version) IsServedMessage
+apart-message version = apart-kinds (messages version) (apart-rest version)
 
 -- one word is no message
-pub no_message_alone : (word : List ℕ) → IsOneField word → Reads message_text IsServedMessage word None
-no_message_alone word one (Request file call urgency mode wanted) served e = one (codes "request") _ (one-word (codes "request") refl) e
-no_message_alone word one (Grant file number call mode span) served e = one (codes "grant") _ (one-word (codes "grant") refl) e
-no_message_alone word one (Revoke file number holder call mode wanted) served e = one (codes "revoke") _ (one-word (codes "revoke") refl) e
-no_message_alone word one (Taken file number call) served e = one (codes "taken") _ (one-word (codes "taken") refl) e
-no_message_alone word one (Released file number holder call span) served e = one (codes "released") _ (one-word (codes "released") refl) e
-no_message_alone word one (Conflict file number holder call lock) served e = one (codes "conflict") _ (one-word (codes "conflict") refl) e
-no_message_alone word one (Deny file call holder number lock) served e = one (codes "deny") _ (one-word (codes "deny") refl) e
-no_message_alone word one (Freed file holder) served e = one (codes "freed") _ (one-word (codes "freed") refl) e
+pub no_message_alone : (version : Version) (word : List ℕ) → IsOneField word → Reads (message_text version) IsServedMessage word None
+no_message_alone version word one (Request file call urgency mode wanted) served e = one (codes "request") _ (one-word (codes "request") refl) e
+no_message_alone version word one (Grant file number call mode span) served e = one (codes "grant") _ (one-word (codes "grant") refl) e
+no_message_alone version word one (Revoke file number holder call mode wanted) served e = one (codes "revoke") _ (one-word (codes "revoke") refl) e
+no_message_alone version word one (Taken file number call) served e = one (codes "taken") _ (one-word (codes "taken") refl) e
+no_message_alone version word one (Released file number holder call span) served e = one (codes "released") _ (one-word (codes "released") refl) e
+no_message_alone version word one (Conflict file number holder call lock) served e = one (codes "conflict") _ (one-word (codes "conflict") refl) e
+no_message_alone version word one (Deny file call holder number lock) served e = one (codes "deny") _ (one-word (codes "deny") refl) e
+no_message_alone version word one (Freed file holder) served e = one (codes "freed") _ (one-word (codes "freed") refl) e
 
 -- a word of none of them is no message, whatever stands behind it
-pub no_message_with : (word operands : List ℕ) → Lacks space word → word ≢ codes "request" → word ≢ codes "grant" → word ≢ codes "revoke" → word ≢ codes "taken" → word ≢ codes "released" → word ≢ codes "conflict" → word ≢ codes "deny" → word ≢ codes "freed"
-    → Reads message_text IsServedMessage (word ++ space ∷ operands) None
-no_message_with word operands lacks no_request no_grant no_revoke no_taken no_released no_conflict no_deny no_freed (Request file call urgency mode wanted) served e = no_request (first-word word (codes "request") operands _ lacks refl e)
-no_message_with word operands lacks no_request no_grant no_revoke no_taken no_released no_conflict no_deny no_freed (Grant file number call mode span) served e = no_grant (first-word word (codes "grant") operands _ lacks refl e)
-no_message_with word operands lacks no_request no_grant no_revoke no_taken no_released no_conflict no_deny no_freed (Revoke file number holder call mode wanted) served e = no_revoke (first-word word (codes "revoke") operands _ lacks refl e)
-no_message_with word operands lacks no_request no_grant no_revoke no_taken no_released no_conflict no_deny no_freed (Taken file number call) served e = no_taken (first-word word (codes "taken") operands _ lacks refl e)
-no_message_with word operands lacks no_request no_grant no_revoke no_taken no_released no_conflict no_deny no_freed (Released file number holder call span) served e = no_released (first-word word (codes "released") operands _ lacks refl e)
-no_message_with word operands lacks no_request no_grant no_revoke no_taken no_released no_conflict no_deny no_freed (Conflict file number holder call lock) served e = no_conflict (first-word word (codes "conflict") operands _ lacks refl e)
-no_message_with word operands lacks no_request no_grant no_revoke no_taken no_released no_conflict no_deny no_freed (Deny file call holder number lock) served e = no_deny (first-word word (codes "deny") operands _ lacks refl e)
-no_message_with word operands lacks no_request no_grant no_revoke no_taken no_released no_conflict no_deny no_freed (Freed file holder) served e = no_freed (first-word word (codes "freed") operands _ lacks refl e)
+pub no_message_with : (version : Version) (word operands : List ℕ) → Lacks space word → word ≢ codes "request" → word ≢ codes "grant" → word ≢ codes "revoke" → word ≢ codes "taken" → word ≢ codes "released" → word ≢ codes "conflict" → word ≢ codes "deny" → word ≢ codes "freed"
+    → Reads (message_text version) IsServedMessage (word ++ space ∷ operands) None
+no_message_with version word operands lacks no_request no_grant no_revoke no_taken no_released no_conflict no_deny no_freed (Request file call urgency mode wanted) served e = no_request (first-word word (codes "request") operands _ lacks refl e)
+no_message_with version word operands lacks no_request no_grant no_revoke no_taken no_released no_conflict no_deny no_freed (Grant file number call mode span) served e = no_grant (first-word word (codes "grant") operands _ lacks refl e)
+no_message_with version word operands lacks no_request no_grant no_revoke no_taken no_released no_conflict no_deny no_freed (Revoke file number holder call mode wanted) served e = no_revoke (first-word word (codes "revoke") operands _ lacks refl e)
+no_message_with version word operands lacks no_request no_grant no_revoke no_taken no_released no_conflict no_deny no_freed (Taken file number call) served e = no_taken (first-word word (codes "taken") operands _ lacks refl e)
+no_message_with version word operands lacks no_request no_grant no_revoke no_taken no_released no_conflict no_deny no_freed (Released file number holder call span) served e = no_released (first-word word (codes "released") operands _ lacks refl e)
+no_message_with version word operands lacks no_request no_grant no_revoke no_taken no_released no_conflict no_deny no_freed (Conflict file number holder call lock) served e = no_conflict (first-word word (codes "conflict") operands _ lacks refl e)
+no_message_with version word operands lacks no_request no_grant no_revoke no_taken no_released no_conflict no_deny no_freed (Deny file call holder number lock) served e = no_deny (first-word word (codes "deny") operands _ lacks refl e)
+no_message_with version word operands lacks no_request no_grant no_revoke no_taken no_released no_conflict no_deny no_freed (Freed file holder) served e = no_freed (first-word word (codes "freed") operands _ lacks refl e)

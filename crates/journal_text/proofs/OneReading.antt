@@ -1,5 +1,5 @@
 -- A text is one journal, or has one first bad line.
-use Rattle.std.proofs.Common.{◌≡◌, ℕ, ◌+◌, List, [], ◌∷◌, ◌++◌, length, map, Option, Some, None, inl, inr, refl, sym, ap, subst, ◌∙◌, arith, append_assoc, length-append, codes}
+use Rattle.std.proofs.Common.{◌≡◌, ℕ, ◌+◌, List, [], ◌∷◌, ◌++◌, length, map, Option, Some, None, inl, inr, refl, sym, ap, subst, ◌∙◌, arith, append_assoc, length-append}
 use Rattle.std.specs.Prelude.{◌⊎◌}
 use Rattle.std.specs.List.{All, flat_map}
 use Rattle.std.proofs.lemmas.List.{append-nil}
@@ -9,11 +9,8 @@ use Rattle.messages.specs.Entries.{EntryFields}
 use Rattle.messages.specs.Shapes.{IsShape, ShapeFields}
 use Rattle.messages.specs.declared.message.Message.{Message}
 use Rattle.texts.specs.LineFeeds.{line_feed, BeginsWithLine}
-use Rattle.lockscript.specs.Scripts.{counts_text}
-use Rattle.lockscript.proofs.Clusters.{apart-shape}
 use Rattle.lockscript.proofs.Feeds.{line_feeds-line}
 use Rattle.lockscript.proofs.OneReading.{Further, begins-front, ends, further, line-same}
-use Rattle.texts.proofs.Pairs.{AreApart, cancel-front}
 use Rattle.lockscript.proofs.Passes.{IsSingle, ended}
 use Rattle.journal_text.specs.declared.lines.JournalLine.{JournalLine}
 use Rattle.journal_text.specs.declared.lines.JournalLine.TheVariants.{End, Send}
@@ -25,7 +22,8 @@ use Rattle.journal_text.specs.Lines.{line_text}
 use Rattle.journal_text.specs.OneText.{HasOneReading, IsServedJournal}
 use Rattle.journal_text.specs.Readings.{BeginsJournal, IsBad, IsFirstBad, IsJournalText, Writes, WritesJournal, answer_lines, body_lines, entry_in, entry_lines, lines_of}
 use Rattle.journal_text.specs.Readings.IsBad.{has_no_line, stands_wrong}
-use Rattle.journal_text.proofs.Begun.{heads, lines-same, tails}
+use Rattle.journal_text.proofs.Begun.{heads, lines-same, one-version}
+use Rattle.journal_text.proofs.HeadKinds.{apart-head}
 use Rattle.journal_text.proofs.Printed.{journal-printed, read-printed}
 use Rattle.journal_text.proofs.Steps.{named}
 
@@ -114,17 +112,12 @@ entries-same es fs e =
     let both = sym (collected-entries 1 es (length es) [] None) ∙ ap (collected (fields [] None)) e ∙ collected-entries 1 fs (length fs) [] None in
     ap (λ (b : BuilderFields). b.entries) both
 
-apart-head : AreApart head_text IsShape
-apart-head s t s_in t_in e =
-    let counts = cancel-front (codes "journal 1 nodes ") (counts_text s) (counts_text t) e in
-    apart-shape s t s_in t_in (ap (λ (c : List ℕ). codes "cluster nodes " ++ c) counts)
-
 written-same : (lines : List (List ℕ)) (s t : ShapeFields) (es fs : List NamedEntry) → Writes lines s es → Writes lines t fs → (s ≡ t) × (map entry_in es ≡ map entry_in fs)
 written-same lines s t es fs a b =
     let both = sym a.texts ∙ b.texts in
-    let first = heads (head_text s) (head_text t) (map line_text (body_lines es)) (map line_text (body_lines fs)) both in
-    let rest = tails (head_text s) (head_text t) (map line_text (body_lines es)) (map line_text (body_lines fs)) both in
-    (apart-head s t a.shape_in b.shape_in first, entries-same es fs (lines-same (body_lines es) (body_lines fs) a.lines_in b.lines_in rest))
+    let first = heads (head_text s) (head_text t) (map (line_text s.version) (body_lines es)) (map (line_text t.version) (body_lines fs)) both in
+    let rest = one-version s t (map (line_text s.version) (body_lines es)) (body_lines fs) a.shape_in b.shape_in both in
+    (apart-head s t a.shape_in b.shape_in first, entries-same es fs (lines-same s.version (body_lines es) (body_lines fs) a.lines_in b.lines_in rest))
 
 journal-once : (text : List ℕ) (s t : ShapeFields) (es fs : List NamedEntry) (a : IsJournalText text s es) (b : IsJournalText text t fs) → Further a.lines b.lines [] [] → (s ≡ t) × (map entry_in es ≡ map entry_in fs)
 journal-once text s t es fs a b f =

@@ -33,9 +33,9 @@ standing-first text from s rest taken p b same begins shape_in one first empty =
 
 -- behind one line more
 pub standing-line : (text : List ℕ) (s : ShapeFields) (rest : List ℕ) (taken : ℕ) (p : Place) (b : BuilderFields) (j : JournalLine) (q : Place) (after : List ℕ) (passed : ℕ) (c : BuilderFields)
-    → Standing text s rest taken p b → StandsNext p rest j q after → passed ≡ taken + 1 → c ≡ built b j → Standing text s after passed q c
+    → Standing text s rest taken p b → StandsNext s.version p rest j q after → passed ≡ taken + 1 → c ≡ built b j → Standing text s after passed q c
 standing-line text s rest taken p b j q after passed c a stands counted same =
-    let here = subst (λ (x : Place). StandsNext x rest j q after) (sym a.here) stands in
+    let here = subst (λ (x : Place). StandsNext s.version x rest j q after) (sym a.here) stands in
     let f = further a.reading j q here.next in
     record {
       reading = f.reading;
@@ -45,11 +45,11 @@ standing-line text s rest taken p b j q after passed c a stands counted same =
     }
 
 pub standing-passed : (text : List ℕ) (s : ShapeFields) (rest : List ℕ) (taken : ℕ) (p : Place) (b : BuilderFields) (j : JournalLine) (q : Place) (after : List ℕ) (passed : ℕ)
-    → Standing text s rest taken p b → StandsNext p rest j q after → passed ≡ taken + 1 → (c : BuilderFields) × Standing text s after passed q c
+    → Standing text s rest taken p b → StandsNext s.version p rest j q after → passed ≡ taken + 1 → (c : BuilderFields) × Standing text s after passed q c
 standing-passed text s rest taken p b j q after passed a stands counted = (built b j, standing-line text s rest taken p b j q after passed (built b j) a stands counted refl)
 
-pub standing-stuck : (text : List ℕ) (s : ShapeFields) (rest : List ℕ) (taken : ℕ) (p : Place) (b : BuilderFields) → Standing text s rest taken p b → IsStuck p rest → IsFirstBad text (taken + 1)
-standing-stuck text s rest taken p b a stuck = stuck-begun text s a.reading rest taken a.begun (subst (λ (x : Place). IsStuck x rest) (sym a.here) stuck)
+pub standing-stuck : (text : List ℕ) (s : ShapeFields) (rest : List ℕ) (taken : ℕ) (p : Place) (b : BuilderFields) → Standing text s rest taken p b → IsStuck s.version p rest → IsFirstBad text (taken + 1)
+standing-stuck text s rest taken p b a stuck = stuck-begun text s a.reading rest taken a.begun (subst (λ (x : Place). IsStuck s.version x rest) (sym a.here) stuck)
 
 built-whole : (r : Reading) → (place_of r).phase ≡ Ended → (built_of r).entries ≡ map entry_in (entries r)
 built-whole nothing e = refl

@@ -1,5 +1,6 @@
 -- What the next line of a journal is, or why it may not stand there.
 use Rattle.std.proofs.Common.{◌≡◌, List, ℕ, Option, Some, None, Result, Err, ok_or, sym, subst, ◌∙◌}
+use Rattle.messages.specs.declared.version.Version.{Version}
 use Rattle.texts.specs.LineFeeds.{BeginsWithLine}
 use Rattle.texts.specs.Reads.{Reads}
 use Rattle.journal_text.specs.declared.error.JournalError.{JournalError}
@@ -10,17 +11,17 @@ use Rattle.journal_text.specs.Places.{IsMisplaced, StandsNext, next_place}
 use Rattle.journal_text.proofs.LineKinds.{apart-line}
 
 -- no line
-pub misplaced-none : (p : Place) (bytes : List ℕ) → Reads line_text IsServedLine bytes None → IsMisplaced p bytes
-misplaced-none p bytes none j served e = absurd (none j served e)
+pub misplaced-none : (version : Version) (p : Place) (bytes : List ℕ) → Reads (line_text version) IsServedLine bytes None → IsMisplaced version p bytes
+misplaced-none version p bytes none j served e = absurd (none j served e)
 
 -- a line that may not stand here
-pub misplaced-line : (p : Place) (bytes : List ℕ) (j : JournalLine) → IsServedLine j → bytes ≡ line_text j → next_place p.count p.phase j ≡ None → IsMisplaced p bytes
-misplaced-line p bytes j j_in text none k k_in e =
-    subst (λ (x : JournalLine). next_place p.count p.phase x ≡ None) (apart-line j k j_in k_in (sym text ∙ e)) none
+pub misplaced-line : (version : Version) (p : Place) (bytes : List ℕ) (j : JournalLine) → IsServedLine j → bytes ≡ line_text version j → next_place p.count p.phase j ≡ None → IsMisplaced version p bytes
+misplaced-line version p bytes j j_in text none k k_in e =
+    subst (λ (x : JournalLine). next_place p.count p.phase x ≡ None) (apart-line version j k j_in k_in (sym text ∙ e)) none
 
 -- a line that may
-pub stands-next : (p : Place) (rest bytes after : List ℕ) (j : JournalLine) (q : Place) → BeginsWithLine rest bytes after → IsServedLine j → bytes ≡ line_text j → next_place p.count p.phase j ≡ Some q → StandsNext p rest j q after
-stands-next p rest bytes after j q begins j_in text next = record {
+pub stands-next : (version : Version) (p : Place) (rest bytes after : List ℕ) (j : JournalLine) (q : Place) → BeginsWithLine rest bytes after → IsServedLine j → bytes ≡ line_text version j → next_place p.count p.phase j ≡ Some q → StandsNext version p rest j q after
+stands-next version p rest bytes after j q begins j_in text next = record {
   begins = subst (λ (x : List ℕ). BeginsWithLine rest x after) text begins;
   served = j_in;
   next = next;

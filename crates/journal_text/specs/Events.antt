@@ -2,6 +2,7 @@
 use Rattle.std.specs.Prelude.{ℕ, List, Option, Some, None}
 use Rattle.model.specs.declared.call.CallId.{CallId}
 use Rattle.model.specs.Limits.{IsCall, IsNumber, most_processes}
+use Rattle.messages.specs.declared.version.Version.{Version}
 use Rattle.messages.specs.declared.event.Event.{Event}
 use Rattle.messages.specs.declared.event.Event.TheVariants as event
 use Rattle.lockscript.specs.Served.{IsServedOp}
@@ -33,8 +34,8 @@ abbrev pub call_of : NamedEvent → Option CallId
 call_of (Call call pid op) = Some call
 call_of _ = None
 
-abbrev pub named_text : NamedEvent → List ℕ
-named_text e = event_text (event_of e) (incarnation_of e) (call_of e)
+abbrev pub named_text : Version → NamedEvent → List ℕ
+named_text version e = event_text version (event_of e) (incarnation_of e) (call_of e)
 
 -- numbers within their limits
 abbrev pub IsServedEvent : NamedEvent → Type 0

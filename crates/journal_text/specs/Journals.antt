@@ -5,6 +5,8 @@ use Rattle.model.specs.declared.reply.Reply.{Reply}
 use Rattle.messages.specs.declared.message.Message.{Message}
 use Rattle.messages.specs.Entries.{EntryFields}
 use Rattle.messages.specs.Shapes.{ShapeFields}
+use Rattle.messages.specs.declared.version.Version.{Version}
+use Rattle.messages.specs.declared.version.Version.TheVariants.{First, Second}
 use Rattle.lockscript.specs.Scripts.{counts_text}
 use Rattle.lockscript.specs.Texts.{call_text, reply_text}
 use Rattle.journal_text.specs.Texts.{event_text, message_text}
@@ -14,28 +16,34 @@ abbrev pub reply_line : Option (CallId × Reply) → List ℕ
 reply_line None = []
 reply_line (Some answer) = codes "reply " ++ call_text answer.0 ++ codes " " ++ reply_text answer.1 ++ codes "\n"
 
-abbrev pub send_line : Message → List ℕ
-send_line message = codes "send " ++ message_text message ++ codes "\n"
+abbrev pub send_line : Version → Message → List ℕ
+send_line version message = codes "send " ++ message_text version message ++ codes "\n"
 
 -- an entry at this position: its event, its answer, and what it sends
-abbrev pub entry_text : ℕ → EntryFields → List ℕ
-entry_text position e =
-    codes "entry " ++ decimal position ++ codes " " ++ event_text e.event e.incarnation e.call ++ codes "\n"
+abbrev pub entry_text : Version → ℕ → EntryFields → List ℕ
+entry_text version position e =
+    codes "entry " ++ decimal position ++ codes " " ++ event_text version e.event e.incarnation e.call ++ codes "\n"
     ++ reply_line e.reply
-    ++ flat_map send_line e.sends
+    ++ flat_map (send_line version) e.sends
 
 -- the entries, the first at this position
-abbrev pub entries_text : ℕ → List EntryFields → List ℕ
-entries_text position [] = []
-entries_text position (e ∷ es) = entry_text position e ++ entries_text (position + 1) es
+abbrev pub entries_text : Version → ℕ → List EntryFields → List ℕ
+entries_text version position [] = []
+entries_text version position (e ∷ es) = entry_text version position e ++ entries_text version (position + 1) es
+
+-- what the first line begins with
+abbrev pub head_front : Version → List ℕ
+head_front First = codes "journal 1 nodes "
+head_front Second = codes "journal 2 nodes "
 
 -- the first line
 abbrev pub head_text : ShapeFields → List ℕ
-head_text s = codes "journal 1 nodes " ++ counts_text s
+head_text s = head_front s.version ++ counts_text s
 
 -- the last line, of so many entries
 abbrev pub end_text : ℕ → List ℕ
 end_text count = codes "end " ++ decimal count
 
+-- a journal as text, in the version of its shape
 abbrev pub journal_text : ShapeFields → List EntryFields → List ℕ
-journal_text s entries = head_text s ++ codes "\n" ++ entries_text 1 entries ++ end_text (length entries) ++ codes "\n"
+journal_text s entries = head_text s ++ codes "\n" ++ entries_text s.version 1 entries ++ end_text (length entries) ++ codes "\n"

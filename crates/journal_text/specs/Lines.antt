@@ -1,6 +1,7 @@
 -- Lines of journals behind the first.
 use Rattle.std.specs.Prelude.{ℕ, ◌≤◌, List, ◌++◌, codes, decimal}
 use Rattle.model.specs.Limits.{IsCall, IsNumber}
+use Rattle.messages.specs.declared.version.Version.{Version}
 use Rattle.texts.specs.Reads.{pair_text}
 use Rattle.lockscript.specs.Texts.{call_text, reply_text}
 use Rattle.journal_text.specs.declared.lines.JournalLine.{JournalLine}
@@ -17,11 +18,11 @@ IsPosition = IsNumber 4294967295
 abbrev pub IsCount : ℕ → Type 0
 IsCount count = count ≤ 4294967295
 
-abbrev pub line_text : JournalLine → List ℕ
-line_text (Entry position event) = codes "entry " ++ pair_text decimal named_text (position, event)
-line_text (Answer call reply) = codes "reply " ++ pair_text call_text reply_text (call, reply)
-line_text (Send message) = codes "send " ++ message_text message
-line_text (End count) = codes "end " ++ decimal count
+abbrev pub line_text : Version → JournalLine → List ℕ
+line_text version (Entry position event) = codes "entry " ++ pair_text decimal (named_text version) (position, event)
+line_text version (Answer call reply) = codes "reply " ++ pair_text call_text reply_text (call, reply)
+line_text version (Send message) = codes "send " ++ message_text version message
+line_text version (End count) = codes "end " ++ decimal count
 
 -- its numbers are within their limits
 abbrev pub IsServedLine : JournalLine → Type 0

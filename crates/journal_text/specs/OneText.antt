@@ -3,6 +3,7 @@ use Rattle.std.specs.Prelude.{◌≡◌, ℕ, List, All, map}
 use Rattle.lockscript.specs.Texts.{reply_text}
 use Rattle.messages.specs.Entries.{EntryFields}
 use Rattle.messages.specs.Shapes.{IsShape, ShapeFields}
+use Rattle.messages.specs.declared.version.Version.{Version}
 use Rattle.journal_text.specs.declared.named_entry.NamedEntry.{NamedEntry}
 use Rattle.journal_text.specs.Events.{IsServedEvent, named_text}
 use Rattle.journal_text.specs.Journals.{journal_text}
@@ -22,12 +23,12 @@ pub record IsServedJournal (s : ShapeFields) (es : List EntryFields) : Type 0 wh
   pub shape_in : IsShape s
   pub lines_in : All IsServedLine (body_lines named)
 
--- the texts of journals, and of what stands in them
+-- the texts of journals of each version, and of what stands in them
 pub record EachTextHasOneValue : Type 0 where
-  pub messages : HasOneValue message_text IsServedMessage
-  pub events : HasOneValue named_text IsServedEvent
+  pub messages : (version : Version) → HasOneValue (message_text version) IsServedMessage
+  pub events : (version : Version) → HasOneValue (named_text version) IsServedEvent
   pub replies : HasOneValue reply_text IsServedReply
-  pub lines : HasOneValue line_text IsServedLine
+  pub lines : (version : Version) → HasOneValue (line_text version) IsServedLine
   pub journals : (s t : ShapeFields) (es fs : List EntryFields) → IsServedJournal s es → IsServedJournal t fs → journal_text s es ≡ journal_text t fs → (s ≡ t) × (es ≡ fs)
 
 -- what is printed of a journal within the limits is read as that journal

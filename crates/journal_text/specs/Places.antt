@@ -1,5 +1,6 @@
 -- Where a line of a journal may stand.
 use Rattle.std.specs.Prelude.{◌≡◌, ℕ, ◌+◌, ◌==◌, if◌then◌else◌, List, [], Option, Some, None}
+use Rattle.messages.specs.declared.version.Version.{Version}
 use Rattle.texts.specs.LineFeeds.{line_feeds, BeginsWithLine}
 use Rattle.journal_text.specs.declared.lines.JournalLine.{JournalLine}
 use Rattle.journal_text.specs.declared.lines.JournalLine.TheVariants.{Entry, Answer, Send, End}
@@ -44,16 +45,16 @@ next_place count phase (Send message) = after_send count phase
 next_place count phase (End told) = after_end count phase told
 
 -- the bytes write no line that may stand here
-abbrev pub IsMisplaced : Place → List ℕ → Type 0
-IsMisplaced p bytes = (j : JournalLine) → IsServedLine j → bytes ≡ line_text j → next_place p.count p.phase j ≡ None
+abbrev pub IsMisplaced : Version → Place → List ℕ → Type 0
+IsMisplaced version p bytes = (j : JournalLine) → IsServedLine j → bytes ≡ line_text version j → next_place p.count p.phase j ≡ None
 
 -- no line comes next here, and the last one is missing where nothing is left, or the line that comes next may not stand here
-pub data IsStuck (p : Place) (rest : List ℕ) : Type 0 where
-  no_line : line_feeds rest ≡ 0 → (rest ≡ [] → p.phase ≡ Ended → ⊥) → IsStuck p rest
-  misplaced : (line after : List ℕ) → BeginsWithLine rest line after → IsMisplaced p line → IsStuck p rest
+pub data IsStuck (version : Version) (p : Place) (rest : List ℕ) : Type 0 where
+  no_line : line_feeds rest ≡ 0 → (rest ≡ [] → p.phase ≡ Ended → ⊥) → IsStuck version p rest
+  misplaced : (line after : List ℕ) → BeginsWithLine rest line after → IsMisplaced version p line → IsStuck version p rest
 
 -- the rest begins with this line, which may stand here
-pub record StandsNext (p : Place) (rest : List ℕ) (j : JournalLine) (q : Place) (after : List ℕ) : Type 0 where
-  pub begins : BeginsWithLine rest (line_text j) after
+pub record StandsNext (version : Version) (p : Place) (rest : List ℕ) (j : JournalLine) (q : Place) (after : List ℕ) : Type 0 where
+  pub begins : BeginsWithLine rest (line_text version j) after
   pub served : IsServedLine j
   pub next : next_place p.count p.phase j ≡ Some q

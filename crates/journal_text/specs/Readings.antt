@@ -4,6 +4,7 @@ use Rattle.model.specs.declared.call.CallId.{CallId}
 use Rattle.model.specs.declared.reply.Reply.{Reply}
 use Rattle.messages.specs.Entries.{EntryFields}
 use Rattle.messages.specs.Shapes.{IsShape, ShapeFields}
+use Rattle.messages.specs.declared.version.Version.TheVariants.{First}
 use Rattle.texts.specs.LineFeeds.{line_feed, line_feeds, BeginsWithLine}
 use Rattle.journal_text.specs.declared.error.JournalError.{JournalError}
 use Rattle.journal_text.specs.declared.error.JournalError.TheVariants.{NoMemory, BadLine}
@@ -37,7 +38,7 @@ body_lines es = lines_of 1 es ++ End (length es) ∷ []
 
 -- the lines, without their line feeds, are a journal of these entries
 pub record Writes (lines : List (List ℕ)) (s : ShapeFields) (es : List NamedEntry) : Type 0 where
-  pub texts : lines ≡ head_text s ∷ map line_text (body_lines es)
+  pub texts : lines ≡ head_text s ∷ map (line_text s.version) (body_lines es)
   pub shape_in : IsShape s
   pub lines_in : All IsServedLine (body_lines es)
 
@@ -61,6 +62,14 @@ pub record WritesJournal (text : List ℕ) (s : ShapeFields) (entries : List Ent
 -- the text writes a journal of so many entries
 abbrev pub HasLength : List ℕ → ShapeFields → ℕ → Type 0
 HasLength text s count = (entries : List EntryFields) × WritesJournal text s entries × (count ≡ length entries)
+
+-- the first line of the text is that of a journal of version 1
+pub record IsOld (text : List ℕ) : Type 0 where
+  pub shape : ShapeFields
+  pub rest : List ℕ
+  pub begins : BeginsWithLine text (head_text shape) rest
+  pub shape_in : IsShape shape
+  pub is_first : shape.version ≡ First
 
 -- the text writes some journal
 abbrev pub HasJournal : List ℕ → Type 0

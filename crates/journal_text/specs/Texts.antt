@@ -10,7 +10,9 @@ use Rattle.messages.specs.declared.message.Message.{Message}
 use Rattle.messages.specs.declared.message.Message.TheVariants.{Request, Grant, Revoke, Taken, Released, Conflict, Deny, Freed}
 use Rattle.messages.specs.declared.message.Urgency.{Urgency}
 use Rattle.messages.specs.declared.message.Urgency.TheVariants.{Now, Waits}
-use Rattle.texts.specs.Reads.{pair_text}
+use Rattle.messages.specs.declared.version.Version.{Version}
+use Rattle.messages.specs.declared.version.Version.TheVariants.{First, Second}
+use Rattle.texts.specs.Reads.{after_text, pair_text}
 use Rattle.lockscript.specs.Texts.{call_text, host_text, lock_text, op_text}
 use Rattle.texts.specs.Words.{mode_text}
 
@@ -29,32 +31,41 @@ span_text s = pair_text decimal decimal (s.lo, s.hi)
 abbrev pub wants_text : Wants → List ℕ
 wants_text w = pair_text span_text span_text (w.required, w.desired)
 
-abbrev pub message_text : Message → List ℕ
-message_text (Request file call urgency mode wanted) =
+-- what stands before the number of a command: in version 2 the epoch of the server, which is 1
+abbrev pub epoch_text : Version → List ℕ
+epoch_text First = []
+epoch_text Second = codes "1 "
+
+-- the number of a command, with the epoch where the version has one, and what follows
+abbrev pub command_text : {A : Type 0} → Version → (A → List ℕ) → ℕ × A → List ℕ
+command_text version text = after_text (epoch_text version) (pair_text decimal text)
+
+abbrev pub message_text : Version → Message → List ℕ
+message_text version (Request file call urgency mode wanted) =
     codes "request " ++ pair_text decimal (pair_text call_text (pair_text urgency_text (pair_text mode_text wants_text))) (file, (call, (urgency, (mode, wanted))))
-message_text (Grant file number call mode span) =
-    codes "grant " ++ pair_text decimal (pair_text decimal (pair_text call_text (pair_text mode_text span_text))) (file, (number, (call, (mode, span))))
-message_text (Revoke file number holder call mode wanted) =
-    codes "revoke " ++ pair_text decimal (pair_text decimal (pair_text holder_text (pair_text call_text (pair_text mode_text wants_text)))) (file, (number, (holder, (call, (mode, wanted)))))
-message_text (Taken file number call) =
-    codes "taken " ++ pair_text decimal (pair_text decimal call_text) (file, (number, call))
-message_text (Released file number holder call span) =
-    codes "released " ++ pair_text decimal (pair_text decimal (pair_text holder_text (pair_text call_text span_text))) (file, (number, (holder, (call, span))))
-message_text (Conflict file number holder call lock) =
-    codes "conflict " ++ pair_text decimal (pair_text decimal (pair_text holder_text (pair_text call_text lock_text))) (file, (number, (holder, (call, lock))))
-message_text (Deny file call holder number lock) =
-    codes "deny " ++ pair_text decimal (pair_text call_text (pair_text holder_text (pair_text decimal lock_text))) (file, (call, (holder, (number, lock))))
-message_text (Freed file holder) =
+message_text version (Grant file number call mode span) =
+    codes "grant " ++ pair_text decimal (command_text version (pair_text call_text (pair_text mode_text span_text))) (file, (number, (call, (mode, span))))
+message_text version (Revoke file number holder call mode wanted) =
+    codes "revoke " ++ pair_text decimal (command_text version (pair_text holder_text (pair_text call_text (pair_text mode_text wants_text)))) (file, (number, (holder, (call, (mode, wanted)))))
+message_text version (Taken file number call) =
+    codes "taken " ++ pair_text decimal (command_text version call_text) (file, (number, call))
+message_text version (Released file number holder call span) =
+    codes "released " ++ pair_text decimal (command_text version (pair_text holder_text (pair_text call_text span_text))) (file, (number, (holder, (call, span))))
+message_text version (Conflict file number holder call lock) =
+    codes "conflict " ++ pair_text decimal (command_text version (pair_text holder_text (pair_text call_text lock_text))) (file, (number, (holder, (call, lock))))
+message_text version (Deny file call holder number lock) =
+    codes "deny " ++ pair_text decimal (pair_text call_text (pair_text holder_text (command_text version lock_text))) (file, (call, (holder, (number, lock))))
+message_text version (Freed file holder) =
     codes "freed " ++ pair_text decimal holder_text (file, holder)
 
 -- an event, with the incarnation and the call that its entry names; a call without its name, which no entry has, is written nowhere
-abbrev pub event_text : Event → ℕ → Option CallId → List ℕ
-event_text (Call node pid op) incarnation None = []
-event_text (Call node pid op) incarnation (Some call) = codes "call " ++ pair_text call_text (pair_text decimal op_text) (call, (pid, op))
-event_text (Deliver message) incarnation call = codes "deliver " ++ message_text message
-event_text (Interrupt node pid) incarnation call = codes "interrupt " ++ pair_text (host_text node) decimal (incarnation, pid)
-event_text (Retry node pid) incarnation call = codes "retry " ++ pair_text (host_text node) decimal (incarnation, pid)
-event_text (Resend file) incarnation call = codes "resend " ++ decimal file
-event_text (Declare node) incarnation call = codes "declare " ++ host_text node incarnation
-event_text (Restart node) incarnation call = codes "restart " ++ host_text node incarnation
-event_text (Learn file node known) incarnation call = codes "learn " ++ pair_text decimal (host_text node) (file, known)
+abbrev pub event_text : Version → Event → ℕ → Option CallId → List ℕ
+event_text version (Call node pid op) incarnation None = []
+event_text version (Call node pid op) incarnation (Some call) = codes "call " ++ pair_text call_text (pair_text decimal op_text) (call, (pid, op))
+event_text version (Deliver message) incarnation call = codes "deliver " ++ message_text version message
+event_text version (Interrupt node pid) incarnation call = codes "interrupt " ++ pair_text (host_text node) decimal (incarnation, pid)
+event_text version (Retry node pid) incarnation call = codes "retry " ++ pair_text (host_text node) decimal (incarnation, pid)
+event_text version (Resend file) incarnation call = codes "resend " ++ decimal file
+event_text version (Declare node) incarnation call = codes "declare " ++ host_text node incarnation
+event_text version (Restart node) incarnation call = codes "restart " ++ host_text node incarnation
+event_text version (Learn file node known) incarnation call = codes "learn " ++ pair_text decimal (host_text node) (file, known)

@@ -4,11 +4,13 @@ ghost use Rattle.std.proofs.Common.{arith};
 ghost use Rattle.messages.specs.declared.message.Urgency.TheVariants.{Now, Waits};
 ghost use Rattle.model.specs.Limits.{IsCall, IsOwner};
 ghost use Rattle.texts.specs.OneField.{decimal_is_one_field};
+ghost use Rattle.texts.specs.Reads.{Both};
 ghost use Rattle.lockscript.specs.Texts.{call_text, lock_text, owner_text, reply_text};
 ghost use Rattle.journal_text.specs.OneField.{call_is_one_field, holder_is_one_field};
 ghost use Rattle.journal_text.specs.Served.{AreServedWants, IsCommandNumber, IsFile, IsHolder, IsServedLock, IsServedReply, IsServedSpan};
-ghost use Rattle.journal_text.specs.Texts.{holder_text, span_text, urgency_text, wants_text};
+ghost use Rattle.journal_text.specs.Texts.{command_text, holder_text, span_text, urgency_text, wants_text};
 
+use crate::edition::Edition;
 use crate::parts::{Counted, call_of, host_of, owner_of};
 use crate::replies::reply_of;
 use crate::spans::{lock_of, span_of, wants_of};
@@ -26,7 +28,8 @@ use model::owner::Owner;
 use model::reply::Reply;
 use std::alloc::AllocError;
 use std::fmt::Write;
-use texts::text::{Text, Word};
+use std::marker::PhantomData;
+use texts::text::{Text, Word, after};
 
 /// The number of a file that messages name.
 pub(crate) struct FileName;
@@ -80,6 +83,32 @@ impl Text for CommandName {
 
 impl Word for CommandName {
     ghost is_one_field = { λ n served. decimal_is_one_field n (Prim.omega (arith, served.1)) };
+}
+
+/// `E K` in a version with epochs, else `K`, and what follows: the number of a command, with the epoch
+/// of the server that gave it.
+pub(crate) struct Numbered<V, B> {
+    of: PhantomData<(V, B)>,
+}
+
+impl<V: Edition, B: Text> Text for Numbered<V, B> {
+    type Value = (CommandNumber, B::Value);
+
+    ghost text_of = { command_text V.version B.text_of };
+
+    ghost is_served = { Both IsCommandNumber B.is_served };
+
+    fn read(text: &str) -> Option<(CommandNumber, B::Value)> {
+        match after(text, V::epoch()) {
+            Some(rest) => <(CommandName, B)>::read(rest),
+            None => None,
+        }
+    }
+
+    fn write(value: &(CommandNumber, B::Value), out: &mut String) -> Result<(), AllocError> {
+        out.push_str(V::epoch())?;
+        <(CommandName, B)>::write(value, out)
+    }
 }
 
 /// `N.I`.

@@ -1,19 +1,34 @@
 //! The first line of a journal.
+ghost use Rattle.std.specs.Prelude.{◌≡◌};
 ghost use Rattle.messages.specs.Shapes.{IsShape};
 ghost use Rattle.texts.specs.Reads.{Reads};
-ghost use Rattle.journal_text.specs.Journals.{head_text};
+ghost use Rattle.journal_text.specs.Journals.{head_front, head_text};
 
 use lockscript::cluster_line::shape_operands;
 use messages::shape::Shape;
+use messages::version::Version;
 use texts::text::after;
 
-/// The shape that `journal 1 nodes N files F policy P` names, if the line is that and such a cluster
-/// is served.
+/// What the first line of a journal of this version begins with.
+pub(crate) fn head_front(version: Version) -> &'static str
+    ensures { result.now ≡ head_front version }
+{
+    match version {
+        Version::First => "journal 1 nodes ",
+        Version::Second => "journal 2 nodes ",
+    }
+}
+
+/// The shape that `journal V nodes N files F policy P` names, if the line is that, V is 1 or 2, and such
+/// a cluster is served. Its version is V.
 pub fn head_of(line: &str) -> Option<Shape>
     ensures { Reads head_text IsShape line.now result }
 {
-    match after(line, "journal 1 nodes ") {
-        Some(operands) => shape_operands(operands),
+    if let Some(operands) = after(line, head_front(Version::First)) {
+        return shape_operands(Version::First, operands);
+    }
+    match after(line, head_front(Version::Second)) {
+        Some(operands) => shape_operands(Version::Second, operands),
         None => None,
     }
 }

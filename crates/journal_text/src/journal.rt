@@ -1,8 +1,8 @@
 //! Journals.
 ghost use Rattle.std.specs.Prelude.{◌≡◌, ◌++◌, codes, flat_map, reverse as reversed, string_bytes, IfOk, OnOk};
-ghost use Rattle.texts.specs.Words.{policy_text};
 ghost use Rattle.journal_text.specs.Journals.{end_text, entries_text, entry_text, head_text, journal_text, reply_line, send_line};
 
+use crate::head::head_front;
 use crate::writing::{push_event, push_message};
 use cluster_core::journal::Journal;
 use intervals::span_map::NoMemory;
@@ -10,16 +10,17 @@ use lockscript::names::{push_call, push_reply};
 use messages::entry::Entry;
 use messages::message::Message;
 use messages::shape::Shape;
+use messages::version::Version;
 use model::call::CallId;
-use model::policy::Policy;
 use model::reply::Reply;
 use std::alloc::{AllocError, Global};
 use std::fmt::Write;
+use texts::words::policy_word;
 
 // After each so many entries that were written, their memory is given back.
 const ENTRIES_AT_ONCE: usize = 16_384;
 
-/// The journal of a cluster of this shape as text: a first line with the shape, the lines of each
+/// The journal of a cluster of this shape as text, in the version of the shape: a first line with the shape, the lines of each
 /// entry, the first at position 1, and a last line with how many entries there are.
 ///
 /// # Errors
@@ -29,7 +30,7 @@ pub fn print(alloc: Global, shape: &Shape, entries: &[Entry]) -> Result<String, 
 {
     let mut out = String::new(alloc);
     push_head(&mut out, shape)?;
-    push_entries(&mut out, entries)?;
+    push_entries(&mut out, shape.version(), entries)?;
     let count = entries.len();
     writeln!(out, "end {count}")?;
     Ok(out)
@@ -49,18 +50,9 @@ pub fn into_text(alloc: Global, journal: Journal) -> Result<String, NoMemory>
     entries.reverse();
     let mut out = String::new(alloc);
     push_head(&mut out, &shape)?;
-    push_from_last(&mut out, entries)?;
+    push_from_last(&mut out, shape.version(), entries)?;
     writeln!(out, "end {count}")?;
     Ok(out)
-}
-
-fn policy_word(policy: Policy) -> &'static str
-    ensures { result.now ≡ policy_text policy }
-{
-    match policy {
-        Policy::Wide => "wide",
-        Policy::Exact => "exact",
-    }
 }
 
 /// Writes the first line of a journal.
@@ -73,30 +65,36 @@ pub fn push_head(out: &mut String, shape: &Shape) -> Result<(), AllocError>
     let nodes = shape.nodes();
     let files = shape.files();
     let policy = policy_word(shape.policy());
-    writeln!(out, "journal 1 nodes {nodes} files {files} policy {policy}")
+    out.push_str(head_front(shape.version()))?;
+    writeln!(out, "{nodes} files {files} policy {policy}")
 }
 
-// Writes the lines of entries, the first of them at position 1.
-fn push_entries(out: &mut String, entries: &[Entry]) -> Result<(), AllocError>
-    ensures { OnOk result (string_bytes out.new ≡ string_bytes out.old ++ entries_text 1 entries.now) }
+// Writes the lines of entries as this version has them, the first of them at position 1.
+fn push_entries(out: &mut String, version: Version, entries: &[Entry]) -> Result<(), AllocError>
+    ensures { OnOk result (string_bytes out.new ≡ string_bytes out.old ++ entries_text version 1 entries.now) }
 {
     let mut position = 0u64;
     for entry in entries {
         position += 1;
-        push_entry(out, position, entry)?;
+        push_entry(out, version, position, entry)?;
     }
     Ok(())
 }
 
-// Writes the lines of entries, the last of them first, at position 1. Each goes once it is written.
-fn push_from_last(out: &mut String, mut entries: Vec<Entry>) -> Result<(), AllocError>
-    ensures { OnOk result (string_bytes out.new ≡ string_bytes out.old ++ entries_text 1 (reversed entries.items)) }
+// Writes the lines of entries as this version has them, the last of them first, at position 1. Each goes
+// once it is written.
+fn push_from_last(
+    out: &mut String,
+    version: Version,
+    mut entries: Vec<Entry>,
+) -> Result<(), AllocError>
+    ensures { OnOk result (string_bytes out.new ≡ string_bytes out.old ++ entries_text version 1 (reversed entries.items)) }
 {
     for written in 0..entries.len() {
         let Some(entry) = entries.pop() else {
             unreachable!()
         };
-        push_entry(out, written as u64 + 1, &entry)?;
+        push_entry(out, version, written as u64 + 1, &entry)?;
         if entries.len() % ENTRIES_AT_ONCE == 0 {
             entries.shrink_to_fit();
         }
@@ -104,18 +102,29 @@ fn push_from_last(out: &mut String, mut entries: Vec<Entry>) -> Result<(), Alloc
     Ok(())
 }
 
-/// Writes the lines of an entry at this position.
+/// Writes the lines of an entry at this position, as journals of this version have them.
 ///
 /// # Errors
 /// `AllocError` where a request for memory was refused.
-pub fn push_entry(out: &mut String, position: u64, entry: &Entry) -> Result<(), AllocError>
-    ensures { OnOk result (string_bytes out.new ≡ string_bytes out.old ++ entry_text position entry.now) }
+pub fn push_entry(
+    out: &mut String,
+    version: Version,
+    position: u64,
+    entry: &Entry,
+) -> Result<(), AllocError>
+    ensures { OnOk result (string_bytes out.new ≡ string_bytes out.old ++ entry_text version position entry.now) }
 {
     write!(out, "entry {position} ")?;
-    push_event(out, &entry.event(), entry.incarnation(), &entry.call())?;
+    push_event(
+        out,
+        version,
+        &entry.event(),
+        entry.incarnation(),
+        &entry.call(),
+    )?;
     out.push_str("\n")?;
     push_answer(out, &entry.reply())?;
-    push_sends(out, entry.sends())
+    push_sends(out, version, entry.sends())
 }
 
 // Writes the line of an answer, or nothing where there is none.
@@ -133,19 +142,19 @@ fn push_answer(out: &mut String, answer: &Option<(CallId, Reply)>) -> Result<(),
 }
 
 // Writes the lines of messages that are sent.
-fn push_sends(out: &mut String, sends: &[Message]) -> Result<(), AllocError>
-    ensures { OnOk result (string_bytes out.new ≡ string_bytes out.old ++ flat_map send_line sends.now) }
+fn push_sends(out: &mut String, version: Version, sends: &[Message]) -> Result<(), AllocError>
+    ensures { OnOk result (string_bytes out.new ≡ string_bytes out.old ++ flat_map (send_line version) sends.now) }
 {
     for message in sends {
-        push_send(out, message)?;
+        push_send(out, version, message)?;
     }
     Ok(())
 }
 
-fn push_send(out: &mut String, message: &Message) -> Result<(), AllocError>
-    ensures { OnOk result (string_bytes out.new ≡ string_bytes out.old ++ send_line message.now) }
+fn push_send(out: &mut String, version: Version, message: &Message) -> Result<(), AllocError>
+    ensures { OnOk result (string_bytes out.new ≡ string_bytes out.old ++ send_line version message.now) }
 {
     out.push_str("send ")?;
-    push_message(out, message)?;
+    push_message(out, version, message)?;
     out.push_str("\n")
 }

@@ -2,6 +2,7 @@
 #![tactic(auto)]
 
 mod builder;
+mod edition;
 pub mod error;
 pub mod events;
 mod fields;

@@ -4,12 +4,14 @@ ghost use Rattle.texts.specs.Layout.{space};
 ghost use Rattle.texts.specs.Reads.{Lacks, Reads};
 ghost use Rattle.journal_text.specs.Lines.{IsServedLine, line_text};
 
-use crate::events::event_of;
-use crate::message::message_of;
+use crate::edition::{Edition, FirstEdition, SecondEdition};
+use crate::events::event_in;
+use crate::message::message_in;
 use crate::named_event::NamedEvent;
 use crate::operands::AnswerFields;
 use crate::parts::Counted;
 use messages::message::Message;
+use messages::version::Version;
 use model::call::CallId;
 use model::reply::Reply;
 use texts::text::{Text, split_field};
@@ -27,69 +29,79 @@ pub enum JournalLine {
     End { count: u32 },
 }
 
-/// What a line behind the first says.
-pub fn line_of(line: &str) -> Option<JournalLine>
-    ensures { Reads line_text IsServedLine line.now result }
+/// What a line behind the first says in a journal of this version.
+pub fn line_of(version: Version, line: &str) -> Option<JournalLine>
+    ensures { Reads (line_text version) IsServedLine line.now result }
+{
+    match version {
+        Version::First => line_in::<FirstEdition>(line),
+        Version::Second => line_in::<SecondEdition>(line),
+    }
+}
+
+// What a line behind the first says in a journal of the version.
+fn line_in<V: Edition>(line: &str) -> Option<JournalLine>
+    ensures { Reads (line_text V.version) IsServedLine line.now result }
 {
     match split_field(line) {
-        Some((word, operands)) => line_with(word, operands),
+        Some((word, operands)) => line_with::<V>(word, operands),
         None => None,
     }
 }
 
 // The line of this word, with these operands.
-fn line_with(word: &str, operands: &str) -> Option<JournalLine>
+fn line_with<V: Edition>(word: &str, operands: &str) -> Option<JournalLine>
     requires { Lacks space word.now }
-    ensures { Reads line_text IsServedLine (word.now ++ space ∷ operands.now) result }
+    ensures { Reads (line_text V.version) IsServedLine (word.now ++ space ∷ operands.now) result }
 {
     match word {
-        "entry" => entry_line(operands),
-        "reply" => reply_line(operands),
-        "send" => send_line(operands),
-        "end" => end_line(operands),
+        "entry" => entry_line::<V>(operands),
+        "reply" => reply_line::<V>(operands),
+        "send" => send_line::<V>(operands),
+        "end" => end_line::<V>(operands),
         _ => None,
     }
 }
 
 // `entry` with these operands.
-fn entry_line(operands: &str) -> Option<JournalLine>
-    ensures { Reads line_text IsServedLine (codes "entry " ++ operands.now) result }
+fn entry_line<V: Edition>(operands: &str) -> Option<JournalLine>
+    ensures { Reads (line_text V.version) IsServedLine (codes "entry " ++ operands.now) result }
 {
     match split_field(operands) {
-        Some((position, event)) => entry_of(position, event),
+        Some((position, event)) => entry_of::<V>(position, event),
         None => None,
     }
 }
 
 // `entry POS EVENT`.
-fn entry_of(word: &str, rest: &str) -> Option<JournalLine>
+fn entry_of<V: Edition>(word: &str, rest: &str) -> Option<JournalLine>
     requires { Lacks space word.now }
-    ensures { Reads line_text IsServedLine (codes "entry " ++ (word.now ++ space ∷ rest.now)) result }
+    ensures { Reads (line_text V.version) IsServedLine (codes "entry " ++ (word.now ++ space ∷ rest.now)) result }
 {
     let position = Counted::read(word)?;
-    let event = event_of(rest)?;
+    let event = event_in::<V>(rest)?;
     Some(JournalLine::Entry { position, event })
 }
 
 // `reply` with these operands.
-fn reply_line(operands: &str) -> Option<JournalLine>
-    ensures { Reads line_text IsServedLine (codes "reply " ++ operands.now) result }
+fn reply_line<V: Edition>(operands: &str) -> Option<JournalLine>
+    ensures { Reads (line_text V.version) IsServedLine (codes "reply " ++ operands.now) result }
 {
     let (call, reply) = AnswerFields::read(operands)?;
     Some(JournalLine::Answer { call, reply })
 }
 
 // `send` with these operands.
-fn send_line(operands: &str) -> Option<JournalLine>
-    ensures { Reads line_text IsServedLine (codes "send " ++ operands.now) result }
+fn send_line<V: Edition>(operands: &str) -> Option<JournalLine>
+    ensures { Reads (line_text V.version) IsServedLine (codes "send " ++ operands.now) result }
 {
-    let message = message_of(operands)?;
+    let message = message_in::<V>(operands)?;
     Some(JournalLine::Send(message))
 }
 
 // `end` with these operands.
-fn end_line(operands: &str) -> Option<JournalLine>
-    ensures { Reads line_text IsServedLine (codes "end " ++ operands.now) result }
+fn end_line<V: Edition>(operands: &str) -> Option<JournalLine>
+    ensures { Reads (line_text V.version) IsServedLine (codes "end " ++ operands.now) result }
 {
     let count = u32::read(operands)?;
     Some(JournalLine::End { count })

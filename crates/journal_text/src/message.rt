@@ -5,44 +5,56 @@ ghost use Rattle.texts.specs.Reads.{Lacks, Reads};
 ghost use Rattle.journal_text.specs.Served.{IsServedMessage};
 ghost use Rattle.journal_text.specs.Texts.{message_text};
 
+use crate::edition::{Edition, FirstEdition, SecondEdition};
 use crate::operands::{
     ConflictFields, DenyFields, FreedFields, GrantFields, ReleasedFields, RequestFields,
     RevokeFields, TakenFields,
 };
 use messages::message::Message;
+use messages::version::Version;
 use texts::text::{Text, split_field};
 
-/// The message that the text writes.
-pub fn message_of(text: &str) -> Option<Message>
-    ensures { Reads message_text IsServedMessage text.now result }
+/// The message that the text writes in a journal of this version.
+pub fn message_of(version: Version, text: &str) -> Option<Message>
+    ensures { Reads (message_text version) IsServedMessage text.now result }
+{
+    match version {
+        Version::First => message_in::<FirstEdition>(text),
+        Version::Second => message_in::<SecondEdition>(text),
+    }
+}
+
+/// The message that the text writes in a journal of the version.
+pub(crate) fn message_in<V: Edition>(text: &str) -> Option<Message>
+    ensures { Reads (message_text V.version) IsServedMessage text.now result }
 {
     match split_field(text) {
-        Some((word, operands)) => message_with(word, operands),
+        Some((word, operands)) => message_with::<V>(word, operands),
         None => None,
     }
 }
 
 // The message of this word, with these operands.
-fn message_with(word: &str, operands: &str) -> Option<Message>
+fn message_with<V: Edition>(word: &str, operands: &str) -> Option<Message>
     requires { Lacks space word.now }
-    ensures { Reads message_text IsServedMessage (word.now ++ space ∷ operands.now) result }
+    ensures { Reads (message_text V.version) IsServedMessage (word.now ++ space ∷ operands.now) result }
 {
     match word {
-        "request" => request_of(operands),
-        "grant" => grant_of(operands),
-        "revoke" => revoke_of(operands),
-        "taken" => taken_of(operands),
-        "released" => released_of(operands),
-        "conflict" => conflict_of(operands),
-        "deny" => deny_of(operands),
-        "freed" => freed_of(operands),
+        "request" => request_of::<V>(operands),
+        "grant" => grant_of::<V>(operands),
+        "revoke" => revoke_of::<V>(operands),
+        "taken" => taken_of::<V>(operands),
+        "released" => released_of::<V>(operands),
+        "conflict" => conflict_of::<V>(operands),
+        "deny" => deny_of::<V>(operands),
+        "freed" => freed_of::<V>(operands),
         _ => None,
     }
 }
 
 // `request` with these operands.
-fn request_of(operands: &str) -> Option<Message>
-    ensures { Reads message_text IsServedMessage (codes "request " ++ operands.now) result }
+fn request_of<V: Edition>(operands: &str) -> Option<Message>
+    ensures { Reads (message_text V.version) IsServedMessage (codes "request " ++ operands.now) result }
 {
     let (file, (call, (urgency, (mode, wanted)))) = RequestFields::read(operands)?;
     Some(Message::Request {
@@ -55,10 +67,10 @@ fn request_of(operands: &str) -> Option<Message>
 }
 
 // `grant` with these operands.
-fn grant_of(operands: &str) -> Option<Message>
-    ensures { Reads message_text IsServedMessage (codes "grant " ++ operands.now) result }
+fn grant_of<V: Edition>(operands: &str) -> Option<Message>
+    ensures { Reads (message_text V.version) IsServedMessage (codes "grant " ++ operands.now) result }
 {
-    let (file, (number, (call, (mode, span)))) = GrantFields::read(operands)?;
+    let (file, (number, (call, (mode, span)))) = <GrantFields<V>>::read(operands)?;
     Some(Message::Grant {
         file,
         number,
@@ -69,10 +81,10 @@ fn grant_of(operands: &str) -> Option<Message>
 }
 
 // `revoke` with these operands.
-fn revoke_of(operands: &str) -> Option<Message>
-    ensures { Reads message_text IsServedMessage (codes "revoke " ++ operands.now) result }
+fn revoke_of<V: Edition>(operands: &str) -> Option<Message>
+    ensures { Reads (message_text V.version) IsServedMessage (codes "revoke " ++ operands.now) result }
 {
-    let (file, (number, (holder, (call, (mode, wanted))))) = RevokeFields::read(operands)?;
+    let (file, (number, (holder, (call, (mode, wanted))))) = <RevokeFields<V>>::read(operands)?;
     Some(Message::Revoke {
         file,
         number,
@@ -84,18 +96,18 @@ fn revoke_of(operands: &str) -> Option<Message>
 }
 
 // `taken` with these operands.
-fn taken_of(operands: &str) -> Option<Message>
-    ensures { Reads message_text IsServedMessage (codes "taken " ++ operands.now) result }
+fn taken_of<V: Edition>(operands: &str) -> Option<Message>
+    ensures { Reads (message_text V.version) IsServedMessage (codes "taken " ++ operands.now) result }
 {
-    let (file, (number, call)) = TakenFields::read(operands)?;
+    let (file, (number, call)) = <TakenFields<V>>::read(operands)?;
     Some(Message::Taken { file, number, call })
 }
 
 // `released` with these operands.
-fn released_of(operands: &str) -> Option<Message>
-    ensures { Reads message_text IsServedMessage (codes "released " ++ operands.now) result }
+fn released_of<V: Edition>(operands: &str) -> Option<Message>
+    ensures { Reads (message_text V.version) IsServedMessage (codes "released " ++ operands.now) result }
 {
-    let (file, (number, (holder, (call, span)))) = ReleasedFields::read(operands)?;
+    let (file, (number, (holder, (call, span)))) = <ReleasedFields<V>>::read(operands)?;
     Some(Message::Released {
         file,
         number,
@@ -106,10 +118,10 @@ fn released_of(operands: &str) -> Option<Message>
 }
 
 // `conflict` with these operands.
-fn conflict_of(operands: &str) -> Option<Message>
-    ensures { Reads message_text IsServedMessage (codes "conflict " ++ operands.now) result }
+fn conflict_of<V: Edition>(operands: &str) -> Option<Message>
+    ensures { Reads (message_text V.version) IsServedMessage (codes "conflict " ++ operands.now) result }
 {
-    let (file, (number, (holder, (call, lock)))) = ConflictFields::read(operands)?;
+    let (file, (number, (holder, (call, lock)))) = <ConflictFields<V>>::read(operands)?;
     Some(Message::Conflict {
         file,
         number,
@@ -120,10 +132,10 @@ fn conflict_of(operands: &str) -> Option<Message>
 }
 
 // `deny` with these operands.
-fn deny_of(operands: &str) -> Option<Message>
-    ensures { Reads message_text IsServedMessage (codes "deny " ++ operands.now) result }
+fn deny_of<V: Edition>(operands: &str) -> Option<Message>
+    ensures { Reads (message_text V.version) IsServedMessage (codes "deny " ++ operands.now) result }
 {
-    let (file, (call, (holder, (number, lock)))) = DenyFields::read(operands)?;
+    let (file, (call, (holder, (number, lock)))) = <DenyFields<V>>::read(operands)?;
     Some(Message::Deny {
         file,
         call,
@@ -134,8 +146,8 @@ fn deny_of(operands: &str) -> Option<Message>
 }
 
 // `freed` with these operands.
-fn freed_of(operands: &str) -> Option<Message>
-    ensures { Reads message_text IsServedMessage (codes "freed " ++ operands.now) result }
+fn freed_of<V: Edition>(operands: &str) -> Option<Message>
+    ensures { Reads (message_text V.version) IsServedMessage (codes "freed " ++ operands.now) result }
 {
     let (file, holder) = FreedFields::read(operands)?;
     Some(Message::Freed { file, holder })

@@ -1,7 +1,6 @@
 //! The fields of messages, and of other lines of journals.
 use crate::fields::{
-    CallName, CommandName, FileName, HostName, LockText, ReplyText, SpanText, UrgencyWord,
-    WantsText,
+    CallName, FileName, HostName, LockText, Numbered, ReplyText, SpanText, UrgencyWord, WantsText,
 };
 use lockscript::fields::{FileField, PidField};
 use lockscript::operations::Operation;
@@ -10,26 +9,26 @@ use model::mode::Mode;
 /// `F CALL KIND MODE R D`.
 pub(crate) type RequestFields = (FileName, (CallName, (UrgencyWord, (Mode, WantsText))));
 
-/// `F K CALL MODE LO HI`.
-pub(crate) type GrantFields = (FileName, (CommandName, (CallName, (Mode, SpanText))));
+/// `F K CALL MODE LO HI`, with the epoch before K where the version has one.
+pub(crate) type GrantFields<V> = (FileName, Numbered<V, (CallName, (Mode, SpanText))>);
 
-/// `F K H CALL MODE R D`.
-pub(crate) type RevokeFields = (
+/// `F K H CALL MODE R D`, with the epoch as in a grant.
+pub(crate) type RevokeFields<V> = (
     FileName,
-    (CommandName, (HostName, (CallName, (Mode, WantsText)))),
+    Numbered<V, (HostName, (CallName, (Mode, WantsText)))>,
 );
 
-/// `F K CALL`.
-pub(crate) type TakenFields = (FileName, (CommandName, CallName));
+/// `F K CALL`, with the epoch as in a grant.
+pub(crate) type TakenFields<V> = (FileName, Numbered<V, CallName>);
 
-/// `F K H CALL LO HI`.
-pub(crate) type ReleasedFields = (FileName, (CommandName, (HostName, (CallName, SpanText))));
+/// `F K H CALL LO HI`, with the epoch as in a grant.
+pub(crate) type ReleasedFields<V> = (FileName, Numbered<V, (HostName, (CallName, SpanText))>);
 
-/// `F K H CALL LOCK`.
-pub(crate) type ConflictFields = (FileName, (CommandName, (HostName, (CallName, LockText))));
+/// `F K H CALL LOCK`, with the epoch as in a grant.
+pub(crate) type ConflictFields<V> = (FileName, Numbered<V, (HostName, (CallName, LockText))>);
 
-/// `F CALL H K LOCK`.
-pub(crate) type DenyFields = (FileName, (CallName, (HostName, (CommandName, LockText))));
+/// `F CALL H K LOCK`, with the epoch as in a grant.
+pub(crate) type DenyFields<V> = (FileName, (CallName, (HostName, Numbered<V, LockText>)));
 
 /// `F H`.
 pub(crate) type FreedFields = (FileName, HostName);

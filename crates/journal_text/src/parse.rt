@@ -1,19 +1,22 @@
 //! Reading whole journals.
-ghost use Rattle.std.specs.Prelude.{◌≡◌, ◌≢◌, [], List, length, IfErr, IfOk};
+ghost use Rattle.std.specs.Prelude.{◌≡◌, ◌≢◌, ◌↔◌, [], List, length, IfErr, IfOk, IsTrue};
 ghost use Rattle.messages.specs.Entries.{EntryFields};
 ghost use Rattle.journal_text.specs.declared.error.JournalError.TheVariants.{NoMemory};
-ghost use Rattle.journal_text.specs.Readings.{HasLength, IsBadLine, IsRefused, WritesJournal};
+ghost use Rattle.journal_text.specs.Readings.{HasLength, IsBadLine, IsOld, IsRefused, WritesJournal};
 
 use crate::builder::Builder;
 use crate::error::JournalError;
-use crate::reader::Reader;
+use crate::head::head_of;
+use crate::reader::{Reader, split_line};
 use crate::sink::Sink;
 use messages::entry::Entry;
 use messages::shape::Shape;
+use messages::version::Version;
 use std::alloc::Global;
 
 /// The journal that the text writes: the shape of the cluster, and the entries in order. The first
-/// line is `journal 1 nodes N files F policy P`. An entry is a line `entry POS EVENT`, with its place
+/// line is `journal V nodes N files F policy P`, where V is the version, 1 or 2. In version 2 the number of
+/// a command has the epoch of its server before it, which is 1. An entry is a line `entry POS EVENT`, with its place
 /// from 1, at most one line `reply CALL REPLY`, and a line `send MESSAGE` for each message that it
 /// sends. The last line is `end COUNT`, with how many entries there are. Each line ends with a line
 /// feed, and none is skipped.
@@ -32,6 +35,19 @@ pub fn parse(alloc: Global, text: &str) -> Result<(Shape, Vec<Entry>), JournalEr
     Ok((shape, entries))
 }
 
+/// Whether the first line of the text is that of a journal of version 1, whatever stands behind it.
+pub fn is_old(text: &str) -> bool
+    ensures { IsTrue result ↔ IsOld text.now }
+{
+    let Some((line, _)) = split_line(text) else {
+        return false;
+    };
+    let Some(shape) = head_of(line) else {
+        return false;
+    };
+    shape.version() == Version::First
+}
+
 /// The shape of the cluster and the number of the entries of the journal that the text writes. It
 /// takes no memory.
 ///
@@ -43,7 +59,7 @@ pub fn measure(text: &str) -> Result<(Shape, u32), JournalError>
 {
     let mut reader = Reader::new(text);
     let shape = reader.first_line()?;
-    while reader.pass_line()? {}
+    while reader.pass_line(shape.version())? {}
     Ok((shape, reader.count()))
 }
 
@@ -60,7 +76,7 @@ pub fn read_each<K: Sink>(alloc: Global, text: &str, sink: &mut K) -> Result<Sha
     let mut reader = Reader::new(text);
     let shape = reader.first_line()?;
     let mut builder = Builder::new();
-    while let Some(line) = reader.next_line()? {
+    while let Some(line) = reader.next_line(shape.version())? {
         builder.take(alloc, line, sink)?;
     }
     Ok(shape)

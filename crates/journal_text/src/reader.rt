@@ -15,6 +15,7 @@ use crate::head::head_of;
 use crate::lines::{JournalLine, line_of};
 use crate::place::Place;
 use messages::shape::Shape;
+use messages::version::Version;
 
 /// What is left of a journal, how many of its lines were read, and the place behind them.
 #[derive(Drop)]
@@ -65,20 +66,23 @@ impl<'a> Reader<'a> {
         self.place.count
     }
 
-    /// The next line, or `None` behind the last one.
+    /// The next line of a journal of this version, or `None` behind the last one.
     ///
     /// # Errors
     /// `BadLine` with its number where it is missing, has no line feed or may not stand there.
-    pub(crate) fn next_line(&mut self) -> Result<Option<JournalLine>, JournalError>
+    pub(crate) fn next_line(
+        &mut self,
+        version: Version,
+    ) -> Result<Option<JournalLine>, JournalError>
         ensures line { IfOk result (λ found. MatchOption found
             ((self.new.rest.now ≡ []) × (self.new.place.phase ≡ phase.Ended) × (self.new.rest.now ≡ self.old.rest.now) × (self.new.place ≡ self.old.place))
-            (λ line. StandsNext self.old.place self.old.rest.now line self.new.place self.new.rest.now × (self.new.taken ≡ self.old.taken + 1))) }
-        ensures stuck { IfErr result (λ error. (error ≡ BadLine (self.old.taken + 1)) × IsStuck self.old.place self.old.rest.now) }
+            (λ line. StandsNext version self.old.place self.old.rest.now line self.new.place self.new.rest.now × (self.new.taken ≡ self.old.taken + 1))) }
+        ensures stuck { IfErr result (λ error. (error ≡ BadLine (self.old.taken + 1)) × IsStuck version self.old.place self.old.rest.now) }
     {
         let bad = JournalError::BadLine(self.taken + 1);
         match split_line(self.rest) {
             Some((text, rest)) => {
-                let (line, place) = line_at(self.place, text).ok_or(bad)?;
+                let (line, place) = line_at(version, self.place, text).ok_or(bad)?;
                 self.rest = rest;
                 self.taken += 1;
                 self.place = place;
@@ -97,12 +101,12 @@ impl<'a> Reader<'a> {
     ///
     /// # Errors
     /// As `next_line`.
-    pub(crate) fn pass_line(&mut self) -> Result<bool, JournalError>
-        ensures passed { IfOk result (λ more. more ≡ true → (line : Line) × StandsNext self.old.place self.old.rest.now line self.new.place self.new.rest.now × (self.new.taken ≡ self.old.taken + 1)) }
+    pub(crate) fn pass_line(&mut self, version: Version) -> Result<bool, JournalError>
+        ensures passed { IfOk result (λ more. more ≡ true → (line : Line) × StandsNext version self.old.place self.old.rest.now line self.new.place self.new.rest.now × (self.new.taken ≡ self.old.taken + 1)) }
         ensures ended { IfOk result (λ more. more ≡ false → (self.new.rest.now ≡ []) × (self.new.place.phase ≡ phase.Ended) × (self.new.rest.now ≡ self.old.rest.now) × (self.new.place ≡ self.old.place)) }
-        ensures stuck { IfErr result (λ error. (error ≡ BadLine (self.old.taken + 1)) × IsStuck self.old.place self.old.rest.now) }
+        ensures stuck { IfErr result (λ error. (error ≡ BadLine (self.old.taken + 1)) × IsStuck version self.old.place self.old.rest.now) }
     {
-        match self.next_line() {
+        match self.next_line(version) {
             Ok(Some(_)) => Ok(true),
             Ok(None) => Ok(false),
             Err(error) => Err(error),
@@ -110,18 +114,19 @@ impl<'a> Reader<'a> {
     }
 }
 
-// The line that the text writes, and the place behind it, if it may stand at this place.
-fn line_at(place: Place, text: &str) -> Option<(JournalLine, Place)>
-    ensures { MatchOption result (IsMisplaced place text.now)
-        (λ found. IsServedLine found.0 × (text.now ≡ line_text found.0) × (next_place place.count place.phase found.0 ≡ Some found.1)) }
+// The line that the text writes in a journal of this version, and the place behind it, if it may stand
+// at this place.
+fn line_at(version: Version, place: Place, text: &str) -> Option<(JournalLine, Place)>
+    ensures { MatchOption result (IsMisplaced version place text.now)
+        (λ found. IsServedLine found.0 × (text.now ≡ line_text version found.0) × (next_place place.count place.phase found.0 ≡ Some found.1)) }
 {
-    let line = line_of(text)?;
+    let line = line_of(version, text)?;
     let behind = place.behind(&line)?;
     Some((line, behind))
 }
 
-// The first line of a text, and what stands after its line feed.
-fn split_line(text: &str) -> Option<(&str, &str)>
+/// The first line of a text, and what stands after its line feed.
+pub(crate) fn split_line(text: &str) -> Option<(&str, &str)>
     ensures { MatchOption result (line_feeds text.now ≡ 0) (λ parts. BeginsWithLine text.now parts.0.now parts.1.now) }
 {
     text.split_once('\n')

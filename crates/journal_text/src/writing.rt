@@ -1,8 +1,10 @@
 //! Texts of messages and events.
-ghost use Rattle.std.specs.Prelude.{◌≡◌, ◌++◌, None, string_bytes, OnOk};
-ghost use Rattle.messages.specs.declared.event.Event.TheVariants as event;
+ghost use Rattle.std.specs.Prelude.{◌≡◌, ◌++◌, codes, decimal, string_bytes, OnOk};
+ghost use Rattle.texts.specs.Reads.{pair_text};
+ghost use Rattle.lockscript.specs.Texts.{call_text, host_text, op_text};
 ghost use Rattle.journal_text.specs.Texts.{event_text, message_text};
 
+use crate::edition::{Edition, FirstEdition, SecondEdition};
 use crate::operands::{
     CallFields, ConflictFields, DenyFields, FreedFields, GrantFields, ReleasedFields,
     RequestFields, RevokeFields, TakenFields,
@@ -10,18 +12,29 @@ use crate::operands::{
 use lockscript::names::push_host;
 use messages::event::Event;
 use messages::message::Message;
+use messages::version::Version;
 use model::call::CallId;
 use model::op::Op;
 use std::alloc::AllocError;
 use std::fmt::Write;
 use texts::text::Text;
 
-/// Writes a message.
+/// Writes a message as journals of this version do.
 ///
 /// # Errors
 /// `AllocError` where a request for memory was refused.
-pub fn push_message(out: &mut String, message: &Message) -> Result<(), AllocError>
-    ensures { OnOk result (string_bytes out.new ≡ string_bytes out.old ++ message_text message.now) }
+pub fn push_message(out: &mut String, version: Version, message: &Message) -> Result<(), AllocError>
+    ensures { OnOk result (string_bytes out.new ≡ string_bytes out.old ++ message_text version message.now) }
+{
+    match version {
+        Version::First => push_message_in::<FirstEdition>(out, message),
+        Version::Second => push_message_in::<SecondEdition>(out, message),
+    }
+}
+
+// Writes a message as journals of the version do.
+fn push_message_in<V: Edition>(out: &mut String, message: &Message) -> Result<(), AllocError>
+    ensures { OnOk result (string_bytes out.new ≡ string_bytes out.old ++ message_text V.version message.now) }
 {
     match message {
         Message::Request {
@@ -42,7 +55,7 @@ pub fn push_message(out: &mut String, message: &Message) -> Result<(), AllocErro
             span,
         } => {
             out.push_str("grant ")?;
-            GrantFields::write(&(*file, (*number, (*call, (*mode, *span)))), out)
+            <GrantFields<V>>::write(&(*file, (*number, (*call, (*mode, *span)))), out)
         }
         Message::Revoke {
             file,
@@ -54,11 +67,11 @@ pub fn push_message(out: &mut String, message: &Message) -> Result<(), AllocErro
         } => {
             out.push_str("revoke ")?;
             let fields = (*file, (*number, (*holder, (*call, (*mode, *wanted)))));
-            RevokeFields::write(&fields, out)
+            <RevokeFields<V>>::write(&fields, out)
         }
         Message::Taken { file, number, call } => {
             out.push_str("taken ")?;
-            TakenFields::write(&(*file, (*number, *call)), out)
+            <TakenFields<V>>::write(&(*file, (*number, *call)), out)
         }
         Message::Released {
             file,
@@ -68,7 +81,7 @@ pub fn push_message(out: &mut String, message: &Message) -> Result<(), AllocErro
             span,
         } => {
             out.push_str("released ")?;
-            ReleasedFields::write(&(*file, (*number, (*holder, (*call, *span)))), out)
+            <ReleasedFields<V>>::write(&(*file, (*number, (*holder, (*call, *span)))), out)
         }
         Message::Conflict {
             file,
@@ -78,7 +91,7 @@ pub fn push_message(out: &mut String, message: &Message) -> Result<(), AllocErro
             lock,
         } => {
             out.push_str("conflict ")?;
-            ConflictFields::write(&(*file, (*number, (*holder, (*call, *lock)))), out)
+            <ConflictFields<V>>::write(&(*file, (*number, (*holder, (*call, *lock)))), out)
         }
         Message::Deny {
             file,
@@ -88,7 +101,7 @@ pub fn push_message(out: &mut String, message: &Message) -> Result<(), AllocErro
             lock,
         } => {
             out.push_str("deny ")?;
-            DenyFields::write(&(*file, (*call, (*holder, (*number, *lock)))), out)
+            <DenyFields<V>>::write(&(*file, (*call, (*holder, (*number, *lock)))), out)
         }
         Message::Freed { file, holder } => {
             out.push_str("freed ")?;
@@ -97,20 +110,25 @@ pub fn push_message(out: &mut String, message: &Message) -> Result<(), AllocErro
     }
 }
 
-/// Writes an event, with the incarnation and the call that its entry names.
+/// Writes an event as journals of this version do, with the incarnation and the call that its entry
+/// names.
 pub(crate) fn push_event(
     out: &mut String,
+    version: Version,
     event: &Event,
     incarnation: u16,
     call: &Option<CallId>,
 ) -> Result<(), AllocError>
-    ensures { OnOk result (string_bytes out.new ≡ string_bytes out.old ++ event_text event.now incarnation call.now) }
+    ensures { OnOk result (string_bytes out.new ≡ string_bytes out.old ++ event_text version event.now incarnation call.now) }
 {
     match event {
-        Event::Call { node, pid, op } => push_named_call(out, *node, *pid, op, incarnation, call),
+        Event::Call { pid, op, .. } => match call {
+            Some(call) => push_call_event(out, call, *pid, op),
+            None => Ok(()),
+        },
         Event::Deliver(message) => {
             out.push_str("deliver ")?;
-            push_message(out, message)
+            push_message(out, version, message)
         }
         Event::Interrupt { node, pid } => push_interrupt(out, *node, incarnation, *pid),
         Event::Retry { node, pid } => push_retry(out, *node, incarnation, *pid),
@@ -134,27 +152,17 @@ pub(crate) fn push_event(
     }
 }
 
-// Writes `call CALL PID OP`, or nothing where the call has no name.
-fn push_named_call(
-    out: &mut String,
-    node: u8,
-    pid: u16,
-    op: &Op,
-    incarnation: u16,
-    name: &Option<CallId>,
-) -> Result<(), AllocError>
-    ensures { OnOk result (string_bytes out.new ≡ string_bytes out.old ++ event_text (event.Call node pid op.now) incarnation name.now) }
+// Writes `call CALL PID OP`.
+fn push_call_event(out: &mut String, call: &CallId, pid: u16, op: &Op) -> Result<(), AllocError>
+    ensures { OnOk result (string_bytes out.new ≡ string_bytes out.old ++ codes "call " ++ pair_text call_text (pair_text decimal op_text) (call.now, (pid, op.now))) }
 {
-    let Some(call) = name else {
-        return Ok(());
-    };
     out.push_str("call ")?;
     CallFields::write(&(*call, (pid, *op)), out)
 }
 
 // Writes `interrupt N.I PID`.
 fn push_interrupt(out: &mut String, node: u8, incarnation: u16, pid: u16) -> Result<(), AllocError>
-    ensures { OnOk result (string_bytes out.new ≡ string_bytes out.old ++ event_text (event.Interrupt node pid) incarnation None) }
+    ensures { OnOk result (string_bytes out.new ≡ string_bytes out.old ++ codes "interrupt " ++ pair_text (host_text node) decimal (incarnation, pid)) }
 {
     out.push_str("interrupt ")?;
     push_host(out, node, incarnation)?;
@@ -163,7 +171,7 @@ fn push_interrupt(out: &mut String, node: u8, incarnation: u16, pid: u16) -> Res
 
 // Writes `retry N.I PID`.
 fn push_retry(out: &mut String, node: u8, incarnation: u16, pid: u16) -> Result<(), AllocError>
-    ensures { OnOk result (string_bytes out.new ≡ string_bytes out.old ++ event_text (event.Retry node pid) incarnation None) }
+    ensures { OnOk result (string_bytes out.new ≡ string_bytes out.old ++ codes "retry " ++ pair_text (host_text node) decimal (incarnation, pid)) }
 {
     out.push_str("retry ")?;
     push_host(out, node, incarnation)?;

@@ -14,7 +14,7 @@ use Rattle.model.specs.Owners.{same_owner, owner_cmp}
 use Rattle.model.specs.Locks.{bar_of, FileLocks, excludes, bars, IsFree, IsRegion, IsNotAfter, IsLowestBlocker, IsClear, IsInWay, IsLowestInWay}
 use Rattle.lock_table.specs.declared.owner_locks.OwnerLocks.{OwnerLocks}
 use Rattle.lock_table.specs.Regions.{IsFirstRegion}
-use Rattle.lock_table.specs.Rows.{held, row_cmp, AllAfter, AreRows, locks_of}
+use Rattle.lock_table.specs.Rows.{rows_held, row_cmp, AllAfter, AreRows, locks_of}
 use Rattle.lock_table.specs.Blockers.{IsAsked, IsClearBut, IsRegionBut, IsLowestBut}
 use Rattle.lock_table.proofs.Orders.{owner_exact, owner_refl, owners_total, owner_equal, owner_not_greater, not_greater_trans, cases_not_greater, back_greater, place_cmp, places_total, back_less}
 use Rattle.lock_table.proofs.RowLemmas.{is_of, is_of_less}
@@ -287,8 +287,8 @@ module _ (r : OwnerLocks) (out : Option Owner) (s : Range) (mode : Mode) (asked 
       record { answer = row_lowest x is_first; ordered = λ some. omega arith }
 
 -- a last row of another owner than asked
-other_held : (l : List OwnerLocks) (r : OwnerLocks) (f : ℕ) (o : Owner) → is_of r f o ≡ false → held (l ++ r ∷ []) f o ≡ held l f o
-unfolding held
+other_held : (l : List OwnerLocks) (r : OwnerLocks) (f : ℕ) (o : Owner) → is_of r f o ≡ false → rows_held (l ++ r ∷ []) f o ≡ rows_held l f o
+unfolding rows_held
 other_held [] r f o differ = rw differ refl
 other_held (s ∷ l) r f o differ = rw (other_held l r f o differ) refl
 
@@ -297,8 +297,8 @@ all_after_last f o [] r h = h.0
 all_after_last f o (s ∷ l) r h = all_after_last f o l r h.1
 
 -- the last row has the locks of its place, and those before it none
-last_held : (l : List OwnerLocks) (r : OwnerLocks) → AreRows (l ++ r ∷ []) → (held (l ++ r ∷ []) r.file r.owner ≡ value_at r.spans) × (held l r.file r.owner ≡ nothing)
-unfolding held
+last_held : (l : List OwnerLocks) (r : OwnerLocks) → AreRows (l ++ r ∷ []) → (rows_held (l ++ r ∷ []) r.file r.owner ≡ value_at r.spans) × (rows_held l r.file r.owner ≡ nothing)
+unfolding rows_held
 last_held [] r rows = let itself : is_of r r.file r.owner ≡ true = and_from (eqb r.file r.file) (same_owner r.owner r.owner) (eq-eqb r.file r.file refl) (owner_refl r.owner) in (rw itself refl, refl)
 last_held (s ∷ l) r rows =
     let more = last_held l r rows.2 in
@@ -306,7 +306,7 @@ last_held (s ∷ l) r rows =
     let differ = is_of_less s r.file r.owner before in
     (rw differ more.0, rw differ more.1)
 
-rows_join : (l : List OwnerLocks) (r : OwnerLocks) (f : ℕ) → AreRows (l ++ r ∷ []) → r.file ≡ f → IsJoin (held l f) (locks_of r) (held (l ++ r ∷ []) f)
+rows_join : (l : List OwnerLocks) (r : OwnerLocks) (f : ℕ) → AreRows (l ++ r ∷ []) → r.file ≡ f → IsJoin (rows_held l f) (locks_of r) (rows_held (l ++ r ∷ []) f)
 rows_join l r f rows file o = elim (cases_Bool (same_owner r.owner o)) [
   | inl same ↦
       let e : r.owner ≡ o = owner_exact _ _ same in
@@ -316,12 +316,12 @@ rows_join l r f rows file o = elim (cases_Bool (same_owner r.owner o)) [
 ]
 
 -- one row more of a file's rows
-pub rows_step : (l : List OwnerLocks) (i : ℕ) (r : OwnerLocks) (f : ℕ) → AreRows l → All (λ (s : OwnerLocks). s.file ≡ f) l → i < length l → r ≡ get_or l i r → IsJoin (held (take i l) f) (locks_of r) (held (take (i + 1) l) f)
+pub rows_step : (l : List OwnerLocks) (i : ℕ) (r : OwnerLocks) (f : ℕ) → AreRows l → All (λ (s : OwnerLocks). s.file ≡ f) l → i < length l → r ≡ get_or l i r → IsJoin (rows_held (take i l) f) (locks_of r) (rows_held (take (i + 1) l) f)
 rows_step l i r f rows files lt is =
     let next : take (i + 1) l ≡ take i l ++ r ∷ [] = take_more l i r lt ∙ rw (← is) refl in
     let order : AreRows (take i l ++ r ∷ []) = subst AreRows next (rows-take l (i + 1) rows) in
     let file : r.file ≡ f = rw (← is) at (files i r lt) in
-    subst (λ (m : List OwnerLocks). IsJoin (held (take i l) f) (locks_of r) (held m f)) (sym next) (rows_join (take i l) r f order file)
+    subst (λ (m : List OwnerLocks). IsJoin (rows_held (take i l) f) (locks_of r) (rows_held m f)) (sym next) (rows_join (take i l) r f order file)
 
 -- a row that holds no byte of the span has no lock in the way
 pub row_away : (r : OwnerLocks) (out : Option Owner) (s : Range) (mode : Mode) → ((b : ℕ) (m : Mode) → s.lo ≤ b → b ≤ s.hi → value_at r.spans b ≡ Some m → ⊥) → IsClearBut (locks_of r) out s mode

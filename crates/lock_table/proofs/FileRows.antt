@@ -8,7 +8,7 @@ use Rattle.std.proofs.lemmas.List.{length-take, length-drop, get_or-take, get_or
 use Rattle.model.specs.declared.owner.Owner.{Owner}
 use Rattle.model.specs.Owners.{same_owner}
 use Rattle.lock_table.specs.declared.owner_locks.OwnerLocks.{OwnerLocks}
-use Rattle.lock_table.specs.Rows.{held, row_cmp, AllAfter, AreRows}
+use Rattle.lock_table.specs.Rows.{rows_held, row_cmp, AllAfter, AreRows}
 
 -- a row after a place is not of a lower file
 after_file : (r : OwnerLocks) (f : ℕ) (o : Owner) → row_cmp r f o ≡ Greater → f ≤ r.file
@@ -53,11 +53,11 @@ rows-drop [] (suc n) rows = tt
 rows-drop (s ∷ rest) zero rows = rows
 rows-drop (s ∷ rest) (suc n) rows = rows-drop rest n rows.2
 
-held_other : (r : OwnerLocks) (rest : List OwnerLocks) (f : ℕ) (o : Owner) → (r.file ≡ f → ⊥) → held (r ∷ rest) f o ≡ held rest f o
-unfolding held
+held_other : (r : OwnerLocks) (rest : List OwnerLocks) (f : ℕ) (o : Owner) → (r.file ≡ f → ⊥) → rows_held (r ∷ rest) f o ≡ rows_held rest f o
+unfolding rows_held
 held_other r rest f o differ = rw (and_left (eqb r.file f) (same_owner r.owner o) (ne_eqb r.file f differ)) refl
 
-held-drop : (l : List OwnerLocks) (n : ℕ) (f : ℕ) (o : Owner) → AllWithin (λ (r : OwnerLocks). ltb r.file f ≡ true) l 0 n → held (drop n l) f o ≡ held l f o
+held-drop : (l : List OwnerLocks) (n : ℕ) (f : ℕ) (o : Owner) → AllWithin (λ (r : OwnerLocks). ltb r.file f ≡ true) l 0 n → rows_held (drop n l) f o ≡ rows_held l f o
 held-drop [] zero f o below = refl
 held-drop [] (suc n) f o below = refl
 held-drop (r ∷ rest) zero f o below = refl
@@ -65,8 +65,8 @@ held-drop (r ∷ rest) (suc n) f o below =
     let lower : r.file < f = ltb-true _ _ (below 0 r (omega arith) (omega arith)) in
     held-drop rest n f o (λ k d low lt. below (suc k) d (omega arith) (omega arith)) ∙ sym (held_other r rest f o (λ e. absurd (omega arith)))
 
-held-take : (l : List OwnerLocks) (n : ℕ) (f : ℕ) (o : Owner) → AllWithin (λ (r : OwnerLocks). leb r.file f ≡ false) l n (length l) → held (take n l) f o ≡ held l f o
-unfolding held
+held-take : (l : List OwnerLocks) (n : ℕ) (f : ℕ) (o : Owner) → AllWithin (λ (r : OwnerLocks). leb r.file f ≡ false) l n (length l) → rows_held (take n l) f o ≡ rows_held l f o
+unfolding rows_held
 held-take [] zero f o above = refl
 held-take [] (suc n) f o above = refl
 held-take (r ∷ rest) zero f o above =
@@ -98,5 +98,5 @@ module _ (l : List OwnerLocks) (f start end : ℕ) (rows : AreRows l) (within : 
       let high = leb-true _ _ (to (start + k) d (omega arith) (omega arith)) in
       rw e (omega arith)
 
-  pub part_held : (o : Owner) → held (take (end - start) (drop start l)) f o ≡ held l f o
+  pub part_held : (o : Owner) → rows_held (take (end - start) (drop start l)) f o ≡ rows_held l f o
   part_held o = held-take (drop start l) (end - start) f o (λ k d low lt. rw (get_or-drop start l k d) (above (start + k) d (omega arith) (omega (arith, length-drop start l)))) ∙ held-drop l start f o below

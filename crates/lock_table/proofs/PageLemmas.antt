@@ -4,48 +4,33 @@ use Rattle.std.specs.List.{All}
 use Rattle.std.proofs.lemmas.Bool.{cases_Bool, and_parts, eqb-true}
 use Rattle.std.proofs.lemmas.Bool.Decides.{nat_tests}
 use Rattle.std.proofs.lemmas.List.{get_or_default, drop_all}
-use Rattle.intervals.specs.declared.run.Run.{Run}
 use Rattle.intervals.specs.Bytes.{Range, nothing, is_in, put}
-use Rattle.intervals.specs.Runs.{bytes_of, value_at}
+use Rattle.intervals.specs.Runs.{value_at}
 use Rattle.model.specs.declared.mode.Mode.{Mode}
 use Rattle.model.specs.declared.owner.Owner.{Owner}
 use Rattle.model.specs.Locks.{FileLocks, Locks, replace, without_owner_anywhere}
 use Rattle.model.specs.Owners.{same_owner}
 use Rattle.lock_table.specs.declared.owner_locks.OwnerLocks.{OwnerLocks}
 use Rattle.lock_table.specs.declared.page_index.PageIndex.{PageIndex}
-use Rattle.lock_table.specs.Rows.{held, AreRows}
+use Rattle.lock_table.specs.Rows.{rows_held, AreRows}
 use Rattle.lock_table.proofs.RowLemmas.{is_of, row_place, row_at_from, held-at}
 use Rattle.lock_table.proofs.Orders.{owner_exact, place_itself}
 use Rattle.lock_table.proofs.SameRows.{drop_read}
 use Rattle.lock_table.specs.declared.owner_set.OwnerSet.{OwnerSet}
 use Rattle.lock_table.specs.Pages.{Has, MayHold, Covers, slot_of}
 
--- a byte of the runs that are left is one of the first of them, or of the others
-pub run-step : (runs : List (Run Mode)) (i : ℕ) (d : Run Mode) (b : ℕ) (m : Mode) → i < length runs → value_at (drop i runs) b ≡ Some m → (((get_or runs i d).lo ≤ b) × (b ≤ (get_or runs i d).hi)) ⊎ (value_at (drop (i + 1) runs) b ≡ Some m)
-unfolding value_at
-run-step runs i d b m lt at =
-    let split : value_at (get_or runs i d ∷ drop (i + 1) runs) b ≡ Some m = rw (drop_read runs i (get_or runs i d) lt (get_or_default runs i d (get_or runs i d) lt)) at at in
-    elim (cases_Bool (is_in (bytes_of (get_or runs i d)) b)) [
-      | inl within ↦ let parts = and_parts (nat_le (get_or runs i d).lo b) (nat_le b (get_or runs i d).hi) within in inl (grind (arith, nat_tests, parts.0), grind (arith, nat_tests, parts.1))
-      | inr out ↦ inr (rw out at split)
-    ]
-
 -- a byte of the rows that are left is one of the first of them, or of the others
-pub row-step : (rows : List OwnerLocks) (i : ℕ) (r : OwnerLocks) (f : ℕ) (o : Owner) (b : ℕ) (m : Mode) → i < length rows → r ≡ get_or rows i r → held (drop i rows) f o b ≡ Some m → ((r.file ≡ f) × (r.owner ≡ o) × (value_at r.spans b ≡ Some m)) ⊎ (held (drop (i + 1) rows) f o b ≡ Some m)
-unfolding held
+pub row-step : (rows : List OwnerLocks) (i : ℕ) (r : OwnerLocks) (f : ℕ) (o : Owner) (b : ℕ) (m : Mode) → i < length rows → r ≡ get_or rows i r → rows_held (drop i rows) f o b ≡ Some m → ((r.file ≡ f) × (r.owner ≡ o) × (value_at r.spans b ≡ Some m)) ⊎ (rows_held (drop (i + 1) rows) f o b ≡ Some m)
+unfolding rows_held
 row-step rows i r f o b m lt is at =
-    let split : held (r ∷ drop (i + 1) rows) f o b ≡ Some m = rw (drop_read rows i r lt is) at at in
+    let split : rows_held (r ∷ drop (i + 1) rows) f o b ≡ Some m = rw (drop_read rows i r lt is) at at in
     elim (cases_Bool (is_of r f o)) [
       | inl this ↦ let place = row_place r f o this in inl (place.0, place.1, rw this at split)
       | inr differ ↦ inr (rw differ at split)
     ]
 
-pub runs-end : (runs : List (Run Mode)) (i b : ℕ) (m : Mode) → length runs ≤ i → value_at (drop i runs) b ≡ Some m → ⊥
-unfolding value_at
-runs-end runs i b m le at = let none : None ≡ Some m = rw (drop_all i runs le) at at in absurd cc
-
-pub rows-end : (rows : List OwnerLocks) (i f : ℕ) (o : Owner) (b : ℕ) (m : Mode) → length rows ≤ i → held (drop i rows) f o b ≡ Some m → ⊥
-unfolding held
+pub rows-end : (rows : List OwnerLocks) (i f : ℕ) (o : Owner) (b : ℕ) (m : Mode) → length rows ≤ i → rows_held (drop i rows) f o b ≡ Some m → ⊥
+unfolding rows_held
 rows-end rows i f o b m le at = let none : None ≡ Some m = rw (drop_all i rows le) at at in absurd cc
 
 -- a byte that is held once a span is written was held before, or is one of the span
@@ -87,15 +72,15 @@ covers-changed x y h g file owner old new is covers keeps before noted f o b m a
     ]
 
 -- a row holds what the rows hold at its place
-pub row_held : (l : List OwnerLocks) (i : ℕ) (r : OwnerLocks) → AreRows l → i < length l → r ≡ get_or l i r → held l r.file r.owner ≡ value_at r.spans
+pub row_held : (l : List OwnerLocks) (i : ℕ) (r : OwnerLocks) → AreRows l → i < length l → r ≡ get_or l i r → rows_held l r.file r.owner ≡ value_at r.spans
 row_held l i r rows lt is = held-at l i r.file r.owner r (row_at_from l i r.file r.owner rows lt (λ d. rw (get_or_default l i d r lt, ← is) (place_itself r.file r.owner))) is
 
 -- an owner that is not near holds no byte of the span
-pub none_near : (x : PageIndex) (near : OwnerSet) (rows part : List OwnerLocks) (file i : ℕ) (r : OwnerLocks) (s : Range) → Covers x (held rows) → ((o : Owner) (b : ℕ) → s.lo ≤ b → b ≤ s.hi → MayHold x file o b → Has near o) → held part file ≡ held rows file → AreRows part → All (λ (t : OwnerLocks). t.file ≡ file) part → i < length part → r ≡ get_or part i r → (Has near r.owner → ⊥) → (b : ℕ) (m : Mode) → s.lo ≤ b → b ≤ s.hi → value_at r.spans b ≡ Some m → ⊥
+pub none_near : (x : PageIndex) (near : OwnerSet) (rows part : List OwnerLocks) (file i : ℕ) (r : OwnerLocks) (s : Range) → Covers x (rows_held rows) → ((o : Owner) (b : ℕ) → s.lo ≤ b → b ≤ s.hi → MayHold x file o b → Has near o) → rows_held part file ≡ rows_held rows file → AreRows part → All (λ (t : OwnerLocks). t.file ≡ file) part → i < length part → r ≡ get_or part i r → (Has near r.owner → ⊥) → (b : ℕ) (m : Mode) → s.lo ≤ b → b ≤ s.hi → value_at r.spans b ≡ Some m → ⊥
 none_near x near rows part file i r s covers nearby same order files lt is away b m low high at =
     let of_file : r.file ≡ file = rw (← is) at (files i r lt) in
-    let own : held part file r.owner ≡ value_at r.spans = rw (← of_file) (row_held part i r order lt is) in
-    let here : held rows file r.owner b ≡ Some m = sym (ap (λ (h : FileLocks). h r.owner b) same) ∙ ap (λ (h : ℕ → Option Mode). h b) own ∙ at in
+    let own : rows_held part file r.owner ≡ value_at r.spans = rw (← of_file) (row_held part i r order lt is) in
+    let here : rows_held rows file r.owner b ≡ Some m = sym (ap (λ (h : FileLocks). h r.owner b) same) ∙ ap (λ (h : ℕ → Option Mode). h b) own ∙ at in
     away (nearby r.owner b low high (covers file r.owner b m here))
 
 -- more owners of long runs

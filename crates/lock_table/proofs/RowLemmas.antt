@@ -12,7 +12,7 @@ use Rattle.model.specs.declared.owner.Owner.{Owner}
 use Rattle.model.specs.Locks.{replace, without_owner_anywhere}
 use Rattle.model.specs.Owners.{same_owner}
 use Rattle.lock_table.specs.declared.owner_locks.OwnerLocks.{OwnerLocks}
-use Rattle.lock_table.specs.Rows.{held, row_cmp, HoldsSome, AllAfter, AreRows, IsRowAt, IsGap}
+use Rattle.lock_table.specs.Rows.{rows_held, row_cmp, HoldsSome, AllAfter, AreRows, IsRowAt, IsGap}
 use Rattle.lock_table.proofs.Orders.{place_cmp, places_total, place_equal, place_itself, owner_exact, owner_refl, back_less, back_greater, greater_trans}
 
 -- the row is of this owner in this file
@@ -94,21 +94,21 @@ searched l file owner (Err i) rows bound split =
     gap_from l i file owner bound point.0 point.1
 
 -- with no row there is no lock
-pub held-none : (l : List OwnerLocks) (file : ℕ) (owner : Owner) → AllAfter file owner l → held l file owner ≡ nothing
-unfolding held
+pub held-none : (l : List OwnerLocks) (file : ℕ) (owner : Owner) → AllAfter file owner l → rows_held l file owner ≡ nothing
+unfolding rows_held
 held-none [] file owner h = refl
 held-none (r ∷ rest) file owner h = rw (is_of_greater r file owner h.0) (held-none rest file owner h.1)
 
-pub held-gap : (l : List OwnerLocks) (i : ℕ) (file : ℕ) (owner : Owner) → IsGap l i file owner → held l file owner ≡ nothing
-unfolding held
+pub held-gap : (l : List OwnerLocks) (i : ℕ) (file : ℕ) (owner : Owner) → IsGap l i file owner → rows_held l file owner ≡ nothing
+unfolding rows_held
 held-gap [] zero file owner h = refl
 held-gap [] (suc i) file owner h = absurd h
 held-gap (r ∷ rest) zero file owner h = held-none (r ∷ rest) file owner h
 held-gap (r ∷ rest) (suc i) file owner h = rw (is_of_less r file owner h.0) (held-gap rest i file owner h.1)
 
 -- the row at its place has the locks
-pub held-at : (l : List OwnerLocks) (i : ℕ) (file : ℕ) (owner : Owner) (r : OwnerLocks) → IsRowAt l i file owner → r ≡ get_or l i r → held l file owner ≡ value_at r.spans
-unfolding held
+pub held-at : (l : List OwnerLocks) (i : ℕ) (file : ℕ) (owner : Owner) (r : OwnerLocks) → IsRowAt l i file owner → r ≡ get_or l i r → rows_held l file owner ≡ value_at r.spans
+unfolding rows_held
 held-at [] i file owner r h is = absurd h
 held-at (s ∷ rest) zero file owner r h is = rw (is_of_equal s file owner h, is) refl
 held-at (s ∷ rest) (suc i) file owner r h is = rw (is_of_less s file owner h.0) (held-at rest i file owner r h.1 is)
@@ -131,8 +131,8 @@ place_of (s ∷ rest) zero file owner r h is = rw is (place_equal (s.file, s.own
 place_of (s ∷ rest) (suc i) file owner r h is = place_of rest i file owner r h.1 is
 
 -- other spans at the row's place
-pub held-set : (l : List OwnerLocks) (i : ℕ) (file : ℕ) (owner : Owner) (r : OwnerLocks) → IsRowAt l i file owner → r.file ≡ file → r.owner ≡ owner → (f : ℕ) (o : Owner) → held (set l i r) f o ≡ replace (held l) file owner (value_at r.spans) f o
-unfolding held
+pub held-set : (l : List OwnerLocks) (i : ℕ) (file : ℕ) (owner : Owner) (r : OwnerLocks) → IsRowAt l i file owner → r.file ≡ file → r.owner ≡ owner → (f : ℕ) (o : Owner) → rows_held (set l i r) f o ≡ replace (rows_held l) file owner (value_at r.spans) f o
+unfolding rows_held
 held-set [] i file owner r h files owners f o = absurd h
 held-set (s ∷ rest) zero file owner r h files owners f o =
     let at : (s.file ≡ file) × (s.owner ≡ owner) = place_equal (s.file, s.owner) (file, owner) h in
@@ -145,8 +145,8 @@ held-set (s ∷ rest) (suc i) file owner r h files owners f o =
     ]
 
 -- a row more
-pub held-insert : (l : List OwnerLocks) (i : ℕ) (r : OwnerLocks) → IsGap l i r.file r.owner → (f : ℕ) (o : Owner) → held (insert l i r) f o ≡ replace (held l) r.file r.owner (value_at r.spans) f o
-unfolding held
+pub held-insert : (l : List OwnerLocks) (i : ℕ) (r : OwnerLocks) → IsGap l i r.file r.owner → (f : ℕ) (o : Owner) → rows_held (insert l i r) f o ≡ replace (rows_held l) r.file r.owner (value_at r.spans) f o
+unfolding rows_held
 held-insert [] zero r h f o = refl
 held-insert [] (suc i) r h f o = absurd h
 held-insert (s ∷ rest) zero r h f o = refl
@@ -158,8 +158,8 @@ held-insert (s ∷ rest) (suc i) r h f o =
     ]
 
 -- a row less
-pub held-remove : (l : List OwnerLocks) (i : ℕ) (file : ℕ) (owner : Owner) → AreRows l → IsRowAt l i file owner → (f : ℕ) (o : Owner) → held (remove l i) f o ≡ replace (held l) file owner nothing f o
-unfolding held
+pub held-remove : (l : List OwnerLocks) (i : ℕ) (file : ℕ) (owner : Owner) → AreRows l → IsRowAt l i file owner → (f : ℕ) (o : Owner) → rows_held (remove l i) f o ≡ replace (rows_held l) file owner nothing f o
+unfolding rows_held
 held-remove [] i file owner rows h f o = absurd h
 held-remove (s ∷ rest) zero file owner rows h f o =
     let at : (s.file ≡ file) × (s.owner ≡ owner) = place_equal (s.file, s.owner) (file, owner) h in
@@ -168,7 +168,7 @@ held-remove (s ∷ rest) zero file owner rows h f o =
           let parts = and_parts _ _ same in
           let files : f ≡ s.file = sym (at.0 ∙ eqb-true _ _ parts.0) in
           let owners : o ≡ s.owner = sym (at.1 ∙ owner_exact _ _ parts.1) in
-          let none : held rest f o ≡ nothing = rw (files, owners) (held-none rest s.file s.owner rows.1) in
+          let none : rows_held rest f o ≡ nothing = rw (files, owners) (held-none rest s.file s.owner rows.1) in
           rw (same, none) refl
       | inr differ ↦ rw differ refl
     ])
@@ -180,13 +180,13 @@ held-remove (s ∷ rest) (suc i) file owner rows h f o =
     ]
 
 -- with no row there is nothing to drop
-pub held-same : (l : List OwnerLocks) (i : ℕ) (file : ℕ) (owner : Owner) → IsGap l i file owner → (f : ℕ) (o : Owner) → held l f o ≡ replace (held l) file owner nothing f o
+pub held-same : (l : List OwnerLocks) (i : ℕ) (file : ℕ) (owner : Owner) → IsGap l i file owner → (f : ℕ) (o : Owner) → rows_held l f o ≡ replace (rows_held l) file owner nothing f o
 held-same l i file owner gap f o = elim (cases_Bool ((eqb file f) && same_owner owner o)) [
   | inl same ↦
       let parts = and_parts _ _ same in
       let files : f ≡ file = sym (eqb-true _ _ parts.0) in
       let owners : o ≡ owner = sym (owner_exact _ _ parts.1) in
-      let none : held l f o ≡ nothing = rw (files, owners) (held-gap l i file owner gap) in
+      let none : rows_held l f o ≡ nothing = rw (files, owners) (held-gap l i file owner gap) in
       rw same none
   | inr differ ↦ rw differ refl
 ]
@@ -196,8 +196,8 @@ abbrev pub is_of_other : Owner → OwnerLocks → Bool
 is_of_other owner r = not (same_owner r.owner owner)
 
 -- no row of an owner
-pub held-filter : (l : List OwnerLocks) (owner : Owner) (f : ℕ) (o : Owner) → held (filter (is_of_other owner) l) f o ≡ without_owner_anywhere (held l) owner f o
-unfolding held
+pub held-filter : (l : List OwnerLocks) (owner : Owner) (f : ℕ) (o : Owner) → rows_held (filter (is_of_other owner) l) f o ≡ without_owner_anywhere (rows_held l) owner f o
+unfolding rows_held
 held-filter [] owner f o = elim (cases_Bool (same_owner owner o)) [ inl same ↦ rw same refl | inr differ ↦ rw differ refl ]
 held-filter (s ∷ rest) owner f o =
     let more = held-filter rest owner f o in

@@ -1,5 +1,5 @@
 -- Rows that hold the same locks.
-use Rattle.std.proofs.Common.{◌≡◌, ℕ, ◌+◌, ◌<◌, ◌≤◌, ◌⊎◌, true, false, eqb, eq-eqb, List, [], ◌∷◌, drop, length, get_or, refl, sym, ◌∙◌, inl, inr, arith}
+use Rattle.std.proofs.Common.{◌≡◌, ℕ, ◌+◌, ◌<◌, ◌≤◌, ◌⊎◌, true, false, eqb, eq-eqb, List, [], ◌∷◌, drop, length, get_or, refl, sym, ap, ◌∙◌, inl, inr, arith}
 use Rattle.std.specs.List.{AllZip}
 use Rattle.std.specs.declared.cmp.Ordering.{Ordering}
 use Rattle.std.specs.declared.cmp.Ordering.TheVariants.{Less, Equal, Greater}
@@ -10,7 +10,7 @@ use Rattle.intervals.specs.Runs.{value_at}
 use Rattle.model.specs.declared.owner.Owner.{Owner}
 use Rattle.model.specs.Owners.{same_owner}
 use Rattle.lock_table.specs.declared.owner_locks.OwnerLocks.{OwnerLocks}
-use Rattle.lock_table.specs.Rows.{held, row_cmp, AllAfter, AreRows, IsSameRow}
+use Rattle.lock_table.specs.Rows.{rows_held, TableParts, row_cmp, AllAfter, AreRows, IsSameRow}
 use Rattle.lock_table.proofs.Orders.{place_cmp, places_total, place_equal, owner_refl, back_greater}
 use Rattle.lock_table.proofs.RowLemmas.{is_of, row_place, all_after_trans, held-none}
 
@@ -19,13 +19,13 @@ pub drop_read : {A : Type 0} (l : List A) (i : ℕ) (x : A) → i < length l →
 drop_read l i x lt is = drop_more l i x lt ∙ rw (← is) refl
 
 -- the first row has the locks of its place
-pub held_first : (r : OwnerLocks) (rest : List OwnerLocks) → held (r ∷ rest) r.file r.owner ≡ value_at r.spans
-unfolding held
+pub held_first : (r : OwnerLocks) (rest : List OwnerLocks) → rows_held (r ∷ rest) r.file r.owner ≡ value_at r.spans
+unfolding rows_held
 held_first r rest = let itself : is_of r r.file r.owner ≡ true = and_from (eqb r.file r.file) (same_owner r.owner r.owner) (eq-eqb r.file r.file refl) (owner_refl r.owner) in rw itself refl
 
 -- rows that are the same one by one hold the same locks
-pub same_held : (a b : List OwnerLocks) → AllZip IsSameRow a b → (f : ℕ) (o : Owner) → held a f o ≡ held b f o
-unfolding held
+pub same_held : (a b : List OwnerLocks) → AllZip IsSameRow a b → (f : ℕ) (o : Owner) → rows_held a f o ≡ rows_held b f o
+unfolding rows_held
 same_held [] [] h f o = refl
 same_held [] (s ∷ b) h f o = absurd h
 same_held (r ∷ a) [] h f o = absurd h
@@ -37,13 +37,13 @@ cases_ordering Equal = inr (inl refl)
 cases_ordering Greater = inr (inr refl)
 
 -- past the first row, at another place
-held_past : (r : OwnerLocks) (rest : List OwnerLocks) (f : ℕ) (o : Owner) → is_of r f o ≡ false → held (r ∷ rest) f o ≡ held rest f o
-unfolding held
+held_past : (r : OwnerLocks) (rest : List OwnerLocks) (f : ℕ) (o : Owner) → is_of r f o ≡ false → rows_held (r ∷ rest) f o ≡ rows_held rest f o
+unfolding rows_held
 held_past r rest f o differ = rw differ refl
 
 -- and rows that hold the same locks are the same one by one
-pub held_same : (a b : List OwnerLocks) → AreRows a → AreRows b → ((f : ℕ) (o : Owner) → held a f o ≡ held b f o) → AllZip IsSameRow a b
-unfolding held
+pub held_same : (a b : List OwnerLocks) → AreRows a → AreRows b → ((f : ℕ) (o : Owner) → rows_held a f o ≡ rows_held b f o) → AllZip IsSameRow a b
+unfolding rows_held
 held_same [] [] p q e = tt
 held_same [] (s ∷ b) p q e = absurd (q.0.some (sym (held_first s b) ∙ sym (e s.file s.owner)))
 held_same (r ∷ a) [] p q e = absurd (p.0.some (sym (held_first r a) ∙ e r.file r.owner))
@@ -61,12 +61,12 @@ held_same (r ∷ a) (s ∷ b) p q e = elim (cases_ordering (row_cmp r s.file s.o
       absurd (q.0.some (sym (held_first s b) ∙ sym (e s.file s.owner) ∙ held-none (r ∷ a) s.file s.owner all))
 ]
   where
-    rest : r.file ≡ s.file → r.owner ≡ s.owner → (f : ℕ) (o : Owner) → held a f o ≡ held b f o
+    rest : r.file ≡ s.file → r.owner ≡ s.owner → (f : ℕ) (o : Owner) → rows_held a f o ≡ rows_held b f o
     rest files owners f o = elim (cases_Bool (is_of r f o)) [
       | inl this ↦
           let at = row_place r f o this in
-          let first : held a f o ≡ nothing = rw (← at.0, ← at.1) (held-none a r.file r.owner p.1) in
-          let second : held b f o ≡ nothing = rw (← at.0, ← at.1, files, owners) (held-none b s.file s.owner q.1) in
+          let first : rows_held a f o ≡ nothing = rw (← at.0, ← at.1) (held-none a r.file r.owner p.1) in
+          let second : rows_held b f o ≡ nothing = rw (← at.0, ← at.1, files, owners) (held-none b s.file s.owner q.1) in
           first ∙ sym second
       | inr differ ↦
           let other : is_of s f o ≡ false = rw (← files, ← owners) differ in
@@ -99,3 +99,10 @@ same_length [] [] h = refl
 same_length [] (s ∷ b) h = absurd h
 same_length (r ∷ a) [] h = absurd h
 same_length (r ∷ a) (s ∷ b) h = let e = same_length a b h.1 in omega arith
+
+-- the rows of a table that is seen as its parts
+pub rows_are : (rows : List OwnerLocks) (limit : ℕ) (t : TableParts) → record { rows = rows; limit = limit } ≡ t → rows ≡ t.rows
+rows_are rows limit t is = ap (λ (u : TableParts). u.rows) is
+
+pub limit_is : (rows : List OwnerLocks) (limit : ℕ) (t : TableParts) → record { rows = rows; limit = limit } ≡ t → limit ≡ t.limit
+limit_is rows limit t is = ap (λ (u : TableParts). u.limit) is

@@ -10,7 +10,7 @@ use Rattle.model.specs.Owners.{same_mode}
 use Rattle.model.specs.Locks.{bar_of, FileLocks, excludes, bars, IsRegion, IsClear}
 use Rattle.model.proofs.RunLaws.{some_start, run_from-is_run}
 use Rattle.lock_table.specs.declared.owner_locks.OwnerLocks.{OwnerLocks}
-use Rattle.lock_table.specs.Rows.{held, AreRows, IsBounded, locks_of}
+use Rattle.lock_table.specs.Rows.{rows_held, AreRows, IsBounded, locks_of}
 use Rattle.lock_table.specs.Blockers.{HasInWay}
 use Rattle.lock_table.proofs.BlockerLemmas.{IsJoin, region_left, region_right, region_cases, region_own, own_region, nothing_region, barred_from, excluded_from}
 use Rattle.lock_table.proofs.LargestLaws.{IsLargest-iff, IsLargest-or, IsLargest-whole}
@@ -97,9 +97,9 @@ module _ (g k : FileLocks) (r : OwnerLocks) (join : IsJoin g (locks_of r) k) (mo
   }
 
 -- where no lock is in the way on the span, no byte of a row bars the mode there
-pub none_barred : (h : FileLocks) (part : List OwnerLocks) (file i : ℕ) (r : OwnerLocks) (s : Range) (mode : Mode) → IsClear h s mode → held part file ≡ h → AreRows part → All (λ (t : OwnerLocks). t.file ≡ file) part → i < length part → r ≡ get_or part i r → NoneIn (IsBarred (value_at r.spans) (bar_of mode)) s
+pub none_barred : (h : FileLocks) (part : List OwnerLocks) (file i : ℕ) (r : OwnerLocks) (s : Range) (mode : Mode) → IsClear h s mode → rows_held part file ≡ h → AreRows part → All (λ (t : OwnerLocks). t.file ≡ file) part → i < length part → r ≡ get_or part i r → NoneIn (IsBarred (value_at r.spans) (bar_of mode)) s
 none_barred h part file i r s mode clear same order files lt is b lo hi barred =
     let of_file : r.file ≡ file = rw (← is) at (files i r lt) in
-    let own : held part file r.owner ≡ value_at r.spans = rw (← of_file) (row_held part i r order lt is) in
+    let own : rows_held part file r.owner ≡ value_at r.spans = rw (← of_file) (row_held part i r order lt is) in
     let here : h r.owner b ≡ value_at r.spans b = sym (ap (λ (e : FileLocks). e r.owner b) same) ∙ ap (λ (e : ℕ → Option Mode). e b) own in
     free_at r mode b (value_at r.spans b) refl (sym (ap (bars mode) here) ∙ clear r.owner b lo hi) barred

@@ -13,7 +13,7 @@ use Rattle.model.specs.Locks.{replace, with_lock}
 use Rattle.lock_table.specs.declared.owner_locks.OwnerLocks.{OwnerLocks}
 use Rattle.lock_table.specs.declared.page_index.PageIndex.{PageIndex}
 use Rattle.lock_table.specs.Pages.{MayHold, Covers}
-use Rattle.lock_table.specs.Rows.{held, AreRows, IsRowAt, IsGap, HasRuns, HoldsSome}
+use Rattle.lock_table.specs.Rows.{rows_held, AreRows, IsRowAt, IsGap, HasRuns, HoldsSome}
 use Rattle.lock_table.proofs.RowLemmas.{held-at, held-gap, held-set, held-insert, held-remove, held-same, rows-set, rows-insert, rows-remove, place_of, row_alone}
 use Rattle.lock_table.proofs.PageLemmas.{covers-changed}
 
@@ -33,12 +33,12 @@ remove-set (y ∷ l) zero x = refl
 remove-set (y ∷ l) (suc i) x = ap (λ (rest : List _). y ∷ rest) (remove-set l i x)
 
 -- what the owner's row has once the write is made
-row_written : (l : List OwnerLocks) (i file : ℕ) (owner : Owner) (e : SpanEdit Mode) (r : OwnerLocks) (after : List (Run Mode)) → IsRowAt l i file owner → r ≡ get_or l i r → HasRuns l file owner e.runs → value_at after ≡ written e r.spans → value_at after ≡ put (held l file owner) e.span e.value
+row_written : (l : List OwnerLocks) (i file : ℕ) (owner : Owner) (e : SpanEdit Mode) (r : OwnerLocks) (after : List (Run Mode)) → IsRowAt l i file owner → r ≡ get_or l i r → HasRuns l file owner e.runs → value_at after ≡ written e r.spans → value_at after ≡ put (rows_held l file owner) e.span e.value
 row_written l i file owner e r after at is few made =
     made ∙ (written-fits e r.spans (few i r at is) ∙ ap (λ (f : ℕ → Option Mode). put f e.span e.value) (sym (held-at l i file owner r at is)))
 
 -- and a new one, made of an empty map
-new_written : (l : List OwnerLocks) (i file : ℕ) (owner : Owner) (e : SpanEdit Mode) (before after : List (Run Mode)) → IsGap l i file owner → value_at before ≡ nothing → before ≡ [] → value_at after ≡ written e before → value_at after ≡ put (held l file owner) e.span e.value
+new_written : (l : List OwnerLocks) (i file : ℕ) (owner : Owner) (e : SpanEdit Mode) (before after : List (Run Mode)) → IsGap l i file owner → value_at before ≡ nothing → before ≡ [] → value_at after ≡ written e before → value_at after ≡ put (rows_held l file owner) e.span e.value
 new_written l i file owner e before after gap none empty made =
     made ∙ (written-fits e before (subst (λ (runs : List (Run Mode)). length runs ≤ e.runs) (sym empty) (omega arith)) ∙ ap (λ (f : ℕ → Option Mode). put f e.span e.value) (none ∙ sym (held-gap l i file owner gap)))
 
@@ -46,15 +46,15 @@ new_written l i file owner e before after gap none empty made =
 abbrev pub IsLeft : PageIndex → List OwnerLocks → ℕ → Owner → SpanEdit Mode → List OwnerLocks → Type 0
 IsLeft index l file owner e new =
     AreRows new
-    × Covers index (held new)
-    × ((f : ℕ) (o : Owner) → held new f o ≡ with_lock (held l) file owner e.span e.value f o)
+    × Covers index (rows_held new)
+    × ((f : ℕ) (o : Owner) → rows_held new f o ≡ with_lock (rows_held l) file owner e.span e.value f o)
 
 -- of rows that are covered, once the index notes the write
-module _ (x y : PageIndex) (l : List OwnerLocks) (i file : ℕ) (owner : Owner) (e : SpanEdit Mode) (kept : AreRows l × Covers x (held l)) (keeps : (f : ℕ) (o : Owner) (b : ℕ) → MayHold x f o b → MayHold y f o b) (noted : (before : ℕ → Option Mode) (b : ℕ) (m : Mode) → put before e.span e.value b ≡ Some m → (before b ≡ Some m) ⊎ MayHold y file owner b) where
-  left : (new : List OwnerLocks) (bytes : ℕ → Option Mode) → AreRows new → ((f : ℕ) (o : Owner) → held new f o ≡ replace (held l) file owner bytes f o) → bytes ≡ put (held l file owner) e.span e.value → IsLeft y l file owner e new
+module _ (x y : PageIndex) (l : List OwnerLocks) (i file : ℕ) (owner : Owner) (e : SpanEdit Mode) (kept : AreRows l × Covers x (rows_held l)) (keeps : (f : ℕ) (o : Owner) (b : ℕ) → MayHold x f o b → MayHold y f o b) (noted : (before : ℕ → Option Mode) (b : ℕ) (m : Mode) → put before e.span e.value b ≡ Some m → (before b ≡ Some m) ⊎ MayHold y file owner b) where
+  left : (new : List OwnerLocks) (bytes : ℕ → Option Mode) → AreRows new → ((f : ℕ) (o : Owner) → rows_held new f o ≡ replace (rows_held l) file owner bytes f o) → bytes ≡ put (rows_held l file owner) e.span e.value → IsLeft y l file owner e new
   left new bytes order is made =
-      let same : (f : ℕ) (o : Owner) → held new f o ≡ with_lock (held l) file owner e.span e.value f o = λ f o. is f o ∙ ap (λ (g : ℕ → Option Mode). replace (held l) file owner g f o) made in
-      (order, covers-changed x y (held l) (held new) file owner (held l file owner) (put (held l file owner) e.span e.value) same kept.1 keeps (λ b m was. was) (noted (held l file owner)), same)
+      let same : (f : ℕ) (o : Owner) → rows_held new f o ≡ with_lock (rows_held l) file owner e.span e.value f o = λ f o. is f o ∙ ap (λ (g : ℕ → Option Mode). replace (rows_held l) file owner g f o) made in
+      (order, covers-changed x y (rows_held l) (rows_held new) file owner (rows_held l file owner) (put (rows_held l file owner) e.span e.value) same kept.1 keeps (λ b m was. was) (noted (rows_held l file owner)), same)
 
   -- the owner's row is written
   pub row_set : (r : OwnerLocks) (after : List (Run Mode)) → IsRowAt l i file owner → r ≡ get_or l i r → HasRuns l file owner e.runs → value_at after ≡ written e r.spans → HoldsSome (value_at after) → IsLeft y l file owner e (set l i (record r { spans = after }))

@@ -12,9 +12,23 @@ use Rattle.model.specs.declared.owner.Owner.{Owner}
 use Rattle.lock_table.specs.declared.owner_locks.OwnerLocks.{OwnerLocks}
 
 -- the locks that the rows hold: of an owner in a file those of its first row
-unfoldable pub held : List OwnerLocks → Locks
-held [] = no_locks
-held (r ∷ rest) = replace (held rest) r.file r.owner (value_at r.spans)
+unfoldable pub rows_held : List OwnerLocks → Locks
+rows_held [] = no_locks
+rows_held (r ∷ rest) = replace (rows_held rest) r.file r.owner (value_at r.spans)
+
+-- a lock table: its rows, and how many regions an owner may have in a file
+pub record TableParts : Type 0 where
+  pub rows : List OwnerLocks
+  pub limit : ℕ
+
+-- the locks that a table holds
+abbrev pub held : TableParts → Locks
+held t = rows_held t.rows
+
+-- both tables hold the same locks, and have one limit
+pub record IsSameTable (a b : TableParts) : Type 0 where
+  pub locks : held a ≡ held b
+  pub limit : a.limit ≡ b.limit
 
 -- where a row stands to the place of an owner in a file: by file, then by owner
 abbrev pub row_cmp : OwnerLocks → ℕ → Owner → Ordering

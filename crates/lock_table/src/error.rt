@@ -8,7 +8,7 @@ pub enum LockError {
     /// A request for memory was refused.
     #[error("no memory")]
     NoMemory,
-    /// The owner would have more than 1,024 regions in the file (POSIX.1-2017 `fcntl()`, ENOLCK).
+    /// The owner would have more regions in the file than the table's limit (POSIX.1-2017 `fcntl()`, ENOLCK).
     #[error("too many regions of one owner in one file")]
     NoLocks,
 }

@@ -2,12 +2,11 @@
 ghost use Rattle.std.specs.Prelude.{◌≡◌, ℕ, ◌≤◌, ◌<◌, ◌+◌, ◌-◌, ◌/◌, All, IfOk, IfSome, length, insert, [], IsTrue, ◌↔◌, OnOk, OnErr, Err, Some, None, MatchOption, MatchResult};
 ghost use Rattle.std.specs.List.{AllZip};
 ghost use Rattle.intervals.specs.Bytes.{nothing, put, IsLargest};
-ghost use Rattle.model.specs.Limits.{most_regions};
 ghost use Rattle.model.specs.Locks.{no_locks, with_lock, without_owner, without_owner_anywhere, regions, IsFree, IsRegion, IsLowestBlocker, IsClear, IsLowestInWay};
 ghost use Rattle.model.specs.declared.mode.Mode.{Mode as SomeMode};
 ghost use Rattle.lock_table.specs.declared.error.LockError.TheVariants.{NoLocks};
 ghost use Rattle.std.specs.Vec.{vec_capacity};
-ghost use Rattle.lock_table.specs.Rows.{held, HoldsLess, HasRoom, HasRuns, AreRows, IsRowAt, IsGap, IsSameRow};
+ghost use Rattle.lock_table.specs.Rows.{rows_held, held, IsSameTable, HoldsLess, HasRoom, HasRuns, AreRows, IsRowAt, IsGap, IsSameRow};
 ghost use Rattle.lock_table.specs.Blockers.{IsLowestBut, HasInWay};
 ghost use Rattle.lock_table.specs.Listing.{IsListing};
 ghost use Rattle.lock_table.specs.Pages.{HasFlag, IsKept};
@@ -20,7 +19,6 @@ use crate::page_index::PageIndex;
 use intervals::span::Span;
 use intervals::span_edit::SpanEdit;
 use intervals::span_map::{NoMemory, SpanMap};
-use model::limits::MOST_REGIONS;
 use model::lock_info::LockInfo;
 use model::mode::Mode;
 use model::owner::Owner;
@@ -31,25 +29,24 @@ use std::marker::Model;
 const LEAST_ROWS: usize = 64;
 
 /// The record locks of one node: what each owner holds at each byte of each file, by mode. `set`, `unlock`
-/// and what `plan` answers leave an owner at most 1,024 regions in a file, a region being a longest run
-/// of bytes in one mode. A call that answers an error leaves the locks as they were.
+/// and what `plan` answers leave an owner no more regions in a file than the table's limit, a region being
+/// a longest run of bytes in one mode. A call that answers an error leaves the locks as they were.
 #[derive(Drop)]
 pub struct LockTable {
     rows: Vec<OwnerLocks>,
     index: PageIndex,
+    limit: usize,
 }
 
 impl Model for LockTable {
-    ghost use Rattle.std.specs.Prelude.{List};
-    ghost use Rattle.lock_table.specs.declared.owner_locks.OwnerLocks.{OwnerLocks};
-    ghost use Rattle.lock_table.specs.Rows.{AreRows, held};
+    ghost use Rattle.lock_table.specs.Rows.{TableParts, AreRows, rows_held};
     ghost use Rattle.lock_table.specs.Pages.{Covers};
 
-    ghost Value = { List OwnerLocks };
+    ghost Value = { TableParts };
 
-    ghost view = { λ t. t.rows.items };
+    ghost view = { λ t. record { rows = t.rows.items; limit = t.limit } };
 
-    ghost invariant = { λ t. AreRows t.rows.items × Covers t.index (held t.rows.items) };
+    ghost invariant = { λ t. AreRows t.rows.items × Covers t.index (rows_held t.rows.items) };
 }
 
 // The place of the row of an owner in a file, or where one belongs.
@@ -65,7 +62,7 @@ fn rows_of(rows: &[OwnerLocks], file: u16) -> &[OwnerLocks]
     requires { AreRows rows.now }
     ensures rows { AreRows result.now }
     ensures file { All (λ row. row.file ≡ file) result.now }
-    ensures held { held result.now file ≡ held rows.now file }
+    ensures held { rows_held result.now file ≡ rows_held rows.now file }
 {
     let start = rows.partition_point(|row| row.file < file);
     let end = rows.partition_point(|row| row.file <= file);
@@ -124,13 +121,15 @@ fn insert_row(rows: &mut Vec<OwnerLocks>, place: usize, row: OwnerLocks)
 }
 
 impl LockTable {
-    /// The table with no locks.
-    pub fn new(alloc: Global) -> Self
-        ensures { held result ≡ no_locks }
+    /// The table with no locks, in which an owner may have so many regions in a file.
+    pub fn new(alloc: Global, limit: usize) -> Self
+        ensures locks { held result ≡ no_locks }
+        ensures limit { result.limit ≡ limit }
     {
         LockTable {
             rows: Vec::new(alloc),
             index: PageIndex::none(alloc),
+            limit,
         }
     }
 
@@ -149,14 +148,15 @@ impl LockTable {
         Ok(LockTable {
             rows,
             index: PageIndex::none(alloc),
+            limit: self.limit,
         })
     }
 
-    /// Whether both have the same locks.
+    /// Whether both have the same locks and the same limit.
     pub fn same(&self, other: &Self) -> bool
-        ensures { IsTrue result ↔ (held self.now ≡ held other.now) }
+        ensures { IsTrue result ↔ IsSameTable self.now other.now }
     {
-        same_rows(&self.rows, &other.rows)
+        self.limit == other.limit && same_rows(&self.rows, &other.rows)
     }
 
     /// Gives each byte of the span the mode for this owner (POSIX.1-2017 `fcntl()`, F_SETLK with
@@ -164,14 +164,15 @@ impl LockTable {
     /// asks `blocker` first.
     ///
     /// # Errors
-    /// `NoLocks` where the owner would then have more than 1,024 regions in the file (ENOLCK), which is
+    /// `NoLocks` where the owner would then have more regions in the file than the limit (ENOLCK), which is
     /// tested before memory is asked for; `NoMemory`.
     pub fn set(&mut self, owner: Owner, file: u16, span: Span, mode: Mode) -> Result<(), LockError>
         ensures ok { OnOk result (held self.new ≡ with_lock (held self.old) file owner span (Some mode)) }
-        ensures few { OnOk result (regions (put (held self.old file owner) span (Some mode)) ≤ most_regions) }
-        ensures many { result ≡ Err NoLocks → most_regions < regions (put (held self.old file owner) span (Some mode)) }
-        ensures refused { most_regions < regions (put (held self.old file owner) span (Some mode)) → result ≡ Err NoLocks }
+        ensures few { OnOk result (regions (put (held self.old file owner) span (Some mode)) ≤ self.old.limit) }
+        ensures many { result ≡ Err NoLocks → self.old.limit < regions (put (held self.old file owner) span (Some mode)) }
+        ensures refused { self.old.limit < regions (put (held self.old file owner) span (Some mode)) → result ≡ Err NoLocks }
         ensures err { OnErr result (self.new ≡ self.old) }
+        ensures limit { self.new.limit ≡ self.old.limit }
     {
         let edit = self.plan(owner, file, span, Some(mode))?;
         self.apply(edit);
@@ -181,14 +182,15 @@ impl LockTable {
     /// Takes each byte of the span from this owner (POSIX.1-2017 `fcntl()`, F_SETLK with F_UNLCK).
     ///
     /// # Errors
-    /// `NoLocks` where the owner would then have more than 1,024 regions in the file (ENOLCK), since
+    /// `NoLocks` where the owner would then have more regions in the file than the limit (ENOLCK), since
     /// a region can be cut in two; that is tested before memory is asked for; `NoMemory`.
     pub fn unlock(&mut self, owner: Owner, file: u16, span: Span) -> Result<(), LockError>
         ensures ok { OnOk result (held self.new ≡ with_lock (held self.old) file owner span None) }
-        ensures few { OnOk result (regions (put (held self.old file owner) span None) ≤ most_regions) }
-        ensures many { result ≡ Err NoLocks → most_regions < regions (put (held self.old file owner) span None) }
-        ensures refused { most_regions < regions (put (held self.old file owner) span None) → result ≡ Err NoLocks }
+        ensures few { OnOk result (regions (put (held self.old file owner) span None) ≤ self.old.limit) }
+        ensures many { result ≡ Err NoLocks → self.old.limit < regions (put (held self.old file owner) span None) }
+        ensures refused { self.old.limit < regions (put (held self.old file owner) span None) → result ≡ Err NoLocks }
         ensures err { OnErr result (self.new ≡ self.old) }
+        ensures limit { self.new.limit ≡ self.old.limit }
     {
         let edit = self.plan(owner, file, span, None)?;
         self.apply(edit);
@@ -212,7 +214,7 @@ impl LockTable {
     // An empty list with room for all rows and one more, where the owner has no row in the file.
     fn room_for(&self, file: u16, owner: Owner) -> Result<Vec<OwnerLocks>, NoMemory>
         ensures empty { IfOk result (λ room. room.items ≡ []) }
-        ensures room { IfOk result (λ room. HasRoom self.now file owner (vec_capacity room)) }
+        ensures room { IfOk result (λ room. HasRoom self.now.rows file owner (vec_capacity room)) }
     {
         let alloc = *self.rows.allocator();
         match position(&self.rows, file, owner) {
@@ -223,7 +225,7 @@ impl LockTable {
 
     // Memory for an index, where the table is to keep one and has none.
     fn index_for(&self) -> Result<PageIndex, NoMemory>
-        ensures { IfOk result (λ index. IsKept index → 64 ≤ length self.now) }
+        ensures { IfOk result (λ index. IsKept index → 64 ≤ length self.now.rows) }
     {
         let alloc = *self.rows.allocator();
         if self.rows.len() < LEAST_ROWS || self.index.is_kept() {
@@ -242,7 +244,7 @@ impl LockTable {
     ) -> Result<SpanEdit<Mode>, NoMemory>
         ensures span { IfOk result (λ write. write.span ≡ span) }
         ensures mode { IfOk result (λ write. write.value ≡ mode) }
-        ensures runs { IfOk result (λ write. HasRuns self.now file owner write.runs) }
+        ensures runs { IfOk result (λ write. HasRuns self.now.rows file owner write.runs) }
     {
         match position(&self.rows, file, owner) {
             Ok(i) => Ok(self.rows[i].spans.plan(span, mode)?),
@@ -265,15 +267,15 @@ impl LockTable {
         mode: Option<Mode>,
     ) -> Result<LockEdit, LockError>
         ensures ok { IfOk result (λ e. with_lock (held self.now) e.file e.owner e.write.span e.write.value ≡ with_lock (held self.now) file owner span mode) }
-        ensures few { OnOk result (regions (put (held self.now file owner) span mode) ≤ most_regions) }
-        ensures many { result ≡ Err NoLocks → most_regions < regions (put (held self.now file owner) span mode) }
-        ensures refused { most_regions < regions (put (held self.now file owner) span mode) → result ≡ Err NoLocks }
-        ensures runs { IfOk result (λ e. HasRuns self.now e.file e.owner e.write.runs) }
-        ensures room { IfOk result (λ e. HasRoom self.now e.file e.owner (vec_capacity e.room)) }
+        ensures few { OnOk result (regions (put (held self.now file owner) span mode) ≤ self.now.limit) }
+        ensures many { result ≡ Err NoLocks → self.now.limit < regions (put (held self.now file owner) span mode) }
+        ensures refused { self.now.limit < regions (put (held self.now file owner) span mode) → result ≡ Err NoLocks }
+        ensures runs { IfOk result (λ e. HasRuns self.now.rows e.file e.owner e.write.runs) }
+        ensures room { IfOk result (λ e. HasRoom self.now.rows e.file e.owner (vec_capacity e.room)) }
         ensures empty { IfOk result (λ e. e.room.items ≡ []) }
         ensures of_owner { IfOk result (λ e. e.owner ≡ owner) }
     {
-        if self.regions_with(file, owner, span, mode) > MOST_REGIONS {
+        if self.regions_with(file, owner, span, mode) > self.limit {
             return Err(LockError::NoLocks);
         }
         let write = self.plan_write(file, owner, span, mode)?;
@@ -304,9 +306,10 @@ impl LockTable {
     // Makes the write in the owner's row, and takes the row out where it holds nothing then. Takes no
     // memory.
     fn write_row(&mut self, place: usize, file: u16, owner: Owner, write: SpanEdit<Mode>)
-        requires row { IsRowAt self.old place file owner }
-        requires runs { HasRuns self.old file owner write.runs }
-        ensures { held self.new ≡ with_lock (held self.old) file owner write.span write.value }
+        requires row { IsRowAt self.old.rows place file owner }
+        requires runs { HasRuns self.old.rows file owner write.runs }
+        ensures locks { held self.new ≡ with_lock (held self.old) file owner write.span write.value }
+        ensures limit { self.new.limit ≡ self.old.limit }
     {
         self.index.note_write(file, owner, &write);
         let row = &mut self.rows[place];
@@ -327,10 +330,11 @@ impl LockTable {
         write: SpanEdit<Mode>,
         room: Vec<OwnerLocks>,
     )
-        requires gap { IsGap self.old place file owner }
+        requires gap { IsGap self.old.rows place file owner }
         requires empty { room.items ≡ [] }
-        requires room { length self.old < vec_capacity room }
-        ensures { held self.new ≡ with_lock (held self.old) file owner write.span write.value }
+        requires room { length self.old.rows < vec_capacity room }
+        ensures locks { held self.new ≡ with_lock (held self.old) file owner write.span write.value }
+        ensures limit { self.new.limit ≡ self.old.limit }
     {
         self.index.note_write(file, owner, &write);
         let mut spans = Spans::new(*self.rows.allocator());
@@ -344,10 +348,11 @@ impl LockTable {
 
     // Makes the write of what an owner holds in a file. Takes no memory.
     fn write(&mut self, file: u16, owner: Owner, write: SpanEdit<Mode>, room: Vec<OwnerLocks>)
-        requires runs { HasRuns self.old file owner write.runs }
+        requires runs { HasRuns self.old.rows file owner write.runs }
         requires empty { room.items ≡ [] }
-        requires room { HasRoom self.old file owner (vec_capacity room) }
-        ensures { held self.new ≡ with_lock (held self.old) file owner write.span write.value }
+        requires room { HasRoom self.old.rows file owner (vec_capacity room) }
+        ensures locks { held self.new ≡ with_lock (held self.old) file owner write.span write.value }
+        ensures limit { self.new.limit ≡ self.old.limit }
     {
         match position(&self.rows, file, owner) {
             Ok(place) => self.write_row(place, file, owner, write),
@@ -358,10 +363,11 @@ impl LockTable {
     /// Makes a planned change: of what the owner holds in the file, only the regions from the span on are
     /// written. Takes no memory.
     pub fn apply(&mut self, edit: LockEdit)
-        requires runs { HasRuns self.old edit.file edit.owner edit.write.runs }
+        requires runs { HasRuns self.old.rows edit.file edit.owner edit.write.runs }
         requires empty { edit.room.items ≡ [] }
-        requires room { HasRoom self.old edit.file edit.owner (vec_capacity edit.room) }
-        ensures { held self.new ≡ with_lock (held self.old) edit.file edit.owner edit.write.span edit.write.value }
+        requires room { HasRoom self.old.rows edit.file edit.owner (vec_capacity edit.room) }
+        ensures locks { held self.new ≡ with_lock (held self.old) edit.file edit.owner edit.write.span edit.write.value }
+        ensures limit { self.new.limit ≡ self.old.limit }
     {
         let LockEdit {
             file,
@@ -376,7 +382,8 @@ impl LockTable {
 
     /// Takes each byte of a file from an owner. Takes no memory.
     pub fn drop_owner(&mut self, owner: Owner, file: u16)
-        ensures { held self.new ≡ without_owner (held self.old) file owner }
+        ensures locks { held self.new ≡ without_owner (held self.old) file owner }
+        ensures limit { self.new.limit ≡ self.old.limit }
     {
         if let Ok(i) = position(&self.rows, file, owner) {
             self.rows.remove(i);
@@ -394,6 +401,7 @@ impl LockTable {
     // Takes each byte of the files with those of 64 flags from an owner.
     fn drop_in_word(&mut self, owner: Owner, files: &FlagSet, word: u16)
         requires { word < 4 }
+        ensures limit { self.new.limit ≡ self.old.limit }
         ensures less { HoldsLess owner (held self.old) (held self.new) }
         ensures gone { (k : ℕ) → k / 64 ≡ word → HasFlag files.now k → held self.new (k + 1) owner ≡ nothing }
     {
@@ -407,6 +415,7 @@ impl LockTable {
 
     // Takes each byte of the files with these flags from an owner.
     fn drop_in_files(&mut self, owner: Owner, files: &FlagSet)
+        ensures limit { self.new.limit ≡ self.old.limit }
         ensures less { HoldsLess owner (held self.old) (held self.new) }
         ensures gone { (k : ℕ) → k < 256 → HasFlag files.now k → held self.new (k + 1) owner ≡ nothing }
     {
@@ -419,14 +428,16 @@ impl LockTable {
 
     // Takes the rows of an owner out.
     fn drop_rows(&mut self, owner: Owner)
-        ensures { held self.new ≡ without_owner_anywhere (held self.old) owner }
+        ensures locks { held self.new ≡ without_owner_anywhere (held self.old) owner }
+        ensures limit { self.new.limit ≡ self.old.limit }
     {
         self.rows.retain(|row| row.owner != owner);
     }
 
     /// Takes each byte of every file from an owner. Takes no memory.
     pub fn drop_owner_anywhere(&mut self, owner: Owner)
-        ensures { held self.new ≡ without_owner_anywhere (held self.old) owner }
+        ensures locks { held self.new ≡ without_owner_anywhere (held self.old) owner }
+        ensures limit { self.new.limit ≡ self.old.limit }
     {
         match self.files_of(owner) {
             Some(files) => self.drop_in_files(owner, &files),

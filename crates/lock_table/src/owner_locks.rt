@@ -9,14 +9,14 @@ ghost use Rattle.lock_table.specs.Listing.{ListsRegions};
 
 use intervals::span::{GREATEST, Span};
 use intervals::span_map::{NoMemory, SpanMap};
-use intervals::vec_map::VecMap;
+use intervals::tree_map::TreeMap;
 use model::lock_info::LockInfo;
 use model::mode::Mode;
 use model::owner::Owner;
 use std::cmp::Ordering;
 
 /// The bytes that one owner holds in one file, each with its mode.
-pub(crate) type Spans = VecMap<Mode>;
+pub(crate) type Spans = TreeMap<Mode>;
 
 /// What one owner holds in one file.
 #[derive(Drop)]

@@ -4,13 +4,12 @@ ghost use Rattle.intervals.specs.Bytes.{put};
 ghost use Rattle.intervals.specs.Runs.{value_at};
 ghost use Rattle.model.specs.declared.mode.Mode.{Mode as SomeMode};
 ghost use Rattle.model.specs.declared.owner.Owner.{Owner as SomeOwner};
-ghost use Rattle.lock_table.specs.Rows.{held, AreRows};
+ghost use Rattle.lock_table.specs.Rows.{rows_held, AreRows};
 ghost use Rattle.lock_table.specs.Pages.{Has, HasFlag, HasFile, MayHold, HasPage, IsKept, Covers, slot_of};
 
 use crate::flag_set::FlagSet;
 use crate::owner_locks::OwnerLocks;
 use crate::owner_set::{OwnerSet, flag_of};
-use intervals::run::Run;
 use intervals::span::Span;
 use intervals::span_edit::SpanEdit;
 use intervals::span_map::NoMemory;
@@ -201,18 +200,6 @@ impl PageIndex {
         self.note_bytes(file, owner, write.span.lo, write.span.hi);
     }
 
-    // Notes that the owner may hold the bytes of the runs.
-    fn note_runs(&mut self, file: u16, owner: Owner, runs: &[Run<Mode>])
-        requires kept { IsKept self.old }
-        ensures kept { IsKept self.new }
-        ensures keeps { (f : ℕ) (o : SomeOwner) (b : ℕ) → MayHold self.old f o b → MayHold self.new f o b }
-        ensures noted { (b : ℕ) (m : SomeMode) → value_at runs.now b ≡ Some m → MayHold self.new file owner b }
-    {
-        for run in runs {
-            self.note_bytes(file, owner, run.lo, run.hi);
-        }
-    }
-
     // Notes what a row holds.
     fn note_row(&mut self, row: &OwnerLocks)
         requires kept { IsKept self.old }
@@ -220,13 +207,17 @@ impl PageIndex {
         ensures keeps { (f : ℕ) (o : SomeOwner) (b : ℕ) → MayHold self.old f o b → MayHold self.new f o b }
         ensures noted { (b : ℕ) (m : SomeMode) → value_at row.now.spans b ≡ Some m → MayHold self.new row.now.file row.now.owner b }
     {
-        self.note_runs(row.file, row.owner, row.spans.runs());
+        let mut from = 0;
+        while let Some(run) = row.spans.next(from) {
+            self.note_bytes(row.file, row.owner, run.lo, run.hi);
+            from = run.hi + 1;
+        }
     }
 
     /// Forgets all, and notes what the rows hold.
     pub(crate) fn renew(&mut self, rows: &[OwnerLocks])
         requires { AreRows rows.now }
-        ensures { Covers self.new (held rows.now) }
+        ensures { Covers self.new (rows_held rows.now) }
     {
         if !self.is_kept() {
             return;

@@ -2,9 +2,9 @@
 use Rattle.std.proofs.Common.{◌≡◌, ◌≢◌, ℕ, ◌+◌, List, [], ◌∷◌, ◌++◌, map, inl, inr, refl, sym, ap, subst, ◌∙◌}
 use Rattle.std.proofs.lemmas.List.{append-nil, map-append}
 use Rattle.std.proofs.lemmas.List.Elements.{All-nil, All-push}
-use Rattle.messages.specs.Shapes.{ShapeFields, IsShape}
+use Rattle.messages.specs.Shapes.{ShapeFields}
 use Rattle.texts.specs.LineFeeds.{line_feeds, FindsLine, PassesLines}
-use Rattle.lockscript.specs.Scripts.{Begun, IsBad, IsBadFirst, IsBadLine, IsFirstBad, IsLine, IsMisplaced, IsNoLine, IsNoShape, IsRefused, IsScript, LineFields, ScriptFields, line_text, script_of, shape_text}
+use Rattle.lockscript.specs.Scripts.{Begun, IsBad, IsBadFirst, IsBadLine, IsFirstBad, IsLine, IsMisplaced, IsNoLine, IsNoShape, IsRefused, IsScript, IsScriptShape, LineFields, ScriptFields, line_text, script_of, shape_text}
 use Rattle.lockscript.specs.declared.error.ParseError.{ParseError}
 use Rattle.lockscript.specs.declared.error.ParseError.TheVariants.{NoMemory, BadLine}
 use Rattle.lockscript.specs.Scripts.IsBad.{stands_wrong, has_no_end}
@@ -18,7 +18,7 @@ passes-more text taken kept middle between rest passed a b =
     rw (append-nil kept) at joined
 
 -- the `cluster` line begins a script
-pub begun-first : (text : List ℕ) (number : ℕ) (line rest : List ℕ) (shape : ShapeFields) → FindsLine text 0 number line rest → IsShape shape → line ≡ shape_text shape
+pub begun-first : (text : List ℕ) (number : ℕ) (line rest : List ℕ) (shape : ShapeFields) → FindsLine text 0 number line rest → IsScriptShape shape → line ≡ shape_text shape
     → Begun text (script_of shape []) rest number
 begun-first text number line rest shape found fits e = record {
   kept = (number, line) ∷ [];

@@ -3,6 +3,7 @@ pub mod Passes
 pub mod Begun
 pub mod OneReading
 pub mod ThreadScripts
+pub mod ShapedTexts
 pub mod SingleWords
 pub mod FieldValues
 pub mod OperationKinds

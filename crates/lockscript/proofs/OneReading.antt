@@ -66,12 +66,12 @@ further (x ∷ xs) (y ∷ ys) rest rest' xs_in ys_in e =
     further-lines x y xs ys rest rest' first.0 (further xs ys rest rest' (All-tail IsSingle x xs xs_in) (All-tail IsSingle y ys ys_in) first.1)
 
 -- what was passed and kept by a reading that went further
-record Onward (kept : List (ℕ × List ℕ)) (rest : List ℕ) (passed : ℕ) (kept' : List (ℕ × List ℕ)) (rest' : List ℕ) (passed' : ℕ) : Type 0 where
-  lines : List (List ℕ)
-  single : All IsSingle lines
-  parts : rest ≡ flat_map ended lines ++ rest'
-  counted : passed' ≡ passed + length lines
-  said : kept' ≡ kept ++ kept_lines (passed + 1) lines
+pub record Onward (kept : List (ℕ × List ℕ)) (rest : List ℕ) (passed : ℕ) (kept' : List (ℕ × List ℕ)) (rest' : List ℕ) (passed' : ℕ) : Type 0 where
+  pub lines : List (List ℕ)
+  pub single : All IsSingle lines
+  pub parts : rest ≡ flat_map ended lines ++ rest'
+  pub counted : passed' ≡ passed + length lines
+  pub said : kept' ≡ kept ++ kept_lines (passed + 1) lines
 
 onward-further : (text : List ℕ) (kept : List (ℕ × List ℕ)) (rest : List ℕ) (passed : ℕ) (kept' : List (ℕ × List ℕ)) (rest' : List ℕ) (passed' : ℕ)
     → (a : PassesLines text 0 kept rest passed) → (b : PassesLines text 0 kept' rest' passed') → Further a.lines b.lines rest rest' → Onward kept rest passed kept' rest' passed'
@@ -94,7 +94,7 @@ onward text kept rest passed kept' rest' passed' a b (inl f) = inl (onward-furth
 onward text kept rest passed kept' rest' passed' a b (inr f) = inr (onward-further text kept' rest' passed' kept rest passed b a f)
 
 -- one of two readings of a text went further than the other
-either : (text : List ℕ) (kept : List (ℕ × List ℕ)) (rest : List ℕ) (passed : ℕ) (kept' : List (ℕ × List ℕ)) (rest' : List ℕ) (passed' : ℕ)
+pub either : (text : List ℕ) (kept : List (ℕ × List ℕ)) (rest : List ℕ) (passed : ℕ) (kept' : List (ℕ × List ℕ)) (rest' : List ℕ) (passed' : ℕ)
     → PassesLines text 0 kept rest passed → PassesLines text 0 kept' rest' passed' → Onward kept rest passed kept' rest' passed' ⊎ Onward kept' rest' passed' kept rest passed
 either text kept rest passed kept' rest' passed' a b =
     onward text kept rest passed kept' rest' passed' a b (further a.lines b.lines rest rest' a.single b.single (sym a.parts ∙ b.parts))
@@ -138,7 +138,7 @@ not-past kept number passed rest line lines rest' (stands_wrong bad after bad_be
     not-misplaced kept number bad (kept_lines (passed + 1 + 1) lines) misplaced (subst (λ (ks : List (ℕ × List ℕ)). BeginsScript (kept ++ ks)) kept_is script)
 
 -- a reading that begins a script stops at the bad line
-stops : (kept : List (ℕ × List ℕ)) (number passed : ℕ) (rest : List ℕ) (lines : List (List ℕ)) (rest' : List ℕ) → IsBad kept number rest → number ≡ passed + 1
+pub stops : (kept : List (ℕ × List ℕ)) (number passed : ℕ) (rest : List ℕ) (lines : List (List ℕ)) (rest' : List ℕ) → IsBad kept number rest → number ≡ passed + 1
     → rest ≡ flat_map ended lines ++ rest' → All IsSingle lines → BeginsScript (kept ++ kept_lines (passed + 1) lines) → lines ≡ []
 stops kept number passed rest [] rest' bad counted parts single script = refl
 stops kept number passed rest (line ∷ lines) rest' bad counted parts single script =
@@ -157,7 +157,7 @@ bad-once m n text a b o =
     omega (arith, a.counted, b.counted, o.counted, ap length none)
 
 -- nothing was kept where no line was passed
-same-kept : (kept : List (ℕ × List ℕ)) (rest : List ℕ) (passed : ℕ) (kept' : List (ℕ × List ℕ)) (rest' : List ℕ) (passed' : ℕ) (o : Onward kept rest passed kept' rest' passed') → o.lines ≡ []
+pub same-kept : (kept : List (ℕ × List ℕ)) (rest : List ℕ) (passed : ℕ) (kept' : List (ℕ × List ℕ)) (rest' : List ℕ) (passed' : ℕ) (o : Onward kept rest passed kept' rest' passed') → o.lines ≡ []
     → (kept' ≡ kept) × (rest ≡ rest')
 same-kept kept rest passed kept' rest' passed' o none =
     (o.said ∙ ap (λ (ls : List (List ℕ)). kept ++ kept_lines (passed + 1) ls) none ∙ append-nil kept, o.parts ∙ ap (λ (ls : List (List ℕ)). flat_map ended ls ++ rest') none)

@@ -6,6 +6,8 @@ use Rattle.lockscript.specs.declared.script_line.Command.TheVariants.{Call, Deli
 use Rattle.lockscript.specs.declared.error.ParseError.{ParseError}
 use Rattle.lockscript.specs.declared.error.ParseError.TheVariants.{NoMemory, BadLine}
 use Rattle.messages.specs.Shapes.{ShapeFields, IsShape, most_files}
+use Rattle.messages.specs.declared.version.Version.{Version}
+use Rattle.messages.specs.declared.version.Version.TheVariants.{Second}
 use Rattle.cluster_core.specs.World.{most_incarnations}
 use Rattle.texts.specs.Reads.{pair_text}
 use Rattle.lockscript.specs.Texts.{op_text}
@@ -28,6 +30,15 @@ command_text (Resend file) = codes "resend " ++ decimal file
 command_text (Declare node) = codes "declare " ++ decimal node
 command_text (Restart node) = codes "restart " ++ decimal node
 command_text (Learn file node incarnation) = codes "learn " ++ pair_text decimal (pair_text decimal decimal) (file, (node, incarnation))
+
+-- a cluster that is served, of this version
+pub record IsShapeOf (version : Version) (s : ShapeFields) : Type 0 where
+  pub is_shape : IsShape s
+  pub is_version : s.version ≡ version
+
+-- the cluster of a script, which is of version 2
+abbrev pub IsScriptShape : ShapeFields → Type 0
+IsScriptShape = IsShapeOf Second
 
 -- `N files F policy P`
 abbrev pub counts_text : ShapeFields → List ℕ
@@ -75,7 +86,7 @@ line_text l = (l.number, command_text l.command)
 pub record Writes (kept : List (ℕ × List ℕ)) (s : ScriptFields) : Type 0 where
   pub cluster_line : ℕ
   pub texts : kept ≡ (cluster_line, shape_text s.shape) ∷ map line_text s.lines
-  pub shape_in : IsShape s.shape
+  pub shape_in : IsScriptShape s.shape
   pub lines_in : All IsLine s.lines
 
 -- the text begins with whole lines that write this script
@@ -101,7 +112,7 @@ BeginsScript kept = (kept ≡ []) ⊎ ((s : ScriptFields) × Writes kept s)
 
 -- the line names no cluster that is served
 abbrev pub IsNoShape : List ℕ → Type 0
-IsNoShape line = (s : ShapeFields) → IsShape s → line ≢ shape_text s
+IsNoShape line = (s : ShapeFields) → IsScriptShape s → line ≢ shape_text s
 
 -- the line asks for nothing that is served, or its number cannot be listed
 abbrev pub IsNoLine : ℕ → List ℕ → Type 0

@@ -1,11 +1,11 @@
 //! The line that names a cluster.
 ghost use Rattle.std.specs.Prelude.{codes};
-ghost use Rattle.messages.specs.Shapes.{IsShape};
 ghost use Rattle.texts.specs.Reads.{Reads};
-ghost use Rattle.lockscript.specs.Scripts.{counts_text, shape_text};
+ghost use Rattle.lockscript.specs.Scripts.{IsScriptShape, IsShapeOf, counts_text, shape_text};
 
 use crate::fields::{FileField, NodeField};
 use messages::shape::Shape;
+use messages::version::Version;
 use model::policy::Policy;
 use texts::front::{After, Front};
 use texts::text::{Text, after};
@@ -36,23 +36,24 @@ type Counts = (
     After<FilesWord, (FileField, After<PolicyWord, Policy>)>,
 );
 
-/// The shape that `cluster nodes N files F policy P` names, if the line is that and such a cluster is
-/// served.
+/// The shape, of version 2, that `cluster nodes N files F policy P` names, if the line is that and such
+/// a cluster is served.
 pub fn shape_of(line: &str) -> Option<Shape>
-    ensures { Reads shape_text IsShape line.now result }
+    ensures { Reads shape_text IsScriptShape line.now result }
 {
     match after(line, "cluster nodes ") {
-        Some(operands) => shape_operands(operands),
+        Some(operands) => shape_operands(Version::Second, operands),
         None => None,
     }
 }
 
-/// The shape that `N files F policy P` names, if the text is that and such a cluster is served.
-pub fn shape_operands(text: &str) -> Option<Shape>
-    ensures { Reads counts_text IsShape text.now result }
+/// The shape of this version that `N files F policy P` names, if the text is that and such a cluster
+/// is served.
+pub fn shape_operands(version: Version, text: &str) -> Option<Shape>
+    ensures { Reads counts_text (IsShapeOf version) text.now result }
 {
     match Counts::read(text) {
-        Some((nodes, (files, policy))) => Shape::new(nodes, files, policy).ok(),
+        Some((nodes, (files, policy))) => Shape::of(version, nodes, files, policy).ok(),
         None => None,
     }
 }

@@ -1,7 +1,8 @@
 //! Scripts.
-ghost use Rattle.std.specs.Prelude.{◌≡◌, ◌≢◌, ◌≤◌, [], IfErr, IfOk, OnOk};
+ghost use Rattle.std.specs.Prelude.{◌≡◌, ◌≢◌, ◌≤◌, ◌↔◌, ℕ, List, [], IfErr, IfOk, IsTrue, OnOk};
 ghost use Rattle.lockscript.specs.declared.error.ParseError.TheVariants.{BadLine, NoMemory};
 ghost use Rattle.lockscript.specs.Scripts.{Begun, HasScript, IsBadFirst, IsBadLine, IsLine, IsNoLine, IsRefused, IsScript, ScriptFields, line_text, script_of};
+ghost use Rattle.lockscript.specs.ShapedScripts.{IsClusterLine, IsForShape, IsRefusedForShape};
 ghost use Rattle.lockscript.specs.ThreadLines.{bad_line, IsForThreads, IsRefusedOnThreads};
 
 use crate::cluster_line::shape_of;
@@ -76,6 +77,19 @@ impl Script {
         Script::parse(alloc, text)
     }
 
+    /// The script that the text writes, as at `parse`, which is of a cluster of this shape.
+    ///
+    /// # Errors
+    /// `BadLine` with the number of the `cluster` line where it names another cluster, and else as at
+    /// `parse`; `NoMemory` where no line is bad and a request for memory was refused.
+    pub fn parse_for_shape(alloc: Global, shape: &Shape, text: &str) -> Result<Script, ParseError>
+        ensures script { IfOk result (IsForShape shape.now text.now) }
+        ensures refused { IfErr result (IsRefusedForShape shape.now text.now) }
+    {
+        check_shape(shape, text)?;
+        Script::parse(alloc, text)
+    }
+
     /// The cluster that it runs on.
     pub fn shape(&self) -> Shape
         ensures { result ≡ self.now.shape }
@@ -108,13 +122,44 @@ fn shape_in(source: &mut Lines<'_>) -> Result<Shape, ParseError>
     ensures begun { IfOk result (λ shape. Begun source.old.rest.now (script_of shape []) source.new.rest.now source.new.taken) }
     ensures bad { IfErr result (IsBadFirst source.old.rest.now) }
 {
+    let (_, shape) = cluster_in(source)?;
+    Ok(shape)
+}
+
+// Takes the first line of a text: its number, and the shape that it names.
+fn cluster_in(source: &mut Lines<'_>) -> Result<(u64, Shape), ParseError>
+    requires { source.old.taken ≡ 0 }
+    ensures cluster { IfOk result (λ found. IsClusterLine source.old.rest.now found.0 found.1 source.new.rest.now) }
+    ensures taken { IfOk result (λ found. source.new.taken ≡ found.0) }
+    ensures bad { IfErr result (IsBadFirst source.old.rest.now) }
+{
     let Some(first) = source.next_command()? else {
         return Err(ParseError::BadLine(source.next_number()));
     };
     match shape_of(first.text) {
-        Some(shape) => Ok(shape),
+        Some(shape) => Ok((first.number, shape)),
         None => Err(ParseError::BadLine(first.number)),
     }
+}
+
+// Whether the text begins a script of a cluster of this shape.
+fn check_shape(shape: &Shape, text: &str) -> Result<(), ParseError>
+    ensures same { OnOk result ((number : ℕ) × ((rest : List ℕ) × IsClusterLine text.now number shape.now rest)) }
+    ensures bad { IfErr result (λ error. (error ≢ NoMemory) × IsRefusedForShape shape.now text.now error) }
+{
+    let mut source = Lines::new(text);
+    let (number, found) = cluster_in(&mut source)?;
+    if !same_shape(&found, shape) {
+        return Err(ParseError::BadLine(number));
+    }
+    Ok(())
+}
+
+// Whether both are the same shape.
+fn same_shape(one: &Shape, other: &Shape) -> bool
+    ensures { IsTrue result ↔ (one.now ≡ other.now) }
+{
+    one == other
 }
 
 // Why a text is refused for which there is no memory: by its first bad line, if it has one.

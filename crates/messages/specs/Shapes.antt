@@ -2,8 +2,10 @@
 use Rattle.std.specs.Prelude.{ℕ}
 use Rattle.model.specs.declared.policy.Policy.{Policy}
 use Rattle.model.specs.Limits.{IsNumber, most_nodes}
+use Rattle.messages.specs.declared.version.Version.{Version}
 
 pub record ShapeFields : Type 0 where
+  pub version : Version
   pub nodes : ℕ
   pub files : ℕ
   pub policy : Policy

@@ -1,6 +1,7 @@
 //! Numbers of commands.
 ghost use Rattle.std.specs.Prelude.{◌≡◌, ◌≤◌, ◌↔◌, IfSome, IsSome};
 ghost use Rattle.model.specs.Limits.{IsNumber};
+ghost use Rattle.messages.specs.Epochs.{IsEpoch, epoch_of};
 ghost use Rattle.messages.specs.Messages.{greatest_number};
 
 use std::marker::Model;
@@ -41,6 +42,14 @@ impl CommandNumber {
         ensures { result ≡ number }
     {
         CommandNumber { number }
+    }
+
+    /// The epoch in which the token server gave the command.
+    pub fn epoch(self) -> u16
+        ensures value { result ≡ epoch_of self }
+        ensures within { IsEpoch result }
+    {
+        1
     }
 
     /// The number, from 1.

@@ -11,4 +11,5 @@ pub mod message;
 pub mod outcome;
 pub mod refusal;
 pub mod shape;
+pub mod version;
 pub mod wanted;

@@ -19,6 +19,7 @@ use Rattle.intervals.specs.Search.{first, some_passes}
 use Rattle.model.specs.Anchors.{Hangs, AreAnchored, IsAnchored}
 use Rattle.model.proofs.SearchLaws.{first-passes}
 use Rattle.model.proofs.Hanging.{hangs_on, itself}
+use Rattle.model.proofs.LimitLaws.{gone_limit}
 use Rattle.model.proofs.NodeTables.{GoesOn, same_goes_on, goes_then}
 
 -- a lock that is left where some are dropped
@@ -378,6 +379,7 @@ exit_all n i (suc k) t a =
 -- the table without what the node had in that incarnation
 abbrev pub without_host : Table → ℕ → ℕ → Table
 without_host t n i = record {
+  limit = t.limit;
   on = λ m k. if (m == n) && (k == i) then no_processes else t.on m k;
   locks = λ file owner. if (owner.node == n) && (owner.incarnation == i) then nothing else t.locks file owner;
 }
@@ -434,4 +436,4 @@ module _ (t : Table) (n i : ℕ) (a : IsAnchored t n i) where
   ] refl
 
   pub gone_is : gone t n i ≡ without_host t n i
-  gone_is = λ j. record { on = λ m k. on_left m k j; locks = λ file owner. locks_left_at file owner j }
+  gone_is = λ j. record { limit = gone_limit t n i j; on = λ m k. on_left m k j; locks = λ file owner. locks_left_at file owner j }

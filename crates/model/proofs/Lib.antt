@@ -3,6 +3,7 @@ pub mod OwnerLaws
 pub mod Pigeons
 pub mod DescriptorLaws
 pub mod FailLaws
+pub mod LimitLaws
 pub mod AnswerLaws
 pub mod RunLaws
 pub mod BlockerLaws

@@ -15,7 +15,7 @@ use Rattle.model.specs.declared.opened.Opened.{Opened}
 use Rattle.model.specs.declared.process.Process.{Process}
 use Rattle.model.specs.declared.reply.Reply.{Reply}
 use Rattle.model.specs.declared.reply.Reply.TheVariants.{Done, Fd, Exists, NoProcess, TooManyFiles, NoLocks}
-use Rattle.model.specs.Limits.{IsNumber, most_processes, most_descriptors, most_descriptions, most_regions}
+use Rattle.model.specs.Limits.{IsNumber, most_processes, most_descriptors, most_descriptions}
 use Rattle.model.specs.Owners.{same_owner, owner_at, most_owners}
 use Rattle.model.specs.Locks.{Locks, IsOfNode, with_lock}
 use Rattle.model.specs.Descriptors.{Processes, with_process, with_descriptor, is_of, is_open, lowest_fd, lowest_description, after_spawn, after_fork, after_open, after_dup, again_on, on_lowest_fd}
@@ -46,12 +46,12 @@ pub record Follows (t u : Table) (node incarnation pid : ℕ) : Type 0 where
 pub same_follows : (t : Table) (node incarnation pid : ℕ) → IsOwn t node incarnation → Follows t t node incarnation pid
 same_follows t node incarnation pid own = record { own = own; others = λ qid other. same_goes_on (t.on node incarnation) (t.on node incarnation) qid refl }
 
-pub own_empty : (node incarnation : ℕ) → IsOwn empty_table node incarnation
-own_empty node incarnation = record {
+pub own_empty : (limit node incarnation : ℕ) → IsOwn (empty_table limit) node incarnation
+own_empty limit node incarnation = record {
   others = λ n i h. refl;
   descriptions = λ pid fd o h. absurd (none-some o h);
   locks = λ file. record { is_own = λ o b mode h. absurd (none-some mode h); ends = λ o b h. refl };
-  anchored = anchored_none empty_table.locks node incarnation (λ file owner b mode h. none-some mode h);
+  anchored = anchored_none (empty_table limit).locks node incarnation (λ file owner b mode h. none-some mode h);
 }
 
 -- its owners are of the node, in that incarnation
@@ -268,12 +268,12 @@ locked_of_node h file f c s mode node incarnation place place_in owner within ow
 pub lock_processes : (t : Table) (c : LockTarget) (mode : Option Mode) → (lock_within t c mode).0.on ≡ t.on
 lock_processes t c mode =
     let out : Bool → Table × Reply = λ b. if b then (locked t c mode, Done) else (t, NoLocks) in
-    elim (nat_le (regions_with t c mode) most_regions) as (λ b. (out b).0.on ≡ t.on) [ true ↦ refl | false ↦ refl ]
+    elim (nat_le (regions_with t c mode) t.limit) as (λ b. (out b).0.on ≡ t.on) [ true ↦ refl | false ↦ refl ]
 
 pub lock_own : (t : Table) (node incarnation : ℕ) (c : LockTarget) (mode : Option Mode) → IsTarget node incarnation c → Hangs (t.on node incarnation) c.file c.owner.kind c.owner.number → IsOwn t node incarnation → IsOwn (lock_within t c mode).0 node incarnation
 lock_own t node incarnation c mode is hangs own =
     let out : Bool → Table × Reply = λ b. if b then (locked t c mode, Done) else (t, NoLocks) in
-    elim (nat_le (regions_with t c mode) most_regions) as (λ b. IsOwn (out b).0 node incarnation) [
+    elim (nat_le (regions_with t c mode) t.limit) as (λ b. IsOwn (out b).0 node incarnation) [
       | true ↦ record {
         others = own.others;
         descriptions = own.descriptions;

@@ -6,7 +6,6 @@ use Rattle.model.specs.declared.process.Process.{Process}
 use Rattle.model.specs.declared.op.Op.TheVariants.{Spawn, Fork, Open, Dup, Close, Exit, Set, Wait, Unlock, Query}
 use Rattle.model.specs.declared.reply.Reply.{Reply}
 use Rattle.model.specs.declared.reply.Reply.TheVariants.{Done, Fd, Again, Free, Blocked, Interrupted, NoProcess, Exists, TooManyFiles, NoLocks}
-use Rattle.model.specs.Limits.{most_regions}
 use Rattle.model.specs.Descriptors.{Processes, again_on, after_spawn, after_fork, after_open, after_dup}
 use Rattle.model.specs.Table.{Table, LockTarget, around, descriptor, is_running, beside, target, locked, lock_within, regions_with, after_unlock, closed_at, after_close, exited, after_exit}
 use Rattle.model.specs.Step.{Is, AfterTests, SetStep, WaitStep, QueryStep}
@@ -43,7 +42,7 @@ lock_keeps t u false none = refl
 
 unlock_keeps : (t : Table) (found : Result LockTarget Reply) → Keeps t (after_unlock t found)
 unlock_keeps t (Err refusal) = λ none. refl
-unlock_keeps t (Ok c) = lock_keeps t (locked t c None) (nat_le (regions_with t c None) most_regions)
+unlock_keeps t (Ok c) = lock_keeps t (locked t c None) (nat_le (regions_with t c None) t.limit)
 
 answered : (t u : Table) (answer : Table × Reply) (reply : Reply) → Keeps t answer → TellsNoChange reply → Is answer reply u → u ≡ t
 answered t u answer reply keeps none h = h.1 ∙ keeps (subst TellsNoChange h.0 none)
@@ -55,7 +54,7 @@ tested t u (Ok c) reply Answer stays h = stays c h
 set_stays : (t u : Table) (mode : Mode) (reply : Reply) (c : LockTarget) → TellsNoChange reply → SetStep t mode reply u c → u ≡ t
 set_stays t u mode (Again lock) c none h = h.1
 set_stays t u mode Done c none h = absurd none
-set_stays t u mode NoLocks c none h = answered t u (lock_within t c (Some mode)) NoLocks (lock_keeps t (locked t c (Some mode)) (nat_le (regions_with t c (Some mode)) most_regions)) tt h.1
+set_stays t u mode NoLocks c none h = answered t u (lock_within t c (Some mode)) NoLocks (lock_keeps t (locked t c (Some mode)) (nat_le (regions_with t c (Some mode)) t.limit)) tt h.1
 set_stays t u mode _ c none h = absurd h
 
 wait_stays : (t u : Table) (mode : Mode) (reply : Reply) (c : LockTarget) → TellsNoChange reply → WaitStep t mode reply u c → u ≡ t

@@ -19,10 +19,6 @@ most_descriptors = 64
 abbrev pub most_descriptions : ℕ
 most_descriptions = 16384
 
--- regions of an owner in a file
-abbrev pub most_regions : ℕ
-most_regions = 1024
-
 -- a number that counts from 1 up to the most
 abbrev pub IsNumber : ℕ → ℕ → Type 0
 IsNumber most n = (1 ≤ n) × (n ≤ most)

@@ -15,18 +15,19 @@ use Rattle.model.specs.declared.process.Process.{Process}
 use Rattle.model.specs.declared.opened.Opened.{Opened}
 use Rattle.model.specs.declared.reply.Reply.{Reply}
 use Rattle.model.specs.declared.reply.Reply.TheVariants.{Done, NoProcess, BadFd, NoLocks, Invalid as InvalidReply, Overflow as OverflowReply}
-use Rattle.model.specs.Limits.{most_processes, most_descriptors, most_regions}
+use Rattle.model.specs.Limits.{most_processes, most_descriptors}
 use Rattle.model.specs.Owners.{process_owner, description_owner}
 use Rattle.model.specs.Locks.{Locks, no_locks, with_lock, without_owner, without_owner_anywhere, regions}
 use Rattle.model.specs.Descriptors.{Processes, no_processes, with_process, with_descriptor, is_open}
 
--- the processes of each node in each incarnation, and the locks of each file
+-- how many regions an owner may have in a file, the processes of each node in each incarnation, and the locks of each file
 pub record Table : Type 0 where
+  pub limit : ℕ
   pub on : ℕ → ℕ → Processes
   pub locks : Locks
 
-abbrev pub empty_table : Table
-empty_table = record { on = λ node incarnation. no_processes; locks = no_locks }
+abbrev pub empty_table : ℕ → Table
+empty_table limit = record { limit = limit; on = λ node incarnation. no_processes; locks = no_locks }
 
 -- the processes beside which this one runs
 abbrev pub around : Table → Process → Processes
@@ -91,7 +92,7 @@ locked t c mode = record t { locks = with_lock t.locks c.file c.owner c.span mod
 
 -- the bytes are set or freed, unless the owner would have too many regions
 abbrev pub lock_within : Table → LockTarget → Option Mode → Table × Reply
-lock_within t c mode = if nat_le (regions_with t c mode) most_regions then (locked t c mode, Done) else (t, NoLocks)
+lock_within t c mode = if nat_le (regions_with t c mode) t.limit then (locked t c mode, Done) else (t, NoLocks)
 
 abbrev pub after_unlock : Table → Result LockTarget Reply → Table × Reply
 after_unlock t (Err refusal) = (t, refusal)

@@ -11,6 +11,3 @@ pub const MOST_DESCRIPTORS: u8 = 64;
 
 /// Open file descriptions of a node: each process with all its descriptors. They are numbered from 1.
 pub const MOST_DESCRIPTIONS: u16 = 16_384;
-
-/// Regions of an owner in a file.
-pub const MOST_REGIONS: usize = 1024;

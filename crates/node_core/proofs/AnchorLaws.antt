@@ -320,6 +320,6 @@ rule-anchored s (event.Retry pid) h = retry-anchored s pid h
 -- so it is of a node that begins
 pub first_anchored : (p : NodeParts) → processes p.processes ≡ no_processes → held p.locks ≡ no_locks → p.pending ≡ [] → AreAnchored (table_of p) p.node p.incarnation p.pending
 first_anchored p none free idle =
-    let empty : table_of p ≡ empty_table = λ i. record { on = λ n k. if-both ((n == p.node) && (k == p.incarnation)) (processes p.processes) no_processes none i; locks = free i } in
+    let empty : table_of p ≡ empty_table p.locks.limit = λ i. record { limit = p.locks.limit; on = λ n k. if-both ((n == p.node) && (k == p.incarnation)) (processes p.processes) no_processes none i; locks = free i } in
     subst (λ (t : Table). AreAnchored t p.node p.incarnation p.pending) (sym empty)
-    (subst (AreAnchored empty_table p.node p.incarnation) (sym idle) (record { own = own_empty p.node p.incarnation; waiting = All-nil (Waits empty_table p.node p.incarnation) }))
+    (subst (AreAnchored (empty_table p.locks.limit) p.node p.incarnation) (sym idle) (record { own = own_empty p.locks.limit p.node p.incarnation; waiting = All-nil (Waits (empty_table p.locks.limit) p.node p.incarnation) }))

@@ -23,8 +23,8 @@ use Rattle.model.proofs.BlockerLaws.{is_lowest_blocker}
 use Rattle.model.specs.Descriptors.{Processes, no_processes, with_descriptor, lowest_fd, lowest_description, after_open, after_spawn, with_process, after_fork, after_dup, again_on}
 use Rattle.model.specs.Table.{LockTarget, around, beside, with_processes, target_at}
 use Rattle.model.proofs.Refusals.{ok_is}
-use Rattle.lock_table.specs.declared.owner_locks.OwnerLocks.{OwnerLocks}
-use Rattle.lock_table.specs.Rows.{held}
+use Rattle.lock_table.specs.Rows.{TableParts, held, IsSameTable}
+use Rattle.messages.specs.Versions.{most_regions}
 use Rattle.token_set.specs.Tokens.{Token, desired, holds_nothing}
 use Rattle.token_set.specs.Releases.{IsRevocable, IsGivenUp, gave_up}
 use Rattle.token_set.specs.declared.gave_up.GaveUp.{GaveUp}
@@ -68,14 +68,14 @@ beside-err p pid refusal f e =
     ∙ ap (beside (node_state p).table (process (node_state p) pid)) e
 
 -- a node that begins
-pub first-state : (shape : ShapeFields) (node incarnation : ℕ) (rows : List ProcessEntry) (locks : List OwnerLocks) (files : List FileRow) → processes rows ≡ no_processes → held locks ≡ no_locks → file_state files ≡ (λ file. first_file) → node_state (record { shape = shape; node = node; incarnation = incarnation; calls = 0; processes = rows; locks = locks; pending = []; files = files }) ≡ first_node shape node incarnation
+pub first-state : (shape : ShapeFields) (node incarnation : ℕ) (rows : List ProcessEntry) (locks : TableParts) (files : List FileRow) → processes rows ≡ no_processes → held locks ≡ no_locks → locks.limit ≡ most_regions shape.version → file_state files ≡ (λ file. first_file) → node_state (record { shape = shape; node = node; incarnation = incarnation; calls = 0; processes = rows; locks = locks; pending = []; files = files }) ≡ first_node shape node incarnation
 unfolding node_state
-first-state shape node incarnation rows locks files none free nothing = λ i. record {
+first-state shape node incarnation rows locks files none free limit nothing = λ i. record {
   shape = shape;
   node = node;
   incarnation = incarnation;
   calls = 0;
-  table = record { on = λ n k. if-both ((n == node) && (k == incarnation)) (processes rows) no_processes none i; locks = free i };
+  table = record { limit = limit i; on = λ n k. if-both ((n == node) && (k == incarnation)) (processes rows) no_processes none i; locks = free i };
   pending = [];
   files = nothing i;
 }
@@ -219,7 +219,7 @@ pub record IsSameState (p q : NodeParts) : Type 0 where
   pub incarnation : p.incarnation ≡ q.incarnation
   pub calls : p.calls ≡ q.calls
   pub processes : processes p.processes ≡ processes q.processes
-  pub locks : held p.locks ≡ held q.locks
+  pub locks : IsSameTable p.locks q.locks
   pub pending : p.pending ≡ q.pending
   pub files : file_state p.files ≡ file_state q.files
 
@@ -231,8 +231,9 @@ same-state p q s = λ i. record {
   incarnation = s.incarnation i;
   calls = s.calls i;
   table = record {
+    limit = s.locks.limit i;
     on = λ node incarnation. if (node == s.node i) && (incarnation == s.incarnation i) then s.processes i else no_processes;
-    locks = s.locks i;
+    locks = s.locks.locks i;
   };
   pending = s.pending i;
   files = s.files i;
@@ -254,7 +255,7 @@ state-same p q e = record {
   incarnation = ap (λ (s : NodeState). s.incarnation) e;
   calls = ap (λ (s : NodeState). s.calls) e;
   processes = sym (own_processes-is p) ∙ ap own_processes e ∙ own_processes-is q;
-  locks = ap (λ (s : NodeState). s.table.locks) e;
+  locks = record { locks = ap (λ (s : NodeState). s.table.locks) e; limit = ap (λ (s : NodeState). s.table.limit) e };
   pending = ap (λ (s : NodeState). s.pending) e;
   files = ap (λ (s : NodeState). s.files) e;
 }

@@ -17,11 +17,10 @@ use Rattle.model.specs.Locks.{Locks, with_lock, regions}
 use Rattle.model.specs.Table.{Table, LockTarget, regions_with, lock_within}
 use Rattle.fcntl_table.specs.Hosts.{shown}
 use Rattle.fcntl_table.proofs.ExitLaws.{at_node}
-use Rattle.lock_table.specs.declared.owner_locks.OwnerLocks.{OwnerLocks}
 use Rattle.lock_table.specs.declared.error.LockError.{LockError}
 use Rattle.lock_table.specs.declared.error.LockError.TheVariants as lock
 use Rattle.lock_table.specs.declared.lock_table.LockEdit.{LockEdit}
-use Rattle.lock_table.specs.Rows.{held, HasRoom as HasRowRoom, HasRuns}
+use Rattle.lock_table.specs.Rows.{TableParts, held, HasRoom as HasRowRoom, HasRuns}
 use Rattle.messages.specs.declared.message.Message.{Message}
 use Rattle.messages.specs.declared.message.Message.TheVariants.{Freed}
 use Rattle.messages.specs.declared.refusal.StepError.{StepError}
@@ -54,13 +53,13 @@ pub on : {A : Type 0} (b : Bool) (x y : A) → b ≡ true → (if b then x else 
 on b x y h = ap (λ (c : Bool). if c then x else y) h
 
 -- the bytes are locked within the regions that an owner may have
-pub lock-planned : (p : NodeParts) (e : LockEdit) (c : LockTarget) (mode : Option Mode) → with_lock (held p.locks) e.file e.owner e.write.span e.write.value ≡ with_lock (held p.locks) c.file c.owner c.span mode → regions (put (held p.locks c.file c.owner) c.span mode) ≤ 1024 → lock_within (node_state p).table c mode ≡ (record (node_state p).table { locks = locks_after (node_state p).table.locks (Some e) }, Done)
+pub lock-planned : (p : NodeParts) (e : LockEdit) (c : LockTarget) (mode : Option Mode) → with_lock (held p.locks) e.file e.owner e.write.span e.write.value ≡ with_lock (held p.locks) c.file c.owner c.span mode → regions (put (held p.locks c.file c.owner) c.span mode) ≤ p.locks.limit → lock_within (node_state p).table c mode ≡ (record (node_state p).table { locks = locks_after (node_state p).table.locks (Some e) }, Done)
 unfolding node_state
 lock-planned p e c mode same few =
     ap (λ (b : Bool). if b then (record (node_state p).table { locks = with_lock (held p.locks) c.file c.owner c.span mode }, Done) else ((node_state p).table, NoLocks)) (le-leb _ _ few)
     ∙ ap (λ (l : Locks). (record (node_state p).table { locks = l }, Done)) (sym same)
 
-pub lock-refused : (p : NodeParts) (c : LockTarget) (mode : Option Mode) → 1024 < regions (put (held p.locks c.file c.owner) c.span mode) → lock_within (node_state p).table c mode ≡ ((node_state p).table, NoLocks)
+pub lock-refused : (p : NodeParts) (c : LockTarget) (mode : Option Mode) → p.locks.limit < regions (put (held p.locks c.file c.owner) c.span mode) → lock_within (node_state p).table c mode ≡ ((node_state p).table, NoLocks)
 unfolding node_state
 lock-refused p c mode many =
     ap (λ (b : Bool). if b then (record (node_state p).table { locks = with_lock (held p.locks) c.file c.owner c.span mode }, Done) else ((node_state p).table, NoLocks)) (lt-leb _ _ many)
@@ -70,15 +69,15 @@ pub no-memory-told : {A : Type 0} (x : Result A LockError) (e : LockError) → x
 no-memory-told {A = A} x e fails told memory = let both : ◌≡◌ {A = Result A LockError} (Err lock.NoMemory) (Err lock.NoLocks) = sym (fails ∙ ap Err memory) ∙ told in absurd (cc)
 
 -- too many regions by the node's state are too many by its rows
-pub regions-held : (p : NodeParts) (c : LockTarget) (mode : Option Mode) → 1024 < regions_with (node_state p).table c mode → 1024 < regions (put (held p.locks c.file c.owner) c.span mode)
+pub regions-held : (p : NodeParts) (c : LockTarget) (mode : Option Mode) → (node_state p).table.limit < regions_with (node_state p).table c mode → p.locks.limit < regions (put (held p.locks c.file c.owner) c.span mode)
 unfolding node_state
 regions-held p c mode many = many
 
-pub room-fits : (p : NodeParts) (edit : Option LockEdit) → LocksFit p edit → IfSome edit (λ e. HasRowRoom p.locks e.file e.owner (vec_capacity e.room))
+pub room-fits : (p : NodeParts) (edit : Option LockEdit) → LocksFit p edit → IfSome edit (λ e. HasRowRoom p.locks.rows e.file e.owner (vec_capacity e.room))
 room-fits p None fit = tt
 room-fits p (Some e) fit = fit.1
 
-pub runs-fit : (p : NodeParts) (edit : Option LockEdit) → LocksFit p edit → IfSome edit (λ e. HasRuns p.locks e.file e.owner e.write.runs)
+pub runs-fit : (p : NodeParts) (edit : Option LockEdit) → LocksFit p edit → IfSome edit (λ e. HasRuns p.locks.rows e.file e.owner e.write.runs)
 runs-fit p None fit = tt
 runs-fit p (Some e) fit = fit.2
 
@@ -147,26 +146,26 @@ if-if true x y z = refl
 if-if false x y z = refl
 
 -- the parts once the edit is made
-abbrev changed : NodeParts → ℕ → List ProcessEntry → List OwnerLocks → List OpenCall → List FileRow → NodeParts
+abbrev changed : NodeParts → ℕ → List ProcessEntry → TableParts → List OpenCall → List FileRow → NodeParts
 changed p calls rows locks pending files = record p { calls = calls; processes = rows; locks = locks; pending = pending; files = files }
 
-table-changed : (p : NodeParts) (e : Option ProcessEdit) (edit : Option LockEdit) (rows : List ProcessEntry) (locks : List OwnerLocks) → processes rows ≡ processes_after (processes p.processes) e → held locks ≡ locks_after (held p.locks) edit → (node_state (record p { processes = rows; locks = locks })).table ≡ record (table_after (node_state p) e) { locks = locks_after (node_state p).table.locks edit }
+table-changed : (p : NodeParts) (e : Option ProcessEdit) (edit : Option LockEdit) (rows : List ProcessEntry) (locks : TableParts) → locks.limit ≡ p.locks.limit → processes rows ≡ processes_after (processes p.processes) e → held locks ≡ locks_after (held p.locks) edit → (node_state (record p { processes = rows; locks = locks })).table ≡ record (table_after (node_state p) e) { locks = locks_after (node_state p).table.locks edit }
 unfolding node_state
-table-changed p None edit rows locks same made = λ i. record { on = λ n k. if (n == p.node) && (k == p.incarnation) then same i else no_processes; locks = made i }
-table-changed p (Some e) edit rows locks same made =
-    (λ i. record { on = λ n k. if (n == p.node) && (k == p.incarnation) then same i else no_processes; locks = made i })
-    ∙ (λ i. record { on = λ n k. sym (if-if ((n == p.node) && (k == p.incarnation)) (edited (processes p.processes) e) (processes p.processes) no_processes) i; locks = locks_after (held p.locks) edit })
-    ∙ sym (λ i. record { on = λ n k. if (n == p.node) && (k == p.incarnation) then edited (around-own p 0 i) e else (if (n == p.node) && (k == p.incarnation) then processes p.processes else no_processes); locks = locks_after (held p.locks) edit })
+table-changed p None edit rows locks limit same made = λ i. record { limit = limit i; on = λ n k. if (n == p.node) && (k == p.incarnation) then same i else no_processes; locks = made i }
+table-changed p (Some e) edit rows locks limit same made =
+    (λ i. record { limit = limit i; on = λ n k. if (n == p.node) && (k == p.incarnation) then same i else no_processes; locks = made i })
+    ∙ (λ i. record { limit = p.locks.limit; on = λ n k. sym (if-if ((n == p.node) && (k == p.incarnation)) (edited (processes p.processes) e) (processes p.processes) no_processes) i; locks = locks_after (held p.locks) edit })
+    ∙ sym (λ i. record { limit = p.locks.limit; on = λ n k. if (n == p.node) && (k == p.incarnation) then edited (around-own p 0 i) e else (if (n == p.node) && (k == p.incarnation) then processes p.processes else no_processes); locks = locks_after (held p.locks) edit })
 
 -- what is left of processes and locks where a host closes something
-abbrev pub Shuts : Host → List ProcessEntry → List OwnerLocks → Shut → List ProcessEntry → List OwnerLocks → Type 0
+abbrev pub Shuts : Host → List ProcessEntry → TableParts → Shut → List ProcessEntry → TableParts → Type 0
 Shuts h rows locks shut rows_left locks_left = (on : ℕ → ℕ → Processes) → shown on h rows_left locks_left ≡ shut_after h (shown on h rows locks) shut
 
-pub node-planned : (p : NodeParts) (e : Edit) (calls : ℕ) (rows : List ProcessEntry) (locks : List OwnerLocks) (rows_left : List ProcessEntry) (locks_left : List OwnerLocks) (pending : List OpenCall) (files : List FileRow) → calls ≡ calls_after p.calls e.draft.numbered → processes rows ≡ processes_after (processes p.processes) e.processes → held locks ≡ locks_after (held p.locks) e.locks → Shuts (host (node_state p)) rows locks e.shut rows_left locks_left → pending ≡ pending_after p.pending e.calls → file_state files ≡ files_told (files_after (file_state p.files) p.files e.draft.command) e.freed → node_state (changed p calls rows_left locks_left pending files) ≡ planned p e
+pub node-planned : (p : NodeParts) (e : Edit) (calls : ℕ) (rows : List ProcessEntry) (locks : TableParts) (rows_left : List ProcessEntry) (locks_left : TableParts) (pending : List OpenCall) (files : List FileRow) → calls ≡ calls_after p.calls e.draft.numbered → processes rows ≡ processes_after (processes p.processes) e.processes → locks.limit ≡ p.locks.limit → held locks ≡ locks_after (held p.locks) e.locks → Shuts (host (node_state p)) rows locks e.shut rows_left locks_left → pending ≡ pending_after p.pending e.calls → file_state files ≡ files_told (files_after (file_state p.files) p.files e.draft.command) e.freed → node_state (changed p calls rows_left locks_left pending files) ≡ planned p e
 unfolding node_state
-node-planned p e calls rows locks rows_left locks_left pending files counted ran held_now shut left known =
+node-planned p e calls rows locks rows_left locks_left pending files counted ran limit held_now shut left known =
     let h : Host = host (node_state p) in
-    let table = shut (λ n k. no_processes) ∙ ap (λ (t : Table). shut_after h t e.shut) (table-changed p e.processes e.locks rows locks ran held_now) in
+    let table = shut (λ n k. no_processes) ∙ ap (λ (t : Table). shut_after h t e.shut) (table-changed p e.processes e.locks rows locks limit ran held_now) in
     λ i. record {
       shape = p.shape;
       node = p.node;
@@ -192,7 +191,7 @@ calls-edited p (Left pid number) fit h =
     All-filter (λ c. not (c.number == number)) (IsOwnCall p.shape.files p.node p.incarnation) (filter theirs p.pending) (All-filter theirs (IsOwnCall p.shape.files p.node p.incarnation) p.pending h.calls_in)
 
 -- what is open still is of files of the shape
-opened-left : (p : NodeParts) (edit : Option ProcessEdit) (rows : List ProcessEntry) (locks : List OwnerLocks) (shut : Shut) (rows_left : List ProcessEntry) (locks_left : List OwnerLocks) → processes rows ≡ processes_after (processes p.processes) edit → Shuts (host (node_state p)) rows locks shut rows_left locks_left → ProcessesFit p edit → IsNode p → (pid fd : ℕ) (o : Opened) → (processes rows_left).opened pid fd ≡ Some o → IsNumber p.shape.files o.file
+opened-left : (p : NodeParts) (edit : Option ProcessEdit) (rows : List ProcessEntry) (locks : TableParts) (shut : Shut) (rows_left : List ProcessEntry) (locks_left : TableParts) → processes rows ≡ processes_after (processes p.processes) edit → Shuts (host (node_state p)) rows locks shut rows_left locks_left → ProcessesFit p edit → IsNode p → (pid fd : ℕ) (o : Opened) → (processes rows_left).opened pid fd ≡ Some o → IsNumber p.shape.files o.file
 opened-left p edit rows locks shut rows_left locks_left made shuts fit h pid fd o is =
     let none : ℕ → ℕ → Processes = λ n k. no_processes in
     let me : Host = host (node_state p) in
@@ -203,7 +202,7 @@ opened-left p edit rows locks shut rows_left locks_left made shuts fit h pid fd 
     opened-edited p edit fit h pid fd o (was ∙ ap (λ (ps : Processes). ps.opened pid fd) (sym (at_node none me (processes rows))) ∙ there)
 
 -- the node stays one
-pub node-edited : (p : NodeParts) (e : Edit) (calls : ℕ) (rows : List ProcessEntry) (locks : List OwnerLocks) (rows_left : List ProcessEntry) (locks_left : List OwnerLocks) (pending : List OpenCall) (files : List FileRow) → processes rows ≡ processes_after (processes p.processes) e.processes → Shuts (host (node_state p)) rows locks e.shut rows_left locks_left → pending ≡ pending_after p.pending e.calls → length files ≡ length p.files → node_state (changed p calls rows_left locks_left pending files) ≡ planned p e → Fits p e → IsNode p → IsNode (changed p calls rows_left locks_left pending files)
+pub node-edited : (p : NodeParts) (e : Edit) (calls : ℕ) (rows : List ProcessEntry) (locks : TableParts) (rows_left : List ProcessEntry) (locks_left : TableParts) (pending : List OpenCall) (files : List FileRow) → processes rows ≡ processes_after (processes p.processes) e.processes → Shuts (host (node_state p)) rows locks e.shut rows_left locks_left → pending ≡ pending_after p.pending e.calls → length files ≡ length p.files → node_state (changed p calls rows_left locks_left pending files) ≡ planned p e → Fits p e → IsNode p → IsNode (changed p calls rows_left locks_left pending files)
 unfolding node_state
 node-edited p e calls rows locks rows_left locks_left pending files ran shuts left count is fit h = record {
   host = h.host;

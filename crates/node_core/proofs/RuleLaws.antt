@@ -19,7 +19,6 @@ use Rattle.model.specs.declared.opened.Opened.{Opened}
 use Rattle.model.specs.declared.process.Process.{Process}
 use Rattle.model.specs.declared.reply.Reply.{Reply}
 use Rattle.model.specs.declared.reply.Reply.TheVariants.{Done, NoLocks, NoProcess}
-use Rattle.model.specs.Limits.{most_regions}
 use Rattle.model.specs.Locks.{FileLocks, IsRegion, IsFree, IsOfNode, IsClear}
 use Rattle.model.specs.Table.{Table, LockTarget, is_running, descriptor, allows, target_at, target, regions_with, locked, lock_within}
 use Rattle.model.proofs.BlockerLaws.{is_lowest_blocker}
@@ -111,15 +110,15 @@ locked_by-reply s number t mode =
     let e : Effect = settled s number answer in
     reply_if (may_free mode answer.1) (with_freed t.file e) e (with_freed-reply t.file e)
 
-lock_within-done : (t : Table) (c : LockTarget) (mode : Option Mode) → regions_with t c mode ≤ 1024 → (lock_within t c mode).1 ≡ Done
-lock_within-done t c mode h = taken (λ (a : Table × Reply). a.1 ≡ Done) (nat_le (regions_with t c mode) 1024) (locked t c mode, Done) (t, NoLocks) (le-leb _ _ h) refl
+lock_within-done : (t : Table) (c : LockTarget) (mode : Option Mode) → regions_with t c mode ≤ t.limit → (lock_within t c mode).1 ≡ Done
+lock_within-done t c mode h = taken (λ (a : Table × Reply). a.1 ≡ Done) (nat_le (regions_with t c mode) t.limit) (locked t c mode, Done) (t, NoLocks) (le-leb _ _ h) refl
 
 -- what asks for a lock that the node's own table then gives
 abbrev Locks : Intent → Type 0
 Locks its = (s : NodeState) (c : OpenCall) → answered_here s c its ≡ locked_by s c.number (target_of c) (Some c.mode)
 
 -- a call within the node's token that nothing is in the way of
-tried-done : (s : NodeState) (c : OpenCall) (r : Option LockInfo) → r ≡ None → Locks c.intent → covers (s.files c.file).token c.span c.mode ≡ true → regions_with s.table (target_of c) (Some c.mode) ≤ 1024 → (tried_against s c r).reply ≡ Some (id_of s c.number, Done)
+tried-done : (s : NodeState) (c : OpenCall) (r : Option LockInfo) → r ≡ None → Locks c.intent → covers (s.files c.file).token c.span c.mode ≡ true → regions_with s.table (target_of c) (Some c.mode) ≤ s.table.limit → (tried_against s c r).reply ≡ Some (id_of s c.number, Done)
 tried-done s c r none locks covered few =
     ap (λ (r : Option LockInfo). (tried_against s c r).reply) none
     ∙ taken (λ (e : Effect). e.reply ≡ Some (id_of s c.number, Done)) (covers (s.files c.file).token c.span c.mode) (answered_here s c c.intent) (requested s c) covered (
@@ -128,7 +127,7 @@ tried-done s c r none locks covered few =
     ∙ ap (λ (a : Reply). Some (id_of s c.number, a)) (lock_within-done s.table (target_of c) (Some c.mode) few))
 
 -- so such a call for a lock is answered Done
-lock_call-done : (s : NodeState) (number pid : ℕ) (its : Intent) (fd : ℕ) (kind : Kind) (mode : Mode) (start len : ℤ) (t : LockTarget) → Locks its → target s.table (process s pid) (Some mode) fd kind start len ≡ Ok t → IsOfNode (s.table.locks t.file) s.node s.incarnation → IsFree (s.table.locks t.file) t.owner t.span mode → covers (s.files t.file).token t.span mode ≡ true → regions_with s.table t (Some mode) ≤ most_regions → (lock_call s number pid its mode (target s.table (process s pid) (Some mode) fd kind start len)).reply ≡ Some (id_of s number, Done)
+lock_call-done : (s : NodeState) (number pid : ℕ) (its : Intent) (fd : ℕ) (kind : Kind) (mode : Mode) (start len : ℤ) (t : LockTarget) → Locks its → target s.table (process s pid) (Some mode) fd kind start len ≡ Ok t → IsOfNode (s.table.locks t.file) s.node s.incarnation → IsFree (s.table.locks t.file) t.owner t.span mode → covers (s.files t.file).token t.span mode ≡ true → regions_with s.table t (Some mode) ≤ s.table.limit → (lock_call s number pid its mode (target s.table (process s pid) (Some mode) fd kind start len)).reply ≡ Some (id_of s number, Done)
 lock_call-done s number pid its fd kind mode start len t locks is own free covered few =
     let about : IsAbout (process s pid) t = subst (λ (r : Result LockTarget Reply). IfOk r (IsAbout (process s pid))) is (target-about s.table (process s pid) (Some mode) fd kind start len) in
     let of_node : IsOfNode (s.table.locks t.file) t.owner.node s.incarnation = subst (λ (n : ℕ). IsOfNode (s.table.locks t.file) n s.incarnation) (sym about.of_node) own in

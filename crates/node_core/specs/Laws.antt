@@ -6,7 +6,7 @@ use Rattle.model.specs.declared.owner.Kind.{Kind}
 use Rattle.model.specs.declared.call.CallId.{CallId}
 use Rattle.model.specs.declared.op.Op.TheVariants.{Set, Wait}
 use Rattle.model.specs.declared.reply.Reply.TheVariants.{Done}
-use Rattle.model.specs.Limits.{IsNumber, most_processes, most_regions}
+use Rattle.model.specs.Limits.{IsNumber, most_processes}
 use Rattle.model.specs.Locks.{IsFree, IsOfNode, IsClear}
 use Rattle.model.specs.Table.{LockTarget, target, regions_with}
 use Rattle.token_set.specs.Tokens.{covers, conflicts}
@@ -34,7 +34,7 @@ CoveredSetIsDone =
     → IsOfNode (s.table.locks t.file) s.node s.incarnation
     → IsFree (s.table.locks t.file) t.owner t.span mode
     → covers (s.files t.file).token t.span mode ≡ true
-    → regions_with s.table t (Some mode) ≤ most_regions
+    → regions_with s.table t (Some mode) ≤ s.table.limit
     → IsOkAnd (node_rule s (Call pid (Set fd kind mode start len))) (λ r. r.1.reply ≡ Some (id_of s (s.calls + 1), Done))
 
 -- and so is a wait
@@ -46,7 +46,7 @@ CoveredWaitIsDone =
     → IsOfNode (s.table.locks t.file) s.node s.incarnation
     → IsFree (s.table.locks t.file) t.owner t.span mode
     → covers (s.files t.file).token t.span mode ≡ true
-    → regions_with s.table t (Some mode) ≤ most_regions
+    → regions_with s.table t (Some mode) ≤ s.table.limit
     → IsOkAnd (node_rule s (Call pid (Wait fd kind mode start len))) (λ r. r.1.reply ≡ Some (id_of s (s.calls + 1), Done))
 
 -- processes, locks and tokens are as they were, and nobody hears of it

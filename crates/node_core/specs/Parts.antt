@@ -7,8 +7,7 @@ use Rattle.model.specs.declared.reply.Reply.{Reply}
 use Rattle.model.specs.Limits.{IsHost, IsNumber}
 use Rattle.model.specs.Descriptors.{no_processes, after_spawn, after_fork, after_open, after_dup}
 use Rattle.model.specs.Table.{Table, around, beside}
-use Rattle.lock_table.specs.declared.owner_locks.OwnerLocks.{OwnerLocks}
-use Rattle.lock_table.specs.Rows.{held}
+use Rattle.lock_table.specs.Rows.{TableParts, held}
 use Rattle.messages.specs.Shapes.{ShapeFields}
 use Rattle.messages.specs.declared.message.Message.{Message}
 use Rattle.messages.specs.declared.message.Message.TheVariants.{Taken}
@@ -34,13 +33,14 @@ pub record NodeParts : Type 0 where
   pub incarnation : ℕ
   pub calls : ℕ
   pub processes : List ProcessEntry
-  pub locks : List OwnerLocks
+  pub locks : TableParts
   pub pending : List OpenCall
   pub files : List FileRow
 
 -- the one table, as far as the node knows it: its own processes and their locks
 abbrev pub table_of : NodeParts → Table
 table_of p = record {
+  limit = p.locks.limit;
   on = λ node incarnation. if (node == p.node) && (incarnation == p.incarnation) then processes p.processes else no_processes;
   locks = held p.locks;
 }

@@ -145,7 +145,7 @@ DraftFits p d = NumberFits (node_state p).calls d.numbered × CommandFits (node_
 abbrev pub LocksFit : NodeParts → Option LockEdit → Type 0
 LocksFit p None = Unit {0}
 LocksFit p (Some e) =
-    (e.room.items ≡ []) × HasRowRoom p.locks e.file e.owner (vec_capacity e.room) × HasRuns p.locks e.file e.owner e.write.runs
+    (e.room.items ≡ []) × HasRowRoom p.locks.rows e.file e.owner (vec_capacity e.room) × HasRuns p.locks.rows e.file e.owner e.write.runs
 
 -- what the edit of processes needs: its own, and all that is open stays of files of the shape
 abbrev pub ProcessesFit : NodeParts → Option ProcessEdit → Type 0

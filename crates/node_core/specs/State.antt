@@ -6,6 +6,7 @@ use Rattle.model.specs.declared.host.Host.{Host}
 use Rattle.model.specs.declared.reply.Reply.{Reply}
 use Rattle.model.specs.Table.{Table, LockTarget, empty_table}
 use Rattle.token_set.specs.Tokens.{Token, no_token}
+use Rattle.messages.specs.Versions.{most_regions}
 use Rattle.messages.specs.Shapes.{ShapeFields}
 use Rattle.messages.specs.declared.message.Message.{Message}
 use Rattle.messages.specs.declared.outcome.Outcome.{Outcome}
@@ -34,7 +35,7 @@ first_file = record { token = no_token; last = 0; answer = None; asked = false }
 -- a node that begins
 abbrev pub first_node : ShapeFields → ℕ → ℕ → NodeState
 first_node shape node incarnation =
-    record { shape = shape; node = node; incarnation = incarnation; calls = 0; table = empty_table; pending = []; files = λ file. first_file }
+    record { shape = shape; node = node; incarnation = incarnation; calls = 0; table = empty_table (most_regions shape.version); pending = []; files = λ file. first_file }
 
 abbrev pub with_file : NodeState → ℕ → FileState → NodeState
 with_file s file state = record s { files = λ f. if f == file then state else s.files f }

@@ -1,7 +1,6 @@
 //! The locks of a node.
 ghost use Rattle.std.specs.Prelude.{◌≡◌, ◌≤◌, ◌<◌, Err, [], IfSome, OnOk, OnErr};
 ghost use Rattle.intervals.specs.Bytes.{put};
-ghost use Rattle.model.specs.Limits.{most_regions};
 ghost use Rattle.model.specs.Locks.{with_lock, regions};
 ghost use Rattle.lock_table.specs.Rows.{held, HasRoom, HasRuns};
 ghost use Rattle.std.specs.Vec.{vec_capacity};
@@ -25,10 +24,11 @@ pub fn change_locks(
     mode: Option<Mode>,
 ) -> Result<(), LockError>
     ensures ok { OnOk result (held locks.new ≡ with_lock (held locks.old) target.file target.owner target.span mode) }
-    ensures few { OnOk result (regions (put (held locks.old target.file target.owner) target.span mode) ≤ most_regions) }
-    ensures many { result ≡ Err LockError.NoLocks → most_regions < regions (put (held locks.old target.file target.owner) target.span mode) }
-    ensures refused { most_regions < regions (put (held locks.old target.file target.owner) target.span mode) → result ≡ Err LockError.NoLocks }
+    ensures few { OnOk result (regions (put (held locks.old target.file target.owner) target.span mode) ≤ locks.old.limit) }
+    ensures many { result ≡ Err LockError.NoLocks → locks.old.limit < regions (put (held locks.old target.file target.owner) target.span mode) }
+    ensures refused { locks.old.limit < regions (put (held locks.old target.file target.owner) target.span mode) → result ≡ Err LockError.NoLocks }
     ensures err { OnErr result (locks.new ≡ locks.old) }
+    ensures limit { locks.new.limit ≡ locks.old.limit }
 {
     match mode {
         Some(mode) => locks.set(target.owner, target.file, target.span, mode),
@@ -39,9 +39,10 @@ pub fn change_locks(
 /// Makes a planned change of locks, if there is one. Takes no memory.
 pub fn apply_locks(locks: &mut LockTable, edit: Option<LockEdit>)
     requires empty { IfSome edit (λ e. e.room.items ≡ []) }
-    requires room { IfSome edit (λ e. HasRoom locks.old e.file e.owner (vec_capacity e.room)) }
-    requires runs { IfSome edit (λ e. HasRuns locks.old e.file e.owner e.write.runs) }
-    ensures { held locks.new ≡ locks_after (held locks.old) edit }
+    requires room { IfSome edit (λ e. HasRoom locks.old.rows e.file e.owner (vec_capacity e.room)) }
+    requires runs { IfSome edit (λ e. HasRuns locks.old.rows e.file e.owner e.write.runs) }
+    ensures locks { held locks.new ≡ locks_after (held locks.old) edit }
+    ensures limit { locks.new.limit ≡ locks.old.limit }
 {
     match edit {
         Some(edit) => locks.apply(edit),

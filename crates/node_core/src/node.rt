@@ -98,7 +98,7 @@ impl Node {
             incarnation,
             calls: 0,
             processes: Processes::new(alloc),
-            locks: LockTable::new(alloc),
+            locks: LockTable::new(alloc, shape.most_regions()),
             pending: OpenCalls::new(alloc),
             files,
         })

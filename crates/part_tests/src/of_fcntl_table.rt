@@ -113,7 +113,7 @@ fn locks(table: &mut FcntlTable, calls: &[Call]) -> Result<bool, AllocError> {
 // The table before any call, in a box. A test keeps no other, since one is dropped in fewer steps, each of
 // which the check proves.
 fn begins(alloc: Global) -> Result<Box<FcntlTable>, AllocError> {
-    Ok(Box::new(alloc, FcntlTable::new(alloc))?)
+    Ok(Box::new(alloc, FcntlTable::new(alloc, 1024))?)
 }
 
 const OPEN: Op = Op::Open {

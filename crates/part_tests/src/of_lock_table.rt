@@ -1,5 +1,5 @@
 //! What the lock table does that no node asks of it: owners of two incarnations in one table, regions that are told from
-//! their pieces, and tables that are compared.
+//! their pieces, tables that are compared, and limits of regions.
 use intervals::span::Span;
 use intervals::span_map::NoMemory;
 use lock_table::error::LockError;
@@ -50,10 +50,13 @@ const LOW: LockInfo = LockInfo {
     span: Span { lo: 10, hi: 29 },
 };
 
+// How many regions an owner may have in a file, in tests that come to no limit.
+const LIMIT: usize = 1024;
+
 // The table without a lock, in a box. A test keeps no other, since one is dropped in fewer steps, each of
 // which the check proves.
 fn begins(alloc: Global) -> Result<Box<LockTable>, AllocError> {
-    Ok(Box::new(alloc, LockTable::new(alloc))?)
+    Ok(Box::new(alloc, LockTable::new(alloc, LIMIT))?)
 }
 
 // Sets each of these in the file.
@@ -127,6 +130,63 @@ fn regions_are_told_from_pieces_of_them(rt: HostRuntime) -> Result<(), Fail> {
     Ok(())
 }
 
+// One owner has so many regions of three bytes, with one free byte after each.
+fn fill(table: &mut LockTable, count: u16) -> Result<(), LockError> {
+    for place in 0..count {
+        let k = place as u64;
+        let span = Span {
+            lo: 4 * k,
+            hi: 4 * k + 2,
+        };
+        table.set(FIRST, FILE, span, Mode::Read)?;
+    }
+    Ok(())
+}
+
+// Whether there is no room for a region more, behind the others or out of one of them.
+fn is_full(table: &mut LockTable, count: u16) -> bool {
+    let past = Span {
+        lo: 4 * count as u64,
+        hi: 4 * count as u64,
+    };
+    table.unlock(FIRST, FILE, Span { lo: 1, hi: 1 }) == Err(LockError::NoLocks)
+        && table.set(FIRST, FILE, past, Mode::Write) == Err(LockError::NoLocks)
+}
+
+// The same, and whether the table is then as it was.
+fn stays_full(table: &mut LockTable, count: u16) -> Result<bool, NoMemory> {
+    let before = table.copy()?;
+    Ok(is_full(table, count) && table.same(&before))
+}
+
+// Whether an owner gets as many regions as the limit and no more, and one less where two become one.
+fn keeps_limit(alloc: Global, limit: u16) -> Result<bool, LockError> {
+    let mut table = Box::new(alloc, LockTable::new(alloc, limit as usize))?;
+    fill(&mut table, limit)?;
+    let is_kept = stays_full(&mut table, limit)? && table.locks(FILE)?.len() == limit as usize;
+    table.set(FIRST, FILE, Span { lo: 3, hi: 3 }, Mode::Read)?;
+    Ok(is_kept && table.locks(FILE)?.len() + 1 == limit as usize)
+}
+
+#[test]
+fn an_owner_has_as_many_regions_as_its_version_allows(rt: HostRuntime) -> Result<(), Fail> {
+    for limit in [1024, 16_384] {
+        assert!(rt; keeps_limit(rt.alloc(), limit)?);
+    }
+    Ok(())
+}
+
+// Whether tables without a lock are the same where both have these limits.
+fn are_same(alloc: Global, limit: usize, other: usize) -> bool {
+    let table = LockTable::new(alloc, limit);
+    table.same(&LockTable::new(alloc, other))
+}
+
+#[test]
+fn tells_limits_apart(rt: HostRuntime) {
+    assert!(rt; are_same(rt.alloc(), LIMIT, LIMIT) && !are_same(rt.alloc(), LIMIT, LIMIT + 1));
+}
+
 fn copy_again(table: &LockTable) -> Result<LockTable, NoMemory> {
     match table.copy() {
         Ok(copy) => Ok(copy),
@@ -189,7 +249,7 @@ fn all_change(table: &mut LockTable) -> Result<bool, LockError> {
 // at each N, so it keeps no table in a box.
 #[test]
 fn keeps_what_it_had(rt: HostRuntime) -> Result<(), Fail> {
-    let mut table = LockTable::new(rt.alloc());
+    let mut table = LockTable::new(rt.alloc(), LIMIT);
     assert!(rt; all_change(&mut table)?);
     table.drop_owner(LOW.owner, FILE);
     table.drop_owner(LOW.owner, FILE);

@@ -1,6 +1,9 @@
-//! Lists that contracts see as lists, and the numbers and texts of refusals.
+//! Lists that contracts see as lists, versions of shapes, and the numbers and texts of refusals.
 use messages::items::Items;
 use messages::refusal::{Refused, StepError};
+use messages::shape::{BadShape, Shape};
+use messages::version::Version;
+use model::policy::Policy;
 use std::alloc::{AllocError, Global};
 use std::test::Fail;
 
@@ -18,6 +21,22 @@ fn lists_keep_the_order(rt: HostRuntime) -> Result<(), Fail> {
     items.push(1)?;
     assert!(rt; is_listed(&items, rt.alloc(), &[3, 1])?);
     Ok(())
+}
+
+// The version, and how many regions an owner may have in a file, if the shape is served.
+fn version_of(shape: Result<Shape, BadShape>) -> Option<(Version, usize)> {
+    match shape {
+        Ok(shape) => Some((shape.version(), shape.most_regions())),
+        Err(_) => None,
+    }
+}
+
+#[test]
+fn a_shape_has_a_version_with_its_limit(rt: HostRuntime) {
+    let first = Shape::version1(2, 1, Policy::Wide);
+    let second = Shape::new(2, 1, Policy::Wide);
+    assert!(rt; version_of(first) == Some((Version::First, 1024)));
+    assert!(rt; version_of(second) == Some((Version::Second, 16_384)) && first != second);
 }
 
 const STEP_ERRORS: [(StepError, u16, &str); 4] = [

@@ -149,7 +149,7 @@ const HIGH: LockInfo = LockInfo {
 
 // The node's locks of the file: both.
 fn both_locks(alloc: Global) -> Result<Box<LockTable>, LockError> {
-    let mut locks = Box::new(alloc, LockTable::new(alloc))?;
+    let mut locks = Box::new(alloc, LockTable::new(alloc, 1024))?;
     for lock in [HIGH, LOW] {
         locks.set(lock.owner, FILE, lock.span, lock.mode)?;
     }

@@ -3,23 +3,24 @@ ghost use Rattle.std.specs.Prelude.{◌≡◌, ◌↔◌, IfOk, IsOk, IsTrue};
 ghost use Rattle.cluster_core.specs.Histories.{position_of, Rising};
 
 use cluster_core::item::Item;
+use messages::version::Version;
 use std::marker::Model;
 use thiserror::Error;
 
-/// Items in their order: the positions rise strictly.
+/// The version of a cluster, and items in their order: the positions rise strictly.
 #[derive(Drop)]
 pub struct History {
+    version: Version,
     items: Vec<Item>,
 }
 
 impl Model for History {
-    ghost use Rattle.std.specs.Prelude.{List};
-    ghost use Rattle.cluster_core.specs.declared.item.Item.{Item};
     ghost use Rattle.cluster_core.specs.Histories.{Rising};
+    ghost use Rattle.placement.specs.Histories.{HistoryParts};
 
-    ghost Value = { List Item };
+    ghost Value = { HistoryParts };
 
-    ghost view = { λ h. h.items.items };
+    ghost view = { λ h. record { version = h.version; items = h.items.items } };
 
     ghost invariant = { λ h. Rising h.items.items };
 }
@@ -33,33 +34,40 @@ pub enum HistoryError {
 }
 
 impl History {
-    /// The history of these items.
+    /// The history of these items, of a cluster of the version.
     ///
     /// # Errors
     /// `NotRising` where an item's position is not greater than that of the one before it; the items
     /// are dropped.
-    pub fn new(items: Vec<Item>) -> Result<History, HistoryError>
-        ensures items { IfOk result (λ history. history ≡ items.items) }
+    pub fn new(version: Version, items: Vec<Item>) -> Result<History, HistoryError>
+        ensures history { IfOk result (λ history. history ≡ record { version = version; items = items.items }) }
         ensures rising { IsOk result ↔ Rising items.items }
     {
         if !is_rising(&items) {
             return Err(HistoryError::NotRising);
         }
-        Ok(History { items })
+        Ok(History { version, items })
     }
 
     // The history of items that rise.
-    pub(crate) fn of_rising(items: Vec<Item>) -> History
+    pub(crate) fn of_rising(version: Version, items: Vec<Item>) -> History
         requires { Rising items.items }
-        ensures { result ≡ items.items }
+        ensures { result ≡ record { version = version; items = items.items } }
     {
-        History { items }
+        History { version, items }
+    }
+
+    /// The version of the cluster.
+    pub fn version(&self) -> Version
+        ensures { result ≡ self.now.version }
+    {
+        self.version
     }
 
     /// The items, the earliest first.
     pub fn items(&self) -> &[Item]
-        ensures value { result.now ≡ self.now }
-        ensures rising { Rising self.now }
+        ensures value { result.now ≡ self.now.items }
+        ensures rising { Rising self.now.items }
     {
         self.items.as_slice()
     }

@@ -15,15 +15,16 @@ use model::limits::MOST_PROCESSES;
 use model::process::Process;
 use std::alloc::Global;
 
-/// Whether a single machine's table, empty at first, may answer each call of the history as it is
-/// answered there, item by item (POSIX.1-2017 `fcntl()`, `open()`, `_exit()`).
+/// Whether a single machine's table, empty at first and with the limit of regions of the history's
+/// version, may answer each call of the history as it is answered there, item by item (POSIX.1-2017
+/// `fcntl()`, `open()`, `_exit()`).
 ///
 /// # Errors
 /// `NoMemory` where a request for memory was refused.
 pub fn legal(alloc: Global, history: &History) -> Result<bool, NoMemory>
-    ensures { IfOk result (λ yes. IsTrue yes ↔ IsLegal history.now) }
+    ensures { IfOk result (λ yes. IsTrue yes ↔ IsLegal history.now.version history.now.items) }
 {
-    let mut table = FcntlTable::new(alloc);
+    let mut table = FcntlTable::new(alloc, history.version().most_regions());
     for item in history.items() {
         if !follow(&mut table, item)? {
             return Ok(false);

@@ -38,15 +38,16 @@ type Conflicts = HashMap<RevokeId, usize>;
 /// # Errors
 /// `NoMemory` where a request for memory was refused.
 pub fn placed(alloc: Global, journal: &Journal) -> Result<History, NoMemory>
-    ensures history { IfOk result (λ history. HasHistory journal.now.shape journal.now.entries history) }
-    ensures at_places { IfOk result (λ history. EachAtItsPlace journal.now.entries history) }
+    ensures version { IfOk result (λ history. history.version ≡ journal.now.shape.version) }
+    ensures history { IfOk result (λ history. HasHistory journal.now.shape journal.now.entries history.items) }
+    ensures at_places { IfOk result (λ history. EachAtItsPlace journal.now.entries history.items) }
 
     // Tokens of two nodes don't conflict after the run, and locks are covered by tokens.
     ensures safe { LeadsToSafe journal.now.shape journal.now.entries }
 {
-    let _ = journal.shape();
+    let version = journal.shape().version();
     let items = items_of(alloc, journal.entries())?;
-    Ok(History::of_rising(items))
+    Ok(History::of_rising(version, items))
 }
 
 // The items of the history that the entries make.

@@ -1,11 +1,12 @@
 -- Lemmas on faults of commands.
-use Rattle.std.proofs.Common.{ℕ, List, Option, inl}
+use Rattle.std.proofs.Common.{ℕ, List, Option, Some, None, inl, inr}
 use Rattle.std.specs.Prelude.{⊤}
+use Rattle.cluster_core.specs.Journals.{JournalFields}
 use Rattle.command_line.specs.Tasks.{Task, run, threads, audit, history}
 use Rattle.replay.specs.declared.fault.Fault.{Fault}
-use Rattle.replay.specs.declared.fault.Fault.TheVariants.{BadLine, CannotRead, CannotWrite, CannotWriteOutput, NoMemory, JournalFull}
-use Rattle.replay.specs.Commands.{IsFault, IsInputFault}
-use Rattle.replay.specs.Faults.{IsJournalFault, IsScriptFault, IsThreadsFault}
+use Rattle.replay.specs.declared.fault.Fault.TheVariants.{BadLine, CannotRead, CannotWrite, CannotWriteOutput, NoMemory, JournalFull, OldJournal}
+use Rattle.replay.specs.Commands.{IsFault, IsGoingFault, IsInputFault}
+use Rattle.replay.specs.Faults.{IsBehindFault, IsJournalFault, IsOldFault, IsScriptFault, IsThreadsFault}
 use Rattle.replay.specs.Stores.{Files}
 
 script-weaker : (Holds : Option (List ℕ) → Type 0) (RanShort : Type 0) (path : List ℕ) (fault : Fault) → IsScriptFault Holds RanShort path fault → IsScriptFault Holds ⊤ path fault
@@ -15,6 +16,7 @@ script-weaker Holds RanShort path (CannotWrite named) is = is
 script-weaker Holds RanShort path CannotWriteOutput is = is
 script-weaker Holds RanShort path NoMemory is = inl tt
 script-weaker Holds RanShort path JournalFull is = is
+script-weaker Holds RanShort path OldJournal is = is
 
 threads-weaker : (Holds : Option (List ℕ) → Type 0) (RanShort : Type 0) (path : List ℕ) (fault : Fault) → IsThreadsFault Holds RanShort path fault → IsThreadsFault Holds ⊤ path fault
 threads-weaker Holds RanShort path (BadLine line) is = is
@@ -23,6 +25,7 @@ threads-weaker Holds RanShort path (CannotWrite named) is = is
 threads-weaker Holds RanShort path CannotWriteOutput is = is
 threads-weaker Holds RanShort path NoMemory is = inl tt
 threads-weaker Holds RanShort path JournalFull is = is
+threads-weaker Holds RanShort path OldJournal is = is
 
 journal-weaker : (Holds : Option (List ℕ) → Type 0) (RanShort : Type 0) (path : List ℕ) (fault : Fault) → IsJournalFault Holds RanShort path fault → IsJournalFault Holds ⊤ path fault
 journal-weaker Holds RanShort path (BadLine line) is = is
@@ -31,9 +34,33 @@ journal-weaker Holds RanShort path (CannotWrite named) is = is
 journal-weaker Holds RanShort path CannotWriteOutput is = is
 journal-weaker Holds RanShort path NoMemory is = inl tt
 journal-weaker Holds RanShort path JournalFull is = is
+journal-weaker Holds RanShort path OldJournal is = is
+
+old-weaker : (Holds : Option (List ℕ) → Type 0) (RanShort : Type 0) (path : List ℕ) (fault : Fault) → IsOldFault Holds RanShort path fault → IsOldFault Holds ⊤ path fault
+old-weaker Holds RanShort path (BadLine line) is = is
+old-weaker Holds RanShort path (CannotRead named) is = is
+old-weaker Holds RanShort path (CannotWrite named) is = is
+old-weaker Holds RanShort path CannotWriteOutput is = is
+old-weaker Holds RanShort path NoMemory is = inl tt
+old-weaker Holds RanShort path JournalFull is = is
+old-weaker Holds RanShort path OldJournal is = is
+
+behind-weaker : (j : JournalFields) (Holds : Option (List ℕ) → Type 0) (RanShort : Type 0) (path : List ℕ) (fault : Fault) → IsBehindFault j Holds RanShort path fault → IsBehindFault j Holds ⊤ path fault
+behind-weaker j Holds RanShort path (BadLine line) is = is
+behind-weaker j Holds RanShort path (CannotRead named) is = is
+behind-weaker j Holds RanShort path (CannotWrite named) is = is
+behind-weaker j Holds RanShort path CannotWriteOutput is = is
+behind-weaker j Holds RanShort path NoMemory is = inl tt
+behind-weaker j Holds RanShort path JournalFull is = is
+behind-weaker j Holds RanShort path OldJournal is = is
+
+going-weaker : (old : Files) (RanShort : Type 0) (script after : List ℕ) (fault : Fault) → IsGoingFault old RanShort script after fault → IsGoingFault old ⊤ script after fault
+going-weaker old RanShort script after fault (inl is) = inl (old-weaker (old after) RanShort after fault is)
+going-weaker old RanShort script after fault (inr is) = inr (is.0, is.1, is.2, behind-weaker is.0 (old script) RanShort script fault is.3)
 
 input-weaker : (old : Files) (RanShort : Type 0) (task : Task) (fault : Fault) → IsInputFault old RanShort task fault → IsInputFault old ⊤ task fault
-input-weaker old RanShort (run script to) fault is = script-weaker (old script) RanShort script fault is
+input-weaker old RanShort (run script None to) fault is = script-weaker (old script) RanShort script fault is
+input-weaker old RanShort (run script (Some after) to) fault is = going-weaker old RanShort script after fault is
 input-weaker old RanShort (threads script seed to) fault is = threads-weaker (old script) RanShort script fault is
 input-weaker old RanShort (audit journal) fault is = journal-weaker (old journal) RanShort journal fault is
 input-weaker old RanShort (history journal) fault is = journal-weaker (old journal) RanShort journal fault is
@@ -46,10 +73,12 @@ fault-weaker old new RanShort Refuses task (CannotWrite named) is = is
 fault-weaker old new RanShort Refuses task CannotWriteOutput is = is
 fault-weaker old new RanShort Refuses task NoMemory is = (input-weaker old RanShort task NoMemory is.0, is.1)
 fault-weaker old new RanShort Refuses task JournalFull is = (input-weaker old RanShort task JournalFull is.0, is.1)
+fault-weaker old new RanShort Refuses task OldJournal is = (input-weaker old RanShort task OldJournal is.0, is.1)
 
 -- where memory may be short
 pub short-memory : (old : Files) (task : Task) → IsInputFault old ⊤ task NoMemory
-short-memory old (run script to) = inl tt
+short-memory old (run script None to) = inl tt
+short-memory old (run script (Some after) to) = inl (inl tt)
 short-memory old (threads script seed to) = inl tt
 short-memory old (audit journal) = inl tt
 short-memory old (history journal) = inl tt

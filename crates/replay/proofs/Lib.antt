@@ -5,6 +5,7 @@ pub mod ThreadLines
 pub mod Faults
 pub mod Audits
 pub mod Journals
+pub mod LaterRuns
 pub mod Marks
 pub mod OneOutcome
 pub mod Outputs

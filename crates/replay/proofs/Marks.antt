@@ -2,6 +2,7 @@
 use Rattle.std.specs.Prelude.{◌≡◌, ℕ, zero, suc, ◌+◌, ◌<◌, ◌⊎◌, ◌==◌, ◌||◌, nat_lt, Bool, true, false, List, [], ◌∷◌, ◌++◌, length, slice_index_or, slice_set, refl}
 use Rattle.std.proofs.Common.{arith, ap, sym, ◌∙◌, inl, inr}
 use Rattle.std.proofs.lemmas.Bool.{cases_eq, cases_lt, eq-eqb, ne_eqb, lt-ltb, le-ltb}
+use Rattle.std.proofs.Math.Bool.{or-false}
 use Rattle.std.proofs.lemmas.List.{get_or-set_same, get_or-set_other}
 use Rattle.replay.specs.Progress.{with_settled, IsLeastUnsettled}
 use Rattle.replay.specs.Settled.{SettledParts, settled_in}
@@ -23,6 +24,11 @@ settled-none s at_start none = λ i index. (ap (λ (c : ℕ). nat_lt index c || 
   where
     nothing : (index : ℕ) → (nat_lt index 0 || slice_index_or [] index false) ≡ false
     nothing index = ap (λ (b : Bool). b || false) (le-ltb index 0 (omega arith))
+
+-- the first messages that were sent are settled
+pub settled-first : (s : SettledParts) (count : ℕ) → s.cursor ≡ count → s.marks ≡ [] → settled_in s ≡ (λ index. nat_lt index count)
+unfolding settled_in
+settled-first s count begins none = λ i index. (ap (λ (c : ℕ). nat_lt index c || slice_index_or s.marks index false) begins ∙ (ap (λ (ms : List Bool). nat_lt index count || slice_index_or ms index false) none ∙ or-false (nat_lt index count))) i
 
 -- a mark that is not set changes nothing
 mark-none : (marks : List Bool) (index : ℕ) → slice_index_or (marks ++ false ∷ []) index false ≡ slice_index_or marks index false

@@ -10,8 +10,7 @@ use Rattle.messages.specs.declared.event.Event.{Event}
 use Rattle.messages.specs.declared.event.Event.TheVariants as event
 use Rattle.messages.specs.declared.message.Message.{Message}
 use Rattle.messages.specs.declared.entry.Entry.{Entry}
-use Rattle.messages.specs.Shapes.{ShapeFields}
-use Rattle.cluster_core.specs.World.{WorldState, first_world, journal_limit}
+use Rattle.cluster_core.specs.World.{WorldState, journal_limit}
 use Rattle.cluster_core.specs.Next.{next, kept_next}
 use Rattle.cluster_core.specs.Runs.{Leads}
 use Rattle.cluster_core.proofs.runs.JournalRuns.{leads_push, entry_event}
@@ -19,8 +18,7 @@ use Rattle.cluster_core.proofs.steps.Steps.{kept_taken}
 use Rattle.lockscript.specs.declared.script_line.Command.{Command}
 use Rattle.lockscript.specs.declared.script_line.Command.TheVariants.{Call, Deliver, Lose, Settle, Interrupt, Retry, Resend, Declare, Restart, Learn}
 use Rattle.lockscript.specs.Scripts.{LineFields}
-use Rattle.replay.specs.Progress.{Progress, End, first_progress, after_entry, after_refusal, delivery, index_of, lost, settling, Comes, Ends, Happens, InTurn, Passes, Delivers, Does, RunsTo}
-use Rattle.replay.specs.Played.{FillsJournal}
+use Rattle.replay.specs.Progress.{Progress, End, after_entry, after_refusal, delivery, index_of, lost, settling, Comes, Ends, Happens, InTurn, Passes, Delivers, Does, RunsTo}
 
 -- the entries so far lead from a world to the world so far
 abbrev pub LeadsFrom : WorldState → Progress → Type 0
@@ -87,9 +85,9 @@ does_leads w line (Restart node) p end leads does = happens_leads w line (event.
 does_leads w line (Learn file node incarnation) p end leads does = happens_leads w line (event.Learn file node incarnation) p end leads does
 does_leads w line Settle p end leads does = turns_lead (Delivers line) w (delivers_leads w line) (Some p) does.0 end leads does.1
 
--- the entries that lines make are a run
-pub lines_lead : (shape : ShapeFields) (ls : List LineFields) (q : Progress) → RunsTo (first_progress shape) ls (Some q) → Leads (first_world shape) q.entries q.world
-lines_lead shape ls q runs = turns_lead (λ (l : LineFields). Does l.number l.command) (first_world shape) (λ l. does_leads (first_world shape) l.number l.command) (Some (first_progress shape)) ls (Some q) refl runs
+-- the entries that lines make lead on
+pub lines_lead : (w : WorldState) (from : Progress) (ls : List LineFields) (q : Progress) → LeadsFrom w from → RunsTo from ls (Some q) → LeadsFrom w q
+lines_lead w from ls q leads runs = turns_lead (λ (l : LineFields). Does l.number l.command) w (λ l. does_leads w l.number l.command) (Some from) ls (Some q) leads runs
 
 -- what comes in turn after others
 pub turns_append : {A : Type 0} (Is : A → Progress → End → Type 0) (from mid end : End) (xs ys : List A) → InTurn Is from xs mid → InTurn Is mid ys end → InTurn Is from (xs ++ ys) end
@@ -119,11 +117,11 @@ runs_more p q r ls i l lt is runs does =
     subst P (ap (λ (k : LineFields). take i ls ++ k ∷ []) is ∙ sym (take_more ls i l lt)) (turns_push (λ (k : LineFields). Does k.number k.command) (Some p) q (Some r) (take i ls) l runs does)
 
 -- a line finds the journal full
-pub fills : (shape : ShapeFields) (ls : List LineFields) (i : ℕ) (l : LineFields) (p : Progress) → i < length ls → l ≡ get_or ls i l → RunsTo (first_progress shape) (take i ls) (Some p) → Does l.number l.command p None → FillsJournal shape ls
-fills shape ls i l p lt is runs full =
-    let P : List LineFields → Type 0 = λ ks. RunsTo (first_progress shape) ks None in
+pub fills : (from : Progress) (ls : List LineFields) (i : ℕ) (l : LineFields) (p : Progress) → i < length ls → l ≡ get_or ls i l → RunsTo from (take i ls) (Some p) → Does l.number l.command p None → RunsTo from ls None
+fills from ls i l p lt is runs full =
+    let P : List LineFields → Type 0 = λ ks. RunsTo from ks None in
     let in_order : take i ls ++ l ∷ drop (i + 1) ls ≡ ls =
     ap (λ (k : LineFields). take i ls ++ k ∷ drop (i + 1) ls) is
     ∙ (ap (λ (ks : List LineFields). take i ls ++ ks) (sym (drop_more ls i l lt))
     ∙ take-append-drop i ls) in
-    subst P in_order (turns_append (λ (k : LineFields). Does k.number k.command) (Some (first_progress shape)) (Some p) None (take i ls) (l ∷ drop (i + 1) ls) runs (None, full, refl))
+    subst P in_order (turns_append (λ (k : LineFields). Does k.number k.command) (Some from) (Some p) None (take i ls) (l ∷ drop (i + 1) ls) runs (None, full, refl))

@@ -8,6 +8,7 @@ use Rattle.cluster_core.specs.World.{WorldState, first_world, journal_limit}
 use Rattle.journal_text.specs.Readings.{WritesJournal}
 use Rattle.messages.specs.declared.entry.Entry.{Entry}
 use Rattle.messages.specs.Shapes.{ShapeFields}
+use Rattle.messages.specs.declared.version.Version.TheVariants.{Second}
 use Rattle.lockscript.specs.Listing.{history_text}
 use Rattle.replay.specs.declared.audit.Audited.{Audited}
 use Rattle.replay.specs.declared.audit.Audited.TheVariants.{Run, Wrong}
@@ -26,6 +27,10 @@ WritesFew text j = WritesJournal text j.shape j.entries × (length j.entries ≤
 -- and they are no more than a journal may have
 abbrev pub HasJournal : (Option (List ℕ) → Type 0) → JournalFields → Type 0
 HasJournal Holds j = HasEntries Holds j × (length j.entries ≤ journal_limit)
+
+-- and the journal is of version 2, so that a run can go on behind it
+abbrev pub HasNewJournal : (Option (List ℕ) → Type 0) → JournalFields → Type 0
+HasNewJournal Holds j = HasJournal Holds j × (j.shape.version ≡ Second)
 
 -- they are a run, of which this is the journal, or there is a first wrong one
 abbrev pub IsAudited : JournalFields → Audited → Type 0

@@ -1,7 +1,8 @@
 -- What a command comes to.
-use Rattle.std.specs.Prelude.{◌≡◌, ℕ, ⊤, List, string_bytes, Option, Some, None}
+use Rattle.std.specs.Prelude.{◌≡◌, ℕ, ⊤, ◌⊎◌, List, string_bytes, Option, Some, None}
 use Rattle.std.specs.Io.KnownBytes.{Appends}
-use Rattle.cluster_core.specs.Journals.{JournalFields}
+use Rattle.cluster_core.specs.Journals.{JournalFields, IsFirstWrong}
+use Rattle.cluster_core.specs.Runs.{IsRun}
 use Rattle.command_line.specs.Tasks.{Task, run, threads, audit, history}
 use Rattle.journal_text.specs.Journals.{journal_text}
 use Rattle.journal_text.specs.Readings.{WritesJournal}
@@ -9,11 +10,11 @@ use Rattle.replay.specs.declared.fault.Fault.{Fault}
 use Rattle.replay.specs.declared.fault.Fault.TheVariants.{CannotWrite, CannotWriteOutput}
 use Rattle.replay.specs.declared.shown.Shown.{Shown}
 use Rattle.replay.specs.declared.shown.Shown.TheVariants.{Text, Lacking, Yes, No}
-use Rattle.replay.specs.Audits.{HasJournal, IsAudit, IsHistory}
-use Rattle.replay.specs.Faults.{IsJournalFault, IsScriptFault, IsThreadsFault}
+use Rattle.replay.specs.Audits.{HasJournal, HasNewJournal, IsAudit, IsHistory}
+use Rattle.replay.specs.Faults.{IsBehindFault, IsJournalFault, IsOldFault, IsScriptFault, IsThreadsFault}
 use Rattle.replay.specs.Outputs.{AppendsPart}
 use Rattle.replay.specs.Played.{PlayedState}
-use Rattle.replay.specs.Scripts.{HasRun, IsListing}
+use Rattle.replay.specs.Scripts.{HasRun, HasRunBehind, IsListing}
 use Rattle.replay.specs.Showing.{shown_status, shown_text}
 use Rattle.replay.specs.Statuses.{status_of}
 use Rattle.replay.specs.Threads.{IsTaken, IsTold, ShowsThreads, ThreadedFields}
@@ -36,9 +37,20 @@ ShowsRun played Yes = ⊥
 ShowsRun played (No position) = ⊥
 ShowsRun played (Text text) = IsListing played (string_bytes text)
 
+-- the run of a journal went on by the script: what is shown is the listing of the whole, whose journal is kept
+abbrev pub WentOn : Files → List ℕ → JournalFields → Option (List ℕ) → Files → Shown → Type 0
+WentOn old script j to new shown =
+    (played : PlayedState) × HasRunBehind (old script) j played × ShowsRun played shown × KeepsJournal old to (journal_text played.journal.shape played.journal.entries) new × IsReadFrom to played.journal
+
+-- what is shown where a script goes on behind a journal: the first wrong entry of one that is no run, and no file changes, else what it came to
+abbrev pub GoesOn : Files → List ℕ → JournalFields → Option (List ℕ) → Files → Shown → Type 0
+GoesOn old script j to new (No position) = IsFirstWrong j.shape j.entries position × SameFiles old new
+GoesOn old script j to new shown = IsRun j.shape j.entries × WentOn old script j to new shown
+
 -- what is shown of a task that is done, by the file that it reads, and the files that it leaves
 abbrev pub Does : Files → Task → Files → Shown → Type 0
-Does old (run script to) new shown = (played : PlayedState) × HasRun (old script) played × ShowsRun played shown × KeepsJournal old to (journal_text played.journal.shape played.journal.entries) new × IsReadFrom to played.journal
+Does old (run script None to) new shown = (played : PlayedState) × HasRun (old script) played × ShowsRun played shown × KeepsJournal old to (journal_text played.journal.shape played.journal.entries) new × IsReadFrom to played.journal
+Does old (run script (Some after) to) new shown = (j : JournalFields) × HasNewJournal (old after) j × GoesOn old script j to new shown
 Does old (threads script seed to) new shown = (t : ThreadedFields) × IsTold (old script) t × ShowsThreads t shown × KeepsJournal old to t.journal new
 Does old (audit path) new shown = (j : JournalFields) × HasJournal (old path) j × IsAudit j shown × SameFiles old new
 Does old (history path) new shown = (j : JournalFields) × HasJournal (old path) j × IsHistory j shown × SameFiles old new
@@ -49,20 +61,27 @@ Shows IsDone old new status = (shown : Shown) × IsDone shown × (status ≡ sho
 
 -- no file but the one of the journal that is asked for changed
 abbrev pub SameButJournal : Task → Files → Files → Type 0
-SameButJournal (run script (Some path)) old new = SameOthers old new path
+SameButJournal (run script after (Some path)) old new = SameOthers old new path
 SameButJournal (threads script seed (Some path)) old new = SameOthers old new path
 SameButJournal task old new = SameFiles old new
 
+-- the fault is in the journal behind which the script is to run, or that is a run and the fault is in the script
+abbrev pub IsGoingFault : Files → Type 0 → List ℕ → List ℕ → Fault → Type 0
+IsGoingFault old RanShort script after fault =
+    IsOldFault (old after) RanShort after fault ⊎ ((j : JournalFields) × HasNewJournal (old after) j × IsRun j.shape j.entries × IsBehindFault j (old script) RanShort script fault)
+
 -- the fault is in the file that the task reads, or memory is short where `RanShort` says it or for what the file holds
 abbrev pub IsInputFault : Files → Type 0 → Task → Fault → Type 0
-IsInputFault old RanShort (run script to) fault = IsScriptFault (old script) RanShort script fault
+IsInputFault old RanShort (run script None to) fault = IsScriptFault (old script) RanShort script fault
+IsInputFault old RanShort (run script (Some after) to) fault = IsGoingFault old RanShort script after fault
 IsInputFault old RanShort (threads script seed to) fault = IsThreadsFault (old script) RanShort script fault
 IsInputFault old RanShort (audit path) fault = IsJournalFault (old path) RanShort path fault
 IsInputFault old RanShort (history path) fault = IsJournalFault (old path) RanShort path fault
 
 -- a run has a journal for the file of this path
 abbrev pub HasJournalFor : Files → Task → List ℕ → Type 0
-HasJournalFor old (run script (Some path)) named = (named ≡ path) × ((played : PlayedState) × HasRun (old script) played)
+HasJournalFor old (run script None (Some path)) named = (named ≡ path) × ((played : PlayedState) × HasRun (old script) played)
+HasJournalFor old (run script (Some after) (Some path)) named = (named ≡ path) × ((j : JournalFields) × HasNewJournal (old after) j × ((played : PlayedState) × HasRunBehind (old script) j played))
 HasJournalFor old (threads script seed (Some path)) named = (named ≡ path) × IsTaken (old script)
 HasJournalFor old task named = ⊥
 

@@ -8,14 +8,16 @@ use Rattle.journal_text.specs.Readings as readings
 use Rattle.lockscript.specs.declared.error.ParseError.{ParseError}
 use Rattle.lockscript.specs.declared.error.ParseError.TheVariants as parse
 use Rattle.lockscript.specs.Scripts as scripts
+use Rattle.lockscript.specs.ShapedScripts.{IsBadForShape}
 use Rattle.lockscript.specs.ThreadLines.{IsBadOnThreads}
+use Rattle.messages.specs.declared.version.Version.TheVariants.{Second}
 use Rattle.replay.specs.declared.play.PlayError.{PlayError}
 use Rattle.replay.specs.declared.play.PlayError.TheVariants as play
 use Rattle.replay.specs.declared.fault.Fault.{Fault}
-use Rattle.replay.specs.declared.fault.Fault.TheVariants.{BadLine, CannotRead, CannotWrite, CannotWriteOutput, NoMemory, JournalFull}
-use Rattle.replay.specs.Audits.{HasEntries, HasJournal, WritesFew}
-use Rattle.replay.specs.Played.{FillsJournal}
-use Rattle.replay.specs.Scripts.{HasScript}
+use Rattle.replay.specs.declared.fault.Fault.TheVariants.{BadLine, CannotRead, CannotWrite, CannotWriteOutput, NoMemory, JournalFull, OldJournal}
+use Rattle.replay.specs.Audits.{HasEntries, HasJournal, HasNewJournal, WritesFew}
+use Rattle.replay.specs.Played.{FillsBehind, FillsJournal}
+use Rattle.replay.specs.Scripts.{HasScript, HasScriptFor}
 use Rattle.replay.specs.Threads.{FillsOnThreads, IsTaken}
 use Rattle.replay.specs.Stores.{HasNoText, HasText}
 
@@ -68,6 +70,31 @@ IsJournalFault Holds RanShort path NoMemory = RanShort ⊎ ((j : JournalFields) 
 IsJournalFault Holds RanShort path JournalFull = (j : JournalFields) × HasEntries Holds j × (journal_limit < length j.entries)
 IsJournalFault Holds RanShort path fault = ⊥
 
+-- why the journal that the text writes is none behind which a run goes on: version 1, a bad line, too many entries; memory is short for the audit of one that has not too many
+abbrev pub IsOldTextFault : List ℕ → Fault → Type 0
+IsOldTextFault text OldJournal = readings.IsOld text
+IsOldTextFault text (BadLine line) = readings.IsFirstBad text line × ¬ (readings.IsOld text)
+IsOldTextFault text NoMemory = (j : JournalFields) × WritesFew text j × (j.shape.version ≡ Second)
+IsOldTextFault text JournalFull = (j : JournalFields) × readings.WritesJournal text j.shape j.entries × (j.shape.version ≡ Second) × (journal_limit < length j.entries)
+IsOldTextFault text fault = ⊥
+
+-- why the journal of the file is none behind which a run goes on: no text, version 1, a bad line, too many entries; memory is short where `RanShort` says it, or for the audit of a journal that has not too many
+abbrev pub IsOldFault : (Option (List ℕ) → Type 0) → Type 0 → List ℕ → Fault → Type 0
+IsOldFault Holds RanShort path OldJournal = HasText Holds readings.IsOld
+IsOldFault Holds RanShort path (BadLine line) = HasText Holds (λ text. readings.IsFirstBad text line × ¬ (readings.IsOld text))
+IsOldFault Holds RanShort path (CannotRead named) = (named.now ≡ path) × HasNoText Holds
+IsOldFault Holds RanShort path NoMemory = RanShort ⊎ ((j : JournalFields) × HasNewJournal Holds j)
+IsOldFault Holds RanShort path JournalFull = (j : JournalFields) × HasEntries Holds j × (j.shape.version ≡ Second) × (journal_limit < length j.entries)
+IsOldFault Holds RanShort path fault = ⊥
+
+-- why the script of the file is not run to its end behind the run of a journal: no text, another cluster or a bad line, a full journal; memory is short where `RanShort` says it, or for the run of a script
+abbrev pub IsBehindFault : JournalFields → (Option (List ℕ) → Type 0) → Type 0 → List ℕ → Fault → Type 0
+IsBehindFault j Holds RanShort path (BadLine line) = HasText Holds (λ text. IsBadForShape j.shape text line)
+IsBehindFault j Holds RanShort path (CannotRead named) = (named.now ≡ path) × HasNoText Holds
+IsBehindFault j Holds RanShort path NoMemory = RanShort ⊎ ((script : scripts.ScriptFields) × HasScriptFor Holds j.shape script)
+IsBehindFault j Holds RanShort path JournalFull = (script : scripts.ScriptFields) × HasScriptFor Holds j.shape script × FillsBehind j script.lines
+IsBehindFault j Holds RanShort path fault = ⊥
+
 -- its number or its path, as the user gave it
 abbrev pub fault_line : Fault → List ℕ
 fault_line (BadLine line) = codes "bad line " ++ decimal line ++ codes "\n"
@@ -76,3 +103,4 @@ fault_line (CannotWrite path) = codes "cannot write " ++ path.now ++ codes "\n"
 fault_line CannotWriteOutput = codes "cannot write standard output\n"
 fault_line NoMemory = codes "no memory\n"
 fault_line JournalFull = codes "journal full\n"
+fault_line OldJournal = codes "old journal\n"

@@ -13,4 +13,5 @@ pub mod Scripts
 pub mod Threads
 pub mod Audits
 pub mod Faults
+pub mod LaterRuns
 pub mod Commands

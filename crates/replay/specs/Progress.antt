@@ -25,6 +25,10 @@ pub record Progress : Type 0 where
 abbrev pub first_progress : ShapeFields → Progress
 first_progress shape = record { entries = []; world = first_world shape; settled = λ index. false; refused = [] }
 
+-- behind these entries, which led to this world: every message that was sent is settled, and no line was refused
+abbrev pub progress_after : List Entry → WorldState → Progress
+progress_after entries world = record { entries = entries; world = world; settled = λ index. nat_lt index (length world.sent); refused = [] }
+
 -- the event made this entry and led to this world
 abbrev pub after_entry : Progress → WorldState × Entry → Progress
 after_entry p made = record p { entries = p.entries ++ made.1 ∷ []; world = made.0 }

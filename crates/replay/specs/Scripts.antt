@@ -5,10 +5,13 @@ use Rattle.cluster_core.specs.declared.item.Item.{Item}
 use Rattle.cluster_core.specs.declared.token_run.TokenRun.{TokenRun}
 use Rattle.cluster_core.specs.Histories.{HasHistory, EachAtItsPlace}
 use Rattle.cluster_core.specs.Listings.{IsTokenListing, IsLockListing}
+use Rattle.cluster_core.specs.Journals.{JournalFields}
 use Rattle.cluster_core.specs.Safe.{IsSafe}
 use Rattle.lockscript.specs.Listing.{listing_text}
 use Rattle.lockscript.specs.Scripts.{ScriptFields, IsScript}
-use Rattle.replay.specs.Played.{PlayedState, ComesTo}
+use Rattle.lockscript.specs.ShapedScripts.{IsForShape}
+use Rattle.messages.specs.Shapes.{ShapeFields}
+use Rattle.replay.specs.Played.{PlayedState, ComesTo, GoesOnTo}
 use Rattle.replay.specs.Stores.{HasText}
 
 -- the file writes this script
@@ -18,6 +21,14 @@ HasScript Holds script = HasText Holds (λ text. IsScript text script)
 -- and the script comes to this
 abbrev pub HasRun : (Option (List ℕ) → Type 0) → PlayedState → Type 0
 HasRun Holds played = (script : ScriptFields) × HasScript Holds script × ComesTo script.shape script.lines played
+
+-- the file writes this script, of a cluster of this shape
+abbrev pub HasScriptFor : (Option (List ℕ) → Type 0) → ShapeFields → ScriptFields → Type 0
+HasScriptFor Holds shape script = HasText Holds (λ text. IsForShape shape text script)
+
+-- and behind the run of the journal the script comes to this
+abbrev pub HasRunBehind : (Option (List ℕ) → Type 0) → JournalFields → PlayedState → Type 0
+HasRunBehind Holds j played = (script : ScriptFields) × HasScriptFor Holds j.shape script × GoesOnTo j script.lines played
 
 -- what a listing of a run tells: the tokens and the locks at its end, which is safe, and a history of one table, each call of it at its place
 pub record Lists (played : PlayedState) (tokens : List TokenRun) (locks : List HeldLock) (history : List Item) : Type 0 where

@@ -4,10 +4,11 @@ ghost use Rattle.cluster_core.specs.Journals.{JournalFields};
 ghost use Rattle.cluster_core.specs.World.{journal_limit};
 ghost use Rattle.command_line.specs.Tasks.{audit, history};
 ghost use Rattle.journal_text.specs.Readings.{HasLength};
+ghost use Rattle.messages.specs.declared.version.Version.TheVariants.{Second};
 ghost use Rattle.replay.specs.declared.fault.Fault.TheVariants.{CannotWriteOutput};
-ghost use Rattle.replay.specs.Audits.{HasJournal, IsAudited, IsHistoryText, IsVerdict, WritesFew};
+ghost use Rattle.replay.specs.Audits.{HasJournal, HasNewJournal, IsAudited, IsHistoryText, IsVerdict, WritesFew};
 ghost use Rattle.replay.specs.Commands.{Does, IsFault};
-ghost use Rattle.replay.specs.Faults.{IsJournalFault, IsTextFault};
+ghost use Rattle.replay.specs.Faults.{IsJournalFault, IsOldFault, IsOldTextFault, IsTextFault};
 ghost use Rattle.replay.specs.Stores.{SameFiles};
 
 use crate::auditor::Auditor;
@@ -19,7 +20,7 @@ use cluster_core::check_error::CheckError;
 use cluster_core::journal::Journal;
 use cluster_core::world::JOURNAL_LIMIT;
 use intervals::span_map::NoMemory;
-use journal_text::parse::{measure, read_each};
+use journal_text::parse::{is_old, measure, read_each};
 use lockscript::listing::push_history;
 use messages::entry::Entry;
 use messages::shape::Shape;
@@ -124,6 +125,54 @@ fn checked<'a, S: Store>(alloc: Global, store: &mut S, path: &'a str) -> Result<
         Err(CheckError::JournalFull) => Err(Fault::JournalFull),
         Err(CheckError::NoMemory) => Err(Fault::NoMemory),
     }
+}
+
+// What an audit of the journal of a file comes to, behind which a run is to go on. One of version 1 is
+// refused by its first line.
+pub(crate) fn checked_new<'a, S: Store>(
+    alloc: Global,
+    store: &mut S,
+    path: &'a str,
+) -> Result<Audited, Fault<'a>>
+    ensures audited { IfOk result (λ audited. (j : JournalFields) × HasNewJournal (S.holds store.old path.now) j × IsAudited j audited) }
+    ensures fault { IfErr result (IsOldFault (S.holds store.old path.now) (S.ran_short store.new) path.now) }
+    ensures files { SameFiles (S.holds store.old) (S.holds store.new) }
+{
+    let (shape, entries) = new_entries_of(alloc, store, path)?;
+    match Journal::check(alloc, shape, entries) {
+        Ok(journal) => Ok(Audited::Run(journal)),
+        Err(CheckError::NotARun(position)) => Ok(Audited::Wrong(position)),
+        Err(CheckError::JournalFull) => Err(Fault::JournalFull),
+        Err(CheckError::NoMemory) => Err(Fault::NoMemory),
+    }
+}
+
+// The shape and the entries of the journal of version 2 that a file writes. Its text goes.
+fn new_entries_of<'a, S: Store>(
+    alloc: Global,
+    store: &mut S,
+    path: &'a str,
+) -> Result<(Shape, Vec<Entry>), Fault<'a>>
+    ensures entries { IfOk result (λ made. HasNewJournal (S.holds store.old path.now) (record { shape = made.0; entries = made.1.items })) }
+    ensures fault { IfErr result (IsOldFault (S.holds store.old path.now) (S.ran_short store.new) path.now) }
+    ensures files { SameFiles (S.holds store.old) (S.holds store.new) }
+{
+    let bytes = bytes_of(alloc, store, path)?;
+    match str::from_utf8(bytes.as_slice()) {
+        Ok(text) => new_entries_in(alloc, text),
+        Err(_) => Err(Fault::CannotRead(path)),
+    }
+}
+
+// The shape and the entries of the journal of version 2 that the text writes.
+fn new_entries_in<'a>(alloc: Global, text: &str) -> Result<(Shape, Vec<Entry>), Fault<'a>>
+    ensures entries { IfOk result (λ made. WritesFew text.now (record { shape = made.0; entries = made.1.items }) × (made.0.version ≡ Second)) }
+    ensures fault { IfErr result (IsOldTextFault text.now) }
+{
+    if is_old(text) {
+        return Err(Fault::OldJournal);
+    }
+    entries_in(alloc, text)
 }
 
 // The shape and the entries of the journal that a file writes. Its text goes.

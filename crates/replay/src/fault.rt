@@ -27,6 +27,8 @@ pub enum Fault<'a> {
     NoMemory,
     /// The run needs more entries than a journal may have, or the journal has more.
     JournalFull,
+    /// A run can't go on behind a journal of version 1.
+    OldJournal,
 }
 
 impl Fault<'_> {
@@ -39,7 +41,8 @@ impl Fault<'_> {
             Fault::BadLine(_)
             | Fault::CannotRead(_)
             | Fault::CannotWrite(_)
-            | Fault::CannotWriteOutput => 3,
+            | Fault::CannotWriteOutput
+            | Fault::OldJournal => 3,
             Fault::NoMemory | Fault::JournalFull => 4,
         }
     }
@@ -59,6 +62,7 @@ impl Fault<'_> {
             Fault::CannotWriteOutput => put_line(err, "cannot write standard output", ""),
             Fault::NoMemory => put_line(err, "no memory", ""),
             Fault::JournalFull => put_line(err, "journal full", ""),
+            Fault::OldJournal => put_line(err, "old journal", ""),
         }
     }
 }

@@ -3,6 +3,7 @@
 
 mod audit;
 mod auditor;
+mod behind;
 mod counts;
 pub mod disk;
 pub mod fault;

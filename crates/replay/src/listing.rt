@@ -51,7 +51,7 @@ pub(crate) fn listing_begun(
 ) -> Result<(String, History), NoMemory>
     requires { EndsIn journal.now (world_state world) }
     ensures { IfOk result (λ begun. (tokens : List TokenRun) × (locks : List HeldLock)
-        × Lists (state_of (record { journal = journal.now; world = world; refused = refused.now })) tokens locks begun.1
+        × Lists (state_of (record { journal = journal.now; world = world; refused = refused.now })) tokens locks begun.1.items
         × (string_bytes begun.0 ≡ listing_start refused.now journal.now.entries tokens locks)) }
 {
     let tokens = world.tokens(alloc)?;

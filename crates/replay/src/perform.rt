@@ -1,6 +1,7 @@
 //! Doing what a command line asks for.
-ghost use Rattle.std.specs.Prelude.{◌≡◌, ◌≢◌, ◌≤◌, ◌<◌, IfErr, IfOk, OnErr, OnOk};
-ghost use Rattle.command_line.specs.Tasks.{task_of};
+ghost use Rattle.std.specs.Prelude.{◌≡◌, ◌≢◌, ◌≤◌, ◌<◌, None, Some, IfErr, IfOk, OnErr, OnOk};
+ghost use Rattle.std.specs.Option.{option_map};
+ghost use Rattle.command_line.specs.Tasks.{run, task_of};
 ghost use Rattle.replay.specs.declared.fault.Fault.TheVariants.{CannotWriteOutput};
 ghost use Rattle.replay.specs.Commands.{Does, IsFault, Leaves, SameButJournal, Shows, TellsFault};
 ghost use Rattle.replay.specs.Faults.{fault_line};
@@ -8,6 +9,7 @@ ghost use Rattle.replay.specs.Outputs.{WritesOrFails};
 ghost use Rattle.replay.specs.Statuses.{status_of, IsStatus};
 
 use crate::audit::{audit, history};
+use crate::behind::{run_behind, run_behind_with_journal};
 use crate::fault::Fault;
 use crate::output::Output;
 use crate::run::{run_script, run_with_journal};
@@ -85,6 +87,41 @@ fn done<'a, R: Threads + Wait + Clock + Sync, S: Store, O: Output>(
     }
 }
 
+// What is shown of a script that is run, once its journal is written, if a file for it is named.
+fn run_shown<'a, S: Store>(
+    alloc: Global,
+    store: &mut S,
+    script: &'a str,
+    journal: Option<&'a str>,
+) -> Result<Shown, Fault<'a>>
+    ensures done { IfOk result (Does (S.holds store.old) (run script.now None (option_map (λ file. file.now) journal.entry)) (S.holds store.new)) }
+    ensures fault { IfErr result (λ fault. (fault ≢ CannotWriteOutput)
+        × IsFault (S.holds store.old) (S.ran_short store.new) (S.refuses store.new) (run script.now None (option_map (λ file. file.now) journal.entry)) (S.holds store.new) fault) }
+{
+    match journal {
+        None => Ok(Shown::Text(run_script(alloc, store, script)?)),
+        Some(file) => Ok(Shown::Text(run_with_journal(alloc, store, script, file)?)),
+    }
+}
+
+// The same of a script that goes on behind the journal of another file.
+fn run_behind_shown<'a, S: Store>(
+    alloc: Global,
+    store: &mut S,
+    script: &'a str,
+    after: &'a str,
+    journal: Option<&'a str>,
+) -> Result<Shown, Fault<'a>>
+    ensures done { IfOk result (Does (S.holds store.old) (run script.now (Some after.now) (option_map (λ file. file.now) journal.entry)) (S.holds store.new)) }
+    ensures fault { IfErr result (λ fault. (fault ≢ CannotWriteOutput)
+        × IsFault (S.holds store.old) (S.ran_short store.new) (S.refuses store.new) (run script.now (Some after.now) (option_map (λ file. file.now) journal.entry)) (S.holds store.new) fault) }
+{
+    match journal {
+        None => run_behind(alloc, store, script, after),
+        Some(file) => run_behind_with_journal(alloc, store, script, after, file),
+    }
+}
+
 // What is shown of the line, once all else that it asks for is done.
 fn shown_of<'a, R: Threads + Wait + Clock + Sync, S: Store>(
     rt: &R,
@@ -99,12 +136,12 @@ fn shown_of<'a, R: Threads + Wait + Clock + Sync, S: Store>(
     match *line {
         Line::Run {
             script,
-            journal: None,
-        } => Ok(Shown::Text(run_script(alloc, store, script)?)),
-        Line::Run {
-            script,
-            journal: Some(file),
-        } => Ok(Shown::Text(run_with_journal(alloc, store, script, file)?)),
+            after,
+            journal,
+        } => match after {
+            None => run_shown(alloc, store, script, journal),
+            Some(after) => run_behind_shown(alloc, store, script, after, journal),
+        },
         Line::Threads {
             script,
             seed,

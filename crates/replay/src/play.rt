@@ -1,14 +1,19 @@
 //! Running scripts.
-ghost use Rattle.std.specs.Prelude.{◌≡◌, IfErr, IfOk};
+ghost use Rattle.std.specs.Prelude.{◌≡◌, None, IfErr, IfOk};
 ghost use Rattle.cluster_core.specs.Histories.{HasOneHistory};
 ghost use Rattle.cluster_core.specs.Parts.{world_state};
+ghost use Rattle.cluster_core.specs.Runs.{Leads};
 ghost use Rattle.cluster_core.specs.Safe.{IsSafe};
+ghost use Rattle.cluster_core.specs.World.{first_world};
+ghost use Rattle.messages.specs.declared.version.Version.TheVariants.{Second};
 ghost use Rattle.replay.specs.declared.play.PlayError.TheVariants.{NoMemory, JournalFull};
-ghost use Rattle.replay.specs.Parts.{state_of};
-ghost use Rattle.replay.specs.Played.{ComesTo, FillsJournal};
+ghost use Rattle.replay.specs.Parts.{progress, state_of};
+ghost use Rattle.replay.specs.Played.{ComesFrom, ComesTo, FillsBehind, FillsJournal, GoesOnTo};
+ghost use Rattle.replay.specs.Progress.{RunsTo};
 
 use crate::played::Played;
 use crate::player::Player;
+use cluster_core::journal::Journal;
 use lockscript::script::Script;
 use lockscript::script_line::ScriptLine;
 use messages::shape::Shape;
@@ -61,17 +66,43 @@ pub fn play(alloc: Global, script: &Script) -> Result<Played, PlayError>
     // Else some line needs an entry for which there is no room.
     ensures full { IfErr result (λ error. error ≡ JournalFull → FillsJournal script.now.shape script.now.lines) }
 {
-    play_lines(alloc, script.shape(), script.lines())
+    let shape = script.shape();
+    let player = Player::new(alloc, shape)?;
+    play_lines(alloc, shape, player, script.lines())
 }
 
-// Runs the lines in order on a cluster of this shape that begins.
-fn play_lines(alloc: Global, shape: Shape, lines: &[ScriptLine]) -> Result<Played, PlayError>
-    ensures played { IfOk result (λ played. ComesTo shape lines.now (state_of played)) }
+/// Runs the lines of a script as `play` does, behind the run of a journal of the same shape, which is of
+/// version 2: messages are counted on, those of the journal are settled, and the whole run comes of it.
+///
+/// # Errors
+/// As at `play`.
+pub fn play_after(alloc: Global, script: &Script, journal: Journal) -> Result<Played, PlayError>
+    requires same_shape { script.now.shape ≡ journal.shape }
+    requires new { journal.shape.version ≡ Second }
+
+    // It is what the lines come to behind the run of the journal, one after the other.
+    ensures played { IfOk result (λ played. GoesOnTo journal script.now.lines (state_of played)) }
+    ensures history { IfOk result (λ played. HasOneHistory journal.shape played.journal.entries) }
+    ensures safe { IfOk result (λ played. IsSafe (world_state played.world)) }
+    ensures full { IfErr result (λ error. error ≡ JournalFull → FillsBehind journal script.now.lines) }
+{
+    let player = Player::after(alloc, journal)?;
+    play_lines(alloc, script.shape(), player, script.lines())
+}
+
+// Runs the lines in order from where the player stands, in a cluster of this shape.
+fn play_lines(
+    alloc: Global,
+    shape: Shape,
+    mut player: Player,
+    lines: &[ScriptLine],
+) -> Result<Played, PlayError>
+    requires { Leads (first_world shape) (progress player).entries (progress player).world }
+    ensures played { IfOk result (λ played. ComesFrom shape (progress player) lines.now (state_of played)) }
     ensures history { IfOk result (λ played. HasOneHistory shape played.journal.entries) }
     ensures safe { IfOk result (λ played. IsSafe (world_state played.world)) }
-    ensures full { IfErr result (λ error. error ≡ JournalFull → FillsJournal shape lines.now) }
+    ensures full { IfErr result (λ error. error ≡ JournalFull → RunsTo (progress player) lines.now None) }
 {
-    let mut player = Player::new(alloc, shape)?;
     for line in lines {
         player.take(alloc, line)?;
     }

@@ -8,11 +8,12 @@ ghost use Rattle.cluster_core.specs.World.{first_world};
 ghost use Rattle.replay.specs.declared.play.PlayError.TheVariants.{NoMemory, JournalFull};
 ghost use Rattle.replay.specs.Parts.{progress, state_of};
 ghost use Rattle.replay.specs.Played.{played_of};
-ghost use Rattle.replay.specs.Progress.{delivery, first_progress, Comes, Delivers, Does, Ends, Happens, IsNextMessage, IsSettled, Settles};
+ghost use Rattle.replay.specs.Progress.{delivery, first_progress, progress_after, Comes, Delivers, Does, Ends, Happens, IsNextMessage, IsSettled, Settles};
 
 use crate::play::PlayError;
 use crate::played::Played;
 use crate::settled::Settled;
+use cluster_core::journal::Journal;
 use cluster_core::run::Run;
 use cluster_core::world::JOURNAL_LIMIT;
 use lockscript::refused_line::RefusedLine;
@@ -50,6 +51,21 @@ impl Player {
         Ok(Player {
             run: Run::new(alloc, shape)?,
             settled: Settled::new(alloc),
+            refused: Vec::new(alloc),
+        })
+    }
+
+    /// The run of a journal, before any line: its messages are all settled.
+    pub(crate) fn after(alloc: Global, journal: Journal) -> Result<Player, PlayError>
+        ensures leads { IfOk result (λ player. Leads (first_world journal.shape) journal.entries (world_state player.run.world)) }
+        ensures begins { IfOk result (λ player. progress player ≡ progress_after journal.entries (world_state player.run.world)) }
+        ensures err { IfErr result (λ error. error ≡ NoMemory) }
+    {
+        let run = Run::after(alloc, journal)?;
+        let sent = run.world().sent().len();
+        Ok(Player {
+            run,
+            settled: Settled::first(alloc, sent),
             refused: Vec::new(alloc),
         })
     }

@@ -35,9 +35,9 @@ pub(crate) fn run_script<'a, S: Store>(
     store: &mut S,
     path: &'a str,
 ) -> Result<String, Fault<'a>>
-    ensures done { IfOk result (λ text. Does (S.holds store.old) (run path.now None) (S.holds store.new) (Text text)) }
+    ensures done { IfOk result (λ text. Does (S.holds store.old) (run path.now None None) (S.holds store.new) (Text text)) }
     ensures fault { IfErr result (λ fault. (fault ≢ CannotWriteOutput)
-        × IsFault (S.holds store.old) (S.ran_short store.new) (S.refuses store.new) (run path.now None) (S.holds store.new) fault) }
+        × IsFault (S.holds store.old) (S.ran_short store.new) (S.refuses store.new) (run path.now None None) (S.holds store.new) fault) }
 {
     let played = played_of(alloc, store, path)?;
     Ok(listing_of(alloc, played)?)
@@ -50,9 +50,9 @@ pub(crate) fn run_with_journal<'a, S: Store>(
     path: &'a str,
     file: &'a str,
 ) -> Result<String, Fault<'a>>
-    ensures done { IfOk result (λ text. Does (S.holds store.old) (run path.now (Some file.now)) (S.holds store.new) (Text text)) }
+    ensures done { IfOk result (λ text. Does (S.holds store.old) (run path.now None (Some file.now)) (S.holds store.new) (Text text)) }
     ensures fault { IfErr result (λ fault. (fault ≢ CannotWriteOutput)
-        × IsFault (S.holds store.old) (S.ran_short store.new) (S.refuses store.new) (run path.now (Some file.now)) (S.holds store.new) fault) }
+        × IsFault (S.holds store.old) (S.ran_short store.new) (S.refuses store.new) (run path.now None (Some file.now)) (S.holds store.new) fault) }
 {
     let played = played_of(alloc, store, path)?;
     let (listing, journal) = listing_and_journal(alloc, played)?;
@@ -88,7 +88,7 @@ fn script_of<'a, S: Store>(alloc: Global, store: &mut S, path: &'a str) -> Resul
 // The listing of a run. What is no longer needed goes as soon as it can: the journal before the
 // history is written.
 #[tactic(auto, using(crate::proofs::Sections::whole_listing))]
-fn listing_of(alloc: Global, played: Played) -> Result<String, NoMemory>
+pub(crate) fn listing_of(alloc: Global, played: Played) -> Result<String, NoMemory>
     ensures { IfOk result (λ text. IsListing (state_of played) (string_bytes text)) }
 {
     let (mut text, journal, history) = listing_of_played(alloc, played)?;
@@ -99,7 +99,10 @@ fn listing_of(alloc: Global, played: Played) -> Result<String, NoMemory>
 
 // The listing of a run, and its journal as text.
 #[tactic(auto, using(crate::proofs::Sections::whole_listing))]
-fn listing_and_journal(alloc: Global, played: Played) -> Result<(String, String), NoMemory>
+pub(crate) fn listing_and_journal(
+    alloc: Global,
+    played: Played,
+) -> Result<(String, String), NoMemory>
     ensures listing { IfOk result (λ texts. IsListing (state_of played) (string_bytes texts.0)) }
     ensures journal { IfOk result (λ texts. string_bytes texts.1 ≡ journal_text played.journal.shape played.journal.entries) }
     ensures read { IfOk result (λ texts. WritesJournal (journal_text played.journal.shape played.journal.entries) played.journal.shape played.journal.entries) }
@@ -114,7 +117,7 @@ fn listing_and_journal(alloc: Global, played: Played) -> Result<(String, String)
 // The listing of a run up to its history, its journal, and the history.
 fn listing_of_played(alloc: Global, played: Played) -> Result<(String, Journal, History), NoMemory>
     ensures journal { IfOk result (λ begun. begun.1 ≡ played.journal) }
-    ensures listing { IfOk result (λ begun. (tokens : List TokenRun) × (locks : List HeldLock) × Lists (state_of played) tokens locks begun.2
+    ensures listing { IfOk result (λ begun. (tokens : List TokenRun) × (locks : List HeldLock) × Lists (state_of played) tokens locks begun.2.items
         × (string_bytes begun.0 ≡ listing_start played.refused played.journal.entries tokens locks)) }
 {
     let (journal, world, refused) = played.into_parts();

@@ -1,5 +1,5 @@
 //! Which messages are settled.
-ghost use Rattle.std.specs.Prelude.{◌≡◌, ◌≤◌, ◌<◌, ◌+◌, false, true, length, slice_index_or, slice_set, OnOk};
+ghost use Rattle.std.specs.Prelude.{◌≡◌, ◌≤◌, ◌<◌, ◌+◌, false, nat_lt, true, length, slice_index_or, slice_set, OnOk};
 ghost use Rattle.replay.specs.Progress.{with_settled, IsLeastUnsettled};
 ghost use Rattle.replay.specs.Settled.{settled_in};
 
@@ -29,6 +29,16 @@ impl Settled {
     {
         Settled {
             cursor: 0,
+            marks: Vec::new(alloc),
+        }
+    }
+
+    /// So many messages are settled, the first that were sent.
+    pub(crate) fn first(alloc: Global, count: usize) -> Settled
+        ensures { settled_in result ≡ (λ index. nat_lt index count) }
+    {
+        Settled {
+            cursor: count,
             marks: Vec::new(alloc),
         }
     }

@@ -322,7 +322,7 @@ fn changes(locks: &mut LockTable) -> Result<bool, Fail> {
 
 #[test]
 fn locks_and_frees_bytes(rt: HostRuntime) -> Result<(), Fail> {
-    let mut locks = Box::new(rt.alloc(), LockTable::new(rt.alloc()))?;
+    let mut locks = Box::new(rt.alloc(), LockTable::new(rt.alloc(), 1024))?;
     assert!(rt; changes(&mut locks)?);
     Ok(())
 }

@@ -3,6 +3,7 @@ ghost use Rattle.std.specs.Prelude.{◌<◌};
 
 use cluster_core::item::Item;
 use intervals::span::Span;
+use messages::version::Version;
 use model::access::Access;
 use model::call::CallId;
 use model::lock_info::LockInfo;
@@ -108,7 +109,7 @@ fn push_calls(items: &mut Vec<Item>, made: &[(u32, u16, Op, Reply)]) -> Result<(
 }
 
 fn is_legal(alloc: Global, items: Vec<Item>) -> Result<bool, Fail> {
-    let history = History::new(items)?;
+    let history = History::new(Version::Second, items)?;
     Ok(legal(alloc, &history)?)
 }
 
@@ -135,6 +136,50 @@ fn allows_what_one_machine_may_answer(rt: HostRuntime) -> Result<(), Fail> {
         assert!(rt; may_follow(rt.alloc(), &[call])? == may);
     }
     assert!(rt; is_legal(rt.alloc(), Vec::new(rt.alloc()))?);
+    Ok(())
+}
+
+// A read lock of one byte, with one free byte between it and that of the next place.
+fn byte_at(place: u16) -> Op {
+    Op::Set {
+        fd: 0,
+        kind: Kind::OfProcess,
+        mode: Mode::Read,
+        start: 20 + 2 * place as i64,
+        len: 1,
+    }
+}
+
+// Whether the second process may lock so many bytes, and then be refused one more, in a cluster of the
+// version.
+fn may_be_full(alloc: Global, version: Version, count: u16) -> Result<bool, Fail> {
+    let mut items = Vec::new(alloc);
+    push_calls(&mut items, &START)?;
+    for place in 0..count {
+        push_calls(
+            &mut items,
+            &[(9 + place as u32, 2, byte_at(place), Reply::Done)],
+        )?;
+    }
+    push_calls(
+        &mut items,
+        &[(9 + count as u32, 2, byte_at(count), Reply::NoLocks)],
+    )?;
+    let history = History::new(version, items)?;
+    Ok(legal(alloc, &history)?)
+}
+
+#[test]
+fn allows_as_many_regions_as_the_version_has(rt: HostRuntime) -> Result<(), Fail> {
+    for (version, count, may) in [
+        (Version::First, 1023, false),
+        (Version::First, 1024, true),
+        (Version::First, 1025, false),
+        (Version::Second, 1024, false),
+        (Version::Second, 16_384, true),
+    ] {
+        assert!(rt; may_be_full(rt.alloc(), version, count)? == may);
+    }
     Ok(())
 }
 
@@ -290,7 +335,7 @@ fn spawned(position: u32) -> Item {
 // Two items at these positions, whether or not they make a history, which then has them.
 fn is_history(alloc: Global, first: u32, second: u32) -> Result<bool, AllocError> {
     let items = vec![in alloc; spawned(first), spawned(second)]?;
-    match History::new(items) {
+    match History::new(Version::Second, items) {
         Ok(history) => Ok(history.items() == [spawned(first), spawned(second)].as_slice()),
         Err(_) => Ok(false),
     }

@@ -5,7 +5,7 @@ use Rattle.model.specs.declared.call.CallId.{CallId}
 use Rattle.std.specs.Vec.{vec_capacity}
 use Rattle.token_set.specs.declared.edit.TokenEdit.{TokenEdit}
 use Rattle.token_set.specs.Edits.{edited as edited_token}
-use Rattle.intervals.specs.declared.vec_map.VecMap.{VecMap}
+use Rattle.intervals.specs.declared.tree_map.TreeMap.{TreeMap}
 use Rattle.model.specs.declared.level.Level.{Level}
 use Rattle.token_queue.specs.declared.token_request.TokenRequest.{TokenRequest}
 use Rattle.token_queue.specs.declared.held.Held.{Held}
@@ -41,7 +41,7 @@ seen_row None = None
 seen_row (Some r) = Some (seen r)
 
 -- the row with those commands, and that token if there is one
-abbrev pub row_with : Commands → Option (VecMap Level) → Option TokenHolder → Option TokenHolder
+abbrev pub row_with : Commands → Option (TreeMap Level) → Option TokenHolder → Option TokenHolder
 row_with commands (Some token) row = Some (record { commands = commands; token = token })
 row_with commands None None = None
 row_with commands None (Some row) = Some (record { commands = commands; token = row.token })

@@ -1,6 +1,6 @@
 -- The token that a map of levels is.
 use Rattle.std.specs.Prelude.{◌≡◌, ◌≢◌, ℕ, false, ◌&&◌, if◌then◌else◌, ◌<◌, ◌≤◌, Option, Some, None, IsSome}
-use Rattle.intervals.specs.declared.vec_map.VecMap.{VecMap}
+use Rattle.intervals.specs.declared.tree_map.TreeMap.{TreeMap}
 use Rattle.intervals.specs.Bytes.{Range, is_in, AllAre}
 use Rattle.intervals.specs.Runs.{value_at}
 use Rattle.model.specs.declared.mode.Mode.{Mode}
@@ -10,7 +10,7 @@ use Rattle.model.specs.declared.level.Level.TheVariants.{Exclusive}
 use Rattle.token_set.specs.Tokens.{Token, level_conflicts}
 
 -- the token of a token set
-abbrev pub token_of : VecMap Level → Token
+abbrev pub token_of : TreeMap Level → Token
 token_of = value_at
 
 -- the level that stands in the way of the mode at another node: an exclusive one, or any

@@ -15,7 +15,7 @@ use crate::gave_up::GaveUp;
 use intervals::span::{GREATEST, Span};
 use intervals::span_edit::SpanEdit;
 use intervals::span_map::{NoMemory, SpanMap};
-use intervals::vec_map::VecMap;
+use intervals::tree_map::TreeMap;
 use lock_table::lock_table::LockTable;
 use model::level::Level;
 use model::mode::Mode;
@@ -23,7 +23,7 @@ use std::alloc::Global;
 use std::marker::Model;
 
 // The level of each byte.
-type Levels = VecMap<Level>;
+type Levels = TreeMap<Level>;
 
 /// The token of one node for one file: the level of each byte, or none where the node may lock
 /// nothing without asking. A call that answers `NoMemory` leaves the token as it was. (Byte-range
@@ -36,10 +36,10 @@ pub struct TokenSet {
 }
 
 impl Model for TokenSet {
-    ghost use Rattle.intervals.specs.declared.vec_map.VecMap.{VecMap};
+    ghost use Rattle.intervals.specs.declared.tree_map.TreeMap.{TreeMap};
     ghost use Rattle.model.specs.declared.level.Level.{Level};
 
-    ghost Value = { VecMap Level };
+    ghost Value = { TreeMap Level };
 
     ghost view = { λ t. t.levels };
 

@@ -8,6 +8,7 @@ use Rattle.model.specs.Table.{gone}
 use Rattle.node_core.specs.State.{NodeState, first_node}
 use Rattle.cluster_core.specs.World.{WorldState, has_node}
 use Rattle.cluster_core.specs.Next.{declared}
+use Rattle.messages.specs.Versions.{most_regions}
 use Rattle.cluster_core.specs.Union.{union}
 use Rattle.cluster_core.proofs.common.Choices.{at_number}
 use Rattle.cluster_core.proofs.history.Unions.{live_at}
@@ -45,6 +46,7 @@ module _ (w : WorldState) (n : ℕ) where
 
   pub union_without : union (declared w n) ≡ without_host (union w) n i
   union_without = λ j. record {
+    limit = most_regions w.shape.version;
     on = λ m k. part (λ s. s.table.on m k) no_processes m k refl j;
     locks = λ file o. part (λ s. s.table.locks file o) nothing o.node o.incarnation refl j;
   }

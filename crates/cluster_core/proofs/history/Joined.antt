@@ -14,7 +14,7 @@ use Rattle.model.specs.declared.op.Op.{Op}
 use Rattle.model.specs.declared.op.Op.TheVariants.{Spawn, Fork, Open, Dup, Close, Exit, Set, Wait, Unlock, Query}
 use Rattle.model.specs.declared.reply.Reply.{Reply}
 use Rattle.model.specs.declared.reply.Reply.TheVariants.{Done, Again, NoProcess, NoLocks, Free, Blocked, Interrupted}
-use Rattle.model.specs.Limits.{most_descriptors, most_regions}
+use Rattle.model.specs.Limits.{most_descriptors}
 use Rattle.model.specs.Owners.{same_owner, process_owner, description_owner}
 use Rattle.model.specs.Locks.{bars, replace, without_owner, without_owner_anywhere, regions, IsFree, Blocks}
 use Rattle.model.specs.Descriptors.{Processes, with_process, with_descriptor, is_open, after_spawn, after_fork, after_open, after_dup}
@@ -36,6 +36,7 @@ is_of_host node incarnation o = (o.node == node) && (o.incarnation == incarnatio
 -- the processes and locks of one node in one incarnation, and the others' beside them
 abbrev pub joined : Table → ℕ → ℕ → Table → Table
 joined others node incarnation t = record {
+  limit = others.limit;
   on = λ n i. if (n == node) && (i == incarnation) then t.on n i else others.on n i;
   locks = λ file owner. if is_of_host node incarnation owner then t.locks file owner else others.locks file owner;
 }
@@ -93,12 +94,14 @@ module _ (others : Table) (p : Process) where
   -- changes of the node's part
   pub joined-with_processes : (t : Table) (ps : Processes) → all (with_processes t p ps) ≡ with_processes (all t) p ps
   joined-with_processes t ps = λ i. record {
+    limit = others.limit;
     on = λ n k. within_part ((n == p.node) && (k == p.incarnation)) ((n == p.node) && (k == p.incarnation)) ps (t.on n k) (others.on n k) (λ h. h) i;
     locks = (all t).locks;
   }
 
   pub joined-replace : (t : Table) (file : ℕ) (owner : Owner) (bytes : ℕ → Option Mode) → is_own owner ≡ true → all (record t { locks = replace t.locks file owner bytes }) ≡ record (all t) { locks = replace (all t).locks file owner bytes }
   joined-replace t file owner bytes own = λ i. record {
+    limit = others.limit;
     on = (all t).on;
     locks = λ f o. within_part (is_own o) ((file == f) && same_owner owner o) bytes (t.locks f o) (others.locks f o) (same-own owner o (file == f) own) i;
   }
@@ -108,6 +111,7 @@ module _ (others : Table) (p : Process) where
 
   pub joined-without_owner_anywhere : (t : Table) (owner : Owner) → is_own owner ≡ true → all (record t { locks = without_owner_anywhere t.locks owner }) ≡ record (all t) { locks = without_owner_anywhere (all t).locks owner }
   joined-without_owner_anywhere t owner own = λ i. record {
+    limit = others.limit;
     on = (all t).on;
     locks = λ f o. within_part (is_own o) (same_owner owner o) nothing (t.locks f o) (others.locks f o) (same-own owner o true own) i;
   }
@@ -129,10 +133,12 @@ module _ (others : Table) (p : Process) where
   pub about-joined : (t : Table) (op : Op) (mode : Mode) (c : LockTarget) → IsAbout t p op mode c → IsAbout (all t) p op mode c
   about-joined t op mode c a = about_maps t (all t) p op mode c (λ need fd kind start len h. target-joined t need fd kind start len ∙ h) a
 
-  pub lock_within-joined : (t : Table) (c : LockTarget) (mode : Option Mode) → is_own c.owner ≡ true → lock_within (all t) c mode ≡ answer_of_all (lock_within t c mode)
-  lock_within-joined t c mode own =
+  pub lock_within-joined : (t : Table) (c : LockTarget) (mode : Option Mode) → t.limit ≡ others.limit → is_own c.owner ≡ true → lock_within (all t) c mode ≡ answer_of_all (lock_within t c mode)
+  lock_within-joined t c mode limit own =
       let same : regions_with (all t) c mode ≡ regions_with t c mode = ap (λ (f : ℕ → Option Mode). regions (put f c.span mode)) (locks-joined t c.file c.owner own) in
-      ap (λ (k : ℕ). new (nat_le k most_regions)) same ∙ either (nat_le (regions_with t c mode) most_regions)
+      ap (λ (k : ℕ). new (nat_le k others.limit)) same
+      ∙ ap (λ (most : ℕ). new (nat_le (regions_with t c mode) most)) (sym limit)
+      ∙ either (nat_le (regions_with t c mode) t.limit)
     where
       new : Bool → Table × Reply
       new b = if b then (locked (all t) c mode, Done) else (all t, NoLocks)
@@ -141,9 +147,9 @@ module _ (others : Table) (p : Process) where
       either true = λ i. (sym (joined-locked t c mode own) i, Done)
       either false = refl
 
-  pub after_unlock-joined : (t : Table) (r : Result LockTarget Reply) → ((c : LockTarget) → r ≡ Ok c → is_own c.owner ≡ true) → after_unlock (all t) r ≡ answer_of_all (after_unlock t r)
-  after_unlock-joined t (Ok c) own = lock_within-joined t c None (own c refl)
-  after_unlock-joined t (Err refusal) own = refl
+  pub after_unlock-joined : (t : Table) (r : Result LockTarget Reply) → t.limit ≡ others.limit → ((c : LockTarget) → r ≡ Ok c → is_own c.owner ≡ true) → after_unlock (all t) r ≡ answer_of_all (after_unlock t r)
+  after_unlock-joined t (Ok c) limit own = lock_within-joined t c None limit (own c refl)
+  after_unlock-joined t (Err refusal) limit own = refl
 
   -- descriptors that close, and processes that exit
   joined-after_last_close : (t : Table) (d : ℕ) → after_last_close (all t) p d ≡ all (after_last_close t p d)
@@ -164,7 +170,7 @@ module _ (others : Table) (p : Process) where
       let ps = with_descriptor (around t p) p.pid fd None in
       let on : with_processes (all t) p (with_descriptor (around (all t) p) p.pid fd None) ≡ all (with_processes t p ps) = ap (λ (qs : Processes). with_processes (all t) p (with_descriptor qs p.pid fd None)) (around-joined t) ∙ sym (joined-with_processes t ps) in
       let locks = sym (joined-without_owner t o.file (process_owner p) (itself p.node p.incarnation)) in
-      λ i. record { on = (on i).on; locks = (locks i).locks }
+      λ i. record { limit = others.limit; on = (on i).on; locks = (locks i).locks }
 
   pub closed-joined : (t : Table) (fd : ℕ) (o : Opened) → closed (all t) p fd o ≡ all (closed t p fd o)
   closed-joined t fd o = ap (λ (u : Table). after_last_close u p o.description) (joined-shut t fd o) ∙ joined-after_last_close (shut t fd o) o.description
@@ -238,17 +244,17 @@ module _ (others : Table) (p : Process) where
   abbrev pub IsFreeAt : Mode → LockTarget → Type 0
   IsFreeAt mode c = (o : Owner) (b : ℕ) → is_own o ≡ false → c.span.lo ≤ b → b ≤ c.span.hi → bars mode (others.locks c.file o b) ≡ false
 
-  set-joined : (t u : Table) (mode : Mode) (reply : Reply) (c : LockTarget) → IsOwn t p.node p.incarnation → is_own c.owner ≡ true → (IsUnhindered reply → IsFreeAt mode c) → SetStep t mode reply u c → SetStep (all t) mode reply (all u) c
-  set-joined t u mode (Again lock) c own of elsewhere h = (blocks-joined t c.file c.owner c.span mode lock own h.0, ap all h.1)
-  set-joined t u mode Done c own of elsewhere h = (free-joined t c.file c.owner c.span mode (elsewhere tt) h.0, is-joined (lock_within t c (Some mode)) (lock_within (all t) c (Some mode)) Done u (lock_within-joined t c (Some mode) of) h.1)
-  set-joined t u mode NoLocks c own of elsewhere h = (free-joined t c.file c.owner c.span mode (elsewhere tt) h.0, is-joined (lock_within t c (Some mode)) (lock_within (all t) c (Some mode)) NoLocks u (lock_within-joined t c (Some mode) of) h.1)
-  set-joined t u mode _ c own of elsewhere h = absurd h
+  set-joined : (t u : Table) (mode : Mode) (reply : Reply) (c : LockTarget) → t.limit ≡ others.limit → IsOwn t p.node p.incarnation → is_own c.owner ≡ true → (IsUnhindered reply → IsFreeAt mode c) → SetStep t mode reply u c → SetStep (all t) mode reply (all u) c
+  set-joined t u mode (Again lock) c limit own of elsewhere h = (blocks-joined t c.file c.owner c.span mode lock own h.0, ap all h.1)
+  set-joined t u mode Done c limit own of elsewhere h = (free-joined t c.file c.owner c.span mode (elsewhere tt) h.0, is-joined (lock_within t c (Some mode)) (lock_within (all t) c (Some mode)) Done u (lock_within-joined t c (Some mode) limit of) h.1)
+  set-joined t u mode NoLocks c limit own of elsewhere h = (free-joined t c.file c.owner c.span mode (elsewhere tt) h.0, is-joined (lock_within t c (Some mode)) (lock_within (all t) c (Some mode)) NoLocks u (lock_within-joined t c (Some mode) limit of) h.1)
+  set-joined t u mode _ c limit own of elsewhere h = absurd h
 
-  wait-joined : (t u : Table) (mode : Mode) (reply : Reply) (c : LockTarget) → IsOwn t p.node p.incarnation → is_own c.owner ≡ true → (IsUnhindered reply → IsFreeAt mode c) → WaitStep t mode reply u c → WaitStep (all t) mode reply (all u) c
-  wait-joined t u mode Interrupted c own of elsewhere h = ap all h
-  wait-joined t u mode Done c own of elsewhere h = set-joined t u mode Done c own of elsewhere h
-  wait-joined t u mode NoLocks c own of elsewhere h = set-joined t u mode NoLocks c own of elsewhere h
-  wait-joined t u mode _ c own of elsewhere h = absurd h
+  wait-joined : (t u : Table) (mode : Mode) (reply : Reply) (c : LockTarget) → t.limit ≡ others.limit → IsOwn t p.node p.incarnation → is_own c.owner ≡ true → (IsUnhindered reply → IsFreeAt mode c) → WaitStep t mode reply u c → WaitStep (all t) mode reply (all u) c
+  wait-joined t u mode Interrupted c limit own of elsewhere h = ap all h
+  wait-joined t u mode Done c limit own of elsewhere h = set-joined t u mode Done c limit own of elsewhere h
+  wait-joined t u mode NoLocks c limit own of elsewhere h = set-joined t u mode NoLocks c limit own of elsewhere h
+  wait-joined t u mode _ c limit own of elsewhere h = absurd h
 
   query-joined : (t u : Table) (mode : Mode) (reply : Reply) (c : LockTarget) → IsOwn t p.node p.incarnation → (IsUnhindered reply → IsFreeAt mode c) → QueryStep t mode reply u c → QueryStep (all t) mode reply (all u) c
   query-joined t u mode (Blocked lock) c own elsewhere h = (blocks-joined t c.file c.owner c.span mode lock own h.0, ap all h.1)
@@ -260,38 +266,38 @@ module _ (others : Table) (p : Process) where
   IsFreeBeside t op reply = (mode : Mode) (c : LockTarget) → IsUnhindered reply → IsAbout t p op mode c → IsFreeAt mode c
 
   -- a step of the node's table is a step of all together
-  pub step-joined : (t u : Table) (op : Op) (reply : Reply) → IsOwn t p.node p.incarnation → IsFreeBeside t op reply → Step t p op reply u → Step (all t) p op reply (all u)
-  step-joined t u Spawn reply own elsewhere h =
+  pub step-joined : (t u : Table) (op : Op) (reply : Reply) → t.limit ≡ others.limit → IsOwn t p.node p.incarnation → IsFreeBeside t op reply → Step t p op reply u → Step (all t) p op reply (all u)
+  step-joined t u Spawn reply limit own elsewhere h =
       let r : Processes → Result (Processes × Reply) Reply = λ ps. after_spawn ps p.pid in
       is-joined (beside t p (r (around t p))) (beside (all t) p (r (around (all t) p))) reply u (ap (λ ps. beside (all t) p (r ps)) (around-joined t) ∙ beside-joined t (r (around t p))) h
-  step-joined t u (Open file access) reply own elsewhere h =
+  step-joined t u (Open file access) reply limit own elsewhere h =
       let r : Processes → Result (Processes × Reply) Reply = λ ps. after_open ps p.pid file access in
       is-joined (beside t p (r (around t p))) (beside (all t) p (r (around (all t) p))) reply u (ap (λ ps. beside (all t) p (r ps)) (around-joined t) ∙ beside-joined t (r (around t p))) h
-  step-joined t u (Fork child) reply own elsewhere h =
+  step-joined t u (Fork child) reply limit own elsewhere h =
       let r : Processes → Result (Processes × Reply) Reply = λ ps. after_fork ps p.pid child in
       (h.0, is-joined (beside t p (r (around t p))) (beside (all t) p (r (around (all t) p))) reply u (ap (λ ps. beside (all t) p (r ps)) (around-joined t) ∙ beside-joined t (r (around t p))) h.1)
-  step-joined t u (Dup fd) reply own elsewhere h =
+  step-joined t u (Dup fd) reply limit own elsewhere h =
       let r : Processes → Result (Processes × Reply) Reply = λ ps. after_dup ps p.pid fd in
       is-joined (beside t p (r (around t p))) (beside (all t) p (r (around (all t) p))) reply u (ap (λ ps. beside (all t) p (r ps)) (around-joined t) ∙ beside-joined t (r (around t p))) h
-  step-joined t u (Close fd) reply own elsewhere h = is-joined (after_close t p fd) (after_close (all t) p fd) reply u (after_close-joined t fd) h
-  step-joined t u Exit reply own elsewhere h = is-joined (after_exit t p) (after_exit (all t) p) reply u (after_exit-joined t) h
-  step-joined t u (Set fd kind mode start len) reply own elsewhere h =
+  step-joined t u (Close fd) reply limit own elsewhere h = is-joined (after_close t p fd) (after_close (all t) p fd) reply u (after_close-joined t fd) h
+  step-joined t u Exit reply limit own elsewhere h = is-joined (after_exit t p) (after_exit (all t) p) reply u (after_exit-joined t) h
+  step-joined t u (Set fd kind mode start len) reply limit own elsewhere h =
       let found = target t p (Some mode) fd kind start len in
       let P : Result LockTarget Reply → Type 0 = λ x. AfterTests (all t) x reply (all u) (SetStep (all t) mode reply (all u)) in
       subst P (sym (target-joined t (Some mode) fd kind start len))
       (elim found as (λ x. found ≡ x → AfterTests t x reply u (SetStep t mode reply u) → P x) [
         | Err refusal ↦ λ is step. (step.0, ap all step.1)
-        | Ok c ↦ λ is step. set-joined t u mode reply c own (target_of_host t p (Some mode) fd kind start len c is) (λ unhindered. elsewhere mode c unhindered (refl, is)) step
+        | Ok c ↦ λ is step. set-joined t u mode reply c limit own (target_of_host t p (Some mode) fd kind start len c is) (λ unhindered. elsewhere mode c unhindered (refl, is)) step
       ] refl h)
-  step-joined t u (Wait fd kind mode start len) reply own elsewhere h =
+  step-joined t u (Wait fd kind mode start len) reply limit own elsewhere h =
       let found = target t p (Some mode) fd kind start len in
       let P : Result LockTarget Reply → Type 0 = λ x. AfterTests (all t) x reply (all u) (WaitStep (all t) mode reply (all u)) in
       subst P (sym (target-joined t (Some mode) fd kind start len))
       (elim found as (λ x. found ≡ x → AfterTests t x reply u (WaitStep t mode reply u) → P x) [
         | Err refusal ↦ λ is step. (step.0, ap all step.1)
-        | Ok c ↦ λ is step. wait-joined t u mode reply c own (target_of_host t p (Some mode) fd kind start len c is) (λ unhindered. elsewhere mode c unhindered (refl, is)) step
+        | Ok c ↦ λ is step. wait-joined t u mode reply c limit own (target_of_host t p (Some mode) fd kind start len c is) (λ unhindered. elsewhere mode c unhindered (refl, is)) step
       ] refl h)
-  step-joined t u (Query fd kind mode start len) reply own elsewhere h =
+  step-joined t u (Query fd kind mode start len) reply limit own elsewhere h =
       let found = target t p None fd kind start len in
       let P : Result LockTarget Reply → Type 0 = λ x. AfterTests (all t) x reply (all u) (QueryStep (all t) mode reply (all u)) in
       subst P (sym (target-joined t None fd kind start len))
@@ -299,6 +305,6 @@ module _ (others : Table) (p : Process) where
         | Err refusal ↦ λ is step. (step.0, ap all step.1)
         | Ok c ↦ λ is step. query-joined t u mode reply c own (λ unhindered. elsewhere mode c unhindered (refl, is)) step
       ] refl h)
-  step-joined t u (Unlock fd kind start len) reply own elsewhere h =
+  step-joined t u (Unlock fd kind start len) reply limit own elsewhere h =
       let found = target t p None fd kind start len in
-      is-joined (after_unlock t found) (after_unlock (all t) (target (all t) p None fd kind start len)) reply u (ap (after_unlock (all t)) (target-joined t None fd kind start len) ∙ after_unlock-joined t found (λ c is. target_of_host t p None fd kind start len c is)) h
+      is-joined (after_unlock t found) (after_unlock (all t) (target (all t) p None fd kind start len)) reply u (ap (after_unlock (all t)) (target-joined t None fd kind start len) ∙ after_unlock-joined t found limit (λ c is. target_of_host t p None fd kind start len c is)) h

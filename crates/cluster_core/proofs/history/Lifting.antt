@@ -10,6 +10,7 @@ use Rattle.model.specs.Locks.{bars}
 use Rattle.model.specs.Descriptors.{no_processes}
 use Rattle.model.specs.Table.{Table, LockTarget}
 use Rattle.model.specs.Step.{Step}
+use Rattle.messages.specs.Versions.{most_regions}
 use Rattle.messages.specs.Shapes.{ShapeFields}
 use Rattle.messages.specs.Messages.{is_within}
 use Rattle.node_core.specs.State.{NodeState, process}
@@ -78,6 +79,7 @@ module _ (w v : WorldState) (n : ℕ) (there : has_node w n ≡ true) (named : (
   -- the union is the node's table beside those of the others
   pub union_joined : union v ≡ joined (union w) (w.nodes n).node (w.nodes n).incarnation (v.nodes n).table
   union_joined = λ i. record {
+    limit = most_regions (differs.shape i).version;
     on = λ m k. part (λ s. s.table.on m k) no_processes m k i;
     locks = λ file o. part (λ s. s.table.locks file o) nothing o.node o.incarnation i;
   }
@@ -97,8 +99,8 @@ free_beside w n pid op reply named free mode c unhindered about o b apart above 
     ]
 
 -- a step of the node's table is a step of the union
-pub step_lifts : (w v : WorldState) (n pid : ℕ) (op : Op) (reply : Reply) → has_node w n ≡ true → (w.nodes n).node ≡ n → IsOwn (w.nodes n).table (w.nodes n).node (w.nodes n).incarnation → DiffersAt w v n → IsFreeElsewhere w n pid op reply → Step (w.nodes n).table (process (w.nodes n) pid) op reply (v.nodes n).table → Step (union w) (process (w.nodes n) pid) op reply (union v)
-step_lifts w v n pid op reply there named own differs free step =
+pub step_lifts : (w v : WorldState) (n pid : ℕ) (op : Op) (reply : Reply) → has_node w n ≡ true → (w.nodes n).node ≡ n → (w.nodes n).table.limit ≡ most_regions w.shape.version → IsOwn (w.nodes n).table (w.nodes n).node (w.nodes n).incarnation → DiffersAt w v n → IsFreeElsewhere w n pid op reply → Step (w.nodes n).table (process (w.nodes n) pid) op reply (v.nodes n).table → Step (union w) (process (w.nodes n) pid) op reply (union v)
+step_lifts w v n pid op reply there named limit own differs free step =
     let s = w.nodes n in
     let p = process s pid in
     let nothing_else : DiffersAt w w n = record { shape = refl; incarnation = refl; others = λ m other. refl } in
@@ -106,7 +108,7 @@ step_lifts w v n pid op reply there named own differs free step =
     let new : union v ≡ joined (union w) s.node s.incarnation (v.nodes n).table = union_joined w v n there named differs in
     let P : Table → Type 0 = λ t. Step t p op reply (union v) in
     let Q : Table → Type 0 = λ t. Step (joined (union w) s.node s.incarnation s.table) p op reply t in
-    subst P (sym old) (subst Q (sym new) (step-joined (union w) p s.table (v.nodes n).table op reply own (free_beside w n pid op reply named free) step))
+    subst P (sym old) (subst Q (sym new) (step-joined (union w) p s.table (v.nodes n).table op reply limit own (free_beside w n pid op reply named free) step))
 
 -- what a call of a process of the node is about in the node's table it is about in the union
 pub about_lifts : (w : WorldState) (n pid : ℕ) (op : Op) (mode : Mode) (c : LockTarget) → has_node w n ≡ true → (w.nodes n).node ≡ n → IsAbout (w.nodes n).table (process (w.nodes n) pid) op mode c → IsAbout (union w) (process (w.nodes n) pid) op mode c

@@ -22,6 +22,7 @@ use Rattle.cluster_core.proofs.history.Entries.{not_there, same_answer, IsNamed,
 use Rattle.cluster_core.proofs.history.Fitting.{Called, called-keeps}
 use Rattle.cluster_core.specs.Evidence.{IsAbout}
 use Rattle.model.specs.Anchors.{IsOwn}
+use Rattle.model.proofs.LimitLaws.{step_limit}
 use Rattle.model.proofs.NodeTables.{GoesOn, same_goes_on, target_goes_on}
 use Rattle.cluster_core.proofs.steps.Tries.{about_maps, IsReady, IsServed, Continues, Stays, IsSilent}
 use Rattle.cluster_core.proofs.common.Lists.{All-both}
@@ -185,6 +186,13 @@ pub record Moves (past : List Entry) (s u : NodeState) (e : Entry) : Type 0 wher
   pub of_incarnation : (id : CallId) → e.call ≡ Some id → id.incarnation ≡ s.incarnation
   pub stay : StayOpen s u e
   pub ends : Ends past s u e
+
+-- its table has the limit that it had
+pub moves_limit : (past : List Entry) (s u : NodeState) (e : Entry) → Moves past s u e → u.table.limit ≡ s.table.limit
+moves_limit past s u e moves = elim moves.ends [
+  | inl x ↦ step_limit s.table u.table (process s x.0.pid) x.0.op x.0.reply x.0.step
+  | inr rest ↦ elim rest [ inl d ↦ ap (λ (t : Table). t.limit) d.table | inr silent ↦ ap (λ (t : Table). t.limit) silent.table ]
+]
 
 -- a call that opens
 pub opened : (past : List Entry) (e : Entry) (s : NodeState) (number pid : ℕ) (op : Op) (c : OpenCall) → c.number ≡ number → c.pid ≡ pid → IsReady s.table (process s pid) op c → IsProcess (process s pid) → Called (past ++ e ∷ []) (id_of s number) pid op → Unanswered (past ++ e ∷ []) (id_of s number) → IsOpen (past ++ e ∷ []) s c

@@ -14,6 +14,7 @@ use Rattle.model.specs.declared.op.Op.{Op}
 use Rattle.model.specs.Limits.{IsNumber, IsProcess, most_nodes, most_processes}
 use Rattle.model.specs.Locks.{lowest_in_way}
 use Rattle.token_set.specs.Releases.{given_up_span, answer_of}
+use Rattle.messages.specs.Versions.{most_regions}
 use Rattle.messages.specs.Shapes.{ShapeFields, IsShape}
 use Rattle.messages.specs.Wants.{Wants}
 use Rattle.messages.specs.Messages.{addressee, is_among, is_conflict, is_within, same_host, same_message}
@@ -423,10 +424,11 @@ good_first : (shape : ShapeFields) → Good shape [] (first_world shape)
 good_first shape = record {
   leads = refl;
   named = λ n. refl;
+  limits = λ n. refl;
   incarnations = λ n. (omega arith, λ h. omega arith);
   young = λ id named. absurd (none_named id named);
   holds = λ n. record {
-    own = own_empty n 1;
+    own = own_empty (most_regions shape.version) n 1;
     waiting = All-nil (IsOpen [] ((first_world shape).nodes n));
     numbers = λ id named node incarnation. absurd (none_named id named);
   };

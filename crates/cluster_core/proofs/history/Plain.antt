@@ -8,6 +8,7 @@ use Rattle.model.specs.declared.reply.Reply.{Reply}
 use Rattle.model.specs.declared.reply.Reply.TheVariants.{Again, Blocked}
 use Rattle.model.specs.Replay.{NamesNoLock}
 use Rattle.model.specs.Table.{Table, empty_table}
+use Rattle.messages.specs.Versions.{most_regions}
 use Rattle.messages.specs.Shapes.{ShapeFields}
 use Rattle.messages.specs.declared.entry.Entry.{Entry}
 use Rattle.cluster_core.specs.declared.item.Item.{Item}
@@ -108,7 +109,7 @@ module _ (shape : ShapeFields) (es : List Entry) (slots : Slots) (s : Slotted sh
   unfolding plain_slots plain_slot
   kept_there q at id pid op reply none h = slice_get-map plain_slot slots q ∙ (ap (option_map plain_slot) h ∙ ap Some (kept (Answered at id pid op reply) reply none))
 
-  pub plain_legal : (w : WorldState) → Leads (first_world shape) es w → Legal empty_table (items_in (plain_slots slots)) (union w)
+  pub plain_legal : (w : WorldState) → Leads (first_world shape) es w → Legal (empty_table (most_regions shape.version)) (items_in (plain_slots slots)) (union w)
   unfolding plain_slots
   plain_legal w l = legal_union shape es (map plain_slot slots) (length-map slots plain_slot ∙ s.long) (λ k o h.
       let from = slot_of slots k o h in

@@ -4,6 +4,7 @@ use Rattle.std.proofs.lemmas.Bool.{both_ways}
 use Rattle.intervals.specs.Bytes.{nothing}
 use Rattle.model.specs.Descriptors.{no_processes}
 use Rattle.model.specs.Table.{empty_table}
+use Rattle.messages.specs.Versions.{most_regions}
 use Rattle.messages.specs.Shapes.{ShapeFields}
 use Rattle.messages.specs.Messages.{addressee}
 use Rattle.messages.specs.declared.actor.Actor.{Actor}
@@ -85,6 +86,7 @@ module _ (w : WorldState) (rests : Rests w) where
 
   pub union_live : live_union w ≡ union w
   union_live = λ j. record {
+    limit = most_regions w.shape.version;
     on = λ m k. part (λ s. s.table.on m k) no_processes m k (λ n i. refl) j;
     locks = λ file o. part (λ s. s.table.locks file o) nothing o.node o.incarnation (λ n i. refl) j;
   }
@@ -105,5 +107,5 @@ pub rests_after : (shape : ShapeFields) (es : List Entry) (w : WorldState) → L
 rests_after shape es w l = rests_run es (first_world shape) w (rests_first shape) l
 
 -- so the last table of a history is that of the live nodes
-pub legal_live : (shape : ShapeFields) (es : List Entry) (h : List Item) (has : HasHistory shape es h) → Legal empty_table h (live_union has.world)
-legal_live shape es h has = subst (Legal empty_table h) (sym (union_live has.world (rests_after shape es has.world has.leads))) has.legal
+pub legal_live : (shape : ShapeFields) (es : List Entry) (h : List Item) (has : HasHistory shape es h) → Legal (empty_table (most_regions shape.version)) h (live_union has.world)
+legal_live shape es h has = subst (Legal (empty_table (most_regions shape.version)) h) (sym (union_live has.world (rests_after shape es has.world has.leads))) has.legal

@@ -13,6 +13,7 @@ use Rattle.model.specs.declared.op.Op.{Op}
 use Rattle.model.specs.declared.reply.Reply.{Reply}
 use Rattle.model.specs.Replay.{NamesNoLock}
 use Rattle.model.specs.Table.{Table, empty_table}
+use Rattle.messages.specs.Versions.{most_regions}
 use Rattle.messages.specs.Shapes.{ShapeFields}
 use Rattle.messages.specs.declared.message.Message.TheVariants.{Conflict, Deny}
 use Rattle.messages.specs.declared.event.Event.{Event}
@@ -83,11 +84,11 @@ legal_slots (None ∷ os) tables steps =
 legal_slots (Some i ∷ os) tables steps = (tables (suc zero), steps zero (Some i) refl, legal_slots os (λ k. tables (suc k)) (λ k o h. steps (suc k) o h))
 
 -- from the empty table to the union after a run, where the slots lead from each union to the next
-pub legal_union : (shape : ShapeFields) (es : List Entry) (slots : Slots) → length slots ≡ length es → ((k : ℕ) (o : Option Item) → slice_get slots k ≡ Some o → SlotStep (table_at shape es k) o (table_at shape es (suc k))) → (w : WorldState) → Leads (first_world shape) es w → Legal empty_table (items_in slots) (union w)
+pub legal_union : (shape : ShapeFields) (es : List Entry) (slots : Slots) → length slots ≡ length es → ((k : ℕ) (o : Option Item) → slice_get slots k ≡ Some o → SlotStep (table_at shape es k) o (table_at shape es (suc k))) → (w : WorldState) → Leads (first_world shape) es w → Legal (empty_table (most_regions shape.version)) (items_in slots) (union w)
 legal_union shape es slots long steps w l =
     let P : Table → Type 0 = λ t. Legal t (items_in slots) (union w) in
     let Q : Table → Type 0 = λ t. Legal (table_at shape es zero) (items_in slots) t in
-    let first : table_at shape es zero ≡ empty_table = table_at-is shape es zero (first_world shape) refl ∙ sym (union_first shape) in
+    let first : table_at shape es zero ≡ empty_table (most_regions shape.version) = table_at-is shape es zero (first_world shape) refl ∙ sym (union_first shape) in
     let last : table_at shape es (length slots) ≡ union w = table_at-is shape es (length slots) w (after_all shape es (length slots) w (omega arith) l) in
     subst P first (subst Q last (legal_slots slots (table_at shape es) steps))
 
@@ -398,5 +399,5 @@ module _ (shape : ShapeFields) (es : List Entry) (slots : Slots) (s : Slotted sh
   pub slots_fit : OneReply es → AllSlotted es slots → Fits es (items_in slots)
   slots_fit one all = items_fit es slots s.stands (IsOpenAt es) (λ reply. ⊤) (λ q i h. stands_placed es q i (s.stands q i h)) (λ id reply at r kept. all id reply at r) s.failures one
 
-  pub slots_legal : (w : WorldState) → Leads (first_world shape) es w → Legal empty_table (items_in slots) (union w)
+  pub slots_legal : (w : WorldState) → Leads (first_world shape) es w → Legal (empty_table (most_regions shape.version)) (items_in slots) (union w)
   slots_legal w l = legal_union shape es slots s.long s.steps w l

@@ -7,6 +7,7 @@ use Rattle.model.specs.declared.owner.Owner.{Owner}
 use Rattle.model.specs.Locks.{FileLocks, IsOfNode}
 use Rattle.model.specs.Descriptors.{Processes, no_processes}
 use Rattle.model.specs.Table.{empty_table}
+use Rattle.messages.specs.Versions.{most_regions}
 use Rattle.messages.specs.Shapes.{ShapeFields}
 use Rattle.messages.specs.Messages.{is_within}
 use Rattle.cluster_core.specs.World.{WorldState, first_world, has_node, is_live}
@@ -17,13 +18,15 @@ use Rattle.model.proofs.NodeTables.{owner_at-node, owner_at-incarnation}
 -- it depends on the nodes' incarnations and tables alone
 pub union_same : (w v : WorldState) → v.shape ≡ w.shape → ((n : ℕ) → (v.nodes n).incarnation ≡ (w.nodes n).incarnation) → ((n : ℕ) → (v.nodes n).table ≡ (w.nodes n).table) → union v ≡ union w
 union_same w v shape incarnations tables = λ i. record {
+  limit = most_regions (shape i).version;
   on = λ n k. if is_within (shape i).nodes n && (k == incarnations n i) then (tables n i).on n k else no_processes;
   locks = λ file owner. if is_within (shape i).nodes owner.node && (owner.incarnation == incarnations owner.node i) then (tables owner.node i).locks file owner else nothing;
 }
 
 -- at first it is empty
-pub union_first : (shape : ShapeFields) → empty_table ≡ union (first_world shape)
+pub union_first : (shape : ShapeFields) → empty_table (most_regions shape.version) ≡ union (first_world shape)
 union_first shape = λ i. record {
+  limit = most_regions shape.version;
   on = λ n k. if_either (λ (ps : Processes). no_processes ≡ ps) (is_live (first_world shape) n k) no_processes no_processes refl refl i;
   locks = λ file owner. if_either (λ (f : ℕ → Option Mode). nothing ≡ f) (is_live (first_world shape) owner.node owner.incarnation) nothing nothing refl refl i;
 }

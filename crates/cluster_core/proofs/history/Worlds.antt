@@ -10,6 +10,7 @@ use Rattle.model.specs.declared.reply.Reply.{Reply}
 use Rattle.model.specs.Limits.{IsProcess}
 use Rattle.model.specs.Table.{Table}
 use Rattle.model.specs.Step.{Step}
+use Rattle.messages.specs.Versions.{most_regions}
 use Rattle.messages.specs.Shapes.{ShapeFields}
 use Rattle.messages.specs.declared.message.Message.{Message}
 use Rattle.messages.specs.declared.event.Event.{Event}
@@ -32,7 +33,7 @@ use Rattle.cluster_core.proofs.runs.JournalRuns.{leads_push}
 use Rattle.cluster_core.proofs.history.Entries.{not_there, same_answer, IsNamed, Unanswered, entry_at-push, called_at-push, named-push, named_called, one_call-push, one_reply-push}
 use Rattle.cluster_core.proofs.history.Fitting.{Called}
 use Rattle.cluster_core.proofs.steps.Tries.{IsSilent}
-use Rattle.cluster_core.proofs.history.Nodes.{IsOpen, Holds, IsExplained, IsDenied, IsNoDenial, IsNoDeclaration, Moves, same_id, open-push}
+use Rattle.cluster_core.proofs.history.Nodes.{IsOpen, Holds, IsExplained, IsDenied, IsNoDenial, IsNoDeclaration, Moves, moves_limit, same_id, open-push}
 use Rattle.model.specs.Anchors.{IsAnchored}
 use Rattle.model.proofs.NodeTables.{own_empty}
 use Rattle.cluster_core.proofs.history.Failures.{union_gone}
@@ -58,6 +59,7 @@ IsGiven alive incarnation = (1 ≤ incarnation) × (alive ≡ true → incarnati
 pub record Good (shape : ShapeFields) (past : List Entry) (w : WorldState) : Type 0 where
   pub leads : Leads (first_world shape) past w
   pub named : (n : ℕ) → (w.nodes n).node ≡ n
+  pub limits : (n : ℕ) → (w.nodes n).table.limit ≡ most_regions w.shape.version
   pub incarnations : (n : ℕ) → IsGiven (w.alive n) (w.nodes n).incarnation
   pub holds : (n : ℕ) → Holds past (w.nodes n)
   pub young : (id : CallId) → IsNamed past id → id.incarnation ≤ (w.nodes id.node).incarnation
@@ -121,6 +123,7 @@ module _ (shape : ShapeFields) (past : List Entry) (w : WorldState) (file : ℕ)
       record {
         leads = leads;
         named = g.named;
+        limits = g.limits;
         incarnations = g.incarnations;
         holds = λ n. unmentioned past e (w.nodes n) (λ id h same. not_there o.call id no_call h) (λ id reply h same. not_there o.reply (id, reply) no_reply h) (g.holds n);
         young = λ id named. elim (named-push past e id named) [ inl old ↦ g.young id old | inr new ↦ absurd (not_there o.call id no_call new) ];
@@ -276,7 +279,7 @@ module _ (shape : ShapeFields) (past : List Entry) (w : WorldState) (n : ℕ) (u
   union_steps : (pid : ℕ) (op : Op) (reply : Reply) → has_node w n ≡ true → IsFreeElsewhere w n pid op reply → Step before.table (process before pid) op reply u.table → Step (union w) (process before pid) op reply (union later)
   union_steps pid op reply there free local =
       let P : Table → Type 0 = λ t. Step before.table (process before pid) op reply t in
-      step_lifts w later n pid op reply there (g.named n) (g.holds n).own differs free (subst P (ap (λ (x : NodeState). x.table) (sym after)) local)
+      step_lifts w later n pid op reply there (g.named n) (g.limits n) (g.holds n).own differs free (subst P (ap (λ (x : NodeState). x.table) (sym after)) local)
 
   -- the slots: a reply has the item of its call
   module _ (free_elsewhere : (x : IsExplained past (w.nodes n) u (entry event incarnation o)) → has_node w n ≡ true → IsFreeElsewhere w n x.pid x.op x.reply) (denied : (d : IsDenied (w.nodes n) u (entry event incarnation o)) → Denies shape past w d.file d.call d.holder d.number d.lock) (sends : All (Backed shape run later) o.sends) (undeclared : IsNoDeclaration event) where
@@ -324,6 +327,7 @@ module _ (shape : ShapeFields) (past : List Entry) (w : WorldState) (n : ℕ) (u
         record {
           leads = leads_on;
           named = all_named;
+          limits = at_each (λ x m. x.table.limit ≡ most_regions w.shape.version) (moves_limit past before u made moves ∙ g.limits n) (λ m other. g.limits m);
           incarnations = at_each (λ x m. IsGiven (w.alive m) x.incarnation) (subst (IsGiven (w.alive n)) (sym moves.incarnation) (g.incarnations n)) (λ m other. g.incarnations m);
           young = λ id named. subst (λ (k : ℕ). id.incarnation ≤ k) (sym (at_each (λ x m. x.incarnation ≡ (w.nodes m).incarnation) moves.incarnation (λ m other. refl) id.node))
               (elim (named-push past made id named) [
@@ -366,7 +370,7 @@ module _ (shape : ShapeFields) (past : List Entry) (w v : WorldState) (event : E
   -- a node that begins in an incarnation of which no call was named
   begins_holds : (n i : ℕ) → ((id : CallId) → IsNamed past id → id.node ≡ n → id.incarnation ≡ i → ⊥) → Holds quiet_run (first_node w.shape n i)
   begins_holds n i unnamed = record {
-    own = own_empty n i;
+    own = own_empty (most_regions w.shape.version) n i;
     waiting = All-nil (IsOpen quiet_run (first_node w.shape n i));
     numbers = λ id named node is. elim (named-push past quiet_entry id named) [ inl old ↦ absurd (unnamed id old node is) | inr new ↦ absurd (no_call_now id new) ];
   }
@@ -426,6 +430,7 @@ module _ (shape : ShapeFields) (past : List Entry) (w : WorldState) (n : ℕ) (t
       record {
         leads = its_leads;
         named = each_node (λ x m. x.node ≡ m) refl g.named;
+        limits = each_node (λ x m. x.table.limit ≡ most_regions w.shape.version) refl g.limits;
         incarnations = λ m. at_number m n (λ b. IsGiven (if b then false else w.alive m) (if b then new else w.nodes m).incarnation) (λ same. (omega arith, λ h. absurd (cc))) (λ other. g.incarnations m);
         holds = each_node (λ x m. Holds told_run x) (begins_holds shape past w (declared w n) (Declare n) now g n (now + 1) unnamed) (λ m. stays_held shape past w (declared w n) (Declare n) now g (w.nodes m) (g.holds m));
         young = λ id named. elim (named-push past declaration id named) [
@@ -469,6 +474,7 @@ module _ (shape : ShapeFields) (past : List Entry) (w : WorldState) (n : ℕ) (f
       record {
         leads = leads;
         named = g.named;
+        limits = g.limits;
         incarnations = λ m. at_number m n (λ b. IsGiven (if b then true else w.alive m) (w.nodes m).incarnation)
             (λ same. ((g.incarnations m).0, λ h. subst (λ (k : ℕ). (w.nodes k).incarnation ≤ most_incarnations) (sym same) few))
             (λ other. g.incarnations m);

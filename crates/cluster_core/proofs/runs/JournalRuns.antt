@@ -5,12 +5,12 @@ use Rattle.messages.specs.Shapes.{ShapeFields, IsShape}
 use Rattle.messages.specs.declared.refusal.Refused.{Refused}
 use Rattle.messages.specs.declared.event.Event.{Event}
 use Rattle.messages.specs.declared.entry.Entry.{Entry}
-use Rattle.cluster_core.specs.World.{WorldState, first_world}
+use Rattle.cluster_core.specs.World.{WorldState, first_world, journal_limit}
 use Rattle.cluster_core.specs.Next.{next, kept_next}
 use Rattle.cluster_core.specs.Parts.{world_state}
 use Rattle.cluster_core.specs.Runs.{Leads}
-use Rattle.cluster_core.specs.Journals.{events_of, IsFirstRefusal, RunFields, LeadsToItsWorld, GoesOn}
-use Rattle.cluster_core.proofs.common.Lengths.{grows}
+use Rattle.cluster_core.specs.Journals.{events_of, IsFirstRefusal, JournalFields, RunFields, LeadsToItsWorld, GoesOn}
+use Rattle.cluster_core.proofs.common.Lengths.{grows, leads-count}
 use Rattle.cluster_core.proofs.common.Places.{take_read, drop_read}
 use Rattle.cluster_core.proofs.steps.Steps.{next_step, kept_taken}
 
@@ -95,4 +95,16 @@ goes_on r s event led on =
       served = subst IsShape (sym shape) led.served;
       few = omega (arith, kept.0, one);
       leads = subst (λ (x : ShapeFields). Leads (first_world x) s.entries (world_state s.world)) (sym shape) (subst (λ (es : List Entry). Leads (first_world r.world.shape) es (world_state s.world)) (sym on.2) more);
+    }
+
+-- the entries of a journal lead to the world of a run that has just them
+pub led_after : (j : JournalFields) (r : RunFields) → IsShape j.shape → length r.entries ≤ journal_limit → Leads (first_world j.shape) j.entries (world_state r.world) → r.entries ≡ j.entries → LeadsToItsWorld r
+led_after j r served few leads same =
+    let shape : r.world.shape ≡ j.shape = leads_shape (first_world j.shape) (world_state r.world) j.entries leads in
+    let here = subst (λ (es : List Entry). Leads (first_world j.shape) es (world_state r.world)) (sym same) leads in
+    let count = leads-count (first_world j.shape) (world_state r.world) r.entries here in
+    record {
+      served = subst IsShape (sym shape) served;
+      few = omega (arith, count, few);
+      leads = subst (λ (x : ShapeFields). Leads (first_world x) r.entries (world_state r.world)) (sym shape) here;
     }

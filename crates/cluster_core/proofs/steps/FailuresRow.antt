@@ -5,6 +5,7 @@ use Rattle.model.specs.declared.call.CallId.{CallId}
 use Rattle.model.specs.declared.op.Op.TheVariants.{Spawn}
 use Rattle.model.specs.declared.reply.Reply.{Reply}
 use Rattle.model.specs.declared.reply.Reply.TheVariants.{Done}
+use Rattle.messages.specs.declared.version.Version.TheVariants.{Second}
 use Rattle.messages.specs.Shapes.{ShapeFields}
 use Rattle.messages.specs.declared.refusal.Refused.{Refused}
 use Rattle.messages.specs.declared.refusal.Refused.TheVariants.{Stranger, NotAlive, NotDead, Fenced}
@@ -14,7 +15,7 @@ use Rattle.cluster_core.specs.World.{WorldState, first_world}
 use Rattle.cluster_core.specs.Next.{declared, restarted, silent, next}
 
 abbrev one : ShapeFields
-one = record { nodes = 1; files = 1; policy = Wide }
+one = record { version = Second; nodes = 1; files = 1; policy = Wide }
 
 abbrev reply_of : Result (WorldState × Entry) Refused → Option (CallId × Reply)
 reply_of (Ok p) = p.1.reply

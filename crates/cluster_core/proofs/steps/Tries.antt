@@ -12,7 +12,7 @@ use Rattle.model.specs.declared.op.Op.{Op}
 use Rattle.model.specs.declared.op.Op.TheVariants.{Spawn, Fork, Open, Dup, Close, Exit, Set, Wait, Unlock, Query}
 use Rattle.model.specs.declared.reply.Reply.{Reply}
 use Rattle.model.specs.declared.reply.Reply.TheVariants.{Done, Again, NoLocks, Free, Blocked, Interrupted}
-use Rattle.model.specs.Limits.{IsNumber, most_processes, most_regions}
+use Rattle.model.specs.Limits.{IsNumber, most_processes}
 use Rattle.model.specs.Locks.{IsOfNode, IsFree, IsLowestBlocker, Blocks, lowest_blocker}
 use Rattle.model.specs.Anchors.{Hangs, IsOwn}
 use Rattle.model.proofs.BlockerLaws.{lowest_is_lowest}
@@ -299,7 +299,7 @@ served_by t p op m c reply u about given mode d free other =
 -- where no other lock is in the way the table answers by itself, whether the call may wait or not
 lock_step : (t : Table) (c : LockTarget) (mode : Mode) → Unblocked t c mode → (let answer = lock_within t c (Some mode) in SetStep t mode answer.1 answer.0 c × WaitStep t mode answer.1 answer.0 c)
 lock_step t c mode free =
-    let few = nat_le (regions_with t c (Some mode)) most_regions in
+    let few = nat_le (regions_with t c (Some mode)) t.limit in
     let out : Bool → Table × Reply = λ b. if b then (locked t c (Some mode), Done) else (t, NoLocks) in
     let made : (b : Bool) → few ≡ b → Is (out few) (out b).1 (out b).0 = λ b h. (ap (λ x. (out x).1) (sym h), ap (λ x. (out x).0) (sym h)) in
     elim few as (λ b. few ≡ b → SetStep t mode (out b).1 (out b).0 c × WaitStep t mode (out b).1 (out b).0 c) [

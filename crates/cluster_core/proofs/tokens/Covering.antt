@@ -15,7 +15,6 @@ use Rattle.model.specs.declared.op.Op.{Op}
 use Rattle.model.specs.declared.op.Op.TheVariants.{Spawn, Fork, Open, Dup, Close, Exit, Set, Wait, Unlock, Query}
 use Rattle.model.specs.declared.reply.Reply.{Reply}
 use Rattle.model.specs.declared.reply.Reply.TheVariants.{Done, NoLocks}
-use Rattle.model.specs.Limits.{most_regions}
 use Rattle.model.specs.Owners.{same_owner}
 use Rattle.model.specs.Locks.{FileLocks, Locks, IsOfNode, bars, with_lock, lowest_blocker}
 use Rattle.model.specs.Descriptors.{Processes, is_of_file, has_open, after_spawn, after_fork, after_open, after_dup}
@@ -127,7 +126,7 @@ module _ (files : ℕ → FileState) where
   pub lock_within_covered : (t : Table) (c : LockTarget) (mode : Option Mode) → IsGiven (files c.file).token c.span mode → AllCovered t.locks → AllCovered (lock_within t c mode).0.locks
   lock_within_covered t c mode given old =
       let out : Bool → Table × Reply = λ x. if x then (locked t c mode, Done) else (t, NoLocks) in
-      elim (nat_le (regions_with t c mode) most_regions) as (λ x. AllCovered (out x).0.locks) [ true ↦ with_lock_covered t.locks c.file c.owner c.span mode given old | false ↦ old ]
+      elim (nat_le (regions_with t c mode) t.limit) as (λ x. AllCovered (out x).0.locks) [ true ↦ with_lock_covered t.locks c.file c.owner c.span mode given old | false ↦ old ]
 
   -- calls that concern processes and descriptors alone
   pub beside_covered : (t : Table) (p : Process) (r : Result (Processes × Reply) Reply) → AllCovered t.locks → AllCovered (beside t p r).0.locks

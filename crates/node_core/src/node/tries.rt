@@ -1,6 +1,6 @@
 //! A node tries an open call about a lock.
 ghost use Rattle.std.specs.Prelude.{◌≡◌, ◌≤◌, ◌<◌, ◌+◌, false, None, Ok, [], All, IfOk, IfSome};
-ghost use Rattle.model.specs.Limits.{IsNumber, most_regions};
+ghost use Rattle.model.specs.Limits.{IsNumber};
 ghost use Rattle.model.specs.Locks.{lowest_blocker};
 ghost use Rattle.model.specs.declared.reply.Reply.{Reply};
 ghost use Rattle.model.specs.Table.{regions_with, lock_within};
@@ -195,7 +195,7 @@ impl Node {
         requires own { IsOwn (node_state self.now).node (node_state self.now).incarnation target.owner }
         requires span { IsSpan target.span }
         ensures locked { IfOk result (λ r. lock_within (node_state self.now).table target mode ≡ (record (node_state self.now).table { locks = locks_after (node_state self.now).table.locks r.0 }, r.1)) }
-        ensures refused { most_regions < regions_with (node_state self.now).table target mode → result ≡ Ok (None, Reply.NoLocks) }
+        ensures refused { (node_state self.now).table.limit < regions_with (node_state self.now).table target mode → result ≡ Ok (None, Reply.NoLocks) }
         ensures fits { IfOk result (λ r. LocksFit self.now r.0) }
     {
         match self

@@ -1,5 +1,5 @@
-use Rattle.std.proofs.Common.{rules, ap₂, codes, Option, None, Some, [], ◌∷◌, ◌≡◌}
-use Rattle.clap.specs.Words.{Text, found_of, rows_of}
+use Rattle.std.proofs.Common.{rules, codes, None, Some, [], ◌∷◌, ◌≡◌}
+use Rattle.clap.specs.Words.{found_of, rows_of}
 use Rattle.command_line.proofs.CommandLine.{no_script}
 use Rattle.command_line.proofs.Tables.{no_value, same_value, value_is}
 use Rattle.command_line.proofs.line.run_in.Goals as goal
@@ -13,6 +13,7 @@ returns-in_err-script c =
 pub returns : goal.returns
 returns c =
     let found = found_of c.args.values.now in
-    ap₂ (λ (script file : Option Text). Some (codes "run", script ∷ file ∷ []))
-    (value_is found (codes "SCRIPT") c.get_str.result c.in_ok-script.script c.get_str.ensures (search rules))
-    (same_value found (codes "FILE") c.get_str-journal.result c.get_str-journal.ensures)
+    let script = value_is found (codes "SCRIPT") c.get_str.result c.in_ok-script.script c.get_str.ensures (search rules) in
+    let after = same_value found (codes "JOURNAL") c.get_str-after.result c.get_str-after.ensures in
+    let file = same_value found (codes "FILE") c.get_str-journal.result c.get_str-journal.ensures in
+    λ i. Some (codes "run", script i ∷ after i ∷ file i ∷ [])

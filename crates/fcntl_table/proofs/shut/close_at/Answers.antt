@@ -18,14 +18,14 @@ returns-then-went c = λ on.
     let locks = held c.args.locks.now in
     let dropped = without_owner locks c.in-Some.opened.file (process_owner (process_at c.args.host c.args.pid)) in
     let anywhere = without_owner_anywhere dropped (description_owner (process_at c.args.host c.args.pid) c.in-Some.opened.description) in
-    let by_owner = c.drop_owner.ensures ∙ ap (without_owner locks c.in-Some.opened.file) c.owner.ensures in
-    let all = c.drop_owner_anywhere.ensures ∙ (λ i. without_owner_anywhere (by_owner i) (c.owner-then-went.ensures i)) in
-    closed-some on c.args.host c.args.processes.now c.close_in.new.node c.args.locks.now c.drop_owner_anywhere.new.self c.args.pid c.args.fd c.in-Some.opened c.in-Some.went c.in-Some.ensures.closes (all ∙ ap (λ (b : Bool). if b then anywhere else dropped) (sym c.if-went.true))
+    let by_owner = c.drop_owner.ensures.locks ∙ ap (without_owner locks c.in-Some.opened.file) c.owner.ensures in
+    let all = c.drop_owner_anywhere.ensures.locks ∙ (λ i. without_owner_anywhere (by_owner i) (c.owner-then-went.ensures i)) in
+    closed-some on c.args.host c.args.processes.now c.close_in.new.node c.args.locks.now c.drop_owner_anywhere.new.self c.args.pid c.args.fd c.in-Some.opened c.in-Some.went c.in-Some.ensures.closes (c.drop_owner_anywhere.ensures.limit ∙ c.drop_owner.ensures.limit) (all ∙ ap (λ (b : Bool). if b then anywhere else dropped) (sym c.if-went.true))
 
 pub returns-else-went : goal.returns-else-went
 returns-else-went c = λ on.
     let locks = held c.args.locks.now in
     let dropped = without_owner locks c.in-Some.opened.file (process_owner (process_at c.args.host c.args.pid)) in
     let anywhere = without_owner_anywhere dropped (description_owner (process_at c.args.host c.args.pid) c.in-Some.opened.description) in
-    let by_owner = c.drop_owner.ensures ∙ ap (without_owner locks c.in-Some.opened.file) c.owner.ensures in
-    closed-some on c.args.host c.args.processes.now c.close_in.new.node c.args.locks.now c.drop_owner.new.self c.args.pid c.args.fd c.in-Some.opened c.in-Some.went c.in-Some.ensures.closes (by_owner ∙ ap (λ (b : Bool). if b then anywhere else dropped) (sym c.if-went.false))
+    let by_owner = c.drop_owner.ensures.locks ∙ ap (without_owner locks c.in-Some.opened.file) c.owner.ensures in
+    closed-some on c.args.host c.args.processes.now c.close_in.new.node c.args.locks.now c.drop_owner.new.self c.args.pid c.args.fd c.in-Some.opened c.in-Some.went c.in-Some.ensures.closes c.drop_owner.ensures.limit (by_owner ∙ ap (λ (b : Bool). if b then anywhere else dropped) (sym c.if-went.false))

@@ -3,6 +3,7 @@ use Rattle.std.proofs.Math.Seq.{take-append_seam}
 use Rattle.intervals.specs.Bytes.{greatest, put}
 use Rattle.intervals.specs.Runs.{value_at, AreRuns, EndsBelow}
 use Rattle.intervals.proofs.Written.{ends_below-both, ends_below-front, ends_below-rest, runs-written, at-written}
+use Rattle.intervals.proofs.StartsWith.{put-pieces}
 use Rattle.intervals.proofs.run.write.Goals as goal
 
 pub splice-requires-clause-bounded : goal.splice-requires-clause-bounded
@@ -18,7 +19,7 @@ pub returns-then-len-capacity-clause-runs : goal.returns-then-len-capacity-claus
 returns-then-len-capacity-clause-runs g c =
     let whole = sym c.deref.ensures.value ∙ c.split_before.ensures.whole in
     let all : AreRuns (c.split_before.result.0.now ++ c.split_before.result.1.now) = rw (← whole) c.requires.runs in
-    let bytes : (b : ℕ) → value_at c.splice.new.new.items b ≡ put (value_at c.split_before.result.1.now) (record { lo = c.span.inside.lo; hi = c.span.inside.hi }) c.args.value b = λ b. c.splice.ensures.bytes b ∙ ap (λ s. put (value_at c.split_before.result.1.now) s c.args.value b) (sym c.span.view_is) in
+    let bytes : (b : ℕ) → value_at c.splice.new.new.items b ≡ put (value_at c.split_before.result.1.now) (record { lo = c.span.inside.lo; hi = c.span.inside.hi }) c.args.value b = λ b. put-pieces (value_at c.split_before.result.1.now) (value_at c.splice.new.new.items) c.args.span c.args.value c.splice.ensures.below c.splice.ensures.inside c.splice.ensures.above b ∙ ap (λ s. put (value_at c.split_before.result.1.now) s c.args.value b) (sym c.span.view_is) in
     rw (c.replace_rest.ensures ∙ ap (λ l. l ++ c.splice.new.new.items) (ap (take (length c.split_before.result.0.now)) whole ∙ take-append_seam c.split_before.result.0.now c.split_before.result.1.now)) (runs-written _ _ c.span.inside.lo c.span.inside.hi c.args.value c.splice.ensures.runs bytes _ _ all c.split_before.ensures.ended (omega (arith, c.saturating_sub.ensures)))
 
 pub returns-then-len-capacity-clause-bounded : goal.returns-then-len-capacity-clause-bounded
@@ -30,5 +31,5 @@ returns-then-len-capacity-clause-bounded g c =
 pub returns-then-len-capacity-clause-bytes : goal.returns-then-len-capacity-clause-bytes
 returns-then-len-capacity-clause-bytes g c b =
     let whole = sym c.deref.ensures.value ∙ c.split_before.ensures.whole in
-    let bytes : (b : ℕ) → value_at c.splice.new.new.items b ≡ put (value_at c.split_before.result.1.now) (record { lo = c.span.inside.lo; hi = c.span.inside.hi }) c.args.value b = λ b. c.splice.ensures.bytes b ∙ ap (λ s. put (value_at c.split_before.result.1.now) s c.args.value b) (sym c.span.view_is) in
+    let bytes : (b : ℕ) → value_at c.splice.new.new.items b ≡ put (value_at c.split_before.result.1.now) (record { lo = c.span.inside.lo; hi = c.span.inside.hi }) c.args.value b = λ b. put-pieces (value_at c.split_before.result.1.now) (value_at c.splice.new.new.items) c.args.span c.args.value c.splice.ensures.below c.splice.ensures.inside c.splice.ensures.above b ∙ ap (λ s. put (value_at c.split_before.result.1.now) s c.args.value b) (sym c.span.view_is) in
     rw (c.replace_rest.ensures ∙ ap (λ l. l ++ c.splice.new.new.items) (ap (take (length c.split_before.result.0.now)) whole ∙ take-append_seam c.split_before.result.0.now c.split_before.result.1.now), whole, ← c.span.view_is) (at-written _ _ c.span.inside.lo c.span.inside.hi c.args.value c.splice.ensures.runs bytes _ _ c.split_before.ensures.ended (omega (arith, c.saturating_sub.ensures)) b)

@@ -5,5 +5,5 @@ use Rattle.journal_text.proofs.journal.push_entries.Given as goal
 abbrev pub invariant-loop-entry : goal.invariant-loop-entry
 invariant-loop-entry l = record {
   counted : l.position ≡ l.entry-index;
-  written : string_bytes l.out ++ entries_text (l.position + 1) (drop l.entry-index l.entries) ≡ string_bytes l.fn.out ++ entries_text 1 l.entries;
+  written : string_bytes l.out ++ entries_text l.version (l.position + 1) (drop l.entry-index l.entries) ≡ string_bytes l.fn.out ++ entries_text l.version 1 l.entries;
 }

@@ -5,5 +5,5 @@ use Rattle.journal_text.proofs.journal.push_from_last.Given as goal
 abbrev pub invariant-loop-written : goal.invariant-loop-written
 invariant-loop-written l = record {
   counted : l.written + length l.entries.items ≡ length l.fn.entries.items;
-  text : string_bytes l.out ++ entries_text (l.written + 1) (reverse l.entries.items) ≡ string_bytes l.fn.out ++ entries_text 1 (reverse l.fn.entries.items);
+  text : string_bytes l.out ++ entries_text l.version (l.written + 1) (reverse l.entries.items) ≡ string_bytes l.fn.out ++ entries_text l.version 1 (reverse l.fn.entries.items);
 }

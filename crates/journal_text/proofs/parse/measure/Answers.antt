@@ -1,7 +1,9 @@
-use Rattle.std.proofs.Common.{refl, sym, ap, ◌∙◌}
+use Rattle.std.proofs.Common.{refl, sym, ap, subst, ◌∙◌}
 use Rattle.std.proofs.lemmas.Result.{err_from_is_err_and}
+use Rattle.messages.specs.declared.version.Version.{Version}
 use Rattle.journal_text.specs.declared.place.Place.{Place}
 use Rattle.journal_text.specs.Built.{BuilderFields}
+use Rattle.journal_text.specs.Places.{IsStuck, StandsNext}
 use Rattle.journal_text.proofs.Standing.{standing-counted, standing-first, standing-passed, standing-stuck, standing-whole}
 use Rattle.journal_text.proofs.Steps.{built_of}
 use Rattle.journal_text.proofs.Steps.Reading.{nothing}
@@ -22,7 +24,8 @@ returns-in_err-pass_line-clause-bad c =
     let here = c.loop.reader in
     let at_loop = c.loop.invariant in
     let stuck = c.in_err-pass_line.ensures.stuck in
-    rw (p.1, p.2, stuck.0) (standing-stuck c.args.text.now c.in_ok-shape.shape here.rest.now here.taken here.place at_loop.0 at_loop.1 stuck.1)
+    let here_stuck = subst (λ (v : Version). IsStuck v here.place here.rest.now) c.version.ensures stuck.1 in
+    rw (p.1, p.2, stuck.0) (standing-stuck c.args.text.now c.in_ok-shape.shape here.rest.now here.taken here.place at_loop.0 at_loop.1 here_stuck)
 
 pub loop-preserved : goal.loop-preserved
 loop-preserved c =
@@ -30,7 +33,8 @@ loop-preserved c =
     let after = c.pass_line.new.self in
     let at_loop = c.loop.invariant in
     let line = c.in_ok-pass_line.ensures.passed c.if-branch.true in
-    standing-passed c.args.text.now c.in_ok-shape.shape here.rest.now here.taken here.place at_loop.0 line.0 after.place after.rest.now after.taken at_loop.1 line.1 line.2
+    let stands = subst (λ (v : Version). StandsNext v here.place here.rest.now line.0 after.place after.rest.now) c.version.ensures line.1 in
+    standing-passed c.args.text.now c.in_ok-shape.shape here.rest.now here.taken here.place at_loop.0 line.0 after.place after.rest.now after.taken at_loop.1 stands line.2
 
 pub returns-clause-journal : goal.returns-clause-journal
 returns-clause-journal c =

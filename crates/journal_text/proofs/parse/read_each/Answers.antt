@@ -1,7 +1,9 @@
-use Rattle.std.proofs.Common.{refl, sym, ap, ◌∙◌}
+use Rattle.std.proofs.Common.{refl, sym, ap, subst, ◌∙◌}
 use Rattle.std.proofs.lemmas.Result.{err_from_is_err_and}
+use Rattle.messages.specs.declared.version.Version.{Version}
 use Rattle.journal_text.specs.declared.place.Place.{Place}
 use Rattle.journal_text.specs.Built.{BuilderFields, built}
+use Rattle.journal_text.specs.Places.{IsStuck, StandsNext}
 use Rattle.journal_text.proofs.Standing.{standing-first, standing-line, standing-stuck, standing-whole}
 use Rattle.journal_text.proofs.Steps.{built_of, last-only}
 use Rattle.journal_text.proofs.Steps.Reading.{nothing}
@@ -21,7 +23,8 @@ returns-in_err-line-clause-bad g c =
     let here = c.loop-builder.reader in
     let at_loop = c.loop-builder.invariant in
     let stuck = c.in_err-line.ensures.stuck in
-    rw (p.1, p.2, stuck.0) (λ other. standing-stuck c.args.text.now c.in_ok-shape.shape here.rest.now here.taken here.place at_loop.0 at_loop.1 stuck.1)
+    let here_stuck = subst (λ (v : Version). IsStuck v here.place here.rest.now) c.version.ensures stuck.1 in
+    rw (p.1, p.2, stuck.0) (λ other. standing-stuck c.args.text.now c.in_ok-shape.shape here.rest.now here.taken here.place at_loop.0 at_loop.1 here_stuck)
 
 pub loop-builder-preserved : goal.loop-builder-preserved
 loop-builder-preserved g c =
@@ -31,7 +34,8 @@ loop-builder-preserved g c =
     let b : BuilderFields = at_loop.0 in
     let line = rw c.in-Some.is at c.in_ok-line.ensures.line in
     let more : BuilderFields = built b c.in-Some.line in
-    let standing = standing-line c.args.text.now c.in_ok-shape.shape here.rest.now here.taken here.place b c.in-Some.line after.place after.rest.now after.taken more at_loop.1 line.0 line.1 refl in (
+    let stands = subst (λ (v : Version). StandsNext v here.place here.rest.now c.in-Some.line after.place after.rest.now) c.version.ensures line.0 in
+    let standing = standing-line c.args.text.now c.in_ok-shape.shape here.rest.now here.taken here.place b c.in-Some.line after.place after.rest.now after.taken more at_loop.1 stands line.1 refl in (
       more,
       standing,
       last-only b c.in-Some.line c.loop-builder.builder at_loop.2 ∙ sym c.in_ok-take.ensures.last,

@@ -1,7 +1,8 @@
-use Rattle.std.proofs.Common.{◌≤◌, List, length, sym, ◌∙◌, subst}
+use Rattle.std.proofs.Common.{◌≤◌, List, length, sym, ◌∙◌, ap, subst}
 use Rattle.messages.specs.Shapes.{IsShape}
 use Rattle.messages.specs.declared.entry.Entry.{Entry}
 use Rattle.cluster_core.specs.World.{journal_limit}
+use Rattle.placement.specs.Histories.{HistoryParts}
 use Rattle.placement.proofs.Placements.{is_placed}
 use Rattle.placement.proofs.placed.placed.Goals as goal
 
@@ -16,8 +17,8 @@ of_rising-requires c =
 
 pub returns-clause-history : goal.returns-clause-history
 returns-clause-history c =
-    (is_placed c.args.journal.now.shape c.args.journal.now.entries c.entries.result.now c.of_rising.result (subst IsShape c.shape.ensures.value c.shape.ensures.served) c.entries.ensures.run c.entries.ensures.value (c.of_rising.ensures ∙ c.in_ok-items.ensures)).history
+    (is_placed c.args.journal.now.shape c.args.journal.now.entries c.entries.result.now c.of_rising.result.items (subst IsShape c.shape.ensures.value c.shape.ensures.served) c.entries.ensures.run c.entries.ensures.value (ap (λ (h : HistoryParts). h.items) c.of_rising.ensures ∙ c.in_ok-items.ensures)).history
 
 pub returns-clause-at_places : goal.returns-clause-at_places
 returns-clause-at_places c =
-    (is_placed c.args.journal.now.shape c.args.journal.now.entries c.entries.result.now c.of_rising.result (subst IsShape c.shape.ensures.value c.shape.ensures.served) c.entries.ensures.run c.entries.ensures.value (c.of_rising.ensures ∙ c.in_ok-items.ensures)).at_places
+    (is_placed c.args.journal.now.shape c.args.journal.now.entries c.entries.result.now c.of_rising.result.items (subst IsShape c.shape.ensures.value c.shape.ensures.served) c.entries.ensures.run c.entries.ensures.value (ap (λ (h : HistoryParts). h.items) c.of_rising.ensures ∙ c.in_ok-items.ensures)).at_places

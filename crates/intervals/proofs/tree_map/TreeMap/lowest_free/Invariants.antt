@@ -1,11 +1,11 @@
 use Rattle.std.proofs.Common.{ℕ, ◌≤◌, ◌<◌}
 use Rattle.intervals.specs.Bytes.{IsBarred}
-use Rattle.intervals.specs.Parts.{tree_at}
+use Rattle.intervals.specs.Runs.{value_at}
 use Rattle.intervals.proofs.tree_map.TreeMap.lowest_free.Given as goal
 
 -- no byte from `end` on and below `from` is barred
 abbrev pub invariant-loop-run : goal.invariant-loop-run
-invariant-loop-run g l = record { within : l.end ≤ l.from; free : (b : ℕ) → l.end ≤ b → b < l.from → IsBarred (tree_at l.self) l.bar b → ⊥ }
+invariant-loop-run g l = record { within : l.end ≤ l.from; free : (b : ℕ) → l.end ≤ b → b < l.from → IsBarred (value_at l.self) l.bar b → ⊥ }
 
 abbrev pub decreases-loop-run : goal.decreases-loop-run
 decreases-loop-run g l = l.end

@@ -1,11 +1,11 @@
-use Rattle.std.proofs.Common.{ℕ, ◌≤◌, ◌<◌, ◌+◌, ◌-◌}
-use Rattle.intervals.specs.Bytes.{IsBarred, greatest}
-use Rattle.intervals.specs.Parts.{tree_at}
+use Rattle.std.proofs.Common.{◌++◌, length}
+use Rattle.intervals.specs.Parts.{all_runs, AreSome}
+use Rattle.intervals.proofs.RowReads.{IsLeft}
 use Rattle.intervals.proofs.tree_map.TreeMapSpanMap.first_where.Given as goal
 
--- no byte of the span below `from` is barred
+-- the barred bytes of the span are in the runs that are left
 abbrev pub invariant-loop-run : goal.invariant-loop-run
-invariant-loop-run g l = record { above : l.span-inside.lo ≤ l.from; free : (b : ℕ) → l.span-inside.lo ≤ b → b < l.from → IsBarred (tree_at l.self) l.bar b → ⊥ }
+invariant-loop-run g l = record { some : AreSome l.parts; left : IsLeft l.self (l.runs ++ all_runs l.parts) l.bar (record { lo = l.span-inside.lo; hi = l.span-inside.hi }) }
 
 abbrev pub decreases-loop-run : goal.decreases-loop-run
-decreases-loop-run g l = greatest + 1 - l.from
+decreases-loop-run g l = length (l.runs ++ all_runs l.parts)

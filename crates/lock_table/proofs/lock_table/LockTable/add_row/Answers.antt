@@ -3,40 +3,41 @@ use Rattle.intervals.specs.Runs.{value_at}
 use Rattle.lock_table.specs.Rows.{HoldsSome, IsGap}
 use Rattle.lock_table.proofs.RowLemmas.{gap_within}
 use Rattle.lock_table.proofs.Writes.{row_unwanted, row_added}
+use Rattle.lock_table.proofs.SameRows.{rows_are}
 use Rattle.lock_table.proofs.lock_table.LockTable.add_row.Goals as goal
 
 pub insert_row-requires-clause-place : goal.insert_row-requires-clause-place
 insert_row-requires-clause-place c =
     let rows = c.self.inside.rows.items in
-    let gap : IsGap rows c.args.place c.args.file c.args.owner = rw c.self.view_is c.requires.gap in
+    let gap : IsGap rows c.args.place c.args.file c.args.owner = rw (rows_are c.self.inside.rows.items c.self.inside.limit c.args.self.now c.self.view_is) c.requires.gap in
     rw c.move_rows.ensures.items (gap_within _ _ _ _ gap)
 
 pub invariant_of-self : goal.invariant_of-self
 invariant_of-self c =
     let rows = c.self.inside.rows.items in
-    let gap : IsGap rows c.args.place c.args.file c.args.owner = rw c.self.view_is c.requires.gap in
+    let gap : IsGap rows c.args.place c.args.file c.args.owner = rw (rows_are c.self.inside.rows.items c.self.inside.limit c.args.self.now c.self.view_is) c.requires.gap in
     let left = row_unwanted c.self.inside.index c.note_write.new.self rows c.args.place c.args.file c.args.owner c.args.write c.self.invariant c.note_write.ensures.keeps c.note_write.ensures.noted c.new-spans.result c.apply.new.self gap c.new-spans.ensures.at c.new-spans.ensures.runs c.apply.ensures (c.is_empty.ensures.empty.0 c.if-is_empty.true) in
     (left.0, left.1)
 
-pub returns-then-is_empty : goal.returns-then-is_empty
-returns-then-is_empty c =
+pub returns-then-is_empty-clause-locks : goal.returns-then-is_empty-clause-locks
+returns-then-is_empty-clause-locks c =
     let rows = c.self.inside.rows.items in
-    let gap : IsGap rows c.args.place c.args.file c.args.owner = rw c.self.view_is c.requires.gap in
+    let gap : IsGap rows c.args.place c.args.file c.args.owner = rw (rows_are c.self.inside.rows.items c.self.inside.limit c.args.self.now c.self.view_is) c.requires.gap in
     let left = row_unwanted c.self.inside.index c.note_write.new.self rows c.args.place c.args.file c.args.owner c.args.write c.self.invariant c.note_write.ensures.keeps c.note_write.ensures.noted c.new-spans.result c.apply.new.self gap c.new-spans.ensures.at c.new-spans.ensures.runs c.apply.ensures (c.is_empty.ensures.empty.0 c.if-is_empty.true) in
-    rw (← c.self.view_is) (λ j f o. left.2 f o j)
+    rw (← (rows_are c.self.inside.rows.items c.self.inside.limit c.args.self.now c.self.view_is)) (λ j f o. left.2 f o j)
 
 pub invariant_of-self-2 : goal.invariant_of-self-2
 invariant_of-self-2 c =
     let rows = c.self.inside.rows.items in
-    let gap : IsGap rows c.args.place c.args.file c.args.owner = rw c.self.view_is c.requires.gap in
+    let gap : IsGap rows c.args.place c.args.file c.args.owner = rw (rows_are c.self.inside.rows.items c.self.inside.limit c.args.self.now c.self.view_is) c.requires.gap in
     let some : HoldsSome (value_at c.apply.new.self) = record { some = λ none. both_ways _ c.if-is_empty.false (c.is_empty.ensures.empty.1 none); bounded = c.is_empty.ensures.bounded } in
     let left = row_added c.self.inside.index c.note_write.new.self rows c.args.place c.args.file c.args.owner c.args.write c.self.invariant c.note_write.ensures.keeps c.note_write.ensures.noted c.new-spans.result c.apply.new.self gap c.new-spans.ensures.at c.new-spans.ensures.runs c.apply.ensures some in
     rw (c.insert_row.ensures, c.move_rows.ensures.items) (left.0, left.1)
 
-pub returns : goal.returns
-returns c =
+pub returns-clause-locks : goal.returns-clause-locks
+returns-clause-locks c =
     let rows = c.self.inside.rows.items in
-    let gap : IsGap rows c.args.place c.args.file c.args.owner = rw c.self.view_is c.requires.gap in
+    let gap : IsGap rows c.args.place c.args.file c.args.owner = rw (rows_are c.self.inside.rows.items c.self.inside.limit c.args.self.now c.self.view_is) c.requires.gap in
     let some : HoldsSome (value_at c.apply.new.self) = record { some = λ none. both_ways _ c.if-is_empty.false (c.is_empty.ensures.empty.1 none); bounded = c.is_empty.ensures.bounded } in
     let left = row_added c.self.inside.index c.note_write.new.self rows c.args.place c.args.file c.args.owner c.args.write c.self.invariant c.note_write.ensures.keeps c.note_write.ensures.noted c.new-spans.result c.apply.new.self gap c.new-spans.ensures.at c.new-spans.ensures.runs c.apply.ensures some in
-    rw (c.insert_row.ensures, c.move_rows.ensures.items, ← c.self.view_is) (λ j f o. left.2 f o j)
+    rw (c.insert_row.ensures, c.move_rows.ensures.items, ← (rows_are c.self.inside.rows.items c.self.inside.limit c.args.self.now c.self.view_is)) (λ j f o. left.2 f o j)

@@ -6,6 +6,7 @@ use Rattle.lock_table.proofs.lock_table.LockTable.drop_in_files.Given as goal
 
 abbrev pub invariant-loop-word : goal.invariant-loop-word
 invariant-loop-word l = record {
+  limit : l.self.limit ≡ l.initial.self.limit;
   less : HoldsLess l.owner (held l.initial.self) (held l.self);
   gone : (k : ℕ) → k / 64 < l.word → HasFlag l.files k → held l.self (k + 1) l.owner ≡ nothing;
 }

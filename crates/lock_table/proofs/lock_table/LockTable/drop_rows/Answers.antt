@@ -1,18 +1,19 @@
 use Rattle.std.proofs.Common.{rules}
 use Rattle.std.proofs.lemmas.Fn.{filter_same}
 use Rattle.std.specs.List.{filter}
-use Rattle.lock_table.specs.Rows.{held}
+use Rattle.lock_table.specs.Rows.{rows_held}
 use Rattle.lock_table.proofs.RowLemmas.{is_of_other, held-filter, rows-filter}
 use Rattle.lock_table.proofs.PageLemmas.{covers-without_anywhere}
+use Rattle.lock_table.proofs.SameRows.{rows_are}
 use Rattle.lock_table.proofs.lock_table.LockTable.drop_rows.Goals as goal
 
 pub invariant_of-self : goal.invariant_of-self
 invariant_of-self c =
     let kept = filter_same _ (is_of_other c.args.owner) _ (λ r b f k. search rules) _ _ c.retain.ensures.filtered in
     let rows = c.self.inside.rows.items in
-    rw kept (rows-filter (is_of_other c.args.owner) rows c.self.invariant.0, covers-without_anywhere c.self.inside.index (held rows) (held (filter (is_of_other c.args.owner) rows)) c.args.owner (held-filter rows c.args.owner) c.self.invariant.1)
+    rw kept (rows-filter (is_of_other c.args.owner) rows c.self.invariant.0, covers-without_anywhere c.self.inside.index (rows_held rows) (rows_held (filter (is_of_other c.args.owner) rows)) c.args.owner (held-filter rows c.args.owner) c.self.invariant.1)
 
-pub returns : goal.returns
-returns c =
+pub returns-clause-locks : goal.returns-clause-locks
+returns-clause-locks c =
     let kept = filter_same _ (is_of_other c.args.owner) _ (λ r b f k. search rules) _ _ c.retain.ensures.filtered in
-    rw (kept, ← c.self.view_is) (λ j f o. held-filter c.self.inside.rows.items c.args.owner f o j)
+    rw (kept, ← (rows_are c.self.inside.rows.items c.self.inside.limit c.args.self.now c.self.view_is)) (λ j f o. held-filter c.self.inside.rows.items c.args.owner f o j)

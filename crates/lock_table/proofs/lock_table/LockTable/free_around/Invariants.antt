@@ -1,9 +1,9 @@
 use Rattle.std.proofs.Common.{take}
 use Rattle.intervals.specs.Bytes.{IsLargest}
 use Rattle.model.specs.Locks.{IsRegion}
-use Rattle.lock_table.specs.Rows.{held}
+use Rattle.lock_table.specs.Rows.{rows_held}
 use Rattle.lock_table.specs.Blockers.{HasInWay}
 use Rattle.lock_table.proofs.lock_table.LockTable.free_around.Given as goal
 
 abbrev pub invariant-loop-row : goal.invariant-loop-row
-invariant-loop-row l = IsLargest (HasInWay (IsRegion (held (take l.row-index l.row-items) l.file)) l.mode) l.required l.fn.within l.span
+invariant-loop-row l = IsLargest (HasInWay (IsRegion (rows_held (take l.row-index l.row-items) l.file)) l.mode) l.required l.fn.within l.span

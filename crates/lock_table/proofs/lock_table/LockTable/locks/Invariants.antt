@@ -1,7 +1,7 @@
 use Rattle.std.proofs.Common.{take}
-use Rattle.lock_table.specs.Rows.{held}
+use Rattle.lock_table.specs.Rows.{rows_held}
 use Rattle.lock_table.specs.Listing.{ListsRegions}
 use Rattle.lock_table.proofs.lock_table.LockTable.locks.Given as goal
 
 abbrev pub invariant-loop-row : goal.invariant-loop-row
-invariant-loop-row l = ListsRegions (held (take l.row-index l.row-items) l.file) l.locks.items
+invariant-loop-row l = ListsRegions (rows_held (take l.row-index l.row-items) l.file) l.locks.items

@@ -2,6 +2,7 @@ use Rattle.std.proofs.Common.{arith}
 use Rattle.lock_table.specs.Rows.{IsRowAt, IsGap}
 use Rattle.lock_table.proofs.RowLemmas.{place_below, row_or_gap}
 use Rattle.lock_table.proofs.Writes.{has_runs}
+use Rattle.lock_table.proofs.SameRows.{rows_are}
 use Rattle.lock_table.proofs.lock_table.LockTable.plan_write.Goals as goal
 
 pub index-requires : goal.index-requires
@@ -10,9 +11,9 @@ index-requires c = let lt = place_below _ _ _ _ c.in-Ok.ensures in omega arith
 pub returns-in_ok-plan-in-Ok-clause-runs : goal.returns-in_ok-plan-in-Ok-clause-runs
 returns-in_ok-plan-in-Ok-clause-runs c =
     let at : IsRowAt c.self.inside.rows.items c.in-Ok.i c.args.file c.args.owner = rw (← c.deref.ensures.value) c.in-Ok.ensures in
-    rw (← c.self.view_is) (has_runs _ _ _ _ c.index.result.now _ at c.index.ensures c.in_ok-plan-in-Ok.ensures.enough)
+    rw (← (rows_are c.self.inside.rows.items c.self.inside.limit c.args.self.now c.self.view_is)) (has_runs _ _ _ _ c.index.result.now _ at c.index.ensures c.in_ok-plan-in-Ok.ensures.enough)
 
 pub returns-in_ok-plan-in-Err-clause-runs : goal.returns-in_ok-plan-in-Err-clause-runs
 returns-in_ok-plan-in-Err-clause-runs c =
-    let gap : IsGap c.args.self.now c.in-Err.field-0 c.args.file c.args.owner = rw (← c.self.view_is, ← c.deref.ensures.value) c.in-Err.ensures in
+    let gap : IsGap c.args.self.now.rows c.in-Err.field-0 c.args.file c.args.owner = rw (← (rows_are c.self.inside.rows.items c.self.inside.limit c.args.self.now c.self.view_is), ← c.deref.ensures.value) c.in-Err.ensures in
     λ i row at is. absurd (row_or_gap _ _ _ _ _ at gap)

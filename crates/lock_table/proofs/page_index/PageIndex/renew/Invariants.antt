@@ -1,12 +1,12 @@
 use Rattle.std.proofs.Common.{◌≡◌, ℕ, ◌⊎◌, drop, Some}
 use Rattle.model.specs.declared.mode.Mode.{Mode}
 use Rattle.model.specs.declared.owner.Owner.{Owner}
-use Rattle.lock_table.specs.Rows.{held}
+use Rattle.lock_table.specs.Rows.{rows_held}
 use Rattle.lock_table.specs.Pages.{IsKept, MayHold}
 use Rattle.lock_table.proofs.page_index.PageIndex.renew.Given as goal
 
 abbrev pub invariant-loop-row : goal.invariant-loop-row
 invariant-loop-row l = record {
   kept : IsKept l.self;
-  covers : (f : ℕ) (o : Owner) (b : ℕ) (m : Mode) → held l.rows f o b ≡ Some m → MayHold l.self f o b ⊎ (held (drop l.row-index l.rows) f o b ≡ Some m);
+  covers : (f : ℕ) (o : Owner) (b : ℕ) (m : Mode) → rows_held l.rows f o b ≡ Some m → MayHold l.self f o b ⊎ (rows_held (drop l.row-index l.rows) f o b ≡ Some m);
 }

@@ -14,11 +14,11 @@ use Rattle.node_core.proofs.node.Node.apply_edit.Goals as goal
 
 pub apply_locks-requires-clause-room : goal.apply_locks-requires-clause-room
 apply_locks-requires-clause-room c =
-    subst (λ (p : NodeParts). IfSome c.args.edit.locks (λ e. HasRoom p.locks e.file e.owner (vec_capacity e.room))) (sym c.self.view_is) (room-fits c.args.self.now c.args.edit.locks c.requires.0.1)
+    subst (λ (p : NodeParts). IfSome c.args.edit.locks (λ e. HasRoom p.locks.rows e.file e.owner (vec_capacity e.room))) (sym c.self.view_is) (room-fits c.args.self.now c.args.edit.locks c.requires.0.1)
 
 pub apply_locks-requires-clause-runs : goal.apply_locks-requires-clause-runs
 apply_locks-requires-clause-runs c =
-    subst (λ (p : NodeParts). IfSome c.args.edit.locks (λ e. HasRuns p.locks e.file e.owner e.write.runs)) (sym c.self.view_is) (runs-fit c.args.self.now c.args.edit.locks c.requires.0.1)
+    subst (λ (p : NodeParts). IfSome c.args.edit.locks (λ e. HasRuns p.locks.rows e.file e.owner e.write.runs)) (sym c.self.view_is) (runs-fit c.args.self.now c.args.edit.locks c.requires.0.1)
 
 pub apply_processes-requires : goal.apply_processes-requires
 apply_processes-requires c =
@@ -38,7 +38,7 @@ invariant_of-self c =
     let me = c.host-host.ensures ∙ ap (λ (q : NodeParts). host (node_state q)) (sym c.self.view_is) in
     let shuts = subst (λ (h : Host). Shuts h c.apply_processes.new.processes c.apply_locks.new.locks e.shut c.apply_shut.new.processes c.apply_shut.new.locks) me c.apply_shut.ensures in
     let known = c.clear_asked.ensures.state ∙ (λ i. files_told (c.apply_command.ensures.state i) (c.as_slice.ensures i)) in
-    let is = node-planned p e c.calls_after-self-inside.result c.apply_processes.new.processes c.apply_locks.new.locks c.apply_shut.new.processes c.apply_shut.new.locks c.apply.new.self c.clear_asked.new.files.items c.calls_after-self-inside.ensures c.apply_processes.ensures c.apply_locks.ensures shuts c.apply.ensures known in
+    let is = node-planned p e c.calls_after-self-inside.result c.apply_processes.new.processes c.apply_locks.new.locks c.apply_shut.new.processes c.apply_shut.new.locks c.apply.new.self c.clear_asked.new.files.items c.calls_after-self-inside.ensures c.apply_processes.ensures c.apply_locks.ensures.limit c.apply_locks.ensures.locks shuts c.apply.ensures known in
     node-edited p e c.calls_after-self-inside.result c.apply_processes.new.processes c.apply_locks.new.locks c.apply_shut.new.processes c.apply_shut.new.locks c.apply.new.self c.clear_asked.new.files.items c.apply_processes.ensures shuts c.apply.ensures (c.clear_asked.ensures.count ∙ c.apply_command.ensures.count) is fits c.self.invariant
 
 pub returns : goal.returns
@@ -49,5 +49,5 @@ returns c =
     let me = c.host-host.ensures ∙ ap (λ (q : NodeParts). host (node_state q)) (sym c.self.view_is) in
     let shuts = subst (λ (h : Host). Shuts h c.apply_processes.new.processes c.apply_locks.new.locks e.shut c.apply_shut.new.processes c.apply_shut.new.locks) me c.apply_shut.ensures in
     let known = c.clear_asked.ensures.state ∙ (λ i. files_told (c.apply_command.ensures.state i) (c.as_slice.ensures i)) in
-    node-planned p e c.calls_after-self-inside.result c.apply_processes.new.processes c.apply_locks.new.locks c.apply_shut.new.processes c.apply_shut.new.locks c.apply.new.self c.clear_asked.new.files.items c.calls_after-self-inside.ensures c.apply_processes.ensures c.apply_locks.ensures shuts c.apply.ensures known
+    node-planned p e c.calls_after-self-inside.result c.apply_processes.new.processes c.apply_locks.new.locks c.apply_shut.new.processes c.apply_shut.new.locks c.apply.new.self c.clear_asked.new.files.items c.calls_after-self-inside.ensures c.apply_processes.ensures c.apply_locks.ensures.limit c.apply_locks.ensures.locks shuts c.apply.ensures known
     ∙ ap (λ (q : NodeParts). planned q e) c.self.view_is

@@ -1,0 +1,388 @@
+//! Rows of parts.
+ghost use Rattle.std.specs.Prelude.{◌≡◌, ◌≤◌, ◌<◌, ◌+◌, ◌-◌, ◌++◌, [], ◌∷◌, take, drop, length, ℕ, IfOk, IfSome, MatchOption};
+ghost use Rattle.std.specs.Vec.{vec_len, vec_capacity};
+ghost use Rattle.intervals.specs.Bytes.{greatest, put, starts_below};
+ghost use Rattle.intervals.specs.Runs.{value_at, AreRuns, EndsBelow};
+ghost use Rattle.intervals.specs.Entries.{BeginAbove};
+ghost use Rattle.intervals.specs.Parts.{all_runs, AreSome, BeginsTo, row_runs, runs_below, part_at, runs_above, runs_to, runs_within, IsPut, IsRewritten};
+
+use crate::part::Part;
+use crate::run::{Run, begin_below, splice};
+use crate::span::Span;
+use crate::span_map::{Exact, NoMemory};
+use std::alloc::Global;
+
+// A part of more runs is cut in two.
+pub(crate) const MOST: usize = 64;
+
+/// Runs in a row of parts, of which the first may be empty, and none of the rest is.
+#[derive(Drop)]
+pub(crate) struct Row<V> {
+    pub(crate) first: Part<V>,
+    pub(crate) rest: Vec<Part<V>>,
+}
+
+/// Memory for one more part of a row: a part, and places for all parts, where the row has none for one more.
+#[derive(Drop)]
+pub(crate) struct Spare<V> {
+    part: Part<V>,
+    places: Vec<Part<V>>,
+}
+
+// How many parts begin at the byte or below. It halves what is left at each step.
+#[inline(never)]
+fn begin_to<V: Exact>(parts: &[Part<V>], byte: u64) -> usize
+    requires runs { AreRuns (all_runs parts.now) }
+    requires some { AreSome parts.now }
+    ensures within { result ≤ length parts.now }
+    ensures begins { 0 < result → BeginsTo (all_runs (drop (result - 1) parts.now)) byte }
+    ensures above { BeginAbove (all_runs (drop result parts.now)) byte }
+{
+    parts.partition_point(|part| part.first() <= byte)
+}
+
+// The first of the runs and then of the parts, and what follows it.
+#[inline]
+pub(crate) fn next_of<'a, V: Exact>(
+    runs: &'a [Run<V>],
+    parts: &'a [Part<V>],
+) -> Option<(Run<V>, &'a [Run<V>], &'a [Part<V>])>
+    requires { AreSome parts.now }
+    ensures next { MatchOption result (runs.now ++ all_runs parts.now ≡ []) (λ x. runs.now ++ all_runs parts.now ≡ x.0 ∷ (x.1.now ++ all_runs x.2.now)) }
+    ensures some { IfSome result (λ x. AreSome x.2.now) }
+    ensures fewer { IfSome result (λ x. length (x.1.now ++ all_runs x.2.now) < length (runs.now ++ all_runs parts.now)) }
+{
+    if let Some((run, rest)) = runs.split_first() {
+        return Some((*run, rest, parts));
+    }
+    let (part, later) = parts.split_first()?;
+    let (run, rest) = part.runs().split_first()?;
+    Some((*run, rest, later))
+}
+
+// Moves the row to `room`, where it has no place for one more part, and `room` has.
+fn make_room<V: Exact>(row: &mut Vec<Part<V>>, mut room: Vec<Part<V>>)
+    ensures { row.new.items ≡ row.old.items }
+{
+    if row.len() < row.capacity() || room.capacity() <= row.len() {
+        return;
+    }
+    room.clear();
+    let Ok(()) = room.append(row) else {
+        unreachable!()
+    };
+    *row = room;
+}
+
+// How many of the runs, which are too many for a part, stay in it: where the span was written at an end of
+// them, all but some at that end, so that parts are full where runs come one after another.
+fn kept_of<V: Exact>(runs: &[Run<V>], span: Span) -> usize
+    requires { 64 < length runs.now }
+    ensures some { 0 < result }
+    ensures within { result ≤ length runs.now }
+{
+    let len = runs.len();
+    match (runs.first(), runs.last()) {
+        (Some(run), _) if span.lo <= run.lo => len / 8,
+        (_, Some(run)) if run.hi <= span.hi => len - len / 8,
+        _ => len / 2,
+    }
+}
+
+impl<V: Exact> Row<V> {
+    // A row of no runs. It takes no memory.
+    pub(crate) fn new(alloc: Global) -> Row<V>
+        ensures first { result.first ≡ [] }
+        ensures rest { result.rest.items ≡ [] }
+    {
+        Row {
+            first: Part::new(alloc),
+            rest: Vec::new(alloc),
+        }
+    }
+
+    // An equal row.
+    pub(crate) fn copy(&self) -> Result<Row<V>, NoMemory>
+        ensures first { IfOk result (λ copy. copy.first ≡ self.now.first) }
+        ensures rest { IfOk result (λ copy. copy.rest.items ≡ self.now.rest.items) }
+    {
+        let alloc = *self.rest.allocator();
+        if self.rest.is_empty() {
+            return Ok(Row {
+                first: self.first.copy(alloc, 0)?,
+                rest: Vec::new(alloc),
+            });
+        }
+        let mut rest = Vec::with_capacity(alloc, self.rest.len())?;
+        for part in &self.rest {
+            rest.push(part.copy(alloc, MOST + 2)?)?;
+        }
+        Ok(Row {
+            first: self.first.copy(alloc, MOST + 2)?,
+            rest,
+        })
+    }
+
+    // The place of the last part that begins at the byte or below, or of the first.
+    #[inline(always)]
+    pub(crate) fn place(&self, byte: u64) -> usize
+        requires runs { AreRuns (row_runs self.now) }
+        requires some { AreSome self.now.rest.items }
+        ensures within { result ≤ vec_len self.now.rest }
+        ensures ended { EndsBelow (runs_below self.now result) byte }
+        ensures begins { 0 < result → BeginsTo (runs_above self.now (result - 1)) byte }
+        ensures above { BeginAbove (runs_above self.now result) byte }
+    {
+        if self.rest.is_empty() {
+            return 0;
+        }
+        begin_to(&self.rest, byte)
+    }
+
+    // The runs of the part at a place.
+    #[inline(always)]
+    pub(crate) fn part(&self, at: usize) -> &[Run<V>]
+        requires { at ≤ vec_len self.now.rest }
+        ensures { result.now ≡ part_at self.now at }
+    {
+        if at == 0 {
+            return self.first.runs();
+        }
+        self.rest[at - 1].runs()
+    }
+
+    // The parts above the one at a place.
+    #[inline]
+    pub(crate) fn above(&self, at: usize) -> &[Part<V>]
+        requires { at ≤ vec_len self.now.rest }
+        ensures { result.now ≡ drop at self.now.rest.items }
+    {
+        let (_, above) = self.rest.split_at(at);
+        above
+    }
+
+    // How many runs begin from `lo` on and below `hi`.
+    pub(crate) fn begin_within(&self, lo: u64, hi: u64) -> usize
+        requires order { lo ≤ hi }
+        requires runs { AreRuns (row_runs self.now) }
+        requires bounded { EndsBelow (row_runs self.now) (greatest + 1) }
+        requires some { AreSome self.now.rest.items }
+        ensures count { starts_below V.PartialEq.eq (value_at (row_runs self.now)) lo + result ≡ starts_below V.PartialEq.eq (value_at (row_runs self.now)) hi }
+        ensures within { starts_below V.PartialEq.eq (value_at (row_runs self.now)) hi ≤ length (row_runs self.now) }
+    {
+        let at = self.place(lo);
+        let near = self.part(at);
+        let above = self.above(at);
+        let mut count = begin_below(near, hi) - begin_below(near, lo);
+        for part in above {
+            if part.first() >= hi {
+                break;
+            }
+            count += begin_below(part.runs(), hi);
+        }
+        count
+    }
+
+    // How many runs the part at a place and so many parts above it have.
+    fn count(&self, at: usize, more: usize) -> usize
+        requires within { at + more ≤ vec_len self.now.rest }
+        requires few { length (row_runs self.now) ≤ greatest + 1 }
+        ensures { result ≡ length (runs_within self.now at more) }
+    {
+        let (near, _) = self.above(at).split_at(more);
+        let mut count = self.part(at).len();
+        for part in near {
+            count += part.len();
+        }
+        count
+    }
+
+    // Memory for one more part, if a write of the span may leave more runs in one than it is to have.
+    pub(crate) fn spare_for(&self, span: Span) -> Result<Option<Box<Spare<V>>>, NoMemory>
+        requires runs { AreRuns (row_runs self.now) }
+        requires some { AreSome self.now.rest.items }
+    {
+        if self.rest.is_empty() && self.first.len() <= MOST - 2 {
+            return Ok(None);
+        }
+        let at = self.place(span.lo.saturating_sub(1));
+        let to = self.place(span.hi + 1);
+        let mut len = self.part(at).len();
+        if at < to {
+            len = len.saturating_add(self.part(to).len());
+        }
+        if len <= MOST - 2 {
+            return Ok(None);
+        }
+        Ok(Some(self.spare(len)?))
+    }
+
+    // Memory for one more part, of at least as many runs.
+    fn spare(&self, least: usize) -> Result<Box<Spare<V>>, NoMemory> {
+        let alloc = *self.rest.allocator();
+        let mut places = Vec::new(alloc);
+        if self.rest.len() == self.rest.capacity() {
+            places = Vec::with_capacity(
+                alloc,
+                self.rest.len().saturating_mul(2).saturating_add(4),
+            )?;
+        }
+        let part = Part::with_capacity(alloc, MOST.max(least).saturating_add(2))?;
+        Ok(Box::new(alloc, Spare { part, places })?)
+    }
+
+    // Gives each byte of the span the value, or none, in the part at a place. How many runs it had, and how many it
+    // has. Takes no memory.
+    #[inline]
+    fn write_part(
+        &mut self,
+        at: usize,
+        room: Vec<Run<V>>,
+        span: Span,
+        value: Option<V>,
+    ) -> (usize, usize)
+        requires within { at ≤ vec_len self.old.rest }
+        requires empty { room.items ≡ [] }
+        requires room { length (part_at self.old at) + length (part_at self.old at) < vec_capacity room }
+        requires runs { AreRuns (part_at self.old at) }
+        requires bounded { EndsBelow (part_at self.old at) (greatest + 1) }
+        requires some { AreSome self.old.rest.items }
+        ensures { IsRewritten self.old self.new at 0 span value result.0 result.1 }
+    {
+        if at == 0 {
+            let had = self.first.len();
+            self.first.write(room, span, value);
+            return (had, self.first.len());
+        }
+        let had = self.rest[at - 1].len();
+        self.rest[at - 1].write(room, span, value);
+        let has = self.rest[at - 1].len();
+        if has == 0 {
+            self.rest.remove(at - 1);
+        }
+        (had, has)
+    }
+
+    // Where the runs are too many for a part, and there is memory for another, the upper ones in that. There is a
+    // place for it then. Takes no memory.
+    fn cut(&mut self, runs: &mut Vec<Run<V>>, spare: Option<Box<Spare<V>>>, span: Span) -> Part<V>
+        ensures runs { runs.new.items ++ result ≡ runs.old.items }
+        ensures first { self.new.first ≡ self.old.first }
+        ensures rest { self.new.rest.items ≡ self.old.rest.items }
+        ensures kept { 0 < length result → 0 < vec_len runs.new }
+        ensures place { 0 < length result → vec_len self.new.rest < vec_capacity self.new.rest }
+    {
+        let alloc = *self.rest.allocator();
+        if runs.len() <= MOST {
+            return Part::new(alloc);
+        }
+        let Some(spare) = spare else {
+            return Part::new(alloc);
+        };
+        let Spare { part, places } = Box::into_inner(spare);
+        make_room(&mut self.rest, places);
+        if self.rest.len() == self.rest.capacity() {
+            return Part::new(alloc);
+        }
+        let kept = kept_of(runs, span);
+        part.with_rest(runs, kept)
+    }
+
+    // Puts the runs in place of those of the part at a place and so many parts above it. Takes no memory.
+    fn put(&mut self, at: usize, more: usize, runs: Vec<Run<V>>)
+        requires within { at + more ≤ vec_len self.old.rest }
+        requires some { AreSome self.old.rest.items }
+        ensures placed { IsPut self.old self.new at more runs.items }
+        ensures below { 0 < vec_len runs → runs_to self.new at ≡ runs_below self.old at ++ runs.items }
+        ensures above { 0 < vec_len runs → runs_above self.new at ≡ runs_above self.old (at + more) }
+        ensures place { 0 < vec_len runs → at ≤ vec_len self.new.rest }
+        ensures len { vec_len self.new.rest ≤ vec_len self.old.rest }
+        ensures capacity { vec_capacity self.old.rest ≤ vec_capacity self.new.rest }
+    {
+        drop(self.rest.drain(at..at + more));
+        if at == 0 {
+            self.first.put(runs);
+        } else if runs.is_empty() {
+            self.rest.remove(at - 1);
+        } else {
+            self.rest[at - 1].put(runs);
+        }
+    }
+
+    // One more part behind the one at a place, if it has any runs. There is a place for it.
+    fn insert(&mut self, at: usize, part: Part<V>)
+        requires within { 0 < length part → at ≤ vec_len self.old.rest }
+        requires place { 0 < length part → vec_len self.old.rest < vec_capacity self.old.rest }
+        requires some { AreSome self.old.rest.items }
+        ensures runs { 0 < length part → row_runs self.new ≡ runs_to self.old at ++ (part ++ runs_above self.old at) }
+        ensures none { length part ≡ 0 → row_runs self.new ≡ row_runs self.old }
+        ensures some { AreSome self.new.rest.items }
+    {
+        if part.len() == 0 {
+            return;
+        }
+        let Ok(()) = self.rest.insert(at, part) else {
+            unreachable!()
+        };
+    }
+
+    // Gives each byte of the span the value, or none, in the part at a place and so many parts above it. How many
+    // runs they had, and how many they have. Takes no memory.
+    fn write_parts(
+        &mut self,
+        at: usize,
+        more: usize,
+        span: Span,
+        value: Option<V>,
+        mut room: Vec<Run<V>>,
+        spare: Option<Box<Spare<V>>>,
+    ) -> (usize, usize)
+        requires within { at + more ≤ vec_len self.old.rest }
+        requires runs { AreRuns (row_runs self.old) }
+        requires bounded { EndsBelow (row_runs self.old) (greatest + 1) }
+        requires some { AreSome self.old.rest.items }
+        requires ended { EndsBelow (runs_below self.old (at + more)) (span.hi + 1) }
+        requires above { BeginAbove (runs_above self.old at) (span.lo - 1) }
+        requires empty { room.items ≡ [] }
+        requires room { length (row_runs self.old) + length (row_runs self.old) < vec_capacity room }
+        ensures { IsRewritten self.old self.new at more span value result.0 result.1 }
+    {
+        let had = self.count(at, more);
+        splice(&mut room, self.part(at), self.part(at + more), span, value);
+        let has = room.len();
+        let upper = self.cut(&mut room, spare, span);
+        self.put(at, more, room);
+        self.insert(at, upper);
+        (had, has)
+    }
+
+    // Gives each byte of the span the value, or none: in a part alone, where it stays small, else in all parts near the
+    // span, with what memory there is for one more. How many runs they had, and how many they have. Takes no memory.
+    #[inline]
+    pub(crate) fn write(
+        &mut self,
+        span: Span,
+        value: Option<V>,
+        room: Vec<Run<V>>,
+        spare: Option<Box<Spare<V>>>,
+    ) -> (usize, usize)
+        requires runs { AreRuns (row_runs self.old) }
+        requires bounded { EndsBelow (row_runs self.old) (greatest + 1) }
+        requires some { AreSome self.old.rest.items }
+        requires empty { room.items ≡ [] }
+        requires room { length (row_runs self.old) + length (row_runs self.old) < vec_capacity room }
+        ensures runs { AreRuns (row_runs self.new) }
+        ensures bounded { EndsBelow (row_runs self.new) (greatest + 1) }
+        ensures some { AreSome self.new.rest.items }
+        ensures bytes { (b : ℕ) → value_at (row_runs self.new) b ≡ put (value_at (row_runs self.old)) span value b }
+        ensures had { result.0 ≤ length (row_runs self.old) }
+        ensures count { length (row_runs self.new) + result.0 ≡ length (row_runs self.old) + result.1 }
+    {
+        let at = self.place(span.lo.saturating_sub(1));
+        let to = self.place(span.hi + 1);
+        if at == to && self.part(at).len() <= MOST - 2 {
+            return self.write_part(at, room, span, value);
+        }
+        self.write_parts(at, to - at, span, value, room, spare)
+    }
+}

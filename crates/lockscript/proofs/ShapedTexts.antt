@@ -1,0 +1,84 @@
+-- Texts of scripts for a cluster of a shape that is given, of which some lines were read.
+use Rattle.std.proofs.Common.{◌≡◌, ◌≢◌, ℕ, ◌+◌, List, [], ◌∷◌, ◌++◌, map, inl, inr, sym, ap, subst, ◌∙◌}
+use Rattle.std.specs.Prelude.{◌⊎◌}
+use Rattle.std.proofs.lemmas.List.{append-nil}
+use Rattle.messages.specs.Shapes.{ShapeFields}
+use Rattle.texts.specs.LineFeeds.{PassesLines, kept_lines}
+use Rattle.lockscript.specs.Scripts.{Begun, BeginsScript, IsBadFirst, IsFirstBad, IsRefused, IsScript, ScriptFields, Writes, line_text, script_of, shape_text}
+use Rattle.lockscript.specs.ShapedScripts.{IsBadForShape, IsClusterLine, IsForShape, IsRefusedForShape, NamesAnother}
+use Rattle.lockscript.specs.ShapedScripts.IsBadForShape.{names_another, stands_wrong}
+use Rattle.lockscript.specs.declared.error.ParseError.{ParseError}
+use Rattle.lockscript.specs.declared.error.ParseError.TheVariants.{NoMemory, BadLine}
+use Rattle.lockscript.proofs.Begun.{begun-first}
+use Rattle.lockscript.proofs.Clusters.{apart-shape}
+use Rattle.lockscript.proofs.OneReading.{Onward, either, same-kept, stops}
+use Rattle.lockscript.proofs.SameLines.{first-same}
+
+-- the `cluster` line begins a script
+pub begun-cluster : (text : List ℕ) (number : ℕ) (shape : ShapeFields) (rest : List ℕ) → IsClusterLine text number shape rest → Begun text (script_of shape []) rest number
+begun-cluster text number shape rest c = begun-first text number c.line rest shape c.finds c.shape_in c.names
+
+-- lines that begin as those of a script do are of its cluster
+shape-same : (kept more : List (ℕ × List ℕ)) (s t : ScriptFields) → Writes kept s → Writes (kept ++ more) t → s.shape ≡ t.shape
+shape-same kept more s t a b =
+    let lines = map line_text s.lines ++ more in
+    let both : (a.cluster_line, shape_text s.shape) ∷ lines ≡ (b.cluster_line, shape_text t.shape) ∷ map line_text t.lines = sym (ap (λ (ks : List (ℕ × List ℕ)). ks ++ more) a.texts) ∙ b.texts in
+    let first = first-same (a.cluster_line, shape_text s.shape) (b.cluster_line, shape_text t.shape) lines (map line_text t.lines) both in
+    apart-shape s.shape t.shape a.shape_in b.shape_in (ap (λ (x : ℕ × List ℕ). x.1) first)
+
+further-shape : (kept : List (ℕ × List ℕ)) (rest : List ℕ) (passed : ℕ) (kept' : List (ℕ × List ℕ)) (rest' : List ℕ) (passed' : ℕ) (s t : ScriptFields) → Writes kept s → Writes kept' t
+    → Onward kept rest passed kept' rest' passed' ⊎ Onward kept' rest' passed' kept rest passed → s.shape ≡ t.shape
+further-shape kept rest passed kept' rest' passed' s t a b (inl o) = shape-same kept (kept_lines (passed + 1) o.lines) s t a (subst (λ (ks : List (ℕ × List ℕ)). Writes ks t) o.said b)
+further-shape kept rest passed kept' rest' passed' s t a b (inr o) = sym (shape-same kept' (kept_lines (passed' + 1) o.lines) t s b (subst (λ (ks : List (ℕ × List ℕ)). Writes ks s) o.said a))
+
+-- a text is of one cluster
+one-shape : (text : List ℕ) (kept : List (ℕ × List ℕ)) (rest : List ℕ) (passed : ℕ) (kept' : List (ℕ × List ℕ)) (rest' : List ℕ) (passed' : ℕ) (s t : ScriptFields)
+    → PassesLines text 0 kept rest passed → PassesLines text 0 kept' rest' passed' → Writes kept s → Writes kept' t → s.shape ≡ t.shape
+one-shape text kept rest passed kept' rest' passed' s t a b writes writes' =
+    further-shape kept rest passed kept' rest' passed' s t writes writes' (either text kept rest passed kept' rest' passed' a b)
+
+-- the script that the text writes is of the cluster that its first line names
+pub one-for-shape : (text : List ℕ) (number : ℕ) (shape : ShapeFields) (rest : List ℕ) (s : ScriptFields) → IsClusterLine text number shape rest → IsScript text s → IsForShape shape text s
+one-for-shape text number shape rest s c is =
+    let mine = begun-cluster text number shape rest c in
+    (is, one-shape text is.kept [] is.passed mine.kept rest number s (script_of shape []) is.whole mine.passes is.writes mine.writes)
+
+-- and that line names no other
+one-cluster : (text : List ℕ) (number : ℕ) (shape : ShapeFields) (rest : List ℕ) (other : ℕ) → IsClusterLine text number shape rest → NamesAnother shape text other → ⊥
+one-cluster text number shape rest other c another =
+    let mine = begun-cluster text number shape rest c in
+    let theirs = begun-cluster text other another.other another.rest another.names in
+    another.differs (one-shape text theirs.kept another.rest other mine.kept rest number (script_of another.other []) (script_of shape []) theirs.passes mine.passes theirs.writes mine.writes)
+
+-- why a text is refused whose first line names the cluster
+pub refused-for-shape : (text : List ℕ) (number : ℕ) (shape : ShapeFields) (rest : List ℕ) (error : ParseError) → IsClusterLine text number shape rest → IsRefused text error → IsRefusedForShape shape text error
+refused-for-shape text number shape rest NoMemory c is = (is.0, one-for-shape text number shape rest is.0 c is.1)
+refused-for-shape text number shape rest (BadLine bad) c is = stands_wrong is (λ other another. one-cluster text number shape rest other c another)
+
+-- the first line names another cluster
+pub bad-another : (shape : ShapeFields) (text : List ℕ) (number : ℕ) → NamesAnother shape text number → (BadLine number ≢ NoMemory) × IsRefusedForShape shape text (BadLine number)
+bad-another shape text number another = (λ e. absurd (cc), names_another another)
+
+no-lines : (kept more : List (ℕ × List ℕ)) (s : ScriptFields) → Writes kept s → [] ≡ kept ++ more → ⊥
+no-lines kept more s writes none =
+    let both : [] ≡ ((writes.cluster_line, shape_text s.shape) ∷ map line_text s.lines) ++ more = none ∙ ap (λ (ks : List (ℕ × List ℕ)). ks ++ more) writes.texts in
+    absurd (cc)
+
+not-begun : (text : List ℕ) (number : ℕ) (s : ScriptFields) (rest : List ℕ) (passed : ℕ) (bad : IsFirstBad text number) → bad.kept ≡ [] → (begun : Begun text s rest passed)
+    → Onward bad.kept bad.rest bad.passed begun.kept rest passed ⊎ Onward begun.kept rest passed bad.kept bad.rest bad.passed → ⊥
+not-begun text number s rest passed bad none begun (inl o) =
+    let good : BeginsScript begun.kept = inr (s, begun.writes) in
+    let stopped = stops bad.kept number bad.passed bad.rest o.lines rest bad.bad bad.counted o.parts o.single (subst BeginsScript o.said good) in
+    let same = same-kept bad.kept bad.rest bad.passed begun.kept rest passed o stopped in
+    no-lines begun.kept [] s begun.writes (sym none ∙ sym same.0 ∙ sym (append-nil begun.kept))
+not-begun text number s rest passed bad none begun (inr o) = no-lines begun.kept (kept_lines (passed + 1) o.lines) s begun.writes (sym none ∙ o.said)
+
+-- a line in which the `cluster` line is looked for
+pub bad-before : (shape : ShapeFields) (text : List ℕ) (error : ParseError) → IsBadFirst text error → (error ≢ NoMemory) × IsRefusedForShape shape text error
+bad-before shape text NoMemory bad = absurd bad
+bad-before shape text (BadLine at) bad = (
+  λ e. absurd (cc),
+  stands_wrong bad.0 (λ other another.
+      let begun = begun-cluster text other another.other another.rest another.names in
+      not-begun text at (script_of another.other []) another.rest other bad.0 bad.1 begun (either text bad.0.kept bad.0.rest bad.0.passed begun.kept another.rest other bad.0.before begun.passes)),
+)

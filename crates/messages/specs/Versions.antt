@@ -1,0 +1,9 @@
+-- What the versions of clusters differ in.
+use Rattle.std.specs.Prelude.{ℕ}
+use Rattle.messages.specs.declared.version.Version.{Version}
+use Rattle.messages.specs.declared.version.Version.TheVariants.{First, Second}
+
+-- regions of an owner in a file
+abbrev pub most_regions : Version → ℕ
+most_regions First = 1024
+most_regions Second = 16384

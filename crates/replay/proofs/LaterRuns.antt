@@ -1,0 +1,89 @@
+-- Lemmas on scripts that go on behind a journal.
+use Rattle.std.proofs.Common.{◌≡◌, ℕ, List, Option, Some, inl, inr, refl, subst}
+use Rattle.std.specs.Prelude.{IsUtf8}
+use Rattle.cluster_core.specs.Journals.{JournalFields}
+use Rattle.messages.specs.declared.version.Version.{Version}
+use Rattle.messages.specs.declared.version.Version.TheVariants.{First, Second}
+use Rattle.journal_text.specs.Readings.{IsOld, WritesJournal}
+use Rattle.journal_text.proofs.OldTexts.{old_text}
+use Rattle.lockscript.specs.Scripts.{ScriptFields}
+use Rattle.lockscript.specs.ShapedScripts.{IsForShape, IsRefusedForShape}
+use Rattle.lockscript.specs.declared.error.ParseError.{ParseError}
+use Rattle.lockscript.specs.declared.error.ParseError.TheVariants as parse
+use Rattle.replay.specs.declared.play.PlayError.{PlayError}
+use Rattle.replay.specs.declared.play.PlayError.TheVariants as play
+use Rattle.replay.specs.declared.fault.Fault.{Fault}
+use Rattle.replay.specs.declared.fault.Fault.TheVariants.{BadLine, CannotRead, CannotWrite, CannotWriteOutput, NoMemory, JournalFull, OldJournal}
+use Rattle.cluster_core.specs.Runs.{IsRun}
+use Rattle.replay.specs.Audits.{HasNewJournal}
+use Rattle.replay.specs.Commands.{IsGoingFault}
+use Rattle.replay.specs.Faults.{IsBehindFault, IsOldFault, IsOldTextFault, IsTextFault, fault_of_parse, fault_of_play}
+use Rattle.replay.specs.Played.{FillsBehind, PlayedState}
+use Rattle.replay.specs.Scripts.{HasRunBehind, HasScriptFor}
+use Rattle.replay.specs.Stores.{Files, SameFiles}
+use Rattle.replay.proofs.Journals.{has-journal}
+use Rattle.replay.proofs.Stores.{had-no_text, had-text}
+
+-- a text that writes a journal of version 1 begins as one
+old-journal : (text : List ℕ) (j : JournalFields) → WritesJournal text j.shape j.entries → j.shape.version ≡ First → IsOld text
+old-journal text j writes is = old_text text j.shape j.entries writes is
+
+-- a journal whose first line is not of version 1 is of version 2
+new-version : (version : Version) → (version ≡ First → ⊥) → version ≡ Second
+new-version First not_old = absurd (not_old refl)
+new-version Second not_old = refl
+
+pub is_new : (text : List ℕ) (j : JournalFields) → (IsOld text → ⊥) → WritesJournal text j.shape j.entries → j.shape.version ≡ Second
+is_new text j not_old writes = new-version j.shape.version (λ is. not_old (old-journal text j writes is))
+
+-- a fault of a text that is not old
+pub new-fault : (text : List ℕ) (fault : Fault) → (IsOld text → ⊥) → IsTextFault text fault → IsOldTextFault text fault
+new-fault text (BadLine line) not_old is = (is, not_old)
+new-fault text (CannotRead named) not_old is = absurd is
+new-fault text (CannotWrite named) not_old is = absurd is
+new-fault text CannotWriteOutput not_old is = absurd is
+new-fault text NoMemory not_old is = (is.0, is.1, is_new text is.0 not_old is.1.0)
+new-fault text JournalFull not_old is = (is.0, is.1, is_new text is.0 not_old is.1, is.2)
+new-fault text OldJournal not_old is = absurd is
+
+-- a fault of the text is one of the file
+pub old-text-fault : (Holds : Option (List ℕ) → Type 0) (RanShort : Type 0) (path bytes : List ℕ) (f : Fault) → Holds (Some bytes) → IsUtf8 bytes → IsOldTextFault bytes f → IsOldFault Holds RanShort path f
+old-text-fault Holds RanShort path bytes (BadLine line) holds text is = (bytes, holds, text, is)
+old-text-fault Holds RanShort path bytes (CannotRead named) holds text is = absurd is
+old-text-fault Holds RanShort path bytes (CannotWrite named) holds text is = absurd is
+old-text-fault Holds RanShort path bytes CannotWriteOutput holds text is = absurd is
+old-text-fault Holds RanShort path bytes NoMemory holds text is = inr (is.0, (has-journal Holds bytes is.0 holds text is.1, is.2))
+old-text-fault Holds RanShort path bytes JournalFull holds text is = (is.0, (bytes, holds, text, is.1), is.2, is.3)
+old-text-fault Holds RanShort path bytes OldJournal holds text is = (bytes, holds, text, is)
+
+-- why the text of the file is no script of the journal's cluster
+pub parse-fault : (j : JournalFields) (Holds : Option (List ℕ) → Type 0) (RanShort : Type 0) (path bytes : List ℕ) (error : ParseError) → Holds (Some bytes) → IsUtf8 bytes → IsRefusedForShape j.shape bytes error
+    → IsBehindFault j Holds RanShort path (fault_of_parse error)
+parse-fault j Holds RanShort path bytes parse.NoMemory holds text is = inr (is.0, (bytes, holds, text, is.1))
+parse-fault j Holds RanShort path bytes (parse.BadLine line) holds text is = (bytes, holds, text, is)
+
+-- why the script was not run to its end
+pub play-fault : (j : JournalFields) (Holds : Option (List ℕ) → Type 0) (RanShort : Type 0) (path : List ℕ) (script : ScriptFields) (error : PlayError) → HasScriptFor Holds j.shape script → (error ≡ play.JournalFull → FillsBehind j script.lines)
+    → IsBehindFault j Holds RanShort path (fault_of_play error)
+play-fault j Holds RanShort path script play.NoMemory has full = inr (script, has)
+play-fault j Holds RanShort path script play.JournalFull has full = (script, has, full refl)
+
+-- what a script comes to, or why not, by the files that there were
+pub had-run : (old new : Files) (path : List ℕ) (j : JournalFields) (played : PlayedState) → SameFiles old new → HasRunBehind (new path) j played → HasRunBehind (old path) j played
+had-run old new path j played same has = (has.0, had-text old new path (λ text. IsForShape j.shape text has.0) same has.1, has.2)
+
+pub had-fault : (old new : Files) (RanShort : Type 0) (path : List ℕ) (j : JournalFields) (fault : Fault) → SameFiles old new → IsBehindFault j (new path) RanShort path fault → IsBehindFault j (old path) RanShort path fault
+had-fault old new RanShort path j (BadLine line) same is = had-text old new path _ same is
+had-fault old new RanShort path j (CannotRead named) same is = (is.0, had-no_text old new path same is.1)
+had-fault old new RanShort path j (CannotWrite named) same is = absurd is
+had-fault old new RanShort path j CannotWriteOutput same is = absurd is
+had-fault old new RanShort path j NoMemory same (inl short) = inl short
+had-fault old new RanShort path j NoMemory same (inr is) = inr (is.0, had-text old new path (λ text. IsForShape j.shape text is.0) same is.1)
+had-fault old new RanShort path j JournalFull same is = (is.0, had-text old new path (λ text. IsForShape j.shape text is.0) same is.1, is.2)
+had-fault old new RanShort path j OldJournal same is = absurd is
+
+-- behind the run of the journal
+pub going-fault : (old new : Files) (RanShort : Type 0) (script after : List ℕ) (journal j : JournalFields) (fault : Fault) → HasNewJournal (old after) j → journal ≡ j → IsRun j.shape j.entries → SameFiles old new
+    → IsBehindFault journal (new script) RanShort script fault → IsGoingFault old RanShort script after fault
+going-fault old new RanShort script after journal j fault has same run files is =
+    inr (j, has, run, had-fault old new RanShort script j fault files (subst (λ (k : JournalFields). IsBehindFault k (new script) RanShort script fault) same is))
