@@ -1,1 +1,2 @@
+pub mod RunEquality
 pub mod SameMessages

@@ -5,7 +5,7 @@ use crate::message::Message;
 use model::op::Op;
 
 /// What may happen. A loss is a message that no event delivers, a repeat a second delivery.
-#[derive(Clone, Copy, Debug, PartialEq, Eq)]
+#[derive(Debug, PartialEq, Eq, Drop)]
 pub enum Event {
     /// A process of a node makes a call.
     Call {
@@ -42,6 +42,14 @@ pub enum Event {
         file: u16,
         node: u8,
         incarnation: u16,
+    },
+    /// The token server of a file is declared failed: it takes no step from here on.
+    FailServer {
+        file: u16,
+    },
+    /// The token server of a file that was declared failed is rebuilt, with the next epoch.
+    StartServer {
+        file: u16,
     },
 }
 

@@ -12,4 +12,5 @@ pub mod outcome;
 pub mod refusal;
 pub mod shape;
 pub mod version;
+pub mod token_run;
 pub mod wanted;

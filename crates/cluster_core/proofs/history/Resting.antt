@@ -11,7 +11,7 @@ use Rattle.messages.specs.declared.actor.Actor.{Actor}
 use Rattle.messages.specs.declared.actor.Actor.TheVariants.{Node as ANode, Server as AServer}
 use Rattle.messages.specs.declared.message.Message.{Message}
 use Rattle.messages.specs.declared.event.Event.{Event}
-use Rattle.messages.specs.declared.event.Event.TheVariants.{Call, Deliver, Interrupt, Retry, Resend, Declare, Restart, Learn}
+use Rattle.messages.specs.declared.event.Event.TheVariants.{Call, Deliver, Interrupt, Retry, Resend, Declare, Restart, Learn, FailServer, StartServer}
 use Rattle.messages.specs.declared.entry.Entry.{Entry}
 use Rattle.node_core.specs.declared.event.NodeEvent.TheVariants as node
 use Rattle.node_core.specs.State.{NodeState, first_node, first_file}
@@ -25,7 +25,7 @@ use Rattle.cluster_core.specs.Runs.{Leads}
 use Rattle.cluster_core.specs.Union.{union, live_union}
 use Rattle.cluster_core.specs.Histories.{Legal, HasHistory}
 use Rattle.cluster_core.proofs.common.Choices.{at_number}
-use Rattle.cluster_core.proofs.steps.Steps.{next_taken, next_unfenced, node_step, server_step, declare_step, restart_step}
+use Rattle.cluster_core.proofs.steps.Steps.{next_taken, next_unfenced, node_step, server_step, declare_step, restart_step, fail_step, start_step}
 
 -- each node that is not alive is as it will begin
 abbrev pub Rests : WorldState → Type 0
@@ -63,6 +63,8 @@ module _ (w : WorldState) (rests : Rests w) where
       at_number m k (λ b. (if b then true else w.alive m) ≡ false → w.nodes m ≡ first_node w.shape m (w.nodes m).incarnation)
       (λ same now. absurd (cc))
       (λ other now. rests m now) dead) h
+  taken_rests (FailServer file) q free h = fail_step w (λ x. Rests x.0) file q (λ f is works. rests) h
+  taken_rests (StartServer file) q free h = start_step w (λ x. Rests x.0) file q (λ f is stopped few. rests) h
 
   pub next_rests : (event : Event) (q : WorldState × Entry) → next w event ≡ Ok q → Rests q.0
   next_rests event q h = taken_rests event q (next_unfenced w event q h) (next_taken w event q h).1

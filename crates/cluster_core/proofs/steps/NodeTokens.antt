@@ -35,7 +35,7 @@ use Rattle.cluster_core.proofs.common.Choices.{if_either, at_number}
 use Rattle.cluster_core.proofs.steps.KnownMessages.{sent_either}
 use Rattle.cluster_core.proofs.steps.NodeSteps.{in_order_either, shut_keeps}
 use Rattle.cluster_core.proofs.tokens.Talks.{settled, IsHostOf, IsCommandTo, IsAnswerOf, unasked}
-use Rattle.cluster_core.proofs.tokens.TalkMoves.{done_file}
+use Rattle.cluster_core.proofs.tokens.TalkMoves.{done_file, is_answer}
 
 -- each of the messages is so
 abbrev pub Only : (Message → Type 0) → List Message → Type 0
@@ -222,6 +222,7 @@ pub record Repeats (s : NodeState) (e : Effect) : Type 0 where
 -- the node does the next command about a file, and answers it
 pub record Does (s : NodeState) (file number : ℕ) (command : Message) (e : Effect) : Type 0 where
   pub answer : Message
+  pub answers_it : is_answer answer ≡ true
   pub of : IsAnswerOf file s.node s.incarnation number answer
   pub is_next : number ≡ (s.files file).last + 1
   pub node_is : e.state.node ≡ s.node
@@ -248,6 +249,7 @@ granted_does s file number call mode span node incarnation is_next =
     let P : Message → Type 0 = λ m. (m ≡ answer) ⊎ IsAsking s.node s.incarnation m in
     record {
       answer = answer;
+      answers_it = refl;
       of = (refl, refl, node, incarnation);
       is_next = is_next;
       node_is = asks.node_is;
@@ -262,6 +264,10 @@ answer_is : (s : NodeState) (file number : ℕ) (call : CallId) (up : GaveUp) �
 answer_is s file number call (gives.Released span) = (refl, refl, refl, refl)
 answer_is s file number call (gives.Conflict lock) = (refl, refl, refl, refl)
 
+answers_revoke : (file number : ℕ) (h : Host) (call : CallId) (up : GaveUp) → is_answer (answer_to file number h call up) ≡ true
+answers_revoke file number h call (gives.Released span) = refl
+answers_revoke file number h call (gives.Conflict lock) = refl
+
 given_up : (t : Token) (file number : ℕ) (holder own : Host) (call : CallId) (mode : Mode) (wanted : Wants) (up : GaveUp) → after_giving_up t mode up ≡ settled t (Revoke file number holder call mode wanted) (answer_to file number own call up)
 given_up t file number holder own call mode wanted (gives.Released span) = refl
 given_up t file number holder own call mode wanted (gives.Conflict lock) = refl
@@ -272,6 +278,7 @@ revoked_does s file number holder call mode wanted is_next =
     let answer = answer_to file number (host s) call up in
     record {
       answer = answer;
+      answers_it = answers_revoke file number (host s) call up;
       of = answer_is s file number call up;
       is_next = is_next;
       node_is = refl;

@@ -1,11 +1,21 @@
 -- What a token server keeps and sends comes of what it is told.
+<<<<<<< HEAD
 use Rattle.std.specs.Prelude.{IfSome, is_some, nat_le, nat_lt, ◌==◌, filter, filter_map, option_map}
+=======
+use Rattle.std.specs.Prelude.{max, pred, IfSome, is_some, nat_le, nat_lt, ◌==◌, filter_map, option_map}
+>>>>>>> ab91a2a (sketch definitions and proofs)
 use Rattle.std.specs.List.{range_with_len, cons_option}
-use Rattle.std.proofs.Common.{◌≡◌, ℕ, ◌+◌, ◌-◌, Bool, true, false, not, ◌&&◌, if◌then◌else◌, ◌⊎◌, inl, inr, refl, sym, ◌∙◌, ap, subst, arith, List, [], ◌∷◌, ◌++◌, All, Option, Some, None, Result, Ok, Err}
+use Rattle.std.proofs.Common.{◌≡◌, ℕ, ◌+◌, ◌-◌, ◌≤◌, Bool, true, false, not, ◌&&◌, if◌then◌else◌, ◌⊎◌, inl, inr, refl, sym, ◌∙◌, ap, subst, arith, List, [], ◌∷◌, ◌++◌, All, Option, Some, None, Result, Ok, Err}
 use Rattle.std.proofs.lemmas.Bool.{and_parts, both_ways, leb-true, eq-eqb, not-true}
 use Rattle.std.proofs.lemmas.Option.{none-some, same_Some}
+<<<<<<< HEAD
 use Rattle.std.proofs.lemmas.List.Elements.{All-nil, All-cons, All-head, All-tail, All-append, All-weaker}
 use Rattle.intervals.specs.Bytes.{Range}
+=======
+use Rattle.std.proofs.lemmas.List.Elements.{All-nil, All-cons, All-append, All-weaker}
+use Rattle.intervals.specs.Bytes.{Range, largest_around}
+use Rattle.intervals.specs.Search.{first}
+>>>>>>> ab91a2a (sketch definitions and proofs)
 use Rattle.intervals.proofs.SearchLaws.{first_is_first}
 use Rattle.model.specs.declared.call.CallId.{CallId}
 use Rattle.model.specs.declared.host.Host.{Host}
@@ -17,19 +27,29 @@ use Rattle.token_set.specs.Releases.{lowered}
 use Rattle.messages.specs.Wants.{Wants}
 use Rattle.messages.specs.declared.message.Urgency.TheVariants.{Now}
 use Rattle.messages.specs.declared.message.Message.{Message}
-use Rattle.messages.specs.declared.message.Message.TheVariants.{Request, Grant, Revoke, Taken, Released, Conflict, Deny, Freed}
+use Rattle.messages.specs.declared.message.Message.TheVariants.{Request, Grant, Revoke, Taken, Released, Conflict, Deny, Freed, Hello, Report}
+use Rattle.messages.specs.declared.token_run.TokenRun.{TokenRun}
+use Rattle.messages.specs.Reports.{reported}
 use Rattle.messages.specs.declared.outcome.Outcome.{Outcome}
 use Rattle.messages.specs.declared.refusal.StepError.{StepError}
 use Rattle.messages.specs.declared.refusal.StepError.TheVariants.{Stranger, Spent}
 use Rattle.messages.specs.Messages.{addressee, host_of, is_within, greatest_number, same_urgency, sending}
 use Rattle.token_queue.specs.declared.token_request.TokenRequest.{TokenRequest}
 use Rattle.token_server.specs.declared.event.ServerEvent.TheVariants.{Deliver, Resend, Learn}
+<<<<<<< HEAD
 use Rattle.token_queue.specs.Requests.{is_of_call}
 use Rattle.token_server.specs.State.{Row, ServerState, empty_row, with_row, row_above, forgotten, requests, requeued}
 use Rattle.token_server.specs.Serve.{row_conflicts, narrowed, conflicting_node, granted_span, commanded, granted_to, revoked_from, served, with_more, and_then, each_served, ready, serve}
 use Rattle.token_server.specs.Resends.{outstanding_of, outstanding, sending_first}
 use Rattle.token_server.specs.Server.{Change, with_a_row, request_of, enqueued, asked, is_grant, revoked_mode, acknowledged, ended, put_off, postponed, denial, taken, released, in_conflict, row_of_host, freed, delivered, is_server, change, then_serve, server_rule}
 use Rattle.token_server.proofs.CareLaws.{find-each, find-passes, requests-parts, active-each, ready-each, requeued-each, freed-each, ended-each, postponed-each, forgotten-each, enqueued-each}
+=======
+use Rattle.token_server.specs.State.{Row, ServerState, empty_row, begin, awaits, with_row, is_of_call, row_above, unless, forgotten, requests, requeued}
+use Rattle.token_server.specs.Serve.{admitted, row_conflicts, conflicting_node, is_taken, granted_span, commanded, granted_to, revoked_from, served, serve}
+use Rattle.token_server.specs.Resends.{outstanding_of, outstanding, sending_first}
+use Rattle.token_server.specs.Server.{Change, with_a_row, enqueued, asked, is_grant, revoked_mode, acknowledged, ended, put_off, postponed, denial, taken, released, in_conflict, asks_token, heard, row_of_host, freed, delivered, is_server, change, then_serve, server_rule}
+use Rattle.token_server.proofs.CareLaws.{requests-parts, active-each, admitted-each, requeued-each, freed-each, ended-each, postponed-each, forgotten-each, enqueued-each}
+>>>>>>> ab91a2a (sketch definitions and proofs)
 use Rattle.cluster_core.proofs.common.Choices.{if_either}
 use Rattle.cluster_core.proofs.common.Refusals.{ok_is, if_ours}
 use Rattle.cluster_core.proofs.steps.ServerMoves.{WhateverRequests, enqueued-stays, freed-stays, ready-stays}
@@ -53,11 +73,18 @@ other_node s r some same =
     let other = (and_parts (not (conflicting_node s r == r.call.node)) (row_conflicts (s.rows (conflicting_node s r)) r.wanted.required r.mode) here).0 in
     both_ways (conflicting_node s r == r.call.node) (not-true (conflicting_node s r == r.call.node) other) (eq-eqb (conflicting_node s r) r.call.node same)
 
-mapped : (C : Message → Type 0) (f : ℕ → Option Message) (ns : List ℕ) → ((n : ℕ) (m : Message) → f n ≡ Some m → C m) → All C (filter_map f ns)
+pub mapped : (C : Message → Type 0) (f : ℕ → Option Message) (ns : List ℕ) → ((n : ℕ) (m : Message) → f n ≡ Some m → C m) → All C (filter_map f ns)
 mapped C f [] each = All-nil C
 mapped C f (n ∷ ns) each =
     let rest = mapped C f ns each in
     elim (f n) as (λ o. f n ≡ o → All C (cons_option o (filter_map f ns))) [ None ↦ λ h. rest | Some m ↦ λ h. All-cons C m (filter_map f ns) (each n m h) rest ] refl
+
+-- the largest span around what is needed ends with it, or within what is wanted
+around_end : (barred : ℕ → Bool) (required within : Range) → (largest_around barred required within).hi ≤ max required.hi within.hi
+around_end barred required within = before (first barred (required.hi + 1) (within.hi - required.hi)) required.hi within.hi (first_is_first barred (required.hi + 1) (within.hi - required.hi)).within
+  where
+    before : (k r w : ℕ) → k ≤ r + 1 + (w - r) → pred k ≤ max r w
+    before k r w h = omega arith
 
 -- the requests that a server keeps are of one kind, its commands of another
 pub record Comes (file : ℕ) (H : TokenRequest → Type 0) (C : Message → Type 0) (t : ServerState) : Type 0 where
@@ -74,8 +101,13 @@ comes-weaker file H G C D t to told c = record {
 
 -- the commands that it may make of them
 pub record Makes (file : ℕ) (H : TokenRequest → Type 0) (C : Message → Type 0) : Type 0 where
+<<<<<<< HEAD
   pub grants : (number : ℕ) (call : CallId) (mode : Mode) (span : Range) → C (Grant file number call mode span)
   pub revokes : (number : ℕ) (holder : Host) (r : TokenRequest) (desired : Range) → H r → (holder.node ≡ r.call.node → ⊥) → C (Revoke file number holder r.call r.mode (record { required = r.wanted.required; desired = desired }))
+=======
+  pub grants : (number : ℕ) (r : TokenRequest) (span : Range) → H r → span.hi ≤ max r.wanted.required.hi r.wanted.desired.hi → C (Grant file number r.call r.mode span)
+  pub revokes : (number : ℕ) (holder : Host) (r : TokenRequest) → H r → (holder.node ≡ r.call.node → ⊥) → C (Revoke file number holder r.call r.mode r.wanted)
+>>>>>>> ab91a2a (sketch definitions and proofs)
 
 -- it may send the denial of a call whose request it serves, where that may not wait
 abbrev pub MayDeny : (TokenRequest → Type 0) → (Message → Type 0) → CallId → Message → Type 0
@@ -116,7 +148,7 @@ module _ (file : ℕ) (H : TokenRequest → Type 0) (C : Message → Type 0) (ma
   }
 
   with_a_row-comes : (t : ServerState) (call : CallId) (o : Option Row) → Comes file H C t → Comes file H C (with_a_row t call o)
-  with_a_row-comes t call None c = with_row-comes t call.node (empty_row call.incarnation) (λ m h. absurd (none-some m h)) c
+  with_a_row-comes t call None c = with_row-comes t call.node (empty_row (begin t) call.incarnation) (λ m h. absurd (none-some m h)) c
   with_a_row-comes t call (Some row) c = c
 
   enqueued-comes : (t : ServerState) (r : TokenRequest) → H r → Comes file H C t → Comes file H C (enqueued t r)
@@ -190,6 +222,15 @@ module _ (file : ℕ) (H : TokenRequest → Type 0) (C : Message → Type 0) (ma
         | Some mode ↦ changes_one (made mode) (postponed-comes next call (acknowledged-comes t holder.node row row.token c), denial-sends call deny (request_of call t.active) (find-each H (is_of_call call) t.active (requests-parts H t c.held).active) (find-passes (is_of_call call) t.active) here)
       ]
 
+  heard-changes : (t : ServerState) (number : ℕ) (holder : Host) (runs : List TokenRun) (o : Option Row) → Comes file H C t → Changes (heard t number holder runs o)
+  heard-changes t number holder runs None c = changes_none
+  heard-changes t number holder runs (Some row) c =
+      let next = acknowledged t holder.node row (reported runs) in
+      elim (asks_token number row.outstanding) as (λ b. Changes (if b then Some (next, []) else None)) [
+        | true ↦ changes_one (next, []) (acknowledged-comes t holder.node row (reported runs) c, All-nil C)
+        | false ↦ changes_none
+      ]
+
   delivered-changes : (t : ServerState) (m : Message) → Tells file H C m → Comes file H C t → Changes (delivered t m)
   delivered-changes t (Request f call urgency mode wanted) told c =
       let r : TokenRequest = record { call = call; urgency = urgency; mode = mode; wanted = wanted } in
@@ -200,6 +241,8 @@ module _ (file : ℕ) (H : TokenRequest → Type 0) (C : Message → Type 0) (ma
   delivered-changes t (Freed f holder) told c =
       let row = row_of_host t holder in
       changes_one (freed t row, []) (freed-comes t row c, All-nil C)
+  delivered-changes t (Report f number holder runs) told c = heard-changes t number holder runs (row_of_host t holder) c
+  delivered-changes t (Hello f number holder) told c = changes_none
   delivered-changes t (Grant f number call mode span) told c = changes_none
   delivered-changes t (Revoke f number holder call mode wanted) told c = changes_none
   delivered-changes t (Deny f call holder number lock) told c = changes_none
@@ -218,13 +261,13 @@ module _ (file : ℕ) (H : TokenRequest → Type 0) (C : Message → Type 0) (ma
   commanded-serves t node row token command told c =
       let next = record row { token = token; number = row.number + 1; outstanding = Some command } in
       if_either Serves (is_some row.outstanding) _ _ (serves_one (t, []) (c, All-nil C))
-      (if_either Serves (nat_lt row.number greatest_number) _ _ (serves_one (with_row t node (Some next), command ∷ []) (with_row-comes t node next (λ m h. subst C (same_Some command m h) told) c, All-cons C command [] told (All-nil C))) (serves_none Spent))
+      (if_either Serves (nat_lt row.number (begin t + greatest_number)) _ _ (serves_one (with_row t node (Some next), command ∷ []) (with_row-comes t node next (λ m h. subst C (same_Some command m h) told) c, All-cons C command [] told (All-nil C))) (serves_none Spent))
 
-  granted-serves : (t : ServerState) (r : TokenRequest) (o : Option Row) → Comes file H C t → Serves (granted_to t r o)
-  granted-serves t r None c = serves_one (t, []) (c, All-nil C)
-  granted-serves t r (Some row) c =
+  granted-serves : (t : ServerState) (r : TokenRequest) (o : Option Row) → H r → Comes file H C t → Serves (granted_to t r o)
+  granted-serves t r None held c = serves_one (t, []) (c, All-nil C)
+  granted-serves t r (Some row) held c =
       let span = granted_span t r in
-      commanded-serves t r.call.node row (raised row.token span r.mode) (Grant t.file (row.number + 1) r.call r.mode span) (subst (λ (f : ℕ). C (Grant f (row.number + 1) r.call r.mode span)) (sym c.file_is) (makes.grants (row.number + 1) r.call r.mode span)) c
+      commanded-serves t r.call.node row (raised row.token span r.mode) (Grant t.file (row.number + 1) r.call r.mode span) (subst (λ (f : ℕ). C (Grant f (row.number + 1) r.call r.mode span)) (sym c.file_is) (makes.grants (row.number + 1) r span held (around_end (is_taken t r) r.wanted.required r.wanted.desired))) c
 
   revoked-serves : (t : ServerState) (r : TokenRequest) (node : ℕ) (o : Option Row) → H r → (node ≡ r.call.node → ⊥) → Comes file H C t → Serves (revoked_from t r node o)
   revoked-serves t r node None held other c = serves_one (t, []) (c, All-nil C)
@@ -237,8 +280,13 @@ module _ (file : ℕ) (H : TokenRequest → Type 0) (C : Message → Type 0) (ma
   served-serves t r held c =
       let node = conflicting_node t r in
       elim (nat_le node t.shape.nodes) as (λ b. nat_le node t.shape.nodes ≡ b → Serves (if b then revoked_from t r node (t.rows node) else granted_to t r (t.rows r.call.node))) [
+<<<<<<< HEAD
         | true ↦ λ h. revoked-serves t r node (t.rows node) held (other_node t r h) c
         | false ↦ λ h. granted-serves t r (t.rows r.call.node) c
+=======
+        | true ↦ λ h. revoked-serves t r node (t.rows node) (active-each H t c.held r is) (other_node t r h) c
+        | false ↦ λ h. granted-serves t r (t.rows r.call.node) (active-each H t c.held r is) c
+>>>>>>> ab91a2a (sketch definitions and proofs)
       ] refl
 
   -- one after the other
@@ -264,8 +312,13 @@ module _ (file : ℕ) (H : TokenRequest → Type 0) (C : Message → Type 0) (ma
 
   serve-serves : (t : ServerState) → Comes file H C t → Serves (serve t)
   serve-serves t c =
+<<<<<<< HEAD
       let next = ready-comes t c in
       each-serves (ready t).active (ready t) (active-each H (ready t) next.held) next
+=======
+      let next = admitted t t.active t.queue in
+      if_either Serves (awaits t) _ _ (serves_one (t, []) (c, All-nil C)) (served-serves next next.active refl (admitted-comes t c))
+>>>>>>> ab91a2a (sketch definitions and proofs)
 
   -- a step of the server
   abbrev pub Steps : Result (ServerState × Outcome) StepError → Type 0

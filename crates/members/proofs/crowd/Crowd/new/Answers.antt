@@ -2,7 +2,7 @@ use Rattle.std.proofs.Common.{arith, true, refl}
 use Rattle.members.specs.Parts.{incarnation_of}
 use Rattle.members.proofs.Numbered.{begun_empty, begun_more}
 use Rattle.members.proofs.Rules.{first_is_first}
-use Rattle.members.proofs.members.Members.new.Goals as goal
+use Rattle.members.proofs.crowd.Crowd.new.Goals as goal
 
 pub loop-index-init : goal.loop-index-init
 loop-index-init c =
@@ -15,4 +15,4 @@ loop-index-preserved c = record {
 }
 
 pub returns : goal.returns
-returns c = first_is_first _ _ (omega (arith, c.loop-index.invariant.alive.there, c.loop-index-test.false, c.loop-index.auto.index-end, c.nodes-index-end.ensures.value)) c.loop-index.invariant.alive.first c.loop-index.invariant.first.first
+returns c = first_is_first _ _ (omega (arith, c.loop-index.invariant.alive.there, c.loop-index-test.false, c.loop-index.auto.index-end)) c.loop-index.invariant.alive.first c.loop-index.invariant.first.first

@@ -1,7 +1,7 @@
 use Rattle.std.proofs.Common.{true}
 use Rattle.members.specs.Parts.{incarnation_of}
 use Rattle.members.proofs.Numbered.{Begun}
-use Rattle.members.proofs.members.Members.new.Given as goal
+use Rattle.members.proofs.crowd.Crowd.new.Given as goal
 
 abbrev pub invariant-loop-index : goal.invariant-loop-index
 invariant-loop-index l = record {
