@@ -125,12 +125,14 @@ unfolding runs_from
 runs_tell t b zero = (tt, λ x. ap (λ (c : Bool). if c then t x else None) (sym (false_from_ne_true (within b zero x) (λ h. let both = and_parts (nat_le b x) (nat_lt x (b + zero)) h in let low = leb-true b x both.0 in let high = below x (b + zero) both.1 in omega arith))))
 runs_tell t b (suc n) =
     let rest = runs_tell t (b + 1) n in
-    let none : reported (runs_from t (b + 1) n) b ≡ None = rest.1 b ∙ ap (λ (c : Bool). if c then t b else None) (false_from_ne_true (within (b + 1) n b) (λ h. let low = leb-true (b + 1) b (and_parts (nat_le (b + 1) b) (nat_lt b (b + 1 + n)) h).0 in omega arith)) in
-    (joined_ordered b (t b) (runs_from t (b + 1) n) rest.0, λ x.
-    joined_tells b (t b) (runs_from t (b + 1) n) x rest.0 none
-    ∙ at_number x b (λ c. (if c then t b else reported (runs_from t (b + 1) n) x) ≡ (if within b (suc n) x then t x else None))
-    (λ same. ap t (sym same) ∙ ap (λ (c : Bool). if c then t x else None) (sym (and_from (nat_le b x) (nat_lt x (b + suc n)) (le-leb b x (omega arith)) (ltb-from x (b + suc n) (omega arith)))))
-    (λ other. rest.1 x ∙ ap (λ (c : Bool). if c then t x else None) (one_more x other)))
+    let none : reported (runs_from t (b + 1) n) b ≡ None = rest.1 b ∙ ap (λ (c : Bool). if c then t b else None) (false_from_ne_true (within (b + 1) n b) (λ h. let low = leb-true (b + 1) b (and_parts (nat_le (b + 1) b) (nat_lt b (b + 1 + n)) h).0 in omega arith)) in (
+      joined_ordered b (t b) (runs_from t (b + 1) n) rest.0,
+      λ x.
+          joined_tells b (t b) (runs_from t (b + 1) n) x rest.0 none
+          ∙ at_number x b (λ c. (if c then t b else reported (runs_from t (b + 1) n) x) ≡ (if within b (suc n) x then t x else None))
+          (λ same. ap t (sym same) ∙ ap (λ (c : Bool). if c then t x else None) (sym (and_from (nat_le b x) (nat_lt x (b + suc n)) (le-leb b x (omega arith)) (ltb-from x (b + suc n) (omega arith)))))
+          (λ other. rest.1 x ∙ ap (λ (c : Bool). if c then t x else None) (one_more x other)),
+    )
   where
     one_more : (x : ℕ) → (x ≡ b → ⊥) → within (b + 1) n x ≡ within b (suc n) x
     one_more x other = elim (cases_lt x b) [

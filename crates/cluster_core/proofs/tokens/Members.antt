@@ -104,11 +104,11 @@ module _ (w : WorldState) (p : Present w) (n : ℕ) where
         let k = (host_of m).node in
         let known = p.no_future m sent in (
           at_number k n (λ b. (host_of m).incarnation ≤ (if b then fresh else w.nodes k).incarnation)
-          (λ same. let old = none_later m sent same in omega arith)
-          (λ other. known.0),
+              (λ same. let old = none_later m sent same in omega arith)
+              (λ other. known.0),
           at_number k n (λ b. (host_of m).incarnation ≡ (if b then fresh else w.nodes k).incarnation → (has_node w k && (if b then false else w.alive k)) ≡ true)
-          (λ same is. let old = none_later m sent same in absurd (omega arith))
-          (λ other. known.1),
+              (λ same is. let old = none_later m sent same in absurd (omega arith))
+              (λ other. known.1),
         );
     serves = begins_serves;
     apart = begins_apart;
@@ -123,8 +123,8 @@ module _ (w : WorldState) (p : Present w) (n : ℕ) where
         let known = p.no_future m sent in (
           known.0,
           λ is. at_number k n (λ b. (has_node w k && (if b then true else w.alive k)) ≡ true)
-          (λ same. let parts = and_parts (has_node w k) (w.alive k) (known.1 is) in and_from (has_node w k) true parts.0 refl)
-          (λ other. known.1 is),
+              (λ same. let parts = and_parts (has_node w k) (w.alive k) (known.1 is) in and_from (has_node w k) true parts.0 refl)
+              (λ other. known.1 is),
         );
     serves = p.serves;
     apart = p.apart;
