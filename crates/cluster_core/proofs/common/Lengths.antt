@@ -1,13 +1,6 @@
 -- How many entries a run has.
-<<<<<<< HEAD
-use Rattle.std.proofs.Common.{◌≡◌, ℕ, ◌+◌, refl, sym, ◌∙◌, ap, arith, nat_le, List, [], ◌∷◌, length, Result, Ok, Err}
-use Rattle.messages.specs.Messages.{addressee}
-=======
-use Rattle.std.proofs.Common.{◌≡◌, ℕ, ◌+◌, ◌<◌, ◌≤◌, Bool, true, false, not, if◌then◌else◌, refl, sym, ◌∙◌, ap, arith, nat_le, nat_lt, List, [], ◌∷◌, length, Result, Ok, Err}
-use Rattle.std.proofs.lemmas.Bool.Decides.{nat_tests}
-use Rattle.messages.specs.Shapes.{ShapeFields}
+use Rattle.std.proofs.Common.{◌≡◌, ℕ, ◌+◌, refl, sym, ◌∙◌, ap, arith, nat_le, nat_lt, List, [], ◌∷◌, length, Result, Ok, Err}
 use Rattle.messages.specs.Messages.{addressee, sending}
->>>>>>> ab91a2a (sketch definitions and proofs)
 use Rattle.messages.specs.declared.actor.Actor.{Actor}
 use Rattle.messages.specs.declared.actor.Actor.TheVariants.{Node as ANode, Server as AServer}
 use Rattle.messages.specs.declared.message.Message.{Message}
@@ -26,15 +19,9 @@ use Rattle.token_server.specs.declared.event.ServerEvent.TheVariants as server
 use Rattle.token_server.specs.State.{ServerState}
 use Rattle.token_server.specs.Resends.{outstanding}
 use Rattle.token_server.specs.Server.{server_rule}
-<<<<<<< HEAD
 use Rattle.cluster_core.specs.World.{WorldState, most_incarnations}
-use Rattle.cluster_core.specs.Next.{next, taken, delivered, after_node, after_server, recorded, named_incarnation, with_node, with_server, declared, restarted, silent}
+use Rattle.cluster_core.specs.Next.{next, taken, delivered, after_node, after_server, recorded, named_incarnation, with_node, with_server, declared, restarted, silent, failed, started, next_server}
 use Rattle.cluster_core.specs.Runs.{Leads}
-=======
-use Rattle.cluster_core.specs.World.{WorldState, first_world, journal_limit, most_incarnations}
-use Rattle.cluster_core.specs.Next.{next, is_known, taken, delivered, after_node, after_server, recorded, named_incarnation, with_node, with_server, is_fenced, declared, restarted, silent, failed, started, next_server}
-use Rattle.cluster_core.specs.Runs.{Leads, IsRun}
->>>>>>> ab91a2a (sketch definitions and proofs)
 use Rattle.cluster_core.proofs.common.Choices.{if_either}
 use Rattle.cluster_core.proofs.steps.Steps.{next_taken}
 

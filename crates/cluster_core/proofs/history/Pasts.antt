@@ -381,11 +381,10 @@ module _ (shape : ShapeFields) (past : List Entry) (w : WorldState) (few : IsNum
 
   -- a step of a server
   makes : (file : ℕ) → Makes file (HeldFor shape past file) (Backed shape past w)
-<<<<<<< HEAD
-  makes file = record { grants = λ number call mode span. tt; revokes = λ number holder r desired held other. (held.0, other) }
-=======
-  makes file = record { grants = λ number r span held bound. let asked = asked_ends shape past file r.call r.mode r.wanted.required held.0 in let likes = held.2 in omega arith; revokes = λ number holder r held other. (held.0, other) }
->>>>>>> ab91a2a (sketch definitions and proofs)
+  makes file = record {
+    grants = λ number r span held bound. let asked = asked_ends shape past file r.call r.mode r.wanted.required held.0 in let likes = held.2 in omega arith;
+    revokes = λ number holder r desired held other. (held.0, other);
+  }
 
   abbrev Serves : ℕ → Result (ServerState × Outcome) StepError → Type 0
   Serves file r = (done : ServerState × Outcome) → r ≡ Ok done → Comes file (HeldFor shape past file) (Backed shape past w) done.0 × All (Backed shape past w) done.1.sends
@@ -441,9 +440,11 @@ module _ (shape : ShapeFields) (past : List Entry) (w : WorldState) (few : IsNum
 
   start_good : (event : Event) → IsNoDeclaration event → (file : ℕ) → After event (recorded (started w file) event ((w.servers file).epoch + 1) (sending (outstanding (next_server w file))))
   start_good event undeclared file made_so safe =
-      let t = next_server w file in
-      (few, servers_good shape past w (with_server w file t).servers (started w file).working event ((w.servers file).epoch + 1) (sending (outstanding t)) refl refl undeclared g made_so (put_comes shape past w file t g (rebuilt_comes file))
-      (mapped (Backed shape past w) (λ n. outstanding_of (t.rows n)) (range_with_len 1 t.shape.nodes) (λ n m h. rebuilt_outstanding file n m h)))
+      let t = next_server w file in (
+        few,
+        servers_good shape past w (with_server w file t).servers (started w file).working event ((w.servers file).epoch + 1) (sending (outstanding t)) refl refl undeclared g made_so (put_comes shape past w file t g (rebuilt_comes file))
+            (mapped (Backed shape past w) (λ n. outstanding_of (t.rows n)) (range_with_len 1 t.shape.nodes) (λ n m h. rebuilt_outstanding file n m h)),
+      )
 
   taken_good : (event : Event) (p : WorldState × Entry) → is_known w event ≡ true → taken w event ≡ Ok p → After event p
   taken_good (Call n pid op) p known h =

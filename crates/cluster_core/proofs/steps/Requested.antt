@@ -1,21 +1,12 @@
 -- What a token server keeps and sends comes of what it is told.
-<<<<<<< HEAD
-use Rattle.std.specs.Prelude.{IfSome, is_some, nat_le, nat_lt, ◌==◌, filter, filter_map, option_map}
-=======
-use Rattle.std.specs.Prelude.{max, pred, IfSome, is_some, nat_le, nat_lt, ◌==◌, filter_map, option_map}
->>>>>>> ab91a2a (sketch definitions and proofs)
+use Rattle.std.specs.Prelude.{max, pred, IfSome, is_some, nat_le, nat_lt, ◌==◌, filter, filter_map, option_map}
 use Rattle.std.specs.List.{range_with_len, cons_option}
 use Rattle.std.proofs.Common.{◌≡◌, ℕ, ◌+◌, ◌-◌, ◌≤◌, Bool, true, false, not, ◌&&◌, if◌then◌else◌, ◌⊎◌, inl, inr, refl, sym, ◌∙◌, ap, subst, arith, List, [], ◌∷◌, ◌++◌, All, Option, Some, None, Result, Ok, Err}
 use Rattle.std.proofs.lemmas.Bool.{and_parts, both_ways, leb-true, eq-eqb, not-true}
 use Rattle.std.proofs.lemmas.Option.{none-some, same_Some}
-<<<<<<< HEAD
 use Rattle.std.proofs.lemmas.List.Elements.{All-nil, All-cons, All-head, All-tail, All-append, All-weaker}
-use Rattle.intervals.specs.Bytes.{Range}
-=======
-use Rattle.std.proofs.lemmas.List.Elements.{All-nil, All-cons, All-append, All-weaker}
 use Rattle.intervals.specs.Bytes.{Range, largest_around}
 use Rattle.intervals.specs.Search.{first}
->>>>>>> ab91a2a (sketch definitions and proofs)
 use Rattle.intervals.proofs.SearchLaws.{first_is_first}
 use Rattle.model.specs.declared.call.CallId.{CallId}
 use Rattle.model.specs.declared.host.Host.{Host}
@@ -36,20 +27,12 @@ use Rattle.messages.specs.declared.refusal.StepError.TheVariants.{Stranger, Spen
 use Rattle.messages.specs.Messages.{addressee, host_of, is_within, greatest_number, same_urgency, sending}
 use Rattle.token_queue.specs.declared.token_request.TokenRequest.{TokenRequest}
 use Rattle.token_server.specs.declared.event.ServerEvent.TheVariants.{Deliver, Resend, Learn}
-<<<<<<< HEAD
 use Rattle.token_queue.specs.Requests.{is_of_call}
-use Rattle.token_server.specs.State.{Row, ServerState, empty_row, with_row, row_above, forgotten, requests, requeued}
-use Rattle.token_server.specs.Serve.{row_conflicts, narrowed, conflicting_node, granted_span, commanded, granted_to, revoked_from, served, with_more, and_then, each_served, ready, serve}
+use Rattle.token_server.specs.State.{Row, ServerState, empty_row, begin, awaits, with_row, row_above, forgotten, requests, requeued}
+use Rattle.token_server.specs.Serve.{row_conflicts, is_needed, narrowed, is_taken, conflicting_node, granted_span, commanded, granted_to, revoked_from, served, with_more, and_then, each_served, ready, serve}
 use Rattle.token_server.specs.Resends.{outstanding_of, outstanding, sending_first}
-use Rattle.token_server.specs.Server.{Change, with_a_row, request_of, enqueued, asked, is_grant, revoked_mode, acknowledged, ended, put_off, postponed, denial, taken, released, in_conflict, row_of_host, freed, delivered, is_server, change, then_serve, server_rule}
+use Rattle.token_server.specs.Server.{Change, with_a_row, request_of, enqueued, asked, is_grant, revoked_mode, acknowledged, ended, put_off, postponed, denial, taken, released, in_conflict, asks_token, heard, row_of_host, freed, delivered, is_server, change, then_serve, server_rule}
 use Rattle.token_server.proofs.CareLaws.{find-each, find-passes, requests-parts, active-each, ready-each, requeued-each, freed-each, ended-each, postponed-each, forgotten-each, enqueued-each}
-=======
-use Rattle.token_server.specs.State.{Row, ServerState, empty_row, begin, awaits, with_row, is_of_call, row_above, unless, forgotten, requests, requeued}
-use Rattle.token_server.specs.Serve.{admitted, row_conflicts, conflicting_node, is_taken, granted_span, commanded, granted_to, revoked_from, served, serve}
-use Rattle.token_server.specs.Resends.{outstanding_of, outstanding, sending_first}
-use Rattle.token_server.specs.Server.{Change, with_a_row, enqueued, asked, is_grant, revoked_mode, acknowledged, ended, put_off, postponed, denial, taken, released, in_conflict, asks_token, heard, row_of_host, freed, delivered, is_server, change, then_serve, server_rule}
-use Rattle.token_server.proofs.CareLaws.{requests-parts, active-each, admitted-each, requeued-each, freed-each, ended-each, postponed-each, forgotten-each, enqueued-each}
->>>>>>> ab91a2a (sketch definitions and proofs)
 use Rattle.cluster_core.proofs.common.Choices.{if_either}
 use Rattle.cluster_core.proofs.common.Refusals.{ok_is, if_ours}
 use Rattle.cluster_core.proofs.steps.ServerMoves.{WhateverRequests, enqueued-stays, freed-stays, ready-stays}
@@ -86,6 +69,13 @@ around_end barred required within = before (first barred (required.hi + 1) (with
     before : (k r w : ℕ) → k ≤ r + 1 + (w - r) → pred k ≤ max r w
     before k r w h = omega arith
 
+-- so does what a request is granted
+granted_end : (t : ServerState) (r : TokenRequest) → (granted_span t r).hi ≤ max r.wanted.required.hi r.wanted.desired.hi
+granted_end t r =
+    let likes = around_end (is_needed t.active r) r.wanted.required r.wanted.desired in
+    let free = around_end (is_taken t r) r.wanted.required (narrowed t.active r) in
+    omega arith
+
 -- the requests that a server keeps are of one kind, its commands of another
 pub record Comes (file : ℕ) (H : TokenRequest → Type 0) (C : Message → Type 0) (t : ServerState) : Type 0 where
   pub file_is : t.file ≡ file
@@ -101,13 +91,8 @@ comes-weaker file H G C D t to told c = record {
 
 -- the commands that it may make of them
 pub record Makes (file : ℕ) (H : TokenRequest → Type 0) (C : Message → Type 0) : Type 0 where
-<<<<<<< HEAD
-  pub grants : (number : ℕ) (call : CallId) (mode : Mode) (span : Range) → C (Grant file number call mode span)
-  pub revokes : (number : ℕ) (holder : Host) (r : TokenRequest) (desired : Range) → H r → (holder.node ≡ r.call.node → ⊥) → C (Revoke file number holder r.call r.mode (record { required = r.wanted.required; desired = desired }))
-=======
   pub grants : (number : ℕ) (r : TokenRequest) (span : Range) → H r → span.hi ≤ max r.wanted.required.hi r.wanted.desired.hi → C (Grant file number r.call r.mode span)
-  pub revokes : (number : ℕ) (holder : Host) (r : TokenRequest) → H r → (holder.node ≡ r.call.node → ⊥) → C (Revoke file number holder r.call r.mode r.wanted)
->>>>>>> ab91a2a (sketch definitions and proofs)
+  pub revokes : (number : ℕ) (holder : Host) (r : TokenRequest) (desired : Range) → H r → (holder.node ≡ r.call.node → ⊥) → C (Revoke file number holder r.call r.mode (record { required = r.wanted.required; desired = desired }))
 
 -- it may send the denial of a call whose request it serves, where that may not wait
 abbrev pub MayDeny : (TokenRequest → Type 0) → (Message → Type 0) → CallId → Message → Type 0
@@ -267,7 +252,7 @@ module _ (file : ℕ) (H : TokenRequest → Type 0) (C : Message → Type 0) (ma
   granted-serves t r None held c = serves_one (t, []) (c, All-nil C)
   granted-serves t r (Some row) held c =
       let span = granted_span t r in
-      commanded-serves t r.call.node row (raised row.token span r.mode) (Grant t.file (row.number + 1) r.call r.mode span) (subst (λ (f : ℕ). C (Grant f (row.number + 1) r.call r.mode span)) (sym c.file_is) (makes.grants (row.number + 1) r span held (around_end (is_taken t r) r.wanted.required r.wanted.desired))) c
+      commanded-serves t r.call.node row (raised row.token span r.mode) (Grant t.file (row.number + 1) r.call r.mode span) (subst (λ (f : ℕ). C (Grant f (row.number + 1) r.call r.mode span)) (sym c.file_is) (makes.grants (row.number + 1) r span held (granted_end t r))) c
 
   revoked-serves : (t : ServerState) (r : TokenRequest) (node : ℕ) (o : Option Row) → H r → (node ≡ r.call.node → ⊥) → Comes file H C t → Serves (revoked_from t r node o)
   revoked-serves t r node None held other c = serves_one (t, []) (c, All-nil C)
@@ -280,13 +265,8 @@ module _ (file : ℕ) (H : TokenRequest → Type 0) (C : Message → Type 0) (ma
   served-serves t r held c =
       let node = conflicting_node t r in
       elim (nat_le node t.shape.nodes) as (λ b. nat_le node t.shape.nodes ≡ b → Serves (if b then revoked_from t r node (t.rows node) else granted_to t r (t.rows r.call.node))) [
-<<<<<<< HEAD
         | true ↦ λ h. revoked-serves t r node (t.rows node) held (other_node t r h) c
-        | false ↦ λ h. granted-serves t r (t.rows r.call.node) c
-=======
-        | true ↦ λ h. revoked-serves t r node (t.rows node) (active-each H t c.held r is) (other_node t r h) c
-        | false ↦ λ h. granted-serves t r (t.rows r.call.node) (active-each H t c.held r is) c
->>>>>>> ab91a2a (sketch definitions and proofs)
+        | false ↦ λ h. granted-serves t r (t.rows r.call.node) held c
       ] refl
 
   -- one after the other
@@ -312,13 +292,8 @@ module _ (file : ℕ) (H : TokenRequest → Type 0) (C : Message → Type 0) (ma
 
   serve-serves : (t : ServerState) → Comes file H C t → Serves (serve t)
   serve-serves t c =
-<<<<<<< HEAD
       let next = ready-comes t c in
-      each-serves (ready t).active (ready t) (active-each H (ready t) next.held) next
-=======
-      let next = admitted t t.active t.queue in
-      if_either Serves (awaits t) _ _ (serves_one (t, []) (c, All-nil C)) (served-serves next next.active refl (admitted-comes t c))
->>>>>>> ab91a2a (sketch definitions and proofs)
+      if_either Serves (awaits t) _ _ (serves_one (t, []) (c, All-nil C)) (each-serves (ready t).active (ready t) (active-each H (ready t) next.held) next)
 
   -- a step of the server
   abbrev pub Steps : Result (ServerState × Outcome) StepError → Type 0

@@ -2,8 +2,7 @@
 use Rattle.std.specs.Prelude.{max, nat_le, nat_lt, ◌==◌, not, filter, is_some, option_map, IfSome}
 use Rattle.std.specs.List.{All}
 use Rattle.std.proofs.Common.{◌≡◌, ℕ, ◌+◌, ◌-◌, ◌<◌, ◌≤◌, Bool, true, false, if◌then◌else◌, ◌⊎◌, inl, inr, refl, sym, ◌∙◌, ap, subst, arith, List, [], ◌∷◌, ◌++◌, Option, Some, None, Result, Ok, Err}
-use Rattle.std.proofs.lemmas.Bool.{both_ways, cases_Bool, cases_lt, and_parts, and_from, eqb-true, eq-eqb, ne_eqb, leb-true, leb-false, le-leb, lt-leb, not-true, not_from_false, false_from_ne_true}
-use Rattle.std.proofs.lemmas.Bool.Decides.{nat_tests}
+use Rattle.std.proofs.lemmas.Bool.{both_ways, cases_Bool, cases_lt, and_parts, and_from, eqb-true, eq-eqb, ne_eqb, leb-true, leb-false, ltb-true, le-leb, lt-leb, not-true, not_from_false, false_from_ne_true}
 use Rattle.std.proofs.lemmas.Option.{same_Some, none-some}
 use Rattle.std.proofs.lemmas.List.Elements.{All-weaker}
 use Rattle.intervals.specs.Search.{first}
@@ -31,20 +30,12 @@ use Rattle.messages.specs.Shapes.{ShapeFields}
 use Rattle.node_core.specs.State.{NodeState}
 use Rattle.token_queue.specs.declared.token_request.TokenRequest.{TokenRequest}
 use Rattle.token_server.specs.declared.event.ServerEvent.TheVariants.{Deliver}
-<<<<<<< HEAD
 use Rattle.token_queue.specs.Requests.{is_of_call, is_up_to}
-use Rattle.token_server.specs.State.{Row, ServerState, empty_row, with_row, row_above, forgotten, requests, requeued}
-use Rattle.token_server.specs.Serve.{row_conflicts, row_conflicts_at, is_taken, narrowed, granted_span, conflicting_node, commanded, granted_to, revoked_from, served, ready, serve}
+use Rattle.token_server.specs.State.{Row, ServerState, empty_row, begin, is_hello, is_awaited, awaits, with_row, row_above, forgotten, requests, requeued}
+use Rattle.token_server.specs.Serve.{row_conflicts, row_conflicts_at, is_taken, narrowed, granted_span, conflicting_node, commanded, granted_to, revoked_from, served, each_served, ready, serve}
 use Rattle.token_server.specs.Resends.{sending_first}
-use Rattle.token_server.specs.Server.{Change, with_a_row, request_of, enqueued, is_grant, revoked_mode, asked, acknowledged, ended, put_off, postponed, denial, row_of_incarnation, row_of_host, taken, released, in_conflict, freed, delivered, change, then_serve, server_rule}
+use Rattle.token_server.specs.Server.{Change, with_a_row, request_of, enqueued, is_grant, revoked_mode, asked, acknowledged, ended, put_off, postponed, denial, row_of_incarnation, row_of_host, taken, released, in_conflict, asks_token, heard, freed, delivered, change, then_serve, server_rule}
 use Rattle.token_server.proofs.CareLaws.{find-each, find-passes, active-each, ready-each, requeued-each, freed-each, ended-each, postponed-each, forgotten-each, forgotten-young, enqueued-each}
-=======
-use Rattle.token_server.specs.State.{Row, ServerState, empty_row, begin, is_hello, is_awaited, awaits, with_row, is_of_call, is_up_to, row_above, unless, forgotten, requests, requeued}
-use Rattle.token_server.specs.Serve.{admitted, row_conflicts, row_conflicts_at, is_taken, granted_span, conflicting_node, commanded, granted_to, revoked_from, served, serve}
-use Rattle.token_server.specs.Resends.{sending_first}
-use Rattle.token_server.specs.Server.{Change, with_a_row, enqueued, is_grant, revoked_mode, asked, acknowledged, ended, put_off, postponed, denial, row_of_incarnation, row_of_host, taken, released, in_conflict, asks_token, heard, freed, delivered, change, then_serve, server_rule}
-use Rattle.token_server.proofs.CareLaws.{active-each, admitted-each, requeued-each, freed-each, ended-each, postponed-each, forgotten-each, forgotten-young, enqueued-each}
->>>>>>> ab91a2a (sketch definitions and proofs)
 use Rattle.token_server.proofs.GrantLaws.{conflicts_at, conflicts_at_byte, row_free}
 use Rattle.cluster_core.proofs.common.Choices.{if_either, at_number}
 use Rattle.cluster_core.proofs.common.Refusals.{ok_is}
@@ -53,7 +44,8 @@ use Rattle.cluster_core.proofs.steps.ServerMoves.{WhateverRequests, enqueued-sta
 use Rattle.cluster_core.proofs.steps.Requested.{change_done}
 use Rattle.cluster_core.proofs.tokens.Clearing.{around_free}
 use Rattle.cluster_core.proofs.tokens.Talks.{Sent, IsCommandTo, IsAnswerOf, IsHostOf, promised, settled, unasked, in_epoch, Talk}
-use Rattle.cluster_core.proofs.tokens.TalkMoves.{talk-forgets, talk-row, talk-answered, talk-heard, is_answer, cleared_row, answered_row, commanded_row}
+use Rattle.cluster_core.proofs.tokens.TalkMoves.{is_answer}
+use Rattle.cluster_core.proofs.tokens.RowMoves.{talk-forgets, talk-row, talk-answered, talk-heard, cleared_row, answered_row, commanded_row}
 use Rattle.cluster_core.proofs.steps.NodeTokens.{Only, only_none, only_one}
 
 -- what a server and the nodes know of each other
@@ -256,43 +248,21 @@ module _ (was : Sent) (nodes : ℕ → NodeState) (shape : ShapeFields) (file : 
   pub postpones : (call : CallId) → Serves was nodes shape file (postponed call t)
   postpones call = moves (filter (λ r. not (is_of_call call r)) t.active) t.queue (t.waiting ++ put_off (request_of call t.active)) (postponed-each (IsCurrent t) call t serves.held)
 
-<<<<<<< HEAD
-  -- a denial is of a call of a live incarnation
-  denies : (call : CallId) (holder : Host) (number : ℕ) (lock : LockInfo) (own : Option TokenRequest) → IfSome own (IsCurrent t) → IfSome own (λ r. is_of_call call r ≡ true) → Only (IsDenial nodes) (denial (Deny t.file call holder number lock) own)
-  denies call holder number lock None current is = only_none (IsDenial nodes)
-  denies call holder number lock (Some r) current is =
+  -- a denial is of a call of a node that is known
+  denies : (known : Host → Type 0) → ((m : Message) → was m → known (host_of m)) → (call : CallId) (holder : Host) (number : ℕ) (lock : LockInfo) (own : Option TokenRequest) → IfSome own (IsCurrent t) → IfSome own (λ r. is_of_call call r ≡ true) → Only (IsDenial known) (denial (Deny t.file call holder number lock) own)
+  denies known all_known call holder number lock None current is = only_none (IsDenial known)
+  denies known all_known call holder number lock (Some r) current is =
       let deny = Deny t.file call holder number lock in
       let same = and_parts (r.call.node == call.node) _ is in
       let node : r.call.node ≡ call.node = eqb-true r.call.node call.node same.0 in
       let incarnation : r.call.incarnation ≡ call.incarnation = eqb-true r.call.incarnation call.incarnation (and_parts (r.call.incarnation == call.incarnation) _ same.1).0 in
-      let of = current.of in
-      let lives = (serves.talks r.call.node).lives in
-      let live : call.incarnation ≤ (nodes r.call.node).incarnation = omega arith in
-      if_either (Only (IsDenial nodes)) (same_urgency r.urgency Now) _ _
-      (only_one (IsDenial nodes) deny (subst (λ (k : ℕ). call.incarnation ≤ (nodes k).incarnation) node live))
-      (only_none (IsDenial nodes))
-=======
-  -- a denial is of a call of a node that is known
-  denies : (known : Host → Type 0) → ((m : Message) → was m → known (host_of m)) → (call : CallId) (holder : Host) (number : ℕ) (lock : LockInfo) (active : Option TokenRequest) → t.active ≡ active → Only (IsDenial known) (denial call (Deny t.file call holder number lock) active)
-  denies known all_known call holder number lock None is = only_none (IsDenial known)
-  denies known all_known call holder number lock (Some r) is =
-      let deny = Deny t.file call holder number lock in
-      elim (is_of_call call r && same_urgency r.urgency Now) as (λ b. (is_of_call call r && same_urgency r.urgency Now) ≡ b → Only (IsDenial known) (if b then deny ∷ [] else [])) [
-        | true ↦ λ h.
-            let same = and_parts (r.call.node == call.node) _ (and_parts (is_of_call call r) (same_urgency r.urgency Now) h).0 in
-            let node : r.call.node ≡ call.node = eqb-true r.call.node call.node same.0 in
-            let incarnation : r.call.incarnation ≡ call.incarnation = eqb-true r.call.incarnation call.incarnation (and_parts (r.call.incarnation == call.incarnation) _ same.1).0 in
-            let current = active-each (IsCurrent t) t serves.held r is in
-            let row = has_some (t.rows r.call.node) current.has_row in
-            let aged = (serves.talks r.call.node).aged row.0 row.1 in
-            let name = (serves.talks r.call.node).named row.0 row.1 in
-            let nodes_are : (host_of name.0).node ≡ call.node = name.2.0 ∙ node in
-            let incarnations_are : (host_of name.0).incarnation ≡ call.incarnation = name.2.1 ∙ (aged ∙ (sym current.of ∙ incarnation)) in
-            let host_is : host_of name.0 ≡ host_of_call call = λ i. record { node = nodes_are i; incarnation = incarnations_are i } in
-            only_one (IsDenial known) deny (subst known host_is (all_known name.0 name.1))
-        | false ↦ λ h. only_none (IsDenial known)
-      ] refl
->>>>>>> ab91a2a (sketch definitions and proofs)
+      let row = has_some (t.rows r.call.node) current.has_row in
+      let aged = (serves.talks r.call.node).aged row.0 row.1 in
+      let name = (serves.talks r.call.node).named row.0 row.1 in
+      let nodes_are : (host_of name.0).node ≡ call.node = name.2.0 ∙ node in
+      let incarnations_are : (host_of name.0).incarnation ≡ call.incarnation = name.2.1 ∙ (aged ∙ (sym current.of ∙ incarnation)) in
+      let host_is : host_of name.0 ≡ host_of_call call = λ i. record { node = nodes_are i; incarnation = incarnations_are i } in
+      if_either (Only (IsDenial known)) (same_urgency r.urgency Now) _ _ (only_one (IsDenial known) deny (subst known host_is (all_known name.0 name.1))) (only_none (IsDenial known))
 
 -- a row is there once it was made
 row_made : (t : ServerState) (call : CallId) (row : Option Row) → t.rows call.node ≡ row → is_some ((with_a_row t call row).rows call.node) ≡ true
@@ -370,24 +340,14 @@ module _ (was : Sent) (known_host : Host → Type 0) (all_known : (m : Message) 
       let found = row_found holder.incarnation (t.rows holder.node) row there in
       let answer = Conflict file number holder call lock in
       let next = acknowledged t holder.node row row.token in
-<<<<<<< HEAD
       let own = request_of call t.active in
       let deny = denial (Deny t.file call holder number lock) own in
-      elim (revoked_mode number row.outstanding) as (λ o. revoked_mode number row.outstanding ≡ o → option_map (λ (mode : Mode). let c : Change = (postponed call next, deny) in c) o ≡ Some x → IsServing was nodes shape file x) [
-        | Some mode ↦ λ fits h.
-            let r = revokes number mode row.outstanding fits in
-            let w : Awaits number row.outstanding row.token answer row.token = record { command = r.command; waiting = r.waiting; number = r.number; token = r.keeps row.token file number holder call lock } in
-            let after : Serves was nodes shape file next = acknowledges was nodes shape file t serves holder.node number row answer row.token told (refl, refl, refl, sym found.1) found.0 w in
-            subst (IsServing was nodes shape file) (same_Some (postponed call next, deny) x h) (postpones was nodes shape file next after call, denies was nodes shape file t serves call holder number lock own (find-each (IsCurrent t) (is_of_call call) t.active (active-each (IsCurrent t) t serves.held)) (find-passes (is_of_call call) t.active))
-=======
-      let deny = denial call (Deny t.file call holder number lock) t.active in
       elim (revoked_mode number row.outstanding) as (λ o. revoked_mode number row.outstanding ≡ o → option_map (λ (mode : Mode). let c : Change = (postponed call next, deny) in c) o ≡ Some x → IsServing was known_host nodes shape file x) [
         | Some mode ↦ λ fits h.
             let r = revokes number mode row.outstanding fits in
             let w : Awaits number row.outstanding row.token answer row.token = record { command = r.command; waiting = r.waiting; plain = r.plain; number = r.number; token = r.keeps row.token file number holder call lock } in
             let after : Serves was nodes shape file next = acknowledges was nodes shape file t serves holder.node number row answer row.token told refl (refl, refl, refl, sym found.1) found.0 w in
-            subst (IsServing was known_host nodes shape file) (same_Some (postponed call next, deny) x h) (postpones was nodes shape file next after call, denies was nodes shape file t serves known_host all_known call holder number lock t.active refl)
->>>>>>> ab91a2a (sketch definitions and proofs)
+            subst (IsServing was known_host nodes shape file) (same_Some (postponed call next, deny) x h) (postpones was nodes shape file next after call, denies was nodes shape file t serves known_host all_known call holder number lock own (find-each (IsCurrent t) (is_of_call call) t.active (active-each (IsCurrent t) t serves.held)) (find-passes (is_of_call call) t.active))
         | None ↦ λ fits h. absurd (none-some x h)
       ] refl h
 
@@ -432,15 +392,9 @@ module _ (was : Sent) (known_host : Host → Type 0) (all_known : (m : Message) 
       answers_report number holder runs (row_of_host t holder) x (subst (λ (g : ℕ). was (Report g number holder runs)) same told) refl h
   changes m told to known within alive x h = absurd (none-some x h)
 
-<<<<<<< HEAD
-  -- requests come from the queue
-  pub readies : Serves was nodes shape file (ready t)
-  readies = ready-stays (Holds was nodes shape file t serves) t (moves was nodes shape file t serves) (ready-each (IsCurrent t) t serves.held)
-=======
--- the first of the queue is served
-pub admits : (was : Sent) (nodes : ℕ → NodeState) (shape : ShapeFields) (file : ℕ) (t : ServerState) → Serves was nodes shape file t → Serves was nodes shape file (admitted t t.active t.queue)
-admits was nodes shape file t serves = admitted-stays (Holds was nodes shape file t serves) t (moves was nodes shape file t serves) t.active t.queue (admitted-each (IsCurrent t) t serves.held)
->>>>>>> ab91a2a (sketch definitions and proofs)
+-- requests come from the queue
+pub readies : (was : Sent) (nodes : ℕ → NodeState) (shape : ShapeFields) (file : ℕ) (t : ServerState) → Serves was nodes shape file t → Serves was nodes shape file (ready t)
+readies was nodes shape file t serves = ready-stays (Holds was nodes shape file t serves) t (moves was nodes shape file t serves) (ready-each (IsCurrent t) t serves.held)
 
 -- no byte of the span that is granted is one on which another node's row conflicts
 module _ (t : ServerState) (r : TokenRequest) (unblocked : nat_le (conflicting_node t r) t.shape.nodes ≡ false) where
@@ -490,14 +444,6 @@ all_told t none n within =
     let most = leb-true n t.shape.nodes bounds.1 in
     some_passes-none (λ k. is_awaited (t.rows k)) 1 t.shape.nodes n none least (omega arith)
 
-told_admitted : (t : ServerState) (active : Option TokenRequest) (queue : List TokenRequest) → AllTold t → AllTold (admitted t active queue)
-told_admitted t (Some r) queue h = h
-told_admitted t None [] h = h
-told_admitted t None (r ∷ rest) h = h
-
-below : (a b : ℕ) → nat_lt a b ≡ true → a < b
-below a b h = grind (arith, nat_tests, h)
-
 -- the server sends a command to a node of which it waits for no answer
 pub record Commands (was : Sent) (nodes : ℕ → NodeState) (shape : ShapeFields) (file : ℕ) (v : ServerState) (sends : List Message) : Type 0 where
   pub state : ServerState
@@ -523,36 +469,35 @@ none_outstanding : (o : Option Message) → is_some o ≡ false → o ≡ None
 none_outstanding None h = refl
 none_outstanding (Some m) h = absurd (cc)
 
-<<<<<<< HEAD
--- requests of the one are of the other
-abbrev pub Keeps : ServerState → ServerState → Type 0
-Keeps t v = (r : TokenRequest) → IsCurrent t r → IsCurrent v r
+-- requests of the one are of the other, and where each node has told the one its token, it has told the other
+pub record Keeps (t v : ServerState) : Type 0 where
+  pub requests : (r : TokenRequest) → IsCurrent t r → IsCurrent v r
+  pub told : AllTold t → AllTold v
 
-module _ (was : Sent) (nodes : ℕ → NodeState) (shape : ShapeFields) (file : ℕ) (t : ServerState) (serves : Serves was nodes shape file t) (v : ServerState) (sends : List Message) where
+keeps_all : (t : ServerState) → Keeps t t
+keeps_all t = record { requests = λ r current. current; told = λ told. told }
+
+module _ (was : Sent) (nodes : ℕ → NodeState) (shape : ShapeFields) (file : ℕ) (t : ServerState) (serves : Serves was nodes shape file t) (told : AllTold t) (v : ServerState) (sends : List Message) where
   abbrev ServedHere : Type 0
   ServedHere = Served was nodes shape file v sends × Keeps t v
 
   still : ◌≡◌ {A = Result (ServerState × List Message) StepError} (Ok (t, [])) (Ok (v, sends)) → ServedHere
-=======
-module _ (was : Sent) (nodes : ℕ → NodeState) (shape : ShapeFields) (file : ℕ) (t : ServerState) (serves : Serves was nodes shape file t) (told : AllTold t) (v : ServerState) (sends : List Message) where
-  still : ◌≡◌ {A = Result (ServerState × List Message) StepError} (Ok (t, [])) (Ok (v, sends)) → Served was nodes shape file v sends
->>>>>>> ab91a2a (sketch definitions and proofs)
   still h =
       let same = ok_is (t, []) (v, sends) h in
       let P : ServerState × List Message → Type 0 = λ x. Serves was nodes shape file x.0 × (x.1 ≡ []) in
       let Q : ServerState × List Message → Type 0 = λ x. Keeps t x.0 in
-      (inl (subst P same (serves, refl)), subst Q same (λ r current. current))
+      (inl (subst P same (serves, refl)), subst Q same (keeps_all t))
 
-<<<<<<< HEAD
-  commands : (n : ℕ) (row : Row) (command : Message) → t.rows n ≡ Some row → IsCommandTo file n row.incarnation (row.number + 1) command → IsFreeFor t n command → commanded t n row (promised row.token command) command ≡ Ok (v, sends) → ServedHere
-  commands n row command there to free h =
+  commands : (n : ℕ) (row : Row) (command : Message) → t.rows n ≡ Some row → is_hello (Some command) ≡ false → IsCommandTo file n row.incarnation (row.number + 1) command → IsFreeFor t n command → commanded t n row (promised row.token command) command ≡ Ok (v, sends) → ServedHere
+  commands n row command there plain to free h =
       let later = with_row t n (Some (commanded_row row command)) in
       let R : Type 0 = Result (ServerState × List Message) StepError in
-      let few : Bool = nat_lt row.number greatest_number in
+      let few : Bool = nat_lt row.number (begin t + greatest_number) in
       elim (is_some row.outstanding) as (λ b. is_some row.outstanding ≡ b → ◌≡◌ {A = R} (if b then Ok (t, []) else (if few then Ok (later, command ∷ []) else Err Spent)) (Ok (v, sends)) → ServedHere) [
         | true ↦ λ is h. still h
-        | false ↦ λ is h. elim few as (λ b. ◌≡◌ {A = R} (if b then Ok (later, command ∷ []) else Err Spent) (Ok (v, sends)) → ServedHere) [
-          | true ↦ λ h.
+        | false ↦ λ is h. elim few as (λ b. few ≡ b → ◌≡◌ {A = R} (if b then Ok (later, command ∷ []) else Err Spent) (Ok (v, sends)) → ServedHere) [
+          | true ↦ λ left h.
+              let under = ltb-true row.number (begin t + greatest_number) left in
               let same = ok_is (later, command ∷ []) (v, sends) h in
               let Q : ServerState × List Message → Type 0 = λ x. Keeps t x.0 in (
                 inr (record {
@@ -562,47 +507,22 @@ module _ (was : Sent) (nodes : ℕ → NodeState) (shape : ShapeFields) (file : 
                   row = row;
                   there = there;
                   idle = none_outstanding row.outstanding is;
+                  heard = told;
+                  few = omega arith;
                   command = command;
+                  plain = plain;
                   to = to;
                   free = free;
                   next = ap (λ (x : ServerState × List Message). x.0) (sym same);
                   sent = ap (λ (x : ServerState × List Message). x.1) (sym same);
                 }),
-                subst Q same (current_row was nodes shape file t serves n (commanded_row row command)),
+                subst Q same (record {
+                  requests = current_row was nodes shape file t serves n (commanded_row row command);
+                  told = λ all k within. at_number k n (λ b. is_awaited (if b then Some (commanded_row row command) else t.rows k) ≡ false) (λ same. plain) (λ other. all k within);
+                }),
               )
-          | false ↦ λ h. absurd (cc)
-        ] h
-=======
-  commands : (n : ℕ) (row : Row) (command : Message) → t.rows n ≡ Some row → is_hello (Some command) ≡ false → IsCommandTo file n row.incarnation (row.number + 1) command → IsFreeFor t n command → commanded t n row (promised row.token command) command ≡ Ok (v, sends) → Served was nodes shape file v sends
-  commands n row command there plain to free h =
-      let later = with_row t n (Some (commanded_row row command)) in
-      let R : Type 0 = Result (ServerState × List Message) StepError in
-      let few : Bool = nat_lt row.number (begin t + greatest_number) in
-      elim (is_some row.outstanding) as (λ b. is_some row.outstanding ≡ b → ◌≡◌ {A = R} (if b then Ok (t, []) else (if few then Ok (later, command ∷ []) else Err Spent)) (Ok (v, sends)) → Served was nodes shape file v sends) [
-        | true ↦ λ is h. still h
-        | false ↦ λ is h. elim few as (λ b. few ≡ b → ◌≡◌ {A = R} (if b then Ok (later, command ∷ []) else Err Spent) (Ok (v, sends)) → Served was nodes shape file v sends) [
-          | true ↦ λ left h.
-              let under = below row.number (begin t + greatest_number) left in
-              let same = ok_is (later, command ∷ []) (v, sends) h in
-              inr (record {
-                state = t;
-                serves = serves;
-                node = n;
-                row = row;
-                there = there;
-                idle = none_outstanding row.outstanding is;
-                heard = told;
-                few = omega arith;
-                command = command;
-                plain = plain;
-                to = to;
-                free = free;
-                next = ap (λ (x : ServerState × List Message). x.0) (sym same);
-                sent = ap (λ (x : ServerState × List Message). x.1) (sym same);
-              })
           | false ↦ λ left h. absurd (cc)
         ] refl h
->>>>>>> ab91a2a (sketch definitions and proofs)
       ] refl h
 
   grants : (r : TokenRequest) → IsCurrent t r → nat_le (conflicting_node t r) t.shape.nodes ≡ false → (row : Option Row) → t.rows r.call.node ≡ row → granted_to t r row ≡ Ok (v, sends) → ServedHere
@@ -614,11 +534,7 @@ module _ (was : Sent) (nodes : ℕ → NodeState) (shape : ShapeFields) (file : 
   revokes_from : (r : TokenRequest) (n : ℕ) (row : Option Row) → t.rows n ≡ row → revoked_from t r n row ≡ Ok (v, sends) → ServedHere
   revokes_from r n None there h = still h
   revokes_from r n (Some row) there h =
-<<<<<<< HEAD
-      commands n row (Revoke t.file (row.number + 1) (record { node = n; incarnation = row.incarnation }) r.call r.mode (record { required = r.wanted.required; desired = narrowed t.active r })) there (serves.file_is, refl, refl, refl) tt h
-=======
-      commands n row (Revoke t.file (row.number + 1) (record { node = n; incarnation = row.incarnation }) r.call r.mode r.wanted) there refl (serves.file_is, refl, refl, refl) tt h
->>>>>>> ab91a2a (sketch definitions and proofs)
+      commands n row (Revoke t.file (row.number + 1) (record { node = n; incarnation = row.incarnation }) r.call r.mode (record { required = r.wanted.required; desired = narrowed t.active r })) there refl (serves.file_is, refl, refl, refl) tt h
 
   -- a request is served
   pub serves_one : (r : TokenRequest) → IsCurrent t r → served t r ≡ Ok (v, sends) → ServedHere
@@ -630,50 +546,40 @@ module _ (was : Sent) (nodes : ℕ → NodeState) (shape : ShapeFields) (file : 
         | false ↦ λ unblocked h. grants r current unblocked (t.rows r.call.node) refl h
       ] refl h
 
-<<<<<<< HEAD
 -- a step of the server comes of no serving and sends nothing, or of serving
 abbrev pub Serving : Sent → (ℕ → NodeState) → ShapeFields → ℕ → ServerState → List Message → Type 0
 Serving was nodes shape file v sends =
-    (Serves was nodes shape file v × (sends ≡ [])) ⊎ ((begun : ServerState) × Serves was nodes shape file begun × (serve begun ≡ Ok (v, sends)))
-=======
+    (Serves was nodes shape file v × (sends ≡ [])) ⊎ ((begun : ServerState) × Serves was nodes shape file begun × AllTold begun × (each_served begun.active begun ≡ Ok (v, sends)))
+
 -- the server serves, once each node has told its token
-pub serve_serves : (was : Sent) (nodes : ℕ → NodeState) (shape : ShapeFields) (file : ℕ) (t : ServerState) → Serves was nodes shape file t → (v : ServerState) (sends : List Message) → serve t ≡ Ok (v, sends) → Served was nodes shape file v sends
+pub serve_serves : (was : Sent) (nodes : ℕ → NodeState) (shape : ShapeFields) (file : ℕ) (t : ServerState) → Serves was nodes shape file t → (v : ServerState) (sends : List Message) → serve t ≡ Ok (v, sends) → Serving was nodes shape file v sends
 serve_serves was nodes shape file t serves v sends h =
-    let next = admitted t t.active t.queue in
+    let next = ready t in
     let R : Type 0 = Result (ServerState × List Message) StepError in
-    elim (awaits t) as (λ b. awaits t ≡ b → ◌≡◌ {A = R} (if b then Ok (t, []) else served next next.active) (Ok (v, sends)) → Served was nodes shape file v sends) [
+    elim (awaits t) as (λ b. awaits t ≡ b → ◌≡◌ {A = R} (if b then Ok (t, []) else each_served next.active next) (Ok (v, sends)) → Serving was nodes shape file v sends) [
       | true ↦ λ waits h.
           let P : ServerState × List Message → Type 0 = λ x. Serves was nodes shape file x.0 × (x.1 ≡ []) in
           inl (subst P (ok_is (t, []) (v, sends) h) (serves, refl))
-      | false ↦ λ told h. serves_one was nodes shape file next (admits was nodes shape file t serves) (told_admitted t t.active t.queue (all_told t told)) v sends next.active refl h
+      | false ↦ λ told h. inr (next, readies was nodes shape file t serves, all_told t told, h)
     ] refl h
->>>>>>> ab91a2a (sketch definitions and proofs)
 
 -- what comes of a message: denials, and what is sent by serving
 pub record Answered (was : Sent) (known_host : Host → Type 0) (nodes : ℕ → NodeState) (shape : ShapeFields) (file : ℕ) (v : ServerState) (sends : List Message) : Type 0 where
   pub denied : List Message
   pub fresh : List Message
   pub sent : sends ≡ denied ++ fresh
-<<<<<<< HEAD
-  pub denials : Only (IsDenial nodes) denied
+  pub denials : Only (IsDenial known_host) denied
   pub served : Serving was nodes shape file v fresh
 
-module _ (was : Sent) (nodes : ℕ → NodeState) (shape : ShapeFields) (file : ℕ) (t : ServerState) (serves : Serves was nodes shape file t) (v : ServerState) (o : Outcome) where
-  outcome_is : (c : ServerState) (before fresh : List Message) → ◌≡◌ {A = Result (ServerState × Outcome) StepError} (Ok (c, sending (before ++ fresh))) (Ok (v, o)) → Only (IsDenial nodes) before → Serving was nodes shape file c fresh → Answered was nodes shape file v o.sends
-=======
-  pub denials : Only (IsDenial known_host) denied
-  pub served : Served was nodes shape file v fresh
-
 module _ (was : Sent) (known_host : Host → Type 0) (all_known : (m : Message) → was m → known_host (host_of m)) (nodes : ℕ → NodeState) (shape : ShapeFields) (file : ℕ) (t : ServerState) (serves : Serves was nodes shape file t) (v : ServerState) (o : Outcome) where
-  outcome_is : (c : ServerState) (before fresh : List Message) → ◌≡◌ {A = Result (ServerState × Outcome) StepError} (Ok (c, sending (before ++ fresh))) (Ok (v, o)) → Only (IsDenial known_host) before → Served was nodes shape file c fresh → Answered was known_host nodes shape file v o.sends
->>>>>>> ab91a2a (sketch definitions and proofs)
+  outcome_is : (c : ServerState) (before fresh : List Message) → ◌≡◌ {A = Result (ServerState × Outcome) StepError} (Ok (c, sending (before ++ fresh))) (Ok (v, o)) → Only (IsDenial known_host) before → Serving was nodes shape file c fresh → Answered was known_host nodes shape file v o.sends
   outcome_is c before fresh h denials served =
       let P : ServerState × Outcome → Type 0 = λ x. Answered was known_host nodes shape file x.0 x.1.sends in
       subst P (ok_is (c, sending (before ++ fresh)) (v, o) h) (record { denied = before; fresh = fresh; sent = refl; denials = denials; served = served })
 
   serves_changed : (x : Change) → IsServing was known_host nodes shape file x → (r : Result (ServerState × List Message) StepError) → serve x.0 ≡ r → sending_first x.1 r ≡ Ok (v, o) → Answered was known_host nodes shape file v o.sends
   serves_changed x after (Err e) is h = absurd (cc)
-  serves_changed x after (Ok done) is h = outcome_is done.0 x.1 done.1 h after.1 (inr (x.0, after.0, is))
+  serves_changed x after (Ok done) is h = outcome_is done.0 x.1 done.1 h after.1 (serve_serves was nodes shape file x.0 after.0 done.0 done.1 is)
 
   serves_if : (c : Option Change) → ((x : Change) → c ≡ Some x → IsServing was known_host nodes shape file x) → then_serve t (Ok c) ≡ Ok (v, o) → Answered was known_host nodes shape file v o.sends
   serves_if None after h = outcome_is t [] [] h (only_none (IsDenial known_host)) (inl (serves, refl))

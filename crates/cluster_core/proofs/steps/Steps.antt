@@ -1,15 +1,8 @@
 -- A step of the cluster is a step of one of its nodes or servers.
-<<<<<<< HEAD
-use Rattle.std.proofs.Common.{◌≡◌, ℕ, ◌<◌, ◌≤◌, if◌then◌else◌, arith, true, false, not, nat_le, refl, subst, Result, Ok, Err}
-use Rattle.std.proofs.lemmas.Bool.{not-false, leb-true}
-use Rattle.std.proofs.lemmas.Bool.Decides.{nat_tests}
-use Rattle.messages.specs.Messages.{addressee}
-=======
-use Rattle.std.proofs.Common.{◌≡◌, ℕ, ◌+◌, ◌<◌, ◌≤◌, true, false, not, nat_le, nat_lt, arith, refl, subst, Result, Ok, Err}
-use Rattle.std.proofs.lemmas.Bool.{not-false, leb-true}
+use Rattle.std.proofs.Common.{◌≡◌, ℕ, ◌+◌, ◌<◌, ◌≤◌, if◌then◌else◌, arith, true, false, not, nat_le, nat_lt, refl, subst, Result, Ok, Err}
+use Rattle.std.proofs.lemmas.Bool.{not-false, leb-true, ltb-true}
 use Rattle.std.proofs.lemmas.Bool.Decides.{nat_tests}
 use Rattle.messages.specs.Messages.{addressee, sending}
->>>>>>> ab91a2a (sketch definitions and proofs)
 use Rattle.messages.specs.declared.actor.Actor.{Actor}
 use Rattle.messages.specs.declared.actor.Actor.TheVariants.{Node as ANode, Server as AServer}
 use Rattle.messages.specs.declared.message.Message.{Message}
@@ -30,11 +23,7 @@ use Rattle.token_server.specs.State.{ServerState}
 use Rattle.token_server.specs.Resends.{outstanding}
 use Rattle.token_server.specs.Server.{server_rule}
 use Rattle.cluster_core.specs.World.{WorldState, journal_limit, most_incarnations}
-<<<<<<< HEAD
-use Rattle.cluster_core.specs.Next.{is_known, is_fenced, recorded, named_incarnation, with_node, with_server, after_node, after_server, declared, restarted, silent, delivered, taken, next, kept_next}
-=======
-use Rattle.cluster_core.specs.Next.{is_known, is_fenced, recorded, named_incarnation, with_node, with_server, after_node, after_server, declared, restarted, silent, failed, started, next_server, delivered, taken, next}
->>>>>>> ab91a2a (sketch definitions and proofs)
+use Rattle.cluster_core.specs.Next.{is_known, is_fenced, recorded, named_incarnation, with_node, with_server, after_node, after_server, declared, restarted, silent, failed, started, next_server, delivered, taken, next, kept_next}
 use Rattle.cluster_core.proofs.common.Refusals.{ok_is, if_ok, unless_refused}
 
 -- a step that is not refused is of actors, processes and messages that the world knows
@@ -44,13 +33,12 @@ next_taken w event q h =
     let free = unless_refused (is_fenced w event) (taken w event) q Fenced known.1 in
     (not-false (is_known w event) known.0, free.1)
 
--- nor is it one of a node that was declared failed
+-- nor is it one of a node or a server that was declared failed
 pub next_unfenced : (w : WorldState) (event : Event) (q : WorldState × Entry) → next w event ≡ Ok q → is_fenced w event ≡ false
 next_unfenced w event q h =
     let known = unless_refused (not (is_known w event)) _ q Stranger h in
     (unless_refused (is_fenced w event) (taken w event) q Fenced known.1).0
 
-<<<<<<< HEAD
 full_not : (n : ℕ) → nat_le journal_limit n ≡ false → n < journal_limit
 full_not n h = grind (arith, nat_tests, h)
 
@@ -67,10 +55,6 @@ pub kept_of : (w : WorldState) (event : Event) (r : Result (WorldState × Entry)
 kept_of w event r room is =
     let roomy = not_full w.length room in
     λ i. if roomy i then Err JournalFull else is i
-=======
-below : (a b : ℕ) → nat_lt a b ≡ true → a < b
-below a b h = grind (arith, nat_tests, h)
->>>>>>> ab91a2a (sketch definitions and proofs)
 
 -- what holds after a step of its actor holds after the step
 module _ (w : WorldState) (P : WorldState × Entry → Type 0) where
@@ -112,7 +96,7 @@ module _ (w : WorldState) (P : WorldState × Entry → Type 0) where
   start_step file q on_start h =
       let stopped = unless_refused (w.working file) _ q NotDead h in
       let done = if_ok (nat_lt (w.servers file).epoch most_incarnations) _ q TooManyRestarts stopped.1 in
-      subst P done.1 (on_start file refl stopped.0 (below (w.servers file).epoch most_incarnations done.0))
+      subst P done.1 (on_start file refl stopped.0 (ltb-true (w.servers file).epoch most_incarnations done.0))
 
   pub declare_step : (n : ℕ) (q : WorldState × Entry) → OnDeclare (Declare n) → taken w (Declare n) ≡ Ok q → P q
   declare_step n q on_declare h =

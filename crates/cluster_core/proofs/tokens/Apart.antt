@@ -1,13 +1,7 @@
 -- The tokens of two nodes never conflict, after any run.
-<<<<<<< HEAD
-use Rattle.std.proofs.Common.{◌≡◌, ℕ, ◌+◌, ◌<◌, ◌≤◌, true, not, nat_le, nat_lt, ◌&&◌, if◌then◌else◌, ◌⊎◌, inl, inr, refl, sym, ◌∙◌, ap, subst, arith, List, [], ◌∷◌, ◌++◌, append_assoc, append-nil, All, Bool, false, ◌==◌, Option, Some, None, Result, Ok, Err}
-use Rattle.std.proofs.lemmas.Bool.{and_parts, cases_eq}
-=======
-use Rattle.std.proofs.Common.{◌≡◌, ℕ, ◌+◌, ◌<◌, ◌≤◌, Bool, true, false, ◌==◌, not, nat_le, nat_lt, ◌&&◌, if◌then◌else◌, ◌⊎◌, inl, inr, refl, sym, ◌∙◌, ap, subst, arith, append-nil, List, [], ◌∷◌, ◌++◌, Option, Some, None, Result, Ok, Err}
-use Rattle.std.proofs.lemmas.Bool.{and_parts, and_from, not-false, cases_eq}
->>>>>>> ab91a2a (sketch definitions and proofs)
+use Rattle.std.proofs.Common.{◌≡◌, ℕ, ◌+◌, ◌<◌, ◌≤◌, Bool, true, false, ◌==◌, not, nat_le, nat_lt, ◌&&◌, if◌then◌else◌, ◌⊎◌, inl, inr, refl, sym, ◌∙◌, ap, subst, arith, List, [], ◌∷◌, ◌++◌, append_assoc, append-nil, All, Option, Some, None, Result, Ok, Err}
+use Rattle.std.proofs.lemmas.Bool.{and_parts, and_from, ltb-true, not-false, cases_eq}
 use Rattle.std.specs.List.{range_with_len}
-use Rattle.std.proofs.lemmas.Bool.Decides.{nat_tests}
 use Rattle.std.proofs.lemmas.List.Elements.{All-nil, All-head, All-tail, All-weaker}
 use Rattle.std.proofs.lemmas.Option.{none-some}
 use Rattle.model.specs.declared.call.CallId.{CallId}
@@ -37,19 +31,14 @@ use Rattle.node_core.specs.Commands.{renewed, in_epoch, done_in, told, delivered
 use Rattle.node_core.specs.Interrupts.{interrupted}
 use Rattle.node_core.specs.Node.{node_rule}
 use Rattle.token_server.specs.declared.event.ServerEvent.TheVariants as server
-<<<<<<< HEAD
 use Rattle.token_queue.specs.declared.token_request.TokenRequest.{TokenRequest}
-use Rattle.token_server.specs.State.{ServerState, forgotten, requeued}
-use Rattle.token_server.proofs.CareLaws.{active-each}
-use Rattle.token_server.specs.Serve.{served, with_more, and_then, each_served, ready, serve}
-=======
 use Rattle.token_server.specs.State.{ServerState, begin, forgotten, requeued}
-use Rattle.token_server.specs.Serve.{serve}
->>>>>>> ab91a2a (sketch definitions and proofs)
+use Rattle.token_server.proofs.CareLaws.{active-each}
+use Rattle.token_server.specs.Serve.{served, with_more, and_then, each_served, serve}
 use Rattle.token_server.specs.Resends.{outstanding_of, outstanding, sending_first}
 use Rattle.token_server.specs.Server.{server_rule}
 use Rattle.cluster_core.specs.World.{WorldState, first_world, is_alive, has_node, has_file, was_declared}
-use Rattle.cluster_core.specs.Next.{is_known, is_fenced, is_stopped, has_actor, recorded, with_node, with_server, declared, restarted, failed, started, delivered as routed, taken, next}
+use Rattle.cluster_core.specs.Next.{is_known, is_fenced, is_stopped, has_actor, recorded, with_node, with_server, declared, restarted, failed, delivered as routed, taken, next}
 use Rattle.cluster_core.specs.Safe.{Excludes, AreApart}
 use Rattle.cluster_core.specs.Numbers.{is_command, number_of, NumbersTellCommands}
 use Rattle.cluster_core.proofs.common.Choices.{at_number}
@@ -61,9 +50,10 @@ use Rattle.cluster_core.proofs.tokens.Lowering.{IsWithin, within_itself, within_
 use Rattle.cluster_core.proofs.tokens.Talks.{Sent, IsHostOf, IsCommandTo, IsAnswerOf, same_answer_of, no_answer, command_host, answer_host, unasked, IsLast, Talk, MayHold, counted_live}
 use Rattle.cluster_core.proofs.tokens.Epochs.{Ends, EndsOf, entered_ends, begin_of_upto, tells_token}
 use Rattle.cluster_core.proofs.tokens.Starts.{failed_present, started_present}
-use Rattle.cluster_core.proofs.tokens.TalkMoves.{NoNews, talk-no_news, may_hold-no_news, talk-renewed, may_hold-renewed, IsTelling, talk-tells, may_hold-tells, IsDoing, done_file, talk-does, may_hold-does, IsCommanding}
+use Rattle.cluster_core.proofs.tokens.TalkMoves.{NoNews, talk-no_news, may_hold-no_news, talk-renewed, may_hold-renewed, IsTelling, talk-tells, may_hold-tells, IsDoing, done_file, talk-does, may_hold-does}
+use Rattle.cluster_core.proofs.tokens.RowMoves.{IsCommanding}
 use Rattle.cluster_core.proofs.steps.NodeTokens.{Only, IsAsking, asking_host, asking_command, asking_answer, AsksFrom, Does, Receives, called_asks, quiet_asks, tried_if_asks, denied_asks, interrupted_asks, grant_receives, revoke_receives, first_among, only_none, only_one, only_mapped}
-use Rattle.cluster_core.proofs.steps.ServerRows.{IsCurrent, Serves, forgets, requeues, IsDenial, denial_command, denial_answer, denial_known, Commands, Served, Keeps, Serving, readies, serves_one, receives, outstanding_sent}
+use Rattle.cluster_core.proofs.steps.ServerRows.{IsCurrent, Serves, forgets, requeues, IsDenial, denial_command, denial_answer, denial_known, AllTold, Commands, Served, Keeps, Serving, serve_serves, serves_one, receives, outstanding_sent}
 use Rattle.cluster_core.proofs.tokens.Members.{declared_present, restarted_present, silent_present}
 use Rattle.cluster_core.proofs.tokens.Present.{Was, Holding, StayApart, IsBegun, begun_as, Present, serves-no_news, apart-no_news, nothing_new, files_no_news, commanded_serves, commanded_apart}
 
@@ -75,30 +65,20 @@ known_host w h n i is known = begun_as w (record { node = n; incarnation = i }) 
 abbrev IsHeldWithin : Sent → (ℕ → NodeState) → ℕ → ℕ → Token → Type 0
 IsHeldWithin was nodes file n t = (x : Token) × Holding was nodes file n x × IsWithin t x
 
-<<<<<<< HEAD
 -- the world with that server, in which these messages were sent as well
-abbrev told : WorldState → ℕ → ServerState → List Message → WorldState
-told w file v sends = record (with_server w file v) { sent = w.sent ++ sends }
+abbrev served_by : WorldState → ℕ → ServerState → List Message → WorldState
+served_by w file v sends = record (with_server w file v) { sent = w.sent ++ sends }
 
 -- a server goes on: it sends what comes of serving a request, may send again what was sent before, and may deny calls
-module _ (w : WorldState) (p : Present w) (file : ℕ) (v : ServerState) (sends fresh : List Message) (again : Only (λ m. (Was w m ⊎ IsDenial w.nodes m) ⊎ (is_among fresh m ≡ true)) sends) (said : Only (λ m. is_among sends m ≡ true) fresh) where
-=======
--- a server's step: it sends what comes of serving, may send again what was sent before, and may deny calls
-module _ (w : WorldState) (p : Present w) (file : ℕ) (v : ServerState) (event : Event) (o : Outcome) (fresh : List Message) (again : Only (λ m. (Was w m ⊎ IsDenial (IsBegun w) m) ⊎ (is_among fresh m ≡ true)) o.sends) (said : Only (λ m. is_among o.sends m ≡ true) fresh) where
->>>>>>> ab91a2a (sketch definitions and proofs)
+module _ (w : WorldState) (p : Present w) (file : ℕ) (v : ServerState) (sends fresh : List Message) (again : Only (λ m. (Was w m ⊎ IsDenial (IsBegun w) m) ⊎ (is_among fresh m ≡ true)) sends) (said : Only (λ m. is_among sends m ≡ true) fresh) where
   abbrev later : WorldState
-  later = told w file v sends
+  later = served_by w file v sends
 
   kept : (m : Message) → Was w m → Was later m
   kept = sent_before w.sent sends
 
-<<<<<<< HEAD
-  either : (m : Message) → Was later m → (Was w m ⊎ IsDenial w.nodes m) ⊎ (is_among fresh m ≡ true)
-  either m h = elim (sent_either w.sent sends m h) [ inl before ↦ inl (inl before) | inr new ↦ again m new ]
-=======
   either : (m : Message) → Was later m → (Was w m ⊎ IsDenial (IsBegun w) m) ⊎ (is_among fresh m ≡ true)
-  either m h = elim (sent_either w.sent o.sends m h) [ inl before ↦ inl (inl before) | inr new ↦ again m new ]
->>>>>>> ab91a2a (sketch definitions and proofs)
+  either m h = elim (sent_either w.sent sends m h) [ inl before ↦ inl (inl before) | inr new ↦ again m new ]
 
   -- a message of a kind of which no denial is
   unless_denial : (Q : Message → Type 0) → ((m : Message) → IsDenial (IsBegun w) m → Q m → ⊥) → (m : Message) → Was later m → Q m → Was w m ⊎ (is_among fresh m ≡ true)
@@ -170,16 +150,16 @@ module _ (w : WorldState) (p : Present w) (file : ℕ) (v : ServerState) (event 
   server_present (inr g) = commands g
 
 -- it sends what was sent before, or denies calls, and does no more
-quiet_told : (w : WorldState) (p : Present w) (file : ℕ) (v : ServerState) (before : List Message) → Only (λ m. Was w m ⊎ IsDenial w.nodes m) before → Serves (Was w) w.nodes w.shape file v → Present (told w file v before)
+quiet_told : (w : WorldState) (p : Present w) (file : ℕ) (v : ServerState) (before : List Message) → Only (λ m. Was w m ⊎ IsDenial (IsBegun w) m) before → Serves (Was w) w.nodes w.shape file v → Present (served_by w file v before)
 quiet_told w p file v before old serves =
     server_present w p file v before [] (λ m there. inl (old m there)) (only_none (λ m. is_among before m ≡ true)) (inl (serves, refl))
 
 -- the server that was put there
-here : (w : WorldState) (file : ℕ) (v : ServerState) (sends : List Message) → (told w file v sends).servers file ≡ v
+here : (w : WorldState) (file : ℕ) (v : ServerState) (sends : List Message) → (served_by w file v sends).servers file ≡ v
 here w file v sends = at_number file file (λ b. (if b then v else w.servers file) ≡ v) (λ same. refl) (λ other. absurd (other refl))
 
 -- first the one, then the other
-told_twice : (w : WorldState) (file : ℕ) (u v : ServerState) (before sends : List Message) → told (told w file u before) file v sends ≡ told w file v (before ++ sends)
+told_twice : (w : WorldState) (file : ℕ) (u v : ServerState) (before sends : List Message) → served_by (served_by w file u before) file v sends ≡ served_by w file v (before ++ sends)
 told_twice w file u v before sends = λ i. record w { servers = λ f. either (f == file) (w.servers f) i; sent = append_assoc w.sent before sends i }
   where
     either : (b : Bool) (x : ServerState) → (if b then v else (if b then u else x)) ≡ (if b then v else x)
@@ -187,59 +167,49 @@ told_twice w file u v before sends = λ i. record w { servers = λ f. either (f 
     either false x = refl
 
 -- one request is served after the other
-each_present : (rs : List TokenRequest) (w : WorldState) (p : Present w) (file : ℕ) (s v : ServerState) (sends : List Message) → w.servers file ≡ s → All (IsCurrent s) rs → each_served rs s ≡ Ok (v, sends) → Present (told w file v sends)
-each_present [] w p file s v sends there current is =
-    let P : ServerState × List Message → Type 0 = λ d. Present (told w file d.0 d.1) in
-    subst P (ok_is (s, []) (v, sends) is) (quiet_told w p file s [] (only_none (λ m. Was w m ⊎ IsDenial w.nodes m)) (subst (Serves (Was w) w.nodes w.shape file) there (p.serves file)))
-each_present (r ∷ rest) w p file s v sends there current is = one (served s r) refl is (each_present rest)
+each_present : (rs : List TokenRequest) (w : WorldState) (p : Present w) (file : ℕ) (s v : ServerState) (sends : List Message) → w.servers file ≡ s → AllTold s → All (IsCurrent s) rs → each_served rs s ≡ Ok (v, sends) → Present (served_by w file v sends)
+each_present [] w p file s v sends there heard current is =
+    let P : ServerState × List Message → Type 0 = λ d. Present (served_by w file d.0 d.1) in
+    subst P (ok_is (s, []) (v, sends) is) (quiet_told w p file s [] (only_none (λ m. Was w m ⊎ IsDenial (IsBegun w) m)) (subst (Serves (Was w) w.nodes w.shape file) there (p.serves file)))
+each_present (r ∷ rest) w p file s v sends there heard current is = one (served s r) refl is (each_present rest)
   where
     serves : Serves (Was w) w.nodes w.shape file s
     serves = subst (Serves (Was w) w.nodes w.shape file) there (p.serves file)
 
     -- the others are served in the world after it
     Others : Type 0
-    Others = (x : WorldState) (q : Present x) (f : ℕ) (u z : ServerState) (ms : List Message) → x.servers f ≡ u → All (IsCurrent u) rest → each_served rest u ≡ Ok (z, ms) → Present (told x f z ms)
+    Others = (x : WorldState) (q : Present x) (f : ℕ) (u z : ServerState) (ms : List Message) → x.servers f ≡ u → AllTold u → All (IsCurrent u) rest → each_served rest u ≡ Ok (z, ms) → Present (served_by x f z ms)
 
-    more : (u : ServerState) (first : List Message) → Present (told w file u first) → Keeps s u → (x : Result (ServerState × List Message) StepError) → each_served rest u ≡ x → with_more first x ≡ Ok (v, sends) → Others → Present (told w file v sends)
+    more : (u : ServerState) (first : List Message) → Present (served_by w file u first) → Keeps s u → (x : Result (ServerState × List Message) StepError) → each_served rest u ≡ x → with_more first x ≡ Ok (v, sends) → Others → Present (served_by w file v sends)
     more u first q keeps (Err e) is h others = absurd (cc)
     more u first q keeps (Ok done) is h others =
-        let P : ServerState × List Message → Type 0 = λ d. Present (told w file d.0 d.1) in
-        let after = others (told w file u first) q file u done.0 done.1 (here w file u first) (All-weaker (IsCurrent s) (IsCurrent u) keeps rest (All-tail (IsCurrent s) r rest current)) is in
+        let P : ServerState × List Message → Type 0 = λ d. Present (served_by w file d.0 d.1) in
+        let after = others (served_by w file u first) q file u done.0 done.1 (here w file u first) (keeps.told heard) (All-weaker (IsCurrent s) (IsCurrent u) keeps.requests rest (All-tail (IsCurrent s) r rest current)) is in
         subst P (ok_is (done.0, first ++ done.1) (v, sends) h) (subst Present (told_twice w file u done.0 first done.1) after)
 
-    one : (x : Result (ServerState × List Message) StepError) → served s r ≡ x → and_then x (each_served rest) ≡ Ok (v, sends) → Others → Present (told w file v sends)
+    one : (x : Result (ServerState × List Message) StepError) → served s r ≡ x → and_then x (each_served rest) ≡ Ok (v, sends) → Others → Present (served_by w file v sends)
     one (Err e) is h others = absurd (cc)
     one (Ok done) is h others =
-        let both = serves_one (Was w) w.nodes w.shape file s serves done.0 done.1 r (All-head (IsCurrent s) r rest current) is in
+        let both = serves_one (Was w) w.nodes w.shape file s serves heard done.0 done.1 r (All-head (IsCurrent s) r rest current) is in
         let q = server_present w p file done.0 done.1 done.1 (λ m new. inr new) (λ m new. new) both.0 in
         more done.0 done.1 q both.1 (each_served rest done.0) refl h others
 
 -- a server's step that first sends again what was sent before, or denies calls
-<<<<<<< HEAD
-pub again_present : (w : WorldState) (p : Present w) (file : ℕ) (v : ServerState) (event : Event) (o : Outcome) (before fresh : List Message) → o.sends ≡ before ++ fresh → Only (λ m. Was w m ⊎ IsDenial w.nodes m) before → Serving (Was w) w.nodes w.shape file v fresh → Present (recorded (with_server w file v) event 0 o).0
+pub again_present : (w : WorldState) (p : Present w) (file : ℕ) (v : ServerState) (event : Event) (o : Outcome) (before fresh : List Message) → o.sends ≡ before ++ fresh → Only (λ m. Was w m ⊎ IsDenial (IsBegun w) m) before → Serving (Was w) w.nodes w.shape file v fresh → Present (recorded (with_server w file v) event 0 o).0
 again_present w p file v event o before fresh is old s =
-    let P : List Message → Type 0 = λ ms. Present (told w file v ms) in
-    let q : Present (told w file v o.sends) = subst P (sym is) (begun s) in
+    let P : List Message → Type 0 = λ ms. Present (served_by w file v ms) in
+    let q : Present (served_by w file v o.sends) = subst P (sym is) (begun s) in
     record { named = q.named; no_future = q.no_future; serves = q.serves; apart = q.apart }
   where
-    begun : Serving (Was w) w.nodes w.shape file v fresh → Present (told w file v (before ++ fresh))
+    begun : Serving (Was w) w.nodes w.shape file v fresh → Present (served_by w file v (before ++ fresh))
     begun (inl still) =
-        let P : List Message → Type 0 = λ ms. Present (told w file v (before ++ ms)) in
-        let Q : List Message → Type 0 = λ ms. Present (told w file v ms) in
+        let P : List Message → Type 0 = λ ms. Present (served_by w file v (before ++ ms)) in
+        let Q : List Message → Type 0 = λ ms. Present (served_by w file v ms) in
         subst P (sym still.1) (subst Q (sym (append-nil before)) (quiet_told w p file v before old still.0))
     begun (inr go) =
-        let u = ready go.0 in
-        let serves = readies (Was w) w.nodes w.shape file go.0 go.1 in
-        let first = quiet_told w p file u before old serves in
-        subst Present (told_twice w file u v before fresh) (each_present u.active (told w file u before) first file u v fresh (here w file u before) (active-each (IsCurrent u) u serves.held) go.2)
-=======
-pub again_present : (w : WorldState) (p : Present w) (file : ℕ) (v : ServerState) (event : Event) (o : Outcome) (before fresh : List Message) → o.sends ≡ before ++ fresh → Only (λ m. Was w m ⊎ IsDenial (IsBegun w) m) before → Served (Was w) w.nodes w.shape file v fresh → Present (recorded (with_server w file v) event 0 o).0
-again_present w p file v event o before fresh is old =
-    let again : Only (λ m. (Was w m ⊎ IsDenial (IsBegun w) m) ⊎ (is_among fresh m ≡ true)) o.sends = λ m there.
-    elim (sent_either before fresh m (subst (λ (xs : List Message). is_among xs m ≡ true) is there)) [ inl first ↦ inl (old m first) | inr later ↦ inr later ] in
-    let said : Only (λ m. is_among o.sends m ≡ true) fresh = λ m there. subst (λ (xs : List Message). is_among xs m ≡ true) (sym is) (sent_now before fresh m there) in
-    server_present w p file v event o fresh again said
->>>>>>> ab91a2a (sketch definitions and proofs)
+        let u = go.0 in
+        let first = quiet_told w p file u before old go.1 in
+        subst Present (told_twice w file u v before fresh) (each_present u.active (served_by w file u before) first file u v fresh (here w file u before) go.2 (active-each (IsCurrent u) u go.1.held) go.3)
 
 -- a node's step
 module _ (w : WorldState) (p : Present w) (n : ℕ) (u : NodeState) (event : Event) (o : Outcome) (here : is_alive w n ≡ true) (node_is : u.node ≡ (w.nodes n).node) (incarnation_is : u.incarnation ≡ (w.nodes n).incarnation) where
@@ -513,9 +483,13 @@ module _ (w : WorldState) (p : Present w) (n file number : ℕ) (here : is_alive
             let old : MayHold (Was entered_world) f n i (unasked ((w.nodes n).files f)) t → IsHeldWithin (Was w) w.nodes f n t = λ h. (t, may_hold-no_news (Was w) (Was entered_world) f n i (unasked ((w.nodes n).files f)) t (nothing_said f n) h, within_itself t) in
             subst P (sym (files_are f)) (at_number f file (λ b. P (if b then renewed (unasked ((w.nodes n).files file)) number else unasked ((w.nodes n).files f)))
             (λ same. subst (λ (k : ℕ). MayHold (Was entered_world) k n i (renewed (unasked ((w.nodes n).files file)) number) t → IsHeldWithin (Was w) w.nodes k n t) (sym same)
-            (λ h. (t, may_hold-no_news (Was w) (Was entered_world) file n i (unasked ((w.nodes n).files file)) t (nothing_said file n)
-            (may_hold-renewed (Was entered_world) file n i (unasked ((w.nodes n).files file)) ((w.servers file).rows n) ((w.servers file).dead n) (begin (w.servers file)) number upto
-            (talk-no_news (Was w) (Was entered_world) file n i (unasked ((w.nodes n).files file)) ((w.servers file).rows n) ((w.servers file).dead n) (begin (w.servers file)) (nothing_said file n) ((p.serves file).talks n)) t h), within_itself t)))
+            (λ h. (
+              t,
+              may_hold-no_news (Was w) (Was entered_world) file n i (unasked ((w.nodes n).files file)) t (nothing_said file n)
+                  (may_hold-renewed (Was entered_world) file n i (unasked ((w.nodes n).files file)) ((w.servers file).rows n) ((w.servers file).dead n) (begin (w.servers file)) number upto
+                  (talk-no_news (Was w) (Was entered_world) file n i (unasked ((w.nodes n).files file)) ((w.servers file).rows n) ((w.servers file).dead n) (begin (w.servers file)) (nothing_said file n) ((p.serves file).talks n)) t h),
+              within_itself t,
+            )))
             (λ other. old));
         others = λ f m other. nothing_said f m;
       }
@@ -658,10 +632,7 @@ module _ (w : WorldState) (p : Present w) (ends : (n : ℕ) → EndsOf (w.nodes 
       ] refl there in
       let old : Only (λ m. Was w m ⊎ IsDenial (IsBegun w) m) (outstanding t) = only_mapped (λ m. Was w m ⊎ IsDenial (IsBegun w) m) (λ n. outstanding_of (t.rows n)) (range_with_len 1 t.shape.nodes) (λ n m there. inl (sent n m there)) in
       let asked : Serves (Was w) w.nodes w.shape file (requeued t) = requeues (Was w) w.nodes w.shape file t (p.serves file) in
-      subst P (ok_is _ done is) (again_present w p file made.0 (Resend file) (sending (outstanding t ++ made.1)) (outstanding t) made.1 refl old (inr (requeued t, asked, served)))
-
-  below : (a b : ℕ) → nat_lt a b ≡ true → a < b
-  below a b h = grind (arith, nat_tests, h)
+      subst P (ok_is _ done is) (again_present w p file made.0 (Resend file) (sending (outstanding t ++ made.1)) (outstanding t) made.1 refl old (serve_serves (Was w) w.nodes w.shape file (requeued t) asked made.0 made.1 served))
 
   -- a server learns of an incarnation that was declared: it is not the live one
   learn_present : (file n i : ℕ) (r : Result (ServerState × List Message) StepError) (done : ServerState × Outcome) → i < (w.nodes n).incarnation → serve (requeued (forgotten (w.servers file) n i)) ≡ r → sending_first [] r ≡ Ok done → Present (recorded (with_server w file done.0) (Learn file n i) 0 done.1).0
@@ -671,14 +642,10 @@ module _ (w : WorldState) (p : Present w) (ends : (n : ℕ) → EndsOf (w.nodes 
       let P : ServerState × Outcome → Type 0 = λ d. Present (recorded (with_server w file d.0) (Learn file n i) 0 d.1).0 in
       let young : Serves (Was w) w.nodes w.shape file (forgotten t n i) = forgets (Was w) w.nodes w.shape file t (p.serves file) n i older in
       let asked : Serves (Was w) w.nodes w.shape file (requeued (forgotten t n i)) = requeues (Was w) w.nodes w.shape file (forgotten t n i) young in
-<<<<<<< HEAD
-      subst P (ok_is _ done is) (again_present w p file made.0 (Learn file n i) (sending made.1) [] made.1 refl (only_none (λ m. Was w m ⊎ IsDenial w.nodes m)) (inr (requeued (forgotten t n i), asked, served)))
-=======
       subst P (ok_is _ done is) (again_present w p file made.0 (Learn file n i) (sending made.1) [] made.1 refl (only_none (λ m. Was w m ⊎ IsDenial (IsBegun w) m)) (serve_serves (Was w) w.nodes w.shape file (requeued (forgotten t n i)) asked made.0 made.1 served))
 
   alive_here : (n : ℕ) → has_node w n ≡ true → not (w.alive n) ≡ false → is_alive w n ≡ true
   alive_here n there free = and_from (has_node w n) (w.alive n) there (not-false (w.alive n) free)
->>>>>>> ab91a2a (sketch definitions and proofs)
 
   -- a message goes to the actor that takes it
   message_present : (m : Message) (to : Actor) (q : WorldState × Entry) → Was w m → addressee m ≡ to → has_actor w to ≡ true → is_stopped w to ≡ false → routed w m to ≡ Ok q → Present q.0
@@ -720,7 +687,7 @@ module _ (w : WorldState) (p : Present w) (ends : (n : ℕ) → EndsOf (w.nodes 
   taken_present (Learn file n i) q known free h =
       let t = w.servers file in
       let parts = and_parts (has_node w n) (was_declared w n i) (and_parts (has_file w file) (has_node w n && was_declared w n i) known).1 in
-      let older : i < (w.nodes n).incarnation = below i (w.nodes n).incarnation (and_parts (nat_le 1 i) (nat_lt i (w.nodes n).incarnation) parts.1).1 in
+      let older : i < (w.nodes n).incarnation = ltb-true i (w.nodes n).incarnation (and_parts (nat_le 1 i) (nat_lt i (w.nodes n).incarnation) parts.1).1 in
       server_step w (λ x. Present x.0) (Learn file n i) file (server_rule t (server.Learn n i)) q
       (λ done is. learn_present file n i (serve (requeued (forgotten t n i))) done older refl (unless_refused (not (is_within t.shape.nodes n)) _ done Stranger is).1) h
   taken_present (FailServer file) q known free h = fail_step w (λ x. Present x.0) file q (λ f is works. silent_present (failed w f) (failed_present w p f) (FailServer file) (w.servers f).epoch) h

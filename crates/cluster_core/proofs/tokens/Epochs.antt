@@ -1,27 +1,20 @@
 -- Numbers of commands by the epochs of their servers, and the reports of tokens.
 use Rattle.std.specs.Prelude.{nat_le, nat_lt, ◌==◌}
 use Rattle.std.proofs.Common.{◌≡◌, ℕ, zero, suc, ◌+◌, ◌-◌, ◌*◌, ◌/◌, ◌<◌, ◌≤◌, Bool, true, false, ◌&&◌, if◌then◌else◌, inl, inr, refl, sym, ◌∙◌, ap, arith, List, [], ◌∷◌, Option, Some, None}
-use Rattle.std.proofs.lemmas.Bool.{and_parts, and_from, cases_lt, eqb-true, false≢true, false_from_ne_true, leb-true, le-leb, lt-leb}
-use Rattle.std.proofs.lemmas.Bool.Decides.{nat_tests}
+use Rattle.std.proofs.lemmas.Bool.{and_parts, and_from, cases_lt, eqb-true, false≢true, false_from_ne_true, leb-true, ltb-true, le-leb, lt-leb, lt-ltb}
 use Rattle.std.proofs.Math.Nat.{div-mul-le_self, div-lt_iff_lt-mul}
 use Rattle.token_set.specs.Tokens.{Token}
-use Rattle.messages.specs.Epochs.{before_epoch, epoch_of, begin_of}
+use Rattle.messages.specs.Epochs.{before_epoch, begin_of}
 use Rattle.intervals.specs.Bytes.{Range, greatest, is_in}
 use Rattle.model.specs.declared.level.Level.{Level}
 use Rattle.model.specs.declared.level.Level.TheVariants.{Shared, Exclusive}
 use Rattle.messages.specs.declared.token_run.TokenRun.{TokenRun}
-use Rattle.messages.specs.Messages.{same_level}
+use Rattle.messages.specs.TokenRuns.{same_level}
 use Rattle.messages.specs.Reports.{joined, runs_from, runs_of, reported}
 use Rattle.cluster_core.proofs.common.Choices.{if_either, at_number}
 use Rattle.node_core.specs.State.{FileState, NodeState}
 use Rattle.node_core.specs.Commands.{renewed, in_epoch as entered}
 use Rattle.cluster_core.proofs.tokens.Talks.{in_epoch}
-
-below : (a b : ℕ) → nat_lt a b ≡ true → a < b
-below a b h = grind (arith, nat_tests, h)
-
-ltb-from : (a b : ℕ) → a < b → nat_lt a b ≡ true
-ltb-from a b h = grind (arith, nat_tests, h)
 
 -- a number of an epoch begins after the same one as the epoch, or earlier
 pub begin_of_upto : (number epoch : ℕ) → number < before_epoch epoch + in_epoch → begin_of number ≤ before_epoch epoch
@@ -122,7 +115,7 @@ within b n x = nat_le b x && nat_lt x (b + n)
 
 runs_tell : (t : Token) (b n : ℕ) → IsOrdered (runs_from t b n) × ((x : ℕ) → reported (runs_from t b n) x ≡ (if within b n x then t x else None))
 unfolding runs_from
-runs_tell t b zero = (tt, λ x. ap (λ (c : Bool). if c then t x else None) (sym (false_from_ne_true (within b zero x) (λ h. let both = and_parts (nat_le b x) (nat_lt x (b + zero)) h in let low = leb-true b x both.0 in let high = below x (b + zero) both.1 in omega arith))))
+runs_tell t b zero = (tt, λ x. ap (λ (c : Bool). if c then t x else None) (sym (false_from_ne_true (within b zero x) (λ h. let both = and_parts (nat_le b x) (nat_lt x (b + zero)) h in let low = leb-true b x both.0 in let high = ltb-true x (b + zero) both.1 in omega arith))))
 runs_tell t b (suc n) =
     let rest = runs_tell t (b + 1) n in
     let none : reported (runs_from t (b + 1) n) b ≡ None = rest.1 b ∙ ap (λ (c : Bool). if c then t b else None) (false_from_ne_true (within (b + 1) n b) (λ h. let low = leb-true (b + 1) b (and_parts (nat_le (b + 1) b) (nat_lt b (b + 1 + n)) h).0 in omega arith)) in (
@@ -130,7 +123,7 @@ runs_tell t b (suc n) =
       λ x.
           joined_tells b (t b) (runs_from t (b + 1) n) x rest.0 none
           ∙ at_number x b (λ c. (if c then t b else reported (runs_from t (b + 1) n) x) ≡ (if within b (suc n) x then t x else None))
-          (λ same. ap t (sym same) ∙ ap (λ (c : Bool). if c then t x else None) (sym (and_from (nat_le b x) (nat_lt x (b + suc n)) (le-leb b x (omega arith)) (ltb-from x (b + suc n) (omega arith)))))
+          (λ same. ap t (sym same) ∙ ap (λ (c : Bool). if c then t x else None) (sym (and_from (nat_le b x) (nat_lt x (b + suc n)) (le-leb b x (omega arith)) (lt-ltb x (b + suc n) (omega arith)))))
           (λ other. rest.1 x ∙ ap (λ (c : Bool). if c then t x else None) (one_more x other)),
     )
   where
@@ -149,7 +142,7 @@ tells_token t ends i x = each x i
   where
     each : (x : ℕ) → reported (runs_of t) x ≡ t x
     each x = (runs_tell t 0 (greatest + 1)).1 x ∙ elim (cases_lt x (greatest + 1)) [
-      | inl upto ↦ ap (λ (c : Bool). if c then t x else None) (and_from (nat_le 0 x) (nat_lt x (0 + (greatest + 1))) (le-leb 0 x (omega arith)) (ltb-from x (0 + (greatest + 1)) (omega arith)))
+      | inl upto ↦ ap (λ (c : Bool). if c then t x else None) (and_from (nat_le 0 x) (nat_lt x (0 + (greatest + 1))) (le-leb 0 x (omega arith)) (lt-ltb x (0 + (greatest + 1)) (omega arith)))
       | inr past ↦ if_either (λ (o : Option Level). o ≡ t x) (within 0 (greatest + 1) x) (t x) None refl (sym (ends x (omega arith)))
     ]
 

@@ -19,7 +19,8 @@ use Rattle.cluster_core.specs.World.{WorldState, is_alive}
 use Rattle.cluster_core.specs.Safe.{Excludes}
 use Rattle.cluster_core.proofs.common.Choices.{at_number}
 use Rattle.cluster_core.proofs.tokens.Talks.{Sent, IsCommandTo, same_command, promised, unasked, Talk, MayHold, held}
-use Rattle.cluster_core.proofs.tokens.TalkMoves.{NoNews, talk-no_news, may_hold-no_news, commanded_row, IsCommanding, talk-commanded, may_hold-commanded}
+use Rattle.cluster_core.proofs.tokens.TalkMoves.{NoNews, talk-no_news, may_hold-no_news}
+use Rattle.cluster_core.proofs.tokens.RowMoves.{commanded_row, IsCommanding, talk-commanded, may_hold-commanded}
 use Rattle.cluster_core.proofs.steps.ServerRows.{IsCurrent, Serves, IsFreeFor, Commands, current_row}
 
 -- the message was sent

@@ -1,31 +1,29 @@
 -- A server that is declared failed, and one that is rebuilt, keep what holds of tokens, rows and messages.
-use Rattle.std.proofs.Common.{◌≡◌, ℕ, zero, suc, ◌+◌, ◌-◌, ◌<◌, ◌≤◌, Bool, true, false, ◌&&◌, if◌then◌else◌, ◌==◌, ◌⊎◌, inl, inr, refl, sym, ◌∙◌, ap, subst, arith, List, [], ◌∷◌, length, get_or, Option, Some, None}
+use Rattle.std.proofs.Common.{◌≡◌, ℕ, zero, suc, ◌+◌, ◌-◌, ◌<◌, ◌≤◌, Bool, true, false, ◌&&◌, if◌then◌else◌, ◌⊎◌, inl, inr, refl, sym, ◌∙◌, ap, subst, arith, List, [], ◌∷◌, length, get_or, Option, Some, None}
 use Rattle.std.specs.Prelude.{nat_le}
 use Rattle.std.specs.List.{range_with_len, filter_map, cons_option}
 use Rattle.std.proofs.lemmas.List.FromFn.{length-range_with_len, get_or-range_with_len}
 use Rattle.std.proofs.lemmas.Bool.{and_parts, or_right, leb-true}
 use Rattle.std.proofs.lemmas.Option.{none-some, same_Some}
 use Rattle.std.proofs.lemmas.List.Elements.{All-nil}
-use Rattle.model.specs.declared.host.Host.{Host}
 use Rattle.token_set.specs.Tokens.{Token}
-use Rattle.messages.specs.Shapes.{ShapeFields}
 use Rattle.messages.specs.Messages.{host_of, same_message, is_among, is_within, sending}
 use Rattle.messages.specs.declared.message.Message.{Message}
 use Rattle.messages.specs.declared.message.Message.TheVariants.{Hello}
 use Rattle.messages.specs.declared.event.Event.{Event}
-use Rattle.node_core.specs.State.{FileState, NodeState}
-use Rattle.token_server.specs.State.{Row, ServerState, begin, awaited_row}
+use Rattle.token_server.specs.State.{ServerState, begin, awaited_row}
 use Rattle.token_server.specs.Resends.{outstanding_of, outstanding}
 use Rattle.cluster_core.specs.World.{WorldState, has_node, is_alive}
-use Rattle.cluster_core.specs.Next.{recorded, with_server, failed, started, next_server}
+use Rattle.cluster_core.specs.Next.{recorded, failed, started, next_server}
 use Rattle.cluster_core.proofs.common.Choices.{at_number}
 use Rattle.cluster_core.proofs.steps.KnownMessages.{sent_before, sent_now, sent_either}
 use Rattle.cluster_core.proofs.steps.NodeTokens.{Only, only_mapped, first_among}
 use Rattle.cluster_core.proofs.steps.ServerRows.{IsCurrent, Serves}
 use Rattle.cluster_core.proofs.tokens.Epochs.{next_epoch}
-use Rattle.cluster_core.proofs.tokens.Talks.{IsHostOf, IsCommandTo, IsAnswerOf, command_host, in_epoch, unasked, Talk, MayHold}
-use Rattle.cluster_core.proofs.tokens.TalkMoves.{NoNews, talk-no_news, may_hold-no_news, IsStarting, talk-starts, may_hold-starts}
-use Rattle.cluster_core.proofs.tokens.Present.{Was, Holding, StayApart, IsBegun, begun_as, Present, serves-no_news}
+use Rattle.cluster_core.proofs.tokens.Talks.{IsHostOf, IsCommandTo, IsAnswerOf, in_epoch, unasked}
+use Rattle.cluster_core.proofs.tokens.TalkMoves.{NoNews, may_hold-no_news}
+use Rattle.cluster_core.proofs.tokens.TalkStarts.{IsStarting, talk-starts, may_hold-starts}
+use Rattle.cluster_core.proofs.tokens.Present.{Was, Holding, IsBegun, Present, serves-no_news}
 
 -- which servers work is nothing that it speaks of
 pub failed_present : (w : WorldState) → Present w → (file : ℕ) → Present (failed w file)
