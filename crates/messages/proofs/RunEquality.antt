@@ -1,6 +1,5 @@
 -- The derived `==` of runs is equality.
 use Rattle.std.proofs.Common.{◌≡◌, Bool, true, false, Decides, rules, refl, sym, subst}
-use Rattle.std.proofs.lemmas.Bool.{false≢true}
 use Rattle.messages.specs.contracts.token_run.TokenRunPartialEq.TheImpl as derived
 use Rattle.messages.specs.declared.token_run.TokenRun.{TokenRun}
 use Rattle.messages.specs.TokenRuns.{same_run}

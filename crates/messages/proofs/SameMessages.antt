@@ -1,10 +1,9 @@
 -- When two messages are one, and two events.
-use Rattle.std.specs.Prelude.{true, ℕ, ◌&&◌, ◌==◌, List, [], ◌∷◌}
+use Rattle.std.specs.Prelude.{true, ℕ, ◌&&◌, ◌==◌}
 use Rattle.std.proofs.Common.{◌≡◌, Bool, Decides, rules, arith, refl, sym, ap, subst, eq-eqb}
 use Rattle.std.proofs.lemmas.Bool.{and_parts, and_from, eqb-true, false≢true}
 use Rattle.std.proofs.lemmas.Bool.Decides.{Decides-at}
 use Rattle.std.proofs.lemmas.Grind.{common_steps}
-use Rattle.intervals.specs.Bytes.{Range}
 use Rattle.model.specs.declared.call.CallId.{CallId}
 use Rattle.model.specs.declared.host.Host.{Host}
 use Rattle.model.specs.declared.mode.Mode.{Mode}
@@ -26,7 +25,7 @@ use Rattle.messages.specs.declared.message.Urgency.TheVariants.{Now, Waits}
 use Rattle.messages.specs.declared.message.Message.{Message}
 use Rattle.messages.specs.declared.message.Message.TheVariants.{Request, Grant, Revoke, Taken, Released, Conflict, Deny, Freed, Hello, Report}
 use Rattle.messages.specs.SameRuns.{range_exact, range_refl, runs_exact, runs_refl}
-use Rattle.messages.specs.Messages.{same_call, same_range, same_wants, same_urgency, same_host, same_lock, same_message, SameMessageIsEquality}
+use Rattle.messages.specs.Messages.{same_call, same_wants, same_urgency, same_host, same_lock, same_message, SameMessageIsEquality}
 
 -- parts of messages that test alike are one
 mode_exact : (a b : Mode) → same_mode a b ≡ true → a ≡ b

@@ -1,5 +1,5 @@
 -- Numbers of commands, through the epochs of a token server.
-use Rattle.std.specs.Prelude.{ℕ, ◌+◌, ◌-◌, ◌*◌, ◌/◌}
+use Rattle.std.specs.Prelude.{◌≡◌, ℕ, ◌+◌, ◌-◌, ◌*◌, ◌/◌, ◌<◌, ◌≤◌}
 use Rattle.model.specs.Limits.{IsNumber}
 
 -- the greatest epoch of a token server
@@ -20,3 +20,14 @@ epoch_of number = number / 4294967296 + 1
 -- the number after which the epoch of a number begins
 abbrev pub begin_of : ℕ → ℕ
 begin_of number = before_epoch (epoch_of number)
+
+-- the number of a command: no epoch begins there, and an epoch has it
+pub record IsCommand (number : ℕ) : Type 0 where
+  pub begun : begin_of number < number
+  pub within : number < before_epoch (most_epochs + 1)
+
+-- the number after which the commands of a server that was rebuilt begin: its epoch is not the first
+pub record IsRebuilt (number : ℕ) : Type 0 where
+  pub begins : begin_of number ≡ number
+  pub rebuilt : 2 ≤ epoch_of number
+  pub within : epoch_of number ≤ most_epochs

@@ -1,7 +1,6 @@
 -- Who a message is for and from, and when two messages are one.
-use Rattle.std.specs.Prelude.{◌≡◌, ℕ, Bool, true, false, ◌&&◌, ◌==◌, nat_le, ◌↔◌, IsTrue, List, [], ◌∷◌, None}
+use Rattle.std.specs.Prelude.{◌≡◌, ℕ, Bool, true, false, ◌&&◌, ◌==◌, nat_le, ◌↔◌, IsTrue, List, None}
 use Rattle.std.specs.List.{list_any}
-use Rattle.intervals.specs.Bytes.{Range}
 use Rattle.model.specs.Owners.{same_mode, same_owner, host_of_call}
 pub use Rattle.model.specs.Owners.{same_host}
 use Rattle.model.specs.declared.call.CallId.{CallId}

@@ -1,6 +1,6 @@
 -- The token that a node reports to a server that was rebuilt.
 use Rattle.std.specs.Prelude.{ℕ, zero, suc, ◌+◌, ◌&&◌, ◌==◌, if◌then◌else◌, List, [], ◌∷◌, Option, Some, None}
-use Rattle.intervals.specs.Bytes.{Range, greatest, is_in}
+use Rattle.intervals.specs.Bytes.{greatest, is_in}
 use Rattle.model.specs.declared.level.Level.{Level}
 use Rattle.messages.specs.declared.token_run.TokenRun.{TokenRun}
 use Rattle.messages.specs.TokenRuns.{same_level}

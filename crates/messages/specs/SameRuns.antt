@@ -1,7 +1,7 @@
 -- When two lists of runs of tokens are one.
-use Rattle.std.specs.Prelude.{true, ◌&&◌, ◌==◌, List, [], ◌∷◌}
+use Rattle.std.specs.Prelude.{true, List, [], ◌∷◌}
 use Rattle.std.specs.Cmp.{IsEquivalence, IsPartialEquivalence, partial_equiv_from_equiv, decided}
-use Rattle.std.proofs.Common.{◌≡◌, Bool, Decides, refl, sym, subst, eq-eqb}
+use Rattle.std.proofs.Common.{◌≡◌, Decides, refl, subst, eq-eqb}
 use Rattle.std.proofs.lemmas.Bool.{and_parts, and_from, eqb-true, false≢true}
 use Rattle.intervals.specs.Bytes.{Range}
 use Rattle.model.specs.declared.level.Level.{Level}
@@ -19,12 +19,12 @@ range_exact a b h =
 pub range_refl : (a : Range) → same_range a a ≡ true
 range_refl a = and_from _ _ (eq-eqb a.lo a.lo refl) (eq-eqb a.hi a.hi refl)
 
-level_exact : (a b : Level) → same_level a b ≡ true → a ≡ b
+pub level_exact : (a b : Level) → same_level a b ≡ true → a ≡ b
 level_exact Shared Shared h = refl
 level_exact Exclusive Exclusive h = refl
 level_exact _ _ h = absurd (false≢true h)
 
-level_refl : (a : Level) → same_level a a ≡ true
+pub level_refl : (a : Level) → same_level a a ≡ true
 level_refl Shared = refl
 level_refl Exclusive = refl
 

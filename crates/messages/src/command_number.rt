@@ -1,7 +1,6 @@
 //! Numbers of commands.
-ghost use Rattle.std.specs.Prelude.{◌≡◌, ◌≤◌, ◌<◌, ◌↔◌, ◌+◌, IfSome, IsSome};
-ghost use Rattle.model.specs.Limits.{IsNumber};
-ghost use Rattle.messages.specs.Epochs.{most_epochs, IsEpoch, before_epoch, epoch_of};
+ghost use Rattle.std.specs.Prelude.{◌≡◌, ◌≤◌, ◌+◌};
+ghost use Rattle.messages.specs.Epochs.{IsEpoch, IsCommand, before_epoch, epoch_of};
 
 use std::marker::Model;
 
@@ -11,24 +10,25 @@ pub const GREATEST_NUMBER: u32 = 4_294_967_295;
 /// How many epochs the server of a file may have.
 pub const MOST_EPOCHS: u16 = 65_535;
 
-const NUMBERS: u64 = 4_294_967_296;
+/// How many numbers an epoch has. No command has the first of them.
+pub(crate) const NUMBERS: u64 = 4_294_967_296;
 
 /// The number of a command of a token server to a node, counted on through the epochs of the server:
-/// each epoch has 4,294,967,296 numbers, of which the first is not one of a command.
+/// in each of them the commands are numbered 1 to 4,294,967,295.
 #[derive(Clone, Copy, Debug, PartialEq, Eq, Hash)]
 pub struct CommandNumber {
     count: u64,
 }
 
 impl Model for CommandNumber {
-    ghost use Rattle.std.specs.Prelude.{ℕ, ◌≤◌, ◌<◌, ◌+◌};
-    ghost use Rattle.messages.specs.Epochs.{before_epoch, most_epochs};
+    ghost use Rattle.std.specs.Prelude.{ℕ};
+    ghost use Rattle.messages.specs.Epochs.{IsCommand};
 
     ghost Value = { ℕ };
 
     ghost view = { λ c. c.count };
 
-    ghost invariant = { λ c. (1 ≤ c.count) × (c.count < before_epoch (most_epochs + 1)) };
+    ghost invariant = { λ c. IsCommand c.count };
 
     ghost inverse = { λ n. record { count = n } };
 }
@@ -37,12 +37,20 @@ impl CommandNumber {
     /// The command with that number, from 1, of the epoch, the first being 1.
     pub fn of(epoch: u16, number: u32) -> CommandNumber
         requires epoch_in { IsEpoch epoch }
-        requires number_in { 1 ≤ number }
+        requires counted { 1 ≤ number }
         ensures { result ≡ before_epoch epoch + number }
     {
         CommandNumber {
             count: (epoch as u64 - 1) * NUMBERS + number as u64,
         }
+    }
+
+    /// The command with that count.
+    pub fn counted(count: u64) -> CommandNumber
+        requires { IsCommand count }
+        ensures { result ≡ count }
+    {
+        CommandNumber { count }
     }
 
     /// The epoch, from 1.
@@ -53,18 +61,18 @@ impl CommandNumber {
         (self.count / NUMBERS + 1) as u16
     }
 
-    /// The number in its epoch.
+    /// The number in its epoch, from 1.
     pub fn number(self) -> u32
-        ensures { before_epoch (epoch_of self) + result ≡ self }
+        ensures value { before_epoch (epoch_of self) + result ≡ self }
+        ensures counted { 1 ≤ result }
     {
         (self.count % NUMBERS) as u32
     }
 
-    /// The count, from 1.
+    /// The count.
     pub fn get(self) -> u64
         ensures value { result ≡ self }
-        ensures least { 1 ≤ result }
-        ensures within { result < before_epoch (most_epochs + 1) }
+        ensures counted { IsCommand result }
     {
         self.count
     }

@@ -1,11 +1,12 @@
 //! Events.
-ghost use Rattle.std.specs.Prelude.{◌≡◌, ◌↔◌, IsTrue};
+ghost use Rattle.std.specs.Prelude.{◌≡◌, ◌↔◌, IsTrue, IfOk};
 
 use crate::message::Message;
 use model::op::Op;
+use std::alloc::{AllocError, Global};
 
 /// What may happen. A loss is a message that no event delivers, a repeat a second delivery.
-#[derive(Debug, PartialEq, Eq, Drop)]
+#[derive(Clone, Debug, PartialEq, Eq, Drop)]
 pub enum Event {
     /// A process of a node makes a call.
     Call {
@@ -59,5 +60,18 @@ impl Event {
         ensures { IsTrue result ↔ (self.now ≡ other.now) }
     {
         self == other
+    }
+
+    /// An equal event.
+    ///
+    /// # Errors
+    /// `AllocError` where a request for memory was refused.
+    pub fn copy(&self, alloc: Global) -> Result<Event, AllocError>
+        ensures { IfOk result (λ copy. copy ≡ self.now) }
+    {
+        match self {
+            Event::Deliver(message) => Ok(Event::Deliver(message.copy(alloc)?)),
+            _ => self.clone(),
+        }
     }
 }

@@ -1,5 +1,6 @@
 //! Runs of tokens.
-ghost use Rattle.std.specs.Prelude.{◌≡◌, IfOk};
+ghost use Rattle.std.specs.Prelude.{◌≡◌, ◌↔◌, true, IfOk, IfSome, IsSome, IsTrue, map};
+ghost use Rattle.messages.specs.TokenRuns.{are_longest, may_follow, run_of};
 
 use intervals::span::Span;
 use model::level::Level;
@@ -14,19 +15,34 @@ pub struct TokenRun {
     pub level: Level,
 }
 
-/// The runs of a token, which contracts see as their list.
+/// The longest runs of a token, by first byte, which contracts see as their list.
 #[derive(Debug, Drop)]
 pub struct TokenRuns {
     runs: Vec<TokenRun>,
 }
 
 impl Model for TokenRuns {
-    ghost use Rattle.std.specs.Prelude.{List};
+    ghost use Rattle.std.specs.Prelude.{◌≡◌, true, List};
     ghost use Rattle.messages.specs.declared.token_run.TokenRun.{TokenRun};
+    ghost use Rattle.messages.specs.TokenRuns.{are_longest};
 
     ghost Value = { List TokenRun };
 
     ghost view = { λ a. a.runs.items };
+
+    ghost invariant = { λ a. are_longest a.runs.items ≡ true };
+}
+
+impl Clone for TokenRuns {
+    ghost use Rattle.std.specs.Prelude.{◌≡◌};
+
+    ghost is_clone = { λ a b. b ≡ a };
+
+    fn clone(&self) -> Result<TokenRuns, AllocError> {
+        Ok(TokenRuns {
+            runs: self.runs.clone()?,
+        })
+    }
 }
 
 impl PartialEq for TokenRuns {
@@ -59,19 +75,76 @@ impl Hash for TokenRuns {
     fn hash<H: Hasher>(&self, _state: &mut H) {}
 }
 
+// Whether the second run may stand next.
+fn may_follow(one: TokenRun, next: TokenRun) -> bool
+    ensures { result ≡ may_follow one next }
+{
+    let touches = next.span.lo == one.span.hi + 1;
+    one.span.hi < next.span.lo && !(touches && next.level == one.level)
+}
+
+// Whether these are the longest runs of a token, by first byte.
+fn are_longest(runs: &[TokenRun]) -> bool
+    ensures { result ≡ are_longest runs.now }
+{
+    let [first, rest @ ..] = runs else {
+        return true;
+    };
+    let mut last = *first;
+    for run in rest {
+        if !may_follow(last, *run) {
+            return false;
+        }
+        last = *run;
+    }
+    true
+}
+
 impl TokenRuns {
-    /// These runs.
-    pub fn new(runs: Vec<TokenRun>) -> TokenRuns
-        ensures { result ≡ runs.items }
+    /// These runs, which are known to be the longest of a token, by first byte.
+    ///
+    /// # Errors
+    /// `AllocError` where a request for memory was refused.
+    pub fn of(alloc: Global, runs: &[(Span, Level)]) -> Result<TokenRuns, AllocError>
+        requires { are_longest (map run_of runs.now) ≡ true }
+        ensures { IfOk result (λ made. made ≡ map run_of runs.now) }
     {
-        TokenRuns { runs }
+        let mut listed = Vec::with_capacity(alloc, runs.len())?;
+        for (span, level) in runs {
+            listed.push_reserved(TokenRun {
+                span: *span,
+                level: *level,
+            });
+        }
+        Ok(TokenRuns { runs: listed })
+    }
+
+    /// These runs, if they are the longest of a token, by first byte: each begins past the one before,
+    /// and those that touch differ in level.
+    pub fn new(runs: Vec<TokenRun>) -> Option<TokenRuns>
+        ensures value { IfSome result (λ made. made ≡ runs.items) }
+        ensures longest { IsSome result ↔ (are_longest runs.items ≡ true) }
+    {
+        if are_longest(runs.as_slice()) {
+            Some(TokenRuns { runs })
+        } else {
+            None
+        }
     }
 
     /// The runs, by first byte.
     pub fn as_slice(&self) -> &[TokenRun]
-        ensures { result.now ≡ self.now }
+        ensures value { result.now ≡ self.now }
+        ensures longest { are_longest self.now ≡ true }
     {
         self.runs.as_slice()
+    }
+
+    /// Whether both are the same runs.
+    pub fn same(&self, other: &TokenRuns) -> bool
+        ensures { IsTrue result ↔ (self.now ≡ other.now) }
+    {
+        self == other
     }
 
     /// The same runs.

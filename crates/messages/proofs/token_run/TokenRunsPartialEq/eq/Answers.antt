@@ -1,4 +1,3 @@
-use Rattle.std.proofs.Common.{◌≡◌, Bool, List}
 use Rattle.std.proofs.lemmas.Slice.Eq.{slice_eq-Decides}
 use Rattle.messages.specs.TokenRuns.{same_runs}
 use Rattle.messages.specs.SameRuns.{runs_decide}
