@@ -11,7 +11,7 @@ fn lists_keep_the_order(rt: HostRuntime) -> Result<(), Fail> {
     let mut items: Items<u16> = Items::new(rt.alloc());
     items.push(3)?;
     items.push(1)?;
-    assert!(rt; items.as_slice() == &[3, 1]);
+    assert!(rt; items.as_slice() == [3, 1].as_slice());
     Ok(())
 }
 
