@@ -1,12 +1,12 @@
 -- The longest runs of a token: what a report of it tells, and that no other list is theirs.
-use Rattle.std.specs.Prelude.{◌==◌}
-use Rattle.std.proofs.Common.{◌≡◌, ◌≢◌, ℕ, zero, suc, ◌+◌, ◌<◌, ◌≤◌, Bool, true, false, not, ◌&&◌, if◌then◌else◌, inl, inr, refl, sym, ◌∙◌, ap, subst, arith, List, [], ◌∷◌, Option, Some, None}
+use Rattle.std.specs.Prelude.{◌==◌, slice_index_or}
+use Rattle.std.proofs.Common.{◌≡◌, ◌≢◌, ◌⊎◌, ℕ, zero, suc, ◌+◌, ◌-◌, ◌<◌, ◌≤◌, Bool, true, false, not, ◌&&◌, if◌then◌else◌, inl, inr, refl, sym, ◌∙◌, ap, subst, arith, List, [], ◌∷◌, length, map, All, AllPairs, Contains, Option, Some, None}
 use Rattle.std.proofs.lemmas.Bool.{and_parts, and_from, cases_lt, cases_order, eqb-true, false≢true, false_from_ne_true}
 use Rattle.std.proofs.lemmas.Bool.Decides.{nat_tests}
-use Rattle.intervals.specs.Bytes.{greatest, is_in, AllAre}
+use Rattle.intervals.specs.Bytes.{Range, greatest, is_in, AllAre, IsRun}
 use Rattle.model.specs.declared.level.Level.{Level}
 use Rattle.messages.specs.declared.token_run.TokenRun.{TokenRun}
-use Rattle.messages.specs.TokenRuns.{same_level, may_follow, go_on_after, are_longest}
+use Rattle.messages.specs.TokenRuns.{same_level, may_follow, go_on_after, are_longest, run_of}
 use Rattle.messages.specs.SameRuns.{level_exact, level_refl}
 use Rattle.messages.specs.Reports.{joined, runs_from, runs_of, reported}
 
@@ -191,3 +191,166 @@ runs_one t first (r ∷ rest) (q ∷ others) h o =
     let heads = next_one t first r q h.0 o.0 in
     let tails = runs_one t (r.span.hi + 1) rest others h.1 (subst (λ (x : TokenRun). AreRunsFrom t (x.span.hi + 1) others) (sym heads) o.1) in
     λ i. heads i ∷ tails i
+
+-- The runs of bytes with a level, and the list of them.
+module _ (t : ℕ → Option Level) (ends : Ends t) where
+  level_at : (a b : Level) → (a ≡ b) ⊎ (a ≡ b → ⊥)
+  level_at a b = elim (same_level a b) as (λ c. same_level a b ≡ c → (a ≡ b) ⊎ (a ≡ b → ⊥)) [
+    | true ↦ λ h. inl (level_exact a b h)
+    | false ↦ λ h. inr (λ is. false≢true (sym h ∙ subst (λ (x : Level). same_level a x ≡ true) is (level_refl a)))
+  ] refl
+
+  at_byte : (b : ℕ) (v : Level) → (t b ≡ Some v) ⊎ (t b ≢ Some v)
+  at_byte b v = elim (t b) as (λ o. (o ≡ Some v) ⊎ (o ≢ Some v)) [
+    | None ↦ inr (λ h. absurd cc)
+    | Some w ↦ elim (level_at w v) [ inl is ↦ inl (ap Some is) | inr other ↦ inr (λ h. other cc) ]
+  ]
+
+  -- the bytes below that have the same level with it
+  begins_at : (b : ℕ) (v : Level) → t b ≡ Some v → (lo : ℕ) × (lo ≤ b) × AllAre t (record { lo = lo; hi = b }) (Some v) × ((x : ℕ) → x + 1 ≡ lo → t x ≢ Some v)
+  begins_at zero v is = (zero, omega arith, λ x low upto. subst (λ (y : ℕ). t y ≡ Some v) (let same : zero ≡ x = omega arith in same) is, λ x next. absurd (omega arith))
+  begins_at (suc b) v is = elim (at_byte b v) [
+    | inl before ↦
+        let found = begins_at b v before in
+        let all : AllAre t (record { lo = found.0; hi = suc b }) (Some v) = λ x low upto. elim (cases_lt x (suc b)) [
+          | inl lt ↦ found.2 x low (omega arith)
+          | inr ge ↦ subst (λ (y : ℕ). t y ≡ Some v) (let same : suc b ≡ x = omega arith in same) is
+        ] in
+        let low = found.1 in
+        (found.0, omega arith, all, found.3)
+    | inr other ↦
+        let one : AllAre t (record { lo = suc b; hi = suc b }) (Some v) = λ x low upto. subst (λ (y : ℕ). t y ≡ Some v) (let same : suc b ≡ x = omega arith in same) is in
+        (suc b, omega arith, one, λ x next. subst (λ (y : ℕ). t y ≢ Some v) (let same : b ≡ x = omega arith in same) other)
+  ]
+
+  -- and those above, of which there are fewer than n
+  ends_at : (n b : ℕ) (v : Level) → greatest < b + n → t b ≡ Some v → (hi : ℕ) × (b ≤ hi) × AllAre t (record { lo = b; hi = hi }) (Some v) × (t (hi + 1) ≢ Some v)
+  ends_at zero b v past is = let none = ends b (omega arith) in absurd cc
+  ends_at (suc n) b v past is = elim (at_byte (b + 1) v) [
+    | inl more ↦
+        let found = ends_at n (b + 1) v (omega arith) more in
+        let all : AllAre t (record { lo = b; hi = found.0 }) (Some v) = λ x low upto. elim (cases_lt b x) [
+          | inl lt ↦ found.2 x (omega arith) upto
+          | inr ge ↦ subst (λ (y : ℕ). t y ≡ Some v) (let same : b ≡ x = omega arith in same) is
+        ] in
+        let high = found.1 in
+        (found.0, omega arith, all, found.3)
+    | inr other ↦
+        let one : AllAre t (record { lo = b; hi = b }) (Some v) = λ x low upto. subst (λ (y : ℕ). t y ≡ Some v) (let same : b ≡ x = omega arith in same) is in
+        (b, omega arith, one, other)
+  ]
+
+  -- the longest run around a byte
+  run_around : (b : ℕ) (v : Level) → t b ≡ Some v → (s : Range) × IsRun t s v × (s.lo ≤ b) × (b ≤ s.hi)
+  run_around b v is =
+      let down = begins_at b v is in
+      let up = ends_at (greatest + 1) b v (omega arith) is in
+      let low = down.1 in
+      let high = up.1 in
+      let all : AllAre t (record { lo = down.0; hi = up.0 }) (Some v) = λ x above upto. elim (cases_lt x b) [
+        | inl lt ↦ down.2 x above (omega arith)
+        | inr ge ↦ up.2 x ge upto
+      ] in
+      (record { lo = down.0; hi = up.0 }, record { ordered = omega arith; all = all; begins = down.3; ends = up.3 }, low, high)
+
+  -- all runs from the first byte on are listed, and none goes on there
+  record ListsFrom (first : ℕ) (runs : List (Range × Level)) : Type 0 where
+    edge : (b : ℕ) (v : Level) → b + 1 ≡ first → t b ≡ Some v → t first ≢ Some v
+    late : All (λ (r : Range × Level). first ≤ r.0.lo) runs
+    each : All (λ (r : Range × Level). IsRun t r.0 r.1) runs
+    complete : (s : Range) (v : Level) → IsRun t s v → first ≤ s.lo → Contains runs (s, v)
+    rises : AllPairs (λ (r q : Range × Level). r.0.lo < q.0.lo) runs
+
+  -- a byte from there on is in a run that begins there or later
+  late_run : (first : ℕ) (runs : List (Range × Level)) → ListsFrom first runs → (b : ℕ) (v : Level) → first ≤ b → t b ≡ Some v → (s : Range) × Contains runs (s, v) × (s.lo ≤ b)
+  late_run first runs l b v low is =
+      let found = run_around b v is in
+      let run = found.1 in
+      let below = found.2 in
+      let above = found.3 in
+      let late : first ≤ found.0.lo = elim (cases_lt found.0.lo first) [
+        | inl lt ↦ absurd (l.edge (first - 1) v (omega arith) (run.all (first - 1) (omega arith) (omega arith)) (run.all first (omega arith) (omega arith)))
+        | inr le ↦ le
+      ] in
+      (found.0, l.complete found.0 v run late, below)
+
+  nothing_at : (o : Option Level) → ((v : Level) → o ≡ Some v → ⊥) → o ≡ None
+  nothing_at None h = refl
+  nothing_at (Some v) h = absurd (h v refl)
+
+  at_head : {A : Type 0} (x : A) (xs : List A) (y : A) → Contains (x ∷ xs) y → (x ≡ y) ⊎ Contains xs y
+  at_head x xs y (zero, lt, is) = inl is
+  at_head x xs y (suc k, lt, is) = inr (k, omega arith, is)
+
+  listed_runs : (first : ℕ) (runs : List (Range × Level)) → ListsFrom first runs → AreRunsFrom t first (map run_of runs)
+  listed_runs first [] l = λ b low. nothing_at (t b) (λ v is. let found = late_run first [] l b v low is in let inside = found.1.1 in omega arith)
+  listed_runs first (r ∷ rest) l = (next, listed_runs (r.0.hi + 1) rest others)
+    where
+      run : IsRun t r.0 r.1
+      run = l.each 0 r (omega arith)
+
+      from_first : (q : Range × Level) → Contains (r ∷ rest) q → r.0.lo ≤ q.0.lo
+      from_first q (zero, lt, is) = let same = ap (λ (x : Range × Level). x.0.lo) is in omega arith
+      from_first q (suc k, lt, is) =
+          let same = ap (λ (x : Range × Level). x.0.lo) is in
+          let later = l.rises 0 (suc k) q (omega arith) lt in
+          omega arith
+
+      next : IsNext t first (run_of r)
+      next = record {
+        after = l.late 0 r (omega arith);
+        ordered = run.ordered;
+        none_before = λ b low lt. nothing_at (t b) (λ v is. let found = late_run first (r ∷ rest) l b v low is in let above = from_first (found.0, v) found.1 in let below = found.2 in omega arith);
+        all = run.all;
+        ends = run.ends;
+      }
+
+      -- the next begins past this one
+      past : (k : ℕ) (d : Range × Level) → k < length rest → r.0.hi + 1 ≤ (slice_index_or rest k d).0.lo
+      past k d lt =
+          let q = slice_index_or rest k d in
+          let later : r.0.lo < q.0.lo = l.rises 0 (suc k) d (omega arith) (omega arith) in
+          let other : IsRun t q.0 q.1 = l.each (suc k) d (omega arith) in
+          elim (cases_lt r.0.hi q.0.lo) [
+            | inl beyond ↦ omega arith
+            | inr within ↦
+                let here : t q.0.lo ≡ Some r.1 = run.all q.0.lo (omega arith) within in
+                let there : t q.0.lo ≡ Some q.1 = other.all q.0.lo (omega arith) other.ordered in
+                let before : t (q.0.lo - 1) ≡ Some r.1 = run.all (q.0.lo - 1) (omega arith) (omega arith) in
+                let levels : r.1 ≡ q.1 = cc in
+                absurd (other.begins (q.0.lo - 1) (omega arith) (before ∙ ap Some levels))
+          ]
+
+      others : ListsFrom (r.0.hi + 1) rest
+      others = record {
+        edge = λ b v is at.
+            let same : b ≡ r.0.hi = omega arith in
+            let there : t r.0.hi ≡ Some v = subst (λ (x : ℕ). t x ≡ Some v) same at in
+            let here : t r.0.hi ≡ Some r.1 = run.all r.0.hi run.ordered (omega arith) in
+            let levels : r.1 ≡ v = cc in
+            subst (λ (w : Level). t (r.0.hi + 1) ≢ Some w) levels run.ends;
+        late = past;
+        each = λ k d lt. l.each (suc k) d (omega arith);
+        complete = λ s v is low.
+            let after = l.late 0 r (omega arith) in
+            let ordered = run.ordered in
+            elim (at_head r rest (s, v) (l.complete s v is (omega arith))) [
+              | inl same ↦ let los = ap (λ (x : Range × Level). x.0.lo) same in absurd (omega arith)
+              | inr later ↦ later
+            ];
+        rises = λ i j d lt within. l.rises (suc i) (suc j) d (omega arith) (omega arith);
+      }
+
+  -- a list of each longest run once, by first byte, is theirs
+  module _ (runs : List (Range × Level)) (each : All (λ (r : Range × Level). IsRun t r.0 r.1) runs) (complete : (s : Range) (v : Level) → IsRun t s v → Contains runs (s, v)) (rises : AllPairs (λ (r q : Range × Level). r.0.lo < q.0.lo) runs) where
+    pub lists_runs_of : map run_of runs ≡ runs_of t
+    lists_runs_of =
+        runs_one t 0 (map run_of runs) (runs_of t)
+        (listed_runs 0 runs (record {
+          edge = λ b v is. absurd (omega arith);
+          late = λ k d lt. omega arith;
+          each = each;
+          complete = λ s v is low. complete s v is;
+          rises = rises;
+        }))
+        (runs_of-are t ends)
