@@ -134,6 +134,7 @@ impl Crowd {
     /// Those of `restart`.
     pub fn next(&self, node: u16) -> Result<u16, Refused>
         ensures ok { IfOk result (λ incarnation. restarted (members_state self.now) node ≡ Ok (with_restarted (members_state self.now) node, incarnation)) }
+        ensures later { IfOk result (λ incarnation. 2 ≤ incarnation) }
         ensures within { IfOk result (λ incarnation. IsNumber most_incarnations incarnation) }
         ensures err { IfErr result (λ e. restarted (members_state self.now) node ≡ Err e) }
     {

@@ -1,5 +1,5 @@
 //! The members of a cluster.
-ghost use Rattle.std.specs.Prelude.{◌≡◌, IfSome, IfOk, IfErr, OnErr, Ok, Err};
+ghost use Rattle.std.specs.Prelude.{◌≡◌, ◌≤◌, IfSome, IfOk, IfErr, OnErr, Ok, Err};
 ghost use Rattle.model.specs.Limits.{IsNumber};
 ghost use Rattle.members.specs.Members.{most_incarnations, first_members, live_incarnation, was_declared, with_restarted, declared_failed, restarted};
 ghost use Rattle.members.specs.Parts.{members_state};
@@ -119,6 +119,19 @@ impl Members {
         ensures unchanged { OnErr result (self.new ≡ self.old) }
     {
         self.servers.declare(file)
+    }
+
+    /// The epoch in which the token server of the file would begin again now, from 2.
+    ///
+    /// # Errors
+    /// Those of `start_server`.
+    pub fn next_epoch(&self, file: u16) -> Result<u16, Refused>
+        ensures ok { IfOk result (λ epoch. restarted (members_state self.now.servers) file ≡ Ok (with_restarted (members_state self.now.servers) file, epoch)) }
+        ensures later { IfOk result (λ epoch. 2 ≤ epoch) }
+        ensures within { IfOk result (λ epoch. IsNumber most_incarnations epoch) }
+        ensures err { IfErr result (λ e. restarted (members_state self.now.servers) file ≡ Err e) }
+    {
+        self.servers.next(file)
     }
 
     /// The token server of the file begins again, in the next epoch. In which one it does.
