@@ -92,5 +92,6 @@ fn add_copy(alloc: Global, sent: &mut Vec<Message>, message: &Message) -> Result
     ensures ok { OnOk result (sent.new.items ≡ sent.old.items ++ message.now ∷ []) }
     ensures err { OnErr result (sent.new.items ≡ sent.old.items) }
 {
-    sent.push(message.copy(alloc)?)
+    sent.push(message.copy(alloc)?)?;
+    Ok(())
 }
