@@ -16,6 +16,7 @@ use Rattle.messages.specs.declared.actor.Actor.TheVariants.{Node as ANode, Serve
 use Rattle.messages.specs.declared.message.Message.{Message}
 use Rattle.messages.specs.declared.message.Message.TheVariants.{Grant, Revoke, Deny, Hello, Report}
 use Rattle.messages.specs.Reports.{runs_of}
+use Rattle.messages.proofs.Reports.{Ends, tells_token}
 use Rattle.messages.specs.declared.event.Event.{Event}
 use Rattle.messages.specs.declared.event.Event.TheVariants.{Call, Deliver, Interrupt, Retry, Resend, Declare, Restart, Learn, FailServer, StartServer}
 use Rattle.messages.specs.declared.entry.Entry.{Entry}
@@ -48,7 +49,7 @@ use Rattle.cluster_core.proofs.steps.NodeSteps.{call_done, deliver_done, interru
 use Rattle.cluster_core.proofs.steps.Steps.{next_taken, next_unfenced, node_step, server_step, declare_step, restart_step, fail_step, start_step}
 use Rattle.cluster_core.proofs.tokens.Lowering.{IsWithin, within_itself, within_excludes}
 use Rattle.cluster_core.proofs.tokens.Talks.{Sent, IsHostOf, IsCommandTo, IsAnswerOf, same_answer_of, no_answer, command_host, answer_host, unasked, IsLast, Talk, MayHold, counted_live}
-use Rattle.cluster_core.proofs.tokens.Epochs.{Ends, EndsOf, entered_ends, begin_of_upto, tells_token}
+use Rattle.cluster_core.proofs.tokens.Epochs.{EndsOf, entered_ends, begin_of_upto}
 use Rattle.cluster_core.proofs.tokens.Starts.{failed_present, started_present}
 use Rattle.cluster_core.proofs.tokens.TalkMoves.{NoNews, talk-no_news, may_hold-no_news, talk-renewed, may_hold-renewed, IsTelling, talk-tells, may_hold-tells, IsDoing, done_file, talk-does, may_hold-does}
 use Rattle.cluster_core.proofs.tokens.RowMoves.{IsCommanding}

@@ -16,7 +16,8 @@ use Rattle.cluster_core.proofs.steps.NodeSteps.{IsTo, told_either}
 use Rattle.cluster_core.proofs.steps.NodeTokens.{Does, Receives, AsksFrom, denied_asks, grant_receives, revoke_receives}
 use Rattle.cluster_core.proofs.tokens.Talks.{promised, settled, unasked}
 use Rattle.cluster_core.proofs.tokens.TalkMoves.{done_file}
-use Rattle.cluster_core.proofs.tokens.Epochs.{Ends, EndsOf, entered_ends}
+use Rattle.messages.proofs.Reports.{Ends}
+use Rattle.cluster_core.proofs.tokens.Epochs.{EndsOf, entered_ends}
 
 -- a Grant is of bytes of a file
 abbrev pub IsShort : Message → Type 0
