@@ -77,9 +77,9 @@ more-epoch epoch before (Ok done) keeps = one-epoch epoch (done.0, before ++ don
 more-epoch epoch before (Err e) keeps = none-epoch epoch e
 
 then-epoch : (epoch : ℕ) (r : Result (ServerState × List Message) StepError) (next : ServerState → Result (ServerState × List Message) StepError) → Keeps epoch r → ((t : ServerState) → Keeps t.epoch (next t)) → Keeps epoch (and_then r next)
-then-epoch epoch (Ok done) next keeps then =
-    more-epoch epoch done.1 (next done.0) (subst (λ (k : ℕ). Keeps k (next done.0)) (keeps done refl) (then done.0))
-then-epoch epoch (Err e) next keeps then = none-epoch epoch e
+then-epoch epoch (Ok done) next keeps later =
+    more-epoch epoch done.1 (next done.0) (subst (λ (k : ℕ). Keeps k (next done.0)) (keeps done refl) (later done.0))
+then-epoch epoch (Err e) next keeps later = none-epoch epoch e
 
 each-epoch : (rs : List TokenRequest) (s : ServerState) → Keeps s.epoch (each_served rs s)
 each-epoch [] s = one-epoch s.epoch (s, []) refl
@@ -143,7 +143,7 @@ sends-epoch epoch first (Err e) keeps p h = absurd (cc)
 
 then_serve-epoch : (s : ServerState) (c : Option Change) → Stays s.epoch c → KeepsAll s.epoch (then_serve s (Ok c))
 then_serve-epoch s None stays p h = subst (λ (x : ServerState × Outcome). x.0.epoch ≡ s.epoch) (ok_is _ p h) refl
-then_serve-epoch s (Some x) stays = subst (λ (k : ℕ). KeepsAll k (sending_first x.1 (serve x.0))) stays (sends-epoch x.0.epoch x.1 (serve x.0) (serve-epoch x.0))
+then_serve-epoch s (Some x) stays p h = subst (λ (k : ℕ). KeepsAll k (sending_first x.1 (serve x.0))) stays (sends-epoch x.0.epoch x.1 (serve x.0) (serve-epoch x.0)) p h
 
 change-epoch : (s : ServerState) (m : Message) → KeepsAll s.epoch (then_serve s (change s m))
 change-epoch s m =
