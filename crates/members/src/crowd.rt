@@ -104,6 +104,21 @@ impl Crowd {
         }
     }
 
+    /// The greatest incarnation of the node that was declared failed, 0 where none was.
+    pub fn dead(&self, node: u16) -> u16
+        ensures { result ≡ (members_state self.now).incarnation node - 1 }
+    {
+        if !self.has(node) {
+            return 0;
+        }
+        let member = self.nodes[node as usize - 1];
+        if member.alive {
+            member.last - 1
+        } else {
+            member.last
+        }
+    }
+
     /// The node is declared failed. Which incarnation of it was alive.
     ///
     /// # Errors

@@ -1,5 +1,5 @@
 //! The members of a cluster.
-ghost use Rattle.std.specs.Prelude.{◌≡◌, ◌≤◌, IfSome, IfOk, IfErr, OnErr, Ok, Err};
+ghost use Rattle.std.specs.Prelude.{◌≡◌, ◌-◌, ◌≤◌, IfSome, IfOk, IfErr, OnErr, Ok, Err};
 ghost use Rattle.model.specs.Limits.{IsNumber};
 ghost use Rattle.members.specs.Members.{most_incarnations, first_members, live_incarnation, was_declared, with_restarted, declared_failed, restarted};
 ghost use Rattle.members.specs.Parts.{members_state};
@@ -55,6 +55,13 @@ impl Members {
         ensures { result ≡ was_declared (members_state self.now.nodes) node incarnation }
     {
         self.nodes.declared(node as u16, incarnation)
+    }
+
+    /// The greatest incarnation of the node that was declared failed, 0 where none was.
+    pub fn dead(&self, node: u8) -> u16
+        ensures { result ≡ (members_state self.now.nodes).incarnation node - 1 }
+    {
+        self.nodes.dead(node as u16)
     }
 
     /// The node is declared failed. Which incarnation of it was alive.
