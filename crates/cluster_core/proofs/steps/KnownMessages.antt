@@ -26,7 +26,7 @@ sent_now xs ys m h = is_among-append xs ys m ∙ or_right (is_among xs m) (is_am
 pub sent_either : (xs ys : List Message) (m : Message) → is_among (xs ++ ys) m ≡ true → (is_among xs m ≡ true) ⊎ (is_among ys m ≡ true)
 sent_either xs ys m h = or_cases (is_among xs m) (is_among ys m) (sym (is_among-append xs ys m) ∙ h)
 
-same_message--- no message
+-- no message
 pub knows_none : (places : Places) → ((f : ℕ) → get nat_eq places f ≡ None) → KnowsFirst places [] [] 0
 knows_none places none = record {
   finds = λ q. ap (λ (o : Option ℕ). stands_at [] q o || false) (none (fingerprint q));
