@@ -5,7 +5,7 @@ use Rattle.std.specs.List.{list_any, range_with_len}
 use Rattle.std.proofs.lemmas.Bool.{and_parts, both_ways, cases_Bool, eqb-true, eq-eqb, false≢true, or_right}
 use Rattle.std.proofs.lemmas.Bool.Decides.{nat_tests}
 use Rattle.std.proofs.lemmas.Option.{none-some, same_Some}
-use Rattle.std.proofs.lemmas.List.Elements.{All-nil, All-head, All-tail}
+use Rattle.std.proofs.lemmas.List.Elements.{All-nil}
 use Rattle.intervals.specs.Bytes.{Range}
 use Rattle.model.specs.declared.call.CallId.{CallId}
 use Rattle.model.specs.declared.host.Host.{Host}
@@ -61,11 +61,11 @@ use Rattle.cluster_core.proofs.steps.Tries.{IsSilent, not_busy}
 use Rattle.cluster_core.proofs.history.Nodes.{IsOpen, IsExplained, IsDenied, IsNoDeclaration, Moves, found_open}
 use Rattle.cluster_core.proofs.steps.Moves.{delivered_receives, quiet_receives, interrupted_receives, retried_receives, call_moves}
 use Rattle.cluster_core.proofs.history.Lifting.{IsFreeElsewhere}
-use Rattle.cluster_core.proofs.steps.NodeTokens.{called_asks, tried_if_asks, interrupted_asks}
+use Rattle.cluster_core.proofs.steps.NodeTokens.{all_among, called_asks, tried_if_asks, interrupted_asks}
 use Rattle.cluster_core.proofs.tokens.Epochs.{EndsOf}
 use Rattle.cluster_core.proofs.tokens.Ending.{IsShort, asks_ends, delivered_ends}
 use Rattle.cluster_core.proofs.tokens.Unbarred.{safe_free}
-use Rattle.cluster_core.proofs.steps.Requested.{Comes, Makes, Tells, mapped, delivered-steps, resend-steps, learn-steps}
+use Rattle.cluster_core.proofs.steps.Requested.{Comes, AnyNumber, Makes, Tells, mapped, delivered-steps, resend-steps, learn-steps}
 use Rattle.cluster_core.proofs.steps.Sends.{IsFreely, AsksFor, EntersConflicts, called-sends, tried_if-sends, interrupted-sends, delivered-sends}
 use Rattle.cluster_core.proofs.history.Slots.{slotted_first, all_slotted_first, slots_fit, slots_legal, slots_at_their_places}
 use Rattle.cluster_core.proofs.history.Plain.{plain_slots, plain_legal, plain_items}
@@ -91,15 +91,6 @@ node_in _ = 0
 restarted_node : {m n : ℕ} → Restart m ≡ Restart n → m ≡ n
 unfolding node_in
 restarted_node h = ap node_in h
-
--- a message that was sent is backed
-among_backed : (P : Message → Type 0) (ms : List Message) (m : Message) → All P ms → is_among ms m ≡ true → P m
-among_backed P [] m all h = absurd (false≢true h)
-among_backed P (x ∷ xs) m all h =
-    elim (same_message m x) as (λ b. same_message m x ≡ b → (b || list_any (same_message m) xs) ≡ true → P m) [
-      | true ↦ λ same here. subst P (sym ((same_message-is-equality m x).0 same)) (All-head P x xs all)
-      | false ↦ λ other here. among_backed P xs m (All-tail P x xs all) here
-    ] refl h
 
 -- one that passes a test is among them
 passing : (test : Message → Bool) (ms : List Message) → list_any test ms ≡ true → (m : Message) × (is_among ms m ≡ true) × (test m ≡ true)
@@ -168,7 +159,7 @@ module _ (shape : ShapeFields) (past : List Entry) (w : WorldState) (few : IsNum
   After event p = next w event ≡ Ok p → IsSafe p.0 → IsNumber most_nodes p.0.shape.nodes × Good shape (past ++ p.1 ∷ []) p.0
 
   known_backed : (m : Message) → is_among w.sent m ≡ true → Backed shape past w m
-  known_backed m known = among_backed (Backed shape past w) w.sent m g.backed known
+  known_backed m known = all_among (Backed shape past w) w.sent m g.backed known
 
   freely : (run : List Entry) (v : WorldState) → IsFreely (Backed shape run v)
   freely run v = record { taken = λ file number call. tt; released = λ file number holder call span. tt; freed = λ file holder. tt; report = λ file number holder runs. tt }
@@ -380,14 +371,14 @@ module _ (shape : ShapeFields) (past : List Entry) (w : WorldState) (few : IsNum
       elim (deliver_done s m done h) [ inl taken ↦ subst P taken.1 (delivered_good n m there known taken.0) | inr passed ↦ subst P passed (idle_good n m there known) ]
 
   -- a step of a server
-  makes : (file : ℕ) → Makes file (HeldFor shape past file) (Backed shape past w)
+  makes : (file : ℕ) → Makes file AnyNumber (HeldFor shape past file) (Backed shape past w)
   makes file = record {
-    grants = λ number r span held bound. let asked = asked_ends shape past file r.call r.mode r.wanted.required held.0 in let likes = held.2 in omega arith;
-    revokes = λ number holder r desired held other. (held.0, other);
+    grants = λ number r span any held bound. let asked = asked_ends shape past file r.call r.mode r.wanted.required held.0 in let likes = held.2 in omega arith;
+    revokes = λ number holder r desired any held other. (held.0, other);
   }
 
   abbrev Serves : ℕ → Result (ServerState × Outcome) StepError → Type 0
-  Serves file r = (done : ServerState × Outcome) → r ≡ Ok done → Comes file (HeldFor shape past file) (Backed shape past w) done.0 × All (Backed shape past w) done.1.sends
+  Serves file r = (done : ServerState × Outcome) → r ≡ Ok done → Comes file AnyNumber (HeldFor shape past file) (Backed shape past w) done.0 × All (Backed shape past w) done.1.sends
 
   server_next : (event : Event) (file : ℕ) (r : Result (ServerState × Outcome) StepError) (p : WorldState × Entry) → ((done : ServerState × Outcome) → r ≡ Ok done → IsSending done) → IsNoDeclaration event → Serves file r → after_server w event file r ≡ Ok p → After event p
   server_next event file r p sends undeclared serves h = server_step w (After event) event file r p (λ done is.
@@ -398,17 +389,17 @@ module _ (shape : ShapeFields) (past : List Entry) (w : WorldState) (few : IsNum
   told_good : (m : Message) (file : ℕ) (p : WorldState × Entry) → Tells file (HeldFor shape past file) (Backed shape past w) m → after_server w (Deliver m) file (server_rule (w.servers file) (server.Deliver m)) ≡ Ok p → After (Deliver m) p
   told_good m file p tells h =
       let t = w.servers file in
-      server_next (Deliver m) file (server_rule t (server.Deliver m)) p (λ done is. server_rule-sending t (server.Deliver m) done is) tt (delivered-steps file (HeldFor shape past file) (Backed shape past w) (makes file) t m tells (g.comes file)) h
+      server_next (Deliver m) file (server_rule t (server.Deliver m)) p (λ done is. server_rule-sending t (server.Deliver m) done is) tt (delivered-steps file AnyNumber (HeldFor shape past file) (Backed shape past w) (makes file) t m tells (g.comes file)) h
 
   resend_good : (file : ℕ) (p : WorldState × Entry) → after_server w (Resend file) file (server_rule (w.servers file) server.Resend) ≡ Ok p → After (Resend file) p
   resend_good file p h =
       let t = w.servers file in
-      server_next (Resend file) file (server_rule t server.Resend) p (λ done is. server_rule-sending t server.Resend done is) tt (resend-steps file (HeldFor shape past file) (Backed shape past w) (makes file) t (g.comes file)) h
+      server_next (Resend file) file (server_rule t server.Resend) p (λ done is. server_rule-sending t server.Resend done is) tt (resend-steps file AnyNumber (HeldFor shape past file) (Backed shape past w) (makes file) t (g.comes file)) h
 
   learn_good : (file n i : ℕ) (p : WorldState × Entry) → after_server w (Learn file n i) file (server_rule (w.servers file) (server.Learn n i)) ≡ Ok p → After (Learn file n i) p
   learn_good file n i p h =
       let t = w.servers file in
-      server_next (Learn file n i) file (server_rule t (server.Learn n i)) p (λ done is. server_rule-sending t (server.Learn n i) done is) tt (learn-steps file (HeldFor shape past file) (Backed shape past w) (makes file) t n i (g.comes file)) h
+      server_next (Learn file n i) file (server_rule t (server.Learn n i)) p (λ done is. server_rule-sending t (server.Learn n i) done is) tt (learn-steps file AnyNumber (HeldFor shape past file) (Backed shape past w) (makes file) t n i (g.comes file)) h
 
   node_told : (n : ℕ) (m : Message) (p : WorldState × Entry) → has_node w n ≡ true → is_among w.sent m ≡ true → after_node w (Deliver m) n (node_rule (w.nodes n) (node.Deliver m)) ≡ Ok p → After (Deliver m) p
   node_told n m p there known h = node_step w (After (Deliver m)) (Deliver m) n (node_rule (w.nodes n) (node.Deliver m)) p (λ done is. message_good n m done there known is) h
@@ -431,11 +422,12 @@ module _ (shape : ShapeFields) (past : List Entry) (w : WorldState) (few : IsNum
   rebuilt_outstanding : (file n : ℕ) (m : Message) → outstanding_of ((next_server w file).rows n) ≡ Some m → Backed shape past w m
   rebuilt_outstanding file n m h = asks_rebuilt file n (has_node w n && w.alive n) m h
 
-  rebuilt_comes : (file : ℕ) → Comes file (HeldFor shape past file) (Backed shape past w) (next_server w file)
+  rebuilt_comes : (file : ℕ) → Comes file AnyNumber (HeldFor shape past file) (Backed shape past w) (next_server w file)
   rebuilt_comes file = record {
     file_is = refl;
     held = All-nil (HeldFor shape past file);
     outstanding = λ n row m there h. rebuilt_outstanding file n m (ap outstanding_of there ∙ h);
+    numbers = λ number fits. tt;
   }
 
   start_good : (event : Event) → IsNoDeclaration event → (file : ℕ) → After event (recorded (started w file) event ((w.servers file).epoch + 1) (sending (outstanding (next_server w file))))
@@ -517,6 +509,7 @@ good_first shape = record {
     file_is = refl;
     held = All-nil (HeldFor shape [] file);
     outstanding = λ n row m there h. absurd (none-some row there);
+    numbers = λ number fits. tt;
   };
   slotted = slotted_first shape;
   all = all_slotted_first;
@@ -587,7 +580,7 @@ module _ (shape : ShapeFields) (is_shape : IsShape shape) (Q : WorldState → Ty
   evidence_after es w file call holder number lock l told =
       let both = both_after es w l in
       let g = both.good in
-      let backed : (m : Message) → is_among w.sent m ≡ true → Backed shape es w m = λ m known. among_backed (Backed shape es w) w.sent m g.backed known in
+      let backed : (m : Message) → is_among w.sent m ≡ true → Backed shape es w m = λ m known. all_among (Backed shape es w) w.sent m g.backed known in
       elim told [
         | inl conflict ↦ (backed (Conflict file number holder call lock) conflict).evidence
         | inr rest ↦ elim rest [
@@ -600,5 +593,5 @@ module _ (shape : ShapeFields) (is_shape : IsShape shape) (Q : WorldState → Ty
   pub no_wait_after : (es : List Entry) (w : WorldState) (file : ℕ) (call : CallId) (holder : Host) (number : ℕ) (lock : LockInfo) (pid : ℕ) (op : Op) (at : ℕ) → Leads (first_world shape) es w → is_among w.sent (Deny file call holder number lock) ≡ true → IsCalledAt es call pid op at → is_wait op ≡ false
   no_wait_after es w file call holder number lock pid op at l sent called =
       let g = (both_after es w l).good in
-      let urgency = (among_backed (Backed shape es w) w.sent (Deny file call holder number lock) g.backed sent).1 in
+      let urgency = (all_among (Backed shape es w) w.sent (Deny file call holder number lock) g.backed sent).1 in
       ap is_wait (called_one es call pid urgency.pid op urgency.op at urgency.at g.one_call called urgency.called).op_is ∙ urgency.waits

@@ -44,7 +44,7 @@ use Rattle.cluster_core.proofs.history.Prefixes.{after_all}
 use Rattle.cluster_core.proofs.history.Slots.{Slotted, AllSlotted, Stands}
 use Rattle.cluster_core.proofs.history.Placing.{Placed, nothing_placed, gone_placed, answer_placed, denial_placed}
 use Rattle.cluster_core.proofs.history.Quiet.{refusal_names}
-use Rattle.cluster_core.proofs.steps.Requested.{Comes, comes-weaker}
+use Rattle.cluster_core.proofs.steps.Requested.{Comes, AnyNumber, comes-weaker}
 use Rattle.cluster_core.proofs.steps.Sends.{AsksFor}
 use Rattle.cluster_core.proofs.history.Witnesses.{asked_ends, IsAskedBy, MayRefuse, for_urgency, Denies, Backed, HeldFor, StaysOpen, asked-keeps, held-keeps, backed-keeps}
 
@@ -71,7 +71,7 @@ pub record Good (shape : ShapeFields) (past : List Entry) (w : WorldState) : Typ
   pub asked : (n : ℕ) → All (IsAskedBy shape past (w.nodes n)) (w.nodes n).pending
   pub ends : (n : ℕ) → EndsOf (w.nodes n)
   pub backed : All (Backed shape past w) w.sent
-  pub comes : (file : ℕ) → Comes file (HeldFor shape past file) (Backed shape past w) (w.servers file)
+  pub comes : (file : ℕ) → Comes file AnyNumber (HeldFor shape past file) (Backed shape past w) (w.servers file)
   pub slotted : Slotted shape past (slots_of past)
   pub all : AllSlotted past (slots_of past)
 
@@ -104,13 +104,13 @@ stays_same past s =
     All-weaker (Contains s.pending) P (λ c there. inl (there, refl)) s.pending (All-contains_itself s.pending)
 
 -- what servers keep, of which one may have made a step
-comes-push : (shape : ShapeFields) (past : List Entry) (e : Entry) (w v : WorldState) (file : ℕ) (t : ServerState) → ((n : ℕ) → StaysOpen past (w.nodes n) (v.nodes n)) → Comes file (HeldFor shape past file) (Backed shape past w) t → Comes file (HeldFor shape (past ++ e ∷ []) file) (Backed shape (past ++ e ∷ []) v) t
-comes-push shape past e w v file t stays c = comes-weaker file (HeldFor shape past file) (HeldFor shape (past ++ e ∷ []) file) (Backed shape past w) (Backed shape (past ++ e ∷ []) v) t
+comes-push : (shape : ShapeFields) (past : List Entry) (e : Entry) (w v : WorldState) (file : ℕ) (t : ServerState) → ((n : ℕ) → StaysOpen past (w.nodes n) (v.nodes n)) → Comes file AnyNumber (HeldFor shape past file) (Backed shape past w) t → Comes file AnyNumber (HeldFor shape (past ++ e ∷ []) file) (Backed shape (past ++ e ∷ []) v) t
+comes-push shape past e w v file t stays c = comes-weaker file AnyNumber (HeldFor shape past file) (HeldFor shape (past ++ e ∷ []) file) (Backed shape past w) (Backed shape (past ++ e ∷ []) v) t
     (held-keeps shape past e file)
     (λ m b. backed-keeps shape past e w v stays m b) c
 
 -- a step after which servers alone differ
-module _ (shape : ShapeFields) (past : List Entry) (w : WorldState) (servers : ℕ → ServerState) (working : ℕ → Bool) (event : Event) (incarnation : ℕ) (o : Outcome) (no_call : o.call ≡ None) (no_reply : o.reply ≡ None) (undeclared : IsNoDeclaration event) (g : Good shape past w) (step : next w event ≡ Ok (recorded (record w { servers = servers; working = working }) event incarnation o)) (each : (f : ℕ) → Comes f (HeldFor shape past f) (Backed shape past w) (servers f)) (sends : All (Backed shape past w) o.sends) where
+module _ (shape : ShapeFields) (past : List Entry) (w : WorldState) (servers : ℕ → ServerState) (working : ℕ → Bool) (event : Event) (incarnation : ℕ) (o : Outcome) (no_call : o.call ≡ None) (no_reply : o.reply ≡ None) (undeclared : IsNoDeclaration event) (g : Good shape past w) (step : next w event ≡ Ok (recorded (record w { servers = servers; working = working }) event incarnation o)) (each : (f : ℕ) → Comes f AnyNumber (HeldFor shape past f) (Backed shape past w) (servers f)) (sends : All (Backed shape past w) o.sends) where
   pub servers_good : Good shape (past ++ entry event incarnation o ∷ []) (recorded (record w { servers = servers; working = working }) event incarnation o).0
   servers_good =
       let e = entry event incarnation o in
@@ -142,13 +142,13 @@ module _ (shape : ShapeFields) (past : List Entry) (w : WorldState) (servers : �
       }
 
 -- one server is another
-pub put_comes : (shape : ShapeFields) (past : List Entry) (w : WorldState) (file : ℕ) (t : ServerState) → Good shape past w → Comes file (HeldFor shape past file) (Backed shape past w) t → (f : ℕ) → Comes f (HeldFor shape past f) (Backed shape past w) ((with_server w file t).servers f)
-put_comes shape past w file t g comes f = at_number f file (λ b. Comes f (HeldFor shape past f) (Backed shape past w) (if b then t else w.servers f))
-    (λ same. subst (λ (k : ℕ). Comes k (HeldFor shape past k) (Backed shape past w) t) (sym same) comes)
+pub put_comes : (shape : ShapeFields) (past : List Entry) (w : WorldState) (file : ℕ) (t : ServerState) → Good shape past w → Comes file AnyNumber (HeldFor shape past file) (Backed shape past w) t → (f : ℕ) → Comes f AnyNumber (HeldFor shape past f) (Backed shape past w) ((with_server w file t).servers f)
+put_comes shape past w file t g comes f = at_number f file (λ b. Comes f AnyNumber (HeldFor shape past f) (Backed shape past w) (if b then t else w.servers f))
+    (λ same. subst (λ (k : ℕ). Comes k AnyNumber (HeldFor shape past k) (Backed shape past w) t) (sym same) comes)
     (λ other. g.comes f)
 
 -- a step of a server
-module _ (shape : ShapeFields) (past : List Entry) (w : WorldState) (file : ℕ) (t : ServerState) (event : Event) (o : Outcome) (no_call : o.call ≡ None) (no_reply : o.reply ≡ None) (undeclared : IsNoDeclaration event) (g : Good shape past w) (step : next w event ≡ Ok (recorded (with_server w file t) event 0 o)) (comes : Comes file (HeldFor shape past file) (Backed shape past w) t) (sends : All (Backed shape past w) o.sends) where
+module _ (shape : ShapeFields) (past : List Entry) (w : WorldState) (file : ℕ) (t : ServerState) (event : Event) (o : Outcome) (no_call : o.call ≡ None) (no_reply : o.reply ≡ None) (undeclared : IsNoDeclaration event) (g : Good shape past w) (step : next w event ≡ Ok (recorded (with_server w file t) event 0 o)) (comes : Comes file AnyNumber (HeldFor shape past file) (Backed shape past w) t) (sends : All (Backed shape past w) o.sends) where
   pub server_good : Good shape (past ++ entry event 0 o ∷ []) (recorded (with_server w file t) event 0 o).0
   server_good = servers_good shape past w (with_server w file t).servers w.working event 0 o no_call no_reply undeclared g step (put_comes shape past w file t g comes) sends
 

@@ -1,8 +1,9 @@
 -- What a node's step does to its tokens, and what it sends.
 use Rattle.std.specs.Prelude.{◌==◌}
-use Rattle.std.specs.List.{filter_map, cons_option}
-use Rattle.std.proofs.Common.{◌≡◌, ℕ, ◌+◌, Bool, true, false, if◌then◌else◌, ◌||◌, ◌⊎◌, inl, inr, refl, sym, ◌∙◌, ap, subst, List, [], ◌∷◌, ◌++◌, Option, Some, None, Result, Ok, Err}
-use Rattle.std.proofs.lemmas.Bool.{or_cases, or_left}
+use Rattle.std.specs.List.{filter_map, cons_option, list_any}
+use Rattle.std.proofs.Common.{◌≡◌, ℕ, ◌+◌, Bool, true, false, if◌then◌else◌, ◌||◌, ◌⊎◌, inl, inr, refl, sym, ◌∙◌, ap, subst, List, [], ◌∷◌, ◌++◌, All, Option, Some, None, Result, Ok, Err}
+use Rattle.std.proofs.lemmas.Bool.{or_cases, or_left, or_right, false≢true}
+use Rattle.std.proofs.lemmas.List.Elements.{All-nil, All-cons, All-head, All-tail}
 use Rattle.intervals.specs.Bytes.{Range}
 use Rattle.model.specs.declared.call.CallId.{CallId}
 use Rattle.model.specs.declared.host.Host.{Host}
@@ -64,8 +65,21 @@ only_mapped P f (n ∷ ns) each = elim (f n) as (λ o. f n ≡ o → Only P (con
   | Some m ↦ λ is. only_more P m (filter_map f ns) (each n m is) (only_mapped P f ns each)
 ] refl
 
+-- what holds of all holds of each that is among them, and the other way round
+pub all_among : (P : Message → Type 0) (ms : List Message) (m : Message) → All P ms → is_among ms m ≡ true → P m
+all_among P [] m all h = absurd (false≢true h)
+all_among P (x ∷ xs) m all h =
+    elim (same_message m x) as (λ b. same_message m x ≡ b → (b || list_any (same_message m) xs) ≡ true → P m) [
+      | true ↦ λ same here. subst P (sym ((same_message-is-equality m x).0 same)) (All-head P x xs all)
+      | false ↦ λ other here. all_among P xs m (All-tail P x xs all) here
+    ] refl h
+
 pub first_among : (x : Message) (xs : List Message) → is_among (x ∷ xs) x ≡ true
 first_among x xs = or_left (same_message x x) (is_among xs x) ((same_message-is-equality x x).1 refl)
+
+pub only_all : (P : Message → Type 0) (ms : List Message) → Only P ms → All P ms
+only_all P [] each = All-nil P
+only_all P (x ∷ xs) each = All-cons P x xs (each x (first_among x xs)) (only_all P xs (λ m there. each m (or_right (same_message m x) (is_among xs m) there)))
 
 -- the node in that incarnation asks for a token, or tells that locks may be gone
 abbrev pub IsAsking : ℕ → ℕ → Message → Type 0

@@ -2,7 +2,7 @@
 use Rattle.std.specs.Prelude.{max, pred, IfSome, is_some, nat_le, nat_lt, ◌==◌, filter, filter_map, option_map}
 use Rattle.std.specs.List.{range_with_len, cons_option}
 use Rattle.std.proofs.Common.{◌≡◌, ℕ, ◌+◌, ◌-◌, ◌≤◌, Bool, true, false, not, ◌&&◌, if◌then◌else◌, ◌⊎◌, inl, inr, refl, sym, ◌∙◌, ap, subst, arith, List, [], ◌∷◌, ◌++◌, All, Option, Some, None, Result, Ok, Err}
-use Rattle.std.proofs.lemmas.Bool.{and_parts, both_ways, leb-true, eq-eqb, not-true}
+use Rattle.std.proofs.lemmas.Bool.{and_parts, both_ways, leb-true, ltb-true, eq-eqb, not-true}
 use Rattle.std.proofs.lemmas.Option.{none-some, same_Some}
 use Rattle.std.proofs.lemmas.List.Elements.{All-nil, All-cons, All-head, All-tail, All-append, All-weaker}
 use Rattle.intervals.specs.Bytes.{Range, largest_around}
@@ -76,23 +76,29 @@ granted_end t r =
     let free = around_end (is_taken t r) r.wanted.required (narrowed t.active r) in
     omega arith
 
--- the requests that a server keeps are of one kind, its commands of another
-pub record Comes (file : ℕ) (H : TokenRequest → Type 0) (C : Message → Type 0) (t : ServerState) : Type 0 where
+-- the requests that a server keeps are of one kind, its commands of another, and so are the numbers of those that it makes
+pub record Comes (file : ℕ) (K : ℕ → Type 0) (H : TokenRequest → Type 0) (C : Message → Type 0) (t : ServerState) : Type 0 where
   pub file_is : t.file ≡ file
   pub held : All H (requests t)
   pub outstanding : (n : ℕ) (row : Row) (m : Message) → t.rows n ≡ Some row → row.outstanding ≡ Some m → C m
+  pub numbers : (number : ℕ) → number ≤ begin t + greatest_number → K number
 
-pub comes-weaker : (file : ℕ) (H G : TokenRequest → Type 0) (C D : Message → Type 0) (t : ServerState) → ((r : TokenRequest) → H r → G r) → ((m : Message) → C m → D m) → Comes file H C t → Comes file G D t
-comes-weaker file H G C D t to told c = record {
+pub comes-weaker : (file : ℕ) (K : ℕ → Type 0) (H G : TokenRequest → Type 0) (C D : Message → Type 0) (t : ServerState) → ((r : TokenRequest) → H r → G r) → ((m : Message) → C m → D m) → Comes file K H C t → Comes file K G D t
+comes-weaker file K H G C D t to told c = record {
   file_is = c.file_is;
   held = All-weaker H G to (requests t) c.held;
   outstanding = λ n row m there h. told m (c.outstanding n row m there h);
+  numbers = c.numbers;
 }
 
+-- where nothing is said of the numbers
+abbrev pub AnyNumber : ℕ → Type 0
+AnyNumber number = Unit {0}
+
 -- the commands that it may make of them
-pub record Makes (file : ℕ) (H : TokenRequest → Type 0) (C : Message → Type 0) : Type 0 where
-  pub grants : (number : ℕ) (r : TokenRequest) (span : Range) → H r → span.hi ≤ max r.wanted.required.hi r.wanted.desired.hi → C (Grant file number r.call r.mode span)
-  pub revokes : (number : ℕ) (holder : Host) (r : TokenRequest) (desired : Range) → H r → (holder.node ≡ r.call.node → ⊥) → C (Revoke file number holder r.call r.mode (record { required = r.wanted.required; desired = desired }))
+pub record Makes (file : ℕ) (K : ℕ → Type 0) (H : TokenRequest → Type 0) (C : Message → Type 0) : Type 0 where
+  pub grants : (number : ℕ) (r : TokenRequest) (span : Range) → K number → H r → span.hi ≤ max r.wanted.required.hi r.wanted.desired.hi → C (Grant file number r.call r.mode span)
+  pub revokes : (number : ℕ) (holder : Host) (r : TokenRequest) (desired : Range) → K number → H r → (holder.node ≡ r.call.node → ⊥) → C (Revoke file number holder r.call r.mode (record { required = r.wanted.required; desired = desired }))
 
 -- it may send the denial of a call whose request it serves, where that may not wait
 abbrev pub MayDeny : (TokenRequest → Type 0) → (Message → Type 0) → CallId → Message → Type 0
@@ -104,15 +110,15 @@ Tells file H C (Request f call urgency mode wanted) = H (record { call = call; u
 Tells file H C (Conflict f number holder call lock) = MayDeny H C call (Deny file call holder number lock)
 Tells file H C _ = Unit {0}
 
-module _ (file : ℕ) (H : TokenRequest → Type 0) (C : Message → Type 0) (makes : Makes file H C) where
+module _ (file : ℕ) (K : ℕ → Type 0) (H : TokenRequest → Type 0) (C : Message → Type 0) (makes : Makes file K H C) where
   -- other requests of that kind
   abbrev Holds : ServerState → Type 0
-  Holds u = All H (requests u) → Comes file H C u
+  Holds u = All H (requests u) → Comes file K H C u
 
-  moved-comes : (t : ServerState) → Comes file H C t → WhateverRequests Holds t
-  moved-comes t c active queue waiting held = record { file_is = c.file_is; held = held; outstanding = c.outstanding }
+  moved-comes : (t : ServerState) → Comes file K H C t → WhateverRequests Holds t
+  moved-comes t c active queue waiting held = record { file_is = c.file_is; held = held; outstanding = c.outstanding; numbers = c.numbers }
 
-  with_row-comes : (t : ServerState) (n : ℕ) (row : Row) → ((m : Message) → row.outstanding ≡ Some m → C m) → Comes file H C t → Comes file H C (with_row t n (Some row))
+  with_row-comes : (t : ServerState) (n : ℕ) (row : Row) → ((m : Message) → row.outstanding ≡ Some m → C m) → Comes file K H C t → Comes file K H C (with_row t n (Some row))
   with_row-comes t n row told c = record {
     file_is = c.file_is;
     held = c.held;
@@ -120,9 +126,10 @@ module _ (file : ℕ) (H : TokenRequest → Type 0) (C : Message → Type 0) (ma
       | true ↦ λ is. told m (ap (λ (x : Row). x.outstanding) (same_Some row r is) ∙ h)
       | false ↦ λ is. c.outstanding k r m is h
     ] there;
+    numbers = c.numbers;
   }
 
-  forgotten-comes : (t : ServerState) (node i : ℕ) → Comes file H C t → Comes file H C (forgotten t node i)
+  forgotten-comes : (t : ServerState) (node i : ℕ) → Comes file K H C t → Comes file K H C (forgotten t node i)
   forgotten-comes t node i c = record {
     file_is = c.file_is;
     held = forgotten-each H t node i c.held;
@@ -130,46 +137,47 @@ module _ (file : ℕ) (H : TokenRequest → Type 0) (C : Message → Type 0) (ma
       | true ↦ λ is. c.outstanding k r m (row_above_kept i (t.rows k) r is) h
       | false ↦ λ is. c.outstanding k r m is h
     ] there;
+    numbers = c.numbers;
   }
 
-  with_a_row-comes : (t : ServerState) (call : CallId) (o : Option Row) → Comes file H C t → Comes file H C (with_a_row t call o)
+  with_a_row-comes : (t : ServerState) (call : CallId) (o : Option Row) → Comes file K H C t → Comes file K H C (with_a_row t call o)
   with_a_row-comes t call None c = with_row-comes t call.node (empty_row (begin t) call.incarnation) (λ m h. absurd (none-some m h)) c
   with_a_row-comes t call (Some row) c = c
 
-  enqueued-comes : (t : ServerState) (r : TokenRequest) → H r → Comes file H C t → Comes file H C (enqueued t r)
+  enqueued-comes : (t : ServerState) (r : TokenRequest) → H r → Comes file K H C t → Comes file K H C (enqueued t r)
   enqueued-comes t r held c = enqueued-stays Holds t (moved-comes t c) r (enqueued-each H t r held c.held)
 
-  asked-comes : (t : ServerState) (r : TokenRequest) → H r → Comes file H C t → Comes file H C (asked t r)
+  asked-comes : (t : ServerState) (r : TokenRequest) → H r → Comes file K H C t → Comes file K H C (asked t r)
   asked-comes t r held c =
       let young = forgotten t r.call.node (r.call.incarnation - 1) in
       enqueued-comes (with_a_row young r.call (young.rows r.call.node)) r held (with_a_row-comes young r.call (young.rows r.call.node) (forgotten-comes t r.call.node (r.call.incarnation - 1) c))
 
-  acknowledged-comes : (t : ServerState) (node : ℕ) (row : Row) (token : Token) → Comes file H C t → Comes file H C (acknowledged t node row token)
+  acknowledged-comes : (t : ServerState) (node : ℕ) (row : Row) (token : Token) → Comes file K H C t → Comes file K H C (acknowledged t node row token)
   acknowledged-comes t node row token c = with_row-comes t node (record row { token = token; outstanding = None }) (λ m h. absurd (none-some m h)) c
 
-  ended-comes : (t : ServerState) (call : CallId) → Comes file H C t → Comes file H C (ended call t)
+  ended-comes : (t : ServerState) (call : CallId) → Comes file K H C t → Comes file K H C (ended call t)
   ended-comes t call c = moved-comes t c (filter (λ r. not (is_of_call call r)) t.active) t.queue t.waiting (ended-each H call t c.held)
 
-  postponed-comes : (t : ServerState) (call : CallId) → Comes file H C t → Comes file H C (postponed call t)
+  postponed-comes : (t : ServerState) (call : CallId) → Comes file K H C t → Comes file K H C (postponed call t)
   postponed-comes t call c = moved-comes t c (filter (λ r. not (is_of_call call r)) t.active) t.queue (t.waiting ++ put_off (request_of call t.active)) (postponed-each H call t c.held)
 
-  requeued-comes : (t : ServerState) → Comes file H C t → Comes file H C (requeued t)
+  requeued-comes : (t : ServerState) → Comes file K H C t → Comes file K H C (requeued t)
   requeued-comes t c = moved-comes t c t.active (t.queue ++ t.waiting) [] (requeued-each H t c.held)
 
-  freed-comes : (t : ServerState) (row : Option Row) → Comes file H C t → Comes file H C (freed t row)
+  freed-comes : (t : ServerState) (row : Option Row) → Comes file K H C t → Comes file K H C (freed t row)
   freed-comes t row c = freed-stays Holds t (moved-comes t c) row (freed-each H t row c.held)
 
   -- what a message changes, and what is sent for it
   abbrev Changes : Option Change → Type 0
-  Changes o = (c : Change) → o ≡ Some c → Comes file H C c.0 × All C c.1
+  Changes o = (c : Change) → o ≡ Some c → Comes file K H C c.0 × All C c.1
 
   changes_none : Changes None
   changes_none c h = absurd (none-some c h)
 
-  changes_one : (x : Change) → Comes file H C x.0 × All C x.1 → Changes (Some x)
-  changes_one x both c h = subst (λ (y : Change). Comes file H C y.0 × All C y.1) (same_Some x c h) both
+  changes_one : (x : Change) → Comes file K H C x.0 × All C x.1 → Changes (Some x)
+  changes_one x both c h = subst (λ (y : Change). Comes file K H C y.0 × All C y.1) (same_Some x c h) both
 
-  taken-changes : (t : ServerState) (number : ℕ) (call : CallId) (o : Option Row) → Comes file H C t → Changes (taken t number call o)
+  taken-changes : (t : ServerState) (number : ℕ) (call : CallId) (o : Option Row) → Comes file K H C t → Changes (taken t number call o)
   taken-changes t number call None c = changes_none
   taken-changes t number call (Some row) c =
       let next = acknowledged t call.node row row.token in
@@ -178,7 +186,7 @@ module _ (file : ℕ) (H : TokenRequest → Type 0) (C : Message → Type 0) (ma
         | false ↦ changes_none
       ]
 
-  released-changes : (t : ServerState) (number : ℕ) (holder : Host) (span : Range) (o : Option Row) → Comes file H C t → Changes (released t number holder span o)
+  released-changes : (t : ServerState) (number : ℕ) (holder : Host) (span : Range) (o : Option Row) → Comes file K H C t → Changes (released t number holder span o)
   released-changes t number holder span None c = changes_none
   released-changes t number holder span (Some row) c =
       let next : Mode → Change = λ mode. (acknowledged t holder.node row (lowered row.token span mode), []) in
@@ -195,7 +203,7 @@ module _ (file : ℕ) (H : TokenRequest → Type 0) (C : Message → Type 0) (ma
         | false ↦ λ is. All-nil C
       ] refl
 
-  conflict-changes : (t : ServerState) (number : ℕ) (holder : Host) (call : CallId) (lock : LockInfo) (o : Option Row) → MayDeny H C call (Deny file call holder number lock) → Comes file H C t → Changes (in_conflict t number holder call lock o)
+  conflict-changes : (t : ServerState) (number : ℕ) (holder : Host) (call : CallId) (lock : LockInfo) (o : Option Row) → MayDeny H C call (Deny file call holder number lock) → Comes file K H C t → Changes (in_conflict t number holder call lock o)
   conflict-changes t number holder call lock None told c = changes_none
   conflict-changes t number holder call lock (Some row) told c =
       let next = acknowledged t holder.node row row.token in
@@ -207,7 +215,7 @@ module _ (file : ℕ) (H : TokenRequest → Type 0) (C : Message → Type 0) (ma
         | Some mode ↦ changes_one (made mode) (postponed-comes next call (acknowledged-comes t holder.node row row.token c), denial-sends call deny (request_of call t.active) (find-each H (is_of_call call) t.active (requests-parts H t c.held).active) (find-passes (is_of_call call) t.active) here)
       ]
 
-  heard-changes : (t : ServerState) (number : ℕ) (holder : Host) (runs : List TokenRun) (o : Option Row) → Comes file H C t → Changes (heard t number holder runs o)
+  heard-changes : (t : ServerState) (number : ℕ) (holder : Host) (runs : List TokenRun) (o : Option Row) → Comes file K H C t → Changes (heard t number holder runs o)
   heard-changes t number holder runs None c = changes_none
   heard-changes t number holder runs (Some row) c =
       let next = acknowledged t holder.node row (reported runs) in
@@ -216,7 +224,7 @@ module _ (file : ℕ) (H : TokenRequest → Type 0) (C : Message → Type 0) (ma
         | false ↦ changes_none
       ]
 
-  delivered-changes : (t : ServerState) (m : Message) → Tells file H C m → Comes file H C t → Changes (delivered t m)
+  delivered-changes : (t : ServerState) (m : Message) → Tells file H C m → Comes file K H C t → Changes (delivered t m)
   delivered-changes t (Request f call urgency mode wanted) told c =
       let r : TokenRequest = record { call = call; urgency = urgency; mode = mode; wanted = wanted } in
       changes_one (asked t r, []) (asked-comes t r told c, All-nil C)
@@ -234,34 +242,42 @@ module _ (file : ℕ) (H : TokenRequest → Type 0) (C : Message → Type 0) (ma
 
   -- serving
   abbrev Serves : Result (ServerState × List Message) StepError → Type 0
-  Serves r = (done : ServerState × List Message) → r ≡ Ok done → Comes file H C done.0 × All C done.1
+  Serves r = (done : ServerState × List Message) → r ≡ Ok done → Comes file K H C done.0 × All C done.1
 
-  serves_one : (x : ServerState × List Message) → Comes file H C x.0 × All C x.1 → Serves (Ok x)
-  serves_one x both done h = subst (λ (y : ServerState × List Message). Comes file H C y.0 × All C y.1) (ok_is x done h) both
+  serves_one : (x : ServerState × List Message) → Comes file K H C x.0 × All C x.1 → Serves (Ok x)
+  serves_one x both done h = subst (λ (y : ServerState × List Message). Comes file K H C y.0 × All C y.1) (ok_is x done h) both
 
   serves_none : (e : StepError) → Serves (Err e)
   serves_none e done h = absurd (cc)
 
-  commanded-serves : (t : ServerState) (node : ℕ) (row : Row) (token : Token) (command : Message) → C command → Comes file H C t → Serves (commanded t node row token command)
+  commanded-serves : (t : ServerState) (node : ℕ) (row : Row) (token : Token) (command : Message) → (row.number + 1 ≤ begin t + greatest_number → C command) → Comes file K H C t → Serves (commanded t node row token command)
   commanded-serves t node row token command told c =
       let next = record row { token = token; number = row.number + 1; outstanding = Some command } in
+      let few : Bool = nat_lt row.number (begin t + greatest_number) in
+      let R : Type 0 = Result (ServerState × List Message) StepError in
       if_either Serves (is_some row.outstanding) _ _ (serves_one (t, []) (c, All-nil C))
-      (if_either Serves (nat_lt row.number (begin t + greatest_number)) _ _ (serves_one (with_row t node (Some next), command ∷ []) (with_row-comes t node next (λ m h. subst C (same_Some command m h) told) c, All-cons C command [] told (All-nil C))) (serves_none Spent))
+      (elim few as (λ b. few ≡ b → Serves (let x : R = if b then Ok (with_row t node (Some next), command ∷ []) else Err Spent in x)) [
+        | true ↦ λ is.
+            let under = ltb-true row.number (begin t + greatest_number) is in
+            let fits = told (omega arith) in
+            serves_one (with_row t node (Some next), command ∷ []) (with_row-comes t node next (λ m h. subst C (same_Some command m h) fits) c, All-cons C command [] fits (All-nil C))
+        | false ↦ λ is. serves_none Spent
+      ] refl)
 
-  granted-serves : (t : ServerState) (r : TokenRequest) (o : Option Row) → H r → Comes file H C t → Serves (granted_to t r o)
+  granted-serves : (t : ServerState) (r : TokenRequest) (o : Option Row) → H r → Comes file K H C t → Serves (granted_to t r o)
   granted-serves t r None held c = serves_one (t, []) (c, All-nil C)
   granted-serves t r (Some row) held c =
       let span = granted_span t r in
-      commanded-serves t r.call.node row (raised row.token span r.mode) (Grant t.file (row.number + 1) r.call r.mode span) (subst (λ (f : ℕ). C (Grant f (row.number + 1) r.call r.mode span)) (sym c.file_is) (makes.grants (row.number + 1) r span held (granted_end t r))) c
+      commanded-serves t r.call.node row (raised row.token span r.mode) (Grant t.file (row.number + 1) r.call r.mode span) (λ few. subst (λ (f : ℕ). C (Grant f (row.number + 1) r.call r.mode span)) (sym c.file_is) (makes.grants (row.number + 1) r span (c.numbers (row.number + 1) few) held (granted_end t r))) c
 
-  revoked-serves : (t : ServerState) (r : TokenRequest) (node : ℕ) (o : Option Row) → H r → (node ≡ r.call.node → ⊥) → Comes file H C t → Serves (revoked_from t r node o)
+  revoked-serves : (t : ServerState) (r : TokenRequest) (node : ℕ) (o : Option Row) → H r → (node ≡ r.call.node → ⊥) → Comes file K H C t → Serves (revoked_from t r node o)
   revoked-serves t r node None held other c = serves_one (t, []) (c, All-nil C)
   revoked-serves t r node (Some row) held other c =
       let holder : Host = record { node = node; incarnation = row.incarnation } in
       let wanted : Wants = record { required = r.wanted.required; desired = narrowed t.active r } in
-      commanded-serves t node row row.token (Revoke t.file (row.number + 1) holder r.call r.mode wanted) (subst (λ (f : ℕ). C (Revoke f (row.number + 1) holder r.call r.mode wanted)) (sym c.file_is) (makes.revokes (row.number + 1) holder r (narrowed t.active r) held other)) c
+      commanded-serves t node row row.token (Revoke t.file (row.number + 1) holder r.call r.mode wanted) (λ few. subst (λ (f : ℕ). C (Revoke f (row.number + 1) holder r.call r.mode wanted)) (sym c.file_is) (makes.revokes (row.number + 1) holder r (narrowed t.active r) (c.numbers (row.number + 1) few) held other)) c
 
-  served-serves : (t : ServerState) (r : TokenRequest) → H r → Comes file H C t → Serves (served t r)
+  served-serves : (t : ServerState) (r : TokenRequest) → H r → Comes file K H C t → Serves (served t r)
   served-serves t r held c =
       let node = conflicting_node t r in
       elim (nat_le node t.shape.nodes) as (λ b. nat_le node t.shape.nodes ≡ b → Serves (if b then revoked_from t r node (t.rows node) else granted_to t r (t.rows r.call.node))) [
@@ -276,31 +292,31 @@ module _ (file : ℕ) (H : TokenRequest → Type 0) (C : Message → Type 0) (ma
       let both = serves done refl in
       serves_one (done.0, before ++ done.1) (both.0, All-append C before done.1 told both.1)
 
-  then-serves : (x : Result (ServerState × List Message) StepError) (next : ServerState → Result (ServerState × List Message) StepError) → Serves x → ((u : ServerState) → Comes file H C u → Serves (next u)) → Serves (and_then x next)
+  then-serves : (x : Result (ServerState × List Message) StepError) (next : ServerState → Result (ServerState × List Message) StepError) → Serves x → ((u : ServerState) → Comes file K H C u → Serves (next u)) → Serves (and_then x next)
   then-serves (Err e) next serves later = serves_none e
   then-serves (Ok done) next serves later =
       let both = serves done refl in
       more-serves done.1 (next done.0) both.1 (later done.0 both.0)
 
-  each-serves : (rs : List TokenRequest) (t : ServerState) → All H rs → Comes file H C t → Serves (each_served rs t)
+  each-serves : (rs : List TokenRequest) (t : ServerState) → All H rs → Comes file K H C t → Serves (each_served rs t)
   each-serves [] t held c = serves_one (t, []) (c, All-nil C)
   each-serves (r ∷ rest) t held c =
       then-serves (served t r) (each_served rest) (served-serves t r (All-head H r rest held) c) (λ u d. each-serves rest u (All-tail H r rest held) d)
 
-  ready-comes : (t : ServerState) → Comes file H C t → Comes file H C (ready t)
+  ready-comes : (t : ServerState) → Comes file K H C t → Comes file K H C (ready t)
   ready-comes t c = ready-stays Holds t (moved-comes t c) (ready-each H t c.held)
 
-  serve-serves : (t : ServerState) → Comes file H C t → Serves (serve t)
+  serve-serves : (t : ServerState) → Comes file K H C t → Serves (serve t)
   serve-serves t c =
       let next = ready-comes t c in
       if_either Serves (awaits t) _ _ (serves_one (t, []) (c, All-nil C)) (each-serves (ready t).active (ready t) (active-each H (ready t) next.held) next)
 
   -- a step of the server
   abbrev pub Steps : Result (ServerState × Outcome) StepError → Type 0
-  Steps r = (done : ServerState × Outcome) → r ≡ Ok done → Comes file H C done.0 × All C done.1.sends
+  Steps r = (done : ServerState × Outcome) → r ≡ Ok done → Comes file K H C done.0 × All C done.1.sends
 
-  steps_one : (x : ServerState × Outcome) → Comes file H C x.0 × All C x.1.sends → Steps (Ok x)
-  steps_one x both done h = subst (λ (y : ServerState × Outcome). Comes file H C y.0 × All C y.1.sends) (ok_is x done h) both
+  steps_one : (x : ServerState × Outcome) → Comes file K H C x.0 × All C x.1.sends → Steps (Ok x)
+  steps_one x both done h = subst (λ (y : ServerState × Outcome). Comes file K H C y.0 × All C y.1.sends) (ok_is x done h) both
 
   steps_none : (e : StepError) → Steps (Err e)
   steps_none e done h = absurd (cc)
@@ -311,20 +327,20 @@ module _ (file : ℕ) (H : TokenRequest → Type 0) (C : Message → Type 0) (ma
       let both = serves done refl in
       steps_one (done.0, sending (first ++ done.1)) (both.0, All-append C first done.1 told both.1)
 
-  then_serve-steps : (t : ServerState) (r : Result (Option Change) StepError) → Comes file H C t → ((o : Option Change) → r ≡ Ok o → Changes o) → Steps (then_serve t r)
+  then_serve-steps : (t : ServerState) (r : Result (Option Change) StepError) → Comes file K H C t → ((o : Option Change) → r ≡ Ok o → Changes o) → Steps (then_serve t r)
   then_serve-steps t (Err e) c changes = steps_none e
   then_serve-steps t (Ok None) c changes = steps_one (t, sending []) (c, All-nil C)
   then_serve-steps t (Ok (Some x)) c changes =
       let both = changes (Some x) refl x refl in
       sending_first-steps x.1 (serve x.0) both.1 (serve-serves x.0 both.0)
 
-  change-changes : (t : ServerState) (m : Message) → Tells file H C m → Comes file H C t → (o : Option Change) → change t m ≡ Ok o → Changes o
+  change-changes : (t : ServerState) (m : Message) → Tells file H C m → Comes file K H C t → (o : Option Change) → change t m ≡ Ok o → Changes o
   change-changes t m told c o h = elim (change_done t m o h).1 [ inl none ↦ subst Changes none changes_none | inr live ↦ subst Changes live.1 (delivered-changes t m told c) ]
 
-  pub delivered-steps : (t : ServerState) (m : Message) → Tells file H C m → Comes file H C t → Steps (server_rule t (Deliver m))
+  pub delivered-steps : (t : ServerState) (m : Message) → Tells file H C m → Comes file K H C t → Steps (server_rule t (Deliver m))
   delivered-steps t m told c = then_serve-steps t (change t m) c (change-changes t m told c)
 
-  pub resend-steps : (t : ServerState) → Comes file H C t → Steps (server_rule t Resend)
+  pub resend-steps : (t : ServerState) → Comes file K H C t → Steps (server_rule t Resend)
   resend-steps t c = sending_first-steps (outstanding t) (serve (requeued t)) (mapped C (λ node. outstanding_of (t.rows node)) (range_with_len 1 t.shape.nodes) each) (serve-serves (requeued t) (requeued-comes t c))
     where
       kept : (n : ℕ) (m : Message) (o : Option Row) → t.rows n ≡ o → outstanding_of o ≡ Some m → C m
@@ -334,7 +350,7 @@ module _ (file : ℕ) (H : TokenRequest → Type 0) (C : Message → Type 0) (ma
       each : (n : ℕ) (m : Message) → outstanding_of (t.rows n) ≡ Some m → C m
       each n m h = kept n m (t.rows n) refl h
 
-  pub learn-steps : (t : ServerState) (n i : ℕ) → Comes file H C t → Steps (server_rule t (Learn n i))
+  pub learn-steps : (t : ServerState) (n i : ℕ) → Comes file K H C t → Steps (server_rule t (Learn n i))
   learn-steps t n i c =
       let young = requeued (forgotten t n i) in
       if_either Steps (not (is_within t.shape.nodes n)) _ _ (steps_none Stranger) (sending_first-steps [] (serve young) (All-nil C) (serve-serves young (requeued-comes (forgotten t n i) (forgotten-comes t n i c))))

@@ -52,6 +52,19 @@ pub record IsFreely (P : Message → Type 0) : Type 0 where
 abbrev pub AsksFor : (Message → Type 0) → NodeState → Type 0
 AsksFor P u = (c : OpenCall) (wanted : Wants) → Contains u.pending c → wanted.required ≡ c.span → wanted.desired.hi ≤ max greatest c.span.hi → P (Request c.file (id_of u c.number) (urgency_of c.intent) c.mode wanted)
 
+-- the answers that a node remembers
+abbrev pub Remembers : (Message → Type 0) → NodeState → Type 0
+Remembers P s = (file : ℕ) (m : Message) → (s.files file).answer ≡ Some m → P m
+
+-- a node that hears of an epoch remembers no more
+pub entered-remembers : (P : Message → Type 0) (s : NodeState) (file number : ℕ) → Remembers P s → Remembers P (in_epoch s file number)
+entered-remembers P s file number old f m h =
+    let first = begin_of number in
+    let x = s.files file in
+    let anew : (y : FileState) → y ≡ renewed x number → y.answer ≡ Some m → P m = λ y is there.
+    elim (nat_lt x.last first) as (λ c. (if c then record x { last = first; answer = None } else x).answer ≡ Some m → P m) [ true ↦ λ none. absurd (none-some m none) | false ↦ λ same. old file m same ] (ap (λ (z : FileState). z.answer) (sym is) ∙ there) in
+    elim (f == file) as (λ c. (if c then renewed x number else s.files f).answer ≡ Some m → P m) [ true ↦ λ there. anew (renewed x number) refl there | false ↦ λ there. old f m there ] h
+
 module _ (P : Message → Type 0) (free : IsFreely P) where
   -- the messages of an effect are so where what it asks for is
   abbrev pub SendsOnly : Effect → Type 0
@@ -123,18 +136,14 @@ module _ (P : Message → Type 0) (free : IsFreely P) where
   called-sends s number pid (Unlock fd kind start len) = unlock_call-sends s number (target s.table (process s pid) None fd kind start len)
   called-sends s number pid (Query fd kind mode start len) = lock_call-sends s number pid intent.Query mode (target s.table (process s pid) None fd kind start len)
 
-  -- the answers that a node remembers
-  abbrev pub Remembers : NodeState → Type 0
-  Remembers s = (file : ℕ) (m : Message) → (s.files file).answer ≡ Some m → P m
-
-  remembered-sends : (s : NodeState) (file : ℕ) → Remembers s → SendsOnly (remembered s (s.files file).answer)
+  remembered-sends : (s : NodeState) (file : ℕ) → Remembers P s → SendsOnly (remembered s (s.files file).answer)
   remembered-sends s file old = each (s.files file).answer refl
     where
       each : (o : Option Message) → (s.files file).answer ≡ o → SendsOnly (remembered s o)
       each None is asks = All-nil P
       each (Some m) is asks = All-cons P m [] (old file m is) (All-nil P)
 
-  in_order-sends : (s : NodeState) (file number : ℕ) (e : Effect) → Remembers s → (number ≡ (s.files file).last + 1 → SendsOnly e) → SendsOnly (in_order s file number e)
+  in_order-sends : (s : NodeState) (file number : ℕ) (e : Effect) → Remembers P s → (number ≡ (s.files file).last + 1 → SendsOnly e) → SendsOnly (in_order s file number e)
   in_order-sends s file number e old next = in_order_either SendsOnly s file number e next (remembered-sends s file old) (nothing_sent (quiet s) refl)
 
   granted-sends : (s : NodeState) (file number : ℕ) (call : CallId) (mode : Mode) (span : Range) → SendsOnly (granted s file number call mode span)
@@ -167,27 +176,18 @@ module _ (P : Message → Type 0) (free : IsFreely P) where
   interrupted-sends s None = λ asks. All-nil P
   interrupted-sends s (Some c) = answered_if-sends s c.number (interruption_of c.intent)
 
-  -- a node that hears of an epoch remembers no more
-  entered-remembers : (s : NodeState) (file number : ℕ) → Remembers s → Remembers (in_epoch s file number)
-  entered-remembers s file number old f m h =
-      let first = begin_of number in
-      let x = s.files file in
-      let anew : (y : FileState) → y ≡ renewed x number → y.answer ≡ Some m → P m = λ y is there.
-      elim (nat_lt x.last first) as (λ c. (if c then record x { last = first; answer = None } else x).answer ≡ Some m → P m) [ true ↦ λ none. absurd (none-some m none) | false ↦ λ same. old file m same ] (ap (λ (z : FileState). z.answer) (sym is) ∙ there) in
-      elim (f == file) as (λ c. (if c then renewed x number else s.files f).answer ≡ Some m → P m) [ true ↦ λ there. anew (renewed x number) refl there | false ↦ λ there. old f m there ] h
-
   -- a revoke that names a lock does so once the node has heard of its epoch
   abbrev pub EntersConflicts : NodeState → Message → Type 0
   EntersConflicts s (Revoke file number holder call mode wanted) = Conflicts (in_epoch s file number) (Revoke file number holder call mode wanted)
   EntersConflicts s _ = Unit {0}
 
-  pub delivered-sends : (s : NodeState) (m : Message) → Remembers s → EntersConflicts s m → SendsOnly (delivered s m)
+  pub delivered-sends : (s : NodeState) (m : Message) → Remembers P s → EntersConflicts s m → SendsOnly (delivered s m)
   delivered-sends s (Grant file number call mode span) old conflict =
       let t = in_epoch s file number in
-      in_order-sends t file number (granted t file number call mode span) (entered-remembers s file number old) (λ is. granted-sends t file number call mode span)
+      in_order-sends t file number (granted t file number call mode span) (entered-remembers P s file number old) (λ is. granted-sends t file number call mode span)
   delivered-sends s (Revoke file number holder call mode wanted) old conflict =
       let t = in_epoch s file number in
-      in_order-sends t file number (revoked t file number call mode wanted) (entered-remembers s file number old) (revoked-sends t file number holder call mode wanted conflict)
+      in_order-sends t file number (revoked t file number call mode wanted) (entered-remembers P s file number old) (revoked-sends t file number holder call mode wanted conflict)
   delivered-sends s (Hello file number holder) old conflict =
       let t = in_epoch s file number in
       told_either SendsOnly t file number (λ is asks. All-cons P (Report file number (host t) (runs_of (t.files file).token)) [] (free.report file number (host t) (runs_of (t.files file).token)) (All-nil P)) (nothing_sent (quiet t) refl)

@@ -1,6 +1,6 @@
 -- A server's step names no call and answers none.
 use Rattle.std.specs.Prelude.{IfSome, is_some, nat_le, nat_lt, option_map}
-use Rattle.std.proofs.Common.{◌≡◌, ℕ, ◌+◌, ◌-◌, ◌&&◌, not, if◌then◌else◌, refl, subst, List, [], ◌∷◌, ◌++◌, Option, Some, None, Result, Ok, Err}
+use Rattle.std.proofs.Common.{◌≡◌, ℕ, ◌+◌, ◌-◌, ◌&&◌, not, refl, subst, List, [], ◌∷◌, ◌++◌, Option, Some, None, Result, Ok, Err}
 use Rattle.intervals.specs.Bytes.{Range}
 use Rattle.model.specs.declared.call.CallId.{CallId}
 use Rattle.model.specs.declared.host.Host.{Host}
