@@ -67,6 +67,7 @@ use Rattle.cluster_core.proofs.tokens.Ending.{IsShort, asks_ends, delivered_ends
 use Rattle.cluster_core.proofs.tokens.Unbarred.{safe_free}
 use Rattle.cluster_core.proofs.steps.Requested.{Comes, AnyNumber, Makes, Tells, mapped, delivered-steps, resend-steps, learn-steps}
 use Rattle.cluster_core.proofs.steps.Sends.{IsFreely, AsksFor, EntersConflicts, called-sends, tried_if-sends, interrupted-sends, delivered-sends}
+use Rattle.cluster_core.proofs.history.Resting.{union_live, rests_after}
 use Rattle.cluster_core.proofs.history.Slots.{slotted_first, all_slotted_first, slots_fit, slots_legal, slots_at_their_places}
 use Rattle.cluster_core.proofs.history.Plain.{plain_slots, plain_legal, plain_items}
 use Rattle.cluster_core.proofs.history.Placing.{declared_node}
@@ -553,6 +554,7 @@ module _ (shape : ShapeFields) (is_shape : IsShape shape) (Q : WorldState → Ty
           one_reply = g.one_reply;
           fits = slots_fit shape es slots g.slotted g.one_reply g.all;
           legal = slots_legal shape es slots g.slotted w l;
+          lives = sym (union_live w (rests_after shape es w l));
         },
         slots_at_their_places shape es slots g.slotted g.one_reply g.all,
       )
@@ -569,6 +571,7 @@ module _ (shape : ShapeFields) (is_shape : IsShape shape) (Q : WorldState → Ty
         one_reply = g.one_reply;
         fits = plain_items shape es slots g.slotted g.one_reply g.all;
         legal = plain_legal shape es slots g.slotted w l;
+        lives = sym (union_live w (rests_after shape es w l));
       }
 
   -- what holds together with it

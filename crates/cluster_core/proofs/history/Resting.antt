@@ -3,7 +3,6 @@ use Rattle.std.proofs.Common.{◌≡◌, ℕ, ◌+◌, Bool, true, false, not, i
 use Rattle.std.proofs.lemmas.Bool.{both_ways}
 use Rattle.intervals.specs.Bytes.{nothing}
 use Rattle.model.specs.Descriptors.{no_processes}
-use Rattle.model.specs.Table.{empty_table}
 use Rattle.messages.specs.Versions.{most_regions}
 use Rattle.messages.specs.Shapes.{ShapeFields}
 use Rattle.messages.specs.Messages.{addressee}
@@ -18,12 +17,10 @@ use Rattle.node_core.specs.State.{NodeState, first_node, first_file}
 use Rattle.node_core.specs.Node.{node_rule}
 use Rattle.token_server.specs.declared.event.ServerEvent.TheVariants as server
 use Rattle.token_server.specs.Server.{server_rule}
-use Rattle.cluster_core.specs.declared.item.Item.{Item}
 use Rattle.cluster_core.specs.World.{WorldState, first_world, has_node, is_alive, is_live}
 use Rattle.cluster_core.specs.Next.{is_fenced, is_stopped, with_node, delivered, taken, next}
 use Rattle.cluster_core.specs.Runs.{Leads}
 use Rattle.cluster_core.specs.Union.{union, live_union}
-use Rattle.cluster_core.specs.Histories.{Legal, HasHistory}
 use Rattle.cluster_core.proofs.common.Choices.{at_number}
 use Rattle.cluster_core.proofs.steps.Steps.{next_taken, next_unfenced, node_step, server_step, declare_step, restart_step, fail_step, start_step}
 
@@ -107,7 +104,3 @@ rests_run (e ∷ es) w v r l = rests_run es l.0 v (next_rests w r e.event (l.0, 
 
 pub rests_after : (shape : ShapeFields) (es : List Entry) (w : WorldState) → Leads (first_world shape) es w → Rests w
 rests_after shape es w l = rests_run es (first_world shape) w (rests_first shape) l
-
--- so the last table of a history is that of the live nodes
-pub legal_live : (shape : ShapeFields) (es : List Entry) (h : List Item) (has : HasHistory shape es h) → Legal (empty_table (most_regions shape.version)) h (live_union has.world)
-legal_live shape es h has = subst (Legal (empty_table (most_regions shape.version)) h) (sym (union_live has.world (rests_after shape es has.world has.leads))) has.legal
