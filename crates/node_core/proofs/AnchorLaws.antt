@@ -3,7 +3,7 @@ use Rattle.std.specs.Prelude.{◌≡◌, ℕ, zero, suc, ◌+◌, ◌==◌, ◌+
 use Rattle.std.proofs.Common.{arith, ap, sym, subst, ◌∙◌, get_or, inl, inr}
 use Rattle.std.proofs.lemmas.Bool.{and_parts, eq-eqb, both_ways, cases_Bool, not-true}
 use Rattle.std.proofs.lemmas.Bool.Decides.{nat_tests}
-use Rattle.std.proofs.lemmas.List.Elements.{All-nil, All-cons, All-head, All-tail, All-push, All-filter, All-weaker, filter_passes}
+use Rattle.std.proofs.lemmas.List.Elements.{All-nil, All-cons, All-push, All-filter, All-weaker, filter_passes}
 use Rattle.intervals.specs.Segment.{seg}
 use Rattle.model.specs.declared.lock_info.LockInfo.{LockInfo}
 use Rattle.model.specs.declared.mode.Mode.{Mode}
@@ -42,17 +42,13 @@ use Rattle.node_core.specs.declared.open_call.OpenCall.{OpenCall}
 use Rattle.node_core.specs.State.{NodeState, Effect, answered, quiet, sent, outcome, with_file, without_call_of, open_call, open_call_of, host, process, target_of}
 use Rattle.node_core.specs.Try.{settled, requested, refusal_of, answered_if, may_free, with_freed, with_freed_of, locked_by, answered_here, tried, tried_against, tried_if}
 use Rattle.node_core.specs.Calls.{is_pid, is_in_shape, is_busy, lock_call, unlock_call, shut_by, called, after_call, call_rule}
-use Rattle.node_core.specs.Commands.{in_epoch, told, remembered, in_order, granted, revoked, denied, delivered, is_node, deliver_rule}
+use Rattle.node_core.specs.Commands.{in_epoch, remembered, in_order, granted, revoked, denied, delivered, is_node, deliver_rule}
 use Rattle.node_core.specs.Interrupts.{interruption_of, interrupted, interrupt_rule}
 use Rattle.node_core.specs.Retries.{retry_rule}
 use Rattle.node_core.specs.Node.{node_rule}
 use Rattle.node_core.specs.Anchors.{Waits, AreAnchored, IsAnchored}
-
--- what holds of all open calls holds of one that is found
-find-own : (P : OpenCall → Type 0) (test : OpenCall → Bool) (calls : List OpenCall) → All P calls → IfSome (find test calls) P
-find-own P test [] all = tt
-find-own P test (c ∷ calls) all =
-    elim (test c) as (λ b. IfSome (if b then Some c else find test calls) P) [ true ↦ All-head P c calls all | false ↦ find-own P test calls (All-tail P c calls all) ]
+use Rattle.node_core.specs.Parts.{NodeParts, table_of}
+use Rattle.node_core.proofs.NodeLaws.{find-own, if-both}
 
 -- what the lock of an open call would hang on
 waits-hangs : (t : Table) (n i : ℕ) (c : OpenCall) → Waits t n i c → Hangs (t.on n i) c.file c.owner.kind c.owner.number
