@@ -6,7 +6,6 @@ use Rattle.std.proofs.lemmas.Bool.Decides.{nat_tests}
 use Rattle.std.proofs.lemmas.List.{length-set}
 use Rattle.messages.specs.Messages.{is_within, sending}
 use Rattle.messages.specs.declared.message.Message.{Message}
-use Rattle.messages.specs.declared.event.Event.{Event}
 use Rattle.messages.specs.declared.event.Event.TheVariants.{FailServer, StartServer}
 use Rattle.messages.specs.declared.outcome.Outcome.{Outcome}
 use Rattle.messages.specs.declared.entry.Entry.{Entry}
@@ -68,7 +67,7 @@ module _ (p : WorldParts) (world : IsWorld p) (f : ℕ) (number : is_within p.sh
   is_one : is_within (length p.members.servers) f ≡ true
   is_one = ap (λ (k : ℕ). is_within k f) world.epochs_there ∙ number
 
-  epoch : ℕ
+  abbrev epoch : ℕ
   epoch = ((world_state p).servers f).epoch
 
   -- what the members say of the server is what the world does
