@@ -130,7 +130,7 @@ each_served-active (r ∷ rest) s t out h = by (served s r) refl (λ u v sent. e
 abbrev HaveTold : ServerState → Type 0
 HaveTold s = (n : ℕ) → 1 ≤ n → n < 1 + s.shape.nodes → is_awaited (s.rows n) ≡ false
 
-above-told : (incarnation : ℕ) (row : Option Row) → is_awaited row ≡ false → is_awaited (row_above incarnation row) ≡ false
+pub above-told : (incarnation : ℕ) (row : Option Row) → is_awaited row ≡ false → is_awaited (row_above incarnation row) ≡ false
 above-told incarnation None told = refl
 above-told incarnation (Some row) told = elim (nat_le row.incarnation incarnation) as (λ b. is_awaited (cond b None (Some row)) ≡ false) [ true ↦ refl | false ↦ told ]
 
