@@ -26,7 +26,6 @@ use token_set::set::TokenSet;
 pub enum Order {
     /// The token is raised on the span for the mode.
     Grant {
-        file: FileNumber,
         number: CommandNumber,
         call: CallId,
         mode: Mode,
@@ -34,7 +33,6 @@ pub enum Order {
     },
     /// The node is to give up what the call needs.
     Revoke {
-        file: FileNumber,
         number: CommandNumber,
         holder: Host,
         call: CallId,
@@ -43,15 +41,16 @@ pub enum Order {
     },
     /// The node is to tell its token to a server that was rebuilt.
     Hello {
-        file: FileNumber,
         number: EpochNumber,
         holder: Host,
     },
 }
 
-/// A command, which contracts see as the message that it is. Unlike any message it is copied without memory.
+/// A command of the server of a file, which contracts see as the message that it is. Unlike any message it is
+/// copied without memory.
 #[derive(Clone, Copy, Debug)]
 pub struct Command {
+    file: FileNumber,
     order: Order,
 }
 
@@ -60,75 +59,29 @@ impl Model for Command {
 
     ghost Value = { Message };
 
-    ghost use Rattle.token_server.specs.Orders.{message_of, order_of, order_back};
+    ghost use Rattle.messages.specs.Messages.{file_of};
+    ghost use Rattle.token_server.specs.Orders.{message_of, order_of, order_back, file_back};
 
-    ghost view = { λ c. message_of c.order };
+    ghost view = { λ c. message_of c.file c.order };
 
-    ghost inverse = { λ m. record { order = order_of m } };
+    ghost inverse = { λ m. record { file = file_of m; order = order_of m } };
 
-    ghost inverse_ok = { λ a h i. record { order = order_back a.order i } };
-}
-
-impl Order {
-    // The message of the command that tells a node that.
-    fn message(self) -> Message
-        ensures { result ≡ message_of self }
-    {
-        match self {
-            Order::Grant {
-                file,
-                number,
-                call,
-                mode,
-                span,
-            } => Message::Grant {
-                file,
-                number,
-                call,
-                mode,
-                span,
-            },
-            Order::Revoke {
-                file,
-                number,
-                holder,
-                call,
-                mode,
-                wanted,
-            } => Message::Revoke {
-                file,
-                number,
-                holder,
-                call,
-                mode,
-                wanted,
-            },
-            Order::Hello {
-                file,
-                number,
-                holder,
-            } => Message::Hello {
-                file,
-                number,
-                holder,
-            },
-        }
-    }
+    ghost inverse_ok = { λ a h i. record { file = file_back a.file a.order i; order = order_back a.file a.order i } };
 }
 
 impl Command {
-    /// The command that tells a node that.
-    pub fn of(order: Order) -> Command
-        ensures { result ≡ message_of order }
+    /// The command of the server of the file that tells a node that.
+    pub fn of(file: FileNumber, order: Order) -> Command
+        ensures { result ≡ message_of file order }
     {
-        Command { order }
+        Command { file, order }
     }
 
     /// The message that it is. Takes no memory.
     pub fn message(self) -> Message
         ensures { result ≡ self }
     {
-        self.order.message()
+        message_of(self.file, self.order)
     }
 
     /// Whether it is the Grant with that number.
@@ -207,5 +160,44 @@ impl Command {
             Order::Grant { mode, span, .. } => token.plan_grant(*span, *mode),
             _ => Ok(TokenEdit::Same),
         }
+    }
+}
+
+// The message of the command of the server of the file that tells a node that.
+fn message_of(file: FileNumber, order: Order) -> Message
+    ensures { result ≡ message_of file order }
+{
+    match order {
+        Order::Grant {
+            number,
+            call,
+            mode,
+            span,
+        } => Message::Grant {
+            file,
+            number,
+            call,
+            mode,
+            span,
+        },
+        Order::Revoke {
+            number,
+            holder,
+            call,
+            mode,
+            wanted,
+        } => Message::Revoke {
+            file,
+            number,
+            holder,
+            call,
+            mode,
+            wanted,
+        },
+        Order::Hello { number, holder } => Message::Hello {
+            file,
+            number,
+            holder,
+        },
     }
 }

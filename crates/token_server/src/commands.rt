@@ -63,15 +63,11 @@ impl Commands {
     pub fn asking(file: FileNumber, number: EpochNumber, holder: Host) -> Commands
         ensures { result ≡ record { incarnation = holder.incarnation; number = number; outstanding = Some (Hello file number holder) } }
     {
-        let hello = Order::Hello {
-            file,
-            number,
-            holder,
-        };
+        let hello = Order::Hello { number, holder };
         Commands {
             incarnation: holder.incarnation,
             number: number.get(),
-            outstanding: Some(Command::of(hello)),
+            outstanding: Some(Command::of(file, hello)),
         }
     }
 

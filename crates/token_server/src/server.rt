@@ -1,19 +1,19 @@
 //! The token server of a file.
-ghost use Rattle.std.specs.Prelude.{◌≡◌, ◌≢◌, ℕ, ◌+◌, ◌-◌, ◌<◌, ◌≤◌, ◌↔◌, ◌++◌, not, ◌&&◌, ◌||◌, ◌==◌, IsTrue, length, IfSome, IfOk, IfErr, MatchOption, [], Option, Some, None, Ok, Err};
+ghost use Rattle.std.specs.Prelude.{◌≡◌, ◌≢◌, ℕ, ◌+◌, ◌-◌, ◌<◌, ◌≤◌, ◌↔◌, ◌++◌, true, false, not, ◌&&◌, ◌||◌, ◌==◌, IsTrue, length, IfSome, IfOk, IfErr, MatchOption, [], Option, Some, None, Ok, Err};
 ghost use Rattle.std.specs.Option.{option_map, option_to_list};
 ghost use Rattle.model.specs.Limits.{IsNumber};
 ghost use Rattle.model.specs.Owners.{host_of_call};
 ghost use Rattle.messages.specs.Messages.{sending, addressee, host_of, is_within};
 ghost use Rattle.members.specs.Parts.{members_state};
 ghost use Rattle.token_queue.specs.Actives.{requests_of};
-ghost use Rattle.token_server.specs.State.{first_server, rebuilt, begin, awaits, forgotten, requeued};
+ghost use Rattle.token_server.specs.State.{first_server, rebuilt, awaits, forgotten, requeued};
 ghost use Rattle.token_server.specs.Serve.{serve};
 ghost use Rattle.token_server.specs.Told.{commands_told};
 ghost use Rattle.token_server.specs.Resends.{outstanding, sending_first, resend_rule};
 ghost use Rattle.token_server.specs.Server.{server_rule, learn_rule, asked, row_of_host, freed, revoked_mode, taken, released, in_conflict, heard, delivered, is_server};
 ghost use Rattle.token_server.specs.Parts.{server_state, rows_of};
 ghost use Rattle.token_server.specs.Ready.{IsOrderly};
-ghost use Rattle.token_server.specs.Sketches.{dropped, without, moved_for, rows_after, sketched};
+ghost use Rattle.token_server.specs.Sketches.{is_answer, dropped, without, moved_for, rows_after, sketched};
 ghost use Rattle.token_server.specs.Edits.{overlaid, reached, planned, AreListed, Fits, HasRoom, HeldHasRoom, many_moved, many_put_off};
 
 use crate::change::{Change, Draft, Edit, Parts};
@@ -24,7 +24,7 @@ use crate::lists::{Lists, Spares};
 use crate::moves;
 use crate::node_change::NodeChange;
 use crate::row_edit::RowEdit;
-use crate::sketch::{Changed, Moved, Sketch};
+use crate::sketch::{Moved, Sketch};
 use crate::told::Told;
 use intervals::span::Span;
 use intervals::span_map::NoMemory;
@@ -338,9 +338,9 @@ impl Server {
         }
     }
 
-    // Whether a node has not told its token yet, once the row is edited: no node is asked for it by an event.
-    fn awaits_after(&self, rows: &Option<RowEdit>, changed: &Option<Changed>) -> bool
-        requires { rows_of (overlaid self.now.clients rows.now) ≡ rows_after changed.now (rows_of self.now.clients) }
+    // Whether a node has not told its token yet, once the row is edited: an event asks none for it.
+    fn awaits_after(&self, rows: &Option<RowEdit>) -> bool
+        requires { awaits (server_state self.now) ≡ false → awaits (reached self.now rows.now) ≡ false }
         ensures { result ≡ awaits (reached self.now rows.now) }
     {
         self.awaits && self.clients.awaits(rows, self.shape.nodes())
@@ -405,7 +405,7 @@ impl Server {
         ensures err { IfErr result (λ e. e ≢ StepError.NoMemory → serve (sketched self.now sketch.now) ≡ Err e) }
     {
         let rows = self.clients.edit(alloc, &sketch.changed)?;
-        let awaits = self.awaits_after(&rows, &sketch.changed);
+        let awaits = self.awaits_after(&rows);
         let lists = self.lists(alloc, &rows, awaits, sketch)?;
         let spares = self.spares(&lists)?;
         let draft = Draft {
@@ -420,6 +420,33 @@ impl Server {
             Edit::new(alloc, draft, given, spares)?,
             commands_told(alloc, told.as_slice())?,
         ))
+    }
+
+    // What an answer to a command changes before the server serves, and what is sent for it, or `None` where
+    // the answer doesn't count.
+    fn on_answer(&self, message: &Message) -> Option<(Sketch, Option<Message>)>
+        requires answer { is_answer message.now ≡ true }
+        requires in_cluster { IsNumber self.now.shape.nodes (host_of message.now).node }
+        ensures state { delivered (server_state self.now) message.now ≡ option_map (λ d. (sketched self.now d.0, option_to_list d.1)) result }
+        ensures in_cluster { IfSome result (λ d. IfSome d.0.changed (λ c. IsNumber self.now.shape.nodes c.node)) }
+    {
+        match message {
+            Message::Taken { number, call, .. } => silent(self.on_taken(number.get(), *call)),
+            Message::Released {
+                number,
+                holder,
+                span,
+                ..
+            } => silent(self.on_released(number.get(), *holder, *span)),
+            Message::Conflict {
+                number,
+                holder,
+                call,
+                lock,
+                ..
+            } => self.on_conflict(*number, *holder, *call, *lock),
+            _ => unreachable!(),
+        }
     }
 
     // What a message changes before the server serves, and what is sent for it, or `None` where it does
@@ -444,22 +471,9 @@ impl Server {
                 let request = TokenRequest::new(*call, *urgency, *mode, *wanted);
                 Ok(silent(Some(self.ask(request))))
             }
-            Message::Taken { number, call, .. } => {
-                Ok(silent(self.on_taken(number.get(), *call)))
-            }
-            Message::Released {
-                number,
-                holder,
-                span,
-                ..
-            } => Ok(silent(self.on_released(number.get(), *holder, *span))),
-            Message::Conflict {
-                number,
-                holder,
-                call,
-                lock,
-                ..
-            } => Ok(self.on_conflict(*number, *holder, *call, *lock)),
+            Message::Taken { .. } => Ok(self.on_answer(message)),
+            Message::Released { .. } => Ok(self.on_answer(message)),
+            Message::Conflict { .. } => Ok(self.on_answer(message)),
             Message::Freed { holder, .. } => Ok(silent(Some(self.on_freed(*holder)))),
             Message::Report {
                 number,
@@ -467,10 +481,7 @@ impl Server {
                 runs,
                 ..
             } => Ok(silent(self.on_report(alloc, number.get(), *holder, runs)?)),
-            Message::Grant { .. }
-            | Message::Revoke { .. }
-            | Message::Deny { .. }
-            | Message::Hello { .. } => Ok(None),
+            _ => Ok(None),
         }
     }
 

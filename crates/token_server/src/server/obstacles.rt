@@ -7,6 +7,7 @@ ghost use Rattle.token_server.specs.State.{Row};
 ghost use Rattle.token_server.specs.Serve.{row_conflicts, conflicting_node};
 ghost use Rattle.token_server.specs.Parts.{server_state, rows_of};
 ghost use Rattle.token_server.specs.Obstacles.{obstacle, is_dropped, frees, may_bar, may_turn};
+ghost use Rattle.token_server.specs.Marks.{NoneExclusive};
 ghost use Rattle.token_server.specs.Sketches.{rows_after};
 ghost use Rattle.token_server.specs.Edits.{overlaid, reached};
 
@@ -50,12 +51,13 @@ impl Server {
     }
 
     // The node whose row a request waits for. No row stands in a reader's way where none has an exclusive byte.
-    fn obstacle(&self, rows: &Option<RowEdit>, request: &TokenRequest) -> u8
+    fn obstacle(&self, rows: &Option<RowEdit>, readable: bool, request: &TokenRequest) -> u8
+        requires { readable ≡ true → NoneExclusive (reached self.now rows.now).rows }
         ensures { result ≡ obstacle (reached self.now rows.now) request.now }
     {
         let required = request.required();
         let _ = &required.lo; // tells the proof that the span has a byte
-        if reads(request.mode) && self.clients.excludes_none(rows) {
+        if readable && reads(request.mode) {
             return request.call.node;
         }
         self.conflicting_node(rows, request)
@@ -146,21 +148,23 @@ impl Server {
         let many = self.freed_up_to(changed);
         let mut ats = Vec::with_capacity(alloc, many)?;
         let active = self.active.as_slice();
+        let readable = self.clients.excludes_none(rows);
         for place in 0..many {
-            ats.push(self.at_after(rows, changed, &active[place]))?;
+            ats.push(self.at_after(rows, readable, changed, &active[place]))?;
         }
         Ok(ats)
     }
 
     // The node whose row a request that is served waits for once rows changed.
-    fn at_after(&self, rows: &Option<RowEdit>, changed: &Changed, held: &Held) -> u8
+    fn at_after(&self, rows: &Option<RowEdit>, readable: bool, changed: &Changed, held: &Held) -> u8
+        requires readable { readable ≡ true → NoneExclusive (reached self.now rows.now).rows }
         requires rows { rows_of (overlaid self.now.clients rows.now) ≡ rows_after (Some changed.now) (rows_of self.now.clients) }
         requires in_cluster { IsNumber self.now.shape.nodes changed.now.node }
         requires waits { obstacle (server_state self.now) held.now.request ≡ held.now.at }
         ensures { obstacle (reached self.now rows.now) held.now.request ≡ result }
     {
         if self.is_freed(changed, held) {
-            return self.obstacle(rows, &held.request);
+            return self.obstacle(rows, readable, &held.request);
         }
         held.at
     }
@@ -176,8 +180,9 @@ impl Server {
         ensures waits { IfOk result (λ fresh. All (λ h. obstacle (reached self.now rows.now) h.request ≡ h.at) fresh.items) }
     {
         let mut fresh = Vec::new(alloc);
+        let readable = self.clients.excludes_none(rows);
         for request in requests {
-            let at = self.obstacle(rows, request);
+            let at = self.obstacle(rows, readable, request);
             fresh.push(Held {
                 request: *request,
                 at,

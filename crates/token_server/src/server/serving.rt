@@ -155,14 +155,14 @@ impl Server {
         };
         let incarnation = commands.incarnation();
         let order = Order::Revoke {
-            file: self.file_number(),
             number,
             holder: Host { node, incarnation },
             call: request.call,
             mode: request.mode,
             wanted: Wanted::new(request.required(), self.narrowed(draft, request)),
         };
-        Ok(Some(Told::new(node, commands, number, Command::of(order))))
+        let command = Command::of(self.file_number(), order);
+        Ok(Some(Told::new(node, commands, number, command)))
     }
 
     // The command that tells the request's node what it is granted, unless one to it is under way.
@@ -186,13 +186,13 @@ impl Server {
             return Ok(None);
         };
         let order = Order::Grant {
-            file: self.file_number(),
             number,
             call: request.call,
             mode: request.mode,
             span: self.granted_span(draft, told, request),
         };
-        Ok(Some(Told::new(node, commands, number, Command::of(order))))
+        let command = Command::of(self.file_number(), order);
+        Ok(Some(Told::new(node, commands, number, command)))
     }
 
     // Serves a request: what it comes to is told last.

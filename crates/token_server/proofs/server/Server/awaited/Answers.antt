@@ -8,6 +8,7 @@ use Rattle.token_server.specs.State.{Row}
 use Rattle.token_server.specs.declared.sketch.Changed.{Changed}
 use Rattle.token_server.specs.Obstacles.{obstacle}
 use Rattle.token_server.specs.Parts.{ServerParts, server_state, rows_of}
+use Rattle.token_server.specs.Marks.{NoneExclusive}
 use Rattle.token_server.specs.Sketches.{rows_after}
 use Rattle.token_server.specs.Edits.{overlaid, reached}
 use Rattle.token_server.proofs.AwaitLaws.{Await, await-more, await-first, unfreed-all}
@@ -56,3 +57,6 @@ returns-in_default c =
     let waits = subst (λ (q : ServerParts). All (λ h. obstacle (server_state q) h.request ≡ h.at) q.active.held) c.self.view_is c.self.invariant.ready.waits in
     subst (λ (ats : List ℕ). All (λ h. obstacle (reached p c.args.rows.now) h.request ≡ h.at) (waiting_for ats p.active.held)) (sym c.new.ensures.items)
     (subst (λ (f : ℕ → Option Row). All (λ h. obstacle (record (server_state p) { rows = f }) h.request ≡ h.at) p.active.held) (sym rows) waits)
+
+pub at_after-requires-clause-readable : goal.at_after-requires-clause-readable
+at_after-requires-clause-readable c = λ yes. subst (λ (q : ServerParts). NoneExclusive (reached q c.args.rows.now).rows) c.self.view_is (c.excludes_none-readable.ensures yes)

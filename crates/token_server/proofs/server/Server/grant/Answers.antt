@@ -28,7 +28,7 @@ returns-clause-ok c =
     let u = with_told c.args.told.now s in
     let command : t.command ≡ Grant s.file c.in-Some-2.number r.call r.mode (granted_span u r) =
     ap (λ (x : Told). x.command) c.new.ensures
-    ∙ c.of.ensures
+    ∙ c.of-command.ensures
     ∙ (λ i. Grant (c.file_number.ensures i) c.in-Some-2.number r.call r.mode (c.granted_span.ensures i)) in
     grant-sent c.args.told.now s r commands c.in-Some-2.number t is next (ap (λ (x : Told). x.node) c.new.ensures ∙ at) command
     (ap (λ (x : Told). x.commands) c.new.ensures ∙ ap (λ (m : Message). told_commands m commands) (sym (ap (λ (x : Told). x.command) c.new.ensures)))

@@ -27,7 +27,7 @@ returns-clause-ok c =
     let desired = c.narrowed.ensures.value in
     let command : t.command ≡ Revoke s.file c.in-Some-2.number (record { node = n; incarnation = commands.incarnation }) r.call r.mode (record { required = r.wanted.required; desired = narrowed s.active r }) =
     ap (λ (x : Told). x.command) c.new-2.ensures
-    ∙ c.of.ensures
+    ∙ c.of-command.ensures
     ∙ (λ i. Revoke (c.file_number.ensures i) c.in-Some-2.number (record { node = n; incarnation = c.incarnation-incarnation.ensures.value i }) r.call r.mode (c.new.ensures i))
     ∙ (λ i. Revoke s.file c.in-Some-2.number (record { node = n; incarnation = commands.incarnation }) r.call r.mode (record { required = c.required.ensures.value i; desired = desired i })) in
     revoke-sent c.args.told.now s r n commands c.in-Some-2.number t is next (ap (λ (x : Told). x.node) c.new-2.ensures) command

@@ -1,4 +1,4 @@
-use Rattle.std.specs.Prelude.{◌≡◌, ◌≢◌, List, IfErr, Option, Result, Ok, Err}
+use Rattle.std.specs.Prelude.{◌≡◌, ◌≢◌, ℕ, List, IfErr, Option, Result, Ok, Err}
 use Rattle.std.proofs.Common.{sym, ap, subst, ◌∙◌}
 use Rattle.std.proofs.lemmas.Result.{err_from_is_err_and}
 use Rattle.messages.specs.declared.message.Message.{Message}
@@ -7,7 +7,8 @@ use Rattle.messages.specs.declared.refusal.StepError.TheVariants.{NoMemory}
 use Rattle.token_server.specs.declared.change.Draft.{Draft}
 use Rattle.token_server.specs.declared.change.Parts.{Parts}
 use Rattle.token_server.specs.declared.told.Told.{Told}
-use Rattle.token_server.specs.State.{ServerState, awaits}
+use Rattle.token_server.specs.State.{Row, ServerState, is_awaited, awaits}
+use Rattle.intervals.specs.Search.{some_passes}
 use Rattle.token_server.specs.Serve.{serve}
 use Rattle.token_server.specs.Told.{with_told, commands_told}
 use Rattle.token_server.specs.declared.row_edit.RowEdit.{RowEdit}
@@ -18,6 +19,7 @@ use Rattle.token_server.specs.Sketches.{sketched, without, rows_after, deaths_af
 use Rattle.token_server.specs.Edits.{overlaid, drafted, held_after, with_given, made, planned, PartsFit}
 use Rattle.token_server.proofs.ReadyLaws.{drafted-serves, drafted-orderly, drafted-apart, told-awaits, told-ready, moved-new, distinct-queue, distinct-waiting}
 use Rattle.token_server.proofs.EditLaws.{overlaid-length}
+use Rattle.token_server.proofs.AskedLaws.{none-after}
 use Rattle.token_server.proofs.server.Server.serve.Goals as goal
 
 abbrev Answer : Type 0
@@ -89,3 +91,10 @@ returns-clause-fits c =
       awaited = known ∙ sym (told-awaits p k d c.in_ok-lists.ensures rows deaths ready told (commands_told told) c.in_ok-told.ensures.ok) ∙ sym (ap awaits given);
       ready = subst (λ (s : ServerState). IsReady s (held_after l p.active.held)) (sym given) (told-ready p k d c.in_ok-lists.ensures rows deaths ready told (commands_told told) c.in_ok-told.ensures.ok c.requires.orderly c.in_ok-told.ensures.waits c.in_ok-told.ensures.quiet);
     })
+
+pub awaits_after-awaits-requires : goal.awaits_after-awaits-requires
+awaits_after-awaits-requires c = λ none.
+    let p = c.args.self.now in
+    let changed = c.args.sketch.now.changed in
+    let rows = over c.in_ok-rows.rows changed c.self.view_is c.in_ok-rows.ensures.rows in
+    ap (λ (f : ℕ → Option Row). some_passes (λ n. is_awaited (f n)) 1 p.shape.nodes) rows ∙ none-after changed (rows_of p.clients) p.shape.nodes none
