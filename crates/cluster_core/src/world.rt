@@ -18,6 +18,7 @@ ghost use Rattle.cluster_core.specs.Next.{is_known, is_fenced, has_actor, declar
 ghost use Rattle.cluster_core.specs.Parts.{world_state, IsStepOf, IsServerStepOf, IsTakenByNode, IsRest};
 ghost use Rattle.cluster_core.specs.Changes.{IsNodeChange, IsServerChange, IsRestart, IsStart, Makes, Plans};
 ghost use Rattle.messages.specs.declared.event.Event.TheVariants as event;
+ghost use Rattle.messages.specs.declared.event.Event.TheVariants.{Deliver};
 ghost use Rattle.node_core.specs.declared.event.NodeEvent.TheVariants as own;
 ghost use Rattle.token_server.specs.declared.event.ServerEvent.TheVariants as served;
 ghost use Rattle.messages.specs.declared.refusal.Refused.{Refused};
@@ -386,16 +387,14 @@ impl World {
     fn plan_node_delivery(
         &self,
         alloc: Global,
-        event: &Event,
         node: u8,
         message: &Message,
     ) -> Result<Change, Refused>
         requires node { is_within self.now.shape.nodes node ≡ true }
         requires alive { (world_state self.now).alive node ≡ true }
-        requires same_event { event.now ≡ event.Deliver message.now }
-        ensures ok { IfOk result (λ change. Makes self.now event.now change (after_node (world_state self.now) event.now node (node_rule ((world_state self.now).nodes node) (own.Deliver message.now)))) }
-        ensures err { IfErr result (λ e. e ≢ NoMemory → after_node (world_state self.now) event.now node (node_rule ((world_state self.now).nodes node) (own.Deliver message.now)) ≡ Err e) }
-        ensures refused { (e : Refused) → after_node (world_state self.now) event.now node (node_rule ((world_state self.now).nodes node) (own.Deliver message.now)) ≡ Err e → result ≡ Err e }
+        ensures ok { IfOk result (λ change. Makes self.now (Deliver message.now) change (after_node (world_state self.now) (Deliver message.now) node (node_rule ((world_state self.now).nodes node) (own.Deliver message.now)))) }
+        ensures err { IfErr result (λ e. e ≢ NoMemory → after_node (world_state self.now) (Deliver message.now) node (node_rule ((world_state self.now).nodes node) (own.Deliver message.now)) ≡ Err e) }
+        ensures refused { (e : Refused) → after_node (world_state self.now) (Deliver message.now) node (node_rule ((world_state self.now).nodes node) (own.Deliver message.now)) ≡ Err e → result ≡ Err e }
     {
         let change = self.node_delivery(alloc, node, message)?;
         Ok(Change::OfNode {
@@ -409,15 +408,13 @@ impl World {
     fn plan_server_delivery(
         &self,
         alloc: Global,
-        event: &Event,
         file: u16,
         message: &Message,
     ) -> Result<Change, Refused>
         requires file { is_within self.now.shape.files file ≡ true }
-        requires same_event { event.now ≡ event.Deliver message.now }
-        ensures ok { IfOk result (λ change. Makes self.now event.now change (after_server (world_state self.now) event.now file (server_rule ((world_state self.now).servers file) (served.Deliver message.now)))) }
-        ensures err { IfErr result (λ e. e ≢ NoMemory → after_server (world_state self.now) event.now file (server_rule ((world_state self.now).servers file) (served.Deliver message.now)) ≡ Err e) }
-        ensures refused { (e : Refused) → e ≢ Refused.Spent → after_server (world_state self.now) event.now file (server_rule ((world_state self.now).servers file) (served.Deliver message.now)) ≡ Err e → result ≡ Err e }
+        ensures ok { IfOk result (λ change. Makes self.now (Deliver message.now) change (after_server (world_state self.now) (Deliver message.now) file (server_rule ((world_state self.now).servers file) (served.Deliver message.now)))) }
+        ensures err { IfErr result (λ e. e ≢ NoMemory → after_server (world_state self.now) (Deliver message.now) file (server_rule ((world_state self.now).servers file) (served.Deliver message.now)) ≡ Err e) }
+        ensures refused { (e : Refused) → e ≢ Refused.Spent → after_server (world_state self.now) (Deliver message.now) file (server_rule ((world_state self.now).servers file) (served.Deliver message.now)) ≡ Err e → result ≡ Err e }
     {
         let change = self.server_delivery(alloc, file, message)?;
         Ok(Change::OfServer { file, change })
@@ -489,8 +486,8 @@ impl World {
                 self.plan_node(alloc, event, *node, &step)
             }
             Event::Deliver(message) => match message.addressee() {
-                Actor::Node(node) => self.plan_node_delivery(alloc, event, node, message),
-                Actor::Server(file) => self.plan_server_delivery(alloc, event, file, message),
+                Actor::Node(node) => self.plan_node_delivery(alloc, node, message),
+                Actor::Server(file) => self.plan_server_delivery(alloc, file, message),
             },
             Event::Interrupt { node, pid } => {
                 self.plan_node(alloc, event, *node, &NodeEvent::Interrupt { pid: *pid })
