@@ -89,10 +89,11 @@ module _ (p : WorldParts) (world : IsWorld p) (f : ℕ) (number : is_within p.sh
   few_enough : (k : ℕ) → k ≤ 65535 → nat_le k 65535 ≡ true
   few_enough k h = grind (arith, nat_tests)
 
+  may_begin : works_at p f ≡ false → incarnation_in p.members.servers f ≤ most_incarnations → member.restarted (members_state p.members.servers) f ≡ Ok (with_restarted (members_state p.members.servers) f, incarnation_in p.members.servers f)
+  may_begin stopped few = λ i. if not (is_one i) then Err Stranger else (if stopped i then Err NotDead else (if few_enough (incarnation_in p.members.servers f) few i then Ok (with_restarted (members_state p.members.servers) f, incarnation_in p.members.servers f) else Err TooManyRestarts))
+
   pub begins_there : (e : Refused) → works_at p f ≡ false → incarnation_in p.members.servers f ≤ most_incarnations → member.restarted (members_state p.members.servers) f ≡ Err e → ⊥
-  begins_there e stopped few refused =
-      let goes : member.restarted (members_state p.members.servers) f ≡ Ok (with_restarted (members_state p.members.servers) f, incarnation_in p.members.servers f) = λ i. if not (is_one i) then Err Stranger else (if stopped i then Err NotDead else (if few_enough (incarnation_in p.members.servers f) few i then Ok (with_restarted (members_state p.members.servers) f, incarnation_in p.members.servers f) else Err TooManyRestarts)) in
-      let both = sym goes ∙ refused in absurd (cc)
+  begins_there e stopped few refused = let both = sym (may_begin stopped few) ∙ refused in absurd (cc)
 
   -- the nodes' members stay
   module _ (ms : MembersParts) (others : ms.nodes ≡ p.members.nodes) where
@@ -207,6 +208,10 @@ module _ (p : WorldParts) (world : IsWorld p) (f : ℕ) (number : is_within p.sh
   start_goes s k e goes refused =
       let both : ◌≡◌ {A = Result (WorldState × Entry) Refused} (Ok (recorded (started (world_state p) f) (StartServer f) k (sending (outstanding (next_server (world_state p) f))))) (Err e) = sym (starts ∙ ap (after_start (world_state p) f) goes) ∙ refused in
       absurd (cc)
+
+  -- one that may begin is not refused
+  pub start_taken : works_at p f ≡ false → incarnation_in p.members.servers f ≤ most_incarnations → (e : Refused) → start_rule (world_state p) f ≡ Err e → ⊥
+  start_taken stopped few e refused = start_goes (with_restarted (members_state p.members.servers) f) (incarnation_in p.members.servers f) e (may_begin stopped few) refused
 
   few_is : (k : ℕ) → nat_le k 65535 ≡ true → k ≤ 65535
   few_is k h = grind (arith, nat_tests, h)

@@ -1,7 +1,26 @@
+use Rattle.std.proofs.Common.{◌≡◌, ◌<◌, ◌∙◌, ◌++◌, List, ap, sym, subst, Ok}
+use Rattle.messages.specs.declared.message.Message.{Message}
+use Rattle.token_server.specs.Parts.{ServerParts}
+use Rattle.cluster_core.specs.World.{journal_limit}
+use Rattle.cluster_core.specs.Next.{start_rule}
+use Rattle.cluster_core.specs.Parts.{WorldParts, world_state}
+use Rattle.cluster_core.specs.Changes.{IsStart}
+use Rattle.cluster_core.proofs.steps.EpochSteps.{started_parts, started_world, started_done}
 use Rattle.cluster_core.proofs.world.World.start.Goals as goal
 
 pub invariant_of-self-2 : goal.invariant_of-self-2
-invariant_of-self-2 c = ?
+invariant_of-self-2 c =
+    let made = subst (λ (s : ServerParts). IsStart c.args.self.now c.args.file s c.args.sends) (sym c.into_inner.ensures) c.requires.made in
+    let before = subst (λ (q : WorldParts). IsStart q c.args.file c.into_inner.result c.args.sends) (sym c.self.view_is) made in
+    let room = subst (λ (q : WorldParts). q.length < journal_limit) (sym c.self.view_is) c.requires.room in
+    let sent : c.extend.new.self ≡ c.self.inside.sent ++ c.args.sends = c.in_ok-extend.ensures.ok ∙ ap (λ (xs : List Message). c.self.inside.sent ++ xs) c.as_slice.ensures in
+    rw sent (started_world _ c.self.invariant c.args.file before.number _ c.start_server.ensures.others c.into_inner.result _ c.args.sends before.begins before.asks c.in-Ok.ensures.ok room)
 
 pub returns-clause-ok : goal.returns-clause-ok
-returns-clause-ok c = ?
+returns-clause-ok c =
+    let made = subst (λ (s : ServerParts). IsStart c.args.self.now c.args.file s c.args.sends) (sym c.into_inner.ensures) c.requires.made in
+    let before = subst (λ (q : WorldParts). IsStart q c.args.file c.into_inner.result c.args.sends) (sym c.self.view_is) made in
+    let sent : c.extend.new.self ≡ c.self.inside.sent ++ c.args.sends = c.in_ok-extend.ensures.ok ∙ ap (λ (xs : List Message). c.self.inside.sent ++ xs) c.as_slice.ensures in
+    let done = started_done _ c.self.invariant c.args.file before.number _ c.start_server.ensures.others c.into_inner.result _ c.args.sends before.begins before.asks c.in-Ok.ensures.ok c.sending-outcome.result c.at_node.result c.sending-outcome.ensures c.at_node.ensures in
+    let here : WorldParts = record { shape = c.self.inside.shape; nodes = c.self.inside.nodes.items; members = c.self.inside.members; servers = c.self.inside.servers.items; sent = c.self.inside.sent; length = c.self.inside.length } in
+    rw sent (subst (λ (q : WorldParts). start_rule (world_state q) c.args.file ≡ Ok (world_state (started_parts here c.args.file c.into_inner.result c.start_server.new.self c.args.sends), c.at_node.result)) c.self.view_is done)
