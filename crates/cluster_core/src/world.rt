@@ -612,6 +612,7 @@ impl World {
         requires room { self.old.length < journal_limit }
         requires made { IsStart self.old file begun.value sends }
         ensures ok { IfOk result (λ entry. start_rule (world_state self.old) file ≡ Ok (world_state self.new, entry)) }
+        ensures err { OnErr result ((e : Refused) → start_rule (world_state self.old) file ≢ Err e) }
         ensures unchanged { OnErr result (self.new ≡ self.old) }
     {
         self.sent.extend(alloc, sends.as_slice())?;

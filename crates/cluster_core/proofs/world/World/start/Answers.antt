@@ -1,11 +1,14 @@
-use Rattle.std.proofs.Common.{◌≡◌, ◌<◌, ◌∙◌, ◌++◌, List, ap, sym, subst, Ok}
+use Rattle.std.proofs.Common.{◌≡◌, ◌<◌, ◌≤◌, ◌∙◌, ◌++◌, false, List, ap, sym, subst, Ok, Err}
+use Rattle.std.proofs.lemmas.Result.{err_from_is_err_and}
+use Rattle.messages.specs.declared.refusal.Refused.{Refused}
+use Rattle.members.specs.Parts.{incarnation_in}
 use Rattle.messages.specs.declared.message.Message.{Message}
 use Rattle.token_server.specs.Parts.{ServerParts}
-use Rattle.cluster_core.specs.World.{journal_limit}
+use Rattle.cluster_core.specs.World.{journal_limit, most_incarnations}
 use Rattle.cluster_core.specs.Next.{start_rule}
-use Rattle.cluster_core.specs.Parts.{WorldParts, world_state}
+use Rattle.cluster_core.specs.Parts.{WorldParts, works_at, world_state}
 use Rattle.cluster_core.specs.Changes.{IsStart}
-use Rattle.cluster_core.proofs.steps.EpochSteps.{started_parts, started_world, started_done}
+use Rattle.cluster_core.proofs.steps.EpochSteps.{started_parts, started_world, started_done, start_taken, opened}
 use Rattle.cluster_core.proofs.world.World.start.Goals as goal
 
 pub invariant_of-self-2 : goal.invariant_of-self-2
@@ -24,3 +27,10 @@ returns-clause-ok c =
     let done = started_done _ c.self.invariant c.args.file before.number _ c.start_server.ensures.others c.into_inner.result _ c.args.sends before.begins before.asks c.in-Ok.ensures.ok c.sending-outcome.result c.at_node.result c.sending-outcome.ensures c.at_node.ensures in
     let here : WorldParts = record { shape = c.self.inside.shape; nodes = c.self.inside.nodes.items; members = c.self.inside.members; servers = c.self.inside.servers.items; sent = c.self.inside.sent; length = c.self.inside.length } in
     rw sent (subst (λ (q : WorldParts). start_rule (world_state q) c.args.file ≡ Ok (world_state (started_parts here c.args.file c.into_inner.result c.start_server.new.self c.args.sends), c.at_node.result)) c.self.view_is done)
+
+pub returns-in_err-extend-clause-err : goal.returns-in_err-extend-clause-err
+returns-in_err-extend-clause-err c =
+    let plan = c.requires.made in
+    let told = err_from_is_err_and c.from_residual.result c.from_residual.ensures.1 in
+    let P : WorldParts → Type 0 = λ q. works_at q c.args.file ≡ false → incarnation_in q.members.servers c.args.file ≤ most_incarnations → (e : Refused) → start_rule (world_state q) c.args.file ≡ Err e → ⊥ in
+    rw told.1 (opened P _ _ c.args.file c.self.view_is plan.number (λ number. start_taken _ c.self.invariant c.args.file number) plan.failed plan.few)
