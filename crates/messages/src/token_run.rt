@@ -75,12 +75,15 @@ impl Hash for TokenRuns {
     fn hash<H: Hasher>(&self, _state: &mut H) {}
 }
 
-// Whether the second run may stand next.
-fn may_follow(one: TokenRun, next: TokenRun) -> bool
-    ensures { result ≡ may_follow one next }
-{
-    let touches = next.span.lo == one.span.hi + 1;
-    one.span.hi < next.span.lo && !(touches && next.level == one.level)
+impl TokenRun {
+    /// Whether the run may stand behind this one: it begins past it, and where they touch they differ
+    /// in level.
+    pub fn may_follow(self, before: TokenRun) -> bool
+        ensures { result ≡ may_follow before self }
+    {
+        let touches = self.span.lo == before.span.hi + 1;
+        before.span.hi < self.span.lo && !(touches && self.level == before.level)
+    }
 }
 
 // Whether these are the longest runs of a token, by first byte.
@@ -92,7 +95,7 @@ fn are_longest(runs: &[TokenRun]) -> bool
     };
     let mut last = *first;
     for run in rest {
-        if !may_follow(last, *run) {
+        if !run.may_follow(last) {
             return false;
         }
         last = *run;
