@@ -12,7 +12,7 @@ if [ -z "$folder" ]; then
     folder=$(mktemp -d) || exit 1
     trap 'rm -rf "$folder"' EXIT
 fi
-[ $# -gt 0 ] || set -- covered readers lossy fight storm crowd walk scattered regions churn failures turns queue rivals
+[ $# -gt 0 ] || set -- covered readers lossy fight storm crowd walk scattered regions churn failures turns queue rivals rebuilt
 mkdir -p "$folder" || exit 1
 "$here/../lockreplay" --help >/dev/null || exit 1
 program=$here/../crates/lockreplay/out/lockreplay
@@ -39,6 +39,7 @@ for kind in "$@"; do
         turns) share=3 start=190 ;;
         queue) sizes="100000:5:512 1000000:5:512 1000000:5:16384" ;;
         rivals) sizes="100000:5:16 1000000:5:16 1000000:5:1008" ;;
+        rebuilt) sizes="10000:5:10 100000:5:300 1000000:5:3900" ;;
     esac
     first=
     for size in $sizes; do
@@ -51,6 +52,9 @@ for kind in "$@"; do
             each=$((calls / 64))
             turns=$(((entries - 381 * each) / (130 * each + 4)))
             lines=$((192 * each + 3 + turns * (each + 3)))
+        elif [ "$kind" = rebuilt ]; then
+            # A run of each node makes 256 entries of 128 lines, a rebuild 130 of three.
+            lines=$((129 + 128 * calls + (entries - 256 * calls) / 130 * 3))
         fi
         name=$kind${calls:+-$calls}
         script=$folder/$name-$lines.lock

@@ -31,6 +31,8 @@
 # rivals   16 processes on each of 63 nodes want to write ten bytes, each others, of a file whose token one more node has, without
 #          a lock: so 1,008 requests are served at once. Whoever gets its bytes unlocks them and asks for the ten behind all
 #          others. CALLS is how many are served at once, up to 1008
+# rebuilt  64 nodes have tokens of CALLS runs each (4,000, up to 4,000); then the server fails and is rebuilt from what they report, again
+#          and again
 # usage: script.sh KIND LINES [CALLS]
 kind=${1:?usage: script.sh KIND LINES [CALLS]}
 lines=${2:?usage: script.sh KIND LINES [CALLS]}
@@ -317,6 +319,27 @@ function rivals() {
     }
 }
 
+# Each node reads one byte in two: two lines for each run of each node come before the first failure.
+function rebuilt() {
+    many = calls == "" ? 4000 : calls
+    put("cluster nodes 64 files 1 policy exact")
+    for (node = 1; node <= 64; node++)
+        begin(node, 1)
+    for (number = 0; number < many; number++) {
+        for (node = 1; node <= 64; node++) {
+            put("call " node " 1 set 0 proc read " 2 * number " 1")
+            put("settle")
+        }
+    }
+    while (written < lines) {
+        put("fail-server 1")
+        put("start-server 1")
+        put("settle")
+    }
+    # (the last entry is a reply)
+    put("call 1 1 query 0 proc read 0 1")
+}
+
 BEGIN {
     if (kind == "covered")
         covered()
@@ -346,6 +369,8 @@ BEGIN {
         queue()
     else if (kind == "rivals")
         rivals()
+    else if (kind == "rebuilt")
+        rebuilt()
     else
         exit 2
 }'

@@ -3,7 +3,7 @@ use messages::message::Message;
 use std::alloc::{AllocError, Global};
 
 // A message, and after how many ticks it goes.
-#[derive(Clone, Copy)]
+#[derive(Drop)]
 struct Held {
     ticks: u32,
     message: Message,
@@ -24,7 +24,13 @@ impl HeldBack {
     }
 
     /// Holds a message back for so many ticks.
-    pub(crate) fn hold(&mut self, ticks: u32, message: Message) -> Result<(), AllocError> {
+    pub(crate) fn hold(
+        &mut self,
+        alloc: Global,
+        ticks: u32,
+        message: &Message,
+    ) -> Result<(), AllocError> {
+        let message = message.copy(alloc)?;
         self.messages.push(Held { ticks, message })?;
         Ok(())
     }
@@ -47,6 +53,7 @@ impl HeldBack {
     /// Takes out the first message whose ticks have passed.
     pub(crate) fn take_due(&mut self) -> Option<Message> {
         let index = self.messages.iter().position(|held| held.ticks == 0)?;
-        Some(self.messages.remove(index).message)
+        let Held { message, .. } = self.messages.remove(index);
+        Some(message)
     }
 }

@@ -47,10 +47,10 @@ impl OpenCall {
     // The step may have tried the call again.
     fn note(&mut self, step: &Stamp) {
         let event = step.event();
-        if retried(&event) == Some(self.pid) {
+        if retried(event) == Some(self.pid) {
             self.blocked_here = step.outcome().sends.is_empty();
         }
-        if let Some(number) = granted(&event) {
+        if let Some(number) = granted(event) {
             self.blocked_here = self.blocked_here || self.has_number(number);
         }
     }

@@ -31,21 +31,21 @@ impl<W: Weather> Outgoing<W> {
     /// Sends the messages of a step, each as the weather has it.
     pub(crate) fn send_all<G, R: Wait>(&mut self, rt: &R, shared: &Shared<'_, G>, stamp: &Stamp) {
         for message in stamp.outcome().sends.as_slice() {
-            self.send(rt, shared, *message);
+            self.send(rt, shared, message);
         }
     }
 
     // Sends a message as the weather has it. One for which there is no memory is lost.
-    fn send<G, R: Wait>(&mut self, rt: &R, shared: &Shared<'_, G>, message: Message) {
-        match self.weather.fate(&message) {
-            Fate::Pass | Fate::Hold(0) => shared.deliver(rt, message),
+    fn send<G, R: Wait>(&mut self, rt: &R, shared: &Shared<'_, G>, message: &Message) {
+        match self.weather.fate(message) {
+            Fate::Pass | Fate::Hold(0) => shared.send(rt, message),
             Fate::Drop => {}
             Fate::Twice => {
-                shared.deliver(rt, message);
-                shared.deliver(rt, message);
+                shared.send(rt, message);
+                shared.send(rt, message);
             }
             Fate::Hold(ticks) => {
-                let _ = self.held.hold(ticks, message);
+                let _ = self.held.hold(shared.alloc, ticks, message);
             }
         }
     }

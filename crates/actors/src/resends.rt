@@ -49,7 +49,10 @@ fn is_answer(event: &Event) -> bool {
     match event {
         Event::Deliver(message) => matches!(
             message,
-            Message::Taken { .. } | Message::Released { .. } | Message::Conflict { .. }
+            Message::Taken { .. }
+                | Message::Released { .. }
+                | Message::Conflict { .. }
+                | Message::Report { .. }
         ),
         _ => false,
     }

@@ -77,6 +77,13 @@ impl<G> Shared<'_, G> {
         self.mailboxes.get(index_of(self.nodes, actor)?)
     }
 
+    /// Puts a copy of the message into the mailbox of its addressee, as `deliver` does.
+    pub(crate) fn send<R: Wait>(&self, rt: &R, message: &Message) {
+        if let Ok(copy) = message.copy(self.alloc) {
+            self.deliver(rt, copy);
+        }
+    }
+
     /// Puts the message into the mailbox of its addressee. One for which there is no memory is lost.
     pub(crate) fn deliver<R: Wait>(&self, rt: &R, message: Message) {
         if let Some(mailbox) = self.mailbox(message.addressee()) {

@@ -296,7 +296,7 @@ impl<W: Weather> Worker<W> {
         self.answer_by(rt, &stamp);
         match self.seat.actor() {
             Actor::Node(_) => self.waiting.note(&stamp),
-            Actor::Server(_) => self.resends.note(&event),
+            Actor::Server(_) => self.resends.note(stamp.event()),
         }
         Ok(())
     }
@@ -365,7 +365,10 @@ fn commit<G: Gate, R: Wait>(
 {
     let actor = seat.actor();
     shared.gate.at(Point::Prepared(actor));
-    let committed = shared.book.lock(rt).commit(seat, prepared, seen);
+    let committed = shared
+        .book
+        .lock(rt)
+        .commit(shared.alloc, seat, prepared, seen);
     let stamp = committed?;
     shared.gate.at(Point::Committed(actor, stamp.position()));
     Ok(stamp)

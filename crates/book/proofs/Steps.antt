@@ -47,7 +47,7 @@ may_step w (OfNode n s) event (OfNode m t) o has h =
     subst F (sym h.0) here
 may_step w (OfServer f s) event (OfServer g t) o has h =
     let F : ℕ → Type 0 = λ k. ServerSteps w event k (server_state t.value) o in
-    let here : F f = record { number = has.number; done = ap (λ (x : ServerState). server_step f x event) has.state ∙ h.1 } in
+    let here : F f = record { number = has.number; working = has.working; done = ap (λ (x : ServerState). server_step f x event) has.state ∙ h.1 } in
     subst F (sym h.0) here
 may_step w (OfNode n s) event (OfServer g t) o has h = absurd h
 may_step w (OfServer f s) event (OfNode m t) o has h = absurd h
@@ -66,6 +66,7 @@ stands w event (OfNode m t) o may = record {
 }
 stands w event (OfServer g t) o may = record {
   number = may.number;
+  working = may.working;
   state = at_number g g (λ b. (if b then server_state t.value else w.servers g) ≡ server_state t.value) (λ same. refl) (λ other. absurd (other refl));
 }
 
@@ -79,10 +80,11 @@ others_stand w event (OfNode m t) o (OfNode k x) ne has = record {
   alive = has.alive;
   state = at_number k m (λ b. (if b then node_state t.value else w.nodes k) ≡ node_state x.value) (λ same. absurd (ne (ap ANode same))) (λ other. has.state);
 }
-others_stand w event (OfNode m t) o (OfServer f x) ne has = record { number = has.number; state = has.state }
+others_stand w event (OfNode m t) o (OfServer f x) ne has = record { number = has.number; working = has.working; state = has.state }
 others_stand w event (OfServer g t) o (OfNode k x) ne has = record { number = has.number; alive = has.alive; state = has.state }
 others_stand w event (OfServer g t) o (OfServer f x) ne has = record {
   number = has.number;
+  working = has.working;
   state = at_number f g (λ b. (if b then server_state t.value else w.servers f) ≡ server_state x.value) (λ same. absurd (ne (ap AServer same))) (λ other. has.state);
 }
 

@@ -31,7 +31,7 @@ declared_entry w n q h = declare_step w (λ p. (k : ℕ) × (p.1 ≡ entry (Decl
 
 -- other actors stay as they are
 pub declared_others : (w : WorldState) (n : ℕ) (q : WorldState × Entry) (x : State) → next w (Declare n) ≡ Ok q → actor_of x ≢ ANode n → HasState w x → HasState q.0 x
-declared_others w n q (OfServer f x) h ne has = declare_step w (λ p. HasState p.0 (OfServer f x)) n q (λ m is alive. record { number = has.number; state = has.state }) (next_taken w (Declare n) q h).1
+declared_others w n q (OfServer f x) h ne has = declare_step w (λ p. HasState p.0 (OfServer f x)) n q (λ m is alive. record { number = has.number; working = has.working; state = has.state }) (next_taken w (Declare n) q h).1
 declared_others w n q (OfNode k x) h ne has =
     declare_step w (λ p. HasState p.0 (OfNode k x)) n q (λ m is alive.
     let other : k ≡ m → ⊥ = λ e. ne (ap ANode (e ∙ sym (same_node n m is))) in
@@ -62,7 +62,7 @@ declared_fences w n q (OfNode k x) h has is least =
 
 -- a restart leaves other actors as they are
 pub restarted_others : (w : WorldState) (n : ℕ) (q : WorldState × Entry) (x : State) → next w (Restart n) ≡ Ok q → actor_of x ≢ ANode n → HasState w x → HasState q.0 x
-restarted_others w n q (OfServer f x) h ne has = restart_step w (λ p. HasState p.0 (OfServer f x)) n q (λ m is dead few. record { number = has.number; state = has.state }) (next_taken w (Restart n) q h).1
+restarted_others w n q (OfServer f x) h ne has = restart_step w (λ p. HasState p.0 (OfServer f x)) n q (λ m is dead few. record { number = has.number; working = has.working; state = has.state }) (next_taken w (Restart n) q h).1
 restarted_others w n q (OfNode k x) h ne has =
     restart_step w (λ p. HasState p.0 (OfNode k x)) n q (λ m is dead few. record {
       number = has.number;

@@ -57,7 +57,13 @@ impl Model for Book {
 }
 
 // The run goes on by a step that was computed from its actor's state.
-fn put(run: &mut Run, event: Event, state: State, outcome: Outcome) -> Result<(), NoMemory>
+fn put(
+    run: &mut Run,
+    alloc: Global,
+    event: Event,
+    state: State,
+    outcome: Outcome,
+) -> Result<(), NoMemory>
     requires room { length run.old.entries < journal_limit }
     requires known { is_known (world_state run.old.world) event ≡ true }
     requires step { MayStep (world_state run.old.world) event state outcome }
@@ -66,8 +72,8 @@ fn put(run: &mut Run, event: Event, state: State, outcome: Outcome) -> Result<()
 {
     let _ = run.len(); // tells the proof that the world counts the entries
     match state {
-        State::OfNode { number, node } => run.put_node(event, number, node, outcome),
-        State::OfServer { file, server } => run.put_server(event, file, server, outcome),
+        State::OfNode { number, node } => run.put_node(alloc, event, number, node, outcome),
+        State::OfServer { file, server } => run.put_server(alloc, event, file, server, outcome),
     }
 }
 
@@ -159,6 +165,7 @@ impl Book {
     /// refused. The book and the seat are then as they were.
     pub fn commit(
         &mut self,
+        alloc: Global,
         seat: &mut Seat,
         prepared: Prepared,
         seen: Option<&Mark>,
@@ -170,9 +177,9 @@ impl Book {
         let seen = seen_of(seen);
         accepts(&self.run, seat, &prepared, seen)?;
         let parts = prepared.into_parts();
-        put(&mut self.run, parts.event, parts.copy, parts.outcome)?;
+        put(&mut self.run, alloc, parts.event, parts.copy, parts.outcome)?;
         seat.advance(parts.state);
-        Ok(Stamp::new(self.run.len(), parts.event, parts.said, seen))
+        Ok(Stamp::new(self.run.len(), parts.told, parts.said, seen))
     }
 
     /// The node is declared failed: from here on each commit of its incarnation is refused.

@@ -34,7 +34,7 @@ fn same_replies(one: &Option<(CallId, Reply)>, other: &Option<(CallId, Reply)>) 
 fn is_its_call(entry: &Entry, receipt: &Receipt) -> bool
     ensures { IsTrue result ↔ (call_in entry.now.event entry.now.call ≡ Some (receipt.now.call, receipt.now.pid, receipt.now.op)) }
 {
-    let Some((id, pid, op)) = call_in(&entry.event(), entry.call()) else {
+    let Some((id, pid, op)) = call_in(entry.event(), entry.call()) else {
         return false;
     };
     same_id(&id, &receipt.call()) && pid == receipt.pid() && same_op(&op, &receipt.op())

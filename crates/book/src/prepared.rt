@@ -11,13 +11,14 @@ use messages::outcome::Outcome;
 use std::marker::Model;
 
 /// A step of an actor that was computed from its seat's state, and may be committed from that seat. It
-/// has the next state and what the step gave twice, so that a commit moves them and copies nothing.
+/// has the event, the next state and what the step gave twice, so that a commit moves them.
 #[derive(Drop)]
 pub struct Prepared {
     actor: Actor,
     incarnation: u16,
     commits: u64,
     event: Event,
+    told: Event,
     state: State,
     copy: State,
     outcome: Outcome,
@@ -33,13 +34,14 @@ impl Model for Prepared {
 
     ghost view = { λ p. record { actor = p.actor; incarnation = p.incarnation; commits = p.commits; event = p.event; state = p.state; outcome = p.outcome } };
 
-    ghost invariant = { λ p. SameState p.state p.copy × (p.said ≡ p.outcome) × (p.commits < 18446744073709551615) };
+    ghost invariant = { λ p. SameState p.state p.copy × (p.told ≡ p.event) × (p.said ≡ p.outcome) × (p.commits < 18446744073709551615) };
 }
 
 /// What a step makes, taken apart.
 #[derive(Drop)]
 pub(crate) struct Parts {
     pub(crate) event: Event,
+    pub(crate) told: Event,
     pub(crate) state: State,
     pub(crate) copy: State,
     pub(crate) outcome: Outcome,
@@ -59,15 +61,17 @@ impl Prepared {
     /// The step of a seat that had made fewer than the most commits.
     pub(crate) fn new(
         seat: &Seat,
-        event: Event,
+        events: (Event, Event),
         next: (State, State),
         given: (Outcome, Outcome),
     ) -> Prepared
         requires unspent { seat.now.commits < 18446744073709551615 }
+        requires same_event { events.1 ≡ events.0 }
         requires same_state { SameState next.0 next.1 }
         requires same_outcome { given.1 ≡ given.0 }
-        ensures { result ≡ record { actor = actor_of seat.now.state; incarnation = incarnation_of seat.now.state; commits = seat.now.commits; event = event; state = next.0; outcome = given.0 } }
+        ensures { result ≡ record { actor = actor_of seat.now.state; incarnation = incarnation_of seat.now.state; commits = seat.now.commits; event = events.0; state = next.0; outcome = given.0 } }
     {
+        let (event, told) = events;
         let (state, copy) = next;
         let (outcome, said) = given;
         Prepared {
@@ -75,6 +79,7 @@ impl Prepared {
             incarnation: seat.incarnation(),
             commits: seat.commits(),
             event,
+            told,
             state,
             copy,
             outcome,
@@ -99,9 +104,10 @@ impl Prepared {
             && self.commits == seat.commits()
     }
 
-    /// The event, the next state twice, and what the step gave twice.
+    /// The event, the next state and what the step gave, each twice.
     pub(crate) fn into_parts(self) -> Parts
         ensures event { result.event ≡ self.event }
+        ensures told { result.told ≡ self.event }
         ensures state { result.state ≡ self.state }
         ensures copy { SameState self.state result.copy }
         ensures outcome { result.outcome ≡ self.outcome }
@@ -109,6 +115,7 @@ impl Prepared {
     {
         let Prepared {
             event,
+            told,
             state,
             copy,
             outcome,
@@ -117,6 +124,7 @@ impl Prepared {
         } = self;
         Parts {
             event,
+            told,
             state,
             copy,
             outcome,

@@ -63,7 +63,7 @@ impl Receipt {
     pub fn of(call: &Stamp, reply: &Stamp) -> Option<Receipt>
         ensures { MatchOption result ((r : ReceiptFields) → IsReceiptOf call.now reply.now r → ⊥) (λ r. IsReceiptOf call.now reply.now r) }
     {
-        let (id, pid, op) = call_in(&call.event(), call.outcome().call)?;
+        let (id, pid, op) = call_in(call.event(), call.outcome().call)?;
         let (answered, said) = reply.outcome().reply?;
         if !same_id(&answered, &id) || reply.position() < call.position() {
             return None;

@@ -98,7 +98,8 @@ impl Seat {
         let (state, outcome) = self.state.step(alloc, &event)?;
         let copy = state.copy(alloc)?;
         let said = copied(alloc, &outcome)?;
-        Ok(Prepared::new(self, event, (state, copy), (outcome, said)))
+        let told = event.copy(alloc)?;
+        Ok(Prepared::new(self, (event, told), (state, copy), (outcome, said)))
     }
 
     /// The actor is in its next state.

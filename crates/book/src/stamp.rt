@@ -49,10 +49,10 @@ impl Stamp {
         self.position
     }
 
-    pub fn event(&self) -> Event
-        ensures { result ≡ self.now.event }
+    pub fn event(&self) -> &Event
+        ensures { result.now ≡ self.now.event }
     {
-        self.event
+        &self.event
     }
 
     pub fn outcome(&self) -> &Outcome

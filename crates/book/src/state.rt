@@ -6,16 +6,23 @@ ghost use Rattle.token_server.specs.Parts.{server_state};
 ghost use Rattle.cluster_core.specs.Parts.{world_state};
 ghost use Rattle.node_core.specs.Commands.{is_node};
 ghost use Rattle.token_server.specs.Server.{is_server};
-ghost use Rattle.cluster_core.specs.Actors.{node_event, server_event, node_at, server_at};
+ghost use Rattle.cluster_core.specs.Actors.{node_at, server_at, node_step, server_step};
+ghost use Rattle.node_core.specs.Plans.{planned as reached, Fits as NodeFits};
+ghost use Rattle.node_core.specs.declared.event.NodeEvent.TheVariants as own;
+ghost use Rattle.token_server.specs.Edits.{planned, Fits as ServerFits};
+ghost use Rattle.token_server.specs.declared.event.ServerEvent.TheVariants as served;
 
 use cluster_core::world::World;
 use messages::actor::Actor;
 use messages::event::Event;
+use messages::message::Message;
 use messages::outcome::Outcome;
 use messages::refusal::StepError;
+use node_core::change::Change as NodeChange;
 use node_core::event::NodeEvent;
 use node_core::node::Node;
 use std::alloc::{AllocError, Global};
+use token_server::change::Change as ServerChange;
 use token_server::event::ServerEvent;
 use token_server::server::Server;
 
@@ -46,96 +53,198 @@ fn is_server(number: u16, actor: Actor) -> bool
     }
 }
 
-// The event where it is the actor's own, or none.
-fn own<T: Copy>(is_own: bool, event: T) -> Option<T>
-    ensures { result ≡ (if is_own then Some event else None) }
+// What the node will do at an event, if that is its own.
+fn node_plan(
+    alloc: Global,
+    node: &Node,
+    is_own: bool,
+    event: &NodeEvent,
+) -> Result<NodeChange, StepError>
+    ensures ok { IfOk result (λ change. node_at (node_state node.now) (if is_own then Some event.now else None) ≡ Ok (reached node.now change.edit, change.outcome)) }
+    ensures err { IfErr result (λ e. e ≢ StepError.NoMemory → node_at (node_state node.now) (if is_own then Some event.now else None) ≡ Err e) }
+    ensures refused { (r : StepError) → node_at (node_state node.now) (if is_own then Some event.now else None) ≡ Err r → result ≡ Err r }
+    ensures fits { IfOk result (λ change. NodeFits node.now change.edit) }
 {
-    if is_own { Some(event) } else { None }
-}
-
-// The event as the node with the number takes it, or none.
-fn node_event(number: u8, event: &Event) -> Option<NodeEvent>
-    ensures { result ≡ node_event number event.now }
-{
-    match event {
-        Event::Call { node, pid, op } => {
-            own(*node == number, NodeEvent::Call { pid: *pid, op: *op })
-        }
-        Event::Deliver(message) => own(
-            is_node(number, message.addressee()),
-            NodeEvent::Deliver(*message),
-        ),
-        Event::Interrupt { node, pid } => {
-            own(*node == number, NodeEvent::Interrupt { pid: *pid })
-        }
-        Event::Retry { node, pid } => own(*node == number, NodeEvent::Retry { pid: *pid }),
-        Event::Resend { .. } => None,
-        Event::Declare { .. } => None,
-        Event::Restart { .. } => None,
-        Event::Learn { .. } => None,
+    if is_own {
+        node.plan(alloc, event)
+    } else {
+        Err(StepError::Stranger)
     }
 }
 
-// The event as the server of the file takes it, or none.
-fn server_event(number: u16, event: &Event) -> Option<ServerEvent>
-    ensures { result ≡ server_event number event.now }
+// What the node will do where the message comes, if that is for it.
+fn node_delivery(
+    alloc: Global,
+    node: &Node,
+    is_own: bool,
+    message: &Message,
+) -> Result<NodeChange, StepError>
+    ensures ok { IfOk result (λ change. node_at (node_state node.now) (if is_own then Some (own.Deliver message.now) else None) ≡ Ok (reached node.now change.edit, change.outcome)) }
+    ensures err { IfErr result (λ e. e ≢ StepError.NoMemory → node_at (node_state node.now) (if is_own then Some (own.Deliver message.now) else None) ≡ Err e) }
+    ensures refused { (r : StepError) → node_at (node_state node.now) (if is_own then Some (own.Deliver message.now) else None) ≡ Err r → result ≡ Err r }
+    ensures fits { IfOk result (λ change. NodeFits node.now change.edit) }
+{
+    if is_own {
+        node.plan_delivery(alloc, message)
+    } else {
+        Err(StepError::Stranger)
+    }
+}
+
+// What the node with the number will do at an event.
+fn planned_node(
+    alloc: Global,
+    number: u8,
+    node: &Node,
+    event: &Event,
+) -> Result<NodeChange, StepError>
+    ensures ok { IfOk result (λ change. node_step number (node_state node.now) event.now ≡ Ok (reached node.now change.edit, change.outcome)) }
+    ensures err { IfErr result (λ e. e ≢ StepError.NoMemory → node_step number (node_state node.now) event.now ≡ Err e) }
+    ensures refused { (r : StepError) → node_step number (node_state node.now) event.now ≡ Err r → result ≡ Err r }
+    ensures fits { IfOk result (λ change. NodeFits node.now change.edit) }
 {
     match event {
-        Event::Deliver(message) => own(
-            is_server(number, message.addressee()),
-            ServerEvent::Deliver(*message),
-        ),
-        Event::Resend { file } => own(*file == number, ServerEvent::Resend),
+        Event::Call { node: of, pid, op } => {
+            let call = NodeEvent::Call { pid: *pid, op: *op };
+            node_plan(alloc, node, *of == number, &call)
+        }
+        Event::Deliver(message) => {
+            node_delivery(alloc, node, is_node(number, message.addressee()), message)
+        }
+        Event::Interrupt { node: of, pid } => {
+            node_plan(
+                alloc,
+                node,
+                *of == number,
+                &NodeEvent::Interrupt { pid: *pid },
+            )
+        }
+        Event::Retry { node: of, pid } => {
+            node_plan(alloc, node, *of == number, &NodeEvent::Retry { pid: *pid })
+        }
+        Event::Resend { .. }
+        | Event::Declare { .. }
+        | Event::Restart { .. }
+        | Event::Learn { .. }
+        | Event::FailServer { .. }
+        | Event::StartServer { .. } => Err(StepError::Stranger),
+    }
+}
+
+// The step of the node with the number at an event: its next state, and what it gives.
+fn stepped_node(
+    alloc: Global,
+    number: u8,
+    node: &Node,
+    event: &Event,
+) -> Result<(Box<Node>, Outcome), StepError>
+    ensures ok { IfOk result (λ r. node_step number (node_state node.now) event.now ≡ Ok (node_state r.0.value, r.1)) }
+    ensures err { IfErr result (λ e. e ≢ StepError.NoMemory → node_step number (node_state node.now) event.now ≡ Err e) }
+    ensures refused { (r : StepError) → node_step number (node_state node.now) event.now ≡ Err r → result ≡ Err r }
+{
+    let change = planned_node(alloc, number, node, event)?;
+    let mut next = node.copy(alloc)?;
+    let outcome = next.apply(change);
+    Ok((Box::new(alloc, next)?, outcome))
+}
+
+// What the server will do at an event, if that is its own.
+fn server_plan(
+    alloc: Global,
+    server: &Server,
+    is_own: bool,
+    event: &ServerEvent,
+) -> Result<ServerChange, StepError>
+    ensures ok { IfOk result (λ change. server_at (server_state server.now) (if is_own then Some event.now else None) ≡ Ok (planned server.now change.edit, change.outcome)) }
+    ensures err { IfErr result (λ e. e ≢ StepError.NoMemory → server_at (server_state server.now) (if is_own then Some event.now else None) ≡ Err e) }
+    ensures refused { (r : StepError) → r ≢ StepError.Spent → server_at (server_state server.now) (if is_own then Some event.now else None) ≡ Err r → result ≡ Err r }
+    ensures fits { IfOk result (λ change. ServerFits server.now change.edit) }
+{
+    if is_own {
+        server.plan(alloc, event)
+    } else {
+        Err(StepError::Stranger)
+    }
+}
+
+// What the server will do where the message comes, if that is for it.
+fn server_delivery(
+    alloc: Global,
+    server: &Server,
+    is_own: bool,
+    message: &Message,
+) -> Result<ServerChange, StepError>
+    ensures ok { IfOk result (λ change. server_at (server_state server.now) (if is_own then Some (served.Deliver message.now) else None) ≡ Ok (planned server.now change.edit, change.outcome)) }
+    ensures err { IfErr result (λ e. e ≢ StepError.NoMemory → server_at (server_state server.now) (if is_own then Some (served.Deliver message.now) else None) ≡ Err e) }
+    ensures refused { (r : StepError) → r ≢ StepError.Spent → server_at (server_state server.now) (if is_own then Some (served.Deliver message.now) else None) ≡ Err r → result ≡ Err r }
+    ensures fits { IfOk result (λ change. ServerFits server.now change.edit) }
+{
+    if is_own {
+        server.plan_delivery(alloc, message)
+    } else {
+        Err(StepError::Stranger)
+    }
+}
+
+// What the server of the file will do at an event.
+fn planned_server(
+    alloc: Global,
+    number: u16,
+    server: &Server,
+    event: &Event,
+) -> Result<ServerChange, StepError>
+    ensures ok { IfOk result (λ change. server_step number (server_state server.now) event.now ≡ Ok (planned server.now change.edit, change.outcome)) }
+    ensures err { IfErr result (λ e. e ≢ StepError.NoMemory → server_step number (server_state server.now) event.now ≡ Err e) }
+    ensures refused { (r : StepError) → r ≢ StepError.Spent → server_step number (server_state server.now) event.now ≡ Err r → result ≡ Err r }
+    ensures fits { IfOk result (λ change. ServerFits server.now change.edit) }
+{
+    match event {
+        Event::Deliver(message) => {
+            server_delivery(
+                alloc,
+                server,
+                is_server(number, message.addressee()),
+                message,
+            )
+        }
+        Event::Resend { file } => {
+            server_plan(alloc, server, *file == number, &ServerEvent::Resend)
+        }
         Event::Learn {
             file,
             node,
             incarnation,
-        } => own(
-            *file == number,
-            ServerEvent::Learn {
+        } => {
+            let learn = ServerEvent::Learn {
                 node: *node,
                 incarnation: *incarnation,
-            },
-        ),
-        Event::Call { .. } => None,
-        Event::Interrupt { .. } => None,
-        Event::Retry { .. } => None,
-        Event::Declare { .. } => None,
-        Event::Restart { .. } => None,
+            };
+            server_plan(alloc, server, *file == number, &learn)
+        }
+        Event::Call { .. }
+        | Event::Interrupt { .. }
+        | Event::Retry { .. }
+        | Event::Declare { .. }
+        | Event::Restart { .. }
+        | Event::FailServer { .. }
+        | Event::StartServer { .. } => Err(StepError::Stranger),
     }
 }
 
-// The step of a node at its own event: its next state, and what it gives.
-fn node_at(
+// The step of the server of the file at an event.
+fn stepped_server(
     alloc: Global,
-    node: &Node,
-    event: Option<NodeEvent>,
-) -> Result<(Box<Node>, Outcome), StepError>
-    ensures ok { IfOk result (λ r. node_at (node_state node.now) event ≡ Ok (node_state r.0.value, r.1)) }
-    ensures err { IfErr result (λ e. e ≢ StepError.NoMemory → node_at (node_state node.now) event ≡ Err e) }
-    ensures refused { (r : StepError) → node_at (node_state node.now) event ≡ Err r → result ≡ Err r }
-{
-    let Some(own) = event else {
-        return Err(StepError::Stranger);
-    };
-    let (next, outcome) = node.step(alloc, &own)?;
-    Ok((Box::new(alloc, next)?, outcome))
-}
-
-// The step of a server at its own event.
-fn server_at(
-    alloc: Global,
+    number: u16,
     server: &Server,
-    event: Option<ServerEvent>,
+    event: &Event,
 ) -> Result<(Box<Server>, Outcome), StepError>
-    ensures ok { IfOk result (λ r. server_at (server_state server.now) event ≡ Ok (server_state r.0.value, r.1)) }
-    ensures err { IfErr result (λ e. e ≢ StepError.NoMemory → server_at (server_state server.now) event ≡ Err e) }
-    ensures refused { (r : StepError) → r ≢ StepError.Spent → server_at (server_state server.now) event ≡ Err r → result ≡ Err r }
+    ensures ok { IfOk result (λ r. server_step number (server_state server.now) event.now ≡ Ok (server_state r.0.value, r.1)) }
+    ensures err { IfErr result (λ e. e ≢ StepError.NoMemory → server_step number (server_state server.now) event.now ≡ Err e) }
+    ensures refused { (r : StepError) → r ≢ StepError.Spent → server_step number (server_state server.now) event.now ≡ Err r → result ≡ Err r }
 {
-    let Some(own) = event else {
-        return Err(StepError::Stranger);
-    };
-    let (next, outcome) = server.step(alloc, &own)?;
+    let change = planned_server(alloc, number, server, event)?;
+    let mut next = server.copy()?;
+    let outcome = next.apply(change);
     Ok((Box::new(alloc, next)?, outcome))
 }
 
@@ -190,12 +299,12 @@ impl State {
     {
         match self {
             State::OfNode { number, node } => {
-                let (node, outcome) = node_at(alloc, node, node_event(*number, event))?;
+                let (node, outcome) = stepped_node(alloc, *number, node, event)?;
                 let number = *number;
                 Ok((State::OfNode { number, node }, outcome))
             }
             State::OfServer { file, server } => {
-                let (server, outcome) = server_at(alloc, server, server_event(*file, event))?;
+                let (server, outcome) = stepped_server(alloc, *file, server, event)?;
                 let file = *file;
                 Ok((State::OfServer { file, server }, outcome))
             }

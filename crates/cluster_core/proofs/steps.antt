@@ -14,5 +14,6 @@ pub mod NodeTokens
 pub mod ServerRows
 pub mod FailuresRow
 pub mod MemberSteps
+pub mod EpochSteps
 pub mod CertainRefusals
 pub mod Actors

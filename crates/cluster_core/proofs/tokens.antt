@@ -7,6 +7,11 @@ pub mod Lowering
 pub mod Clearing
 pub mod Talks
 pub mod TalkMoves
+pub mod RowMoves
+pub mod TalkStarts
+pub mod Epochs
+pub mod Ending
 pub mod Present
 pub mod Members
+pub mod Starts
 pub mod Apart

@@ -58,9 +58,10 @@ pub record HasNode (w : WorldState) (n : ℕ) (s : NodeState) : Type 0 where
   pub alive : w.alive n ≡ true
   pub state : w.nodes n ≡ s
 
--- the server of the file is in this state
+-- the server of the file works, and is in this state
 pub record HasServer (w : WorldState) (f : ℕ) (s : ServerState) : Type 0 where
   pub number : has_file w f ≡ true
+  pub working : w.working f ≡ true
   pub state : w.servers f ≡ s
 
 -- the node, which is alive, makes this state and outcome of the event
@@ -69,9 +70,10 @@ pub record NodeSteps (w : WorldState) (event : Event) (n : ℕ) (s : NodeState) 
   pub alive : w.alive n ≡ true
   pub done : node_step n (w.nodes n) event ≡ Ok (s, o)
 
--- the server makes this state and outcome of the event
+-- the server, which works, makes this state and outcome of the event
 pub record ServerSteps (w : WorldState) (event : Event) (f : ℕ) (s : ServerState) (o : Outcome) : Type 0 where
   pub number : has_file w f ≡ true
+  pub working : w.working f ≡ true
   pub done : server_step f (w.servers f) event ≡ Ok (s, o)
 
 -- the world and the entry that come of that

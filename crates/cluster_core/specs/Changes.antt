@@ -1,9 +1,10 @@
 -- What an event will do to a world, as it was planned from the world's parts.
-use Rattle.std.specs.Prelude.{◌≡◌, ℕ, ◌-◌, ◌<◌, ◌≤◌, true, false, Result, Ok, slice_index_or}
+use Rattle.std.specs.Prelude.{◌≡◌, ℕ, ◌-◌, ◌<◌, ◌≤◌, true, false, List, Result, Ok, slice_index_or}
 use Rattle.messages.specs.Messages.{is_within}
 use Rattle.messages.specs.Entries.{NamesItsIncarnation}
 use Rattle.messages.specs.declared.refusal.Refused.{Refused}
 use Rattle.messages.specs.declared.event.Event.{Event}
+use Rattle.messages.specs.declared.message.Message.{Message}
 use Rattle.messages.specs.declared.entry.Entry.{Entry}
 use Rattle.members.specs.Parts.{incarnation_in}
 use Rattle.node_core.specs.declared.change.Change.{Change as NodeChange}
@@ -15,13 +16,14 @@ use Rattle.node_core.specs.State.{first_node}
 use Rattle.token_server.specs.declared.change.Change.{Change as ServerChange}
 use Rattle.token_server.specs.declared.event.ServerEvent.{ServerEvent}
 use Rattle.token_server.specs.Edits.{planned, Fits as ServerFits}
-use Rattle.token_server.specs.Parts.{ServerParts}
+use Rattle.token_server.specs.Parts.{ServerParts, server_state}
+use Rattle.token_server.specs.Resends.{outstanding}
 use Rattle.token_server.specs.Server.{server_rule}
 use Rattle.cluster_core.specs.declared.world.change.Change.{Change}
-use Rattle.cluster_core.specs.declared.world.change.Change.TheVariants.{OfNode, OfServer, Declared, Restarted}
+use Rattle.cluster_core.specs.declared.world.change.Change.TheVariants.{OfNode, OfServer, Declared, Restarted, Failed, Started}
 use Rattle.cluster_core.specs.World.{WorldState, journal_limit, most_incarnations}
-use Rattle.cluster_core.specs.Next.{named_incarnation, after_node, after_server, declare_rule, restart_rule, next}
-use Rattle.cluster_core.specs.Parts.{WorldParts, IsStepOf, IsServerStepOf, alive_at, world_state}
+use Rattle.cluster_core.specs.Next.{named_incarnation, after_node, after_server, declare_rule, restart_rule, fail_rule, start_rule, next_server, next}
+use Rattle.cluster_core.specs.Parts.{WorldParts, IsStepOf, IsServerStepOf, alive_at, works_at, world_state}
 
 -- the change is of the node's own step at the event, from which r comes
 pub record IsNodeChange (p : WorldParts) (event : Event) (n incarnation : ℕ) (change : NodeChange) (r : Result (WorldState × Entry) Refused) : Type 0 where
@@ -58,8 +60,22 @@ pub record IsDeclaration (p : WorldParts) (n : ℕ) (r : Result (WorldState × E
 pub record IsRestart (p : WorldParts) (n : ℕ) (begun : NodeParts) : Type 0 where
   pub number : is_within p.shape.nodes n ≡ true
   pub dead : alive_at p n ≡ false
-  pub few : incarnation_in p.members n ≤ most_incarnations
-  pub begins : node_state begun ≡ first_node p.shape n (incarnation_in p.members n)
+  pub few : incarnation_in p.members.nodes n ≤ most_incarnations
+  pub begins : node_state begun ≡ first_node p.shape n (incarnation_in p.members.nodes n)
+
+-- the server of the file may be declared failed
+pub record IsFailure (p : WorldParts) (file : ℕ) (r : Result (WorldState × Entry) Refused) : Type 0 where
+  pub number : is_within p.shape.files file ≡ true
+  pub works : works_at p file ≡ true
+  pub gives : r ≡ fail_rule (world_state p) file
+
+-- the server of the file may begin again as this one, which asks the nodes for their tokens by these messages
+pub record IsStart (p : WorldParts) (file : ℕ) (begun : ServerParts) (sends : List Message) : Type 0 where
+  pub number : is_within p.shape.files file ≡ true
+  pub failed : works_at p file ≡ false
+  pub few : incarnation_in p.members.servers file ≤ most_incarnations
+  pub begins : server_state begun ≡ next_server (world_state p) file
+  pub asks : sends ≡ outstanding (next_server (world_state p) file)
 
 -- the change is what makes r of the event
 abbrev pub Makes : WorldParts → Event → Change → Result (WorldState × Entry) Refused → Type 0
@@ -67,6 +83,8 @@ Makes p event (OfNode n incarnation change) r = IsNodeChange p event n incarnati
 Makes p event (OfServer file change) r = IsServerChange p event file change r
 Makes p event (Declared n) r = IsDeclaration p n r
 Makes p event (Restarted n begun) r = IsRestart p n begun.value × (r ≡ restart_rule (world_state p) n)
+Makes p event (Failed file) r = IsFailure p file r
+Makes p event (Started file begun sends) r = IsStart p file begun.value sends × (r ≡ start_rule (world_state p) file)
 
 -- the change is what the event will do
 pub record Plans (p : WorldParts) (event : Event) (change : Change) : Type 0 where

@@ -1,5 +1,5 @@
 -- What stands behind each denial.
-use Rattle.std.specs.Prelude.{◌≡◌, ◌⊎◌, ℕ, ◌+◌, ◌<◌, Bool, true, false, List, [], ◌∷◌, take, Some, None, Ok}
+use Rattle.std.specs.Prelude.{◌≡◌, ◌⊎◌, ℕ, max, ◌+◌, ◌<◌, Bool, true, false, List, [], ◌∷◌, take, Some, None, Ok}
 use Rattle.intervals.specs.Bytes.{Range}
 use Rattle.model.specs.declared.mode.Mode.{Mode}
 use Rattle.model.specs.declared.call.CallId.{CallId}
@@ -15,6 +15,7 @@ use Rattle.messages.specs.Wants.{Wants}
 use Rattle.messages.specs.declared.message.Message.TheVariants.{Revoke, Conflict, Deny}
 use Rattle.messages.specs.declared.event.Event.TheVariants.{Deliver}
 use Rattle.messages.specs.declared.entry.Entry.{Entry}
+use Rattle.messages.specs.Epochs.{begin_of}
 use Rattle.messages.specs.Messages.{is_among}
 use Rattle.node_core.specs.State.{host}
 use Rattle.cluster_core.specs.World.{WorldState, first_world, has_node}
@@ -51,7 +52,7 @@ pub record IsAsked (shape : ShapeFields) (es : List Entry) (file : ℕ) (call : 
   pub file_is : about.file ≡ file
   pub span_is : about.span ≡ span
 
--- before the entry at that position the holder had not done the command of that number about the file: it was the next one
+-- before the entry at that position the holder had not done the command of that number about the file: it was the next one of its epoch
 pub record IsFirstDone (shape : ShapeFields) (es : List Entry) (file : ℕ) (holder : Host) (number at : ℕ) : Type 0 where
   pub place : ℕ
   pub at_is : at ≡ place + 1
@@ -59,7 +60,7 @@ pub record IsFirstDone (shape : ShapeFields) (es : List Entry) (file : ℕ) (hol
   pub up_to : IsWorldAfter shape es place before
   pub there : has_node before holder.node ≡ true
   pub holder_is : host (before.nodes holder.node) ≡ holder
-  pub is_next : ((before.nodes holder.node).files file).last + 1 ≡ number
+  pub is_next : max ((before.nodes holder.node).files file).last (begin_of number) + 1 ≡ number
 
 -- after the call was made its holder first did the revoke of that number, and its answer was this conflict: the lock was then a region of the holder, and in the way of the call
 pub record HasEvidence (shape : ShapeFields) (es : List Entry) (file : ℕ) (call : CallId) (holder : Host) (number : ℕ) (lock : LockInfo) : Type 0 where

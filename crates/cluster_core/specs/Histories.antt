@@ -23,7 +23,7 @@ use Rattle.cluster_core.specs.declared.item.Item.{Item}
 use Rattle.cluster_core.specs.declared.item.Item.TheVariants.{Answered, Gone}
 use Rattle.cluster_core.specs.World.{WorldState, first_world}
 use Rattle.cluster_core.specs.Runs.{Leads}
-use Rattle.cluster_core.specs.Union.{union}
+use Rattle.cluster_core.specs.Union.{union, live_union}
 
 abbrev pub position_of : Item → ℕ
 position_of (Answered at id pid op reply) = at
@@ -150,6 +150,7 @@ pub record IsHistory (Fitting : List Entry → List Item → Type 0) (shape : Sh
   pub one_reply : OneReply es
   pub fits : Fitting es h
   pub legal : Legal (empty_table (most_regions shape.version)) h (union world)
+  pub lives : union world ≡ live_union world
 
 abbrev pub HasHistory : ShapeFields → List Entry → List Item → Type 0
 HasHistory shape es h = IsHistory Fits shape es h

@@ -1,11 +1,10 @@
 -- An index of the messages that were sent.
-use Rattle.std.specs.Prelude.{◌≡◌, ◌<◌, ℕ, ◌%◌, Bool, false, ◌||◌, nat_eq, List, length, take, slice_get, Option, Some, None}
-use Rattle.std.specs.List.{fold}
+use Rattle.std.specs.Prelude.{◌≡◌, ◌<◌, ℕ, ◌%◌, Bool, false, ◌||◌, nat_eq, List, length, take, slice_get, All, Option, Some, None}
+use Rattle.std.specs.List.{fold, list_any}
 use Rattle.std.specs.Hash.FoldHasher.{initial, write, finish}
 use Rattle.std.specs.declared.hash.FoldHasher.{FoldHasher}
 use Rattle.std.specs.declared.hash.BuildHasherDefault.{BuildHasherDefault}
 use Rattle.std.specs.HashMap.{HashMap, get}
-use Rattle.std.specs.HashSet.{HashSet, contains}
 use Rattle.messages.specs.declared.message.Message.{Message}
 use Rattle.messages.specs.Messages.{same_message, is_among}
 use Rattle.messages.specs.contracts.message.MessageHash.TheImpl as hashed
@@ -18,8 +17,9 @@ fingerprint m = finish (fold write initial (hashed.ghosts.hash_input m)) % 42949
 abbrev pub Places : Type 0
 Places = HashMap ℕ ℕ (BuildHasherDefault FoldHasher)
 
+-- the places of messages whose fingerprint is that of another
 abbrev pub Others : Type 0
-Others = HashSet Message (BuildHasherDefault FoldHasher)
+Others = List ℕ
 
 abbrev pub is_this : Message → Option Message → Bool
 is_this m None = false
@@ -30,14 +30,19 @@ abbrev pub stands_at : List Message → Message → Option ℕ → Bool
 stands_at sent m None = false
 stands_at sent m (Some k) = is_this m (slice_get sent k)
 
+-- the message stands at one of the places
+abbrev pub stands_among : List Message → Message → Others → Bool
+stands_among sent m others = list_any (λ k. stands_at sent m (Some k)) others
+
 -- the index has the message: at the place of its fingerprint, or among the others
 abbrev pub has : Places → Others → List Message → Message → Bool
-has places others sent m = stands_at sent m (get nat_eq places (fingerprint m)) || contains same_message others m
+has places others sent m = stands_at sent m (get nat_eq places (fingerprint m)) || stands_among sent m others
 
 -- the index has the first n messages, and no others
 pub record KnowsFirst (places : Places) (others : Others) (sent : List Message) (n : ℕ) : Type 0 where
   pub finds : (m : Message) → has places others sent m ≡ is_among (take n sent) m
   pub before : (f k : ℕ) → get nat_eq places f ≡ Some k → k < n
+  pub others_before : All (λ k. k < n) others
 
 -- the index has the messages, and no others
 abbrev pub Knows : Places → Others → List Message → Type 0
@@ -46,4 +51,4 @@ Knows places others sent = KnowsFirst places others sent (length sent)
 -- the index says the same as the old one
 pub record SaysTheSame (old_places : Places) (old_others : Others) (places : Places) (others : Others) : Type 0 where
   pub at_places : (f : ℕ) → get nat_eq places f ≡ get nat_eq old_places f
-  pub of_others : (m : Message) → contains same_message others m ≡ contains same_message old_others m
+  pub of_others : others ≡ old_others

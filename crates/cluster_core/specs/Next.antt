@@ -1,12 +1,13 @@
 -- What an event does to the cluster.
-use Rattle.std.specs.Prelude.{ℕ, ◌+◌, Bool, true, false, not, ◌&&◌, ◌==◌, nat_le, if◌then◌else◌, [], ◌++◌, Result, Ok, Err}
+use Rattle.std.specs.Prelude.{ℕ, ◌+◌, Bool, true, false, not, ◌&&◌, ◌==◌, nat_le, nat_lt, if◌then◌else◌, [], ◌++◌, Result, Ok, Err}
 use Rattle.messages.specs.declared.refusal.StepError.{StepError}
 use Rattle.messages.specs.declared.refusal.Refused.{Refused}
 use Rattle.messages.specs.declared.refusal.Refused.TheVariants.{Stranger, JournalFull, NotAlive, NotDead, TooManyRestarts, Fenced}
+use Rattle.messages.specs.Versions.{may_rebuild}
 use Rattle.messages.specs.Refusals.{refused_by}
 use Rattle.messages.specs.declared.message.Message.{Message}
 use Rattle.messages.specs.declared.event.Event.{Event}
-use Rattle.messages.specs.declared.event.Event.TheVariants.{Call, Deliver, Interrupt, Retry, Resend, Declare, Restart, Learn}
+use Rattle.messages.specs.declared.event.Event.TheVariants.{Call, Deliver, Interrupt, Retry, Resend, Declare, Restart, Learn, FailServer, StartServer}
 use Rattle.messages.specs.declared.outcome.Outcome.{Outcome}
 use Rattle.messages.specs.declared.entry.Entry.{Entry}
 use Rattle.messages.specs.declared.actor.Actor.{Actor}
@@ -17,7 +18,8 @@ use Rattle.node_core.specs.State.{NodeState, first_node}
 use Rattle.node_core.specs.Calls.{is_pid, is_in_shape}
 use Rattle.node_core.specs.Node.{node_rule}
 use Rattle.token_server.specs.declared.event.ServerEvent.TheVariants as server
-use Rattle.token_server.specs.State.{ServerState}
+use Rattle.token_server.specs.State.{ServerState, rebuilt}
+use Rattle.token_server.specs.Resends.{outstanding}
 use Rattle.token_server.specs.Server.{server_rule}
 use Rattle.cluster_core.specs.World.{WorldState, journal_limit, most_incarnations, has_node, has_file, was_declared}
 
@@ -26,7 +28,7 @@ abbrev pub has_actor : WorldState → Actor → Bool
 has_actor w (ANode n) = has_node w n
 has_actor w (AServer file) = has_file w file
 
--- the event names nodes, processes and files of the shape, a message that was sent to one of its actors, or an incarnation that was declared
+-- the event names nodes, processes and files of the shape, a message that was sent to one of its actors, an incarnation that was declared, or a server of a cluster in which servers may fail
 abbrev pub is_known : WorldState → Event → Bool
 is_known w (Call n pid op) = has_node w n && (is_pid pid && is_in_shape w.shape op)
 is_known w (Deliver m) = has_actor w (addressee m) && is_among w.sent m
@@ -36,18 +38,22 @@ is_known w (Resend file) = has_file w file
 is_known w (Declare n) = has_node w n
 is_known w (Restart n) = has_node w n
 is_known w (Learn file n incarnation) = has_file w file && (has_node w n && was_declared w n incarnation)
+is_known w (FailServer file) = may_rebuild w.shape.version && has_file w file
+is_known w (StartServer file) = may_rebuild w.shape.version && has_file w file
 
--- the actor is a node that was declared failed and is not restarted
+-- the actor is a node or a server that was declared failed and is not started again
 abbrev pub is_stopped : WorldState → Actor → Bool
 is_stopped w (ANode n) = not (w.alive n)
-is_stopped w (AServer file) = false
+is_stopped w (AServer file) = not (w.working file)
 
--- the event would be a step of such a node
+-- the event would be a step of such an actor
 abbrev pub is_fenced : WorldState → Event → Bool
 is_fenced w (Call n pid op) = is_stopped w (ANode n)
 is_fenced w (Deliver m) = is_stopped w (addressee m)
 is_fenced w (Interrupt n pid) = is_stopped w (ANode n)
 is_fenced w (Retry n pid) = is_stopped w (ANode n)
+is_fenced w (Resend file) = is_stopped w (AServer file)
+is_fenced w (Learn file n incarnation) = is_stopped w (AServer file)
 is_fenced w _ = false
 
 -- the incarnation that the entry of a node's event names, 0 for none: an interrupt and a retry are of the live one
@@ -103,7 +109,30 @@ restart_rule w n =
     if w.alive n then Err NotDead
     else (if nat_le (w.nodes n).incarnation most_incarnations then Ok (silent (restarted w n) (Restart n) (w.nodes n).incarnation) else Err TooManyRestarts)
 
--- the one actor that takes the event does its step, or a node is declared or restarted; all others stay
+-- the server takes no step from here on
+abbrev pub failed : WorldState → ℕ → WorldState
+failed w file = record w { working = λ f. if f == file then false else w.working f }
+
+-- the server that will be, in the next epoch: it is told which nodes are alive
+abbrev pub next_server : WorldState → ℕ → ServerState
+next_server w file = rebuilt w.shape file ((w.servers file).epoch + 1) w.alive (λ n. (w.nodes n).incarnation)
+
+abbrev pub started : WorldState → ℕ → WorldState
+started w file = record (with_server w file (next_server w file)) { working = λ f. if f == file then true else w.working f }
+
+-- a server is declared failed that works
+abbrev pub fail_rule : WorldState → ℕ → Result (WorldState × Entry) Refused
+fail_rule w file = if w.working file then Ok (silent (failed w file) (FailServer file) (w.servers file).epoch) else Err NotAlive
+
+-- a server that was declared failed is rebuilt, and asks the live nodes for their tokens, unless no epoch is left
+abbrev pub start_rule : WorldState → ℕ → Result (WorldState × Entry) Refused
+start_rule w file =
+    if w.working file then Err NotDead
+    else (if nat_lt (w.servers file).epoch most_incarnations
+    then Ok (recorded (started w file) (StartServer file) ((w.servers file).epoch + 1) (sending (outstanding (next_server w file))))
+    else Err TooManyRestarts)
+
+-- the one actor that takes the event does its step, or a node or a server is declared or started again; all others stay
 abbrev pub taken : WorldState → Event → Result (WorldState × Entry) Refused
 taken w (Call n pid op) = after_node w (Call n pid op) n (node_rule (w.nodes n) (node.Call pid op))
 taken w (Deliver m) = delivered w m (addressee m)
@@ -113,8 +142,10 @@ taken w (Resend file) = after_server w (Resend file) file (server_rule (w.server
 taken w (Declare n) = declare_rule w n
 taken w (Restart n) = restart_rule w n
 taken w (Learn file n incarnation) = after_server w (Learn file n incarnation) file (server_rule (w.servers file) (server.Learn n incarnation))
+taken w (FailServer file) = fail_rule w file
+taken w (StartServer file) = start_rule w file
 
--- the world after the event and the entry that it makes, or the first of its refusals: a stranger, a step of a node that was declared failed, and then those of the step
+-- the world after the event and the entry that it makes, or the first of its refusals: a stranger, a step of a node or a server that was declared failed, and then those of the step
 abbrev pub next : WorldState → Event → Result (WorldState × Entry) Refused
 next w event =
     if not (is_known w event) then Err Stranger

@@ -1,6 +1,6 @@
 -- Numbers of the commands of token servers.
 use Rattle.std.specs.Prelude.{◌≡◌, ℕ, Bool, true, false, List}
-use Rattle.messages.specs.Shapes.{ShapeFields}
+use Rattle.messages.specs.Shapes.{ShapeFields, IsShape}
 use Rattle.messages.specs.Messages.{file_of, host_of, is_among}
 use Rattle.messages.specs.declared.message.Message.{Message}
 use Rattle.messages.specs.declared.message.Message.TheVariants.{Grant, Revoke}
@@ -30,4 +30,4 @@ LeadsToNumbers shape es = (w : WorldState) → Leads (first_world shape) es w �
 
 -- so it is after every run
 abbrev pub NoNumberIsUsedTwice : Type 0
-NoNumberIsUsedTwice = (shape : ShapeFields) (es : List Entry) → LeadsToNumbers shape es
+NoNumberIsUsedTwice = (shape : ShapeFields) (es : List Entry) → IsShape shape → LeadsToNumbers shape es

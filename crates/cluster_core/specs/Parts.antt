@@ -4,7 +4,7 @@ use Rattle.messages.specs.Shapes.{ShapeFields}
 use Rattle.messages.specs.declared.message.Message.{Message}
 use Rattle.messages.specs.declared.event.Event.{Event}
 use Rattle.messages.specs.declared.event.Event.TheVariants.{Call, Deliver, Interrupt, Retry, Resend, Learn}
-use Rattle.members.specs.Parts.{MemberParts, alive_in, incarnation_in}
+use Rattle.members.specs.Parts.{MembersParts, alive_in, incarnation_in, incarnation_of}
 pub use Rattle.members.specs.Numbered.{numbered, IsRest}
 use Rattle.node_core.specs.declared.event.NodeEvent.{NodeEvent}
 use Rattle.node_core.specs.declared.event.NodeEvent.TheVariants as own
@@ -19,7 +19,7 @@ use Rattle.cluster_core.specs.World.{WorldState, journal_limit}
 pub record WorldParts : Type 0 where
   pub shape : ShapeFields
   pub nodes : List NodeParts
-  pub members : List MemberParts
+  pub members : MembersParts
   pub servers : List ServerParts
   pub sent : List Message
   pub length : ℕ
@@ -29,12 +29,15 @@ abbrev pub seated : ShapeFields → ℕ → Bool → NodeState → NodeState
 seated shape n true s = s
 seated shape n false s = first_node shape n (s.incarnation + 1)
 
--- the nodes as they are listed, and which are alive
+-- the nodes as they are listed, which are alive, and which servers work
 abbrev pub listed : WorldParts → ℕ → NodeState
 listed p = numbered node_state (λ n. first_node p.shape n 1) 1 p.nodes
 
 abbrev pub alive_at : WorldParts → ℕ → Bool
-alive_at p = alive_in p.members
+alive_at p = alive_in p.members.nodes
+
+abbrev pub works_at : WorldParts → ℕ → Bool
+works_at p = alive_in p.members.servers
 
 abbrev pub world_state : WorldParts → WorldState
 world_state p = record {
@@ -42,17 +45,20 @@ world_state p = record {
   nodes = λ n. seated p.shape n (alive_at p n) (listed p n);
   alive = alive_at p;
   servers = numbered server_state (first_server p.shape) 1 p.servers;
+  working = works_at p;
   sent = p.sent;
   length = p.length;
 }
 
--- a node, a member and a server for each number of the shape, each node by its number and in the incarnation that it has as a member, and no more entries than a journal may have
+-- a node and a server, each with its member, for each number of the shape, each node by its number and in the incarnation that it has as a member, each server of the epoch that it has, and no more entries than a journal may have
 pub record IsWorld (p : WorldParts) : Type 0 where
   pub nodes_there : length p.nodes ≡ p.shape.nodes
-  pub members_there : length p.members ≡ p.shape.nodes
+  pub members_there : length p.members.nodes ≡ p.shape.nodes
   pub servers_there : length p.servers ≡ p.shape.files
+  pub epochs_there : length p.members.servers ≡ p.shape.files
   pub own_number : (n : ℕ) → ((world_state p).nodes n).node ≡ n
-  pub own_incarnation : (n : ℕ) → ((world_state p).nodes n).incarnation ≡ incarnation_in p.members n
+  pub own_incarnation : (n : ℕ) → ((world_state p).nodes n).incarnation ≡ incarnation_in p.members.nodes n
+  pub own_epoch : (f : ℕ) → incarnation_in p.members.servers f ≡ incarnation_of (works_at p f) ((world_state p).servers f).epoch
   pub within : p.length ≤ journal_limit
 
 -- an event that a node takes

@@ -7,12 +7,13 @@ pub use Rattle.members.specs.Members.{most_incarnations}
 use Rattle.node_core.specs.State.{NodeState, first_node}
 use Rattle.token_server.specs.State.{ServerState, first_server}
 
--- every actor's state, which nodes are alive, every message sent so far, and the number of entries so far; of a node that was declared failed and is not restarted the state is the one in which it will begin again: empty, in the next incarnation
+-- every actor's state, which nodes are alive and which servers work, every message sent so far, and the number of entries so far; of a node that was declared failed and is not restarted the state is the one in which it will begin again: empty, in the next incarnation
 pub record WorldState : Type 0 where
   pub shape : ShapeFields
   pub nodes : ℕ → NodeState
   pub alive : ℕ → Bool
   pub servers : ℕ → ServerState
+  pub working : ℕ → Bool
   pub sent : List Message
   pub length : ℕ
 
@@ -22,6 +23,7 @@ first_world shape = record {
   nodes = λ node. first_node shape node 1;
   alive = λ node. true;
   servers = λ file. first_server shape file;
+  working = λ file. true;
   sent = [];
   length = 0;
 }

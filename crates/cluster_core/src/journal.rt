@@ -127,7 +127,7 @@ pub fn comes_next(world: &mut World, alloc: Global, entry: &Entry) -> Result<boo
     ensures room { IfOk result (λ same. same ≡ true → world.old.length < journal_limit) }
     ensures other { IfOk result (λ same. same ≡ false → world.old.length < journal_limit → (v : WorldState) → next (world_state world.old) entry.now.event ≢ Ok (v, entry.now)) }
 {
-    match world.step(alloc, entry.event()) {
+    match world.step(alloc, entry.event().copy(alloc)?) {
         Ok(made) => Ok(made.same(entry)),
         Err(Refused::NoMemory) => Err(AllocError),
         Err(_) => Ok(false),
@@ -165,7 +165,7 @@ pub fn run(alloc: Global, shape: Shape, events: &[Event]) -> Result<Journal, Ref
 {
     let mut run = Run::new(alloc, shape)?;
     for event in events {
-        run.take(alloc, *event)?;
+        run.take(alloc, event.copy(alloc)?)?;
     }
     let (journal, _) = run.into_journal();
     Ok(journal)

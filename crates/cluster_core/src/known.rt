@@ -1,20 +1,20 @@
 //! An index of messages.
 ghost use Rattle.std.specs.Prelude.{◌≡◌, ◌+◌, ◌<◌, ◌≤◌, [], nat_eq, length, Some, OnOk};
 ghost use Rattle.std.specs.HashMap.{get, spare as spare_places};
-ghost use Rattle.std.specs.HashSet.{spare};
-ghost use Rattle.cluster_core.specs.Known.{fingerprint, has, stands_at, KnowsFirst, SaysTheSame};
+ghost use Rattle.std.specs.Vec.{vec_capacity};
+ghost use Rattle.cluster_core.specs.Known.{fingerprint, has, stands_at, stands_among, KnowsFirst, SaysTheSame};
 
 use messages::message::Message;
 use std::alloc::{AllocError, Global};
-use std::collections::{HashMap, HashSet};
+use std::collections::HashMap;
 use std::hash::{FoldHasher, Hash, Hasher};
 
-/// Which messages were sent: by its fingerprint the place of a message in the order of sending; and
-/// messages whose fingerprint is that of another.
+/// Which messages were sent: by its fingerprint the place of a message in the order of sending; and the
+/// places of messages whose fingerprint is that of another.
 #[derive(Drop)]
 pub(crate) struct Known {
     places: HashMap<u32, u32>,
-    others: HashSet<Message>,
+    others: Vec<usize>,
 }
 
 // 32 bits of a message's hash.
@@ -27,31 +27,38 @@ fn fingerprint(message: &Message) -> u32
 }
 
 // Whether the message stands at that place of those that were sent.
-fn stands_at(sent: &[Message], message: &Message, place: u32) -> bool
+fn stands_at(sent: &[Message], message: &Message, place: usize) -> bool
     ensures { result ≡ stands_at sent.now message.now (Some place) }
 {
-    match sent.get(place as usize) {
+    match sent.get(place) {
         Some(other) => message.same(other),
         None => false,
     }
 }
 
+// Whether the message stands at one of the places.
+fn stands_among(sent: &[Message], message: &Message, places: &[usize]) -> bool
+    ensures { result ≡ stands_among sent.now message.now places.now }
+{
+    places.iter().any(|place| stands_at(sent, message, *place))
+}
+
 impl Known {
     /// No message.
     pub(crate) fn new(alloc: Global) -> Known
-        ensures { KnowsFirst result.places result.others [] 0 }
+        ensures { KnowsFirst result.places result.others.items [] 0 }
     {
         Known {
             places: HashMap::new(alloc),
-            others: HashSet::new(alloc),
+            others: Vec::new(alloc),
         }
     }
 
     /// Whether the index has the message; `sent` are the messages by their places.
     pub(crate) fn has(&self, sent: &[Message], message: &Message) -> bool
-        ensures { result ≡ has self.now.places self.now.others sent.now message.now }
+        ensures { result ≡ has self.now.places self.now.others.items sent.now message.now }
     {
-        self.is_placed(sent, message) || self.others.contains(message)
+        self.is_placed(sent, message) || stands_among(sent, message, self.others.as_slice())
     }
 
     // Whether the message is the one that stands at the place of its fingerprint.
@@ -59,7 +66,7 @@ impl Known {
         ensures { result ≡ stands_at sent.now message.now (get nat_eq self.now.places (fingerprint message.now)) }
     {
         match self.places.get(&fingerprint(message)) {
-            Some(place) => stands_at(sent, message, *place),
+            Some(place) => stands_at(sent, message, *place as usize),
             None => false,
         }
     }
@@ -69,9 +76,9 @@ impl Known {
     /// # Errors
     /// `AllocError` where a request for memory was refused.
     pub(crate) fn reserve(&mut self, additional: usize) -> Result<(), AllocError>
-        ensures same { SaysTheSame self.old.places self.old.others self.new.places self.new.others }
+        ensures same { SaysTheSame self.old.places self.old.others.items self.new.places self.new.others.items }
         ensures places { OnOk result (additional ≤ spare_places self.new.places) }
-        ensures others { OnOk result (additional ≤ spare self.new.others) }
+        ensures others { OnOk result (length self.new.others.items + additional ≤ vec_capacity self.new.others) }
     {
         self.places.reserve(additional)?;
         self.others.reserve(additional)
@@ -81,34 +88,43 @@ impl Known {
     fn note(&mut self, sent: &[Message], place: usize)
         requires within { place < length sent.now }
         requires places { 1 ≤ spare_places self.old.places }
-        requires others { 1 ≤ spare self.old.others }
-        ensures knows { KnowsFirst self.old.places self.old.others sent.now place → KnowsFirst self.new.places self.new.others sent.now (place + 1) }
+        requires others { length self.old.others.items < vec_capacity self.old.others }
+        ensures knows { KnowsFirst self.old.places self.old.others.items sent.now place → KnowsFirst self.new.places self.new.others.items sent.now (place + 1) }
         ensures room_at_places { spare_places self.old.places ≤ spare_places self.new.places + 1 }
-        ensures room_for_others { spare self.old.others ≤ spare self.new.others + 1 }
+        ensures room_for_others { length self.new.others.items + vec_capacity self.old.others ≤ length self.old.others.items + 1 + vec_capacity self.new.others }
     {
-        let message = sent[place];
-        let print = fingerprint(&message);
+        let message = &sent[place];
+        let print = fingerprint(message);
         match self.places.get(&print).copied() {
-            Some(first) if stands_at(sent, &message, first) => {}
+            Some(first) if stands_at(sent, message, first as usize) => {}
             None if place < 4_294_967_296 => {
                 let Ok(_) = self.places.insert(print, place as u32) else {
                     unreachable!()
                 };
             }
-            _ => {
-                let Ok(_) = self.others.insert(message) else {
-                    unreachable!()
-                };
-            }
+            _ => self.note_other(sent, place),
+        }
+    }
+
+    // Takes in the message at that place, whose fingerprint is that of another.
+    fn note_other(&mut self, sent: &[Message], place: usize)
+        requires within { place < length sent.now }
+        requires others { length self.old.others.items < vec_capacity self.old.others }
+        ensures knows { KnowsFirst self.old.places self.old.others.items sent.now place → KnowsFirst self.new.places self.new.others.items sent.now (place + 1) }
+        ensures places { self.new.places ≡ self.old.places }
+        ensures room { length self.new.others.items + vec_capacity self.old.others ≤ length self.old.others.items + 1 + vec_capacity self.new.others }
+    {
+        if !stands_among(sent, &sent[place], self.others.as_slice()) {
+            self.others.push_reserved(place);
         }
     }
 
     /// Takes in the messages from that place on, for which there is room.
     pub(crate) fn note_from(&mut self, sent: &[Message], start: usize)
         requires places { length sent.now ≤ start + spare_places self.old.places }
-        requires others { length sent.now ≤ start + spare self.old.others }
+        requires others { length sent.now + length self.old.others.items ≤ start + vec_capacity self.old.others }
         requires within { start ≤ length sent.now }
-        ensures { KnowsFirst self.old.places self.old.others sent.now start → KnowsFirst self.new.places self.new.others sent.now (length sent.now) }
+        ensures { KnowsFirst self.old.places self.old.others.items sent.now start → KnowsFirst self.new.places self.new.others.items sent.now (length sent.now) }
     {
         for place in start..sent.len() {
             self.note(sent, place);

@@ -1,5 +1,5 @@
 //! Messages that were sent.
-ghost use Rattle.std.specs.Prelude.{◌≡◌, [], ◌++◌, OnOk, OnErr};
+ghost use Rattle.std.specs.Prelude.{◌≡◌, [], ◌∷◌, ◌++◌, OnOk, OnErr};
 ghost use Rattle.messages.specs.Messages.{is_among};
 
 use crate::known::Known;
@@ -23,7 +23,7 @@ impl Model for Sent {
 
     ghost view = { λ s. s.messages.items };
 
-    ghost invariant = { λ s. Knows s.known.places s.known.others s.messages.items };
+    ghost invariant = { λ s. Knows s.known.places s.known.others.items s.messages.items };
 }
 
 impl Sent {
@@ -55,14 +55,43 @@ impl Sent {
     ///
     /// # Errors
     /// `AllocError` where a request for memory was refused.
-    pub fn extend(&mut self, messages: &[Message]) -> Result<(), AllocError>
+    pub fn extend(&mut self, alloc: Global, messages: &[Message]) -> Result<(), AllocError>
         ensures ok { OnOk result (self.new ≡ self.old ++ messages.now) }
         ensures err { OnErr result (self.new ≡ self.old) }
     {
         self.known.reserve(messages.len())?;
         let start = self.messages.len();
-        self.messages.extend_from_slice(messages)?;
+        add_copies(alloc, &mut self.messages, messages)?;
         self.known.note_from(self.messages.as_slice(), start);
         Ok(())
     }
+}
+
+// Copies of the messages come last, or none of them.
+fn add_copies(
+    alloc: Global,
+    sent: &mut Vec<Message>,
+    messages: &[Message],
+) -> Result<(), AllocError>
+    ensures ok { OnOk result (sent.new.items ≡ sent.old.items ++ messages.now) }
+    ensures err { OnErr result (sent.new.items ≡ sent.old.items) }
+{
+    let start = sent.len();
+    for message in messages {
+        let added = add_copy(alloc, sent, message);
+        if added.is_err() {
+            sent.truncate(start);
+            return added;
+        }
+    }
+    Ok(())
+}
+
+// A copy of the message comes last.
+fn add_copy(alloc: Global, sent: &mut Vec<Message>, message: &Message) -> Result<(), AllocError>
+    ensures ok { OnOk result (sent.new.items ≡ sent.old.items ++ message.now ∷ []) }
+    ensures err { OnErr result (sent.new.items ≡ sent.old.items) }
+{
+    sent.push(message.copy(alloc)?)?;
+    Ok(())
 }

@@ -14,10 +14,13 @@ ghost use Rattle.token_server.specs.Server.{server_rule};
 ghost use Rattle.token_server.specs.Parts.{ServerParts, server_state};
 ghost use Rattle.token_server.specs.Edits.{planned, Fits as ServerFits};
 ghost use Rattle.cluster_core.specs.World.{WorldState, journal_limit, was_declared, first_world};
-ghost use Rattle.cluster_core.specs.Next.{is_known, is_fenced, has_actor, declare_rule, restart_rule, named_incarnation, after_node, after_server, taken, next, kept_next};
+ghost use Rattle.cluster_core.specs.Next.{is_known, is_fenced, has_actor, declare_rule, restart_rule, fail_rule, start_rule, named_incarnation, after_node, after_server, taken, next, kept_next};
 ghost use Rattle.cluster_core.specs.Parts.{world_state, IsStepOf, IsServerStepOf, IsTakenByNode, IsRest};
-ghost use Rattle.cluster_core.specs.Changes.{IsNodeChange, IsServerChange, IsRestart, Makes, Plans};
+ghost use Rattle.cluster_core.specs.Changes.{IsNodeChange, IsServerChange, IsRestart, IsStart, Makes, Plans};
 ghost use Rattle.messages.specs.declared.event.Event.TheVariants as event;
+ghost use Rattle.messages.specs.declared.event.Event.TheVariants.{Deliver};
+ghost use Rattle.node_core.specs.declared.event.NodeEvent.TheVariants as own;
+ghost use Rattle.token_server.specs.declared.event.ServerEvent.TheVariants as served;
 ghost use Rattle.messages.specs.declared.refusal.Refused.{Refused};
 ghost use Rattle.cluster_core.specs.Runs.{Leads};
 ghost use Rattle.cluster_core.specs.Safe.{IsSafe};
@@ -189,6 +192,9 @@ impl World {
             Event::Resend { file } => is_number(self.shape.files(), *file),
             Event::Declare { node } => is_number(self.shape.nodes() as u16, *node as u16),
             Event::Restart { node } => is_number(self.shape.nodes() as u16, *node as u16),
+            Event::FailServer { file } | Event::StartServer { file } => {
+                self.shape.version().may_rebuild() && is_number(self.shape.files(), *file)
+            }
             Event::Learn {
                 file,
                 node,
@@ -209,6 +215,14 @@ impl World {
         self.members.alive(node).is_some()
     }
 
+    // Whether the token server of the file works.
+    fn works(&self, file: u16) -> bool
+        requires { is_within self.now.shape.files file ≡ true }
+        ensures { result ≡ (world_state self.now).working file }
+    {
+        self.members.epoch(file).is_some()
+    }
+
     // Whether the incarnation of the node was declared failed.
     fn was_declared(&self, node: u8, incarnation: u16) -> bool
         requires { is_within self.now.shape.nodes node ≡ true }
@@ -217,7 +231,7 @@ impl World {
         self.members.declared(node, incarnation)
     }
 
-    // Whether the event would be a step of a node that was declared failed.
+    // Whether the event would be a step of a node or a server that was declared failed.
     fn is_fenced(&self, event: &Event) -> bool
         requires { is_known (world_state self.now) event.now ≡ true }
         ensures { result ≡ is_fenced (world_state self.now) event.now }
@@ -228,12 +242,14 @@ impl World {
             Event::Retry { node, .. } => !self.is_alive(*node),
             Event::Deliver(message) => match message.addressee() {
                 Actor::Node(node) => !self.is_alive(node),
-                Actor::Server(_) => false,
+                Actor::Server(file) => !self.works(file),
             },
-            Event::Resend { .. } => false,
+            Event::Resend { file } => !self.works(*file),
+            Event::Learn { file, .. } => !self.works(*file),
             Event::Declare { .. } => false,
             Event::Restart { .. } => false,
-            Event::Learn { .. } => false,
+            Event::FailServer { .. } => false,
+            Event::StartServer { .. } => false,
         }
     }
 
@@ -263,6 +279,8 @@ impl World {
             Event::Declare { .. } => 0,
             Event::Restart { .. } => 0,
             Event::Learn { .. } => 0,
+            Event::FailServer { .. } => 0,
+            Event::StartServer { .. } => 0,
         }
     }
 
@@ -290,6 +308,37 @@ impl World {
         ensures refused { (r : StepError) → r ≢ StepError.Spent → server_rule ((world_state self.now).servers file) step.now ≡ Err r → result ≡ Err r }
     {
         self.servers[file as usize - 1].plan(alloc, step)
+    }
+
+    // What the node with the number will do where the message comes.
+    fn node_delivery(
+        &self,
+        alloc: Global,
+        node: u8,
+        message: &Message,
+    ) -> Result<NodeChange, StepError>
+        requires node { is_within self.now.shape.nodes node ≡ true }
+        requires alive { (world_state self.now).alive node ≡ true }
+        ensures ok { IfOk result (λ change. (p : NodeParts) × (p ≡ slice_index_or self.now.nodes (node - 1) p) × Fits p change.edit × (node_rule ((world_state self.now).nodes node) (own.Deliver message.now) ≡ Ok (reached p change.edit, change.outcome))) }
+        ensures err { IfErr result (λ e. e ≢ OutOfMemory → node_rule ((world_state self.now).nodes node) (own.Deliver message.now) ≡ Err e) }
+        ensures refused { (r : StepError) → node_rule ((world_state self.now).nodes node) (own.Deliver message.now) ≡ Err r → result ≡ Err r }
+    {
+        self.nodes[node as usize - 1].plan_delivery(alloc, message)
+    }
+
+    // What the server with the number will do where the message comes.
+    fn server_delivery(
+        &self,
+        alloc: Global,
+        file: u16,
+        message: &Message,
+    ) -> Result<ServerChange, StepError>
+        requires { is_within self.now.shape.files file ≡ true }
+        ensures ok { IfOk result (λ change. (p : ServerParts) × (p ≡ slice_index_or self.now.servers (file - 1) p) × ServerFits p change.edit × (server_rule ((world_state self.now).servers file) (served.Deliver message.now) ≡ Ok (planned p change.edit, change.outcome))) }
+        ensures err { IfErr result (λ e. e ≢ OutOfMemory → server_rule ((world_state self.now).servers file) (served.Deliver message.now) ≡ Err e) }
+        ensures refused { (r : StepError) → r ≢ StepError.Spent → server_rule ((world_state self.now).servers file) (served.Deliver message.now) ≡ Err r → result ≡ Err r }
+    {
+        self.servers[file as usize - 1].plan_delivery(alloc, message)
     }
 
     // What the node will do at its event.
@@ -334,6 +383,43 @@ impl World {
         Ok(Change::OfServer { file, change })
     }
 
+    // What the node will do where the message comes.
+    fn plan_node_delivery(
+        &self,
+        alloc: Global,
+        node: u8,
+        message: &Message,
+    ) -> Result<Change, Refused>
+        requires node { is_within self.now.shape.nodes node ≡ true }
+        requires alive { (world_state self.now).alive node ≡ true }
+        ensures ok { IfOk result (λ change. Makes self.now (Deliver message.now) change (after_node (world_state self.now) (Deliver message.now) node (node_rule ((world_state self.now).nodes node) (own.Deliver message.now)))) }
+        ensures err { IfErr result (λ e. e ≢ NoMemory → after_node (world_state self.now) (Deliver message.now) node (node_rule ((world_state self.now).nodes node) (own.Deliver message.now)) ≡ Err e) }
+        ensures refused { (e : Refused) → after_node (world_state self.now) (Deliver message.now) node (node_rule ((world_state self.now).nodes node) (own.Deliver message.now)) ≡ Err e → result ≡ Err e }
+    {
+        let change = self.node_delivery(alloc, node, message)?;
+        Ok(Change::OfNode {
+            node,
+            incarnation: 0,
+            change: Box::new(alloc, change)?,
+        })
+    }
+
+    // What the server will do where the message comes.
+    fn plan_server_delivery(
+        &self,
+        alloc: Global,
+        file: u16,
+        message: &Message,
+    ) -> Result<Change, Refused>
+        requires file { is_within self.now.shape.files file ≡ true }
+        ensures ok { IfOk result (λ change. Makes self.now (Deliver message.now) change (after_server (world_state self.now) (Deliver message.now) file (server_rule ((world_state self.now).servers file) (served.Deliver message.now)))) }
+        ensures err { IfErr result (λ e. e ≢ NoMemory → after_server (world_state self.now) (Deliver message.now) file (server_rule ((world_state self.now).servers file) (served.Deliver message.now)) ≡ Err e) }
+        ensures refused { (e : Refused) → e ≢ Refused.Spent → after_server (world_state self.now) (Deliver message.now) file (server_rule ((world_state self.now).servers file) (served.Deliver message.now)) ≡ Err e → result ≡ Err e }
+    {
+        let change = self.server_delivery(alloc, file, message)?;
+        Ok(Change::OfServer { file, change })
+    }
+
     // What comes of a declaration of the node.
     fn plan_declare(&self, node: u8) -> Result<Change, Refused>
         requires { is_within self.now.shape.nodes node ≡ true }
@@ -360,6 +446,32 @@ impl World {
         Ok(Change::Restarted { node, begun })
     }
 
+    // What comes of a failure of the file's token server.
+    fn plan_failure(&self, file: u16) -> Result<Change, Refused>
+        requires { is_within self.now.shape.files file ≡ true }
+        ensures ok { IfOk result (λ change. Makes self.now (event.FailServer file) change (fail_rule (world_state self.now) file)) }
+        ensures err { IfErr result (λ e. fail_rule (world_state self.now) file ≡ Err e) }
+    {
+        if !self.works(file) {
+            return Err(Refused::NotAlive);
+        }
+        Ok(Change::Failed { file })
+    }
+
+    // What comes of a start of the file's token server.
+    fn plan_start(&self, alloc: Global, file: u16) -> Result<Change, Refused>
+        requires { is_within self.now.shape.files file ≡ true }
+        ensures ok { IfOk result (λ change. Makes self.now (event.StartServer file) change (start_rule (world_state self.now) file)) }
+        ensures err { IfErr result (λ e. e ≢ NoMemory → start_rule (world_state self.now) file ≡ Err e) }
+        ensures refused { (e : Refused) → start_rule (world_state self.now) file ≡ Err e → result ≡ Err e }
+    {
+        let epoch = self.members.next_epoch(file)?;
+        let (begun, outcome) = Server::rebuild(alloc, self.shape, file, epoch, &self.members)?;
+        let begun = Box::new(alloc, begun)?;
+        let sends = outcome.sends;
+        Ok(Change::Started { file, begun, sends })
+    }
+
     // What the actor that takes the event will do.
     fn plan_taken(&self, alloc: Global, event: &Event) -> Result<Change, Refused>
         requires known { is_known (world_state self.now) event.now ≡ true }
@@ -374,12 +486,8 @@ impl World {
                 self.plan_node(alloc, event, *node, &step)
             }
             Event::Deliver(message) => match message.addressee() {
-                Actor::Node(node) => {
-                    self.plan_node(alloc, event, node, &NodeEvent::Deliver(*message))
-                }
-                Actor::Server(file) => {
-                    self.plan_server(alloc, event, file, &ServerEvent::Deliver(*message))
-                }
+                Actor::Node(node) => self.plan_node_delivery(alloc, node, message),
+                Actor::Server(file) => self.plan_server_delivery(alloc, file, message),
             },
             Event::Interrupt { node, pid } => {
                 self.plan_node(alloc, event, *node, &NodeEvent::Interrupt { pid: *pid })
@@ -390,6 +498,8 @@ impl World {
             Event::Resend { file } => self.plan_server(alloc, event, *file, &ServerEvent::Resend),
             Event::Declare { node } => self.plan_declare(*node),
             Event::Restart { node } => self.plan_restart(alloc, *node),
+            Event::FailServer { file } => self.plan_failure(*file),
+            Event::StartServer { file } => self.plan_start(alloc, *file),
             Event::Learn {
                 file,
                 node,
@@ -428,38 +538,91 @@ impl World {
     // The node does the step that was planned.
     fn change_node(
         &mut self,
-        event: &Event,
+        alloc: Global,
+        event: Event,
         node: u8,
         incarnation: u16,
         change: NodeChange,
     ) -> Result<Entry, NoRoom>
         requires room { self.old.length < journal_limit }
-        requires made { IsNodeChange self.old event.now node incarnation change (next (world_state self.old) event.now) }
-        ensures ok { IfOk result (λ entry. next (world_state self.old) event.now ≡ Ok (world_state self.new, entry)) }
-        ensures err { OnErr result ((e : Refused) → next (world_state self.old) event.now ≢ Err e) }
+        requires made { IsNodeChange self.old event node incarnation change (next (world_state self.old) event) }
+        ensures ok { IfOk result (λ entry. next (world_state self.old) event ≡ Ok (world_state self.new, entry)) }
+        ensures err { OnErr result ((e : Refused) → next (world_state self.old) event ≢ Err e) }
         ensures unchanged { OnErr result (self.new ≡ self.old) }
     {
-        let outcome = settle_node(&mut self.nodes, node as usize - 1, change, &mut self.sent)?;
+        let outcome = settle_node(
+            alloc,
+            &mut self.nodes,
+            node as usize - 1,
+            change,
+            &mut self.sent,
+        )?;
         self.length += 1;
-        Ok(Entry::at_node(*event, incarnation, outcome))
+        Ok(Entry::at_node(event, incarnation, outcome))
     }
 
     // The server does the step that was planned.
     fn change_server(
         &mut self,
-        event: &Event,
+        alloc: Global,
+        event: Event,
         file: u16,
         change: ServerChange,
     ) -> Result<Entry, NoRoom>
         requires room { self.old.length < journal_limit }
-        requires made { IsServerChange self.old event.now file change (next (world_state self.old) event.now) }
-        ensures ok { IfOk result (λ entry. next (world_state self.old) event.now ≡ Ok (world_state self.new, entry)) }
-        ensures err { OnErr result ((e : Refused) → next (world_state self.old) event.now ≢ Err e) }
+        requires made { IsServerChange self.old event file change (next (world_state self.old) event) }
+        ensures ok { IfOk result (λ entry. next (world_state self.old) event ≡ Ok (world_state self.new, entry)) }
+        ensures err { OnErr result ((e : Refused) → next (world_state self.old) event ≢ Err e) }
         ensures unchanged { OnErr result (self.new ≡ self.old) }
     {
-        let outcome = settle_server(&mut self.servers, file as usize - 1, change, &mut self.sent)?;
+        let outcome = settle_server(
+            alloc,
+            &mut self.servers,
+            file as usize - 1,
+            change,
+            &mut self.sent,
+        )?;
         self.length += 1;
-        Ok(Entry::new(*event, outcome))
+        Ok(Entry::new(event, outcome))
+    }
+
+    // The token server of the file is declared failed.
+    fn fail(&mut self, alloc: Global, file: u16) -> Entry
+        requires room { self.old.length < journal_limit }
+        requires file { is_within self.old.shape.files file ≡ true }
+        requires works { (world_state self.old).working file ≡ true }
+        ensures { fail_rule (world_state self.old) file ≡ Ok (world_state self.new, result) }
+    {
+        let Ok(epoch) = self.members.fail_server(file) else {
+            unreachable!()
+        };
+        self.length += 1;
+        let outcome = Outcome::sending(Items::new(alloc));
+        Entry::at_node(Event::FailServer { file }, epoch, outcome)
+    }
+
+    // The token server of the file begins again, as this one, and asks the nodes for their tokens.
+    fn start(
+        &mut self,
+        alloc: Global,
+        file: u16,
+        begun: Box<Server>,
+        sends: Items<Message>,
+    ) -> Result<Entry, NoRoom>
+        requires room { self.old.length < journal_limit }
+        requires made { IsStart self.old file begun.value sends }
+        ensures ok { IfOk result (λ entry. start_rule (world_state self.old) file ≡ Ok (world_state self.new, entry)) }
+        ensures err { OnErr result ((e : Refused) → start_rule (world_state self.old) file ≢ Err e) }
+        ensures unchanged { OnErr result (self.new ≡ self.old) }
+    {
+        self.sent.extend(alloc, sends.as_slice())?;
+        let Ok(epoch) = self.members.start_server(file) else {
+            unreachable!()
+        };
+        self.servers[file as usize - 1] = Box::into_inner(begun);
+        self.length += 1;
+        let outcome = Outcome::sending(sends);
+        Ok(Entry::at_node(Event::StartServer { file }, epoch, outcome))
     }
 
     // The node is declared failed.
@@ -500,12 +663,12 @@ impl World {
     pub(crate) fn settle(
         &mut self,
         alloc: Global,
-        event: &Event,
+        event: Event,
         change: Change,
     ) -> Result<Entry, NoRoom>
-        requires { Plans self.old event.now change }
-        ensures ok { IfOk result (λ entry. next (world_state self.old) event.now ≡ Ok (world_state self.new, entry)) }
-        ensures err { OnErr result ((e : Refused) → next (world_state self.old) event.now ≢ Err e) }
+        requires { Plans self.old event change }
+        ensures ok { IfOk result (λ entry. next (world_state self.old) event ≡ Ok (world_state self.new, entry)) }
+        ensures err { OnErr result ((e : Refused) → next (world_state self.old) event ≢ Err e) }
         ensures unchanged { OnErr result (self.new ≡ self.old) }
     {
         match change {
@@ -513,10 +676,12 @@ impl World {
                 node,
                 incarnation,
                 change,
-            } => self.change_node(event, node, incarnation, Box::into_inner(change)),
-            Change::OfServer { file, change } => self.change_server(event, file, change),
+            } => self.change_node(alloc, event, node, incarnation, Box::into_inner(change)),
+            Change::OfServer { file, change } => self.change_server(alloc, event, file, change),
             Change::Declared { node } => Ok(self.declare(alloc, node)),
             Change::Restarted { node, begun } => Ok(self.restart(alloc, node, begun)),
+            Change::Failed { file } => Ok(self.fail(alloc, file)),
+            Change::Started { file, begun, sends } => self.start(alloc, file, begun, sends),
         }
     }
 
@@ -539,7 +704,7 @@ impl World {
         ensures unchanged { OnErr result (self.new ≡ self.old) }
     {
         let change = self.plan(alloc, &event)?;
-        Ok(self.settle(alloc, &event, change)?)
+        Ok(self.settle(alloc, event, change)?)
     }
 
     /// Every message that was sent so far, in order of sending; equal messages stand there each.
@@ -555,7 +720,8 @@ impl World {
         requires made { (v : WorldState) × (next (world_state self.old) entry.now.event ≡ Ok (v, entry.now)) }
         ensures { OnOk result (next (world_state self.old) entry.now.event ≡ Ok (world_state self.new, entry.now)) }
     {
-        let Err(refusal) = self.step(alloc, entry.event()) else {
+        let event = entry.event().copy(alloc)?;
+        let Err(refusal) = self.step(alloc, event) else {
             return Ok(());
         };
         match refusal {
@@ -583,6 +749,7 @@ impl World {
 
 // Makes the change of the node at an index, once its messages are sent.
 fn settle_node(
+    alloc: Global,
     nodes: &mut Vec<Node>,
     index: usize,
     change: NodeChange,
@@ -595,13 +762,14 @@ fn settle_node(
     ensures sent { IfOk result (λ outcome. sent.new ≡ sent.old ++ outcome.sends) }
     ensures unchanged { OnErr result ((nodes.new.items ≡ nodes.old.items) × (sent.new ≡ sent.old)) }
 {
-    sent.extend(change.outcome.sends.as_slice())?;
+    sent.extend(alloc, change.outcome.sends.as_slice())?;
     let node = &mut nodes[index];
     Ok(node.apply(change))
 }
 
 // Makes the change of the server at an index, once its messages are sent.
 fn settle_server(
+    alloc: Global,
     servers: &mut Vec<Server>,
     index: usize,
     change: ServerChange,
@@ -614,7 +782,7 @@ fn settle_server(
     ensures sent { IfOk result (λ outcome. sent.new ≡ sent.old ++ outcome.sends) }
     ensures unchanged { OnErr result ((servers.new.items ≡ servers.old.items) × (sent.new ≡ sent.old)) }
 {
-    sent.extend(change.outcome.sends.as_slice())?;
+    sent.extend(alloc, change.outcome.sends.as_slice())?;
     let server = &mut servers[index];
     Ok(server.apply(change))
 }

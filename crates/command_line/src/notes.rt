@@ -46,6 +46,9 @@ Every other line is one of these:
   declare N           node N is declared failed: its processes and locks are gone
   restart N           node N begins again, in its next incarnation
   learn F N I         the server of file F learns that incarnation I of N failed
+  fail-server F       the server of file F is declared failed: what it knew is gone
+  start-server F      the server of file F begins again, and asks all nodes alive for
+                      their tokens, before which it serves nothing
 K counts the messages in the order of sending, from 1. OP is one of these:
   spawn                              the process begins
   fork PID                           process PID begins, with the same descriptors
@@ -65,10 +68,11 @@ has LEN bytes from byte START on. With LEN 0 it goes on to the greatest offset,
 The listing has five sections: the refused lines, the replies, the tokens at the end,
 the locks at the end, and one history, in which every call has its place in one table
 of locks. What happens is an entry: a call, a delivery, an interrupt, a retry, a
-resend, a declaration, a restart or a learn. Replies and the calls of the history
-stand at positions of entries, counted from 1.
+resend, a learn, or that a node or a server is declared failed or begins again.
+Replies and the calls of the history stand at positions of entries, counted from 1.
 
-A line that is refused is listed with its number and a code, and the run goes on:
+A line that is refused is listed with its number and a code, and the run goes on (of a
+server the codes are as of a node):
   10  the node is not alive             13  the process has an open call
   11  the node is not declared failed   14  no such node, process, file or message
   12  the node restarted too often      15  the node is declared failed

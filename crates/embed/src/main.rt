@@ -16,10 +16,12 @@
 //! - There is one node of each number and one server of each file, all made for one shape.
 //! - Each takes one step at a time: a change is applied to the very state that it was planned from.
 //!   The messages of a step are sent, and its reply is told, only after it.
-//! - Servers don't fail: none loses what it knows, and none begins anew.
+//! - A server that was declared failed takes no more steps. It begins again only after that: as
+//!   `Server::rebuild` makes it of the members that are alive then, in its next epoch, which was never
+//!   used before. The first one is 1, that of `Server::new`. `Members` keeps count of them too.
 //!
 //! The law of the one history is of runs of any length; `World` and `Run`, which keep a journal, end
-//! at 1,048,576 entries. Here is one node that never fails, so nothing is declared,
+//! at 1,048,576 entries. Here is one node and one server that never fail, so nothing is declared,
 //! and the server learns nothing.
 #![tactic(auto)]
 
@@ -36,7 +38,6 @@ use model::policy::Policy;
 use node_core::event::NodeEvent;
 use node_core::node::Node;
 use std::alloc::Global;
-use token_server::event::ServerEvent;
 use token_server::server::Server;
 
 const CALLS: [Op; 3] = [
@@ -70,11 +71,11 @@ fn call(rt: &HostRuntime, node: &mut Node, server: &mut Server, op: Op) -> anyho
     let alloc = rt.alloc();
     let requests = at_node(rt, node, &NodeEvent::Call { pid: 1, op })?;
     for request in requests.as_slice() {
-        let grants = at_server(alloc, server, &ServerEvent::Deliver(*request))?;
+        let grants = to_server(alloc, server, request)?;
         for grant in grants.as_slice() {
-            let taken = at_node(rt, node, &NodeEvent::Deliver(*grant))?;
+            let taken = to_node(rt, node, grant)?;
             for message in taken.as_slice() {
-                at_server(alloc, server, &ServerEvent::Deliver(*message))?;
+                to_server(alloc, server, message)?;
             }
         }
     }
@@ -84,19 +85,30 @@ fn call(rt: &HostRuntime, node: &mut Node, server: &mut Server, op: Op) -> anyho
 // Lets the event happen at the node, prints the reply if a call is answered, and answers what is sent.
 fn at_node(rt: &HostRuntime, node: &mut Node, event: &NodeEvent) -> anyhow::Result<Items<Message>> {
     let change = node.plan(rt.alloc(), event)?;
-    let Outcome { reply, sends, .. } = node.apply(change);
+    told(rt, node.apply(change))
+}
+
+// The same of a message that comes to the node.
+fn to_node(rt: &HostRuntime, node: &mut Node, message: &Message) -> anyhow::Result<Items<Message>> {
+    let change = node.plan_delivery(rt.alloc(), message)?;
+    told(rt, node.apply(change))
+}
+
+// Prints the reply if a call is answered, and answers what is sent.
+fn told(rt: &HostRuntime, outcome: Outcome) -> anyhow::Result<Items<Message>> {
+    let Outcome { reply, sends, .. } = outcome;
     if let Some((call, reply)) = reply {
         println!(rt; "call {}: {reply:?}", call.number)?;
     }
     Ok(sends)
 }
 
-// Lets the event happen at the server, and answers what is sent.
-fn at_server(
+// Lets the message come to the server, and answers what is sent.
+fn to_server(
     alloc: Global,
     server: &mut Server,
-    event: &ServerEvent,
+    message: &Message,
 ) -> Result<Items<Message>, StepError> {
-    let change = server.plan(alloc, event)?;
+    let change = server.plan_delivery(alloc, message)?;
     Ok(server.apply(change).sends)
 }

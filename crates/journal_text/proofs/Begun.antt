@@ -37,7 +37,7 @@ pub record Begun (text : List ℕ) (s : ShapeFields) (r : Reading) (rest : List 
   pub passes : Passes text (texts_of s (read_lines r)) rest
   pub counted : taken ≡ length (texts_of s (read_lines r))
   pub shape_in : IsShape s
-  pub lines_in : All IsServedLine (read_lines r)
+  pub lines_in : All (IsServedLine s.version) (read_lines r)
   pub fits : IsCount (place_of r).count
   pub ran : run (Some start) (read_lines r) ≡ Some (place_of r)
 
@@ -58,7 +58,7 @@ begun-first text s rest begins shape_in = record {
   passes = passes-line text [] text (head_text s) rest (passes-none text) begins;
   counted = omega arith;
   shape_in = shape_in;
-  lines_in = All-nil IsServedLine;
+  lines_in = All-nil (IsServedLine s.version);
   fits = omega arith;
   ran = refl;
 }
@@ -75,8 +75,8 @@ begun-line text s r rest taken j q after begun stands f =
       passes = subst (λ (ls : List (List ℕ)). Passes text ls after) texts passes;
       counted = omega (arith, begun.counted, ap length texts, length-append (texts_of s (read_lines r)) (line_text s.version j ∷ []));
       shape_in = begun.shape_in;
-      lines_in = subst (All IsServedLine) (sym f.lines) (All-push IsServedLine (read_lines r) j begun.lines_in stands.served);
-      fits = f.fits stands.served begun.fits;
+      lines_in = subst (All (IsServedLine s.version)) (sym f.lines) (All-push (IsServedLine s.version) (read_lines r) j begun.lines_in stands.served);
+      fits = f.fits s.version stands.served begun.fits;
       ran = ap (run (Some start)) f.lines ∙ run-append (Some start) (read_lines r) (j ∷ []) ∙ ap (λ (p : Option Place). run p (j ∷ [])) begun.ran ∙ stands.next ∙ ap (λ (p : Place). Some p) (sym f.stands);
     }
 
@@ -91,7 +91,7 @@ journal-begun text s (whole es) taken begun e = record {
 }
 
 -- the last line is enough for a journal
-begins-end : (s : ShapeFields) (es : List NamedEntry) (js : List JournalLine) → body_lines es ≡ js ++ End (length es) ∷ [] → IsShape s → All IsServedLine js → IsCount (length es) → BeginsJournal (texts_of s js)
+begins-end : (s : ShapeFields) (es : List NamedEntry) (js : List JournalLine) → body_lines es ≡ js ++ End (length es) ∷ [] → IsShape s → All (IsServedLine s.version) js → IsCount (length es) → BeginsJournal (texts_of s js)
 begins-end s es js e shape_in lines_in fits = record {
   shape = s;
   entries = es;
@@ -99,7 +99,7 @@ begins-end s es js e shape_in lines_in fits = record {
   writes = record {
     texts = texts-push s js (End (length es)) ∙ ap (texts_of s) (sym e);
     shape_in = shape_in;
-    lines_in = subst (All IsServedLine) (sym e) (All-push IsServedLine js (End (length es)) lines_in fits);
+    lines_in = subst (All (IsServedLine s.version)) (sym e) (All-push (IsServedLine s.version) js (End (length es)) lines_in fits);
   };
 }
 
@@ -123,13 +123,13 @@ pub tails : (x y : List ℕ) (xs ys : List (List ℕ)) → x ∷ xs ≡ y ∷ ys
 tails x y xs ys e = cc
 
 -- lines that are written alike
-pub lines-same : (v : Version) (js ks : List JournalLine) → All IsServedLine js → All IsServedLine ks → map (line_text v) js ≡ map (line_text v) ks → js ≡ ks
+pub lines-same : (v : Version) (js ks : List JournalLine) → All (IsServedLine v) js → All (IsServedLine v) ks → map (line_text v) js ≡ map (line_text v) ks → js ≡ ks
 lines-same v [] [] js_in ks_in e = refl
 lines-same v [] (k ∷ ks) js_in ks_in e = absurd (cc)
 lines-same v (j ∷ js) [] js_in ks_in e = absurd (cc)
 lines-same v (j ∷ js) (k ∷ ks) js_in ks_in e =
-    let one = apart-line v j k (All-head IsServedLine j js js_in) (All-head IsServedLine k ks ks_in) (heads (line_text v j) (line_text v k) (map (line_text v) js) (map (line_text v) ks) e) in
-    let rest = lines-same v js ks (All-tail IsServedLine j js js_in) (All-tail IsServedLine k ks ks_in) (tails (line_text v j) (line_text v k) (map (line_text v) js) (map (line_text v) ks) e) in
+    let one = apart-line v j k (All-head (IsServedLine v) j js js_in) (All-head (IsServedLine v) k ks ks_in) (heads (line_text v j) (line_text v k) (map (line_text v) js) (map (line_text v) ks) e) in
+    let rest = lines-same v js ks (All-tail (IsServedLine v) j js js_in) (All-tail (IsServedLine v) k ks ks_in) (tails (line_text v j) (line_text v k) (map (line_text v) js) (map (line_text v) ks) e) in
     ap (λ (x : JournalLine). x ∷ js) one ∙ ap (λ (xs : List JournalLine). k ∷ xs) rest
 
 -- lines that begin as others do, with one line behind them
@@ -138,21 +138,21 @@ record Continues (v : Version) (js ks : List JournalLine) (line : List ℕ) : Ty
   behind : List JournalLine
   same : ks ≡ js ++ next_line ∷ behind
   text : line ≡ line_text v next_line
-  served : IsServedLine next_line
+  served : IsServedLine v next_line
 
-continues : (v : Version) (js ks : List JournalLine) (line : List ℕ) (more : List (List ℕ)) → All IsServedLine js → All IsServedLine ks → map (line_text v) js ++ line ∷ more ≡ map (line_text v) ks → Continues v js ks line
+continues : (v : Version) (js ks : List JournalLine) (line : List ℕ) (more : List (List ℕ)) → All (IsServedLine v) js → All (IsServedLine v) ks → map (line_text v) js ++ line ∷ more ≡ map (line_text v) ks → Continues v js ks line
 continues v [] [] line more js_in ks_in e = absurd (cc)
 continues v [] (k ∷ ks) line more js_in ks_in e = record {
   next_line = k;
   behind = ks;
   same = refl;
   text = heads line (line_text v k) more (map (line_text v) ks) e;
-  served = All-head IsServedLine k ks ks_in;
+  served = All-head (IsServedLine v) k ks ks_in;
 }
 continues v (j ∷ js) [] line more js_in ks_in e = absurd (cc)
 continues v (j ∷ js) (k ∷ ks) line more js_in ks_in e =
-    let one = apart-line v j k (All-head IsServedLine j js js_in) (All-head IsServedLine k ks ks_in) (heads (line_text v j) (line_text v k) (map (line_text v) js ++ line ∷ more) (map (line_text v) ks) e) in
-    let rest = continues v js ks line more (All-tail IsServedLine j js js_in) (All-tail IsServedLine k ks ks_in) (tails (line_text v j) (line_text v k) (map (line_text v) js ++ line ∷ more) (map (line_text v) ks) e) in
+    let one = apart-line v j k (All-head (IsServedLine v) j js js_in) (All-head (IsServedLine v) k ks ks_in) (heads (line_text v j) (line_text v k) (map (line_text v) js ++ line ∷ more) (map (line_text v) ks) e) in
+    let rest = continues v js ks line more (All-tail (IsServedLine v) j js js_in) (All-tail (IsServedLine v) k ks ks_in) (tails (line_text v j) (line_text v k) (map (line_text v) js ++ line ∷ more) (map (line_text v) ks) e) in
     record {
       next_line = rest.next_line;
       behind = rest.behind;
@@ -170,26 +170,29 @@ not-next v js p es line ran wrong c =
     none-some (place (length es) Ended) (sym ends)
 
 -- lines behind one head are of its version
-pub one-version : (s t : ShapeFields) (texts : List (List ℕ)) (ks : List JournalLine) → IsShape s → IsShape t → head_text s ∷ texts ≡ head_text t ∷ map (line_text t.version) ks → texts ≡ map (line_text s.version) ks
-one-version s t texts ks s_in t_in e =
-    let same = apart-head s t s_in t_in (heads (head_text s) (head_text t) texts (map (line_text t.version) ks) e) in
-    tails (head_text s) (head_text t) texts (map (line_text t.version) ks) e ∙ sym (ap (λ (x : ShapeFields). map (line_text x.version) ks) same)
+pub one-version : (s t : ShapeFields) (texts : List (List ℕ)) (ks : List JournalLine) → IsShape s → IsShape t → All (IsServedLine t.version) ks → head_text s ∷ texts ≡ head_text t ∷ map (line_text t.version) ks → (texts ≡ map (line_text s.version) ks) × All (IsServedLine s.version) ks
+one-version s t texts ks s_in t_in ks_in e =
+    let same = apart-head s t s_in t_in (heads (head_text s) (head_text t) texts (map (line_text t.version) ks) e) in (
+      tails (head_text s) (head_text t) texts (map (line_text t.version) ks) e ∙ sym (ap (λ (x : ShapeFields). map (line_text x.version) ks) same),
+      subst (λ (x : ShapeFields). All (IsServedLine x.version) ks) (sym same) ks_in,
+    )
 
-not-begun : (s : ShapeFields) (js : List JournalLine) (p : Place) (line : List ℕ) → IsShape s → All IsServedLine js → run (Some start) js ≡ Some p → IsMisplaced s.version p line → BeginsJournal (texts_of s js ++ line ∷ []) → ⊥
+not-begun : (s : ShapeFields) (js : List JournalLine) (p : Place) (line : List ℕ) → IsShape s → All (IsServedLine s.version) js → run (Some start) js ≡ Some p → IsMisplaced s.version p line → BeginsJournal (texts_of s js ++ line ∷ []) → ⊥
 not-begun s js p line s_in js_in ran wrong b =
     let e = sym (append_assoc (texts_of s js) (line ∷ []) b.more) ∙ b.writes.texts in
-    let rest = one-version s b.shape (map (line_text s.version) js ++ line ∷ b.more) (body_lines b.entries) s_in b.writes.shape_in e in
-    not-next s.version js p b.entries line ran wrong (continues s.version js (body_lines b.entries) line b.more js_in b.writes.lines_in rest)
+    let rest = one-version s b.shape (map (line_text s.version) js ++ line ∷ b.more) (body_lines b.entries) s_in b.writes.shape_in b.writes.lines_in e in
+    not-next s.version js p b.entries line ran wrong (continues s.version js (body_lines b.entries) line b.more js_in rest.1 rest.0)
 
 -- lines behind which the last one may stand are no journal
-not-whole : (s t : ShapeFields) (js : List JournalLine) (p : Place) (es : List NamedEntry) → IsShape s → All IsServedLine js → run (Some start) js ≡ Some p → (p.phase ≡ Ended → ⊥) → Writes (texts_of s js) t es → ⊥
+not-whole : (s t : ShapeFields) (js : List JournalLine) (p : Place) (es : List NamedEntry) → IsShape s → All (IsServedLine s.version) js → run (Some start) js ≡ Some p → (p.phase ≡ Ended → ⊥) → Writes (texts_of s js) t es → ⊥
 not-whole s t js p es s_in js_in ran unended w =
-    let same = lines-same s.version js (body_lines es) js_in w.lines_in (one-version s t (map (line_text s.version) js) (body_lines es) s_in w.shape_in w.texts) in
+    let rest = one-version s t (map (line_text s.version) js) (body_lines es) s_in w.shape_in w.lines_in w.texts in
+    let same = lines-same s.version js (body_lines es) js_in rest.1 rest.0 in
     let ends = sym ran ∙ ap (run (Some start)) same ∙ run-journal es in
     let here = some-same p (place (length es) Ended) ends in
     unended (ap (λ (q : Place). q.phase) here)
 
-bad-begun : (s : ShapeFields) (js : List JournalLine) (p : Place) (rest : List ℕ) → IsShape s → All IsServedLine js → run (Some start) js ≡ Some p → IsStuck s.version p rest → IsBad (texts_of s js) rest
+bad-begun : (s : ShapeFields) (js : List JournalLine) (p : Place) (rest : List ℕ) → IsShape s → All (IsServedLine s.version) js → run (Some start) js ≡ Some p → IsStuck s.version p rest → IsBad (texts_of s js) rest
 bad-begun s js p rest s_in js_in ran (no_line none unended) = has_no_line none (λ gone t es w. not-whole s t js p es s_in js_in ran (unended gone) w)
 bad-begun s js p rest s_in js_in ran (misplaced line after begins wrong) = stands_wrong line after begins (not-begun s js p line s_in js_in ran wrong)
 
@@ -215,7 +218,7 @@ some-journal = record {
   writes = record {
     texts = refl;
     shape_in = record { nodes_in = (omega arith, omega arith); files_in = (omega arith, omega arith) };
-    lines_in = All-cons IsServedLine (End 0) [] (omega arith) (All-nil IsServedLine);
+    lines_in = All-cons (IsServedLine Second) (End 0) [] (omega arith) (All-nil (IsServedLine Second));
   };
 }
 

@@ -1,10 +1,11 @@
 -- The kinds of events.
-use Rattle.std.proofs.Common.{◌≡◌, ◌≢◌, ℕ, List, [], ◌∷◌, ◌++◌, Some, None, arith, refl, codes, decimal}
+use Rattle.std.proofs.Common.{◌≡◌, ◌≢◌, true, ℕ, List, [], ◌∷◌, ◌++◌, Some, None, arith, refl, codes, decimal}
 use Rattle.model.specs.Limits.{IsCall, IsNumber, most_processes}
 use Rattle.model.specs.declared.call.CallId.{CallId}
 use Rattle.model.specs.declared.host.Host.{Host}
 use Rattle.model.specs.declared.op.Op.{Op}
 use Rattle.messages.specs.declared.message.Message.{Message}
+use Rattle.messages.specs.Versions.{may_rebuild}
 use Rattle.messages.specs.declared.version.Version.{Version}
 use Rattle.texts.specs.Layout.{space}
 use Rattle.texts.specs.Reads.{Both, IsOneField, Lacks, Reads, pair_text}
@@ -17,12 +18,13 @@ use Rattle.texts.proofs.Pairs.{AreApart, apart-pair}
 use Rattle.lockscript.proofs.SingleWords.{file_words, pid_words}
 use Rattle.texts.proofs.SingleWords.{first-word, one-word}
 use Rattle.journal_text.specs.declared.named_event.NamedEvent.{NamedEvent}
-use Rattle.journal_text.specs.declared.named_event.NamedEvent.TheVariants.{Call, Deliver, Interrupt, Retry, Resend, Declare, Restart, Learn}
+use Rattle.journal_text.specs.declared.named_event.NamedEvent.TheVariants.{Call, Deliver, Interrupt, Retry, Resend, Declare, Restart, Learn, FailServer, StartServer}
 use Rattle.journal_text.specs.Events.{IsServedEvent, named_text}
+use Rattle.journal_text.specs.Parts.{AreServerParts}
 use Rattle.journal_text.specs.Served.{IsFile, IsHolder, IsServedMessage}
-use Rattle.journal_text.specs.Texts.{holder_text, message_text}
+use Rattle.journal_text.specs.Texts.{holder_text, message_text, server_text}
 use Rattle.journal_text.proofs.MessageKinds.{apart-message}
-use Rattle.journal_text.proofs.Names.{apart-call, apart-holder}
+use Rattle.journal_text.proofs.Names.{apart-call, apart-holder, apart-server}
 use Rattle.journal_text.proofs.Words.{call_words, holder_words}
 
 pub data EventKind : Type 0 where
@@ -34,6 +36,8 @@ pub data EventKind : Type 0 where
   declares : EventKind
   restarts : EventKind
   learns : EventKind
+  fails : EventKind
+  starts : EventKind
 
 abbrev pub Operands : EventKind → Type 0
 Operands calls = CallId × (ℕ × Op)
@@ -44,6 +48,8 @@ Operands resends = ℕ
 Operands declares = Host
 Operands restarts = Host
 Operands learns = ℕ × Host
+Operands fails = ℕ × ℕ
+Operands starts = ℕ × ℕ
 
 -- what an event of the kind begins with
 abbrev pub front : EventKind → List ℕ
@@ -55,6 +61,8 @@ front resends = codes "resend "
 front declares = codes "declare "
 front restarts = codes "restart "
 front learns = codes "learn "
+front fails = codes "fail-server "
+front starts = codes "start-server "
 
 abbrev pub table : List (List ℕ × EventKind)
 table =
@@ -66,6 +74,8 @@ table =
     ∷ (codes "declare ", declares)
     ∷ (codes "restart ", restarts)
     ∷ (codes "learn ", learns)
+    ∷ (codes "fail-server ", fails)
+    ∷ (codes "start-server ", starts)
     ∷ []
 
 pub told : (k : EventKind) (bytes : List ℕ) → kind_in table (front k ++ bytes) ≡ Some k
@@ -82,16 +92,20 @@ rest version resends = decimal
 rest version declares = holder_text
 rest version restarts = holder_text
 rest version learns = pair_text decimal holder_text
+rest version fails = server_text
+rest version starts = server_text
 
-abbrev pub Fit : (k : EventKind) → Operands k → Type 0
-Fit calls = Both IsCall (Both (IsNumber most_processes) IsServedOp)
-Fit delivers = IsServedMessage
-Fit interrupts = Both IsHolder (IsNumber most_processes)
-Fit retries = Both IsHolder (IsNumber most_processes)
-Fit resends = IsFile
-Fit declares = IsHolder
-Fit restarts = IsHolder
-Fit learns = Both IsFile IsHolder
+abbrev pub Fit : Version → (k : EventKind) → Operands k → Type 0
+Fit version calls = Both IsCall (Both (IsNumber most_processes) IsServedOp)
+Fit version delivers = IsServedMessage version
+Fit version interrupts = Both IsHolder (IsNumber most_processes)
+Fit version retries = Both IsHolder (IsNumber most_processes)
+Fit version resends = IsFile
+Fit version declares = IsHolder
+Fit version restarts = IsHolder
+Fit version learns = Both IsFile IsHolder
+Fit version fails = λ p. (may_rebuild version ≡ true) × AreServerParts p
+Fit version starts = λ p. (may_rebuild version ≡ true) × AreServerParts p
 
 apart-file : AreApart decimal IsFile
 apart-file = apart-number 256 (omega arith)
@@ -99,7 +113,7 @@ apart-file = apart-number 256 (omega arith)
 apart-pid : AreApart decimal (IsNumber most_processes)
 apart-pid = apart-number most_processes (omega arith)
 
-apart-rest : (version : Version) (k : EventKind) → AreApart (rest version k) (Fit k)
+apart-rest : (version : Version) (k : EventKind) → AreApart (rest version k) (Fit version k)
 apart-rest version calls = apart-pair call_text (pair_text decimal op_text) IsCall (Both (IsNumber most_processes) IsServedOp) call_words apart-call
     (apart-pair decimal op_text (IsNumber most_processes) IsServedOp pid_words apart-pid apart-op)
 apart-rest version delivers = apart-message version
@@ -109,6 +123,8 @@ apart-rest version resends = apart-file
 apart-rest version declares = apart-holder
 apart-rest version restarts = apart-holder
 apart-rest version learns = apart-pair decimal holder_text IsFile IsHolder file_words apart-file apart-holder
+apart-rest version fails = λ x y x_fits y_fits. apart-server x y x_fits.1 y_fits.1
+apart-rest version starts = λ x y x_fits y_fits. apart-server x y x_fits.1 y_fits.1
 
 abbrev pub make : (k : EventKind) → Operands k → NamedEvent
 make calls p = Call p.0 p.1.0 p.1.1
@@ -119,6 +135,8 @@ make resends p = Resend p
 make declares p = Declare p
 make restarts p = Restart p
 make learns p = Learn p.0 p.1
+make fails p = FailServer p.0 p.1
+make starts p = StartServer p.0 p.1
 
 abbrev pub kind_of : NamedEvent → EventKind
 kind_of (Call call pid op) = calls
@@ -129,6 +147,8 @@ kind_of (Resend file) = resends
 kind_of (Declare host) = declares
 kind_of (Restart host) = restarts
 kind_of (Learn file host) = learns
+kind_of (FailServer file epoch) = fails
+kind_of (StartServer file epoch) = starts
 
 abbrev pub operands_of : (e : NamedEvent) → Operands (kind_of e)
 operands_of (Call call pid op) = (call, (pid, op))
@@ -139,10 +159,14 @@ operands_of (Resend file) = file
 operands_of (Declare host) = host
 operands_of (Restart host) = host
 operands_of (Learn file host) = (file, host)
+operands_of (FailServer file epoch) = (file, epoch)
+operands_of (StartServer file epoch) = (file, epoch)
 
-pub fit : (e : NamedEvent) → IsServedEvent e → Fit (kind_of e) (operands_of e)
-fit (Call call pid op) served = (served.0, (served.1, served.2))
-fit e served = served
+pub fit : (version : Version) (e : NamedEvent) → IsServedEvent version e → Fit version (kind_of e) (operands_of e)
+fit version (Call call pid op) served = (served.0, (served.1, served.2))
+fit version (FailServer file epoch) served = (served.0, (served.1, served.2))
+fit version (StartServer file epoch) served = (served.0, (served.1, served.2))
+fit version e served = served
 
 pub made : (e : NamedEvent) → make (kind_of e) (operands_of e) ≡ e
 made (Call call pid op) = refl
@@ -152,7 +176,7 @@ pub written : (version : Version) (e : NamedEvent) → named_text version e ≡ 
 written version (Call call pid op) = refl
 written version e = refl
 
-abbrev pub events : (version : Version) → Kinds NamedEvent (named_text version) IsServedEvent
+abbrev pub events : (version : Version) → Kinds NamedEvent (named_text version) (IsServedEvent version)
 events version = record {
   Kind = EventKind;
   Operands = Operands;
@@ -160,20 +184,20 @@ events version = record {
   table = table;
   told = told;
   rest = rest version;
-  Fit = Fit;
+  Fit = Fit version;
   kind_of = kind_of;
   operands_of = operands_of;
-  fit = fit;
+  fit = fit version;
   written = written version;
   make = make;
   made = made;
 }
 
-pub apart-event : (version : Version) → AreApart (named_text version) IsServedEvent
+pub apart-event : (version : Version) → AreApart (named_text version) (IsServedEvent version)
 apart-event version = apart-kinds (events version) (apart-rest version)
 
 -- one word is no event
-pub no_event_alone : (version : Version) (word : List ℕ) → IsOneField word → Reads (named_text version) IsServedEvent word None
+pub no_event_alone : (version : Version) (word : List ℕ) → IsOneField word → Reads (named_text version) (IsServedEvent version) word None
 no_event_alone version word one (Call call pid op) served e = one (codes "call") _ (one-word (codes "call") refl) e
 no_event_alone version word one (Deliver message) served e = one (codes "deliver") _ (one-word (codes "deliver") refl) e
 no_event_alone version word one (Interrupt host pid) served e = one (codes "interrupt") _ (one-word (codes "interrupt") refl) e
@@ -182,15 +206,19 @@ no_event_alone version word one (Resend file) served e = one (codes "resend") _ 
 no_event_alone version word one (Declare host) served e = one (codes "declare") _ (one-word (codes "declare") refl) e
 no_event_alone version word one (Restart host) served e = one (codes "restart") _ (one-word (codes "restart") refl) e
 no_event_alone version word one (Learn file host) served e = one (codes "learn") _ (one-word (codes "learn") refl) e
+no_event_alone version word one (FailServer file epoch) served e = one (codes "fail-server") _ (one-word (codes "fail-server") refl) e
+no_event_alone version word one (StartServer file epoch) served e = one (codes "start-server") _ (one-word (codes "start-server") refl) e
 
 -- a word of none of them is no event, whatever stands behind it
-pub no_event_with : (version : Version) (word operands : List ℕ) → Lacks space word → word ≢ codes "call" → word ≢ codes "deliver" → word ≢ codes "interrupt" → word ≢ codes "retry" → word ≢ codes "resend" → word ≢ codes "declare" → word ≢ codes "restart" → word ≢ codes "learn"
-    → Reads (named_text version) IsServedEvent (word ++ space ∷ operands) None
-no_event_with version word operands lacks no_call no_deliver no_interrupt no_retry no_resend no_declare no_restart no_learn (Call call pid op) served e = no_call (first-word word (codes "call") operands _ lacks refl e)
-no_event_with version word operands lacks no_call no_deliver no_interrupt no_retry no_resend no_declare no_restart no_learn (Deliver message) served e = no_deliver (first-word word (codes "deliver") operands _ lacks refl e)
-no_event_with version word operands lacks no_call no_deliver no_interrupt no_retry no_resend no_declare no_restart no_learn (Interrupt host pid) served e = no_interrupt (first-word word (codes "interrupt") operands _ lacks refl e)
-no_event_with version word operands lacks no_call no_deliver no_interrupt no_retry no_resend no_declare no_restart no_learn (Retry host pid) served e = no_retry (first-word word (codes "retry") operands _ lacks refl e)
-no_event_with version word operands lacks no_call no_deliver no_interrupt no_retry no_resend no_declare no_restart no_learn (Resend file) served e = no_resend (first-word word (codes "resend") operands _ lacks refl e)
-no_event_with version word operands lacks no_call no_deliver no_interrupt no_retry no_resend no_declare no_restart no_learn (Declare host) served e = no_declare (first-word word (codes "declare") operands _ lacks refl e)
-no_event_with version word operands lacks no_call no_deliver no_interrupt no_retry no_resend no_declare no_restart no_learn (Restart host) served e = no_restart (first-word word (codes "restart") operands _ lacks refl e)
-no_event_with version word operands lacks no_call no_deliver no_interrupt no_retry no_resend no_declare no_restart no_learn (Learn file host) served e = no_learn (first-word word (codes "learn") operands _ lacks refl e)
+pub no_event_with : (version : Version) (word operands : List ℕ) → Lacks space word → word ≢ codes "call" → word ≢ codes "deliver" → word ≢ codes "interrupt" → word ≢ codes "retry" → word ≢ codes "resend" → word ≢ codes "declare" → word ≢ codes "restart" → word ≢ codes "learn" → word ≢ codes "fail-server" → word ≢ codes "start-server"
+    → Reads (named_text version) (IsServedEvent version) (word ++ space ∷ operands) None
+no_event_with version word operands lacks no_call no_deliver no_interrupt no_retry no_resend no_declare no_restart no_learn no_fail no_start (Call call pid op) served e = no_call (first-word word (codes "call") operands _ lacks refl e)
+no_event_with version word operands lacks no_call no_deliver no_interrupt no_retry no_resend no_declare no_restart no_learn no_fail no_start (Deliver message) served e = no_deliver (first-word word (codes "deliver") operands _ lacks refl e)
+no_event_with version word operands lacks no_call no_deliver no_interrupt no_retry no_resend no_declare no_restart no_learn no_fail no_start (Interrupt host pid) served e = no_interrupt (first-word word (codes "interrupt") operands _ lacks refl e)
+no_event_with version word operands lacks no_call no_deliver no_interrupt no_retry no_resend no_declare no_restart no_learn no_fail no_start (Retry host pid) served e = no_retry (first-word word (codes "retry") operands _ lacks refl e)
+no_event_with version word operands lacks no_call no_deliver no_interrupt no_retry no_resend no_declare no_restart no_learn no_fail no_start (Resend file) served e = no_resend (first-word word (codes "resend") operands _ lacks refl e)
+no_event_with version word operands lacks no_call no_deliver no_interrupt no_retry no_resend no_declare no_restart no_learn no_fail no_start (Declare host) served e = no_declare (first-word word (codes "declare") operands _ lacks refl e)
+no_event_with version word operands lacks no_call no_deliver no_interrupt no_retry no_resend no_declare no_restart no_learn no_fail no_start (Restart host) served e = no_restart (first-word word (codes "restart") operands _ lacks refl e)
+no_event_with version word operands lacks no_call no_deliver no_interrupt no_retry no_resend no_declare no_restart no_learn no_fail no_start (Learn file host) served e = no_learn (first-word word (codes "learn") operands _ lacks refl e)
+no_event_with version word operands lacks no_call no_deliver no_interrupt no_retry no_resend no_declare no_restart no_learn no_fail no_start (FailServer file epoch) served e = no_fail (first-word word (codes "fail-server") operands _ lacks refl e)
+no_event_with version word operands lacks no_call no_deliver no_interrupt no_retry no_resend no_declare no_restart no_learn no_fail no_start (StartServer file epoch) served e = no_start (first-word word (codes "start-server") operands _ lacks refl e)

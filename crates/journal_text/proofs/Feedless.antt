@@ -1,15 +1,20 @@
 -- Values whose texts have no line feed.
-use Rattle.std.proofs.Common.{ℕ, suc, ◌<◌, ◌^◌, pos, negsuc, List, [], ◌∷◌, refl, sym, subst, arith, codes, decimal, FitsSigned, w64}
+use Rattle.std.proofs.Common.{ℕ, suc, ◌<◌, ◌^◌, pos, negsuc, List, [], ◌∷◌, All, length, refl, sym, subst, arith, codes, decimal, FitsSigned, w64}
 use Rattle.std.specs.Prelude.{⊤}
 use Rattle.std.specs.Fmt.{signed_decimal}
+use Rattle.std.specs.List.{flat_map}
+use Rattle.std.proofs.lemmas.List.Elements.{All-head, All-tail}
 use Rattle.model.specs.declared.access.Access.TheVariants.{ReadOnly, WriteOnly, ReadWrite}
+use Rattle.model.specs.declared.level.Level.TheVariants.{Shared, Exclusive}
 use Rattle.model.specs.declared.mode.Mode.TheVariants.{Read, Write}
 use Rattle.model.specs.declared.owner.Kind.{Kind}
 use Rattle.model.specs.declared.owner.Kind.TheVariants.{OfProcess, OfDescription}
 use Rattle.model.specs.declared.policy.Policy.TheVariants.{Wide, Exact}
 use Rattle.model.specs.Limits.{IsCall, IsNumber, IsOwner, most_nodes, most_of, most_processes}
+use Rattle.messages.specs.Epochs.{IsEpoch, IsRebuilt, epoch_of}
 use Rattle.messages.specs.Shapes.{IsShape, most_files}
 use Rattle.messages.specs.declared.message.Urgency.TheVariants.{Now, Waits}
+use Rattle.messages.specs.declared.token_run.TokenRun.{TokenRun}
 use Rattle.messages.specs.declared.version.Version.{Version}
 use Rattle.messages.specs.declared.version.Version.TheVariants.{First, Second}
 use Rattle.texts.specs.LineFeeds.{line_feed}
@@ -18,16 +23,18 @@ use Rattle.texts.specs.Reads.{Both, Lacks, after_text, joined_text, pair_text}
 use Rattle.lockscript.specs.Scripts.{counts_text}
 use Rattle.lockscript.specs.Served.{AreOffsets, IsAskedLock, IsDescriptor}
 use Rattle.lockscript.specs.Texts.{asked_lock_text, call_text, lock_text, owner_text, segment_text}
-use Rattle.texts.specs.Words.{access_text, kind_text, mode_text, policy_text}
+use Rattle.texts.specs.Words.{access_text, kind_text, level_text, mode_text, policy_text}
 use Rattle.lockscript.proofs.Clusters.{IsCounts, counts-fit, counts-parts, counts_of, parts_text}
 use Rattle.journal_text.proofs.Fronts.{Kinds}
 use Rattle.texts.proofs.Pairs.{AllLack}
 use Rattle.texts.proofs.SingleWords.{decimal-lacks, lacks-tested}
 use Rattle.journal_text.specs.Journals.{head_front, head_text}
-use Rattle.journal_text.specs.Parts.{AreCounted, AreNumbered, AreOffsetsAndOwner, IsOffset, at_sign, counted_text, dot, numbered_text, offset_and_owner_text, offset_and_span_text, offsets_and_owner_text}
-use Rattle.journal_text.specs.Served.{AreServedWants, IsCommandNumber, IsFile, IsHolder, IsServedLock, IsServedSpan}
-use Rattle.journal_text.specs.Texts.{command_text, epoch_text, holder_text, span_text, urgency_text, wants_text}
+use Rattle.journal_text.specs.Parts.{AreCounted, AreNumbered, AreServerParts, AreOffsetsAndOwner, IsOffset, at_sign, counted_text, numbered_text, offset_and_owner_text, offset_and_span_text, offsets_and_owner_text}
+use Rattle.journal_text.specs.Served.{AreServedRuns, AreServedWants, IsCommandNumber, IsCounted, IsFile, IsHolder, IsServedLock, IsServedSpan}
+use Rattle.journal_text.specs.Texts.{command_text, dot, epoch_text, holder_text, run_text, runs_text, server_text, span_text, urgency_text, wants_text}
+use Rattle.journal_text.proofs.Commands.{with_epochs}
 use Rattle.journal_text.proofs.Names.{calls, hosts, owners}
+use Rattle.journal_text.proofs.ReportWords.{few_runs}
 use Rattle.journal_text.proofs.SpanParts.{locks, spans, wants}
 use Rattle.journal_text.proofs.Views.{Views}
 use Rattle.journal_text.proofs.Words.{lacks-append}
@@ -63,16 +70,17 @@ numbers most small n fits = number n (omega (arith, fits.1, small))
 pub files : HasNone decimal IsFile
 files = numbers most_files (omega arith)
 
-pub commands : HasNone decimal IsCommandNumber
+pub commands : HasNone decimal IsCounted
 commands = numbers 4294967295 (omega arith)
 
-epoch : (version : Version) → Lacks line_feed (epoch_text version)
-epoch First = lacks-tested line_feed (epoch_text First) refl
-epoch Second = lacks-tested line_feed (epoch_text Second) refl
+pub epochs : HasNone epoch_text IsRebuilt
+epochs n fits = number (epoch_of n) (omega (arith, fits.within))
 
 -- the number of a command and what follows, with or without an epoch
-pub numbered_by : {A : Type 0} (version : Version) (f : A → List ℕ) (P : A → Type 0) → HasNone f P → HasNone (command_text version f) (Both IsCommandNumber P)
-numbered_by version f P one = after (epoch_text version) (pair_text decimal f) (Both IsCommandNumber P) (epoch version) (pair decimal f IsCommandNumber P commands one)
+pub numbered_by : {A : Type 0} (version : Version) (f : A → List ℕ) (P : A → Type 0) → HasNone f P → HasNone (command_text version f) (Both (IsCommandNumber version) P)
+numbered_by First f P one = pair decimal f IsCounted P commands one
+numbered_by Second f P one = of_view (with_epochs f P)
+    (pair decimal (pair_text decimal f) IsEpoch (Both IsCounted P) (numbers 65535 (omega arith)) (pair decimal f IsCounted P commands one))
 
 pub pids : HasNone decimal (IsNumber most_processes)
 pids = numbers most_processes (omega arith)
@@ -120,7 +128,7 @@ holders = of_view hosts (joined dot decimal decimal (IsNumber most_nodes) (IsNum
 pub named_calls : HasNone call_text IsCall
 named_calls = of_view calls
     (joined dot decimal counted_text (IsNumber most_nodes) AreCounted at_dot (numbers most_nodes (omega arith))
-    (joined dot decimal decimal (IsNumber 65535) IsCommandNumber at_dot (numbers 65535 (omega arith)) commands))
+    (joined dot decimal decimal (IsNumber 65535) IsCounted at_dot (numbers 65535 (omega arith)) commands))
 
 numbered : (most : ℕ) → most < 2 ^ 64 → HasNone numbered_text (AreNumbered most)
 numbered most small = joined at_sign decimal holder_text (IsNumber most) IsHolder (lacks-tested line_feed (at_sign ∷ []) refl) (numbers most small) holders
@@ -138,6 +146,25 @@ named_owners = of_kinds owners owner-fronts owner-rests
 
 pub served_spans : HasNone span_text IsServedSpan
 served_spans = of_view spans (pair decimal decimal IsOffset IsOffset offsets offsets)
+
+-- a level, and runs
+levels : HasNone level_text (λ _. ⊤)
+levels Shared fits = lacks-tested line_feed (codes "shared") refl
+levels Exclusive fits = lacks-tested line_feed (codes "exclusive") refl
+
+behind : (runs : List TokenRun) → All (λ (r : TokenRun). IsServedSpan r.span) runs → Lacks line_feed (flat_map (λ r. space ∷ run_text r) runs)
+behind [] served = lacks-tested line_feed [] refl
+behind (r ∷ rest) served =
+    lacks-append line_feed (space ∷ run_text r) (flat_map (λ q. space ∷ run_text q) rest)
+    (lacks-append line_feed (space ∷ []) (run_text r) (lacks-tested line_feed (space ∷ []) refl)
+    (pair level_text span_text (λ _. ⊤) IsServedSpan levels served_spans (r.level, r.span) (tt, All-head (λ (q : TokenRun). IsServedSpan q.span) r rest served)))
+    (behind rest (All-tail (λ (q : TokenRun). IsServedSpan q.span) r rest served))
+
+pub served_runs : HasNone runs_text AreServedRuns
+served_runs runs fits = lacks-append line_feed (decimal (length runs)) (flat_map (λ r. space ∷ run_text r) runs) (number (length runs) (omega (arith, few_runs runs fits))) (behind runs fits.0)
+
+pub servers : HasNone server_text AreServerParts
+servers = joined dot decimal decimal IsFile IsEpoch at_dot files (numbers 65535 (omega arith))
 
 pub served_wants : HasNone wants_text AreServedWants
 served_wants = of_view wants

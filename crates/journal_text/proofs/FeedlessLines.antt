@@ -28,16 +28,16 @@ fronts k = lacks-tested line_feed (front k) refl
 counts : HasNone decimal IsCount
 counts n fits = number n (omega (arith, fits))
 
-rests : (version : Version) (k : LineKind) → HasNone (rest version k) (Fit k)
-rests version entries = pair decimal (named_text version) IsPosition IsServedEvent commands (feedless-event version)
+rests : (version : Version) (k : LineKind) → HasNone (rest version k) (Fit version k)
+rests version entries = pair decimal (named_text version) IsPosition (IsServedEvent version) commands (feedless-event version)
 rests version answers = pair call_text reply_text IsCall IsServedReply named_calls feedless-reply
 rests version sends = feedless-message version
 rests version ends = counts
 
-feedless-line : (version : Version) → HasNone (line_text version) IsServedLine
+feedless-line : (version : Version) → HasNone (line_text version) (IsServedLine version)
 feedless-line version = of_kinds (lines version) fronts (rests version)
 
-pub line-single : (version : Version) (j : JournalLine) → IsServedLine j → IsSingle (line_text version j)
+pub line-single : (version : Version) (j : JournalLine) → IsServedLine version j → IsSingle (line_text version j)
 line-single version j fits = none_is-line_feeds (line_text version j) (feedless-line version j fits)
 
 pub head-single : (s : ShapeFields) → IsShape s → IsSingle (head_text s)

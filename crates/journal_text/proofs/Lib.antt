@@ -24,3 +24,6 @@ pub mod OneReading
 pub mod OldTexts
 pub mod Limits
 pub mod Writes
+pub mod ReportWords
+pub mod Commands
+pub mod ReportFields

@@ -1,6 +1,6 @@
 -- The entries of a run are within the limits of a journal's text, where they fit their types.
-use Rattle.std.proofs.Common.{◌≡◌, ℕ, ◌+◌, ◌≤◌, true, List, [], ◌∷◌, ◌++◌, length, map, Option, Some, None, refl, sym, ap, subst, ◌∙◌, arith}
-use Rattle.std.specs.Prelude.{◌&&◌, IfSome, nat_le}
+use Rattle.std.proofs.Common.{◌≡◌, ℕ, ◌+◌, ◌≤◌, true, false, List, [], ◌∷◌, ◌++◌, length, map, Option, Some, None, refl, sym, ap, subst, ◌∙◌, arith}
+use Rattle.std.specs.Prelude.{◌&&◌, IfSome, nat_le, slice_index_or}
 use Rattle.std.specs.List.{All}
 use Rattle.std.proofs.lemmas.Bool.{and_parts}
 use Rattle.std.proofs.lemmas.Bool.Decides.{nat_tests}
@@ -12,16 +12,22 @@ use Rattle.model.specs.declared.op.Op.TheVariants as op
 use Rattle.model.specs.declared.reply.Reply.{Reply}
 use Rattle.model.specs.Limits.{IsCall, IsHost, IsNumber, most_nodes, most_processes}
 use Rattle.messages.specs.Entries.{EntryFields, NamesItsCall, NamesItsIncarnation}
-use Rattle.messages.specs.Messages.{is_within}
+use Rattle.messages.specs.Epochs.{IsCommand}
+use Rattle.messages.specs.Messages.{addressee, greatest_number, is_among, is_within}
 use Rattle.messages.specs.Shapes.{IsShape, ShapeFields, most_files}
 use Rattle.messages.specs.declared.event.Event.{Event}
 use Rattle.messages.specs.declared.event.Event.TheVariants as event
+use Rattle.messages.specs.Versions.{may_rebuild}
 use Rattle.messages.specs.declared.message.Message.{Message}
+use Rattle.messages.specs.declared.message.Message.TheVariants as message
+use Rattle.messages.specs.declared.version.Version.{Version}
+use Rattle.messages.specs.declared.version.Version.TheVariants.{First, Second}
 use Rattle.node_core.specs.Calls.{is_in_shape, is_pid}
-use Rattle.cluster_core.specs.Next.{is_known}
+use Rattle.cluster_core.specs.Next.{has_actor, is_known}
 use Rattle.cluster_core.specs.Runs.{IsRun, Leads}
 use Rattle.cluster_core.specs.World.{WorldState, first_world, has_file, has_node, journal_limit, was_declared}
-use Rattle.cluster_core.proofs.runs.JournalRuns.{leads_shape}
+use Rattle.cluster_core.proofs.runs.EarlyNumbers.{IsEarly, early_run}
+use Rattle.cluster_core.proofs.runs.JournalRuns.{leads_push, leads_shape}
 use Rattle.cluster_core.proofs.steps.Steps.{next_taken}
 use Rattle.lockscript.specs.Served.{IsServedOp}
 use Rattle.journal_text.specs.declared.lines.JournalLine.TheVariants.{Answer, End, Entry, Send}
@@ -29,12 +35,12 @@ use Rattle.journal_text.specs.declared.named_entry.NamedEntry.{NamedEntry}
 use Rattle.journal_text.specs.declared.named_event.NamedEvent.{NamedEvent}
 use Rattle.journal_text.specs.declared.named_event.NamedEvent.TheVariants as named
 use Rattle.journal_text.specs.Events.{IsServedEvent, call_of, event_of, incarnation_of}
-use Rattle.journal_text.specs.Fits.{FitsEntry, FitsEvent, FitsIncarnation, FitsOp, IsServedAnswer}
+use Rattle.journal_text.specs.Fits.{FitsEntry, FitsEvent, FitsIncarnation, FitsMessage, FitsOp, IsServedAnswer}
 use Rattle.journal_text.specs.Journals.{journal_text}
 use Rattle.journal_text.specs.Lines.{IsServedLine}
 use Rattle.journal_text.specs.OneText.{IsServedJournal}
 use Rattle.journal_text.specs.Readings.{WritesJournal, answer_lines, entry_in, entry_lines, lines_of}
-use Rattle.journal_text.specs.Served.{IsServedMessage}
+use Rattle.journal_text.specs.Served.{IsCommandNumber, IsServedMessage}
 use Rattle.journal_text.proofs.Printed.{read-printed}
 
 within : (few most n : ℕ) → few ≤ most → is_within few n ≡ true → IsNumber most n
@@ -57,13 +63,37 @@ op-served s (op.Wait fd kind mode start len) shape known fits = fits
 op-served s (op.Unlock fd kind start len) shape known fits = fits
 op-served s (op.Query fd kind mode start len) shape known fits = fits
 
+-- a message that version 2 writes, and another version where its number is one of the first epoch
+number-served : (version : Version) (number : ℕ) → IsCommand number → (may_rebuild version ≡ false → number ≤ greatest_number) → IsCommandNumber version number
+number-served First number command early = let begun = command.begun in (omega arith, early refl)
+number-served Second number command early = command
+
+rebuilds : (version : Version) → (may_rebuild version ≡ false → ⊥) → may_rebuild version ≡ true
+rebuilds First early = absurd (early refl)
+rebuilds Second early = refl
+
+message-served : (version : Version) (m : Message) → FitsMessage m → (may_rebuild version ≡ false → IsEarly m) → IsServedMessage version m
+message-served version (message.Request file call urgency mode wanted) fits early = fits
+message-served version (message.Grant file number call mode span) fits early = (fits.0, number-served version number fits.1 early, fits.2, fits.3)
+message-served version (message.Revoke file number holder call mode wanted) fits early = (fits.0, number-served version number fits.1 early, fits.2, fits.3, fits.4)
+message-served version (message.Taken file number call) fits early = (fits.0, number-served version number fits.1 early, fits.2)
+message-served version (message.Released file number holder call span) fits early = (fits.0, number-served version number fits.1 early, fits.2, fits.3, fits.4)
+message-served version (message.Conflict file number holder call lock) fits early = (fits.0, number-served version number fits.1 early, fits.2, fits.3, fits.4)
+message-served version (message.Deny file call holder number lock) fits early = (fits.0, fits.1, fits.2, number-served version number fits.3 early, fits.4)
+message-served version (message.Freed file holder) fits early = fits
+message-served version (message.Hello file number holder) fits early = (rebuilds version early, fits.1, fits.2, fits.3)
+message-served version (message.Report file number holder runs) fits early = (rebuilds version early, fits.1, fits.2, fits.3, fits.4)
+
+messages-served : (version : Version) (ms : List Message) → All FitsMessage ms → (may_rebuild version ≡ false → All IsEarly ms) → All (IsServedMessage version) ms
+messages-served version ms fits early k d lt = message-served version (slice_index_or ms k d) (fits k d lt) (λ is. early is k d lt)
+
 -- an event with the names that its entry gives it, which may be written
-record IsNamed (e : Event) (incarnation : ℕ) (call : Option CallId) : Type 0 where
+record IsNamed (version : Version) (e : Event) (incarnation : ℕ) (call : Option CallId) : Type 0 where
   name : NamedEvent
   event_is : e ≡ event_of name
   incarnation_is : incarnation ≡ incarnation_of name
   call_is : call ≡ call_of name
-  event_in : IsServedEvent name
+  event_in : IsServedEvent version name
 
 module _ (w : WorldState) (incarnation : ℕ) (shape : IsShape w.shape) (fits : FitsIncarnation incarnation) where
   node-in : (n : ℕ) → has_node w n ≡ true → IsNumber most_nodes n
@@ -78,9 +108,9 @@ module _ (w : WorldState) (incarnation : ℕ) (shape : IsShape w.shape) (fits : 
   host-in : (n : ℕ) → has_node w n ≡ true → 1 ≤ incarnation → IsHost n incarnation
   host-in n known from = record { node_in = node-in n known; incarnation_in = (from, fits) }
 
-  event-named : (e : Event) (call : Option CallId) → is_known w e ≡ true → FitsEvent e → NamesItsIncarnation e incarnation → IfSome call IsCall → NamesItsCall e call → IsNamed e incarnation call
-  event-named (event.Call n pid o) None known fit from call_in names = absurd names
-  event-named (event.Call n pid o) (Some id) known fit from call_in names =
+  event-named : (e : Event) (call : Option CallId) → is_known w e ≡ true → FitsEvent e → NamesItsIncarnation e incarnation → IfSome call IsCall → NamesItsCall e call → ((m : Message) → e ≡ event.Deliver m → may_rebuild w.shape.version ≡ false → IsEarly m) → IsNamed w.shape.version e incarnation call
+  event-named (event.Call n pid o) None known fit from call_in names early = absurd names
+  event-named (event.Call n pid o) (Some id) known fit from call_in names early =
       let parts = and_parts (has_node w n) (is_pid pid && is_in_shape w.shape o) known in
       let rest = and_parts (is_pid pid) (is_in_shape w.shape o) parts.1 in
       record {
@@ -90,19 +120,19 @@ module _ (w : WorldState) (incarnation : ℕ) (shape : IsShape w.shape) (fits : 
         call_is = refl;
         event_in = (call_in, pid-in pid rest.0, op-served w.shape o shape rest.1 fit);
       }
-  event-named (event.Deliver m) call known fit from call_in names = record { name = named.Deliver m; event_is = refl; incarnation_is = from; call_is = names; event_in = fit }
-  event-named (event.Interrupt n pid) call known fit from call_in names =
+  event-named (event.Deliver m) call known fit from call_in names early = record { name = named.Deliver m; event_is = refl; incarnation_is = from; call_is = names; event_in = message-served w.shape.version m fit (early m refl) }
+  event-named (event.Interrupt n pid) call known fit from call_in names early =
       let parts = and_parts (has_node w n) (is_pid pid) known in
       record { name = named.Interrupt (record { node = n; incarnation = incarnation }) pid; event_is = refl; incarnation_is = refl; call_is = names; event_in = (host-in n parts.0 from, pid-in pid parts.1) }
-  event-named (event.Retry n pid) call known fit from call_in names =
+  event-named (event.Retry n pid) call known fit from call_in names early =
       let parts = and_parts (has_node w n) (is_pid pid) known in
       record { name = named.Retry (record { node = n; incarnation = incarnation }) pid; event_is = refl; incarnation_is = refl; call_is = names; event_in = (host-in n parts.0 from, pid-in pid parts.1) }
-  event-named (event.Resend file) call known fit from call_in names = record { name = named.Resend file; event_is = refl; incarnation_is = from; call_is = names; event_in = file-in file known }
-  event-named (event.Declare n) call known fit from call_in names =
+  event-named (event.Resend file) call known fit from call_in names early = record { name = named.Resend file; event_is = refl; incarnation_is = from; call_is = names; event_in = file-in file known }
+  event-named (event.Declare n) call known fit from call_in names early =
       record { name = named.Declare (record { node = n; incarnation = incarnation }); event_is = refl; incarnation_is = refl; call_is = names; event_in = host-in n known from }
-  event-named (event.Restart n) call known fit from call_in names =
+  event-named (event.Restart n) call known fit from call_in names early =
       record { name = named.Restart (record { node = n; incarnation = incarnation }); event_is = refl; incarnation_is = refl; call_is = names; event_in = host-in n known from }
-  event-named (event.Learn file n i) call known fit from call_in names =
+  event-named (event.Learn file n i) call known fit from call_in names early =
       let parts = and_parts (has_file w file) (has_node w n && was_declared w n i) known in
       let rest = and_parts (has_node w n) (was_declared w n i) parts.1 in
       let told = and_parts (nat_le 1 i) _ rest.1 in
@@ -114,65 +144,84 @@ module _ (w : WorldState) (incarnation : ℕ) (shape : IsShape w.shape) (fits : 
         call_is = names;
         event_in = (file-in file parts.0, record { node_in = node-in n rest.0; incarnation_in = (above, fit) });
       }
+  event-named (event.FailServer file) call known fit from call_in names early =
+      let parts = and_parts (may_rebuild w.shape.version) (has_file w file) known in
+      record { name = named.FailServer file incarnation; event_is = refl; incarnation_is = refl; call_is = names; event_in = (parts.0, file-in file parts.1, (from, fits)) }
+  event-named (event.StartServer file) call known fit from call_in names early =
+      let parts = and_parts (may_rebuild w.shape.version) (has_file w file) known in
+      record { name = named.StartServer file incarnation; event_is = refl; incarnation_is = refl; call_is = names; event_in = (parts.0, file-in file parts.1, (from, fits)) }
 
 -- an entry that may be written
-record IsServedEntry (e : EntryFields) : Type 0 where
-  event_in : IsNamed e.event e.incarnation e.call
+record IsServedEntry (version : Version) (e : EntryFields) : Type 0 where
+  event_in : IsNamed version e.event e.incarnation e.call
   reply_in : IfSome e.reply IsServedAnswer
-  sends_in : All IsServedMessage e.sends
+  sends_in : All (IsServedMessage version) e.sends
 
-leads-served : (w v : WorldState) (es : List EntryFields) → IsShape w.shape → Leads w es v → All FitsEntry es → All IsServedEntry es
-leads-served w v [] shape leads fits = All-nil IsServedEntry
-leads-served w v (e ∷ es) shape leads fits =
+-- what was sent before an entry, and what the entry sends, is of the first epoch where servers are not rebuilt
+delivered-known : (w : WorldState) (e : Event) (m : Message) → is_known w e ≡ true → e ≡ event.Deliver m → is_among w.sent m ≡ true
+delivered-known w e m known is = (and_parts (has_actor w (addressee m)) (is_among w.sent m) (sym (ap (is_known w) is) ∙ known)).1
+
+leads-served : (s : ShapeFields) (before : List EntryFields) (w v : WorldState) (es : List EntryFields) → IsShape s → s ≡ w.shape → Leads (first_world s) before w → Leads w es v → All FitsEntry es → All (IsServedEntry s.version) es
+leads-served s before w v [] shape is_of so_far leads fits = All-nil (IsServedEntry s.version)
+leads-served s before w v (e ∷ es) shape is_of so_far leads fits =
     let mid = leads.0 in
     let fit = All-head FitsEntry e es fits in
     let known = (next_taken w e.event (mid, e) leads.1).0 in
     let same = leads_shape w mid (e ∷ []) (mid, leads.1, refl) in
-    let first : IsServedEntry e = record { event_in = event-named w e.incarnation shape fit.incarnation_in e.event e.call known fit.event_in fit.incarnation_named fit.call_in fit.call_named; reply_in = fit.reply_in; sends_in = fit.sends_in } in
-    All-cons IsServedEntry e es first (leads-served mid v es (subst IsShape (sym same) shape) leads.2 (All-tail FitsEntry e es fits))
+    let longer = leads_push (first_world s) w mid before e so_far leads.1 in
+    let here : ShapeFields → Type 0 = λ x. IsNamed x.version e.event e.incarnation e.call in
+    let delivered : (m : Message) → e.event ≡ event.Deliver m → may_rebuild w.shape.version ≡ false → IsEarly m = λ m is never. (early_run s before w (ap (λ (x : ShapeFields). may_rebuild x.version) is_of ∙ never) so_far).1 m (delivered-known w e.event m known is) in
+    let named_in = event-named w e.incarnation (subst IsShape is_of shape) fit.incarnation_in e.event e.call known fit.event_in fit.incarnation_named fit.call_in fit.call_named delivered in
+    let sent : may_rebuild s.version ≡ false → All IsEarly e.sends = λ never. All-last (λ (d : EntryFields). All IsEarly d.sends) before e (early_run s (before ++ e ∷ []) mid never longer).0 in
+    let first : IsServedEntry s.version e = record { event_in = subst here (sym is_of) named_in; reply_in = fit.reply_in; sends_in = messages-served s.version e.sends fit.sends_in sent } in
+    All-cons (IsServedEntry s.version) e es first (leads-served s (before ++ e ∷ []) mid v es shape (is_of ∙ sym same) longer leads.2 (All-tail FitsEntry e es fits))
+  where
+    All-last : (P : EntryFields → Type 0) (xs : List EntryFields) (x : EntryFields) → All P (xs ++ x ∷ []) → P x
+    All-last P [] x all = all 0 x (omega arith)
+    All-last P (y ∷ ys) x all = All-last P ys x (All-tail P y (ys ++ x ∷ []) all)
 
-answer-in : (reply : Option (CallId × Reply)) → IfSome reply IsServedAnswer → All IsServedLine (answer_lines reply)
-answer-in None good = All-nil IsServedLine
-answer-in (Some answer) good = All-cons IsServedLine (Answer answer.0 answer.1) [] good (All-nil IsServedLine)
+answer-in : (version : Version) (reply : Option (CallId × Reply)) → IfSome reply IsServedAnswer → All (IsServedLine version) (answer_lines reply)
+answer-in version None good = All-nil (IsServedLine version)
+answer-in version (Some answer) good = All-cons (IsServedLine version) (Answer answer.0 answer.1) [] good (All-nil (IsServedLine version))
 
-sends-in : (sends : List Message) → All IsServedMessage sends → All IsServedLine (map Send sends)
-sends-in [] good = All-nil IsServedLine
-sends-in (m ∷ ms) good = All-cons IsServedLine (Send m) (map Send ms) (All-head IsServedMessage m ms good) (sends-in ms (All-tail IsServedMessage m ms good))
+sends-in : (version : Version) (sends : List Message) → All (IsServedMessage version) sends → All (IsServedLine version) (map Send sends)
+sends-in version [] good = All-nil (IsServedLine version)
+sends-in version (m ∷ ms) good = All-cons (IsServedLine version) (Send m) (map Send ms) (All-head (IsServedMessage version) m ms good) (sends-in version ms (All-tail (IsServedMessage version) m ms good))
 
 -- entries with the names in their events, which are written from this position on
-record Named (position : ℕ) (es : List EntryFields) : Type 0 where
+record Named (version : Version) (position : ℕ) (es : List EntryFields) : Type 0 where
   entries : List NamedEntry
   same : es ≡ map entry_in entries
-  lines_in : All IsServedLine (lines_of position entries)
+  lines_in : All (IsServedLine version) (lines_of position entries)
 
-entries-named : (position : ℕ) (es : List EntryFields) → 1 ≤ position → position + length es ≤ 4294967296 → All IsServedEntry es → Named position es
-entries-named position [] from to good = record { entries = []; same = refl; lines_in = All-nil IsServedLine }
-entries-named position (e ∷ es) from to good =
-    let first = All-head IsServedEntry e es good in
-    let rest = entries-named (position + 1) es (omega arith) (omega arith) (All-tail IsServedEntry e es good) in
+entries-named : (version : Version) (position : ℕ) (es : List EntryFields) → 1 ≤ position → position + length es ≤ 4294967296 → All (IsServedEntry version) es → Named version position es
+entries-named version position [] from to good = record { entries = []; same = refl; lines_in = All-nil (IsServedLine version) }
+entries-named version position (e ∷ es) from to good =
+    let first = All-head (IsServedEntry version) e es good in
+    let rest = entries-named version (position + 1) es (omega arith) (omega arith) (All-tail (IsServedEntry version) e es good) in
     let one : NamedEntry = record { event = first.event_in.name; reply = e.reply; sends = e.sends } in
-    let tail = All-append IsServedLine (answer_lines e.reply) (map Send e.sends) (answer-in e.reply first.reply_in) (sends-in e.sends first.sends_in) in
-    let lines = All-cons IsServedLine (Entry position first.event_in.name) (answer_lines e.reply ++ map Send e.sends) ((from, omega arith), first.event_in.event_in) tail in
+    let tail = All-append (IsServedLine version) (answer_lines e.reply) (map Send e.sends) (answer-in version e.reply first.reply_in) (sends-in version e.sends first.sends_in) in
+    let lines = All-cons (IsServedLine version) (Entry position first.event_in.name) (answer_lines e.reply ++ map Send e.sends) ((from, omega arith), first.event_in.event_in) tail in
     let is : e ≡ entry_in one = λ i. record { event = first.event_in.event_is i; incarnation = first.event_in.incarnation_is i; call = first.event_in.call_is i; reply = e.reply; sends = e.sends } in
     record {
       entries = one ∷ rest.entries;
       same = λ i. is i ∷ rest.same i;
-      lines_in = All-append IsServedLine (entry_lines position one) (lines_of (position + 1) rest.entries) lines rest.lines_in;
+      lines_in = All-append (IsServedLine version) (entry_lines position one) (lines_of (position + 1) rest.entries) lines rest.lines_in;
     }
 
-entries-served : (s : ShapeFields) (es : List EntryFields) → IsShape s → length es ≤ 4294967295 → All IsServedEntry es → IsServedJournal s es
+entries-served : (s : ShapeFields) (es : List EntryFields) → IsShape s → length es ≤ 4294967295 → All (IsServedEntry s.version) es → IsServedJournal s es
 entries-served s es shape few good =
-    let n = entries-named 1 es (omega arith) (omega arith) good in
+    let n = entries-named s.version 1 es (omega arith) (omega arith) good in
     let count : length n.entries ≡ length es = sym (length-map n.entries entry_in) ∙ sym (ap length n.same) in
     record {
       named = n.entries;
       same = n.same;
       shape_in = shape;
-      lines_in = All-append IsServedLine (lines_of 1 n.entries) (End (length n.entries) ∷ []) n.lines_in
-          (All-cons IsServedLine (End (length n.entries)) [] (subst (λ (k : ℕ). k ≤ 4294967295) (sym count) few) (All-nil IsServedLine));
+      lines_in = All-append (IsServedLine s.version) (lines_of 1 n.entries) (End (length n.entries) ∷ []) n.lines_in
+          (All-cons (IsServedLine s.version) (End (length n.entries)) [] (subst (λ (k : ℕ). k ≤ 4294967295) (sym count) few) (All-nil (IsServedLine s.version)));
     }
 
 -- what is printed of a run is read as that run
 pub read-run : (s : ShapeFields) (es : List EntryFields) → IsShape s → length es ≤ journal_limit → IsRun s es → All FitsEntry es → WritesJournal (journal_text s es) s es
 read-run s es shape few run fits =
-    read-printed s es (entries-served s es shape (omega (arith, few)) (leads-served (first_world s) run.0 es shape run.1 fits))
+    read-printed s es (entries-served s es shape (omega (arith, few)) (leads-served s [] (first_world s) run.0 es shape refl refl run.1 fits))

@@ -64,11 +64,11 @@ rest version answers = pair_text call_text reply_text
 rest version sends = message_text version
 rest version ends = decimal
 
-abbrev pub Fit : (k : LineKind) → Operands k → Type 0
-Fit entries = Both IsPosition IsServedEvent
-Fit answers = Both IsCall IsServedReply
-Fit sends = IsServedMessage
-Fit ends = IsCount
+abbrev pub Fit : Version → (k : LineKind) → Operands k → Type 0
+Fit version entries = Both IsPosition (IsServedEvent version)
+Fit version answers = Both IsCall IsServedReply
+Fit version sends = IsServedMessage version
+Fit version ends = IsCount
 
 pub position_words : AreWords decimal IsPosition
 position_words n fits = Lacks-decimal n (omega (arith, fits.1))
@@ -79,8 +79,8 @@ apart-position = apart-number 4294967295 (omega arith)
 apart-count : AreApart decimal IsCount
 apart-count m n m_in n_in e = decimal_injective m n (omega (arith, m_in)) (omega (arith, n_in)) e
 
-apart-rest : (version : Version) (k : LineKind) → AreApart (rest version k) (Fit k)
-apart-rest version entries = apart-pair decimal (named_text version) IsPosition IsServedEvent position_words apart-position (apart-event version)
+apart-rest : (version : Version) (k : LineKind) → AreApart (rest version k) (Fit version k)
+apart-rest version entries = apart-pair decimal (named_text version) IsPosition (IsServedEvent version) position_words apart-position (apart-event version)
 apart-rest version answers = apart-pair call_text reply_text IsCall IsServedReply call_words apart-call apart-reply
 apart-rest version sends = apart-message version
 apart-rest version ends = apart-count
@@ -103,11 +103,11 @@ operands_of (Answer call reply) = (call, reply)
 operands_of (Send message) = message
 operands_of (End count) = count
 
-pub fit : (x : JournalLine) → IsServedLine x → Fit (kind_of x) (operands_of x)
-fit (Entry position event) served = (served.0, served.1)
-fit (Answer call reply) served = (served.0, served.1)
-fit (Send message) served = served
-fit (End count) served = served
+pub fit : (version : Version) (x : JournalLine) → IsServedLine version x → Fit version (kind_of x) (operands_of x)
+fit version (Entry position event) served = (served.0, served.1)
+fit version (Answer call reply) served = (served.0, served.1)
+fit version (Send message) served = served
+fit version (End count) served = served
 
 pub made : (x : JournalLine) → make (kind_of x) (operands_of x) ≡ x
 made (Entry position event) = refl
@@ -117,7 +117,7 @@ pub written : (version : Version) (x : JournalLine) → line_text version x ≡ 
 written version (Entry position event) = refl
 written version x = refl
 
-abbrev pub lines : (version : Version) → Kinds JournalLine (line_text version) IsServedLine
+abbrev pub lines : (version : Version) → Kinds JournalLine (line_text version) (IsServedLine version)
 lines version = record {
   Kind = LineKind;
   Operands = Operands;
@@ -125,20 +125,20 @@ lines version = record {
   table = table;
   told = told;
   rest = rest version;
-  Fit = Fit;
+  Fit = Fit version;
   kind_of = kind_of;
   operands_of = operands_of;
-  fit = fit;
+  fit = fit version;
   written = written version;
   make = make;
   made = made;
 }
 
-pub apart-line : (version : Version) → AreApart (line_text version) IsServedLine
+pub apart-line : (version : Version) → AreApart (line_text version) (IsServedLine version)
 apart-line version = apart-kinds (lines version) (apart-rest version)
 
 -- one word is no line with operands
-pub no_line_alone : (version : Version) (word : List ℕ) → IsOneField word → Reads (line_text version) IsServedLine word None
+pub no_line_alone : (version : Version) (word : List ℕ) → IsOneField word → Reads (line_text version) (IsServedLine version) word None
 no_line_alone version word one (Entry position event) served e = one (codes "entry") _ (one-word (codes "entry") refl) e
 no_line_alone version word one (Answer call reply) served e = one (codes "reply") _ (one-word (codes "reply") refl) e
 no_line_alone version word one (Send message) served e = one (codes "send") _ (one-word (codes "send") refl) e
@@ -146,7 +146,7 @@ no_line_alone version word one (End count) served e = one (codes "end") _ (one-w
 
 -- a word of none of them is no line, whatever stands behind it
 pub no_line_with : (version : Version) (word operands : List ℕ) → Lacks space word → word ≢ codes "entry" → word ≢ codes "reply" → word ≢ codes "send" → word ≢ codes "end"
-    → Reads (line_text version) IsServedLine (word ++ space ∷ operands) None
+    → Reads (line_text version) (IsServedLine version) (word ++ space ∷ operands) None
 no_line_with version word operands lacks no_entry no_reply no_send no_end (Entry position event) served e = no_entry (first-word word (codes "entry") operands _ lacks refl e)
 no_line_with version word operands lacks no_entry no_reply no_send no_end (Answer call reply) served e = no_reply (first-word word (codes "reply") operands _ lacks refl e)
 no_line_with version word operands lacks no_entry no_reply no_send no_end (Send message) served e = no_send (first-word word (codes "send") operands _ lacks refl e)

@@ -6,15 +6,16 @@ use Rattle.model.specs.declared.owner.Kind.{Kind}
 use Rattle.model.specs.declared.owner.Kind.TheVariants.{OfProcess, OfDescription}
 use Rattle.model.specs.declared.owner.Owner.{Owner}
 use Rattle.model.specs.Limits.{IsCall, IsNumber, IsOwner, most_nodes, most_of}
+use Rattle.messages.specs.Epochs.{IsEpoch}
 use Rattle.texts.specs.Reads.{Reads}
 use Rattle.lockscript.specs.Texts.{call_text, host_text, owner_letter, owner_text}
 use Rattle.texts.proofs.FieldValues.{apart-number}
 use Rattle.journal_text.proofs.Fronts.{Kinds, apart-kinds}
 use Rattle.texts.proofs.Pairs.{AllLack, AreApart, apart-joined}
 use Rattle.texts.proofs.SingleWords.{decimal-lacks}
-use Rattle.journal_text.specs.Parts.{AreCallParts, AreCounted, AreNodeParts, AreNumbered, at_sign, call_parts_text, counted_text, dot, node_parts_text, numbered_text}
-use Rattle.journal_text.specs.Served.{IsCommandNumber, IsHolder}
-use Rattle.journal_text.specs.Texts.{holder_text}
+use Rattle.journal_text.specs.Parts.{AreCallParts, AreCounted, AreNodeParts, AreNumbered, AreServerParts, at_sign, call_parts_text, counted_text, node_parts_text, numbered_text}
+use Rattle.journal_text.specs.Served.{IsCounted, IsFile, IsHolder}
+use Rattle.journal_text.specs.Texts.{dot, holder_text, server_text}
 use Rattle.journal_text.proofs.Views.{Views, view-apart}
 
 -- numbers have no dot and no `@`
@@ -25,10 +26,13 @@ pub at_sign-lacks : (most : ℕ) → most < 2 ^ 64 → AllLack at_sign decimal (
 at_sign-lacks most small n fits = decimal-lacks at_sign (λ d low high e. omega (arith, high, e)) n (omega (arith, fits.1, small))
 
 apart-counted : AreApart counted_text AreCounted
-apart-counted = apart-joined dot decimal decimal (IsNumber 65535) IsCommandNumber (dot-lacks 65535 (omega arith)) (apart-number 65535 (omega arith)) (apart-number 4294967295 (omega arith))
+apart-counted = apart-joined dot decimal decimal (IsNumber 65535) IsCounted (dot-lacks 65535 (omega arith)) (apart-number 65535 (omega arith)) (apart-number 4294967295 (omega arith))
 
 apart-node_parts : AreApart node_parts_text AreNodeParts
 apart-node_parts = apart-joined dot decimal decimal (IsNumber most_nodes) (IsNumber 65535) (dot-lacks most_nodes (omega arith)) (apart-number most_nodes (omega arith)) (apart-number 65535 (omega arith))
+
+pub apart-server : AreApart server_text AreServerParts
+apart-server = apart-joined dot decimal decimal IsFile IsEpoch (dot-lacks 256 (omega arith)) (apart-number 256 (omega arith)) (apart-number 65535 (omega arith))
 
 apart-call_parts : AreApart call_parts_text AreCallParts
 apart-call_parts = apart-joined dot decimal counted_text (IsNumber most_nodes) AreCounted (dot-lacks most_nodes (omega arith)) (apart-number most_nodes (omega arith)) apart-counted

@@ -6,7 +6,7 @@ use Rattle.std.proofs.lemmas.List.{append-nil}
 use Rattle.model.specs.declared.call.CallId.{CallId}
 use Rattle.model.specs.declared.reply.Reply.{Reply}
 use Rattle.messages.specs.Entries.{EntryFields}
-use Rattle.messages.specs.Shapes.{IsShape, ShapeFields}
+use Rattle.messages.specs.Shapes.{ShapeFields}
 use Rattle.messages.specs.declared.message.Message.{Message}
 use Rattle.texts.specs.LineFeeds.{line_feed, BeginsWithLine}
 use Rattle.lockscript.proofs.Feeds.{line_feeds-line}
@@ -116,8 +116,8 @@ written-same : (lines : List (List ℕ)) (s t : ShapeFields) (es fs : List Named
 written-same lines s t es fs a b =
     let both = sym a.texts ∙ b.texts in
     let first = heads (head_text s) (head_text t) (map (line_text s.version) (body_lines es)) (map (line_text t.version) (body_lines fs)) both in
-    let rest = one-version s t (map (line_text s.version) (body_lines es)) (body_lines fs) a.shape_in b.shape_in both in
-    (apart-head s t a.shape_in b.shape_in first, entries-same es fs (lines-same s.version (body_lines es) (body_lines fs) a.lines_in b.lines_in rest))
+    let rest = one-version s t (map (line_text s.version) (body_lines es)) (body_lines fs) a.shape_in b.shape_in b.lines_in both in
+    (apart-head s t a.shape_in b.shape_in first, entries-same es fs (lines-same s.version (body_lines es) (body_lines fs) a.lines_in rest.1 rest.0))
 
 journal-once : (text : List ℕ) (s t : ShapeFields) (es fs : List NamedEntry) (a : IsJournalText text s es) (b : IsJournalText text t fs) → Further a.lines b.lines [] [] → (s ≡ t) × (map entry_in es ≡ map entry_in fs)
 journal-once text s t es fs a b f =

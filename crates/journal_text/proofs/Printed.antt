@@ -73,9 +73,9 @@ lines-printed s es =
 pub journal-printed : (text : List ℕ) (s : ShapeFields) (es : List NamedEntry) → IsJournalText text s es → text ≡ journal_text s (map entry_in es)
 journal-printed text s es j = j.whole.parts ∙ ap (λ (ls : List (List ℕ)). flat_map ended ls ++ []) j.writes.texts ∙ lines-printed s es
 
-lines-single : (v : Version) (js : List JournalLine) → All IsServedLine js → All IsSingle (map (line_text v) js)
+lines-single : (v : Version) (js : List JournalLine) → All (IsServedLine v) js → All IsSingle (map (line_text v) js)
 lines-single v [] served = All-nil IsSingle
-lines-single v (j ∷ js) served = All-cons IsSingle (line_text v j) (map (line_text v) js) (line-single v j (All-head IsServedLine j js served)) (lines-single v js (All-tail IsServedLine j js served))
+lines-single v (j ∷ js) served = All-cons IsSingle (line_text v j) (map (line_text v) js) (line-single v j (All-head (IsServedLine v) j js served)) (lines-single v js (All-tail (IsServedLine v) j js served))
 
 -- a journal within the limits is read of the text that it is printed as
 pub read-printed : (s : ShapeFields) (es : List EntryFields) → IsServedJournal s es → WritesJournal (journal_text s es) s es

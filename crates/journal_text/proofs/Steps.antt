@@ -14,6 +14,7 @@ use Rattle.journal_text.specs.declared.place.Phase.{Phase}
 use Rattle.journal_text.specs.declared.place.Phase.TheVariants.{Empty, Begun, Sending, Ended}
 use Rattle.journal_text.specs.declared.place.Place.{Place}
 use Rattle.journal_text.specs.Built.{BuilderFields, built, fields}
+use Rattle.messages.specs.declared.version.Version.{Version}
 use Rattle.journal_text.specs.Lines.{IsCount, IsServedLine}
 use Rattle.journal_text.specs.Places.{after_answer, after_end, after_entry, after_send, next_place, place, start}
 use Rattle.journal_text.specs.Readings.{answer_lines, body_lines, entry_in, entry_lines, lines_of}
@@ -129,7 +130,7 @@ pub record Further (r : Reading) (j : JournalLine) (q : Place) : Type 0 where
   pub lines : read_lines reading ≡ read_lines r ++ j ∷ []
   pub stands : place_of reading ≡ q
   pub made : built_of reading ≡ built (built_of r) j
-  pub fits : IsServedLine j → IsCount (place_of r).count → IsCount (place_of reading).count
+  pub fits : (version : Version) → IsServedLine version j → IsCount (place_of r).count → IsCount (place_of reading).count
 
 entry-further : (es : List NamedEntry) (old : NamedEntry) (position : ℕ) (event : NamedEvent) → position ≡ length es + 1 + 1 → lines_of 1 ((es ++ old ∷ []) ++ named event None [] ∷ []) ≡ lines_of 1 (es ++ old ∷ []) ++ Entry position event ∷ []
 entry-further es old position event e =
@@ -143,7 +144,7 @@ answer-further es event None [] call reply q e = record {
   lines = last-more es (named event None []) (named event (Some (call, reply)) []) (Answer call reply) (λ k. refl);
   stands = some-same (place (length es + 1) Sending) q e;
   made = refl;
-  fits = λ served before. before;
+  fits = λ version served before. before;
 }
 answer-further es event None (m ∷ ms) call reply q e = absurd (none-some q e)
 answer-further es event (Some answer) sends call reply q e = absurd (none-some q e)
@@ -159,7 +160,7 @@ further nothing (Entry position event) q e =
       lines = ap (λ (k : ℕ). Entry k event ∷ []) one;
       stands = ap (λ (k : ℕ). place k Begun) counted ∙ found.1;
       made = refl;
-      fits = λ served before. omega (arith, served.0.1, counted);
+      fits = λ version served before. omega (arith, served.0.1, counted);
     }
 further nothing (Answer call reply) q e = absurd (none-some q e)
 further nothing (Send message) q e = absurd (none-some q e)
@@ -172,7 +173,7 @@ further nothing (End told) q e =
       lines = ap (λ (k : ℕ). End k ∷ []) (counted ∙ sym none);
       stands = ap (λ (k : ℕ). place k Ended) counted ∙ found.1;
       made = refl;
-      fits = λ served before. omega (arith, counted);
+      fits = λ version served before. omega (arith, counted);
     }
 further (some es old reply sends) (Entry position event) q e =
     let found = if-some (eqb position (length es + 1 + 1)) (place position Begun) q (sym (entry-open (length es + 1) (phase_of reply sends) position (phase_of-open reply sends)) ∙ e) in
@@ -184,7 +185,7 @@ further (some es old reply sends) (Entry position event) q e =
       lines = entry-further es last position event next;
       stands = ap (λ (k : ℕ). place k Begun) counted ∙ found.1;
       made = ap (λ (x : List EntryFields). fields x (Some (named event None []))) (map-append entry_in es (last ∷ []));
-      fits = λ served before. omega (arith, served.0.1, counted);
+      fits = λ version served before. omega (arith, served.0.1, counted);
     }
 further (some es old before sends) (Answer call reply) q e = answer-further es old before sends call reply q e
 further (some es old reply sends) (Send message) q e =
@@ -194,7 +195,7 @@ further (some es old reply sends) (Send message) q e =
       lines = last-more es (named old reply sends) (named old reply (sends ++ message ∷ [])) (Send message) (send-more old reply sends message);
       stands = ap (place (length es + 1)) (phase_of-send reply sends message) ∙ same;
       made = refl;
-      fits = λ served before. before;
+      fits = λ version served before. before;
     }
 further (some es old reply sends) (End told) q e =
     let found = if-some (eqb told (length es + 1)) (place (length es + 1) Ended) q (sym (end-open (length es + 1) (phase_of reply sends) told (phase_of-open reply sends)) ∙ e) in
@@ -206,7 +207,7 @@ further (some es old reply sends) (End told) q e =
       lines = ap (λ (k : ℕ). lines_of 1 (es ++ last ∷ []) ++ End k ∷ []) (counted ∙ sym next);
       stands = ap (λ (k : ℕ). place k Ended) counted ∙ found.1;
       made = ap (λ (x : List EntryFields). fields x None) (map-append entry_in es (last ∷ []));
-      fits = λ served before. omega (arith, before, counted);
+      fits = λ version served before. omega (arith, before, counted);
     }
 further (whole es) (Entry position event) q e = absurd (none-some q e)
 further (whole es) (Answer call reply) q e = absurd (none-some q e)

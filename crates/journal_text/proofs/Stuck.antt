@@ -11,16 +11,16 @@ use Rattle.journal_text.specs.Places.{IsMisplaced, StandsNext, next_place}
 use Rattle.journal_text.proofs.LineKinds.{apart-line}
 
 -- no line
-pub misplaced-none : (version : Version) (p : Place) (bytes : List ℕ) → Reads (line_text version) IsServedLine bytes None → IsMisplaced version p bytes
+pub misplaced-none : (version : Version) (p : Place) (bytes : List ℕ) → Reads (line_text version) (IsServedLine version) bytes None → IsMisplaced version p bytes
 misplaced-none version p bytes none j served e = absurd (none j served e)
 
 -- a line that may not stand here
-pub misplaced-line : (version : Version) (p : Place) (bytes : List ℕ) (j : JournalLine) → IsServedLine j → bytes ≡ line_text version j → next_place p.count p.phase j ≡ None → IsMisplaced version p bytes
+pub misplaced-line : (version : Version) (p : Place) (bytes : List ℕ) (j : JournalLine) → IsServedLine version j → bytes ≡ line_text version j → next_place p.count p.phase j ≡ None → IsMisplaced version p bytes
 misplaced-line version p bytes j j_in text none k k_in e =
     subst (λ (x : JournalLine). next_place p.count p.phase x ≡ None) (apart-line version j k j_in k_in (sym text ∙ e)) none
 
 -- a line that may
-pub stands-next : (version : Version) (p : Place) (rest bytes after : List ℕ) (j : JournalLine) (q : Place) → BeginsWithLine rest bytes after → IsServedLine j → bytes ≡ line_text version j → next_place p.count p.phase j ≡ Some q → StandsNext version p rest j q after
+pub stands-next : (version : Version) (p : Place) (rest bytes after : List ℕ) (j : JournalLine) (q : Place) → BeginsWithLine rest bytes after → IsServedLine version j → bytes ≡ line_text version j → next_place p.count p.phase j ≡ Some q → StandsNext version p rest j q after
 stands-next version p rest bytes after j q begins j_in text next = record {
   begins = subst (λ (x : List ℕ). BeginsWithLine rest x after) text begins;
   served = j_in;

@@ -1,13 +1,15 @@
 -- Events with the names that their entries give them.
-use Rattle.std.specs.Prelude.{ℕ, List, Option, Some, None}
+use Rattle.std.specs.Prelude.{◌≡◌, ℕ, true, List, Option, Some, None}
 use Rattle.model.specs.declared.call.CallId.{CallId}
 use Rattle.model.specs.Limits.{IsCall, IsNumber, most_processes}
+use Rattle.messages.specs.Epochs.{IsEpoch}
+use Rattle.messages.specs.Versions.{may_rebuild}
 use Rattle.messages.specs.declared.version.Version.{Version}
 use Rattle.messages.specs.declared.event.Event.{Event}
 use Rattle.messages.specs.declared.event.Event.TheVariants as event
 use Rattle.lockscript.specs.Served.{IsServedOp}
 use Rattle.journal_text.specs.declared.named_event.NamedEvent.{NamedEvent}
-use Rattle.journal_text.specs.declared.named_event.NamedEvent.TheVariants.{Call, Deliver, Interrupt, Retry, Resend, Declare, Restart, Learn}
+use Rattle.journal_text.specs.declared.named_event.NamedEvent.TheVariants.{Call, Deliver, Interrupt, Retry, Resend, Declare, Restart, Learn, FailServer, StartServer}
 use Rattle.journal_text.specs.Served.{IsFile, IsHolder, IsServedMessage}
 use Rattle.journal_text.specs.Texts.{event_text}
 
@@ -20,13 +22,17 @@ event_of (Resend file) = event.Resend file
 event_of (Declare host) = event.Declare host.node
 event_of (Restart host) = event.Restart host.node
 event_of (Learn file host) = event.Learn file host.node host.incarnation
+event_of (FailServer file epoch) = event.FailServer file
+event_of (StartServer file epoch) = event.StartServer file
 
--- the incarnation that an entry of the event names, 0 for none
+-- the incarnation, of a server the epoch, that an entry of the event names, 0 for none
 abbrev pub incarnation_of : NamedEvent → ℕ
 incarnation_of (Interrupt host pid) = host.incarnation
 incarnation_of (Retry host pid) = host.incarnation
 incarnation_of (Declare host) = host.incarnation
 incarnation_of (Restart host) = host.incarnation
+incarnation_of (FailServer file epoch) = epoch
+incarnation_of (StartServer file epoch) = epoch
 incarnation_of _ = 0
 
 -- the call that an entry of the event names
@@ -37,13 +43,15 @@ call_of _ = None
 abbrev pub named_text : Version → NamedEvent → List ℕ
 named_text version e = event_text version (event_of e) (incarnation_of e) (call_of e)
 
--- numbers within their limits
-abbrev pub IsServedEvent : NamedEvent → Type 0
-IsServedEvent (Call call pid op) = IsCall call × IsNumber most_processes pid × IsServedOp op
-IsServedEvent (Deliver message) = IsServedMessage message
-IsServedEvent (Interrupt host pid) = IsHolder host × IsNumber most_processes pid
-IsServedEvent (Retry host pid) = IsHolder host × IsNumber most_processes pid
-IsServedEvent (Resend file) = IsFile file
-IsServedEvent (Declare host) = IsHolder host
-IsServedEvent (Restart host) = IsHolder host
-IsServedEvent (Learn file host) = IsFile file × IsHolder host
+-- numbers within their limits; servers fail and are rebuilt in no version in which none may
+abbrev pub IsServedEvent : Version → NamedEvent → Type 0
+IsServedEvent version (Call call pid op) = IsCall call × IsNumber most_processes pid × IsServedOp op
+IsServedEvent version (Deliver message) = IsServedMessage version message
+IsServedEvent version (Interrupt host pid) = IsHolder host × IsNumber most_processes pid
+IsServedEvent version (Retry host pid) = IsHolder host × IsNumber most_processes pid
+IsServedEvent version (Resend file) = IsFile file
+IsServedEvent version (Declare host) = IsHolder host
+IsServedEvent version (Restart host) = IsHolder host
+IsServedEvent version (Learn file host) = IsFile file × IsHolder host
+IsServedEvent version (FailServer file epoch) = (may_rebuild version ≡ true) × IsFile file × IsEpoch epoch
+IsServedEvent version (StartServer file epoch) = (may_rebuild version ≡ true) × IsFile file × IsEpoch epoch

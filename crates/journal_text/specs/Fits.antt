@@ -9,6 +9,8 @@ use Rattle.model.specs.Limits.{IsCall}
 use Rattle.messages.specs.Entries.{EntryFields, NamesItsCall, NamesItsIncarnation}
 use Rattle.messages.specs.declared.event.Event.{Event}
 use Rattle.messages.specs.declared.event.Event.TheVariants.{Call, Deliver, Learn}
+use Rattle.messages.specs.declared.message.Message.{Message}
+use Rattle.messages.specs.declared.version.Version.TheVariants.{Second}
 use Rattle.lockscript.specs.Served.{IsDescriptor}
 use Rattle.journal_text.specs.Served.{IsServedMessage, IsServedReply}
 
@@ -26,9 +28,13 @@ FitsOp _ = ⊤
 abbrev pub FitsIncarnation : ℕ → Type 0
 FitsIncarnation incarnation = incarnation ≤ 65535
 
+-- a message that version 2 writes
+abbrev pub FitsMessage : Message → Type 0
+FitsMessage = IsServedMessage Second
+
 abbrev pub FitsEvent : Event → Type 0
 FitsEvent (Call node pid op) = FitsOp op
-FitsEvent (Deliver message) = IsServedMessage message
+FitsEvent (Deliver message) = FitsMessage message
 FitsEvent (Learn file node incarnation) = FitsIncarnation incarnation
 FitsEvent _ = ⊤
 
@@ -44,4 +50,4 @@ pub record FitsEntry (e : EntryFields) : Type 0 where
   pub call_in : IfSome e.call IsCall
   pub call_named : NamesItsCall e.event e.call
   pub reply_in : IfSome e.reply IsServedAnswer
-  pub sends_in : All IsServedMessage e.sends
+  pub sends_in : All FitsMessage e.sends

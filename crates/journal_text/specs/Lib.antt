@@ -1,5 +1,7 @@
 pub mod Texts
 pub mod Served
+pub mod Reports
+pub mod Forms
 pub mod Fits
 pub mod Parts
 pub mod Events

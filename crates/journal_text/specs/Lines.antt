@@ -25,8 +25,8 @@ line_text version (Send message) = codes "send " ++ message_text version message
 line_text version (End count) = codes "end " ++ decimal count
 
 -- its numbers are within their limits
-abbrev pub IsServedLine : JournalLine → Type 0
-IsServedLine (Entry position event) = IsPosition position × IsServedEvent event
-IsServedLine (Answer call reply) = IsCall call × IsServedReply reply
-IsServedLine (Send message) = IsServedMessage message
-IsServedLine (End count) = IsCount count
+abbrev pub IsServedLine : Version → JournalLine → Type 0
+IsServedLine version (Entry position event) = IsPosition position × IsServedEvent version event
+IsServedLine version (Answer call reply) = IsCall call × IsServedReply reply
+IsServedLine version (Send message) = IsServedMessage version message
+IsServedLine version (End count) = IsCount count

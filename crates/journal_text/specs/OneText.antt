@@ -21,14 +21,14 @@ pub record IsServedJournal (s : ShapeFields) (es : List EntryFields) : Type 0 wh
   pub named : List NamedEntry
   pub same : es ≡ map entry_in named
   pub shape_in : IsShape s
-  pub lines_in : All IsServedLine (body_lines named)
+  pub lines_in : All (IsServedLine s.version) (body_lines named)
 
 -- the texts of journals of each version, and of what stands in them
 pub record EachTextHasOneValue : Type 0 where
-  pub messages : (version : Version) → HasOneValue (message_text version) IsServedMessage
-  pub events : (version : Version) → HasOneValue (named_text version) IsServedEvent
+  pub messages : (version : Version) → HasOneValue (message_text version) (IsServedMessage version)
+  pub events : (version : Version) → HasOneValue (named_text version) (IsServedEvent version)
   pub replies : HasOneValue reply_text IsServedReply
-  pub lines : (version : Version) → HasOneValue (line_text version) IsServedLine
+  pub lines : (version : Version) → HasOneValue (line_text version) (IsServedLine version)
   pub journals : (s t : ShapeFields) (es fs : List EntryFields) → IsServedJournal s es → IsServedJournal t fs → journal_text s es ≡ journal_text t fs → (s ≡ t) × (es ≡ fs)
 
 -- what is printed of a journal within the limits is read as that journal

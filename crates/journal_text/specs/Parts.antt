@@ -5,15 +5,12 @@ use Rattle.model.specs.declared.host.Host.{Host}
 use Rattle.model.specs.declared.mode.Mode.{Mode}
 use Rattle.model.specs.declared.owner.Owner.{Owner}
 use Rattle.model.specs.Limits.{IsNumber, IsOwner, most_nodes}
+use Rattle.messages.specs.Epochs.{IsEpoch}
 use Rattle.texts.specs.Reads.{Both, joined_text, pair_text}
 use Rattle.lockscript.specs.Texts.{owner_text}
 use Rattle.texts.specs.Words.{mode_text}
-use Rattle.journal_text.specs.Served.{IsCommandNumber, IsHolder, IsServedSpan}
-use Rattle.journal_text.specs.Texts.{holder_text, span_text}
-
--- `.`
-abbrev pub dot : ℕ
-dot = 46
+use Rattle.journal_text.specs.Served.{IsCounted, IsFile, IsHolder, IsServedSpan}
+use Rattle.journal_text.specs.Texts.{dot, holder_text, span_text}
 
 -- `@`
 abbrev pub at_sign : ℕ
@@ -26,12 +23,16 @@ node_parts_text = joined_text dot decimal decimal
 abbrev pub AreNodeParts : ℕ × ℕ → Type 0
 AreNodeParts = Both (IsNumber most_nodes) (IsNumber 65535)
 
+-- a file and the epoch of its server
+abbrev pub AreServerParts : ℕ × ℕ → Type 0
+AreServerParts = Both IsFile IsEpoch
+
 -- an incarnation and the number of a call
 abbrev pub counted_text : ℕ × ℕ → List ℕ
 counted_text = joined_text dot decimal decimal
 
 abbrev pub AreCounted : ℕ × ℕ → Type 0
-AreCounted = Both (IsNumber 65535) IsCommandNumber
+AreCounted = Both (IsNumber 65535) IsCounted
 
 -- a node, its incarnation and the number of a call
 abbrev pub call_parts_text : ℕ × (ℕ × ℕ) → List ℕ

@@ -46,7 +46,7 @@ next_place count phase (End told) = after_end count phase told
 
 -- the bytes write no line that may stand here
 abbrev pub IsMisplaced : Version → Place → List ℕ → Type 0
-IsMisplaced version p bytes = (j : JournalLine) → IsServedLine j → bytes ≡ line_text version j → next_place p.count p.phase j ≡ None
+IsMisplaced version p bytes = (j : JournalLine) → IsServedLine version j → bytes ≡ line_text version j → next_place p.count p.phase j ≡ None
 
 -- no line comes next here, and the last one is missing where nothing is left, or the line that comes next may not stand here
 pub data IsStuck (version : Version) (p : Place) (rest : List ℕ) : Type 0 where
@@ -56,5 +56,5 @@ pub data IsStuck (version : Version) (p : Place) (rest : List ℕ) : Type 0 wher
 -- the rest begins with this line, which may stand here
 pub record StandsNext (version : Version) (p : Place) (rest : List ℕ) (j : JournalLine) (q : Place) (after : List ℕ) : Type 0 where
   pub begins : BeginsWithLine rest (line_text version j) after
-  pub served : IsServedLine j
+  pub served : IsServedLine version j
   pub next : next_place p.count p.phase j ≡ Some q

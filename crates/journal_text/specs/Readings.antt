@@ -40,7 +40,7 @@ body_lines es = lines_of 1 es ++ End (length es) ∷ []
 pub record Writes (lines : List (List ℕ)) (s : ShapeFields) (es : List NamedEntry) : Type 0 where
   pub texts : lines ≡ head_text s ∷ map (line_text s.version) (body_lines es)
   pub shape_in : IsShape s
-  pub lines_in : All IsServedLine (body_lines es)
+  pub lines_in : All (IsServedLine s.version) (body_lines es)
 
 -- the text is whole lines, and then the rest
 pub record Passes (text : List ℕ) (lines : List (List ℕ)) (rest : List ℕ) : Type 0 where

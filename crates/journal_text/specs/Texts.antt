@@ -1,20 +1,23 @@
 -- Texts of messages and events.
-use Rattle.std.specs.Prelude.{ℕ, List, [], ◌++◌, codes, decimal, Option, Some, None}
+use Rattle.std.specs.Prelude.{ℕ, ◌-◌, List, [], ◌∷◌, ◌++◌, codes, decimal, flat_map, length, Option, Some, None}
 use Rattle.intervals.specs.Bytes.{Range}
 use Rattle.model.specs.declared.call.CallId.{CallId}
 use Rattle.model.specs.declared.host.Host.{Host}
+use Rattle.messages.specs.Epochs.{begin_of, epoch_of}
 use Rattle.messages.specs.Wants.{Wants}
 use Rattle.messages.specs.declared.event.Event.{Event}
-use Rattle.messages.specs.declared.event.Event.TheVariants.{Call, Deliver, Interrupt, Retry, Resend, Declare, Restart, Learn}
+use Rattle.messages.specs.declared.event.Event.TheVariants.{Call, Deliver, Interrupt, Retry, Resend, Declare, Restart, Learn, FailServer, StartServer}
 use Rattle.messages.specs.declared.message.Message.{Message}
-use Rattle.messages.specs.declared.message.Message.TheVariants.{Request, Grant, Revoke, Taken, Released, Conflict, Deny, Freed}
+use Rattle.messages.specs.declared.message.Message.TheVariants.{Request, Grant, Revoke, Taken, Released, Conflict, Deny, Freed, Hello, Report}
 use Rattle.messages.specs.declared.message.Urgency.{Urgency}
 use Rattle.messages.specs.declared.message.Urgency.TheVariants.{Now, Waits}
+use Rattle.messages.specs.declared.token_run.TokenRun.{TokenRun}
 use Rattle.messages.specs.declared.version.Version.{Version}
 use Rattle.messages.specs.declared.version.Version.TheVariants.{First, Second}
-use Rattle.texts.specs.Reads.{after_text, pair_text}
+use Rattle.texts.specs.Layout.{space}
+use Rattle.texts.specs.Reads.{joined_text, pair_text}
 use Rattle.lockscript.specs.Texts.{call_text, host_text, lock_text, op_text}
-use Rattle.texts.specs.Words.{mode_text}
+use Rattle.texts.specs.Words.{level_text, mode_text}
 
 abbrev pub urgency_text : Urgency → List ℕ
 urgency_text Now = codes "now"
@@ -31,14 +34,30 @@ span_text s = pair_text decimal decimal (s.lo, s.hi)
 abbrev pub wants_text : Wants → List ℕ
 wants_text w = pair_text span_text span_text (w.required, w.desired)
 
--- what stands before the number of a command: in version 2 the epoch of the server, which is 1
-abbrev pub epoch_text : Version → List ℕ
-epoch_text First = []
-epoch_text Second = codes "1 "
-
--- the number of a command, with the epoch where the version has one, and what follows
+-- the number of a command, and what follows: in version 2 the epoch of the server, the number in the epoch, and what follows
 abbrev pub command_text : {A : Type 0} → Version → (A → List ℕ) → ℕ × A → List ℕ
-command_text version text = after_text (epoch_text version) (pair_text decimal text)
+command_text First text c = pair_text decimal text c
+command_text Second text c = pair_text decimal (pair_text decimal text) (epoch_of c.0, (c.0 - begin_of c.0, c.1))
+
+-- the epoch that begins after the number
+abbrev pub epoch_text : ℕ → List ℕ
+epoch_text number = decimal (epoch_of number)
+
+-- the level of a run, and its first and last byte
+abbrev pub run_text : TokenRun → List ℕ
+run_text r = pair_text level_text span_text (r.level, r.span)
+
+-- how many runs there are, and each of them
+abbrev pub runs_text : List TokenRun → List ℕ
+runs_text runs = decimal (length runs) ++ flat_map (λ r. space ∷ run_text r) runs
+
+-- `.`
+abbrev pub dot : ℕ
+dot = 46
+
+-- the server of a file in one epoch
+abbrev pub server_text : ℕ × ℕ → List ℕ
+server_text = joined_text dot decimal decimal
 
 abbrev pub message_text : Version → Message → List ℕ
 message_text version (Request file call urgency mode wanted) =
@@ -57,6 +76,10 @@ message_text version (Deny file call holder number lock) =
     codes "deny " ++ pair_text decimal (pair_text call_text (pair_text holder_text (command_text version lock_text))) (file, (call, (holder, (number, lock))))
 message_text version (Freed file holder) =
     codes "freed " ++ pair_text decimal holder_text (file, holder)
+message_text version (Hello file number holder) =
+    codes "hello " ++ pair_text decimal (pair_text epoch_text holder_text) (file, (number, holder))
+message_text version (Report file number holder runs) =
+    codes "report " ++ pair_text decimal (pair_text epoch_text (pair_text holder_text runs_text)) (file, (number, (holder, runs)))
 
 -- an event, with the incarnation and the call that its entry names; a call without its name, which no entry has, is written nowhere
 abbrev pub event_text : Version → Event → ℕ → Option CallId → List ℕ
@@ -69,3 +92,5 @@ event_text version (Resend file) incarnation call = codes "resend " ++ decimal f
 event_text version (Declare node) incarnation call = codes "declare " ++ host_text node incarnation
 event_text version (Restart node) incarnation call = codes "restart " ++ host_text node incarnation
 event_text version (Learn file node known) incarnation call = codes "learn " ++ pair_text decimal (host_text node) (file, known)
+event_text version (FailServer file) incarnation call = codes "fail-server " ++ server_text (file, incarnation)
+event_text version (StartServer file) incarnation call = codes "start-server " ++ server_text (file, incarnation)

@@ -5,15 +5,16 @@ ghost use Rattle.messages.specs.Shapes.{ShapeFields};
 ghost use Rattle.journal_text.specs.Built.{answered, begun, built, closed, fields, sending};
 ghost use Rattle.journal_text.specs.Events.{event_of, incarnation_of};
 ghost use Rattle.journal_text.specs.Lines.{IsServedLine};
+ghost use Rattle.messages.specs.declared.version.Version.{Version};
 ghost use Rattle.journal_text.specs.Readings.{entry_in};
 
 use crate::lines::JournalLine;
 use crate::named_entry::NamedEntry;
 use crate::named_event::NamedEvent;
 use crate::sink::Sink;
+use crate::written_message::WrittenMessage;
 use messages::entry::Entry;
 use messages::items::Items;
-use messages::message::Message;
 use messages::outcome::Outcome;
 use model::call::CallId;
 use model::reply::Reply;
@@ -22,11 +23,11 @@ use std::marker::Model;
 
 /// The entry that may have more lines, if there is one. Those that are whole go to a sink.
 #[derive(Drop)]
-pub(crate) struct Builder {
-    last: Option<NamedEntry>,
+pub(crate) struct Builder<'a> {
+    last: Option<NamedEntry<'a>>,
 }
 
-impl Model for Builder {
+impl<'a> Model for Builder<'a> {
     ghost use Rattle.std.specs.Prelude.{Option};
     ghost use Rattle.journal_text.specs.declared.named_entry.NamedEntry.{NamedEntry};
     ghost use Rattle.journal_text.specs.Built.{IsOpen};
@@ -38,9 +39,9 @@ impl Model for Builder {
     ghost invariant = { λ b. IsOpen b.last };
 }
 
-impl Builder {
+impl<'a> Builder<'a> {
     /// No entry.
-    pub(crate) fn new() -> Builder
+    pub(crate) fn new() -> Builder<'a>
         ensures { result ≡ None }
     {
         Builder { last: None }
@@ -53,12 +54,12 @@ impl Builder {
     pub(crate) fn take<K: Sink>(
         &mut self,
         alloc: Global,
-        line: JournalLine,
+        line: JournalLine<'a>,
         sink: &mut K,
     ) -> Result<(), AllocError>
-        requires { IsServedLine line }
-        ensures taken { OnOk result ((s : ShapeFields) (es : List EntryFields) → K.took sink.old s es → K.took sink.new s (built (fields es self.old) line).entries) }
-        ensures last { OnOk result (self.new ≡ (built (fields [] self.old) line).last) }
+        requires { (version : Version) × IsServedLine version line }
+        ensures taken { OnOk result ((s : ShapeFields) (es : List EntryFields) → K.took sink.old s es → K.took sink.new s (built (fields es self.old) line.entry).entries) }
+        ensures last { OnOk result (self.new ≡ (built (fields [] self.old) line.entry).last) }
     {
         match line {
             JournalLine::Entry { position: _, event } => {
@@ -71,7 +72,7 @@ impl Builder {
                 Ok(())
             }
             JournalLine::Send(message) => {
-                self.last = sending(message, self.last.take())?;
+                self.last = sending(alloc, message, self.last.take())?;
                 Ok(())
             }
             JournalLine::End { count: _ } => self.close(alloc, sink),
@@ -84,15 +85,15 @@ impl Builder {
         ensures last { self.new ≡ None }
     {
         match self.last.take() {
-            Some(named) => sink.take(alloc, entry_of(named)),
+            Some(named) => sink.take(alloc, entry_of(alloc, named)?),
             None => Ok(()),
         }
     }
 }
 
 // An entry of which nothing but the event is known.
-fn begun(alloc: Global, event: NamedEvent) -> NamedEntry
-    ensures { result ≡ begun event }
+fn begun(alloc: Global, event: NamedEvent<'_>) -> NamedEntry<'_>
+    ensures { result ≡ begun event.entry }
 {
     NamedEntry {
         event,
@@ -102,8 +103,8 @@ fn begun(alloc: Global, event: NamedEvent) -> NamedEntry
 }
 
 // The entry with this answer.
-fn answered(answer: (CallId, Reply), named: Option<NamedEntry>) -> Option<NamedEntry>
-    ensures { result ≡ answered answer named }
+fn answered<'a>(answer: (CallId, Reply), named: Option<NamedEntry<'a>>) -> Option<NamedEntry<'a>>
+    ensures { result ≡ answered answer named.entry }
 {
     let mut entry = named?;
     entry.reply = Some(answer);
@@ -111,26 +112,31 @@ fn answered(answer: (CallId, Reply), named: Option<NamedEntry>) -> Option<NamedE
 }
 
 // The entry with this message.
-fn sending(message: Message, named: Option<NamedEntry>) -> Result<Option<NamedEntry>, AllocError>
-    ensures { IfOk result (λ made. made ≡ sending message named) }
+fn sending<'a>(
+    alloc: Global,
+    message: WrittenMessage<'a>,
+    named: Option<NamedEntry<'a>>,
+) -> Result<Option<NamedEntry<'a>>, AllocError>
+    ensures { IfOk result (λ made. made ≡ sending message.entry named.entry) }
 {
     let Some(mut entry) = named else {
         return Ok(None);
     };
-    entry.sends.push(message)?;
+    entry.sends.push(message.message(alloc)?)?;
     Ok(Some(entry))
 }
 
 // The entry without the names in its event.
-fn entry_of(named: NamedEntry) -> Entry
+fn entry_of(alloc: Global, named: NamedEntry<'_>) -> Result<Entry, AllocError>
     requires { NamesItsIncarnation (event_of named.event) (incarnation_of named.event) }
-    ensures { result ≡ entry_in named }
+    ensures { IfOk result (λ entry. entry ≡ entry_in named.entry) }
 {
     let event = named.event;
+    let incarnation = event.incarnation();
     let outcome = Outcome {
         call: event.call(),
         reply: named.reply,
         sends: named.sends,
     };
-    Entry::at_node(event.event(), event.incarnation(), outcome)
+    Ok(Entry::at_node(event.event(alloc)?, incarnation, outcome))
 }

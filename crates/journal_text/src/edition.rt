@@ -2,35 +2,36 @@
 ghost use Rattle.std.specs.Prelude.{◌≡◌};
 ghost use Rattle.messages.specs.declared.version.Version.{Version};
 ghost use Rattle.messages.specs.declared.version.Version.TheVariants.{First, Second};
-ghost use Rattle.journal_text.specs.Texts.{epoch_text};
+
+use messages::version::Version;
 
 /// A version of journals.
 pub(crate) trait Edition {
     ghost version: { Version };
 
-    /// What stands before the number of a command.
-    fn epoch() -> &'static str
-        ensures { result.now ≡ epoch_text version };
+    /// It.
+    fn version() -> Version
+        ensures { result ≡ version };
 }
 
-/// Version 1, in which no epoch is written.
+/// Version 1, in which no epoch is written, and no server is rebuilt.
 pub(crate) struct FirstEdition;
 
 impl Edition for FirstEdition {
     ghost version = { First };
 
-    fn epoch() -> &'static str {
-        ""
+    fn version() -> Version {
+        Version::First
     }
 }
 
-/// Version 2, in which the epoch of the server is written, which is 1.
+/// Version 2, in which the epochs of servers are written.
 pub(crate) struct SecondEdition;
 
 impl Edition for SecondEdition {
     ghost version = { Second };
 
-    fn epoch() -> &'static str {
-        "1 "
+    fn version() -> Version {
+        Version::Second
     }
 }

@@ -1,25 +1,30 @@
 //! The fields of lines.
-ghost use Rattle.std.specs.Prelude.{decimal, ⊤, refl};
+ghost use Rattle.std.specs.Prelude.{◌≡◌, ◌≢◌, ◌++◌, ◌∷◌, ℕ, List, decimal, string_bytes, MatchOption, OnOk, ⊤, refl};
 ghost use Rattle.std.proofs.Common.{arith};
 ghost use Rattle.messages.specs.declared.message.Urgency.TheVariants.{Now, Waits};
 ghost use Rattle.model.specs.Limits.{IsCall, IsOwner};
 ghost use Rattle.texts.specs.OneField.{decimal_is_one_field};
-ghost use Rattle.texts.specs.Reads.{Both};
+ghost use Rattle.messages.specs.Epochs.{IsRebuilt};
+ghost use Rattle.messages.specs.declared.version.Version.TheVariants.{First, Second};
+ghost use Rattle.texts.specs.Layout.{space};
+ghost use Rattle.texts.specs.Reads.{Both, Reads};
 ghost use Rattle.lockscript.specs.Texts.{call_text, lock_text, owner_text, reply_text};
-ghost use Rattle.journal_text.specs.OneField.{call_is_one_field, holder_is_one_field};
+ghost use Rattle.journal_text.specs.OneField.{call_is_one_field, epoch_is_one_field, holder_is_one_field};
 ghost use Rattle.journal_text.specs.Served.{AreServedWants, IsCommandNumber, IsFile, IsHolder, IsServedLock, IsServedReply, IsServedSpan};
-ghost use Rattle.journal_text.specs.Texts.{command_text, holder_text, span_text, urgency_text, wants_text};
+ghost use Rattle.journal_text.specs.Texts.{command_text, epoch_text, holder_text, span_text, urgency_text, wants_text};
 
 use crate::edition::Edition;
-use crate::parts::{Counted, call_of, host_of, owner_of};
+use crate::parts::{Counted, EpochField, RebuiltField, call_of, host_of, owner_of};
 use crate::replies::reply_of;
 use crate::spans::{lock_of, span_of, wants_of};
 use intervals::span::Span;
 use lockscript::fields::FileField;
 use lockscript::names::{push_call, push_host, push_lock, push_owner, push_reply};
 use messages::command_number::CommandNumber;
+use messages::epoch_number::EpochNumber;
 use messages::file_number::FileNumber;
 use messages::message::Urgency;
+use messages::version::Version;
 use messages::wanted::Wanted;
 use model::call::CallId;
 use model::host::Host;
@@ -29,7 +34,7 @@ use model::reply::Reply;
 use std::alloc::AllocError;
 use std::fmt::Write;
 use std::marker::PhantomData;
-use texts::text::{Text, Word, after};
+use texts::text::{Text, Word, split_field};
 
 /// The number of a file that messages name.
 pub(crate) struct FileName;
@@ -58,31 +63,31 @@ impl Word for FileName {
     ghost is_one_field = { λ n served. decimal_is_one_field n (Prim.omega (arith, served.1)) };
 }
 
-/// The number of a command.
-pub(crate) struct CommandName;
+/// The epoch of a server that was rebuilt.
+pub(crate) struct EpochName;
 
-impl Text for CommandName {
-    type Value = CommandNumber;
+impl Text for EpochName {
+    type Value = EpochNumber;
 
-    ghost text_of = { decimal };
+    ghost text_of = { epoch_text };
 
-    ghost is_served = { IsCommandNumber };
+    ghost is_served = { IsRebuilt };
 
-    fn read(text: &str) -> Option<CommandNumber> {
-        match Counted::read(text) {
-            Some(number) => Some(CommandNumber::of(number)),
+    fn read(text: &str) -> Option<EpochNumber> {
+        match RebuiltField::read(text) {
+            Some(epoch) => Some(EpochNumber::of(epoch)),
             None => None,
         }
     }
 
-    fn write(value: &CommandNumber, out: &mut String) -> Result<(), AllocError> {
-        let number = value.get();
-        write!(out, "{number}")
+    fn write(value: &EpochNumber, out: &mut String) -> Result<(), AllocError> {
+        let epoch = value.epoch();
+        write!(out, "{epoch}")
     }
 }
 
-impl Word for CommandName {
-    ghost is_one_field = { λ n served. decimal_is_one_field n (Prim.omega (arith, served.1)) };
+impl Word for EpochName {
+    ghost is_one_field = { epoch_is_one_field };
 }
 
 /// `E K` in a version with epochs, else `K`, and what follows: the number of a command, with the epoch
@@ -96,19 +101,61 @@ impl<V: Edition, B: Text> Text for Numbered<V, B> {
 
     ghost text_of = { command_text V.version B.text_of };
 
-    ghost is_served = { Both IsCommandNumber B.is_served };
+    ghost is_served = { Both (IsCommandNumber V.version) B.is_served };
 
     fn read(text: &str) -> Option<(CommandNumber, B::Value)> {
-        match after(text, V::epoch()) {
-            Some(rest) => <(CommandName, B)>::read(rest),
-            None => None,
+        match V::version() {
+            Version::First => of_first_epoch::<B>(text),
+            Version::Second => of_epoch::<B>(text),
         }
     }
 
     fn write(value: &(CommandNumber, B::Value), out: &mut String) -> Result<(), AllocError> {
-        out.push_str(V::epoch())?;
-        <(CommandName, B)>::write(value, out)
+        push_number(out, V::version(), value.0)?;
+        B::write(&value.1, out)
     }
+}
+
+// The number of a command of the first epoch, and what follows.
+fn of_first_epoch<B: Text>(text: &str) -> Option<(CommandNumber, B::Value)>
+    ensures { Reads (command_text First B.text_of) (Both (IsCommandNumber First) B.is_served) text.now result }
+{
+    let (number, rest) = <(Counted, B)>::read(text)?;
+    Some((CommandNumber::of(1, number), rest))
+}
+
+// The epoch of a command, its number in that, and what follows.
+fn of_epoch<B: Text>(text: &str) -> Option<(CommandNumber, B::Value)>
+    ensures { Reads (command_text Second B.text_of) (Both (IsCommandNumber Second) B.is_served) text.now result }
+{
+    let (epoch, (number, rest)) = <(EpochField, (Counted, B))>::read(text)?;
+    Some((CommandNumber::of(epoch, number), rest))
+}
+
+// Writes the number of a command, and a space.
+fn push_number(out: &mut String, version: Version, number: CommandNumber) -> Result<(), AllocError>
+    ensures { OnOk result ((rest : List ℕ) → string_bytes out.new ++ rest ≡ string_bytes out.old ++ command_text version (λ (bytes : List ℕ). bytes) (number, rest)) }
+{
+    match version {
+        Version::First => {
+            let count = number.get();
+            write!(out, "{count} ")
+        }
+        Version::Second => {
+            let epoch = number.epoch();
+            let number = number.number();
+            write!(out, "{epoch} {number} ")
+        }
+    }
+}
+
+/// The value that the first field of a text writes, and what stands behind the space after it.
+pub(crate) fn first_field<A: Word>(text: &str) -> Option<(A::Value, &str)>
+    ensures { MatchOption result ((x : A.Value) (rest : List ℕ) → A.is_served x → text.now ≢ A.text_of x ++ space ∷ rest) (λ found. A.is_served found.0 × (text.now ≡ A.text_of found.0 ++ space ∷ found.1.now)) }
+{
+    let (word, rest) = split_field(text)?;
+    let value = A::read(word)?;
+    Some((value, rest))
 }
 
 /// `N.I`.

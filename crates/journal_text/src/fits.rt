@@ -1,17 +1,22 @@
 //! What the types of the parts of an entry hold it to. These functions only say it: they change nothing.
 ghost use Rattle.std.specs.Prelude.{All, IfSome};
 ghost use Rattle.model.specs.Limits.{IsCall};
+ghost use Rattle.messages.specs.Epochs.{IsCommand, IsRebuilt};
 ghost use Rattle.messages.specs.Entries.{NamesItsCall, NamesItsIncarnation};
 ghost use Rattle.lockscript.specs.Served.{IsDescriptor};
-ghost use Rattle.journal_text.specs.Fits.{FitsEntry, FitsEvent, FitsIncarnation, FitsOp, IsServedAnswer};
-ghost use Rattle.journal_text.specs.Served.{AreServedWants, IsCommandNumber, IsHolder, IsServedLock, IsServedMessage, IsServedReply, IsServedSpan};
+ghost use Rattle.journal_text.specs.Fits.{FitsEntry, FitsEvent, FitsIncarnation, FitsMessage, FitsOp, IsServedAnswer};
+ghost use Rattle.journal_text.specs.Served.{AreServedRuns, AreServedWants, IsHolder, IsServedLock, IsServedReply, IsServedSpan};
 
 use intervals::span::Span;
 use messages::command_number::CommandNumber;
 use messages::entry::Entry;
+use messages::epoch_number::EpochNumber;
 use messages::event::Event;
 use messages::message::Message;
-use messages::message::Message::{Conflict, Deny, Freed, Grant, Released, Request, Revoke, Taken};
+use messages::message::Message::{
+    Conflict, Deny, Freed, Grant, Hello, Released, Report, Request, Revoke, Taken,
+};
+use messages::token_run::{TokenRun, TokenRuns};
 use messages::wanted::Wanted;
 use model::call::CallId;
 use model::host::Host;
@@ -26,7 +31,7 @@ fn call_fits(call: CallId)
 }
 
 fn command_fits(command: CommandNumber, call: CallId)
-    ensures { IsCommandNumber command × IsCall call }
+    ensures { IsCommand command × IsCall call }
 {
     let _number = command.get();
     call_fits(call);
@@ -67,7 +72,7 @@ fn request_fits(call: CallId, wanted: Wanted)
 }
 
 fn revoke_fits(number: CommandNumber, call: CallId, wanted: Wanted)
-    ensures command { IsCommandNumber number × IsCall call }
+    ensures command { IsCommand number × IsCall call }
     ensures wanted { AreServedWants wanted }
 {
     command_fits(number, call);
@@ -75,7 +80,7 @@ fn revoke_fits(number: CommandNumber, call: CallId, wanted: Wanted)
 }
 
 fn grant_fits(number: CommandNumber, call: CallId, span: Span)
-    ensures command { IsCommandNumber number × IsCall call }
+    ensures command { IsCommand number × IsCall call }
     ensures span { IsServedSpan span }
 {
     command_fits(number, call);
@@ -83,27 +88,47 @@ fn grant_fits(number: CommandNumber, call: CallId, span: Span)
 }
 
 fn conflict_fits(number: CommandNumber, call: CallId, lock: LockInfo)
-    ensures command { IsCommandNumber number × IsCall call }
+    ensures command { IsCommand number × IsCall call }
     ensures lock { IsServedLock lock }
 {
     command_fits(number, call);
     lock_fits(lock);
 }
 
+fn epoch_fits(number: EpochNumber)
+    ensures { IsRebuilt number }
+{
+    let _number = number.get();
+}
+
+fn run_fits(run: &TokenRun)
+    ensures { IsServedSpan run.now.span }
+{
+    span_fits(run.span);
+}
+
+fn runs_fit(runs: &TokenRuns)
+    ensures { AreServedRuns runs.now }
+{
+    for run in runs.as_slice() {
+        run_fits(run);
+    }
+}
+
 fn message_fits(message: &Message)
-    ensures { IsServedMessage message.now }
+    ensures { FitsMessage message.now }
 {
     let _file = message.file();
     host_fits(message.host());
-    match *message {
-        Request { call, wanted, .. } => request_fits(call, wanted),
+    match message {
+        Request { call, wanted, .. } => request_fits(*call, *wanted),
         Revoke {
             number,
             call,
             wanted,
             ..
-        } => revoke_fits(number, call, wanted),
-        Taken { number, call, .. } => command_fits(number, call),
+        } => revoke_fits(*number, *call, *wanted),
+        Taken { number, call, .. } => command_fits(*number, *call),
         Grant {
             number,
             call,
@@ -115,13 +140,13 @@ fn message_fits(message: &Message)
             call,
             span,
             ..
-        } => grant_fits(number, call, span),
+        } => grant_fits(*number, *call, *span),
         Conflict {
             number,
             call,
             lock,
             ..
-        } => conflict_fits(number, call, lock),
+        } => conflict_fits(*number, *call, *lock),
         Deny {
             holder,
             number,
@@ -129,10 +154,15 @@ fn message_fits(message: &Message)
             lock,
             ..
         } => {
-            host_fits(holder);
-            conflict_fits(number, call, lock);
+            host_fits(*holder);
+            conflict_fits(*number, *call, *lock);
         }
         Freed { .. } => (),
+        Hello { number, .. } => epoch_fits(*number),
+        Report { number, runs, .. } => {
+            epoch_fits(*number);
+            runs_fit(runs);
+        }
     }
 }
 
@@ -176,12 +206,13 @@ fn op_fits(op: Op)
     let _op = op;
 }
 
-fn event_fits(event: Event)
-    ensures { FitsEvent event }
+fn event_fits(event: &Event)
+    ensures { FitsEvent event.now }
 {
     match event {
-        Event::Call { op, .. } => op_fits(op),
-        Event::Deliver(message) => message_fits(&message),
+        Event::Call { op, .. } => op_fits(*op),
+        Event::Deliver(message) => message_fits(message),
+        Event::Learn { incarnation, .. } => incarnation_fits(*incarnation),
         _ => (),
     }
 }
@@ -201,7 +232,7 @@ fn name_fits(call: Option<CallId>)
 }
 
 fn messages_fit(messages: &[Message])
-    ensures { All IsServedMessage messages.now }
+    ensures { All FitsMessage messages.now }
 {
     for message in messages {
         message_fits(message);

@@ -118,7 +118,7 @@ pub fn push_entry(
     push_event(
         out,
         version,
-        &entry.event(),
+        entry.event(),
         entry.incarnation(),
         &entry.call(),
     )?;

@@ -20,6 +20,8 @@ mod parts;
 pub mod place;
 mod reader;
 pub mod replies;
+mod reports;
 pub mod sink;
 mod spans;
 pub mod writing;
+pub mod written_message;

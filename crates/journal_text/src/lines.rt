@@ -10,28 +10,36 @@ use crate::message::message_in;
 use crate::named_event::NamedEvent;
 use crate::operands::AnswerFields;
 use crate::parts::Counted;
-use messages::message::Message;
+use crate::written_message::WrittenMessage;
 use messages::version::Version;
 use model::call::CallId;
 use model::reply::Reply;
 use texts::text::{Text, split_field};
 
 /// A line of a journal behind the first.
-#[derive(Clone, Copy)]
-pub enum JournalLine {
+#[derive(Drop)]
+pub enum JournalLine<'a> {
     /// An entry begins, with its event.
-    Entry { position: u32, event: NamedEvent },
+    Entry {
+        position: u32,
+        event: NamedEvent<'a>,
+    },
     /// The entry answers a call.
-    Answer { call: CallId, reply: Reply },
+    Answer {
+        call: CallId,
+        reply: Reply,
+    },
     /// The entry sends a message.
-    Send(Message),
+    Send(WrittenMessage<'a>),
     /// The journal has so many entries.
-    End { count: u32 },
+    End {
+        count: u32,
+    },
 }
 
 /// What a line behind the first says in a journal of this version.
-pub fn line_of(version: Version, line: &str) -> Option<JournalLine>
-    ensures { Reads (line_text version) IsServedLine line.now result }
+pub fn line_of(version: Version, line: &str) -> Option<JournalLine<'_>>
+    ensures { Reads (line_text version) (IsServedLine version) line.now result }
 {
     match version {
         Version::First => line_in::<FirstEdition>(line),
@@ -40,8 +48,8 @@ pub fn line_of(version: Version, line: &str) -> Option<JournalLine>
 }
 
 // What a line behind the first says in a journal of the version.
-fn line_in<V: Edition>(line: &str) -> Option<JournalLine>
-    ensures { Reads (line_text V.version) IsServedLine line.now result }
+fn line_in<V: Edition>(line: &str) -> Option<JournalLine<'_>>
+    ensures { Reads (line_text V.version) (IsServedLine V.version) line.now result }
 {
     match split_field(line) {
         Some((word, operands)) => line_with::<V>(word, operands),
@@ -50,9 +58,9 @@ fn line_in<V: Edition>(line: &str) -> Option<JournalLine>
 }
 
 // The line of this word, with these operands.
-fn line_with<V: Edition>(word: &str, operands: &str) -> Option<JournalLine>
+fn line_with<'a, V: Edition>(word: &str, operands: &'a str) -> Option<JournalLine<'a>>
     requires { Lacks space word.now }
-    ensures { Reads (line_text V.version) IsServedLine (word.now ++ space ∷ operands.now) result }
+    ensures { Reads (line_text V.version) (IsServedLine V.version) (word.now ++ space ∷ operands.now) result }
 {
     match word {
         "entry" => entry_line::<V>(operands),
@@ -64,8 +72,8 @@ fn line_with<V: Edition>(word: &str, operands: &str) -> Option<JournalLine>
 }
 
 // `entry` with these operands.
-fn entry_line<V: Edition>(operands: &str) -> Option<JournalLine>
-    ensures { Reads (line_text V.version) IsServedLine (codes "entry " ++ operands.now) result }
+fn entry_line<V: Edition>(operands: &str) -> Option<JournalLine<'_>>
+    ensures { Reads (line_text V.version) (IsServedLine V.version) (codes "entry " ++ operands.now) result }
 {
     match split_field(operands) {
         Some((position, event)) => entry_of::<V>(position, event),
@@ -74,9 +82,9 @@ fn entry_line<V: Edition>(operands: &str) -> Option<JournalLine>
 }
 
 // `entry POS EVENT`.
-fn entry_of<V: Edition>(word: &str, rest: &str) -> Option<JournalLine>
+fn entry_of<'a, V: Edition>(word: &str, rest: &'a str) -> Option<JournalLine<'a>>
     requires { Lacks space word.now }
-    ensures { Reads (line_text V.version) IsServedLine (codes "entry " ++ (word.now ++ space ∷ rest.now)) result }
+    ensures { Reads (line_text V.version) (IsServedLine V.version) (codes "entry " ++ (word.now ++ space ∷ rest.now)) result }
 {
     let position = Counted::read(word)?;
     let event = event_in::<V>(rest)?;
@@ -84,24 +92,24 @@ fn entry_of<V: Edition>(word: &str, rest: &str) -> Option<JournalLine>
 }
 
 // `reply` with these operands.
-fn reply_line<V: Edition>(operands: &str) -> Option<JournalLine>
-    ensures { Reads (line_text V.version) IsServedLine (codes "reply " ++ operands.now) result }
+fn reply_line<V: Edition>(operands: &str) -> Option<JournalLine<'_>>
+    ensures { Reads (line_text V.version) (IsServedLine V.version) (codes "reply " ++ operands.now) result }
 {
     let (call, reply) = AnswerFields::read(operands)?;
     Some(JournalLine::Answer { call, reply })
 }
 
 // `send` with these operands.
-fn send_line<V: Edition>(operands: &str) -> Option<JournalLine>
-    ensures { Reads (line_text V.version) IsServedLine (codes "send " ++ operands.now) result }
+fn send_line<V: Edition>(operands: &str) -> Option<JournalLine<'_>>
+    ensures { Reads (line_text V.version) (IsServedLine V.version) (codes "send " ++ operands.now) result }
 {
     let message = message_in::<V>(operands)?;
     Some(JournalLine::Send(message))
 }
 
 // `end` with these operands.
-fn end_line<V: Edition>(operands: &str) -> Option<JournalLine>
-    ensures { Reads (line_text V.version) IsServedLine (codes "end " ++ operands.now) result }
+fn end_line<V: Edition>(operands: &str) -> Option<JournalLine<'_>>
+    ensures { Reads (line_text V.version) (IsServedLine V.version) (codes "end " ++ operands.now) result }
 {
     let count = u32::read(operands)?;
     Some(JournalLine::End { count })

@@ -7,8 +7,8 @@ use model::reply::Reply;
 
 /// An entry of a journal, whose event has its names in it.
 #[derive(Drop)]
-pub struct NamedEntry {
-    pub event: NamedEvent,
+pub struct NamedEntry<'a> {
+    pub event: NamedEvent<'a>,
     pub reply: Option<(CallId, Reply)>,
     pub sends: Items<Message>,
 }

@@ -1,20 +1,21 @@
 //! Events with the names that their entries give them.
-ghost use Rattle.std.specs.Prelude.{◌≡◌};
+ghost use Rattle.std.specs.Prelude.{◌≡◌, IfOk};
 ghost use Rattle.journal_text.specs.Events as named;
 
+use crate::written_message::WrittenMessage;
 use messages::event::Event;
-use messages::message::Message;
 use model::call::CallId;
 use model::host::Host;
 use model::op::Op;
+use std::alloc::{AllocError, Global};
 
-/// An event with the incarnation, or the call, that its entry names.
-#[derive(Clone, Copy)]
-pub enum NamedEvent {
+/// An event with the incarnation, the epoch or the call that its entry names.
+#[derive(Drop)]
+pub enum NamedEvent<'a> {
     /// A process makes a call, which takes this name.
     Call { call: CallId, pid: u16, op: Op },
     /// A message comes to its addressee.
-    Deliver(Message),
+    Deliver(WrittenMessage<'a>),
     /// The wait of a process is interrupted.
     Interrupt { host: Host, pid: u16 },
     /// The open call of a process is tried again.
@@ -27,40 +28,49 @@ pub enum NamedEvent {
     Restart { host: Host },
     /// The token server of a file learns that this incarnation of a node was declared.
     Learn { file: u16, host: Host },
+    /// The token server of a file is declared failed in this epoch.
+    FailServer { file: u16, epoch: u16 },
+    /// The token server of a file is rebuilt, with this epoch.
+    StartServer { file: u16, epoch: u16 },
 }
 
-impl NamedEvent {
+impl NamedEvent<'_> {
     /// The event without those names.
-    pub fn event(&self) -> Event
-        ensures { result ≡ named.event_of self.now }
+    ///
+    /// # Errors
+    /// `AllocError` where a request for memory was refused.
+    pub fn event(self, alloc: Global) -> Result<Event, AllocError>
+        ensures { IfOk result (λ event. event ≡ named.event_of self.entry) }
     {
-        match self {
+        Ok(match self {
             NamedEvent::Call { call, pid, op } => Event::Call {
                 node: call.node,
-                pid: *pid,
-                op: *op,
+                pid,
+                op,
             },
-            NamedEvent::Deliver(message) => Event::Deliver(*message),
+            NamedEvent::Deliver(message) => Event::Deliver(message.message(alloc)?),
             NamedEvent::Interrupt { host, pid } => Event::Interrupt {
                 node: host.node,
-                pid: *pid,
+                pid,
             },
             NamedEvent::Retry { host, pid } => Event::Retry {
                 node: host.node,
-                pid: *pid,
+                pid,
             },
-            NamedEvent::Resend { file } => Event::Resend { file: *file },
+            NamedEvent::Resend { file } => Event::Resend { file },
             NamedEvent::Declare { host } => Event::Declare { node: host.node },
             NamedEvent::Restart { host } => Event::Restart { node: host.node },
             NamedEvent::Learn { file, host } => Event::Learn {
-                file: *file,
+                file,
                 node: host.node,
                 incarnation: host.incarnation,
             },
-        }
+            NamedEvent::FailServer { file, .. } => Event::FailServer { file },
+            NamedEvent::StartServer { file, .. } => Event::StartServer { file },
+        })
     }
 
-    /// The incarnation that the event's entry names, 0 for none.
+    /// The incarnation, of a server the epoch, that the event's entry names, 0 for none.
     pub fn incarnation(&self) -> u16
         ensures { result ≡ named.incarnation_of self.now }
     {
@@ -69,6 +79,7 @@ impl NamedEvent {
             | NamedEvent::Retry { host, .. }
             | NamedEvent::Declare { host }
             | NamedEvent::Restart { host } => host.incarnation,
+            NamedEvent::FailServer { epoch, .. } | NamedEvent::StartServer { epoch, .. } => *epoch,
             NamedEvent::Call { .. }
             | NamedEvent::Deliver(_)
             | NamedEvent::Resend { .. }
@@ -88,7 +99,9 @@ impl NamedEvent {
             | NamedEvent::Resend { .. }
             | NamedEvent::Declare { .. }
             | NamedEvent::Restart { .. }
-            | NamedEvent::Learn { .. } => None,
+            | NamedEvent::Learn { .. }
+            | NamedEvent::FailServer { .. }
+            | NamedEvent::StartServer { .. } => None,
         }
     }
 }

@@ -1,6 +1,7 @@
 //! The fields of messages, and of other lines of journals.
 use crate::fields::{
-    CallName, FileName, HostName, LockText, Numbered, ReplyText, SpanText, UrgencyWord, WantsText,
+    CallName, EpochName, FileName, HostName, LockText, Numbered, ReplyText, SpanText, UrgencyWord,
+    WantsText,
 };
 use lockscript::fields::{FileField, PidField};
 use lockscript::operations::Operation;
@@ -32,6 +33,9 @@ pub(crate) type DenyFields<V> = (FileName, (CallName, (HostName, Numbered<V, Loc
 
 /// `F H`.
 pub(crate) type FreedFields = (FileName, HostName);
+
+/// `F E H`, with which a report begins too.
+pub(crate) type HelloFields = (FileName, (EpochName, HostName));
 
 /// `CALL PID OP`.
 pub(crate) type CallFields = (CallName, (PidField, Operation));

@@ -16,7 +16,7 @@ use std::alloc::Global;
 
 /// The journal that the text writes: the shape of the cluster, and the entries in order. The first
 /// line is `journal V nodes N files F policy P`, where V is the version, 1 or 2. In version 2 the number of
-/// a command has the epoch of its server before it, which is 1. An entry is a line `entry POS EVENT`, with its place
+/// a command has the epoch of its server before it. An entry is a line `entry POS EVENT`, with its place
 /// from 1, at most one line `reply CALL REPLY`, and a line `send MESSAGE` for each message that it
 /// sends. The last line is `end COUNT`, with how many entries there are. Each line ends with a line
 /// feed, and none is skipped.

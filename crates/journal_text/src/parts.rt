@@ -3,11 +3,12 @@ ghost use Rattle.std.specs.Prelude.{◌≡◌, ◌≢◌, ◌∷◌, ◌++◌, L
 ghost use Rattle.model.specs.Limits.{IsCall, IsOwner, most_descriptions, most_processes};
 ghost use Rattle.texts.specs.Reads.{Lacks, Reads};
 ghost use Rattle.lockscript.specs.Texts.{call_text, owner_text};
-ghost use Rattle.journal_text.specs.Parts.{AreCallParts, AreCounted, AreNodeParts, AreNumbered, at_sign, call_parts_text, counted_text, dot, node_parts_text, numbered_text};
+ghost use Rattle.journal_text.specs.Parts.{AreCallParts, AreCounted, AreNodeParts, AreNumbered, AreServerParts, at_sign, call_parts_text, counted_text, node_parts_text, numbered_text};
 ghost use Rattle.journal_text.specs.Served.{IsHolder};
-ghost use Rattle.journal_text.specs.Texts.{holder_text};
+ghost use Rattle.journal_text.specs.Texts.{dot, holder_text, server_text};
 
-use lockscript::fields::{IncarnationField, NodeField, PidField};
+use lockscript::fields::{FileField, IncarnationField, NodeField, PidField};
+use messages::command_number::MOST_EPOCHS;
 use model::call::CallId;
 use model::host::Host;
 use model::limits::MOST_DESCRIPTIONS;
@@ -20,6 +21,12 @@ const GREATEST_NUMBER: u32 = 4_294_967_295;
 
 /// The number of a call or a command.
 pub(crate) type Counted = Medium<1, GREATEST_NUMBER>;
+
+/// The epoch of a server.
+pub(crate) type EpochField = Short<1, MOST_EPOCHS>;
+
+/// The epoch of a server that was rebuilt.
+pub(crate) type RebuiltField = Short<2, MOST_EPOCHS>;
 
 /// The number of an open file description.
 type DescriptionField = Short<1, MOST_DESCRIPTIONS>;
@@ -55,6 +62,16 @@ fn node_parts(word: &str) -> Option<(u8, u16)>
 {
     match split_dot(word) {
         Some((node, incarnation)) => NodeField::read(node).zip(IncarnationField::read(incarnation)),
+        None => None,
+    }
+}
+
+/// The file and the epoch of its server, of `F.E`.
+pub(crate) fn server_of(word: &str) -> Option<(u16, u16)>
+    ensures { Reads server_text AreServerParts word.now result }
+{
+    match split_dot(word) {
+        Some((file, epoch)) => FileField::read(file).zip(EpochField::read(epoch)),
         None => None,
     }
 }

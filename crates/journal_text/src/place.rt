@@ -44,7 +44,7 @@ impl Place {
     }
 
     /// The place behind a line, if the line may stand here.
-    pub(crate) fn behind(self, line: &JournalLine) -> Option<Place>
+    pub(crate) fn behind(self, line: &JournalLine<'_>) -> Option<Place>
         ensures { result ≡ next_place self.count self.phase line.now }
     {
         match line {

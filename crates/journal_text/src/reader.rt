@@ -73,7 +73,7 @@ impl<'a> Reader<'a> {
     pub(crate) fn next_line(
         &mut self,
         version: Version,
-    ) -> Result<Option<JournalLine>, JournalError>
+    ) -> Result<Option<JournalLine<'a>>, JournalError>
         ensures line { IfOk result (λ found. MatchOption found
             ((self.new.rest.now ≡ []) × (self.new.place.phase ≡ phase.Ended) × (self.new.rest.now ≡ self.old.rest.now) × (self.new.place ≡ self.old.place))
             (λ line. StandsNext version self.old.place self.old.rest.now line self.new.place self.new.rest.now × (self.new.taken ≡ self.old.taken + 1))) }
@@ -116,9 +116,9 @@ impl<'a> Reader<'a> {
 
 // The line that the text writes in a journal of this version, and the place behind it, if it may stand
 // at this place.
-fn line_at(version: Version, place: Place, text: &str) -> Option<(JournalLine, Place)>
+fn line_at(version: Version, place: Place, text: &str) -> Option<(JournalLine<'_>, Place)>
     ensures { MatchOption result (IsMisplaced version place text.now)
-        (λ found. IsServedLine found.0 × (text.now ≡ line_text version found.0) × (next_place place.count place.phase found.0 ≡ Some found.1)) }
+        (λ found. IsServedLine version found.0 × (text.now ≡ line_text version found.0) × (next_place place.count place.phase found.0 ≡ Some found.1)) }
 {
     let line = line_of(version, text)?;
     let behind = place.behind(&line)?;

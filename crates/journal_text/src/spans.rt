@@ -13,7 +13,7 @@ use texts::number::UpTo;
 use texts::text::Text;
 
 /// The offset of a byte.
-type Offset = UpTo<GREATEST>;
+pub(crate) type Offset = UpTo<GREATEST>;
 
 /// The span of `LO HI`.
 pub(crate) fn span_of(text: &str) -> Option<Span>

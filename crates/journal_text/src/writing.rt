@@ -6,9 +6,10 @@ ghost use Rattle.journal_text.specs.Texts.{event_text, message_text};
 
 use crate::edition::{Edition, FirstEdition, SecondEdition};
 use crate::operands::{
-    CallFields, ConflictFields, DenyFields, FreedFields, GrantFields, ReleasedFields,
+    CallFields, ConflictFields, DenyFields, FreedFields, GrantFields, HelloFields, ReleasedFields,
     RequestFields, RevokeFields, TakenFields,
 };
+use crate::reports::push_runs;
 use lockscript::names::push_host;
 use messages::event::Event;
 use messages::message::Message;
@@ -107,6 +108,25 @@ fn push_message_in<V: Edition>(out: &mut String, message: &Message) -> Result<()
             out.push_str("freed ")?;
             FreedFields::write(&(*file, *holder), out)
         }
+        Message::Hello {
+            file,
+            number,
+            holder,
+        } => {
+            out.push_str("hello ")?;
+            HelloFields::write(&(*file, (*number, *holder)), out)
+        }
+        Message::Report {
+            file,
+            number,
+            holder,
+            runs,
+        } => {
+            out.push_str("report ")?;
+            HelloFields::write(&(*file, (*number, *holder)), out)?;
+            out.push_str(" ")?;
+            push_runs(out, runs)
+        }
     }
 }
 
@@ -149,6 +169,8 @@ pub(crate) fn push_event(
             write!(out, "learn {file} ")?;
             push_host(out, *node, *known)
         }
+        Event::FailServer { file } => write!(out, "fail-server {file}.{incarnation}"),
+        Event::StartServer { file } => write!(out, "start-server {file}.{incarnation}"),
     }
 }
 

@@ -10,7 +10,7 @@ use Rattle.texts.proofs.FieldValues.{apart-number}
 use Rattle.texts.proofs.FirstWords.{BeginsWithWord}
 use Rattle.texts.proofs.OfKinds.{IsKind, apart-kind}
 use Rattle.texts.proofs.Pairs.{AreApart, apart-pair}
-use Rattle.lockscript.specs.declared.script_line.Command.TheVariants.{Call, Deliver, Lose, Settle, Interrupt, Retry, Resend, Declare, Restart, Learn}
+use Rattle.lockscript.specs.declared.script_line.Command.TheVariants.{Call, Deliver, Lose, Settle, Interrupt, Retry, Resend, Declare, Restart, Learn, FailServer, StartServer}
 use Rattle.lockscript.specs.Scripts.{IsCommand, command_text, greatest_message}
 use Rattle.lockscript.specs.Served.{IsServedOp}
 use Rattle.lockscript.specs.Texts.{op_text}
@@ -44,12 +44,18 @@ restarts = record { fits = λ f fit. fit; written = λ f. refl; told = elim [ Re
 pub learns : IsKind command_text IsCommand (codes "learn ") (pair_text decimal (pair_text decimal decimal)) (Both (IsNumber most_files) (Both (IsNumber most_nodes) (IsNumber most_incarnations))) (λ (f : ℕ × (ℕ × ℕ)). Learn f.0 f.1.0 f.1.1)
 learns = record { fits = λ f fit. (fit.0, fit.1.0, fit.1.1); written = λ f. refl; told = elim [ Learn file node incarnation ↦ λ fits. inl ((file, (node, incarnation)), (fits.0, (fits.1, fits.2)), refl) | _ ↦ λ _. inr refl ] }
 
+pub fails : IsKind command_text IsCommand (codes "fail-server ") decimal (IsNumber most_files) (λ (f : ℕ). FailServer f)
+fails = record { fits = λ f fit. fit; written = λ f. refl; told = elim [ FailServer file ↦ λ fits. inl (file, fits, refl) | _ ↦ λ _. inr refl ] }
+
+pub starts : IsKind command_text IsCommand (codes "start-server ") decimal (IsNumber most_files) (λ (f : ℕ). StartServer f)
+starts = record { fits = λ f fit. fit; written = λ f. refl; told = elim [ StartServer file ↦ λ fits. inl (file, fits, refl) | _ ↦ λ _. inr refl ] }
+
 settles : IsKind command_text IsCommand (codes "settle") (λ (f : ⊤). []) (λ _. ⊤) (λ _. Settle)
 settles = record { fits = λ f fit. tt; written = λ f. refl; told = elim [ Settle ↦ λ fits. inl (tt, tt, refl) | _ ↦ λ _. inr refl ] }
 
 -- the words of lines with fields, and of the other
 abbrev pub words : List (List ℕ)
-words = codes "call" ∷ codes "deliver" ∷ codes "lose" ∷ codes "interrupt" ∷ codes "retry" ∷ codes "resend" ∷ codes "declare" ∷ codes "restart" ∷ codes "learn" ∷ []
+words = codes "call" ∷ codes "deliver" ∷ codes "lose" ∷ codes "interrupt" ∷ codes "retry" ∷ codes "resend" ∷ codes "declare" ∷ codes "restart" ∷ codes "learn" ∷ codes "fail-server" ∷ codes "start-server" ∷ []
 
 abbrev pub lone_words : List (List ℕ)
 lone_words = codes "settle" ∷ []
@@ -90,4 +96,6 @@ apart-command (Resend file) = λ y fits. apart-kind resends apart-file file fits
 apart-command (Declare node) = λ y fits. apart-kind declares apart-node node fits y
 apart-command (Restart node) = λ y fits. apart-kind restarts apart-node node fits y
 apart-command (Learn file node incarnation) = λ y fits. apart-kind learns apart-learn (file, (node, incarnation)) (fits.0, (fits.1, fits.2)) y
+apart-command (FailServer file) = λ y fits. apart-kind fails apart-file file fits y
+apart-command (StartServer file) = λ y fits. apart-kind starts apart-file file fits y
 apart-command Settle = λ y fits. apart-kind settles (λ p q _ _ _. refl) tt tt y

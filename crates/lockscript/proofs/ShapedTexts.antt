@@ -5,7 +5,7 @@ use Rattle.std.proofs.lemmas.List.{append-nil}
 use Rattle.messages.specs.Shapes.{ShapeFields}
 use Rattle.texts.specs.LineFeeds.{PassesLines, kept_lines}
 use Rattle.lockscript.specs.Scripts.{Begun, BeginsScript, IsBadFirst, IsFirstBad, IsRefused, IsScript, ScriptFields, Writes, line_text, script_of, shape_text}
-use Rattle.lockscript.specs.ShapedScripts.{IsBadForShape, IsClusterLine, IsForShape, IsRefusedForShape, NamesAnother}
+use Rattle.lockscript.specs.ShapedScripts.{IsClusterLine, IsForShape, IsRefusedForShape, NamesAnother}
 use Rattle.lockscript.specs.ShapedScripts.IsBadForShape.{names_another, stands_wrong}
 use Rattle.lockscript.specs.declared.error.ParseError.{ParseError}
 use Rattle.lockscript.specs.declared.error.ParseError.TheVariants.{NoMemory, BadLine}

@@ -2,7 +2,7 @@
 use Rattle.std.specs.Prelude.{◌≡◌, ◌≢◌, ℕ, ◌+◌, ◌⊎◌, false, List, [], ◌∷◌, ◌++◌, All, map, codes, decimal, ⊤}
 use Rattle.model.specs.Limits.{IsNumber, most_nodes, most_processes}
 use Rattle.lockscript.specs.declared.script_line.Command.{Command}
-use Rattle.lockscript.specs.declared.script_line.Command.TheVariants.{Call, Deliver, Lose, Settle, Interrupt, Retry, Resend, Declare, Restart, Learn}
+use Rattle.lockscript.specs.declared.script_line.Command.TheVariants.{Call, Deliver, Lose, Settle, Interrupt, Retry, Resend, Declare, Restart, Learn, FailServer, StartServer}
 use Rattle.lockscript.specs.declared.error.ParseError.{ParseError}
 use Rattle.lockscript.specs.declared.error.ParseError.TheVariants.{NoMemory, BadLine}
 use Rattle.messages.specs.Shapes.{ShapeFields, IsShape, most_files}
@@ -30,6 +30,8 @@ command_text (Resend file) = codes "resend " ++ decimal file
 command_text (Declare node) = codes "declare " ++ decimal node
 command_text (Restart node) = codes "restart " ++ decimal node
 command_text (Learn file node incarnation) = codes "learn " ++ pair_text decimal (pair_text decimal decimal) (file, (node, incarnation))
+command_text (FailServer file) = codes "fail-server " ++ decimal file
+command_text (StartServer file) = codes "start-server " ++ decimal file
 
 -- a cluster that is served, of this version
 pub record IsShapeOf (version : Version) (s : ShapeFields) : Type 0 where
@@ -64,6 +66,8 @@ IsCommand (Resend file) = IsNumber most_files file
 IsCommand (Declare node) = IsNumber most_nodes node
 IsCommand (Restart node) = IsNumber most_nodes node
 IsCommand (Learn file node incarnation) = IsNumber most_files file × IsNumber most_nodes node × IsNumber most_incarnations incarnation
+IsCommand (FailServer file) = IsNumber most_files file
+IsCommand (StartServer file) = IsNumber most_files file
 
 -- the greatest number of a line that listings can name, which has 32 bits
 abbrev pub greatest_line : ℕ

@@ -5,7 +5,7 @@ use Rattle.lockscript.specs.Scripts.{Begun, IsFirstBad, IsScript, LineFields, Sc
 use Rattle.lockscript.specs.declared.error.ParseError.{ParseError}
 use Rattle.lockscript.specs.declared.error.ParseError.TheVariants.{NoMemory, BadLine}
 use Rattle.lockscript.specs.declared.script_line.Command.{Command}
-use Rattle.lockscript.specs.declared.script_line.Command.TheVariants.{Call, Deliver, Lose, Settle, Interrupt, Retry, Resend, Declare, Restart, Learn}
+use Rattle.lockscript.specs.declared.script_line.Command.TheVariants.{Call, Deliver, Lose, Settle, Interrupt, Retry, Resend, Declare, Restart, Learn, FailServer, StartServer}
 
 -- whether threads take a line that asks for this
 abbrev pub is_for_threads : Command → Bool
@@ -19,6 +19,8 @@ is_for_threads (Resend file) = false
 is_for_threads (Declare node) = true
 is_for_threads (Restart node) = true
 is_for_threads (Learn file node incarnation) = false
+is_for_threads (FailServer file) = false
+is_for_threads (StartServer file) = false
 
 -- the number of the first line that threads don't take
 abbrev pub bad_line : List LineFields → Option ℕ

@@ -10,7 +10,8 @@ use crate::script_line::Command;
 use texts::text::{Text, split_field};
 
 /// What the line asks for, if it is one that is served: so far `call N PID OP`, `deliver K`, `lose K`,
-/// `settle`, `interrupt N PID`, `retry N PID`, `resend F`, `declare N`, `restart N` and `learn F N I`.
+/// `settle`, `interrupt N PID`, `retry N PID`, `resend F`, `declare N`, `restart N`, `learn F N I`,
+/// `fail-server F` and `start-server F`.
 pub(crate) fn command_of(line: &str) -> Option<Command>
     ensures { Reads command_text IsCommand line.now result }
 {
@@ -51,6 +52,8 @@ fn command_with(word: &str, operands: &str) -> Option<Command>
             node,
             incarnation,
         }),
+        "fail-server" => FileField::read(operands).map(|file| Command::FailServer { file }),
+        "start-server" => FileField::read(operands).map(|file| Command::StartServer { file }),
         _ => None,
     }
 }

@@ -49,6 +49,14 @@ pub enum Command {
         node: u8,
         incarnation: u16,
     },
+    /// The server of a file is declared failed.
+    FailServer {
+        file: u16,
+    },
+    /// The server of a file that was declared failed is rebuilt, in its next epoch.
+    StartServer {
+        file: u16,
+    },
 }
 
 impl Command {
@@ -71,6 +79,8 @@ impl Command {
             Command::Retry { .. } => false,
             Command::Resend { .. } => false,
             Command::Learn { .. } => false,
+            Command::FailServer { .. } => false,
+            Command::StartServer { .. } => false,
         }
     }
 }

@@ -5,7 +5,7 @@ use Rattle.std.proofs.lemmas.Bool.{eqb-true}
 use Rattle.std.proofs.lemmas.Bool.Decides.{nat_tests}
 use Rattle.messages.specs.Messages.{is_within}
 use Rattle.members.specs.Numbered.{numbered, IsRest}
-use Rattle.members.proofs.Choices.{if_again}
+use Rattle.members.proofs.Choices.{if_again, at_number}
 
 -- a place after the first is not the first
 later : (from k : ℕ) → ((from + suc k) == from) ≡ false
@@ -98,3 +98,12 @@ read_number f rest xs n x least most is =
     let place : n - 1 < length xs = omega arith in
     let number : 1 + (n - 1) ≡ n = omega arith in
     ap (λ (k : ℕ). numbered f rest 1 xs k) (sym number) ∙ numbered-read f rest 1 xs (n - 1) x place is
+
+-- the number is not one of those from 1 on that the list has
+pub numbered-outside : {A B : Type 0} (f : A → B) (rest : ℕ → B) (from : ℕ) (xs : List A) (n : ℕ) → (from ≤ n → from + length xs ≤ n) → numbered f rest from xs n ≡ rest n
+unfolding numbered
+numbered-outside f rest from [] n out = refl
+numbered-outside f rest from (x ∷ xs) n out =
+    at_number n from (λ b. (if b then f x else numbered f rest (from + 1) xs n) ≡ rest n)
+    (λ here. absurd (omega arith))
+    (λ other. numbered-outside f rest (from + 1) xs n (λ above. omega arith))

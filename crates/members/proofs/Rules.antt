@@ -10,7 +10,7 @@ use Rattle.members.specs.Members.{MembersState, most_incarnations, first_members
 use Rattle.members.specs.Parts.{MemberParts, incarnation_of, alive_in, incarnation_in, members_state}
 use Rattle.members.specs.Numbered.{IsRest}
 use Rattle.members.proofs.Choices.{at_number}
-use Rattle.members.proofs.Numbered.{within_is, put_at, read_number}
+use Rattle.members.proofs.Numbered.{within_is, put_at, read_number, numbered-outside}
 
 abbrev member : Bool → ℕ → MemberParts
 member alive last = record { alive = alive; last = last }
@@ -117,3 +117,9 @@ restarts ms now n k view done =
 -- members of a cluster that begins
 pub first_is_first : (ms : List MemberParts) (nodes : ℕ) → length ms ≡ nodes → IsRest (λ m. m.alive) (λ n. true) ms → IsRest (λ m. incarnation_of m.alive m.last) (λ n. 1) ms → members_state ms ≡ first_members nodes
 first_is_first ms nodes there alive first = λ i. record { nodes = there i; alive = λ n. alive n i; incarnation = λ n. first n i }
+
+-- none was declared of a node that the cluster does not have
+pub none_declared : (ms : List MemberParts) (n : ℕ) → is_within (length ms) n ≡ false → 0 ≡ incarnation_in ms n - 1
+none_declared ms n out =
+    let first : incarnation_in ms n ≡ 1 = numbered-outside (λ y. incarnation_of y.alive y.last) (λ k. 1) 1 ms n (λ least. grind (arith, nat_tests, out)) in
+    sym (ap (λ (k : ℕ). k - 1) first)

@@ -25,3 +25,8 @@ incarnation_in ms = numbered (λ m. incarnation_of m.alive m.last) (λ n. 1) 1 m
 
 abbrev pub members_state : List MemberParts → MembersState
 members_state ms = record { nodes = length ms; alive = alive_in ms; incarnation = incarnation_in ms }
+
+-- the nodes and the token servers of a cluster; the incarnation of a server is its epoch
+pub record MembersParts : Type 0 where
+  pub nodes : List MemberParts
+  pub servers : List MemberParts

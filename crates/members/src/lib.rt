@@ -1,4 +1,5 @@
-//! Which incarnation of each node of a cluster lives.
+//! Which incarnation of each node and of each token server of a cluster lives.
 #![tactic(auto)]
 
+mod crowd;
 pub mod members;

@@ -1,108 +1,67 @@
 //! The members of a cluster.
-ghost use Rattle.std.specs.Prelude.{◌≡◌, ◌≤◌, true, Some, None, IfSome, IfOk, IfErr, OnErr, length, ◌-◌, slice_index_or};
-ghost use Rattle.messages.specs.Messages.{is_within};
+ghost use Rattle.std.specs.Prelude.{◌≡◌, ◌-◌, ◌≤◌, IfSome, IfOk, IfErr, OnErr, Ok, Err};
 ghost use Rattle.model.specs.Limits.{IsNumber};
 ghost use Rattle.members.specs.Members.{most_incarnations, first_members, live_incarnation, was_declared, with_restarted, declared_failed, restarted};
 ghost use Rattle.members.specs.Parts.{members_state};
 
+use crate::crowd::Crowd;
 use intervals::span_map::NoMemory;
 use messages::refusal::Refused;
 use messages::shape::Shape;
 use std::alloc::Global;
 use std::marker::Model;
 
-/// The most incarnations of a node; they are numbered from 1.
-pub const MOST_INCARNATIONS: u16 = 65_535;
-
-// Whether a node is alive, and the last incarnation that it began.
-#[derive(Clone, Copy)]
-struct Member {
-    alive: bool,
-    last: u16,
-}
-
-impl Model for Member {
-    ghost use Rattle.members.specs.Parts.{MemberParts, IsMember};
-
-    ghost Value = { MemberParts };
-
-    ghost view = { λ m. record { alive = m.alive; last = m.last } };
-
-    ghost invariant = { λ m. IsMember (record { alive = m.alive; last = m.last }) };
-
-    ghost inverse = { λ m. record { alive = m.alive; last = m.last } };
-}
-
-/// Which nodes of a cluster are alive, and in which incarnation. A node that was declared failed is
-/// at once in its next incarnation, and is not alive until it restarts.
+/// Which nodes and token servers of a cluster are alive, and in which incarnation, or epoch. One that
+/// was declared failed is at once in its next, and is not alive until it begins again.
 #[derive(Drop)]
 pub struct Members {
-    nodes: Vec<Member>,
+    nodes: Crowd,
+    servers: Crowd,
 }
 
 impl Model for Members {
-    ghost use Rattle.std.specs.Prelude.{List};
-    ghost use Rattle.members.specs.Parts.{MemberParts};
+    ghost use Rattle.members.specs.Parts.{MembersParts};
 
-    ghost Value = { List MemberParts };
+    ghost Value = { MembersParts };
 
-    ghost view = { λ m. m.nodes.items };
+    ghost view = { λ m. record { nodes = m.nodes; servers = m.servers } };
 }
 
 impl Members {
-    /// The members of a cluster that begins: every node is alive, in its first incarnation.
+    /// The members of a cluster that begins: all are alive, in the first incarnation.
     ///
     /// # Errors
     /// `NoMemory` where a request for memory was refused.
     pub fn new(alloc: Global, shape: Shape) -> Result<Members, NoMemory>
-        ensures { IfOk result (λ members. members_state members ≡ first_members shape.nodes) }
+        ensures nodes { IfOk result (λ members. members_state members.nodes ≡ first_members shape.nodes) }
+        ensures servers { IfOk result (λ members. members_state members.servers ≡ first_members shape.files) }
     {
-        let mut nodes = Vec::new(alloc);
-        for index in 0..shape.nodes() {
-            nodes.push(Member {
-                alive: true,
-                last: 1,
-            })?;
-        }
-        Ok(Members { nodes })
-    }
-
-    // Whether the cluster has a node with the number.
-    fn has(&self, node: u8) -> bool
-        ensures { result ≡ is_within (members_state self.now).nodes node }
-    {
-        1 <= node && node as usize <= self.nodes.len()
+        Ok(Members {
+            nodes: Crowd::new(alloc, shape.nodes() as u16)?,
+            servers: Crowd::new(alloc, shape.files())?,
+        })
     }
 
     /// The incarnation of the node that is alive, or none.
     pub fn alive(&self, node: u8) -> Option<u16>
-        ensures value { result ≡ live_incarnation (members_state self.now) node }
+        ensures value { result ≡ live_incarnation (members_state self.now.nodes) node }
         ensures within { IfSome result (λ incarnation. IsNumber most_incarnations incarnation) }
     {
-        if !self.has(node) {
-            return None;
-        }
-        let member = self.nodes[node as usize - 1];
-        if member.alive {
-            Some(member.last)
-        } else {
-            None
-        }
+        self.nodes.alive(node as u16)
     }
 
     /// Whether this incarnation of the node was declared failed.
     pub fn declared(&self, node: u8, incarnation: u16) -> bool
-        ensures { result ≡ was_declared (members_state self.now) node incarnation }
+        ensures { result ≡ was_declared (members_state self.now.nodes) node incarnation }
     {
-        if !self.has(node) {
-            return false;
-        }
-        let member = self.nodes[node as usize - 1];
-        if member.alive {
-            1 <= incarnation && incarnation < member.last
-        } else {
-            1 <= incarnation && incarnation <= member.last
-        }
+        self.nodes.declared(node as u16, incarnation)
+    }
+
+    /// The greatest incarnation of the node that was declared failed, 0 where none was.
+    pub fn dead(&self, node: u8) -> u16
+        ensures { result ≡ (members_state self.now.nodes).incarnation node - 1 }
+    {
+        self.nodes.dead(node as u16)
     }
 
     /// The node is declared failed. Which incarnation of it was alive.
@@ -110,23 +69,13 @@ impl Members {
     /// # Errors
     /// `Stranger` where the cluster has no such node, `NotAlive` where it is not alive. Nothing changes then.
     pub fn declare(&mut self, node: u8) -> Result<u16, Refused>
-        ensures ok { IfOk result (λ incarnation. declared_failed (members_state self.old) node ≡ Ok (members_state self.new, incarnation)) }
+        ensures ok { IfOk result (λ incarnation. declared_failed (members_state self.old.nodes) node ≡ Ok (members_state self.new.nodes, incarnation)) }
         ensures within { IfOk result (λ incarnation. IsNumber most_incarnations incarnation) }
-        ensures err { IfErr result (λ e. declared_failed (members_state self.old) node ≡ Err e) }
+        ensures err { IfErr result (λ e. declared_failed (members_state self.old.nodes) node ≡ Err e) }
+        ensures others { self.new.servers ≡ self.old.servers }
         ensures unchanged { OnErr result (self.new ≡ self.old) }
     {
-        if !self.has(node) {
-            return Err(Refused::Stranger);
-        }
-        let member = self.nodes[node as usize - 1];
-        if !member.alive {
-            return Err(Refused::NotAlive);
-        }
-        self.nodes[node as usize - 1] = Member {
-            alive: false,
-            last: member.last,
-        };
-        Ok(member.last)
+        self.nodes.declare(node as u16)
     }
 
     /// The incarnation in which the node would restart now.
@@ -134,21 +83,11 @@ impl Members {
     /// # Errors
     /// Those of `restart`.
     pub fn next(&self, node: u8) -> Result<u16, Refused>
-        ensures ok { IfOk result (λ incarnation. restarted (members_state self.now) node ≡ Ok (with_restarted (members_state self.now) node, incarnation)) }
+        ensures ok { IfOk result (λ incarnation. restarted (members_state self.now.nodes) node ≡ Ok (with_restarted (members_state self.now.nodes) node, incarnation)) }
         ensures within { IfOk result (λ incarnation. IsNumber most_incarnations incarnation) }
-        ensures err { IfErr result (λ e. restarted (members_state self.now) node ≡ Err e) }
+        ensures err { IfErr result (λ e. restarted (members_state self.now.nodes) node ≡ Err e) }
     {
-        if !self.has(node) {
-            return Err(Refused::Stranger);
-        }
-        let member = self.nodes[node as usize - 1];
-        if member.alive {
-            return Err(Refused::NotDead);
-        }
-        if member.last == MOST_INCARNATIONS {
-            return Err(Refused::TooManyRestarts);
-        }
-        Ok(member.last + 1)
+        self.nodes.next(node as u16)
     }
 
     /// The node restarts. In which incarnation it does.
@@ -157,16 +96,63 @@ impl Members {
     /// `Stranger` where the cluster has no such node, `NotDead` where it is alive, `TooManyRestarts`
     /// where it had 65,535 incarnations. Nothing changes then.
     pub fn restart(&mut self, node: u8) -> Result<u16, Refused>
-        ensures ok { IfOk result (λ incarnation. restarted (members_state self.old) node ≡ Ok (members_state self.new, incarnation)) }
+        ensures ok { IfOk result (λ incarnation. restarted (members_state self.old.nodes) node ≡ Ok (members_state self.new.nodes, incarnation)) }
         ensures within { IfOk result (λ incarnation. IsNumber most_incarnations incarnation) }
-        ensures err { IfErr result (λ e. restarted (members_state self.old) node ≡ Err e) }
+        ensures err { IfErr result (λ e. restarted (members_state self.old.nodes) node ≡ Err e) }
+        ensures others { self.new.servers ≡ self.old.servers }
         ensures unchanged { OnErr result (self.new ≡ self.old) }
     {
-        let incarnation = self.next(node)?;
-        self.nodes[node as usize - 1] = Member {
-            alive: true,
-            last: incarnation,
-        };
-        Ok(incarnation)
+        self.nodes.restart(node as u16)
+    }
+
+    /// The epoch of the file's token server, or none where it was declared failed.
+    pub fn epoch(&self, file: u16) -> Option<u16>
+        ensures value { result ≡ live_incarnation (members_state self.now.servers) file }
+        ensures within { IfSome result (λ epoch. IsNumber most_incarnations epoch) }
+    {
+        self.servers.alive(file)
+    }
+
+    /// The token server of the file is declared failed. Which epoch of it was alive.
+    ///
+    /// # Errors
+    /// `Stranger` where the cluster has no such file, `NotAlive` where its server is not alive. Nothing
+    /// changes then.
+    pub fn fail_server(&mut self, file: u16) -> Result<u16, Refused>
+        ensures ok { IfOk result (λ epoch. declared_failed (members_state self.old.servers) file ≡ Ok (members_state self.new.servers, epoch)) }
+        ensures within { IfOk result (λ epoch. IsNumber most_incarnations epoch) }
+        ensures err { IfErr result (λ e. declared_failed (members_state self.old.servers) file ≡ Err e) }
+        ensures others { self.new.nodes ≡ self.old.nodes }
+        ensures unchanged { OnErr result (self.new ≡ self.old) }
+    {
+        self.servers.declare(file)
+    }
+
+    /// The epoch in which the token server of the file would begin again now, from 2.
+    ///
+    /// # Errors
+    /// Those of `start_server`.
+    pub fn next_epoch(&self, file: u16) -> Result<u16, Refused>
+        ensures ok { IfOk result (λ epoch. restarted (members_state self.now.servers) file ≡ Ok (with_restarted (members_state self.now.servers) file, epoch)) }
+        ensures later { IfOk result (λ epoch. 2 ≤ epoch) }
+        ensures within { IfOk result (λ epoch. IsNumber most_incarnations epoch) }
+        ensures err { IfErr result (λ e. restarted (members_state self.now.servers) file ≡ Err e) }
+    {
+        self.servers.next(file)
+    }
+
+    /// The token server of the file begins again, in the next epoch. In which one it does.
+    ///
+    /// # Errors
+    /// `Stranger` where the cluster has no such file, `NotDead` where its server is alive,
+    /// `TooManyRestarts` where it had 65,535 epochs. Nothing changes then.
+    pub fn start_server(&mut self, file: u16) -> Result<u16, Refused>
+        ensures ok { IfOk result (λ epoch. restarted (members_state self.old.servers) file ≡ Ok (members_state self.new.servers, epoch)) }
+        ensures within { IfOk result (λ epoch. IsNumber most_incarnations epoch) }
+        ensures err { IfErr result (λ e. restarted (members_state self.old.servers) file ≡ Err e) }
+        ensures others { self.new.nodes ≡ self.old.nodes }
+        ensures unchanged { OnErr result (self.new ≡ self.old) }
+    {
+        self.servers.restart(file)
     }
 }

@@ -1,1 +1,3 @@
+pub mod RunEquality
 pub mod SameMessages
+pub mod Reports

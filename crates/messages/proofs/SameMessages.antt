@@ -4,7 +4,6 @@ use Rattle.std.proofs.Common.{◌≡◌, Bool, Decides, rules, arith, refl, sym,
 use Rattle.std.proofs.lemmas.Bool.{and_parts, and_from, eqb-true, false≢true}
 use Rattle.std.proofs.lemmas.Bool.Decides.{Decides-at}
 use Rattle.std.proofs.lemmas.Grind.{common_steps}
-use Rattle.intervals.specs.Bytes.{Range}
 use Rattle.model.specs.declared.call.CallId.{CallId}
 use Rattle.model.specs.declared.host.Host.{Host}
 use Rattle.model.specs.declared.mode.Mode.{Mode}
@@ -20,12 +19,13 @@ use Rattle.messages.specs.contracts.message.MessagePartialEq.TheImpl as derived
 use Rattle.messages.specs.contracts.event.EventPartialEq.TheImpl as derived_of_events
 use Rattle.messages.specs.Wants.{Wants}
 use Rattle.messages.specs.declared.event.Event.{Event}
-use Rattle.messages.specs.declared.event.Event.TheVariants.{Call, Deliver, Interrupt, Retry, Resend, Declare, Restart, Learn}
+use Rattle.messages.specs.declared.event.Event.TheVariants.{Call, Deliver, Interrupt, Retry, Resend, Declare, Restart, Learn, FailServer, StartServer}
 use Rattle.messages.specs.declared.message.Urgency.{Urgency}
 use Rattle.messages.specs.declared.message.Urgency.TheVariants.{Now, Waits}
 use Rattle.messages.specs.declared.message.Message.{Message}
-use Rattle.messages.specs.declared.message.Message.TheVariants.{Request, Grant, Revoke, Taken, Released, Conflict, Deny, Freed}
-use Rattle.messages.specs.Messages.{same_call, same_range, same_wants, same_urgency, same_host, same_lock, same_message, SameMessageIsEquality}
+use Rattle.messages.specs.declared.message.Message.TheVariants.{Request, Grant, Revoke, Taken, Released, Conflict, Deny, Freed, Hello, Report}
+use Rattle.messages.specs.SameRuns.{range_exact, range_refl, runs_exact, runs_refl}
+use Rattle.messages.specs.Messages.{same_call, same_wants, same_urgency, same_host, same_lock, same_message, SameMessageIsEquality}
 
 -- parts of messages that test alike are one
 mode_exact : (a b : Mode) → same_mode a b ≡ true → a ≡ b
@@ -64,16 +64,6 @@ host_exact a b h =
     let nodes = eqb-true _ _ parts.0 in
     let incarnations = eqb-true _ _ parts.1 in
     λ i. record { node = nodes i; incarnation = incarnations i }
-
-range_exact : (a b : Range) → same_range a b ≡ true → a ≡ b
-range_exact a b h =
-    let parts = and_parts _ _ h in
-    let starts = eqb-true _ _ parts.0 in
-    let ends = eqb-true _ _ parts.1 in
-    λ i. record { lo = starts i; hi = ends i }
-
-range_refl : (a : Range) → same_range a a ≡ true
-range_refl a = and_from _ _ (eq-eqb a.lo a.lo refl) (eq-eqb a.hi a.hi refl)
 
 wants_exact : (a b : Wants) → same_wants a b ≡ true → a ≡ b
 wants_exact a b h =
@@ -179,6 +169,22 @@ message_exact (Freed f p) (Freed g q) h =
     let files = eqb-true _ _ parts.0 in
     let holders = host_exact _ _ parts.1 in
     λ i. Freed (files i) (holders i)
+message_exact (Hello f k p) (Hello g l q) h =
+    let first = and_parts _ _ h in
+    let second = and_parts _ _ first.1 in
+    let files = eqb-true _ _ first.0 in
+    let numbers = eqb-true _ _ second.0 in
+    let holders = host_exact _ _ second.1 in
+    λ i. Hello (files i) (numbers i) (holders i)
+message_exact (Report f k p r) (Report g l q s) h =
+    let first = and_parts _ _ h in
+    let second = and_parts _ _ first.1 in
+    let third = and_parts _ _ second.1 in
+    let files = eqb-true _ _ first.0 in
+    let numbers = eqb-true _ _ second.0 in
+    let holders = host_exact _ _ third.0 in
+    let runs = runs_exact _ _ third.1 in
+    λ i. Report (files i) (numbers i) (holders i) (runs i)
 message_exact _ _ h = absurd (false≢true h)
 
 message_refl : (a : Message) → same_message a a ≡ true
@@ -190,6 +196,8 @@ message_refl (Released f k p c s) = and_from _ _ (eq-eqb f f refl) (and_from _ _
 message_refl (Conflict f k p c a) = and_from _ _ (eq-eqb f f refl) (and_from _ _ (eq-eqb k k refl) (and_from _ _ (host_refl p) (and_from _ _ (call_refl c) (lock_refl a))))
 message_refl (Deny f c p k a) = and_from _ _ (eq-eqb f f refl) (and_from _ _ (call_refl c) (and_from _ _ (host_refl p) (and_from _ _ (eq-eqb k k refl) (lock_refl a))))
 message_refl (Freed f p) = and_from _ _ (eq-eqb f f refl) (host_refl p)
+message_refl (Hello f k p) = and_from _ _ (eq-eqb f f refl) (and_from _ _ (eq-eqb k k refl) (host_refl p))
+message_refl (Report f k p r) = and_from _ _ (eq-eqb f f refl) (and_from _ _ (eq-eqb k k refl) (and_from _ _ (host_refl p) (runs_refl r)))
 
 -- messages compared by value are equal
 pub same_message-is-equality : SameMessageIsEquality
@@ -243,5 +251,7 @@ event_eq-Decides (Retry node pid) (Retry n p) = grind (arith, common_steps)
 event_eq-Decides (Resend file) (Resend f) = grind (arith, common_steps)
 event_eq-Decides (Declare node) (Declare n) = grind (arith, common_steps)
 event_eq-Decides (Restart node) (Restart n) = grind (arith, common_steps)
+event_eq-Decides (FailServer file) (FailServer f) = grind (arith, common_steps)
+event_eq-Decides (StartServer file) (StartServer f) = grind (arith, common_steps)
 event_eq-Decides (Learn file node incarnation) (Learn f n i) = grind (arith, common_steps)
 event_eq-Decides _ _ = (λ h. absurd (false≢true h), λ e. cc)

@@ -6,7 +6,7 @@ use Rattle.model.specs.Limits.{IsCall}
 use Rattle.messages.specs.declared.message.Message.{Message}
 use Rattle.messages.specs.declared.outcome.Outcome.{Outcome}
 use Rattle.messages.specs.declared.event.Event.{Event}
-use Rattle.messages.specs.declared.event.Event.TheVariants.{Call, Interrupt, Retry, Declare, Restart}
+use Rattle.messages.specs.declared.event.Event.TheVariants.{Call, Interrupt, Retry, Declare, Restart, FailServer, StartServer}
 
 pub record EntryFields : Type 0 where
   pub event : Event
@@ -21,12 +21,14 @@ NamesItsCall (Call node pid op) None = ⊥
 NamesItsCall (Call node pid op) (Some id) = id.node ≡ node
 NamesItsCall _ call = call ≡ None
 
--- an interrupt and a retry have the incarnation of their node, of which the first is 1, a declaration the one that is declared, a restart the one that begins; nothing else has one
+-- an interrupt and a retry have the incarnation of their node, of which the first is 1, a declaration the one that is declared, a restart the one that begins, a failure and a start of a server its epoch; nothing else has one
 abbrev pub NamesItsIncarnation : Event → ℕ → Type 0
 NamesItsIncarnation (Interrupt node pid) incarnation = 1 ≤ incarnation
 NamesItsIncarnation (Retry node pid) incarnation = 1 ≤ incarnation
 NamesItsIncarnation (Declare node) incarnation = 1 ≤ incarnation
 NamesItsIncarnation (Restart node) incarnation = 1 ≤ incarnation
+NamesItsIncarnation (FailServer file) incarnation = 1 ≤ incarnation
+NamesItsIncarnation (StartServer file) incarnation = 1 ≤ incarnation
 NamesItsIncarnation _ incarnation = incarnation ≡ 0
 
 -- an entry as it is kept, with one incarnation for the event and for the name of a call

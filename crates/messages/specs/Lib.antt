@@ -1,7 +1,10 @@
 pub mod Versions
 pub mod Shapes
 pub mod Epochs
+pub mod TokenRuns
+pub mod SameRuns
 pub mod Wants
 pub mod Messages
+pub mod Reports
 pub mod Entries
 pub mod Refusals

@@ -1,7 +1,6 @@
 -- Who a message is for and from, and when two messages are one.
 use Rattle.std.specs.Prelude.{◌≡◌, ℕ, Bool, true, false, ◌&&◌, ◌==◌, nat_le, ◌↔◌, IsTrue, List, None}
 use Rattle.std.specs.List.{list_any}
-use Rattle.intervals.specs.Bytes.{Range}
 use Rattle.model.specs.Owners.{same_mode, same_owner, host_of_call}
 pub use Rattle.model.specs.Owners.{same_host}
 use Rattle.model.specs.declared.call.CallId.{CallId}
@@ -13,7 +12,8 @@ use Rattle.messages.specs.declared.actor.Actor.TheVariants.{Node as ANode, Serve
 use Rattle.messages.specs.declared.message.Urgency.{Urgency}
 use Rattle.messages.specs.declared.message.Urgency.TheVariants.{Now, Waits}
 use Rattle.messages.specs.declared.message.Message.{Message}
-use Rattle.messages.specs.declared.message.Message.TheVariants.{Request, Grant, Revoke, Taken, Released, Conflict, Deny, Freed}
+use Rattle.messages.specs.declared.message.Message.TheVariants.{Request, Grant, Revoke, Taken, Released, Conflict, Deny, Freed, Hello, Report}
+pub use Rattle.messages.specs.TokenRuns.{same_range, same_runs}
 use Rattle.messages.specs.declared.outcome.Outcome.{Outcome}
 
 -- who takes the message
@@ -26,6 +26,8 @@ addressee (Released file number holder call span) = AServer file
 addressee (Conflict file number holder call lock) = AServer file
 addressee (Deny file call holder number lock) = ANode call.node
 addressee (Freed file holder) = AServer file
+addressee (Hello file number holder) = ANode holder.node
+addressee (Report file number holder runs) = AServer file
 
 -- the node, in its incarnation, that sends the message or takes it
 abbrev pub host_of : Message → Host
@@ -37,6 +39,8 @@ host_of (Released file number holder call span) = holder
 host_of (Conflict file number holder call lock) = holder
 host_of (Deny file call holder number lock) = host_of_call call
 host_of (Freed file holder) = holder
+host_of (Hello file number holder) = holder
+host_of (Report file number holder runs) = holder
 
 abbrev pub file_of : Message → ℕ
 file_of (Request file call urgency mode wanted) = file
@@ -47,6 +51,8 @@ file_of (Released file number holder call span) = file
 file_of (Conflict file number holder call lock) = file
 file_of (Deny file call holder number lock) = file
 file_of (Freed file holder) = file
+file_of (Hello file number holder) = file
+file_of (Report file number holder runs) = file
 
 -- the greatest number of a call or a command
 abbrev pub greatest_number : ℕ
@@ -62,9 +68,6 @@ sending messages = record { call = None; reply = None; sends = messages }
 
 abbrev pub same_call : CallId → CallId → Bool
 same_call a b = (a.node == b.node) && ((a.incarnation == b.incarnation) && (a.number == b.number))
-
-abbrev pub same_range : Range → Range → Bool
-same_range a b = (a.lo == b.lo) && (a.hi == b.hi)
 
 abbrev pub same_wants : Wants → Wants → Bool
 same_wants a b = same_range a.required b.required && same_range a.desired b.desired
@@ -87,6 +90,8 @@ same_message (Released f k h c s) (Released g l i d t) = (f == g) && ((k == l) &
 same_message (Conflict f k h c a) (Conflict g l i d b) = (f == g) && ((k == l) && (same_host h i && (same_call c d && same_lock a b)))
 same_message (Deny f c h k a) (Deny g d i l b) = (f == g) && (same_call c d && (same_host h i && ((k == l) && same_lock a b)))
 same_message (Freed f h) (Freed g i) = (f == g) && same_host h i
+same_message (Hello f k h) (Hello g l i) = (f == g) && ((k == l) && same_host h i)
+same_message (Report f k h r) (Report g l i s) = (f == g) && ((k == l) && (same_host h i && same_runs r s))
 same_message _ _ = false
 
 -- the message tells that a lock of the holder is in the way, as its answer to the command with that number

@@ -71,10 +71,10 @@ impl Entry {
         }
     }
 
-    pub fn event(&self) -> Event
-        ensures { result ≡ self.now.event }
+    pub fn event(&self) -> &Event
+        ensures { result.now ≡ self.now.event }
     {
-        self.event
+        &self.event
     }
 
     /// The incarnation of the node where the event names one, at least 1; else 0.

@@ -1,11 +1,12 @@
 //! Events.
-ghost use Rattle.std.specs.Prelude.{◌≡◌, ◌↔◌, IsTrue};
+ghost use Rattle.std.specs.Prelude.{◌≡◌, ◌↔◌, IsTrue, IfOk};
 
 use crate::message::Message;
 use model::op::Op;
+use std::alloc::{AllocError, Global};
 
 /// What may happen. A loss is a message that no event delivers, a repeat a second delivery.
-#[derive(Clone, Copy, Debug, PartialEq, Eq)]
+#[derive(Clone, Debug, PartialEq, Eq, Drop)]
 pub enum Event {
     /// A process of a node makes a call.
     Call {
@@ -43,6 +44,14 @@ pub enum Event {
         node: u8,
         incarnation: u16,
     },
+    /// The token server of a file is declared failed: it takes no step from here on.
+    FailServer {
+        file: u16,
+    },
+    /// The token server of a file that was declared failed is rebuilt, with the next epoch.
+    StartServer {
+        file: u16,
+    },
 }
 
 impl Event {
@@ -51,5 +60,18 @@ impl Event {
         ensures { IsTrue result ↔ (self.now ≡ other.now) }
     {
         self == other
+    }
+
+    /// An equal event.
+    ///
+    /// # Errors
+    /// `AllocError` where a request for memory was refused.
+    pub fn copy(&self, alloc: Global) -> Result<Event, AllocError>
+        ensures { IfOk result (λ copy. copy ≡ self.now) }
+    {
+        match self {
+            Event::Deliver(message) => Ok(Event::Deliver(message.copy(alloc)?)),
+            _ => self.clone(),
+        }
     }
 }

@@ -4,6 +4,7 @@
 pub mod actor;
 pub mod command_number;
 pub mod entry;
+pub mod epoch_number;
 pub mod event;
 pub mod file_number;
 pub mod items;
@@ -11,5 +12,6 @@ pub mod message;
 pub mod outcome;
 pub mod refusal;
 pub mod shape;
+pub mod token_run;
 pub mod version;
 pub mod wanted;

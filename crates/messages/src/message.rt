@@ -1,18 +1,21 @@
 //! Messages between nodes and token servers.
-ghost use Rattle.std.specs.Prelude.{◌≡◌, ◌↔◌, IsTrue};
+ghost use Rattle.std.specs.Prelude.{◌≡◌, ◌↔◌, IsTrue, IfOk};
 ghost use Rattle.model.specs.Limits.{IsNumber};
 ghost use Rattle.messages.specs.Messages.{addressee, host_of, file_of, SameMessageIsEquality};
 ghost use Rattle.messages.specs.Shapes.{most_files};
 
 use crate::actor::Actor;
 use crate::command_number::CommandNumber;
+use crate::epoch_number::EpochNumber;
 use crate::file_number::FileNumber;
+use crate::token_run::TokenRuns;
 use crate::wanted::Wanted;
 use intervals::span::Span;
 use model::call::CallId;
 use model::host::Host;
 use model::lock_info::LockInfo;
 use model::mode::Mode;
+use std::alloc::{AllocError, Global};
 
 /// What a request does where a lock blocks it: it is denied, or it waits.
 #[derive(Clone, Copy, Debug, PartialEq, Eq, Hash)]
@@ -24,7 +27,7 @@ pub enum Urgency {
 /// A message, with the file that it is about, 1 to 256. `call` is the call of the node that asks,
 /// `number` the number of a command of the server to a node, from 1; of a revoke and its answers the
 /// command is the one to the `holder`, the node whose token is in the way.
-#[derive(Clone, Copy, Debug, PartialEq, Eq, Hash)]
+#[derive(Clone, Debug, PartialEq, Eq, Hash, Drop)]
 pub enum Message {
     /// A node asks the server for a token.
     Request {
@@ -86,6 +89,20 @@ pub enum Message {
         file: FileNumber,
         holder: Host,
     },
+    /// A server that was rebuilt asks a node for its token; the number is the one after which its
+    /// commands begin.
+    Hello {
+        file: FileNumber,
+        number: EpochNumber,
+        holder: Host,
+    },
+    /// The node tells it.
+    Report {
+        file: FileNumber,
+        number: EpochNumber,
+        holder: Host,
+        runs: TokenRuns,
+    },
 }
 
 impl Message {
@@ -98,9 +115,12 @@ impl Message {
             | Message::Taken { file, .. }
             | Message::Released { file, .. }
             | Message::Conflict { file, .. }
-            | Message::Freed { file, .. } => Actor::Server(file.get()),
+            | Message::Freed { file, .. }
+            | Message::Report { file, .. } => Actor::Server(file.get()),
             Message::Grant { call, .. } | Message::Deny { call, .. } => Actor::Node(call.node),
-            Message::Revoke { holder, .. } => Actor::Node(holder.node),
+            Message::Revoke { holder, .. } | Message::Hello { holder, .. } => {
+                Actor::Node(holder.node)
+            }
         }
     }
 
@@ -116,7 +136,9 @@ impl Message {
             Message::Revoke { holder, .. }
             | Message::Released { holder, .. }
             | Message::Conflict { holder, .. }
-            | Message::Freed { holder, .. } => *holder,
+            | Message::Freed { holder, .. }
+            | Message::Hello { holder, .. }
+            | Message::Report { holder, .. } => *holder,
         }
     }
 
@@ -133,7 +155,9 @@ impl Message {
             | Message::Released { file, .. }
             | Message::Conflict { file, .. }
             | Message::Deny { file, .. }
-            | Message::Freed { file, .. } => file.get(),
+            | Message::Freed { file, .. }
+            | Message::Hello { file, .. }
+            | Message::Report { file, .. } => file.get(),
         }
     }
 
@@ -142,6 +166,30 @@ impl Message {
         ensures { IsTrue result ↔ (self.now ≡ other.now) }
     {
         self == other
+    }
+
+    /// An equal message.
+    ///
+    /// # Errors
+    /// `AllocError` where a request for memory was refused; only the runs of a report need any.
+    pub fn copy(&self, alloc: Global) -> Result<Message, AllocError>
+        ensures { IfOk result (λ copy. copy ≡ self.now) }
+    {
+        let Message::Report {
+            file,
+            number,
+            holder,
+            runs,
+        } = self
+        else {
+            return self.clone();
+        };
+        Ok(Message::Report {
+            file: *file,
+            number: *number,
+            holder: *holder,
+            runs: runs.copy(alloc)?,
+        })
     }
 }
 

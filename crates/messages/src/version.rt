@@ -1,14 +1,14 @@
 //! Versions of clusters.
 ghost use Rattle.std.specs.Prelude.{◌≡◌};
-ghost use Rattle.messages.specs.Versions.{most_regions};
+ghost use Rattle.messages.specs.Versions.{most_regions, may_rebuild};
 
-/// The version of a cluster: how many regions an owner may have in a file, and how the cluster's
-/// journals are written.
+/// The version of a cluster: how many regions an owner may have in a file, whether its token servers
+/// may fail and be rebuilt, and how its journals are written.
 #[derive(Clone, Copy, Debug, PartialEq, Eq)]
 pub enum Version {
-    /// 1,024 regions.
+    /// 1,024 regions, and no server is rebuilt.
     First,
-    /// 16,384 regions.
+    /// 16,384 regions, and servers are rebuilt.
     Second,
 }
 
@@ -20,6 +20,16 @@ impl Version {
         match self {
             Version::First => 1024,
             Version::Second => 16_384,
+        }
+    }
+
+    /// Whether token servers may fail and be rebuilt.
+    pub fn may_rebuild(self) -> bool
+        ensures { result ≡ may_rebuild self }
+    {
+        match self {
+            Version::First => false,
+            Version::Second => true,
         }
     }
 }

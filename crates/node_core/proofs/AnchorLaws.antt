@@ -28,7 +28,8 @@ use Rattle.model.proofs.NodeTables.{GoesOn, Follows, same_goes_on, own_empty, sp
 use Rattle.model.proofs.Closings.{close_follows, exit_follows}
 use Rattle.token_set.specs.Tokens.{covers}
 use Rattle.messages.specs.declared.message.Message.{Message}
-use Rattle.messages.specs.declared.message.Message.TheVariants.{Grant, Revoke, Deny, Freed}
+use Rattle.messages.specs.declared.message.Message.TheVariants.{Grant, Revoke, Deny, Freed, Hello, Report}
+use Rattle.messages.specs.Reports.{runs_of}
 use Rattle.messages.specs.declared.refusal.StepError.{StepError}
 use Rattle.messages.specs.declared.refusal.StepError.TheVariants.{Stranger, Busy, Spent}
 use Rattle.messages.specs.declared.outcome.Outcome.{Outcome}
@@ -38,10 +39,10 @@ use Rattle.node_core.specs.declared.event.NodeEvent.TheVariants as event
 use Rattle.node_core.specs.declared.open_call.Intent.{Intent}
 use Rattle.node_core.specs.declared.open_call.Intent.TheVariants as intent
 use Rattle.node_core.specs.declared.open_call.OpenCall.{OpenCall}
-use Rattle.node_core.specs.State.{NodeState, Effect, answered, quiet, outcome, with_file, without_call_of, open_call, open_call_of, host, process, target_of}
+use Rattle.node_core.specs.State.{NodeState, Effect, answered, quiet, sent, outcome, with_file, without_call_of, open_call, open_call_of, host, process, target_of}
 use Rattle.node_core.specs.Try.{settled, requested, refusal_of, answered_if, may_free, with_freed, with_freed_of, locked_by, answered_here, tried, tried_against, tried_if}
 use Rattle.node_core.specs.Calls.{is_pid, is_in_shape, is_busy, lock_call, unlock_call, shut_by, called, after_call, call_rule}
-use Rattle.node_core.specs.Commands.{remembered, in_order, granted, revoked, denied, delivered, is_node, deliver_rule}
+use Rattle.node_core.specs.Commands.{in_epoch, remembered, in_order, granted, revoked, denied, delivered, is_node, deliver_rule}
 use Rattle.node_core.specs.Interrupts.{interruption_of, interrupted, interrupt_rule}
 use Rattle.node_core.specs.Retries.{retry_rule}
 use Rattle.node_core.specs.Node.{node_rule}
@@ -285,8 +286,14 @@ denied-anchored s lock (Some c) h = answered_if-anchored s c.number (refusal_of 
 delivered-anchored : (s : NodeState) (m : Message) → IsAnchored s → IsAnchored (delivered s m).state
 delivered-anchored s (Grant file number call mode span) h =
     let waiting = find-own (Waits s.table s.node s.incarnation) (λ c. c.number == call.number) s.pending h.waiting in
-    in_order-anchored s file number (granted s file number call mode span) h (tried_if-anchored _ (open_call s call.number) h waiting)
-delivered-anchored s (Revoke file number holder call mode wanted) h = in_order-anchored s file number (revoked s file number call mode wanted) h h
+    let t = in_epoch s file number in
+    in_order-anchored t file number (granted t file number call mode span) h (tried_if-anchored _ (open_call s call.number) h waiting)
+delivered-anchored s (Revoke file number holder call mode wanted) h =
+    let t = in_epoch s file number in
+    in_order-anchored t file number (revoked t file number call mode wanted) h h
+delivered-anchored s (Hello file number holder) h =
+    let t = in_epoch s file number in
+    elim (number == (t.files file).last) as (λ b. IsAnchored (if b then sent t (Report file number (host t) (runs_of (t.files file).token)) else quiet t).state) [ true ↦ h | false ↦ h ]
 delivered-anchored s (Deny file call holder number lock) h = denied-anchored s lock (open_call s call.number) h
 delivered-anchored s _ h = h
 

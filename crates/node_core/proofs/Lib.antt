@@ -1,6 +1,7 @@
 pub mod FileLaws
 pub mod CallLaws
 pub mod NodeLaws
+pub mod EpochLaws
 pub mod ReaderLaws
 pub mod RuleLaws
 pub mod PlanLaws

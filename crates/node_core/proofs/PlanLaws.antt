@@ -141,7 +141,7 @@ told-nothing p e file rises asked =
 pub outcome-planned : (p : NodeParts) (E : Effect) (e : EffectFields) (call : Option CallId) (change : Change) → E ≡ effect_of p e → change ≡ record { edit = e.edit; outcome = record { call = call; reply = e.reply; sends = e.sends } } → outcome call E ≡ (planned p change.edit, change.outcome)
 outcome-planned p E e call change is made = ap (outcome call) is ∙ sym (ap (λ (x : Change). (planned p x.edit, x.outcome)) made)
 
-if-if : {A : Type 0} (b : Bool) (x y z : A) → (if b then x else (if b then y else z)) ≡ (if b then x else z)
+pub if-if : {A : Type 0} (b : Bool) (x y z : A) → (if b then x else (if b then y else z)) ≡ (if b then x else z)
 if-if true x y z = refl
 if-if false x y z = refl
 

@@ -1,16 +1,19 @@
 -- What the lists of a node say.
-use Rattle.std.specs.Prelude.{◌≡◌, ℕ, zero, suc, ◌≤◌, true, false, List, [], length}
+use Rattle.std.specs.Prelude.{◌≡◌, ℕ, zero, suc, ◌≤◌, ◌<◌, true, false, List, [], length, map, None}
 use Rattle.std.proofs.Common.{refl, ap, sym, subst, arith, ◌∙◌}
 use Rattle.std.proofs.lemmas.Bool.Decides.{nat_tests}
 use Rattle.std.proofs.lemmas.List.Elements.{All-nil}
 use Rattle.std.proofs.lemmas.Option.{slice_get_past}
-use Rattle.intervals.specs.Bytes.{Range, IsRun}
+use Rattle.intervals.specs.Bytes.{Range, greatest, IsRun}
 use Rattle.model.specs.declared.level.Level.{Level}
 use Rattle.model.specs.Limits.{IsNumber}
 use Rattle.model.specs.Locks.{IsOfNode}
 use Rattle.model.specs.Anchors.{IsAnchored}
 use Rattle.messages.specs.Messages.{is_within}
-use Rattle.token_set.specs.Tokens.{no_token}
+use Rattle.messages.specs.Reports.{runs_of}
+use Rattle.messages.specs.TokenRuns.{run_of, are_longest}
+use Rattle.messages.proofs.Reports.{lists_runs_of, runs_of-longest}
+use Rattle.token_set.specs.Tokens.{Token, no_token}
 use Rattle.token_set.specs.Runs.{ListsRuns}
 use Rattle.node_core.specs.declared.file_row.FileRow.{FileRow}
 use Rattle.node_core.specs.State.{FileState, first_file}
@@ -54,3 +57,10 @@ node-owners p file n = n.anchored.own.locks file
 pub node-anchored : (p : NodeParts) → IsNode p → IsAnchored (node_state p).table (node_state p).node (node_state p).incarnation
 unfolding node_state
 node-anchored p n = n.anchored.own.anchored
+
+-- the list of a token's longest runs, as a report has them
+pub reported_runs : (t : Token) (runs listed : List (Range × Level)) → ListsRuns t runs → ((b : ℕ) → greatest < b → t b ≡ None) → listed ≡ runs → map run_of listed ≡ runs_of t
+reported_runs t runs listed l ends same = ap (map run_of) same ∙ lists_runs_of t ends runs l.each l.complete l.rises
+
+pub reported_longest : (t : Token) (runs listed : List (Range × Level)) → ListsRuns t runs → ((b : ℕ) → greatest < b → t b ≡ None) → listed ≡ runs → are_longest (map run_of listed) ≡ true
+reported_longest t runs listed l ends same = ap are_longest (reported_runs t runs listed l ends same) ∙ runs_of-longest t ends

@@ -39,9 +39,10 @@ use Rattle.node_core.specs.declared.open_call.Intent.TheVariants as intent
 use Rattle.node_core.specs.State.{FileState, NodeState, Effect, host, process, id_of, open_call_of, target_of, outcome}
 use Rattle.node_core.specs.Try.{settled, requested, answered_if, may_free, with_freed, locked_by, answered_here, tried_against}
 use Rattle.node_core.specs.Calls.{is_pid, is_in_shape, is_exit, is_busy, lock_call, after_call, call_rule}
-use Rattle.node_core.specs.Commands.{answer_to, is_conflict, revoked}
+use Rattle.node_core.specs.Commands.{in_epoch, answer_to, is_conflict, revoked}
 use Rattle.node_core.specs.Interrupts.{interruption_of, interrupted}
 use Rattle.node_core.specs.Parts.{IsSpan}
+use Rattle.node_core.proofs.EpochLaws.{in_epoch-file}
 use Rattle.node_core.specs.Laws.{MayCall, CoveredSetIsDone, CoveredWaitIsDone, IsUntouched, InterruptChangesNothing, GivesUp, ClearRevokeGivesUp}
 
 -- a branch that is taken
@@ -202,22 +203,24 @@ gives-released h node incarnation mode required desired (Released s) own order c
 
 pub clear_revoke_gives_up : ClearRevokeGivesUp
 clear_revoke_gives_up s file number call mode wanted within next own revocable clear =
+    let t = in_epoch s file number in
     let P : NodeState × Outcome → Type 0 = GivesUp s file number call mode wanted.required in
     let Q : Result (NodeState × Outcome) StepError → Type 0 = λ r. IsOkAnd r P in
     let h = s.table.locks file in
     let gives = gave_up h s.node s.incarnation mode wanted.required wanted.desired in
     let given = gave_up_is_given_up h s.node s.incarnation mode wanted.required wanted.desired own revocable in
     let released = gives-released h s.node s.incarnation mode wanted.required wanted.desired gives own revocable.ordered clear given in
-    let done = revoked s file number call mode wanted in
-    let file_done : FileState = record { token = after_giving_up (s.files file).token mode gives; last = number; answer = Some (answer_to file number (host s) call gives); asked = is_conflict gives || (s.files file).asked } in
+    let done = revoked t file number call mode wanted in
+    let file_done : FileState = record { token = after_giving_up (t.files file).token mode gives; last = number; answer = Some (answer_to file number (host s) call gives); asked = is_conflict gives || (t.files file).asked } in
+    let is_next = next ∙ ap (λ (f : FileState). f.last + 1) (sym (in_epoch-file s file number)) in
     passed Q ((s.node == s.node) && is_within s.shape.files file) (Err Stranger) _ (and_from _ _ (eq-eqb s.node s.node refl) (and_from _ _ (le-leb _ _ within.0) (le-leb _ _ within.1))) (
     taken Q (s.incarnation == s.incarnation) _ _ (eq-eqb s.incarnation s.incarnation refl) (
-    taken (λ (e : Effect). P (outcome None e)) (number == (s.files file).last + 1) done _ (eq-eqb _ _ next) (record {
+    taken (λ (e : Effect). P (outcome None e)) (number == (t.files file).last + 1) done _ (eq-eqb _ _ is_next) (record {
       span = released.span;
       has_first = released.has_first;
       has_last = released.has_last;
       answer = ap (λ (g : GaveUp). answer_to file number (host s) call g ∷ []) released.is;
       clear =
-          taken (λ (f : FileState). conflicts f.token wanted.required mode ≡ false) (file == file) file_done (s.files file) (eq-eqb file file refl) (
-          gives-apart h s.node s.incarnation (s.files file).token mode wanted.required wanted.desired gives own revocable.ordered clear given);
+          taken (λ (f : FileState). conflicts f.token wanted.required mode ≡ false) (file == file) file_done (t.files file) (eq-eqb file file refl) (
+          gives-apart h s.node s.incarnation (t.files file).token mode wanted.required wanted.desired gives own revocable.ordered clear given);
     })))

@@ -1,5 +1,5 @@
 -- A node takes a message of a token server.
-use Rattle.std.specs.Prelude.{ℕ, ◌+◌, Bool, true, false, not, ◌&&◌, ◌||◌, ◌==◌, nat_le, if◌then◌else◌, ◌∷◌, Option, Some, None, Result, Ok, Err}
+use Rattle.std.specs.Prelude.{ℕ, ◌+◌, Bool, true, false, not, ◌&&◌, ◌||◌, ◌==◌, nat_le, nat_lt, if◌then◌else◌, ◌∷◌, Option, Some, None, Result, Ok, Err}
 use Rattle.intervals.specs.Bytes.{Range}
 use Rattle.model.specs.declared.mode.Mode.{Mode}
 use Rattle.model.specs.declared.call.CallId.{CallId}
@@ -14,14 +14,23 @@ use Rattle.messages.specs.declared.refusal.StepError.{StepError}
 use Rattle.messages.specs.declared.refusal.StepError.TheVariants.{Stranger}
 use Rattle.messages.specs.declared.message.Message.{Message}
 use Rattle.messages.specs.declared.message.Message.TheVariants as message
-use Rattle.messages.specs.declared.message.Message.TheVariants.{Grant, Revoke, Taken, Deny}
+use Rattle.messages.specs.declared.message.Message.TheVariants.{Grant, Revoke, Taken, Deny, Hello, Report}
 use Rattle.messages.specs.Wants.{Wants}
 use Rattle.messages.specs.declared.outcome.Outcome.{Outcome}
 use Rattle.messages.specs.declared.actor.Actor.{Actor}
 use Rattle.messages.specs.declared.actor.Actor.TheVariants.{Node as ANode, Server as AServer}
+use Rattle.messages.specs.Epochs.{begin_of}
 use Rattle.messages.specs.Messages.{addressee, host_of, file_of, is_within}
-use Rattle.node_core.specs.State.{NodeState, Effect, with_file, quiet, sent, host, outcome, open_call}
+use Rattle.messages.specs.Reports.{runs_of}
+use Rattle.node_core.specs.State.{FileState, NodeState, Effect, with_file, quiet, sent, host, outcome, open_call}
 use Rattle.node_core.specs.Try.{refusal_of, answered_if, tried_if}
+
+-- a command of a later epoch than the last is the first that the node hears of its server: commands of older epochs and the answer to the last count no longer
+abbrev pub renewed : FileState → ℕ → FileState
+renewed f number = if nat_lt f.last (begin_of number) then record f { last = begin_of number; answer = None } else f
+
+abbrev pub in_epoch : NodeState → ℕ → ℕ → NodeState
+in_epoch s file number = with_file s file (renewed (s.files file) number)
 
 -- the answer to the last command is sent again
 abbrev pub remembered : NodeState → Option Message → Effect
@@ -70,9 +79,21 @@ abbrev pub denied : NodeState → LockInfo → Option OpenCall → Effect
 denied s lock None = quiet s
 denied s lock (Some c) = answered_if s c.number (refusal_of c.intent lock)
 
+-- a server that was rebuilt hears which token the node has, as long as no command of its epoch is done
+abbrev pub told : NodeState → ℕ → ℕ → Effect
+told s file number = if number == (s.files file).last then sent s (Report file number (host s) (runs_of (s.files file).token)) else quiet s
+
+-- a command, or a server's greeting, in the epoch that it is of
+abbrev pub done_in : NodeState → Message → Effect
+done_in s (Grant file number call mode span) = in_order s file number (granted s file number call mode span)
+done_in s (Revoke file number holder call mode wanted) = in_order s file number (revoked s file number call mode wanted)
+done_in s (Hello file number holder) = told s file number
+done_in s _ = quiet s
+
 abbrev pub delivered : NodeState → Message → Effect
-delivered s (Grant file number call mode span) = in_order s file number (granted s file number call mode span)
-delivered s (Revoke file number holder call mode wanted) = in_order s file number (revoked s file number call mode wanted)
+delivered s (Grant file number call mode span) = done_in (in_epoch s file number) (Grant file number call mode span)
+delivered s (Revoke file number holder call mode wanted) = done_in (in_epoch s file number) (Revoke file number holder call mode wanted)
+delivered s (Hello file number holder) = done_in (in_epoch s file number) (Hello file number holder)
 delivered s (Deny file call holder number lock) = denied s lock (open_call s call.number)
 delivered s _ = quiet s
 

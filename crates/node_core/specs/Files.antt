@@ -3,11 +3,12 @@ use Rattle.std.specs.Prelude.{ℕ, zero, suc, List, Option, Some, None}
 use Rattle.std.specs.List.{slice_get}
 use Rattle.token_set.specs.Sets.{token_of}
 use Rattle.node_core.specs.declared.file_row.FileRow.{FileRow}
+use Rattle.node_core.specs.Answers.{answer_of}
 use Rattle.node_core.specs.State.{FileState, first_file}
 
 -- what a row says of its file
 abbrev pub state_of : FileRow → FileState
-state_of r = record { token = token_of r.token; last = r.last; answer = r.answer; asked = r.asked }
+state_of r = record { token = token_of r.token; last = r.last; answer = answer_of r.answer; asked = r.asked }
 
 abbrev pub state_or : Option FileRow → FileState
 state_or None = first_file

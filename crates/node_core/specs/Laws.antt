@@ -17,6 +17,7 @@ use Rattle.messages.specs.declared.message.Message.TheVariants.{Revoke, Released
 use Rattle.messages.specs.declared.outcome.Outcome.{Outcome}
 use Rattle.node_core.specs.declared.event.NodeEvent.TheVariants.{Call, Deliver, Interrupt}
 use Rattle.node_core.specs.State.{NodeState, host, process, id_of, open_call_of}
+use Rattle.node_core.specs.Commands.{renewed}
 use Rattle.node_core.specs.Node.{node_rule}
 
 -- the process may call: it is one of the node, it has no open call, and a number is left
@@ -67,12 +68,12 @@ pub record GivesUp (s : NodeState) (file number : ℕ) (call : CallId) (mode : M
   pub answer : r.1.sends ≡ Released file number (host s) call span ∷ []
   pub clear : conflicts (r.0.files file).token required mode ≡ false
 
--- a revoke that is next in order, where no lock of the node excludes the mode on the required bytes, is answered by giving them up
+-- a revoke that is next in order in its epoch, where no lock of the node excludes the mode on the required bytes, is answered by giving them up
 abbrev pub ClearRevokeGivesUp : Type 0
 ClearRevokeGivesUp =
     (s : NodeState) (file number : ℕ) (call : CallId) (mode : Mode) (wanted : Wants)
     → IsNumber s.shape.files file
-    → number ≡ (s.files file).last + 1
+    → number ≡ (renewed (s.files file) number).last + 1
     → IsOfNode (s.table.locks file) s.node s.incarnation
     → IsRevocable wanted.required wanted.desired
     → IsClear (s.table.locks file) wanted.required mode

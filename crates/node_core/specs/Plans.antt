@@ -28,6 +28,7 @@ use Rattle.node_core.specs.declared.open_calls.CallsEdit.{CallsEdit}
 use Rattle.node_core.specs.declared.open_calls.CallsEdit.TheVariants.{Same, Put, Gone, Left}
 use Rattle.descriptors.specs.Rows.{processes}
 use Rattle.node_core.specs.State.{FileState, NodeState, Effect, first_file, host, id_of, process}
+use Rattle.node_core.specs.Answers.{answer_of}
 use Rattle.node_core.specs.Anchors.{IsAnchored}
 use Rattle.node_core.specs.Parts.{NodeParts, node_state, IsCallOf}
 
@@ -42,7 +43,7 @@ numbered s = record s { calls = s.calls + 1 }
 
 -- what is known of a file once the command is done
 abbrev pub file_after : FileRow → FileEdit → FileState
-file_after r e = record { token = token_edited e.token r.token; last = e.last; answer = Some e.answer; asked = e.asked }
+file_after r e = record { token = token_edited e.token r.token; last = e.last; answer = answer_of e.answer; asked = e.asked }
 
 abbrev pub row_after : Option FileRow → FileEdit → FileState
 row_after None e = first_file

@@ -12,7 +12,7 @@ use Rattle.messages.specs.declared.message.Message.{Message}
 use Rattle.messages.specs.declared.outcome.Outcome.{Outcome}
 use Rattle.node_core.specs.declared.open_call.OpenCall.{OpenCall}
 
--- of one file: the token, the number of the last command done (0 at first), the answer to it, and whether a lock was named in the way of another node since the node last told the server that locks may be gone
+-- of one file: the token, the number of the last command done (0 at first; the number before the first of a later epoch, once the node has heard of that), the answer to it, and whether a lock was named in the way of another node since the node last told the server that locks may be gone
 pub record FileState : Type 0 where
   pub token : Token
   pub last : ℕ

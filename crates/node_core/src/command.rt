@@ -1,18 +1,19 @@
 //! Commands of token servers.
 ghost use Rattle.std.specs.Prelude.{◌≡◌};
 ghost use Rattle.messages.specs.declared.message.Message.TheVariants.{Taken};
+ghost use Rattle.node_core.specs.Answers.{message_of};
 ghost use Rattle.node_core.specs.Commands.{answer_to};
 
+use crate::answer::Answer;
 use messages::command_number::CommandNumber;
 use messages::file_number::FileNumber;
-use messages::message::Message;
 use model::call::CallId;
 use model::host::Host;
 use model::mode::Mode;
 use token_set::gave_up::GaveUp;
 
-/// What a grant and a revoke have in common: the file, the number of the command, counted from 1, the
-/// call of the node that asks, and its mode.
+/// What a grant and a revoke have in common: the file, the number of the command, the call of the node
+/// that asks, and its mode.
 #[derive(Clone, Copy, Debug, PartialEq, Eq)]
 pub struct Command {
     pub file: FileNumber,
@@ -34,10 +35,10 @@ impl Command {
     }
 
     /// The answer to it as a grant.
-    pub fn taken(&self) -> Message
-        ensures { result ≡ Taken self.now.file self.now.number self.now.call }
+    pub fn taken(&self) -> Answer
+        ensures { message_of result ≡ Taken self.now.file self.now.number self.now.call }
     {
-        Message::Taken {
+        Answer::Taken {
             file: self.file,
             number: self.number,
             call: self.call,
@@ -46,18 +47,18 @@ impl Command {
 
     /// The answer of the holder to it as a revoke: the bytes that were given up, or the lock that was
     /// in the way.
-    pub fn answer(&self, holder: Host, gives: GaveUp) -> Message
-        ensures { result ≡ answer_to self.now.file self.now.number holder self.now.call gives }
+    pub fn answer(&self, holder: Host, gives: GaveUp) -> Answer
+        ensures { message_of result ≡ answer_to self.now.file self.now.number holder self.now.call gives }
     {
         match gives {
-            GaveUp::Released(span) => Message::Released {
+            GaveUp::Released(span) => Answer::Released {
                 file: self.file,
                 number: self.number,
                 holder,
                 call: self.call,
                 span,
             },
-            GaveUp::Conflict(lock) => Message::Conflict {
+            GaveUp::Conflict(lock) => Answer::Conflict {
                 file: self.file,
                 number: self.number,
                 holder,

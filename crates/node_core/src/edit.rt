@@ -1,5 +1,5 @@
 //! What a step of a node changes, as plain data.
-ghost use Rattle.std.specs.Prelude.{◌≡◌, ℕ, true, false, None, [], IfSome};
+ghost use Rattle.std.specs.Prelude.{◌≡◌, ℕ, true, false, Some, None, [], IfSome};
 ghost use Rattle.descriptors.specs.Rows.{processes as processes_of};
 ghost use Rattle.descriptors.specs.Edits.{Fits as ProcessFits};
 ghost use Rattle.fcntl_table.specs.Hosts.{shown};
@@ -44,6 +44,16 @@ impl Draft {
         Draft {
             numbered: true,
             command: None,
+        }
+    }
+
+    /// What a command makes of a file.
+    pub fn of_command(edit: FileEdit) -> Draft
+        ensures { result ≡ record { numbered = false; command = Some edit } }
+    {
+        Draft {
+            numbered: false,
+            command: Some(edit),
         }
     }
 }

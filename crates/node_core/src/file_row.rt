@@ -1,47 +1,50 @@
 //! What a node knows of one file.
 ghost use Rattle.std.specs.Prelude.{◌≡◌, ◌↔◌, false, IfOk, IsTrue};
 ghost use Rattle.node_core.specs.State.{first_file};
-ghost use Rattle.node_core.specs.Commands.{is_conflict};
+ghost use Rattle.node_core.specs.Answers.{answer_of};
+ghost use Rattle.node_core.specs.Commands.{is_conflict, renewed};
 ghost use Rattle.node_core.specs.Files.{state_of};
 ghost use Rattle.node_core.specs.Parts.{granted_file, revoked_file};
 ghost use Rattle.node_core.specs.Plans.{file_after};
 
+use crate::answer::Answer;
 use crate::command::Command;
+use crate::numbers::begin_of;
 use intervals::span::Span;
-use messages::message::Message;
 use model::host::Host;
 use std::alloc::{AllocError, Global};
 use token_set::edit::TokenEdit;
 use token_set::gave_up::GaveUp;
 use token_set::set::TokenSet;
 
-/// Of one file: the token, the number of the last command done (0 at first), the answer to it, and
-/// whether the node named one of its locks as in the way of another since it last sent Freed.
+/// Of one file: the token, the number of the last command done (0 at first; the number before the first
+/// of a later epoch, once the node has heard of that), the answer to it, and whether the node named one
+/// of its locks as in the way of another since it last sent Freed.
 #[derive(Drop)]
 pub struct FileRow {
     pub token: TokenSet,
-    pub last: u32,
-    pub answer: Option<Message>,
+    pub last: u64,
+    pub answer: Option<Answer>,
     pub asked: bool,
 }
 
-/// What a command changes of what a node knows of a file: the token, the number and the answer of the
-/// command, and whether a lock was named.
+/// What a command changes of what a node knows of a file: the token, the number of the last command and
+/// the answer to it, and whether a lock was named.
 #[derive(Drop)]
 pub struct FileEdit {
     pub file: u16,
     pub token: TokenEdit,
-    pub last: u32,
-    pub answer: Message,
+    pub last: u64,
+    pub answer: Option<Answer>,
     pub asked: bool,
 }
 
 // Whether both are the same message, or none.
-fn same_answers(one: &Option<Message>, other: &Option<Message>) -> bool
-    ensures { IsTrue result ↔ (one.now ≡ other.now) }
+fn same_answers(one: Option<Answer>, other: Option<Answer>) -> bool
+    ensures { IsTrue result ↔ (answer_of one ≡ answer_of other) }
 {
     match (one, other) {
-        (Some(answer), Some(next)) => answer.same(next),
+        (Some(answer), Some(next)) => answer.message().same(&next.message()),
         (None, None) => true,
         _ => false,
     }
@@ -70,6 +73,27 @@ impl FileRow {
         }
     }
 
+    /// What hearing of the epoch of a command changes: where it is later than that of the last command,
+    /// commands of older epochs and the answer to the last count no longer. Takes no memory.
+    pub fn plan_renewal(&self, file: u16, number: u64) -> FileEdit
+        ensures file { result.file ≡ file }
+        ensures state { file_after self.now result ≡ renewed (state_of self.now) number }
+    {
+        let begin = begin_of(number);
+        let (last, answer) = if self.last < begin {
+            (begin, None)
+        } else {
+            (self.last, self.answer)
+        };
+        FileEdit {
+            file,
+            token: TokenEdit::Same,
+            last,
+            answer,
+            asked: self.asked,
+        }
+    }
+
     /// What the grant changes: the token is raised, and the answer is remembered.
     ///
     /// # Errors
@@ -82,7 +106,7 @@ impl FileRow {
             file: command.file.get(),
             token: self.token.plan_grant(span, command.mode)?,
             last: command.number.get(),
-            answer: command.taken(),
+            answer: Some(command.taken()),
             asked: self.asked,
         })
     }
@@ -105,7 +129,7 @@ impl FileRow {
             file: command.file.get(),
             token: self.token.plan_give_up(command.mode, gives)?,
             last: command.number.get(),
-            answer: command.answer(holder, *gives),
+            answer: Some(command.answer(holder, *gives)),
             asked: is_conflict(gives) || self.asked,
         })
     }
@@ -123,7 +147,7 @@ impl FileRow {
         } = edit;
         self.token.apply(token);
         self.last = last;
-        self.answer = Some(answer);
+        self.answer = answer;
         self.asked = asked;
     }
 
@@ -153,7 +177,7 @@ impl FileRow {
         if self.last != other.last || self.asked != other.asked {
             return false;
         }
-        if !same_answers(&self.answer, &other.answer) {
+        if !same_answers(self.answer, other.answer) {
             return false;
         }
         self.token.same(&other.token)

@@ -1,6 +1,7 @@
 //! A node: its processes, their locks and open calls, and its tokens.
 #![tactic(auto)]
 
+pub mod answer;
 pub mod change;
 pub mod command;
 pub mod edit;
@@ -15,3 +16,4 @@ pub mod node;
 mod numbers;
 pub mod open_call;
 pub mod open_calls;
+mod report;

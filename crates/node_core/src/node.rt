@@ -2,6 +2,7 @@
 ghost use Rattle.std.specs.Prelude.{◌≡◌, ◌≢◌, ◌≤◌, ◌-◌, ◌↔◌, Some, Ok, Err, IfOk, IfErr, IfSome, IsTrue};
 ghost use Rattle.std.specs.List.{slice_get};
 ghost use Rattle.model.specs.Limits.{IsNumber, most_processes};
+ghost use Rattle.node_core.specs.declared.event.NodeEvent.TheVariants.{Deliver};
 ghost use Rattle.node_core.specs.State.{first_node, host, process, id_of, open_call, open_call_of};
 ghost use Rattle.node_core.specs.Node.{node_rule};
 ghost use Rattle.node_core.specs.Files.{state_of};
@@ -20,6 +21,7 @@ use crate::open_calls::OpenCalls;
 use descriptors::processes::Processes;
 use lock_table::lock_table::LockTable;
 use messages::file_number::FileNumber;
+use messages::message::Message;
 use messages::outcome::Outcome;
 use messages::refusal::StepError;
 use messages::shape::Shape;
@@ -195,9 +197,23 @@ impl Node {
         FileNumber::of(file)
     }
 
+    /// What the node will do where that message comes, as `plan` says.
+    ///
+    /// # Errors
+    /// Those of `step`.
+    pub fn plan_delivery(&self, alloc: Global, message: &Message) -> Result<Change, StepError>
+        ensures ok { IfOk result (λ change. node_rule (node_state self.now) (Deliver message.now) ≡ Ok (planned self.now change.edit, change.outcome)) }
+        ensures err { IfErr result (λ error. error ≢ StepError.NoMemory → node_rule (node_state self.now) (Deliver message.now) ≡ Err error) }
+        ensures refused { (r : StepError) → node_rule (node_state self.now) (Deliver message.now) ≡ Err r → result ≡ Err r }
+        ensures fits { IfOk result (λ change. Fits self.now change.edit) }
+    {
+        let _ = &self.shape; // tells the proof what each node keeps
+        self.plan_message(alloc, message)
+    }
+
     /// What the node will do at an event, as `step` says. It costs what the parts that the event
     /// changes hold, and no more: of the locks those of one owner in one file, of the files one. An
-    /// `exit` looks at each file, whether its server was named a lock.
+    /// `exit` looks at each file, whether its server was named a lock. A Hello costs what the token has.
     ///
     /// # Errors
     /// Those of `step`.
@@ -210,7 +226,7 @@ impl Node {
         let _ = &self.shape; // tells the proof what each node keeps
         match event {
             NodeEvent::Call { pid, op } => self.plan_call(alloc, *pid, op),
-            NodeEvent::Deliver(message) => self.plan_message(alloc, message),
+            NodeEvent::Deliver(message) => self.plan_delivery(alloc, message),
             NodeEvent::Interrupt { pid } => self.plan_interrupt(alloc, *pid),
             NodeEvent::Retry { pid } => self.plan_retry(alloc, *pid),
         }

@@ -1,11 +1,13 @@
-//! Numbers of processes, files and nodes.
+//! Numbers of processes, files, nodes and commands.
 ghost use Rattle.std.specs.Prelude.{◌≡◌};
+ghost use Rattle.messages.specs.Epochs.{begin_of};
 ghost use Rattle.messages.specs.Messages.{is_within};
 ghost use Rattle.node_core.specs.Calls.{is_pid};
 ghost use Rattle.node_core.specs.Commands.{is_node};
 ghost use Rattle.node_core.specs.Plans.{calls_after, NumberFits};
 
 use messages::actor::Actor;
+use messages::command_number::GREATEST_NUMBER;
 use model::limits::MOST_PROCESSES;
 
 /// Whether the number is one of a process.
@@ -24,6 +26,16 @@ pub fn calls_after(calls: u32, numbered: bool) -> u32
         return calls + 1;
     }
     calls
+}
+
+// How many numbers an epoch has.
+const NUMBERS: u64 = GREATEST_NUMBER as u64 + 1;
+
+/// The number after which the epoch of a command's number begins.
+pub fn begin_of(number: u64) -> u64
+    ensures { result ≡ begin_of number }
+{
+    number / NUMBERS * NUMBERS
 }
 
 /// Whether the number is one of those from 1 to the most.

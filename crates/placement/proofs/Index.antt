@@ -8,7 +8,7 @@ use Rattle.model.specs.declared.call.CallId.{CallId}
 use Rattle.model.specs.declared.op.Op.{Op}
 use Rattle.model.specs.contracts.call.CallIdPartialEq.TheImpl as derived
 use Rattle.messages.specs.declared.event.Event.{Event}
-use Rattle.messages.specs.declared.event.Event.TheVariants.{Call, Deliver, Interrupt, Retry, Resend, Declare, Restart, Learn}
+use Rattle.messages.specs.declared.event.Event.TheVariants.{Call, Deliver, Interrupt, Retry, Resend, Declare, Restart, Learn, FailServer, StartServer}
 use Rattle.messages.specs.declared.entry.Entry.{Entry}
 use Rattle.messages.specs.Messages.{same_call}
 use Rattle.messages.proofs.SameMessages.{call_exact}
@@ -35,6 +35,8 @@ found_on true (Resend file) x y z h = h
 found_on true (Declare node) x y z h = h
 found_on true (Restart node) x y z h = h
 found_on true (Learn file node incarnation) x y z h = h
+found_on true (FailServer file) x y z h = h
+found_on true (StartServer file) x y z h = h
 found_on false event x y z h = h
 
 find_call-push : (es : List Entry) (e : Entry) (id : CallId) → find_call (es ++ e ∷ []) id ≡ option_or (find_call es id) (call_in e id)

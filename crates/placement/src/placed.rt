@@ -149,7 +149,7 @@ fn answer(
         return Ok(());
     };
     slots.push(Slot::Empty)?;
-    if let Some(index) = slot_of(conflicts, own, &entry.event()) {
+    if let Some(index) = slot_of(conflicts, own, entry.event()) {
         slots[index] = slot_at(calls, index as u32 + 1, answered.0, own as u32);
     }
     Ok(())

@@ -57,7 +57,7 @@ fn gone_at(position: u32, entry: &Entry) -> Option<Item>
     };
     Some(Item::Gone {
         position,
-        node,
+        node: *node,
         incarnation: entry.incarnation(),
     })
 }
@@ -69,7 +69,7 @@ fn made_by(entry: &Entry) -> Option<(u16, Op)>
     let Event::Call { pid, op, .. } = entry.event() else {
         return None;
     };
-    Some((pid, op))
+    Some((*pid, *op))
 }
 
 // The item at that position of the call that the entry answers, by a process that asks for this.

@@ -13,7 +13,7 @@ use Rattle.messages.specs.declared.entry.Entry.{Entry}
 use Rattle.cluster_core.specs.World.{WorldState}
 use Rattle.cluster_core.specs.Next.{kept_next}
 use Rattle.lockscript.specs.declared.script_line.Command.{Command}
-use Rattle.lockscript.specs.declared.script_line.Command.TheVariants.{Call, Deliver, Lose, Settle, Interrupt, Retry, Resend, Declare, Restart, Learn}
+use Rattle.lockscript.specs.declared.script_line.Command.TheVariants.{Call, Deliver, Lose, Settle, Interrupt, Retry, Resend, Declare, Restart, Learn, FailServer, StartServer}
 use Rattle.lockscript.specs.Scripts.{LineFields}
 use Rattle.replay.specs.Progress.{Progress, End, first_progress, after_delivery, delivery, index_of, settling, Ends, InTurn, Passes, IsLeastUnsettled, IsNextMessage, Delivers, IsSettled, Does}
 use Rattle.replay.specs.Played.{played_of}
@@ -85,6 +85,8 @@ does_one line (Resend file) p q s a b = ends_one line p q s (kept_next p.world (
 does_one line (Declare node) p q s a b = ends_one line p q s (kept_next p.world (event.Declare node)) a b
 does_one line (Restart node) p q s a b = ends_one line p q s (kept_next p.world (event.Restart node)) a b
 does_one line (Learn file node incarnation) p q s a b = ends_one line p q s (kept_next p.world (event.Learn file node incarnation)) a b
+does_one line (FailServer file) p q s a b = ends_one line p q s (kept_next p.world (event.FailServer file)) a b
+does_one line (StartServer file) p q s a b = ends_one line p q s (kept_next p.world (event.StartServer file)) a b
 does_one line Settle p q s a b = settles_one line (Some p) q s a.0 b.0 a.1 a.2 b.1 b.2
 
 -- the lines are run in order, from an end

@@ -16,7 +16,7 @@ use Rattle.cluster_core.specs.Runs.{Leads}
 use Rattle.cluster_core.proofs.runs.JournalRuns.{leads_push, entry_event}
 use Rattle.cluster_core.proofs.steps.Steps.{kept_taken}
 use Rattle.lockscript.specs.declared.script_line.Command.{Command}
-use Rattle.lockscript.specs.declared.script_line.Command.TheVariants.{Call, Deliver, Lose, Settle, Interrupt, Retry, Resend, Declare, Restart, Learn}
+use Rattle.lockscript.specs.declared.script_line.Command.TheVariants.{Call, Deliver, Lose, Settle, Interrupt, Retry, Resend, Declare, Restart, Learn, FailServer, StartServer}
 use Rattle.lockscript.specs.Scripts.{LineFields}
 use Rattle.replay.specs.Progress.{Progress, End, after_entry, after_refusal, delivery, index_of, lost, settling, Comes, Ends, Happens, InTurn, Passes, Delivers, Does, RunsTo}
 
@@ -83,6 +83,8 @@ does_leads w line (Resend file) p end leads does = happens_leads w line (event.R
 does_leads w line (Declare node) p end leads does = happens_leads w line (event.Declare node) p end leads does
 does_leads w line (Restart node) p end leads does = happens_leads w line (event.Restart node) p end leads does
 does_leads w line (Learn file node incarnation) p end leads does = happens_leads w line (event.Learn file node incarnation) p end leads does
+does_leads w line (FailServer file) p end leads does = happens_leads w line (event.FailServer file) p end leads does
+does_leads w line (StartServer file) p end leads does = happens_leads w line (event.StartServer file) p end leads does
 does_leads w line Settle p end leads does = turns_lead (Delivers line) w (delivers_leads w line) (Some p) does.0 end leads does.1
 
 -- the entries that lines make lead on

@@ -12,7 +12,7 @@ use Rattle.cluster_core.specs.World.{WorldState, first_world, journal_limit}
 use Rattle.cluster_core.specs.Next.{kept_next}
 use Rattle.lockscript.specs.declared.refused_line.RefusedLine.{RefusedLine}
 use Rattle.lockscript.specs.declared.script_line.Command.{Command}
-use Rattle.lockscript.specs.declared.script_line.Command.TheVariants.{Call, Deliver, Lose, Settle, Interrupt, Retry, Resend, Declare, Restart, Learn}
+use Rattle.lockscript.specs.declared.script_line.Command.TheVariants.{Call, Deliver, Lose, Settle, Interrupt, Retry, Resend, Declare, Restart, Learn, FailServer, StartServer}
 use Rattle.lockscript.specs.Scripts.{LineFields}
 
 -- how far a script came: the entries, the world that they led to, which messages are settled, each by its index in the order of sending, and the refused lines, each by its number with the number of its refusal
@@ -75,7 +75,7 @@ pub record IsNextMessage (p : Progress) (index : ℕ) (m : Message) : Type 0 whe
   pub least : IsLeastUnsettled p.settled index
   pub sent : slice_get p.world.sent index ≡ Some m
 
--- a message that is settled ends so: where its node was declared failed it is passed over and nothing is listed, else as an event of the line
+-- a message that is settled ends so: where its node or its server was declared failed it is passed over and nothing is listed, else as an event of the line
 abbrev pub Passes : ℕ → Progress → Result (WorldState × Entry) Refused → End → Type 0
 Passes line p (Err Fenced) end = end ≡ Some p
 Passes line p made end = Ends line p made end
@@ -125,6 +125,8 @@ Does line (Resend file) p end = Happens line (event.Resend file) p end
 Does line (Declare node) p end = Happens line (event.Declare node) p end
 Does line (Restart node) p end = Happens line (event.Restart node) p end
 Does line (Learn file node incarnation) p end = Happens line (event.Learn file node incarnation) p end
+Does line (FailServer file) p end = Happens line (event.FailServer file) p end
+Does line (StartServer file) p end = Happens line (event.StartServer file) p end
 
 -- the lines are run in order
 abbrev pub RunsTo : Progress → List LineFields → End → Type 0

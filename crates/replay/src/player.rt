@@ -107,6 +107,12 @@ impl Player {
                 };
                 self.step(alloc, line.number(), event)
             }
+            Command::FailServer { file } => {
+                self.step(alloc, line.number(), Event::FailServer { file })
+            }
+            Command::StartServer { file } => {
+                self.step(alloc, line.number(), Event::StartServer { file })
+            }
         }
     }
 
@@ -157,8 +163,11 @@ impl Player {
         ensures full { IfErr result (λ error. error ≡ JournalFull → Does line (Command.Deliver number) (progress self.old) None) }
     {
         let index = number as usize - 1;
-        match self.run.world().sent().get(index).copied() {
-            Some(message) => self.deliver_sent(alloc, line, index, message),
+        match self.run.world().sent().get(index) {
+            Some(message) => {
+                let message = message.copy(alloc)?;
+                self.deliver_sent(alloc, line, index, message)
+            }
             None => self.refuse(line, self.unsent()),
         }
     }
@@ -197,18 +206,22 @@ impl Player {
     }
 
     // The earliest message that is not settled, at which the cursor stands from now on.
-    fn next_message(&mut self) -> Option<Message>
-        ensures same { progress self.new ≡ progress self.old }
-        ensures message { MatchOption result (IsSettled (progress self.new)) (λ message. IsNextMessage (progress self.new) self.new.settled.cursor message) }
-        ensures room { IfSome result (λ _. self.new.settled.cursor < usize.MAX) }
-        ensures rises { self.old.settled.cursor ≤ self.new.settled.cursor }
+    fn next_message(&mut self, alloc: Global) -> Result<Option<Message>, PlayError>
+        ensures same { OnOk result (progress self.new ≡ progress self.old) }
+        ensures message { IfOk result (λ next. MatchOption next (IsSettled (progress self.new)) (λ message. IsNextMessage (progress self.new) self.new.settled.cursor message)) }
+        ensures room { IfOk result (λ next. IfSome next (λ _. self.new.settled.cursor < usize.MAX)) }
+        ensures rises { OnOk result (self.old.settled.cursor ≤ self.new.settled.cursor) }
+        ensures err { IfErr result (λ error. error ≡ NoMemory) }
     {
         self.settled.advance();
-        self.run.world().sent().get(self.settled.cursor()).copied()
+        match self.run.world().sent().get(self.settled.cursor()) {
+            Some(message) => Ok(Some(message.copy(alloc)?)),
+            None => Ok(None),
+        }
     }
 
     // Delivers the message at the cursor, or passes over it where its delivery is refused: silently
-    // where its node was declared failed.
+    // where its node or its server was declared failed.
     fn deliver_next(&mut self, alloc: Global, line: u32, message: Message) -> Result<(), PlayError>
         requires next_one { IsNextMessage (progress self.old) self.old.settled.cursor message }
         requires room { self.old.settled.cursor < usize.MAX }
@@ -231,7 +244,7 @@ impl Player {
         ensures ok { OnOk result (Settles line (progress self.old) (Some (progress self.new))) }
         ensures full { IfErr result (λ error. error ≡ JournalFull → Settles line (progress self.old) None) }
     {
-        while let Some(message) = self.next_message() {
+        while let Some(message) = self.next_message(alloc)? {
             self.deliver_next(alloc, line, message)?;
         }
         Ok(())

@@ -121,11 +121,7 @@ fn a_step_of_a_declared_node_is_not_taken(rt: HostRuntime) -> Result<(), Fail> {
     })?;
     assert_eq!(rt; made, Some((Some(CallError::Fenced), true)));
     let events = journal.entries();
-    assert!(rt;
-        events
-            .iter()
-            .any(|entry| entry.event() == Event::Declare { node: 1 })
-    );
+    assert!(rt; events.iter().any(|entry| matches!(entry.event(), Event::Declare { node: 1 })));
     assert!(rt; events.iter().all(|entry| entry.call().is_none()));
     Ok(())
 }

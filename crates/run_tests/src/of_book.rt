@@ -46,7 +46,7 @@ fn commit(
     seen: Option<&Mark>,
 ) -> Result<Box<Stamp>, Fail> {
     let prepared = seat.prepare(alloc, event)?;
-    let stamp = book.commit(seat, prepared, seen)?;
+    let stamp = book.commit(alloc, seat, prepared, seen)?;
     Ok(Box::new(alloc, stamp)?)
 }
 
@@ -58,7 +58,7 @@ fn refusal(
     event: Event,
 ) -> Result<Option<CommitError>, Fail> {
     let prepared = seat.prepare(alloc, event)?;
-    Ok(book.commit(seat, prepared, None).err())
+    Ok(book.commit(alloc, seat, prepared, None).err())
 }
 
 // Whether the seats are just those of these actors.

@@ -62,6 +62,8 @@ fn a_run_ends_at_the_first_refusal(rt: HostRuntime) -> Result<(), Fail> {
         Event::Interrupt { node: 1, pid: 257 },
         Event::Resend { file: 0 },
         Event::Resend { file: 3 },
+        Event::FailServer { file: 0 },
+        Event::StartServer { file: 0 },
     ] {
         assert!(rt; ends(rt.alloc(), last, Refused::Stranger)?);
     }

@@ -99,7 +99,7 @@ fn grant(command: u32, call: CallId) -> NodeEvent
 {
     NodeEvent::Deliver(Message::Grant {
         file: FileNumber::of(1),
-        number: CommandNumber::of(command),
+        number: CommandNumber::of(1, command),
         call,
         mode: Mode::Write,
         span: HUNDRED,
@@ -109,7 +109,7 @@ fn grant(command: u32, call: CallId) -> NodeEvent
 fn taken() -> Message {
     Message::Taken {
         file: FileNumber::of(1),
-        number: CommandNumber::of(1),
+        number: CommandNumber::of(1, 1),
         call: THIRD,
     }
 }
@@ -127,7 +127,7 @@ fn revoke(command: u32, incarnation: u16) -> NodeEvent
 {
     NodeEvent::Deliver(Message::Revoke {
         file: FileNumber::of(1),
-        number: CommandNumber::of(command),
+        number: CommandNumber::of(1, command),
         holder: host(incarnation),
         call: CallId { node: 2, ..THIRD },
         mode: Mode::Write,
@@ -143,7 +143,7 @@ fn deny(call: CallId) -> NodeEvent {
             node: 2,
             incarnation: 1,
         },
-        number: CommandNumber::of(1),
+        number: CommandNumber::of(1, 1),
         lock: FAR,
     })
 }
@@ -151,9 +151,17 @@ fn deny(call: CallId) -> NodeEvent {
 // An event, the reply and the one message that it must give, if any, and whether the node is another after it.
 type Move = (NodeEvent, Option<(CallId, Reply)>, Option<Message>, bool);
 
+// Whether the message is the only one.
+fn is_only(messages: &[Message], message: &Message) -> bool {
+    match messages {
+        [only] => only.same(message),
+        _ => false,
+    }
+}
+
 fn is_right(expected: &Move, outcome: &Outcome) -> bool {
     let is_sent = match &expected.2 {
-        Some(message) => outcome.sends.as_slice() == [*message].as_slice(),
+        Some(message) => is_only(outcome.sends.as_slice(), message),
         None => outcome.sends.is_empty(),
     };
     is_sent && expected.1 == outcome.reply
@@ -174,15 +182,15 @@ fn begins(alloc: Global) -> Result<Box<Node>, Fail> {
 fn stepped(
     alloc: Global,
     node: &Node,
-    event: NodeEvent,
+    event: &NodeEvent,
 ) -> Result<(Box<Node>, Outcome), StepError> {
-    let (next, outcome) = node.step(alloc, &event)?;
+    let (next, outcome) = node.step(alloc, event)?;
     Ok((boxed(alloc, next)?, outcome))
 }
 
 // Goes on from what the event gives; whether this is what it must be.
 fn takes(alloc: Global, node: &mut Box<Node>, expected: &Move) -> Result<bool, StepError> {
-    let (next, outcome) = stepped(alloc, node, expected.0)?;
+    let (next, outcome) = stepped(alloc, node, &expected.0)?;
     let changes = !next.same(node);
     *node = next;
     Ok(changes == expected.3 && is_right(expected, &outcome))

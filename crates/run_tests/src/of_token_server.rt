@@ -86,7 +86,7 @@ fn grant(number: u32, call: CallId) -> Message
 {
     Message::Grant {
         file: FileNumber::of(2),
-        number: CommandNumber::of(number),
+        number: CommandNumber::of(1, number),
         call,
         mode: Mode::Write,
         span: WHOLE,
@@ -98,7 +98,7 @@ fn taken(number: u32, call: CallId) -> ServerEvent
 {
     ServerEvent::Deliver(Message::Taken {
         file: FileNumber::of(2),
-        number: CommandNumber::of(number),
+        number: CommandNumber::of(1, number),
         call,
     })
 }
@@ -108,7 +108,7 @@ fn revoke(number: u32) -> Message
 {
     Message::Revoke {
         file: FileNumber::of(2),
-        number: CommandNumber::of(number),
+        number: CommandNumber::of(1, number),
         holder: HOLDER,
         call: ASKS,
         mode: Mode::Write,
@@ -121,7 +121,7 @@ fn released(number: u32) -> ServerEvent
 {
     ServerEvent::Deliver(Message::Released {
         file: FileNumber::of(2),
-        number: CommandNumber::of(number),
+        number: CommandNumber::of(1, number),
         holder: HOLDER,
         call: ASKS,
         span: WHOLE,
@@ -133,7 +133,7 @@ fn conflict(number: u32, call: CallId) -> ServerEvent
 {
     ServerEvent::Deliver(Message::Conflict {
         file: FileNumber::of(2),
-        number: CommandNumber::of(number),
+        number: CommandNumber::of(1, number),
         holder: HOLDER,
         call,
         lock: LOCK,
@@ -147,7 +147,7 @@ fn deny(number: u32) -> Message
         file: FileNumber::of(2),
         call: ASKS,
         holder: HOLDER,
-        number: CommandNumber::of(number),
+        number: CommandNumber::of(1, number),
         lock: LOCK,
     }
 }
@@ -165,9 +165,17 @@ fn freed(incarnation: u16) -> ServerEvent {
 // An event, the one message that it must send, if there is one, and whether the server is another after it.
 type Move = (ServerEvent, Option<Message>, bool);
 
+// Whether the message is the only one.
+fn is_only(messages: &[Message], message: &Message) -> bool {
+    match messages {
+        [only] => only.same(message),
+        _ => false,
+    }
+}
+
 fn has_sent(outcome: &Outcome, message: &Option<Message>) -> bool {
     match message {
-        Some(message) => outcome.sends.as_slice() == [*message].as_slice(),
+        Some(message) => is_only(outcome.sends.as_slice(), message),
         None => outcome.sends.is_empty(),
     }
 }
@@ -187,15 +195,15 @@ fn begins(alloc: Global) -> Result<Box<Server>, Fail> {
 fn stepped(
     alloc: Global,
     server: &Server,
-    event: ServerEvent,
+    event: &ServerEvent,
 ) -> Result<(Box<Server>, Outcome), StepError> {
-    let (next, outcome) = server.step(alloc, &event)?;
+    let (next, outcome) = server.step(alloc, event)?;
     Ok((boxed(alloc, next)?, outcome))
 }
 
 // Goes on from what the event gives; whether this is what it must be.
 fn takes(alloc: Global, server: &mut Box<Server>, expected: &Move) -> Result<bool, StepError> {
-    let (next, outcome) = stepped(alloc, server, expected.0)?;
+    let (next, outcome) = stepped(alloc, server, &expected.0)?;
     let changes = !next.same(server);
     *server = next;
     Ok(changes == expected.2 && has_sent(&outcome, &expected.1))

@@ -44,7 +44,7 @@ has_space-behind [] rest = refl
 has_space-behind (b ∷ word) rest = grind (arith, has_space-behind word rest)
 
 -- what has a space has a first field
-has_no_space-one : (bytes : List ℕ) → IsOneField bytes → has_no_space bytes ≡ true
+pub has_no_space-one : (bytes : List ℕ) → IsOneField bytes → has_no_space bytes ≡ true
 has_no_space-one [] one = refl
 has_no_space-one (b ∷ bytes) one =
     let first : b ≢ space = λ e. one [] bytes (λ i lt. absurd (omega (arith, lt))) (ap (λ (c : ℕ). c ∷ bytes) e) in

@@ -1,5 +1,5 @@
 -- A request that needs no byte of another one is served at once.
-use Rattle.std.specs.Prelude.{◌≡◌, ℕ, ◌-◌, Bool, true, false, not, cond, ◌||◌, ◌&&◌, nat_le, nat_lt, List, [], ◌∷◌, ◌++◌, filter, find, is_some, Option, Some, None, Result, Ok, Err}
+use Rattle.std.specs.Prelude.{◌≡◌, ℕ, ◌+◌, ◌-◌, ◌<◌, ◌≤◌, ◌==◌, Bool, true, false, not, cond, ◌||◌, ◌&&◌, nat_le, nat_lt, List, [], ◌∷◌, ◌++◌, filter, find, is_some, Option, Some, None, Result, Ok, Err}
 use Rattle.std.specs.List.{list_any}
 use Rattle.std.proofs.Common.{refl, sym, ap, subst, ◌∙◌}
 use Rattle.std.proofs.lemmas.Bool.{both_ways, lt-leb}
@@ -10,10 +10,12 @@ use Rattle.messages.specs.declared.message.Message.{Message}
 use Rattle.messages.specs.declared.message.Message.TheVariants.{Request}
 use Rattle.messages.specs.declared.outcome.Outcome.{Outcome}
 use Rattle.messages.specs.Messages.{greatest_number, addressee, host_of, is_within, sending}
+use Rattle.model.specs.declared.call.CallId.{CallId}
 use Rattle.token_set.specs.Tokens.{Token}
+use Rattle.token_set.proofs.SearchLaws.{some_passes-none, none_passes-from}
 use Rattle.token_queue.specs.declared.token_request.TokenRequest.{TokenRequest}
 use Rattle.token_queue.specs.Requests.{is_of_call, is_up_to}
-use Rattle.token_server.specs.State.{Row, ServerState, forgotten}
+use Rattle.token_server.specs.State.{Row, ServerState, empty_row, begin, is_awaited, awaits, row_above, forgotten}
 use Rattle.token_queue.specs.Requests.{meets}
 use Rattle.token_server.specs.Serve.{meets_some, admitted, conflicting_node, commanded, granted_to, revoked_from, served, with_more, and_then, each_served, ready, serve}
 use Rattle.token_server.specs.Resends.{sending_first}
@@ -73,7 +75,7 @@ admitted-last r active queue a q =
 
 -- serving leaves who is served
 commanded-active : (s t : ServerState) (node : ℕ) (row : Row) (token : Token) (command : Message) (out : List Message) → commanded s node row token command ≡ Ok (t, out) → t.active ≡ s.active
-commanded-active s t node row token command out is = by (is_some row.outstanding) (nat_lt row.number greatest_number) _ _ refl refl is
+commanded-active s t node row token command out is = by (is_some row.outstanding) (nat_lt row.number (begin s + greatest_number)) _ _ refl refl is
   where
     by : (busy few : Bool) (new : ServerState) (sent : List Message) → new.active ≡ s.active → new ≡ new → ◌≡◌ {A = Answer} (cond busy (Ok (s, [])) (cond few (Ok (new, sent)) (Err Spent))) (Ok (t, out)) → t.active ≡ s.active
     by true few new sent kept same h =
@@ -123,6 +125,43 @@ each_served-active (r ∷ rest) s t out h = by (served s r) refl (λ u v sent. e
     by : (x : Answer) → served s r ≡ x → Keeps → and_then x (each_served rest) ≡ Ok (t, out) → t.active ≡ s.active
     by (Err e) is keeps h = absurd (cc)
     by (Ok done) is keeps h = more done.0 done.1 (each_served rest done.0) keeps refl h ∙ served-active s done.0 r done.1 is
+
+-- a server whose nodes have told it their tokens waits for none once a request came
+abbrev HaveTold : ServerState → Type 0
+HaveTold s = (n : ℕ) → 1 ≤ n → n < 1 + s.shape.nodes → is_awaited (s.rows n) ≡ false
+
+pub above-told : (incarnation : ℕ) (row : Option Row) → is_awaited row ≡ false → is_awaited (row_above incarnation row) ≡ false
+above-told incarnation None told = refl
+above-told incarnation (Some row) told = elim (nat_le row.incarnation incarnation) as (λ b. is_awaited (cond b None (Some row)) ≡ false) [ true ↦ refl | false ↦ told ]
+
+forgotten-told : (s : ServerState) (node incarnation : ℕ) → HaveTold s → HaveTold (forgotten s node incarnation)
+forgotten-told s node incarnation told n above within =
+    elim (n == node) as (λ b. is_awaited (cond b (row_above incarnation (s.rows n)) (s.rows n)) ≡ false) [
+      | true ↦ above-told incarnation (s.rows n) (told n above within)
+      | false ↦ told n above within
+    ]
+
+with_a_row-told : (s : ServerState) (call : CallId) (row : Option Row) → HaveTold s → HaveTold (with_a_row s call row)
+with_a_row-told s call None told n above within =
+    elim (n == call.node) as (λ b. is_awaited (cond b (Some (empty_row (begin s) call.incarnation)) (s.rows n)) ≡ false) [
+      | true ↦ refl
+      | false ↦ told n above within
+    ]
+with_a_row-told s call (Some row) told n above within = told n above within
+
+enqueued-told : (s : ServerState) (r : TokenRequest) → HaveTold s → HaveTold (enqueued s r)
+enqueued-told s r told =
+    elim (list_any (is_of_call r.call) s.active || list_any (is_of_call r.call) s.queue) as (λ b. HaveTold (cond b s (enqueued_with s r (request_of r.call s.waiting)))) [
+      | true ↦ told
+      | false ↦ elim (request_of r.call s.waiting) as (λ own. HaveTold (enqueued_with s r own)) [ None ↦ told | Some own ↦ told ]
+    ]
+
+asked-told : (s : ServerState) (r : TokenRequest) → awaits s ≡ false → awaits (asked s r) ≡ false
+asked-told s r none =
+    let young = forgotten s r.call.node (r.call.incarnation - 1) in
+    let first = forgotten-told s r.call.node (r.call.incarnation - 1) (λ n above within. some_passes-none (λ k. is_awaited (s.rows k)) 1 s.shape.nodes n none above within) in
+    let second = with_a_row-told young r.call (young.rows r.call.node) first in
+    none_passes-from (λ n. is_awaited ((asked s r).rows n)) 1 (asked s r).shape.nodes (enqueued-told (with_a_row young r.call (young.rows r.call.node)) r second)
 
 -- the queue once the request came
 asked-lists : (s : ServerState) (r : TokenRequest) → MeetsNone s r → (let young = forgotten s r.call.node (r.call.incarnation - 1) in ((asked s r).active ≡ young.active) × ((asked s r).queue ≡ young.queue ++ r ∷ []))
@@ -179,11 +218,14 @@ what_meets_none-served s file r new out done is = by (is_server s.file (addresse
         (λ i. (admitted (lists.0 i) [] (lists.1 i)).0)
         ∙ admitted-last r (filter stays s.active) (filter stays s.queue) (any-filter (λ q. meets r.wanted.required q.wanted.required) stays s.active is.apart) (any-filter (λ q. meets r.wanted.required q.wanted.required) stays s.queue is.clear)
 
+    waits_for_none : serve (asked s r) ≡ each_served (ready (asked s r)).active (ready (asked s r))
+    waits_for_none = ap (λ (b : Bool). let x : Answer = cond b (Ok (asked s r, [])) (each_served (ready (asked s r)).active (ready (asked s r))) in x) (asked-told s r is.told)
+
     serves : (x : Answer) → serve (asked s r) ≡ x → sending_first [] x ≡ Ok (new, out) → (before : List TokenRequest) × (new.active ≡ before ++ r ∷ [])
     serves (Err e) was h = absurd (cc)
     serves (Ok ends) was h =
         let pair : ◌≡◌ {A = ServerState × Outcome} (ends.0, sending ([] ++ ends.1)) (new, out) = cc in
-        ((admitted (filter stays s.active) [] (filter stays s.queue)).0, sym (ap (λ (p : ServerState × Outcome). p.0.active) pair) ∙ each_served-active (ready (asked s r)).active (ready (asked s r)) ends.0 ends.1 was ∙ last)
+        ((admitted (filter stays s.active) [] (filter stays s.queue)).0, sym (ap (λ (p : ServerState × Outcome). p.0.active) pair) ∙ each_served-active (ready (asked s r)).active (ready (asked s r)) ends.0 ends.1 (sym waits_for_none ∙ was) ∙ last)
 
     by : (ours dead : Bool) → nat_le (host_of m).incarnation (s.dead (host_of m).node) ≡ dead → then_serve s (cond (not ours) (Err Stranger) (cond dead (Ok None) (Ok (delivered s m)))) ≡ Ok (new, out) → (before : List TokenRequest) × (new.active ≡ before ++ r ∷ [])
     by false dead known h = absurd (cc)

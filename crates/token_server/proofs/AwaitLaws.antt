@@ -1,5 +1,5 @@
 -- The nodes whose rows the requests of a server wait for.
-use Rattle.std.specs.Prelude.{◌≡◌, ℕ, zero, suc, ◌+◌, ◌<◌, ◌≤◌, Bool, false, cond, ◌&&◌, ◌==◌, List, [], ◌∷◌, ◌++◌, length, slice_get, All, Option, Some}
+use Rattle.std.specs.Prelude.{◌≡◌, ℕ, zero, suc, ◌+◌, ◌<◌, ◌≤◌, Bool, false, cond, List, [], ◌∷◌, ◌++◌, length, slice_get, All, Option, Some}
 use Rattle.std.proofs.Common.{refl, sym, ap, subst, ◌∙◌, take, drop, arith}
 use Rattle.std.proofs.lemmas.Bool.{lt-leb}
 use Rattle.std.proofs.lemmas.List.{length-take, length-take-le, drop_all, drop-append-le}
@@ -12,7 +12,7 @@ use Rattle.token_server.specs.declared.row_edit.RowEdit.{RowEdit}
 use Rattle.token_server.specs.declared.sketch.Changed.{Changed}
 use Rattle.token_server.specs.State.{ServerState}
 use Rattle.token_server.specs.Serve.{row_conflicts, conflicting_node}
-use Rattle.token_server.specs.Obstacles.{obstacle, frees}
+use Rattle.token_server.specs.Obstacles.{obstacle, may_turn}
 use Rattle.token_server.specs.Parts.{ServerParts, server_state, rows_of}
 use Rattle.token_server.specs.Sketches.{rows_after}
 use Rattle.token_server.specs.Edits.{overlaid, reached}
@@ -59,15 +59,13 @@ rest-none P held i =
     let len : length (take i held) ≤ i = omega (arith, length-take i held) in
     subst (All P) (sym (drop_all i (take i held) len)) (All-nil P)
 
--- one that is not freed waits as before
-pub unfreed-waits : (p : ServerParts) (edit : Option RowEdit) (c : Changed) (h : Held) → rows_of (overlaid p.clients edit) ≡ rows_after (Some c) (rows_of p.clients) → obstacle (server_state p) h.request ≡ h.at → (h.at == c.node && frees c.change (rows_of p.clients c.node) h.request.wanted.required) ≡ false → obstacle (reached p edit) h.request ≡ h.at
-unfreed-waits p edit c h rows waits kept =
-    obstacle-changed (server_state p) (reached p edit) h.request c.node c.change refl rows (ap (λ (n : ℕ). n == c.node && frees c.change (rows_of p.clients c.node) h.request.wanted.required) waits ∙ kept)
-    ∙ waits
+-- one that can't turn to another row waits as before
+pub unfreed-waits : (p : ServerParts) (edit : Option RowEdit) (c : Changed) (h : Held) → rows_of (overlaid p.clients edit) ≡ rows_after (Some c) (rows_of p.clients) → obstacle (server_state p) h.request ≡ h.at → may_turn c (rows_of p.clients c.node) h ≡ false → obstacle (reached p edit) h.request ≡ h.at
+unfreed-waits p edit c h rows waits kept = obstacle-changed (server_state p) (reached p edit) h c refl rows waits kept
 
-pub unfreed-all : (p : ServerParts) (edit : Option RowEdit) (c : Changed) (held : List Held) → rows_of (overlaid p.clients edit) ≡ rows_after (Some c) (rows_of p.clients) → All (λ h. obstacle (server_state p) h.request ≡ h.at) held → All (λ h. (h.at == c.node && frees c.change (rows_of p.clients c.node) h.request.wanted.required) ≡ false) held → All (λ h. obstacle (reached p edit) h.request ≡ h.at) held
+pub unfreed-all : (p : ServerParts) (edit : Option RowEdit) (c : Changed) (held : List Held) → rows_of (overlaid p.clients edit) ≡ rows_after (Some c) (rows_of p.clients) → All (λ h. obstacle (server_state p) h.request ≡ h.at) held → All (λ h. may_turn c (rows_of p.clients c.node) h ≡ false) held → All (λ h. obstacle (reached p edit) h.request ≡ h.at) held
 unfreed-all p edit c [] rows waits kept = All-nil (λ h. obstacle (reached p edit) h.request ≡ h.at)
 unfreed-all p edit c (h ∷ held) rows waits kept =
     All-cons (λ h. obstacle (reached p edit) h.request ≡ h.at) h held
-    (unfreed-waits p edit c h rows (All-head (λ h. obstacle (server_state p) h.request ≡ h.at) h held waits) (All-head (λ h. (h.at == c.node && frees c.change (rows_of p.clients c.node) h.request.wanted.required) ≡ false) h held kept))
-    (unfreed-all p edit c held rows (All-tail (λ h. obstacle (server_state p) h.request ≡ h.at) h held waits) (All-tail (λ h. (h.at == c.node && frees c.change (rows_of p.clients c.node) h.request.wanted.required) ≡ false) h held kept))
+    (unfreed-waits p edit c h rows (All-head (λ h. obstacle (server_state p) h.request ≡ h.at) h held waits) (All-head (λ h. may_turn c (rows_of p.clients c.node) h ≡ false) h held kept))
+    (unfreed-all p edit c held rows (All-tail (λ h. obstacle (server_state p) h.request ≡ h.at) h held waits) (All-tail (λ h. may_turn c (rows_of p.clients c.node) h ≡ false) h held kept))

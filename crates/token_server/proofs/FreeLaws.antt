@@ -1,5 +1,5 @@
 -- What a change of a row leaves in the way of a request.
-use Rattle.std.specs.Prelude.{◌≡◌, ℕ, ◌+◌, ◌-◌, ◌<◌, ◌≤◌, Bool, true, false, not, cond, ◌&&◌, ◌==◌, nat_le, nat_lt, Option, Some, None}
+use Rattle.std.specs.Prelude.{◌≡◌, ℕ, ◌+◌, ◌-◌, ◌<◌, ◌≤◌, Bool, true, false, not, cond, ◌&&◌, ◌||◌, ◌==◌, nat_le, nat_lt, Option, Some, None}
 use Rattle.std.proofs.Common.{refl, sym, ap, ◌∙◌, inl, inr, arith}
 use Rattle.std.proofs.lemmas.Bool.{both_ways, and_from, le-leb, false_from_ne_true}
 use Rattle.std.proofs.lemmas.Bool.Decides.{eqb_tells}
@@ -13,14 +13,16 @@ use Rattle.token_set.specs.Tokens.{Token, no_token, conflicts, level_conflicts}
 use Rattle.token_set.specs.Releases.{lowered_level, lowered}
 use Rattle.token_set.proofs.SearchLaws.{first-same, some_passes-first, some_passes-from}
 use Rattle.token_server.specs.declared.node_change.NodeChange.{NodeChange}
-use Rattle.token_server.specs.declared.node_change.NodeChange.TheVariants.{Forgotten, Asked, Answered, Relieved}
+use Rattle.token_server.specs.declared.node_change.NodeChange.TheVariants.{Forgotten, Asked, Answered, Relieved, Reported}
+use Rattle.token_server.specs.declared.sketch.Changed.{Changed}
+use Rattle.token_queue.specs.declared.held.Held.{Held}
 use Rattle.token_queue.specs.declared.token_request.TokenRequest.{TokenRequest}
 use Rattle.token_server.specs.State.{Row, ServerState, row_above}
 use Rattle.token_queue.specs.Requests.{meets}
 use Rattle.token_server.specs.Serve.{row_conflicts, conflicting_node}
 use Rattle.token_server.specs.Parts.{with_change}
 use Rattle.token_server.specs.Sketches.{row_or_empty, row_after}
-use Rattle.token_server.specs.Obstacles.{obstacle, is_dropped, frees}
+use Rattle.token_server.specs.Obstacles.{obstacle, is_dropped, frees, may_bar, may_turn}
 use Rattle.token_server.proofs.GrantLaws.{conflicts_at}
 use Rattle.token_server.proofs.ObstacleLaws.{meets-from, obstacle-kept}
 
@@ -65,17 +67,18 @@ above-fewer i (Some row) s mode h = by (nat_le row.incarnation i) h
     by true h = absurd (cc)
     by false h = h
 
-or_empty-same : (i : ℕ) (o : Option Row) (s : Range) (mode : Mode) → row_conflicts (row_or_empty i o) s mode ≡ row_conflicts o s mode
-or_empty-same i None s mode = none-empty s mode
-or_empty-same i (Some row) s mode = refl
+or_empty-same : (begin i : ℕ) (o : Option Row) (s : Range) (mode : Mode) → row_conflicts (row_or_empty begin i o) s mode ≡ row_conflicts o s mode
+or_empty-same begin i None s mode = none-empty s mode
+or_empty-same begin i (Some row) s mode = refl
 
-pub row_after-fewer : (c : NodeChange) (o : Option Row) (s : Range) (mode : Mode) → row_conflicts (row_after c o) s mode ≡ true → row_conflicts o s mode ≡ true
-row_after-fewer (Forgotten i) o s mode h = above-fewer i o s mode h
-row_after-fewer (Asked host) o s mode h = above-fewer (host.incarnation - 1) o s mode (sym (or_empty-same host.incarnation (row_above (host.incarnation - 1) o) s mode) ∙ h)
-row_after-fewer Answered None s mode h = h
-row_after-fewer Answered (Some row) s mode h = h
-row_after-fewer (Relieved span by) None s mode h = h
-row_after-fewer (Relieved span by) (Some row) s mode h = lowered-fewer row.token span s by mode h
+pub row_after-fewer : (c : NodeChange) (o : Option Row) (s : Range) (mode : Mode) → may_bar c ≡ false → row_conflicts (row_after c o) s mode ≡ true → row_conflicts o s mode ≡ true
+row_after-fewer (Forgotten i) o s mode less h = above-fewer i o s mode h
+row_after-fewer (Asked host begin) o s mode less h = above-fewer (host.incarnation - 1) o s mode (sym (or_empty-same begin host.incarnation (row_above (host.incarnation - 1) o) s mode) ∙ h)
+row_after-fewer Answered None s mode less h = h
+row_after-fewer Answered (Some row) s mode less h = h
+row_after-fewer (Relieved span by) None s mode less h = h
+row_after-fewer (Relieved span by) (Some row) s mode less h = lowered-fewer row.token span s by mode h
+row_after-fewer (Reported runs) o s mode less h = absurd (cc)
 
 above-same : (i : ℕ) (o : Option Row) → is_dropped i o ≡ false → row_above i o ≡ o
 above-same i None kept = refl
@@ -84,16 +87,17 @@ above-same i (Some row) kept = ap (λ (b : Bool). let o : Option Row = cond b No
 -- and as before where nothing is freed
 pub row_after-same : (c : NodeChange) (o : Option Row) (s : Range) (mode : Mode) → frees c o s ≡ false → row_conflicts (row_after c o) s mode ≡ row_conflicts o s mode
 row_after-same (Forgotten i) o s mode kept = ap (λ (x : Option Row). row_conflicts x s mode) (above-same i o kept)
-row_after-same (Asked host) o s mode kept =
-    or_empty-same host.incarnation (row_above (host.incarnation - 1) o) s mode ∙ ap (λ (x : Option Row). row_conflicts x s mode) (above-same (host.incarnation - 1) o kept)
+row_after-same (Asked host begin) o s mode kept =
+    or_empty-same begin host.incarnation (row_above (host.incarnation - 1) o) s mode ∙ ap (λ (x : Option Row). row_conflicts x s mode) (above-same (host.incarnation - 1) o kept)
 row_after-same Answered None s mode kept = refl
 row_after-same Answered (Some row) s mode kept = refl
 row_after-same (Relieved span by) None s mode kept = refl
 row_after-same (Relieved span by) (Some row) s mode kept = lowered-elsewhere row.token span s by mode kept
+row_after-same (Reported runs) o s mode kept = absurd (cc)
 
--- the obstacle of a request, where the row of a node changes: another one's stays, and its own where nothing is freed
-pub obstacle-changed : (s t : ServerState) (r : TokenRequest) (node : ℕ) (c : NodeChange) → t.shape.nodes ≡ s.shape.nodes → t.rows ≡ with_change node (row_after c) s.rows → (obstacle s r == node && frees c (s.rows node) r.wanted.required) ≡ false → obstacle t r ≡ obstacle s r
-obstacle-changed s t r node c nodes rows kept = obstacle-kept s t r nodes fewer here
+-- the obstacle of a request, where the row of a node changes so that it comes in no one's way: another one's stays, and its own where nothing is freed
+obstacle-less : (s t : ServerState) (r : TokenRequest) (node : ℕ) (c : NodeChange) → may_bar c ≡ false → t.shape.nodes ≡ s.shape.nodes → t.rows ≡ with_change node (row_after c) s.rows → (obstacle s r == node && frees c (s.rows node) r.wanted.required) ≡ false → obstacle t r ≡ obstacle s r
+obstacle-less s t r node c less nodes rows kept = obstacle-kept s t r nodes fewer here
   where
     own : ℕ → Option Row → Bool
     own n o = not (n == r.call.node) && row_conflicts o r.wanted.required r.mode
@@ -106,7 +110,7 @@ obstacle-changed s t r node c nodes rows kept = obstacle-kept s t r nodes fewer 
     fewer_own false n h = go (n == node) h
       where
         go : (e : Bool) → row_conflicts (cond e (row_after c (s.rows n)) (s.rows n)) r.wanted.required r.mode ≡ true → row_conflicts (s.rows n) r.wanted.required r.mode ≡ true
-        go true h = row_after-fewer c (s.rows n) r.wanted.required r.mode h
+        go true h = row_after-fewer c (s.rows n) r.wanted.required r.mode less h
         go false h = h
 
     fewer : (n : ℕ) → conflicts_at t r n ≡ true → conflicts_at s r n ≡ true
@@ -134,3 +138,23 @@ obstacle-changed s t r node c nodes rows kept = obstacle-kept s t r nodes fewer 
 
         stands : conflicts_at s r m ≡ true
         stands = (first_is_first (conflicts_at s r) 1 s.shape.nodes).here (omega arith)
+
+-- a request that can't turn to another row waits as before
+pub obstacle-changed : (s t : ServerState) (h : Held) (c : Changed) → t.shape.nodes ≡ s.shape.nodes → t.rows ≡ with_change c.node (row_after c.change) s.rows → obstacle s h.request ≡ h.at → may_turn c (s.rows c.node) h ≡ false → obstacle t h.request ≡ h.at
+obstacle-changed s t h c nodes rows waits kept = by c.change refl ∙ waits
+  where
+    at : may_bar c.change ≡ false → (obstacle s h.request == c.node && frees c.change (s.rows c.node) h.request.wanted.required) ≡ false
+    at less =
+        (λ i. (waits i == c.node) && frees c.change (s.rows c.node) h.request.wanted.required)
+        ∙ sym (ap (λ (b : Bool). (b || (h.at == c.node)) && frees c.change (s.rows c.node) h.request.wanted.required) less)
+        ∙ kept
+
+    still : may_bar c.change ≡ false → obstacle t h.request ≡ obstacle s h.request
+    still less = obstacle-less s t h.request c.node c.change less nodes rows (at less)
+
+    by : (change : NodeChange) → c.change ≡ change → obstacle t h.request ≡ obstacle s h.request
+    by (Forgotten i) is = still (ap may_bar is)
+    by (Asked host begin) is = still (ap may_bar is)
+    by Answered is = still (ap may_bar is)
+    by (Relieved span mode) is = still (ap may_bar is)
+    by (Reported runs) is = absurd (both_ways (may_turn c (s.rows c.node) h) kept (ap (λ (x : NodeChange). (may_bar x || (h.at == c.node)) && frees x (s.rows c.node) h.request.wanted.required) is))

@@ -13,7 +13,7 @@ use Rattle.messages.specs.declared.message.Message.{Message}
 use Rattle.messages.specs.Messages.{greatest_number}
 use Rattle.token_set.specs.Tokens.{Token}
 use Rattle.token_queue.specs.declared.token_request.TokenRequest.{TokenRequest}
-use Rattle.token_server.specs.State.{Row, ServerState, with_row}
+use Rattle.token_server.specs.State.{Row, ServerState, with_row, begin}
 use Rattle.token_queue.specs.Requests.{meets}
 use Rattle.token_server.specs.Serve.{meets_some, row_conflicts, conflicting_node, commanded, granted_to, revoked_from, served}
 use Rattle.token_server.specs.Obstacles.{are_apart}
@@ -77,7 +77,7 @@ silent-same s t q out h =
     λ n. sym (ap (λ (p : ServerState × List Message). conflicts_at p.0 q n) pair)
 
 commanded-same : (s t : ServerState) (q : TokenRequest) (node : ℕ) (row : Row) (token : Token) (command : Message) (out : List Message) → ((n : ℕ) → n ≡ node → (not (n == q.call.node) && row_conflicts (Some (record row { token = token; number = row.number + 1; outstanding = Some command })) q.wanted.required q.mode) ≡ conflicts_at s q n) → commanded s node row token command ≡ Ok (t, out) → StandSame s t q
-commanded-same s t q node row token command out here is = by (is_some row.outstanding) (nat_lt row.number greatest_number) is
+commanded-same s t q node row token command out here is = by (is_some row.outstanding) (nat_lt row.number (begin s + greatest_number)) is
   where
     new : ServerState
     new = with_row s node (Some (record row { token = token; number = row.number + 1; outstanding = Some command }))

@@ -21,6 +21,9 @@ pub mod CareLaws
 pub mod MarkLaws
 pub mod WaitLaws
 pub mod AdmissionLaws
+pub mod AskedLaws
+pub mod ReportLaws
+pub mod RebuildLaws
 pub mod AwaitLaws
 pub mod OrderlyLaws
 pub mod ReadyLaws

@@ -1,25 +1,20 @@
 -- What is known of rows of which none has an exclusive byte.
-use Rattle.std.specs.Prelude.{◌≡◌, ℕ, zero, suc, ◌+◌, ◌-◌, ◌<◌, ◌≤◌, Bool, true, false, not, ◌&&◌, ◌||◌, ◌==◌, cond, nat_le, List, [], ◌∷◌, length, slice_get, slice_set, slice_index_or, Option, Some, None}
+use Rattle.std.specs.Prelude.{◌≡◌, ℕ, zero, suc, ◌+◌, ◌<◌, ◌≤◌, Bool, true, false, not, ◌&&◌, ◌||◌, ◌==◌, List, [], ◌∷◌, length, slice_get, slice_set, slice_index_or, Option, Some, None}
 use Rattle.std.proofs.Common.{refl, sym, ap, ◌∙◌, arith}
 use Rattle.std.proofs.lemmas.List.{length-set}
 use Rattle.std.proofs.lemmas.Bool.{both_ways, false_from_ne_true}
-use Rattle.intervals.specs.Bytes.{Range, greatest, whole, is_in}
-use Rattle.model.specs.declared.mode.Mode.{Mode}
-use Rattle.model.specs.declared.mode.Mode.TheVariants.{Read, Write}
-use Rattle.model.specs.declared.level.Level.{Level}
-use Rattle.token_set.specs.Tokens.{level_conflicts}
-use Rattle.token_set.specs.Releases.{lowered_level}
+use Rattle.intervals.specs.Bytes.{Range, greatest, whole}
+use Rattle.model.specs.declared.mode.Mode.TheVariants.{Read}
 use Rattle.token_set.proofs.TokenLaws.{conflicts-none}
 use Rattle.token_server.specs.declared.client.Client.{Client}
-use Rattle.token_server.specs.declared.node_change.NodeChange.{NodeChange}
-use Rattle.token_server.specs.declared.node_change.NodeChange.TheVariants.{Forgotten, Asked, Answered, Relieved}
-use Rattle.token_server.specs.declared.sketch.Changed.{Changed}
+use Rattle.token_server.specs.declared.row_edit.RowEdit.{RowEdit}
+use Rattle.token_server.specs.declared.token_holder.TokenHolder.{TokenHolder}
 use Rattle.token_queue.specs.declared.token_request.TokenRequest.{TokenRequest}
-use Rattle.token_server.specs.State.{Row, ServerState, row_above}
+use Rattle.token_server.specs.State.{Row, ServerState}
 use Rattle.token_server.specs.Serve.{row_conflicts, row_conflicts_at, conflicting_node}
 use Rattle.token_server.specs.Parts.{row_seen, row_of, client_at, rows_of}
 use Rattle.token_server.specs.Marks.{NoneExclusive}
-use Rattle.token_server.specs.Sketches.{row_or_empty, row_after, rows_after}
+use Rattle.token_server.specs.Edits.{row_kept, client_after, with_client, overlaid}
 use Rattle.token_server.proofs.ClientLaws.{client_at-read, client_at-set_same}
 use Rattle.token_server.proofs.GrantLaws.{conflicts_at, first-none, row_free}
 use Rattle.token_server.proofs.AdmittingLaws.{neither}
@@ -41,45 +36,22 @@ exclusive-set clients place new before own (suc k) b within =
     (false_from_ne_true _ (row_free (row_seen new.row) whole Read own b (omega arith) within))
     (before (suc k) b within)
 
-above-free : (incarnation : ℕ) (row : Option Row) (b : ℕ) → row_conflicts_at row b Read ≡ false → row_conflicts_at (row_above incarnation row) b Read ≡ false
-above-free incarnation None b free = refl
-above-free incarnation (Some row) b free =
-    elim (nat_le row.incarnation incarnation) as (λ t. row_conflicts_at (cond t None (Some row)) b Read ≡ false) [ true ↦ refl | false ↦ free ]
-
-empty-free : (incarnation : ℕ) (row : Option Row) (b : ℕ) → row_conflicts_at row b Read ≡ false → row_conflicts_at (row_or_empty incarnation row) b Read ≡ false
-empty-free incarnation None b free = refl
-empty-free incarnation (Some row) b free = free
-
-lowered-free : (level : Option Level) (mode : Mode) → level_conflicts (lowered_level level mode) Read ≡ false
-lowered-free None Read = refl
-lowered-free (Some level) Read = refl
-lowered-free None Write = refl
-lowered-free (Some level) Write = refl
-
--- no change of a node makes a byte exclusive
-change-free : (change : NodeChange) (row : Option Row) (b : ℕ) → row_conflicts_at row b Read ≡ false → row_conflicts_at (row_after change row) b Read ≡ false
-change-free (Forgotten incarnation) row b free = above-free incarnation row b free
-change-free (Asked host) row b free = empty-free host.incarnation (row_above (host.incarnation - 1) row) b (above-free (host.incarnation - 1) row b free)
-change-free Answered None b free = refl
-change-free Answered (Some row) b free = free
-change-free (Relieved span mode) None b free = refl
-change-free (Relieved span mode) (Some row) b free =
-    elim (is_in span b) as (λ t. level_conflicts (cond t (lowered_level (row.token b) mode) (row.token b)) Read ≡ false) [ true ↦ lowered-free (row.token b) mode | false ↦ free ]
-
--- so there is none after an event either
-exclusive-after : (changed : Option Changed) (rows : ℕ → Option Row) → NoneExclusive rows → NoneExclusive (rows_after changed rows)
-exclusive-after None rows before node b within = before node b within
-exclusive-after (Some c) rows before node b within =
-    elim (node == c.node) as (λ t. row_conflicts_at (cond t (row_after c.change (rows node)) (rows node)) b Read ≡ false)
-    [ true ↦ change-free c.change (rows node) b (before node b within) | false ↦ before node b within ]
-
 readable : (row : Option Row) (s : Range) → s.hi ≤ greatest → ((b : ℕ) → b ≤ greatest → row_conflicts_at row b Read ≡ false) → row_conflicts row s Read ≡ false
 readable None s within free = refl
 readable (Some row) s within free = conflicts-none row.token s Read (λ b above below here. both_ways _ (free b (omega arith)) here)
 
--- and none conflicts with a read lock
-pub exclusive-readable : (changed : Option Changed) (rows : ℕ → Option Row) (s : Range) → NoneExclusive rows → s.hi ≤ greatest → (node : ℕ) → row_conflicts (rows_after changed rows node) s Read ≡ false
-exclusive-readable changed rows s before within node = readable (rows_after changed rows node) s within (exclusive-after changed rows before node)
+-- where no row has an exclusive byte none conflicts with a read lock
+pub exclusive-readable : (rows : ℕ → Option Row) (s : Range) → NoneExclusive rows → s.hi ≤ greatest → (node : ℕ) → row_conflicts (rows node) s Read ≡ false
+exclusive-readable rows s none within node = readable (rows node) s within (none node)
+
+-- nor has one after an edit that gives none an exclusive byte
+pub exclusive-edited : (clients : List Client) (e : RowEdit) → ((row : Option TokenHolder) → row_conflicts (row_seen row) whole Read ≡ false → row_conflicts (row_seen (row_kept e.row row)) whole Read ≡ false) → NoneExclusive (rows_of clients) → NoneExclusive (rows_of (overlaid clients (Some e)))
+unfolding rows_of
+exclusive-edited clients e gives none = at (slice_get clients e.place) refl
+  where
+    at : (o : Option Client) → slice_get clients e.place ≡ o → NoneExclusive (rows_of (with_client clients e o))
+    at None is = none
+    at (Some client) is = exclusive-set clients e.place (client_after e client) none (gives client.row (readable (row_seen client.row) whole (omega arith) (λ b within. ap (λ (o : Option Client). row_conflicts_at (row_of o) b Read) (sym is) ∙ none (suc e.place) b within)))
 
 -- where no row conflicts with what the request needs, no node is found
 pub unopposed-none : (s : ServerState) (r : TokenRequest) → ((node : ℕ) → row_conflicts (s.rows node) r.wanted.required r.mode ≡ false) → s.shape.nodes < conflicting_node s r

@@ -13,7 +13,7 @@ use Rattle.token_set.proofs.SearchLaws.{first-is, first-same}
 use Rattle.messages.specs.declared.refusal.StepError.{StepError}
 use Rattle.messages.specs.declared.message.Message.{Message}
 use Rattle.token_queue.specs.declared.token_request.TokenRequest.{TokenRequest}
-use Rattle.token_server.specs.State.{Row, ServerState, with_row}
+use Rattle.token_server.specs.State.{Row, ServerState, with_row, begin}
 use Rattle.messages.specs.declared.refusal.StepError.TheVariants.{Spent}
 use Rattle.messages.specs.Messages.{greatest_number}
 use Rattle.token_queue.specs.Requests.{meets}
@@ -109,6 +109,7 @@ Answer = Result (ServerState × List Message) StepError
 pub record Leaves (F : Option Row → Bool) (s t : ServerState) : Type 0 where
   pub shape : t.shape ≡ s.shape
   pub file : t.file ≡ s.file
+  pub epoch : t.epoch ≡ s.epoch
   pub dead : t.dead ≡ s.dead
   pub queue : t.queue ≡ s.queue
   pub active : t.active ≡ s.active
@@ -116,7 +117,7 @@ pub record Leaves (F : Option Row → Bool) (s t : ServerState) : Type 0 where
   pub rows : (n : ℕ) → F (t.rows n) ≡ F (s.rows n)
 
 leaves-itself : (F : Option Row → Bool) (s : ServerState) → Leaves F s s
-leaves-itself F s = record { shape = refl; file = refl; dead = refl; queue = refl; active = refl; waiting = refl; rows = λ n. refl }
+leaves-itself F s = record { shape = refl; file = refl; epoch = refl; dead = refl; queue = refl; active = refl; waiting = refl; rows = λ n. refl }
 
 leaves-all : (F : Option Row → Bool) (s t : ServerState) (out : List Message) → ◌≡◌ {A = Answer} (Ok (s, [])) (Ok (t, out)) → Leaves F s t
 leaves-all F s t out is =
@@ -124,7 +125,7 @@ leaves-all F s t out is =
     subst (Leaves F s) (ap (λ (p : ServerState × List Message). p.0) pair) (leaves-itself F s)
 
 commanded-leaves : (F : Option Row → Bool) (s t : ServerState) (node : ℕ) (row : Row) (token : Token) (command : Message) (out : List Message) → s.rows node ≡ Some row → F (Some (record row { token = token; number = row.number + 1; outstanding = Some command })) ≡ F (Some row) → commanded s node row token command ≡ Ok (t, out) → Leaves F s t
-commanded-leaves F s t node row token command out there same is = by (is_some row.outstanding) (nat_lt row.number greatest_number) is
+commanded-leaves F s t node row token command out there same is = by (is_some row.outstanding) (nat_lt row.number (begin s + greatest_number)) is
   where
     new : ServerState
     new = with_row s node (Some (record row { token = token; number = row.number + 1; outstanding = Some command }))
@@ -139,7 +140,7 @@ commanded-leaves F s t node row token command out there same is = by (is_some ro
     by true few h = leaves-all F s t out h
     by false true h =
         let pair : ◌≡◌ {A = ServerState × List Message} (new, command ∷ []) (t, out) = cc in
-        subst (Leaves F s) (ap (λ (p : ServerState × List Message). p.0) pair) (record { shape = refl; file = refl; dead = refl; queue = refl; active = refl; waiting = refl; rows = at })
+        subst (Leaves F s) (ap (λ (p : ServerState × List Message). p.0) pair) (record { shape = refl; file = refl; epoch = refl; dead = refl; queue = refl; active = refl; waiting = refl; rows = at })
     by false false h = absurd (cc)
 
 -- a request that is served leaves what other requests meet as it was
@@ -167,7 +168,7 @@ served-leaves s t r out span mode apart is = by (nat_le node s.shape.nodes) is
 commanded-silent : (s : ServerState) (node : ℕ) (row : Row) (token : Token) (command : Message) → is_idle (Some row) ≡ false → commanded s node row token command ≡ Ok (s, [])
 commanded-silent s node row token command busy = by (is_some row.outstanding) busy
   where
-    by : (b : Bool) → not b ≡ false → ◌≡◌ {A = Answer} (cond b (Ok (s, [])) (cond (nat_lt row.number greatest_number) (Ok (with_row s node (Some (record row { token = token; number = row.number + 1; outstanding = Some command })), command ∷ [])) (Err Spent))) (Ok (s, []))
+    by : (b : Bool) → not b ≡ false → ◌≡◌ {A = Answer} (cond b (Ok (s, [])) (cond (nat_lt row.number (begin s + greatest_number)) (Ok (with_row s node (Some (record row { token = token; number = row.number + 1; outstanding = Some command })), command ∷ [])) (Err Spent))) (Ok (s, []))
     by true busy = refl
     by false busy = absurd (cc)
 

@@ -11,15 +11,19 @@ use Rattle.model.specs.declared.lock_info.LockInfo.{LockInfo}
 use Rattle.model.specs.declared.mode.Mode.{Mode}
 use Rattle.intervals.specs.Bytes.{Range}
 use Rattle.messages.specs.declared.message.Message.{Message}
-use Rattle.messages.specs.declared.message.Message.TheVariants.{Request, Grant, Revoke, Taken, Released, Conflict, Deny, Freed}
+use Rattle.messages.specs.declared.message.Message.TheVariants.{Request, Grant, Revoke, Taken, Released, Conflict, Deny, Freed, Hello, Report}
+use Rattle.messages.specs.declared.token_run.TokenRun.{TokenRun}
+use Rattle.messages.specs.Reports.{reported}
 use Rattle.messages.specs.declared.message.Urgency.TheVariants.{Waits}
 use Rattle.messages.specs.Messages.{same_urgency, host_of}
+use Rattle.model.specs.Owners.{host_of_call}
+use Rattle.token_set.specs.Tokens.{Token}
 use Rattle.token_set.specs.Releases.{lowered}
 use Rattle.token_queue.specs.declared.token_request.TokenRequest.{TokenRequest}
 use Rattle.token_queue.specs.Requests.{is_of_call, is_up_to}
 use Rattle.token_queue.proofs.CallLaws.{same_call-true}
-use Rattle.token_server.specs.State.{Row, ServerState, forgotten, requests, requeued}
-use Rattle.token_server.specs.Server.{Change, with_a_row, request_of, enqueued_with, enqueued, asked, is_grant, revoked_mode, acknowledged, ended, put_off, postponed, denial, row_of_host, taken, released, in_conflict, freed, delivered}
+use Rattle.token_server.specs.State.{Row, ServerState, empty_row, begin, row_above, forgotten, requests, requeued}
+use Rattle.token_server.specs.Server.{Change, with_a_row, request_of, enqueued_with, enqueued, asked, is_grant, revoked_mode, acknowledged, ended, put_off, postponed, denial, row_of_incarnation, row_of_host, taken, released, in_conflict, asks_token, heard, freed, delivered}
 use Rattle.token_server.specs.Serve.{meets_some, admitted, ready}
 use Rattle.token_server.specs.Ready.{IsOrderly}
 use Rattle.token_server.proofs.AdmitLaws.{Lists}
@@ -107,6 +111,7 @@ orderly-ended call s o = record {
       let few = o.distinct c in
       omega arith;
   living = ended-each (Living s.dead) call s o.living;
+  counted = o.counted;
 }
 
 pub orderly-postponed : (call : CallId) (s : ServerState) → IsOrderly s → IsOrderly (postponed call s)
@@ -119,6 +124,7 @@ orderly-postponed call s o = record {
       let few = o.distinct c in
       omega arith;
   living = postponed-each (Living s.dead) call s o.living;
+  counted = o.counted;
 }
 
 pub orderly-requeued : (s : ServerState) → IsOrderly s → IsOrderly (requeued s)
@@ -131,6 +137,7 @@ orderly-requeued s o = record {
       let few = o.distinct c in
       omega arith;
   living = requeued-each (Living s.dead) s o.living;
+  counted = o.counted;
 }
 
 pub orderly-freed : (s : ServerState) (row : Option Row) → IsOrderly s → IsOrderly (freed s row)
@@ -140,6 +147,10 @@ orderly-freed s (Some row) o = orderly-requeued s o
 both-all : (P Q : TokenRequest → Type 0) (rs : List TokenRequest) → All P rs → All Q rs → All (λ r. P r × Q r) rs
 both-all P Q [] p q = All-nil (λ r. P r × Q r)
 both-all P Q (r ∷ rs) p q = All-cons (λ x. P x × Q x) r rs (All-head P r rs p, All-head Q r rs q) (both-all P Q rs (All-tail P r rs p) (All-tail Q r rs q))
+
+above-counted : (least incarnation : ℕ) (row : Option Row) → IfSome row (λ r. least ≤ r.number) → IfSome (row_above incarnation row) (λ r. least ≤ r.number)
+above-counted least incarnation None h = tt
+above-counted least incarnation (Some row) h = elim (nat_le row.incarnation incarnation) as (λ b. IfSome (cond b None (Some row)) (λ r. least ≤ r.number)) [ true ↦ tt | false ↦ h ]
 
 pub orderly-forgotten : (s : ServerState) (node incarnation : ℕ) → IsOrderly s → IsOrderly (forgotten s node incarnation)
 orderly-forgotten s node incarnation o = record {
@@ -152,6 +163,7 @@ orderly-forgotten s node incarnation o = record {
       let few = o.distinct c in
       omega arith;
   living = All-weaker (λ r. Living s.dead r × (stays r ≡ true)) (Living (forgotten s node incarnation).dead) young (requests (forgotten s node incarnation)) (both-all (Living s.dead) (λ r. stays r ≡ true) (requests (forgotten s node incarnation)) (forgotten-each (Living s.dead) s node incarnation o.living) (forgotten-young s node incarnation));
+  counted = λ n. elim (n == node) as (λ b. IfSome (cond b (row_above incarnation (s.rows n)) (s.rows n)) (λ row. begin s ≤ row.number)) [ true ↦ above-counted (begin s) incarnation (s.rows n) (o.counted n) | false ↦ o.counted n ];
 }
   where
     stays : TokenRequest → Bool
@@ -170,7 +182,11 @@ orderly-forgotten s node incarnation o = record {
 
 -- a new row changes no request
 pub orderly-row : (s : ServerState) (call : CallId) (row : Option Row) → IsOrderly s → IsOrderly (with_a_row s call row)
-orderly-row s call None o = record { distinct = o.distinct; living = o.living }
+orderly-row s call None o = record {
+  distinct = o.distinct;
+  living = o.living;
+  counted = λ n. elim (n == call.node) as (λ b. IfSome (cond b (Some (empty_row (begin s) call.incarnation)) (s.rows n)) (λ row. begin s ≤ row.number)) [ true ↦ omega arith | false ↦ o.counted n ];
+}
 orderly-row s call (Some row) o = o
 
 -- whether one is of the call
@@ -185,6 +201,7 @@ orderly-new : (s : ServerState) (r : TokenRequest) → list_any (is_of_call r.ca
 orderly-new s r active queue waiting living o = record {
   distinct = λ c. few c (is_of_call c r) refl;
   living = enqueued_with-each (Living s.dead) s r None living tt (requests-parts (Living s.dead) s o.living);
+  counted = o.counted;
 }
   where
     few : (c : CallId) (b : Bool) → is_of_call c r ≡ b → calls c (requests (enqueued_with s r None)) ≤ 1
@@ -210,6 +227,7 @@ orderly-again : (s : ServerState) (r own : TokenRequest) → list_any (is_of_cal
 orderly-again s r own active queue waiting living o = record {
   distinct = λ c. few c (is_of_call c own) refl;
   living = enqueued_with-each (Living s.dead) s r (Some own) living (subst (λ (x : Option TokenRequest). IfSome x (Living s.dead)) waiting (find-each (Living s.dead) (is_of_call r.call) s.waiting parts.waiting)) parts;
+  counted = o.counted;
 }
   where
     parts : AreRequests (Living s.dead) s
@@ -265,10 +283,22 @@ orderly-asked s r counted living o =
     rowed None = later (r.call.node == r.call.node)
     rowed (Some row) = later (r.call.node == r.call.node)
 
+-- a row whose number is of no earlier epoch
+abbrev Counted : ServerState → Option Row → Type 0
+Counted s row = IfSome row (λ r. begin s ≤ r.number)
+
+-- a command is answered
+acknowledged-orderly : (s : ServerState) (node : ℕ) (row : Row) (token : Token) → begin s ≤ row.number → IsOrderly s → IsOrderly (acknowledged s node row token)
+acknowledged-orderly s node row token counted o = record {
+  distinct = o.distinct;
+  living = o.living;
+  counted = λ n. elim (n == node) as (λ b. Counted s (cond b (Some (record row { token = token; outstanding = None })) (s.rows n))) [ true ↦ counted | false ↦ o.counted n ];
+}
+
 -- what a message changes
-taken-orderly : (s : ServerState) (number : ℕ) (call : CallId) (row : Option Row) (d : Change) → taken s number call row ≡ Some d → IsOrderly s → IsOrderly d.0
-taken-orderly s number call None d is o = absurd (cc)
-taken-orderly s number call (Some row) d is o = by (is_grant number row.outstanding) is
+taken-orderly : (s : ServerState) (number : ℕ) (call : CallId) (row : Option Row) (d : Change) → Counted s row → taken s number call row ≡ Some d → IsOrderly s → IsOrderly d.0
+taken-orderly s number call None d counted is o = absurd (cc)
+taken-orderly s number call (Some row) d counted is o = by (is_grant number row.outstanding) is
   where
     new : ServerState
     new = acknowledged s call.node row row.token
@@ -276,22 +306,22 @@ taken-orderly s number call (Some row) d is o = by (is_grant number row.outstand
     by : (b : Bool) → ◌≡◌ {A = Option Change} (cond b (Some (ended call new, [])) None) (Some d) → IsOrderly d.0
     by true h =
         let same : ◌≡◌ {A = Change} (ended call new, []) d = cc in
-        subst (λ (c : Change). IsOrderly c.0) same (orderly-ended call new (record { distinct = o.distinct; living = o.living }))
+        subst (λ (c : Change). IsOrderly c.0) same (orderly-ended call new (acknowledged-orderly s call.node row row.token counted o))
     by false h = absurd (cc)
 
-released-orderly : (s : ServerState) (number : ℕ) (holder : Host) (span : Range) (row : Option Row) (d : Change) → released s number holder span row ≡ Some d → IsOrderly s → IsOrderly d.0
-released-orderly s number holder span None d is o = absurd (cc)
-released-orderly s number holder span (Some row) d is o = by (revoked_mode number row.outstanding) is
+released-orderly : (s : ServerState) (number : ℕ) (holder : Host) (span : Range) (row : Option Row) (d : Change) → Counted s row → released s number holder span row ≡ Some d → IsOrderly s → IsOrderly d.0
+released-orderly s number holder span None d counted is o = absurd (cc)
+released-orderly s number holder span (Some row) d counted is o = by (revoked_mode number row.outstanding) is
   where
     by : (m : Option Mode) → ◌≡◌ {A = Option Change} (option_map (λ mode. (acknowledged s holder.node row (lowered row.token span mode), [])) m) (Some d) → IsOrderly d.0
     by None h = absurd (cc)
     by (Some mode) h =
         let same : ◌≡◌ {A = Change} (acknowledged s holder.node row (lowered row.token span mode), []) d = cc in
-        subst (λ (c : Change). IsOrderly c.0) same (record { distinct = o.distinct; living = o.living })
+        subst (λ (c : Change). IsOrderly c.0) same (acknowledged-orderly s holder.node row (lowered row.token span mode) counted o)
 
-conflict-orderly : (s : ServerState) (number : ℕ) (holder : Host) (call : CallId) (lock : LockInfo) (row : Option Row) (d : Change) → in_conflict s number holder call lock row ≡ Some d → IsOrderly s → IsOrderly d.0
-conflict-orderly s number holder call lock None d is o = absurd (cc)
-conflict-orderly s number holder call lock (Some row) d is o = by (revoked_mode number row.outstanding) is
+conflict-orderly : (s : ServerState) (number : ℕ) (holder : Host) (call : CallId) (lock : LockInfo) (row : Option Row) (d : Change) → Counted s row → in_conflict s number holder call lock row ≡ Some d → IsOrderly s → IsOrderly d.0
+conflict-orderly s number holder call lock None d counted is o = absurd (cc)
+conflict-orderly s number holder call lock (Some row) d counted is o = by (revoked_mode number row.outstanding) is
   where
     new : ServerState
     new = acknowledged s holder.node row row.token
@@ -303,19 +333,39 @@ conflict-orderly s number holder call lock (Some row) d is o = by (revoked_mode 
     by None h = absurd (cc)
     by (Some mode) h =
         let same : ◌≡◌ {A = Change} (postponed call new, sent) d = cc in
-        subst (λ (c : Change). IsOrderly c.0) same (orderly-postponed call new (record { distinct = o.distinct; living = o.living }))
+        subst (λ (c : Change). IsOrderly c.0) same (orderly-postponed call new (acknowledged-orderly s holder.node row row.token counted o))
+
+heard-orderly : (s : ServerState) (number : ℕ) (holder : Host) (runs : List TokenRun) (row : Option Row) (d : Change) → Counted s row → heard s number holder runs row ≡ Some d → IsOrderly s → IsOrderly d.0
+heard-orderly s number holder runs None d counted is o = absurd (cc)
+heard-orderly s number holder runs (Some row) d counted is o = by (asks_token number row.outstanding) is
+  where
+    by : (b : Bool) → ◌≡◌ {A = Option Change} (cond b (Some (acknowledged s holder.node row (reported runs), [])) None) (Some d) → IsOrderly d.0
+    by true h =
+        let same : ◌≡◌ {A = Change} (acknowledged s holder.node row (reported runs), []) d = cc in
+        subst (λ (c : Change). IsOrderly c.0) same (acknowledged-orderly s holder.node row (reported runs) counted o)
+    by false h = absurd (cc)
+
+-- the row of a host is one of the server's
+host-counted : (s : ServerState) (h : Host) → IsOrderly s → Counted s (row_of_host s h)
+host-counted s h o = by (s.rows h.node) (o.counted h.node)
+  where
+    by : (row : Option Row) → Counted s row → Counted s (row_of_incarnation h.incarnation row)
+    by None counted = tt
+    by (Some row) counted = elim (row.incarnation == h.incarnation) as (λ b. Counted s (cond b (Some row) None)) [ true ↦ counted | false ↦ tt ]
 
 pub orderly-delivered : (s : ServerState) (m : Message) (d : Change) → 1 ≤ (host_of m).incarnation → s.dead (host_of m).node < (host_of m).incarnation → delivered s m ≡ Some d → IsOrderly s → IsOrderly d.0
 orderly-delivered s (Request file call urgency mode wanted) d counted living is o =
     let r : TokenRequest = record { call = call; urgency = urgency; mode = mode; wanted = wanted } in
     let same : ◌≡◌ {A = Change} (asked s r, []) d = cc in
     subst (λ (c : Change). IsOrderly c.0) same (orderly-asked s r counted living o)
-orderly-delivered s (Taken file number call) d counted living is o = taken-orderly s number call _ d is o
-orderly-delivered s (Released file number holder call span) d counted living is o = released-orderly s number holder span _ d is o
-orderly-delivered s (Conflict file number holder call lock) d counted living is o = conflict-orderly s number holder call lock _ d is o
+orderly-delivered s (Taken file number call) d counted living is o = taken-orderly s number call _ d (host-counted s (host_of_call call) o) is o
+orderly-delivered s (Released file number holder call span) d counted living is o = released-orderly s number holder span _ d (host-counted s holder o) is o
+orderly-delivered s (Conflict file number holder call lock) d counted living is o = conflict-orderly s number holder call lock _ d (host-counted s holder o) is o
 orderly-delivered s (Freed file holder) d counted living is o =
     let same : ◌≡◌ {A = Change} (freed s (row_of_host s holder), []) d = cc in
     subst (λ (c : Change). IsOrderly c.0) same (orderly-freed s (row_of_host s holder) o)
+orderly-delivered s (Report file number holder runs) d counted living is o = heard-orderly s number holder runs _ d (host-counted s holder o) is o
+orderly-delivered s (Hello file number holder) d counted living is o = absurd (cc)
 orderly-delivered s (Grant file number call mode span) d counted living is o = absurd (cc)
 orderly-delivered s (Revoke file number holder call mode wanted) d counted living is o = absurd (cc)
 orderly-delivered s (Deny file call holder number lock) d counted living is o = absurd (cc)
@@ -352,4 +402,5 @@ orderly-ready s o = record {
       let few = o.distinct c in
       omega arith;
   living = ready-each (Living s.dead) s o.living;
+  counted = o.counted;
 }

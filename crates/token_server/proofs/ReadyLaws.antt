@@ -1,11 +1,14 @@
 -- What holds of a server between two steps, once a planned step is made.
-use Rattle.std.specs.Prelude.{◌≡◌, ℕ, ◌+◌, ◌<◌, ◌≤◌, Bool, true, false, not, cond, ◌&&◌, ◌||◌, nat_le, List, [], ◌∷◌, ◌++◌, All, filter, find, length, Option, Some, None, Vec}
+use Rattle.std.specs.Prelude.{◌≡◌, ℕ, ◌+◌, ◌<◌, ◌≤◌, Bool, true, false, not, cond, ◌&&◌, ◌||◌, nat_le, List, [], ◌∷◌, ◌++◌, All, filter, find, length, Option, Some, None, Result, Ok, Vec}
 use Rattle.std.proofs.Common.{refl, sym, ap, subst, ◌∙◌, inl, inr, arith, append-nil}
 use Rattle.std.proofs.lemmas.Bool.{both_ways, leb-true, and_from}
 use Rattle.std.proofs.lemmas.Bool.Decides.{eqb_tells}
 use Rattle.std.proofs.lemmas.List.Elements.{All-head, All-tail, All-filter}
 use Rattle.std.specs.Global.{Global}
+use Rattle.intervals.specs.Search.{some_passes}
 use Rattle.model.specs.declared.call.CallId.{CallId}
+use Rattle.messages.specs.declared.message.Message.{Message}
+use Rattle.messages.specs.declared.refusal.StepError.{StepError}
 use Rattle.token_queue.specs.declared.token_request.TokenRequest.{TokenRequest}
 use Rattle.token_queue.specs.declared.held.Held.{Held}
 use Rattle.token_queue.specs.Requests.{LineParts, is_of_call, is_up_to, AreOfDistinctCalls}
@@ -22,8 +25,8 @@ use Rattle.token_server.specs.declared.sketch.Sketch.{Sketch}
 use Rattle.token_server.specs.declared.sketch.Moved.{Moved}
 use Rattle.token_server.specs.declared.sketch.Moved.TheVariants.{Nothing, New, Again, Waiting, PutOff}
 use Rattle.token_server.specs.declared.told.Told.{Told}
-use Rattle.token_server.specs.State.{ServerState}
-use Rattle.token_server.specs.Serve.{meets_some, ready}
+use Rattle.token_server.specs.State.{Row, ServerState, is_awaited, awaits}
+use Rattle.token_server.specs.Serve.{meets_some, each_served, ready, serve}
 use Rattle.token_server.specs.Told.{with_told}
 use Rattle.token_server.specs.Obstacles.{obstacle, are_apart, is_idle}
 use Rattle.token_server.specs.Admitting.{all_but, all_stay}
@@ -32,6 +35,7 @@ use Rattle.token_server.specs.Ready.{AreDistinct, IsOrderly, IsReady, IsServer}
 use Rattle.token_server.specs.Sketches.{rows_after, deaths_after, dropped, without, still_active, queue_moved, waiting_moved, sketched}
 use Rattle.token_server.specs.Edits.{overlaid, held_still, held_without, held_after, queue_after, waiting_after, AreListed, drafted, given_rows, with_given, many_moved, many_put_off, HasRoom, HeldHasRoom, IsNewCall, PartsFit, Fits, made}
 use Rattle.token_server.proofs.AdmitLaws.{ready-is}
+use Rattle.token_server.proofs.AskedLaws.{none-after, served-awaits, served-counted}
 use Rattle.token_server.proofs.AdmittingLaws.{all_but-none, calls, calls-append, calls-cons, apart-fewer, admitted-keeps_apart, admitted-leaves}
 use Rattle.token_server.proofs.StayLaws.{Stay}
 use Rattle.token_server.proofs.EditLaws.{overlaid-length}
@@ -118,41 +122,102 @@ stay-all : (active before queue : List TokenRequest) → Stay active before queu
 stay-all active before [] all = refl
 stay-all active before (r ∷ rest) all = and_from (meets_some r active || meets_some r before) (all_stay active (before ++ r ∷ []) rest) all.0 (stay-all active (before ++ r ∷ []) rest all.1)
 
+-- where no request is served, none is after some go
+none-left : (e : Option CallId) (d : Option (ℕ × ℕ)) → still_active e (without d []) ≡ []
+none-left None None = refl
+none-left None (Some d) = refl
+none-left (Some call) None = refl
+none-left (Some call) (Some d) = refl
+
+abbrev Answer : Type 0
+Answer = Result (ServerState × List Message) StepError
+
 -- a step whose rows and requests change as the sketch has it
-module _ (p : ServerParts) (k : Sketch) (d : Draft) (listed : AreListed p k d.rows d.lists) (rows : rows_of (overlaid p.clients d.rows) ≡ rows_after k.changed (rows_of p.clients)) (deaths : deaths_of (overlaid p.clients d.rows) ≡ deaths_after k.changed (deaths_of p.clients)) where
+module _ (p : ServerParts) (k : Sketch) (d : Draft) (listed : AreListed p k d.rows d.lists) (rows : rows_of (overlaid p.clients d.rows) ≡ rows_after k.changed (rows_of p.clients)) (deaths : deaths_of (overlaid p.clients d.rows) ≡ deaths_after k.changed (deaths_of p.clients)) (before : IsReady (server_state p) p.active.held) where
   active-is : requests_of (held_after d.lists p.active.held) ≡ (sketched p k).active ++ requests_of d.lists.fresh.items
   active-is = held_after-requests d.lists p.active.held ∙ ap (λ (xs : List TokenRequest). xs ++ requests_of d.lists.fresh.items) listed.served
 
   queue-is : queue_after d.lists p.queue.requests p.waiting.requests ≡ all_but (requests_of d.lists.fresh.items) (sketched p k).queue
   queue-is = ap (all_but (requests_of d.lists.fresh.items)) listed.queued
 
-  -- is the sketched state, with requests from the queue
-  pub drafted-ready : drafted p d ≡ ready (sketched p k)
-  drafted-ready =
-      (λ i. record { shape = p.shape; file = p.file; rows = rows i; dead = deaths i; queue = queue-is i; active = active-is i; waiting = listed.put_off i })
-      ∙ sym (ready-is (sketched p k) ((sketched p k).active ++ requests_of d.lists.fresh.items) (all_but (requests_of d.lists.fresh.items) (sketched p k).queue) listed.comes.comes)
+  -- which awaits a token awaited one before, and serves none
+  rests : awaits (sketched p k) ≡ true → (sketched p k).active ≡ []
+  rests awaited = by (awaits (server_state p)) refl
+    where
+      by : (b : Bool) → awaits (server_state p) ≡ b → (sketched p k).active ≡ []
+      by true is = ap (λ (rs : List TokenRequest). still_active k.ended (without (dropped k.changed) rs)) (before.resting is) ∙ none-left k.ended (dropped k.changed)
+      by false is = absurd (both_ways (awaits (sketched p k)) (none-after k.changed (rows_of p.clients) p.shape.nodes is) awaited)
 
-  pub drafted-apart : are_apart (requests_of p.active.held) ≡ true → are_apart (drafted p d).active ≡ true
-  drafted-apart apart =
-      ap are_apart active-is
-      ∙ admitted-keeps_apart (sketched p k).active (sketched p k).queue (requests_of d.lists.fresh.items) listed.comes (still-apart k.ended (dropped k.changed) (requests_of p.active.held) apart)
+  -- is the sketched state, with requests from the queue unless it awaits a token
+  drafted-awaiting : awaits (sketched p k) ≡ true → drafted p d ≡ sketched p k
+  drafted-awaiting awaited =
+      let none : d.lists.fresh.items ≡ [] = listed.rests awaited in
+      let active : requests_of (held_after d.lists p.active.held) ≡ (sketched p k).active = active-is ∙ ap (λ (hs : List Held). (sketched p k).active ++ requests_of hs) none ∙ append-nil (sketched p k).active in
+      let queue : queue_after d.lists p.queue.requests p.waiting.requests ≡ (sketched p k).queue = queue-is ∙ ap (λ (hs : List Held). all_but (requests_of hs) (sketched p k).queue) none ∙ all_but-none (sketched p k).queue in
+      λ i. record { shape = p.shape; file = p.file; epoch = p.epoch; rows = rows i; dead = deaths i; queue = queue i; active = active i; waiting = listed.put_off i }
 
-  drafted-settled : all_stay (drafted p d).active [] (drafted p d).queue ≡ true
-  drafted-settled =
+  drafted-ready : awaits (sketched p k) ≡ false → drafted p d ≡ ready (sketched p k)
+  drafted-ready told =
+      (λ i. record { shape = p.shape; file = p.file; epoch = p.epoch; rows = rows i; dead = deaths i; queue = queue-is i; active = active-is i; waiting = listed.put_off i })
+      ∙ sym (ready-is (sketched p k) ((sketched p k).active ++ requests_of d.lists.fresh.items) (all_but (requests_of d.lists.fresh.items) (sketched p k).queue) (listed.comes told).comes)
+
+  -- serves what it has to
+  pub drafted-serves : serve (sketched p k) ≡ each_served (drafted p d).active (drafted p d)
+  drafted-serves = by (awaits (sketched p k)) refl
+    where
+      s : ServerState
+      s = sketched p k
+
+      whole : (b : Bool) → awaits s ≡ b → serve s ≡ cond b (Ok (s, [])) (each_served (ready s).active (ready s))
+      whole b is = ap (λ (t : Bool). let x : Answer = cond t (Ok (s, [])) (each_served (ready s).active (ready s)) in x) is
+
+      by : (b : Bool) → awaits s ≡ b → serve s ≡ each_served (drafted p d).active (drafted p d)
+      by true is = whole true is ∙ sym (ap (λ (t : ServerState). each_served t.active t) (drafted-awaiting is) ∙ ap (λ (rs : List TokenRequest). each_served rs s) (rests is))
+      by false is = whole false is ∙ sym (ap (λ (t : ServerState). each_served t.active t) (drafted-ready is))
+
+  pub drafted-orderly : IsOrderly (sketched p k) → IsOrderly (drafted p d)
+  drafted-orderly orderly = by (awaits (sketched p k)) refl
+    where
+      by : (b : Bool) → awaits (sketched p k) ≡ b → IsOrderly (drafted p d)
+      by true is = subst IsOrderly (sym (drafted-awaiting is)) orderly
+      by false is = subst IsOrderly (sym (drafted-ready is)) (orderly-ready (sketched p k) orderly)
+
+  drafted-awaits : awaits (drafted p d) ≡ awaits (sketched p k)
+  drafted-awaits = ap (λ (f : ℕ → Option Row). some_passes (λ n. is_awaited (f n)) 1 p.shape.nodes) rows
+
+  drafted-rests : awaits (sketched p k) ≡ true → (drafted p d).active ≡ []
+  drafted-rests is = ap (λ (t : ServerState). t.active) (drafted-awaiting is) ∙ rests is
+
+  pub drafted-apart : are_apart (drafted p d).active ≡ true
+  drafted-apart = by (awaits (sketched p k)) refl
+    where
+      by : (b : Bool) → awaits (sketched p k) ≡ b → are_apart (drafted p d).active ≡ true
+      by true is = ap are_apart (drafted-rests is)
+      by false is =
+          ap are_apart active-is
+          ∙ admitted-keeps_apart (sketched p k).active (sketched p k).queue (requests_of d.lists.fresh.items) (listed.comes is) (still-apart k.ended (dropped k.changed) (requests_of p.active.held) before.apart)
+
+  drafted-settled : awaits (sketched p k) ≡ false → all_stay (drafted p d).active [] (drafted p d).queue ≡ true
+  drafted-settled is =
       (λ i. all_stay (active-is i) [] (queue-is i))
-      ∙ stay-all ((sketched p k).active ++ requests_of d.lists.fresh.items) [] (all_but (requests_of d.lists.fresh.items) (sketched p k).queue) (admitted-leaves (sketched p k).active (sketched p k).queue (requests_of d.lists.fresh.items) listed.comes)
+      ∙ stay-all ((sketched p k).active ++ requests_of d.lists.fresh.items) [] (all_but (requests_of d.lists.fresh.items) (sketched p k).queue) (admitted-leaves (sketched p k).active (sketched p k).queue (requests_of d.lists.fresh.items) (listed.comes is))
 
   -- and holds all that a server has to, once nodes are told what comes of it
-  pub told-ready : (ts : List Told) → IsOrderly (sketched p k) → are_apart (requests_of p.active.held) ≡ true → All (λ h. obstacle (with_told ts (drafted p d)) h.request ≡ h.at) (held_after d.lists p.active.held) → All (λ h. is_idle ((with_told ts (drafted p d)).rows h.at) ≡ false) (held_after d.lists p.active.held) → IsReady (with_told ts (drafted p d)) (held_after d.lists p.active.held)
-  told-ready ts orderly apart waits quiet =
-      let o : IsOrderly (drafted p d) = subst IsOrderly (sym drafted-ready) (orderly-ready (sketched p k) orderly) in
-      record {
-        waits = waits;
-        quiet = quiet;
-        apart = drafted-apart apart;
-        settled = drafted-settled;
-        orderly = record { distinct = o.distinct; living = o.living };
-      }
+  module _ (ts : List Told) (out : List Message) (comes : each_served (drafted p d).active (drafted p d) ≡ Ok (with_told ts (drafted p d), out)) where
+    pub told-awaits : awaits (with_told ts (drafted p d)) ≡ awaits (drafted p d)
+    told-awaits = served-awaits (drafted p d).active (drafted p d) (with_told ts (drafted p d)) out refl comes
+
+    pub told-ready : IsOrderly (sketched p k) → All (λ h. obstacle (with_told ts (drafted p d)) h.request ≡ h.at) (held_after d.lists p.active.held) → All (λ h. is_idle ((with_told ts (drafted p d)).rows h.at) ≡ false) (held_after d.lists p.active.held) → IsReady (with_told ts (drafted p d)) (held_after d.lists p.active.held)
+    told-ready orderly waits quiet =
+        let o : IsOrderly (drafted p d) = drafted-orderly orderly in
+        record {
+          waits = waits;
+          quiet = quiet;
+          apart = drafted-apart;
+          resting = λ is. drafted-rests (sym (told-awaits ∙ drafted-awaits) ∙ is);
+          settled = λ is. drafted-settled (sym (told-awaits ∙ drafted-awaits) ∙ is);
+          orderly = record { distinct = o.distinct; living = o.living; counted = served-counted (drafted p d).active (drafted p d) (with_told ts (drafted p d)) out refl o.counted comes };
+        }
 
 -- none of the call is found
 none-find : (c : CallId) (rs : List TokenRequest) → calls c rs ≡ 0 → find (is_of_call c) rs ≡ None
@@ -193,15 +258,17 @@ pub distinct-waiting : (s : ServerState) → IsOrderly s → AreDistinct s.waiti
 distinct-waiting s o c = let a = calls-kinds c s in let few = o.distinct c in omega arith
 
 -- what a planned step makes of a server holds all that a server has to
-pub applied : (p : ServerParts) (e : Edit) (v : Parts) (clients : List Client) (active : ActiveParts) (queue waiting : LineParts) → v ≡ e.parts.value → IsServer p → Fits p e → ((n : ℕ) → rows_of clients n ≡ given_rows v.given.items (overlaid p.clients v.draft.rows) n) → deaths_of clients ≡ deaths_of (overlaid p.clients v.draft.rows) → length clients ≡ length (overlaid p.clients v.draft.rows) → active.held ≡ held_after v.draft.lists p.active.held → queue.requests ≡ queue_after v.draft.lists p.queue.requests p.waiting.requests → waiting.requests ≡ waiting_after v.draft.lists p.waiting.requests → IsServer (record { shape = p.shape; file = p.file; clients = clients; active = active; queue = queue; waiting = waiting })
-applied p e v clients active queue waiting is server fits rows deaths many held queued put_off = record {
+pub applied : (p : ServerParts) (awaiting : Bool) (e : Edit) (v : Parts) (clients : List Client) (active : ActiveParts) (queue waiting : LineParts) → v ≡ e.parts.value → IsServer p awaiting → Fits p e → ((n : ℕ) → rows_of clients n ≡ given_rows v.given.items (overlaid p.clients v.draft.rows) n) → deaths_of clients ≡ deaths_of (overlaid p.clients v.draft.rows) → length clients ≡ length (overlaid p.clients v.draft.rows) → active.held ≡ held_after v.draft.lists p.active.held → queue.requests ≡ queue_after v.draft.lists p.queue.requests p.waiting.requests → waiting.requests ≡ waiting_after v.draft.lists p.waiting.requests → IsServer (record { shape = p.shape; file = p.file; epoch = p.epoch; clients = clients; active = active; queue = queue; waiting = waiting }) v.draft.awaits
+applied p awaiting e v clients active queue waiting is server fits rows deaths many held queued put_off = record {
   each_node = many ∙ overlaid-length p.clients v.draft.rows ∙ server.each_node;
   file_in = server.file_in;
+  epoch_in = server.epoch_in;
+  awaited = subst (λ (w : Parts). w.draft.awaits ≡ awaits (made p w)) (sym is) fits.awaited ∙ ap (λ (x : ServerState × List Held). awaits x.0) whole;
   ready = subst (λ (x : ServerState × List Held). IsReady x.0 x.1) whole (subst (λ (w : Parts). IsReady (made p w) (held_after w.draft.lists p.active.held)) (sym is) fits.ready);
 }
   where
-    whole : ◌≡◌ {A = ServerState × List Held} (made p v, held_after v.draft.lists p.active.held) (server_state (record { shape = p.shape; file = p.file; clients = clients; active = active; queue = queue; waiting = waiting }), active.held)
-    whole = λ i. (record { shape = p.shape; file = p.file; rows = λ n. sym (rows n) i; dead = sym deaths i; queue = sym queued i; active = requests_of (sym held i); waiting = sym put_off i }, sym held i)
+    whole : ◌≡◌ {A = ServerState × List Held} (made p v, held_after v.draft.lists p.active.held) (server_state (record { shape = p.shape; file = p.file; epoch = p.epoch; clients = clients; active = active; queue = queue; waiting = waiting }), active.held)
+    whole = λ i. (record { shape = p.shape; file = p.file; epoch = p.epoch; rows = λ n. sym (rows n) i; dead = sym deaths i; queue = sym queued i; active = requests_of (sym held i); waiting = sym put_off i }, sym held i)
 
 -- lists by which nothing changes
 pub record SameLists (l : Lists) : Type 0 where
@@ -211,7 +278,7 @@ pub record SameLists (l : Lists) : Type 0 where
   pub moved : l.moved ≡ Nothing
   pub fresh : l.fresh.items ≡ []
 
-module _ (p : ServerParts) (l : Lists) (given : Vec Given Global) (same : SameLists l) (nothing : given.items ≡ []) where
+module _ (p : ServerParts) (l : Lists) (awaiting : Bool) (given : Vec Given Global) (same : SameLists l) (nothing : given.items ≡ []) where
   held-same : held_after l p.active.held ≡ p.active.held
   held-same =
       (λ i. held_still (same.ended i) (held_without (same.dropped i) (waiting_for (same.ats i) p.active.held)) ++ same.fresh i)
@@ -226,11 +293,12 @@ module _ (p : ServerParts) (l : Lists) (given : Vec Given Global) (same : SameLi
   waiting-same = λ i. waiting_moved (same.moved i) (without (same.dropped i) p.waiting.requests)
 
   -- leave a server as it is
-  pub same-state : with_given given.items p.clients (drafted p (record { rows = None; lists = l })) ≡ server_state p
+  pub same-state : with_given given.items p.clients (drafted p (record { rows = None; lists = l; awaits = awaiting })) ≡ server_state p
   same-state =
       λ i. record {
         shape = p.shape;
         file = p.file;
+        epoch = p.epoch;
         rows = given_rows (nothing i) p.clients;
         dead = deaths_of p.clients;
         queue = queue-same i;
@@ -238,12 +306,13 @@ module _ (p : ServerParts) (l : Lists) (given : Vec Given Global) (same : SameLi
         waiting = waiting-same i;
       }
 
-  pub same-fits : (spares : Spares) → spares ≡ record { active = None; queue = None; waiting = None } → IsReady (server_state p) p.active.held → PartsFit p (record { draft = record { rows = None; lists = l }; given = given; spares = spares })
-  same-fits spares empty ready = record {
+  pub same-fits : (spares : Spares) → spares ≡ record { active = None; queue = None; waiting = None } → awaiting ≡ awaits (server_state p) → IsReady (server_state p) p.active.held → PartsFit p (record { draft = record { rows = None; lists = l; awaits = awaiting }; given = given; spares = spares })
+  same-fits spares empty known ready = record {
     new = subst (λ (m : Moved). IsNewCall m (without l.dropped p.queue.requests) (without l.dropped p.waiting.requests)) (sym same.moved) tt;
     served = subst (λ (h : List Held). HeldHasRoom p.active spares.active (length h)) (sym same.fresh) (subst (λ (x : Spares). HeldHasRoom p.active x.active 0) (sym empty) (omega arith));
     queued = subst (λ (m : Moved). HasRoom p.queue spares.queue (many_moved m (without l.dropped p.waiting.requests))) (sym same.moved) (subst (λ (x : Spares). HasRoom p.queue x.queue 0) (sym empty) (omega arith));
     put_off = subst (λ (m : Moved). HasRoom p.waiting spares.waiting (many_put_off m)) (sym same.moved) (subst (λ (x : Spares). HasRoom p.waiting x.waiting 0) (sym empty) (omega arith));
     nodes = refl;
+    awaited = known ∙ sym (ap awaits same-state);
     ready = subst (λ (x : ServerState × List Held). IsReady x.0 x.1) (λ i. let x : ServerState × List Held = (sym same-state i, sym held-same i) in x) ready;
   }

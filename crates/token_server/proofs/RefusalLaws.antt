@@ -1,5 +1,5 @@
 -- Why a server refuses to serve: for want of a number alone.
-use Rattle.std.specs.Prelude.{◌≡◌, ℕ, Bool, true, false, cond, not, ◌&&◌, nat_le, nat_lt, List, [], ◌∷◌, is_some, Option, Some, None, Result, Ok, Err}
+use Rattle.std.specs.Prelude.{◌≡◌, ℕ, ◌+◌, Bool, true, false, cond, not, ◌&&◌, nat_le, nat_lt, List, [], ◌∷◌, is_some, Option, Some, None, Result, Ok, Err}
 use Rattle.std.proofs.Common.{sym, ap}
 use Rattle.messages.specs.declared.refusal.StepError.{StepError}
 use Rattle.messages.specs.declared.refusal.StepError.TheVariants.{Stranger, Spent}
@@ -8,7 +8,7 @@ use Rattle.messages.specs.Messages.{greatest_number, addressee, host_of, is_with
 use Rattle.token_set.specs.Tokens.{Token}
 use Rattle.token_queue.specs.declared.token_request.TokenRequest.{TokenRequest}
 use Rattle.token_server.specs.declared.event.ServerEvent.TheVariants.{Deliver}
-use Rattle.token_server.specs.State.{Row, ServerState, forgotten, requeued}
+use Rattle.token_server.specs.State.{Row, ServerState, forgotten, requeued, begin, awaits}
 use Rattle.token_server.specs.Serve.{conflicting_node, commanded, granted_to, revoked_from, served, with_more, and_then, each_served, ready, serve}
 use Rattle.token_server.specs.Resends.{sending_first, outstanding, resend_rule}
 use Rattle.token_server.specs.Server.{Change, is_server, delivered, then_serve, learn_rule, server_rule}
@@ -17,7 +17,7 @@ abbrev Answer : Type 0
 Answer = Result (ServerState × List Message) StepError
 
 commanded-spent : (s : ServerState) (node : ℕ) (row : Row) (token : Token) (command : Message) (e : StepError) → commanded s node row token command ≡ Err e → e ≡ Spent
-commanded-spent s node row token command e = by (is_some row.outstanding) (nat_lt row.number greatest_number) _ _
+commanded-spent s node row token command e = by (is_some row.outstanding) (nat_lt row.number (begin s + greatest_number)) _ _
   where
     by : (busy few : Bool) (a b : ServerState × List Message) → ◌≡◌ {A = Answer} (cond busy (Ok a) (cond few (Ok b) (Err Spent))) (Err e) → e ≡ Spent
     by true few a b h = absurd (cc)
@@ -56,8 +56,12 @@ each_served-spent (r ∷ rest) s e h = by (served s r) (served-spent s r e) (λ 
 
 -- what is refused once a server serves is refused for want of a number
 pub serve_first-spent : (first : List Message) (s : ServerState) (e : StepError) → sending_first first (serve s) ≡ Err e → e ≡ Spent
-serve_first-spent first s e h = each_served-spent (ready s).active (ready s) e (by (serve s) h)
+serve_first-spent first s e h = serves (awaits s) (by (serve s) h)
   where
+    serves : (b : Bool) → ◌≡◌ {A = Answer} (cond b (Ok (s, [])) (each_served (ready s).active (ready s))) (Err e) → e ≡ Spent
+    serves true h = absurd (cc)
+    serves false h = each_served-spent (ready s).active (ready s) e h
+
     by : (x : Answer) → sending_first first x ≡ Err e → x ≡ Err e
     by (Err f) h = let same : f ≡ e = cc in ap (λ (g : StepError). let a : Answer = Err g in a) same
     by (Ok done) h = absurd (cc)

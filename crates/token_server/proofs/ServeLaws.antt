@@ -11,7 +11,7 @@ use Rattle.messages.specs.declared.message.Message.TheVariants.{Grant}
 use Rattle.messages.specs.Messages.{greatest_number}
 use Rattle.token_set.specs.Tokens.{Token, raised}
 use Rattle.token_queue.specs.declared.token_request.TokenRequest.{TokenRequest}
-use Rattle.token_server.specs.State.{Row, ServerState, with_row}
+use Rattle.token_server.specs.State.{Row, ServerState, begin, with_row}
 use Rattle.token_server.specs.Serve.{row_conflicts, granted_span, conflicting_node, commanded, granted_to, revoked_from, served, with_more, and_then, each_served, ready, serve}
 use Rattle.token_server.specs.Grants.{IsUnhindered, GrantsWhatIsFree}
 use Rattle.token_server.proofs.GrantLaws.{conflicts_at, first-none, narrowed-largest, narrowed-holds}
@@ -37,14 +37,14 @@ abbrev with_command : Row → Token → Message → Row
 with_command row token command = record row { token = token; number = row.number + 1; outstanding = Some command }
 
 -- the command goes where none is under way and a number is left
-commanded-idle : (s : ServerState) (node : ℕ) (row : Row) (token : Token) (command : Message) → row.outstanding ≡ None → row.number < greatest_number → commanded s node row token command ≡ Ok (with_row s node (Some (with_command row token command)), command ∷ [])
+commanded-idle : (s : ServerState) (node : ℕ) (row : Row) (token : Token) (command : Message) → row.outstanding ≡ None → row.number < begin s + greatest_number → commanded s node row token command ≡ Ok (with_row s node (Some (with_command row token command)), command ∷ [])
 commanded-idle s node row token command idle room =
     let Served : Type 0 = Result (ServerState × List Message) StepError in
     let sent : Served = Ok (with_row s node (Some (with_command row token command)), command ∷ []) in
     let busy : Served = Ok (s, []) in
     let spent : Served = Err Spent in
-    ap (λ (o : Option Message). cond (is_some o) busy (cond (nat_lt row.number greatest_number) sent spent)) idle
-    ∙ ap (λ (b : Bool). cond b sent spent) (lt-ltb row.number greatest_number room)
+    ap (λ (o : Option Message). cond (is_some o) busy (cond (nat_lt row.number (begin s + greatest_number)) sent spent)) idle
+    ∙ ap (λ (b : Bool). cond b sent spent) (lt-ltb row.number (begin s + greatest_number) room)
 
 -- the answer to a request that nothing hinders
 record Grants (s : ServerState) (r : TokenRequest) (row : Row) (answer : Result (ServerState × List Message) StepError) : Type 0 where
@@ -98,7 +98,8 @@ what_is_free-granted s r row is free =
     let grant = Grant is.now.file (row.number + 1) r.call r.mode d.span in
     let Served : Type 0 = Result (ServerState × List Message) StepError in
     let whole : serve s ≡ and_then (each_served is.before (ready s)) (each_served (r ∷ is.after)) =
-    ap (λ (rs : List TokenRequest). each_served rs (ready s)) is.among ∙ each_served-append is.before (r ∷ is.after) (ready s) in
+    ap (λ (b : Bool). let x : Served = cond b (Ok (s, [])) (each_served (ready s).active (ready s)) in x) is.told
+    ∙ ap (λ (rs : List TokenRequest). each_served rs (ready s)) is.among ∙ each_served-append is.before (r ∷ is.after) (ready s) in
     let turn : and_then (each_served is.before (ready s)) (each_served (r ∷ is.after)) ≡ with_more is.sent (and_then (served is.now r) (each_served is.after)) =
     ap (λ (x : Served). and_then x (each_served (r ∷ is.after))) is.turn in
     let granted : with_more is.sent (and_then (served is.now r) (each_served is.after)) ≡ with_more is.sent (with_more (grant ∷ []) (each_served is.after d.new)) =

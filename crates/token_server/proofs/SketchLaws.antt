@@ -15,23 +15,23 @@ use Rattle.token_server.specs.declared.sketch.Moved.TheVariants.{Nothing}
 use Rattle.token_server.specs.declared.sketch.Changed.{Changed}
 use Rattle.token_queue.specs.Requests.{is_of_call, is_up_to}
 use Rattle.token_queue.specs.Actives.{requests_of}
-use Rattle.token_server.specs.State.{Row, ServerState, row_above, forgotten}
+use Rattle.token_server.specs.State.{Row, ServerState, row_above, forgotten, begin}
 use Rattle.token_server.specs.Parts.{ServerParts, server_state, with_change}
 use Rattle.token_server.specs.Server.{with_a_row, request_of, enqueued_with, enqueued, asked}
 use Rattle.token_server.specs.Sketches.{row_or_empty, rows_after, moved_with, moved_for, sketched}
 use Rattle.token_server.proofs.RequestLaws.{find-any, find-filter}
 
 -- a row for a node that has none
-pub row_added : (node incarnation : ℕ) (rows : ℕ → Option Row) (row : Option Row) → rows node ≡ row → (λ n. if n == node then row_or_empty incarnation row else rows n) ≡ with_change node (row_or_empty incarnation) rows
-row_added node incarnation rows row is = λ i n. at n i
+pub row_added : (node begin incarnation : ℕ) (rows : ℕ → Option Row) (row : Option Row) → rows node ≡ row → (λ n. if n == node then row_or_empty begin incarnation row else rows n) ≡ with_change node (row_or_empty begin incarnation) rows
+row_added node begin incarnation rows row is = λ i n. at n i
   where
-    at : (n : ℕ) → (if n == node then row_or_empty incarnation row else rows n) ≡ with_change node (row_or_empty incarnation) rows n
+    at : (n : ℕ) → (if n == node then row_or_empty begin incarnation row else rows n) ≡ with_change node (row_or_empty begin incarnation) rows n
     at n = elim (eqb_tells n node) [
       | inl here ↦
-          let same : row_or_empty incarnation row ≡ row_or_empty incarnation (rows n) = ap (row_or_empty incarnation) (sym is ∙ ap rows (sym here.1)) in
-          ap (λ (b : Bool). cond b (row_or_empty incarnation row) (rows n)) here.0 ∙ same ∙ sym (ap (λ (b : Bool). cond b (row_or_empty incarnation (rows n)) (rows n)) here.0)
+          let same : row_or_empty begin incarnation row ≡ row_or_empty begin incarnation (rows n) = ap (row_or_empty begin incarnation) (sym is ∙ ap rows (sym here.1)) in
+          ap (λ (b : Bool). cond b (row_or_empty begin incarnation row) (rows n)) here.0 ∙ same ∙ sym (ap (λ (b : Bool). cond b (row_or_empty begin incarnation (rows n)) (rows n)) here.0)
       | inr apart ↦
-          ap (λ (b : Bool). cond b (row_or_empty incarnation row) (rows n)) apart.0 ∙ sym (ap (λ (b : Bool). cond b (row_or_empty incarnation (rows n)) (rows n)) apart.0)
+          ap (λ (b : Bool). cond b (row_or_empty begin incarnation row) (rows n)) apart.0 ∙ sym (ap (λ (b : Bool). cond b (row_or_empty begin incarnation (rows n)) (rows n)) apart.0)
     ]
 
 -- a node that has a row keeps it
@@ -52,15 +52,15 @@ change_twice node f g rows = λ i n. each (n == node) (rows n) i
     each true row = refl
     each false row = refl
 
-with_a_row-is : (s : ServerState) (call : CallId) (row : Option Row) → s.rows call.node ≡ row → with_a_row s call row ≡ record s { rows = with_change call.node (row_or_empty call.incarnation) s.rows }
-with_a_row-is s call None is = λ i. record s { rows = row_added call.node call.incarnation s.rows None is i }
-with_a_row-is s call (Some row) is = λ i. record s { rows = (sym (row_there call.node s.rows (Some row) is) ∙ row_added call.node call.incarnation s.rows (Some row) is) i }
+with_a_row-is : (s : ServerState) (call : CallId) (row : Option Row) → s.rows call.node ≡ row → with_a_row s call row ≡ record s { rows = with_change call.node (row_or_empty (begin s) call.incarnation) s.rows }
+with_a_row-is s call None is = λ i. record s { rows = row_added call.node (begin s) call.incarnation s.rows None is i }
+with_a_row-is s call (Some row) is = λ i. record s { rows = (sym (row_there call.node s.rows (Some row) is) ∙ row_added call.node (begin s) call.incarnation s.rows (Some row) is) i }
 
 -- a request of the call is not of an older incarnation
 of_call-young : (own asked : CallId) → 1 ≤ asked.incarnation → same_call own asked ≡ true → not ((own.node == asked.node) && nat_le own.incarnation (asked.incarnation - 1)) ≡ true
 of_call-young own asked counted same = grind (arith, common_steps)
 
-asked-sketched : (p : ServerParts) (r : TokenRequest) → 1 ≤ r.call.incarnation → sketched p (record { changed = Some (record { node = r.call.node; change = Asked (host_of_call r.call) }); moved = moved_for r (requests_of p.active.held) p.queue.requests p.waiting.requests; ended = None }) ≡ asked (server_state p) r
+asked-sketched : (p : ServerParts) (r : TokenRequest) → 1 ≤ r.call.incarnation → sketched p (record { changed = Some (record { node = r.call.node; change = Asked (host_of_call r.call) (begin (server_state p)) }); moved = moved_for r (requests_of p.active.held) p.queue.requests p.waiting.requests; ended = None }) ≡ asked (server_state p) r
 asked-sketched p r counted = moves ∙ same_test ∙ ap (λ (s : ServerState). enqueued s r) (sym rowed)
   where
     node : ℕ
@@ -76,7 +76,7 @@ asked-sketched p r counted = moves ∙ same_test ∙ ap (λ (s : ServerState). e
     young = forgotten (server_state p) node old
 
     changed : Option Changed
-    changed = Some (record { node = node; change = Asked (host_of_call r.call) })
+    changed = Some (record { node = node; change = Asked (host_of_call r.call) (begin (server_state p)) })
 
     base : ServerState
     base = record young { rows = rows_after changed (server_state p).rows }
@@ -85,7 +85,7 @@ asked-sketched p r counted = moves ∙ same_test ∙ ap (λ (s : ServerState). e
     made m = sketched p (record { changed = changed; moved = m; ended = None })
 
     rowed : with_a_row young r.call (young.rows node) ≡ base
-    rowed = with_a_row-is young r.call (young.rows node) refl ∙ (λ i. record young { rows = change_twice node (row_or_empty r.call.incarnation) (row_above old) (server_state p).rows i })
+    rowed = with_a_row-is young r.call (young.rows node) refl ∙ (λ i. record young { rows = change_twice node (row_or_empty (begin (server_state p)) r.call.incarnation) (row_above old) (server_state p).rows i })
 
     kept : (requests : List TokenRequest) → find (is_of_call r.call) (filter keeps requests) ≡ find (is_of_call r.call) requests
     kept requests = find-filter (is_of_call r.call) keeps requests (λ x is. of_call-young x.call r.call counted is)
@@ -111,7 +111,7 @@ asked-sketched p r counted = moves ∙ same_test ∙ ap (λ (s : ServerState). e
     same_test = λ i. cond (tests (requests_of p.active.held) i || tests p.queue.requests i) base (enqueued_with base r (sym (kept p.waiting.requests) i))
 
 -- what a request changes
-pub asked-from : (p : ServerParts) (r : TokenRequest) (node : ℕ) (host : HostFields) (moved : Moved) → 1 ≤ r.call.incarnation → node ≡ r.call.node → host ≡ host_of_call r.call → moved ≡ moved_for r (requests_of p.active.held) p.queue.requests p.waiting.requests → sketched p (record { changed = Some (record { node = node; change = Asked host }); moved = moved; ended = None }) ≡ asked (server_state p) r
-asked-from p r node host moved counted at by is =
-    (λ i. sketched p (record { changed = Some (record { node = at i; change = Asked (by i) }); moved = is i; ended = None }))
+pub asked-from : (p : ServerParts) (r : TokenRequest) (node : ℕ) (host : HostFields) (after : ℕ) (moved : Moved) → 1 ≤ r.call.incarnation → node ≡ r.call.node → host ≡ host_of_call r.call → after ≡ begin (server_state p) → moved ≡ moved_for r (requests_of p.active.held) p.queue.requests p.waiting.requests → sketched p (record { changed = Some (record { node = node; change = Asked host after }); moved = moved; ended = None }) ≡ asked (server_state p) r
+asked-from p r node host after moved counted at by begins is =
+    (λ i. sketched p (record { changed = Some (record { node = at i; change = Asked (by i) (begins i) }); moved = is i; ended = None }))
     ∙ asked-sketched p r counted

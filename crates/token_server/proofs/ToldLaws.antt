@@ -21,7 +21,7 @@ use Rattle.token_set.specs.Edits.{edited as edited_token}
 use Rattle.token_server.specs.declared.token_holder.TokenHolder.{TokenHolder}
 use Rattle.token_queue.specs.declared.token_request.TokenRequest.{TokenRequest}
 use Rattle.token_server.specs.declared.told.Told.{Told}
-use Rattle.token_server.specs.State.{Commands, Row, ServerState, with_row}
+use Rattle.token_server.specs.State.{Commands, Row, ServerState, with_row, begin}
 use Rattle.token_server.specs.declared.client.Client.{Client}
 use Rattle.token_server.specs.declared.change.Given.{Given}
 use Rattle.token_server.specs.Parts.{next_number, told_commands, client_at, row_in, row_of, row_seen, row_state, rows_of}
@@ -56,15 +56,15 @@ none_of_commands None is = refl
 none_of_commands (Some row) is = absurd (none-some (commands_of row) is)
 
 -- what a number that is left tells
-record HasNumber (c : Commands) (k : ℕ) : Type 0 where
-  idle : c.outstanding ≡ None
-  room : nat_lt c.number greatest_number ≡ true
-  number : k ≡ c.number + 1
+pub record HasNumber (begin : ℕ) (c : Commands) (k : ℕ) : Type 0 where
+  pub idle : c.outstanding ≡ None
+  pub room : nat_lt c.number (begin + greatest_number) ≡ true
+  pub number : k ≡ c.number + 1
 
-has_number : (c : Commands) (k : ℕ) → next_number c ≡ Ok (Some k) → HasNumber c k
-has_number c k h = by c.outstanding (nat_lt c.number greatest_number) refl refl h
+pub has_number : (begin : ℕ) (c : Commands) (k : ℕ) → next_number begin c ≡ Ok (Some k) → HasNumber begin c k
+has_number begin c k h = by c.outstanding (nat_lt c.number (begin + greatest_number)) refl refl h
   where
-    by : (o : Option Message) (few : Bool) → c.outstanding ≡ o → nat_lt c.number greatest_number ≡ few → cond (is_some o) (Ok None) (cond few (Ok (Some (c.number + 1))) (Err Spent)) ≡ Ok (Some k) → HasNumber c k
+    by : (o : Option Message) (few : Bool) → c.outstanding ≡ o → nat_lt c.number (begin + greatest_number) ≡ few → cond (is_some o) (Ok None) (cond few (Ok (Some (c.number + 1))) (Err Spent)) ≡ Ok (Some k) → HasNumber begin c k
     by (Some m) few waits is h = absurd (cc)
     by None true waits is h = let same : c.number + 1 ≡ k = cc in record { idle = waits; room = is; number = sym same }
     by None false waits is h = absurd (cc)
@@ -119,32 +119,32 @@ module _ (ts : List Told) (s : ServerState) where
   gone : (n : ℕ) (f : Option Row → Answer) → f None ≡ Ok (now, []) → None ≡ option_map commands_of (now.rows n) → f (now.rows n) ≡ Ok (with_told (ts ++ []) s, [])
   gone n f none is = ap f (none_of_commands (now.rows n) is) ∙ none ∙ silent
 
-  commanded-busy : (n : ℕ) (row : Row) (token : Token) (command : Message) → next_number (commands_of row) ≡ Ok None → commanded now n row token command ≡ Ok (with_told (ts ++ []) s, [])
-  commanded-busy n row token command h = by (is_some row.outstanding) (nat_lt row.number greatest_number) h
+  commanded-busy : (n : ℕ) (row : Row) (token : Token) (command : Message) → next_number (begin s) (commands_of row) ≡ Ok None → commanded now n row token command ≡ Ok (with_told (ts ++ []) s, [])
+  commanded-busy n row token command h = by (is_some row.outstanding) (nat_lt row.number (begin s + greatest_number)) h
     where
       by : (b few : Bool) → cond b (Ok None) (cond few (Ok (Some (row.number + 1))) (Err Spent)) ≡ Ok None → cond {A = Answer} b (Ok (now, [])) (cond {A = Answer} few (Ok (with_row now n (Some (record row { token = token; number = row.number + 1; outstanding = Some command })), command ∷ [])) (Err Spent)) ≡ Ok (with_told (ts ++ []) s, [])
       by true few h = silent
       by false true h = absurd (cc)
       by false false h = absurd (cc)
 
-  commanded-spent : (n : ℕ) (row : Row) (token : Token) (command : Message) (e : StepError) → next_number (commands_of row) ≡ Err e → commanded now n row token command ≡ Err e
-  commanded-spent n row token command e h = by (is_some row.outstanding) (nat_lt row.number greatest_number) h
+  commanded-spent : (n : ℕ) (row : Row) (token : Token) (command : Message) (e : StepError) → next_number (begin s) (commands_of row) ≡ Err e → commanded now n row token command ≡ Err e
+  commanded-spent n row token command e h = by (is_some row.outstanding) (nat_lt row.number (begin s + greatest_number)) h
     where
       by : (b few : Bool) → cond b (Ok None) (cond few (Ok (Some (row.number + 1))) (Err Spent)) ≡ Err e → cond {A = Answer} b (Ok (now, [])) (cond {A = Answer} few (Ok (with_row now n (Some (record row { token = token; number = row.number + 1; outstanding = Some command })), command ∷ [])) (Err Spent)) ≡ Err e
       by true few h = absurd (cc)
       by false true h = absurd (cc)
       by false false h = let same : Spent ≡ e = cc in ap (λ (x : StepError). let a : Answer = Err x in a) same
 
-  commanded-sent : (n k : ℕ) (row : Row) (command : Message) (t : Told) → now.rows n ≡ Some row → next_number (commands_of row) ≡ Ok (Some k) → t.node ≡ n → t.command ≡ command → t.commands ≡ told_commands command (commands_of row) → commanded now n row (promised command row.token) command ≡ Ok (with_told (ts ++ t ∷ []) s, command ∷ [])
+  commanded-sent : (n k : ℕ) (row : Row) (command : Message) (t : Told) → now.rows n ≡ Some row → next_number (begin s) (commands_of row) ≡ Ok (Some k) → t.node ≡ n → t.command ≡ command → t.commands ≡ told_commands command (commands_of row) → commanded now n row (promised command row.token) command ≡ Ok (with_told (ts ++ t ∷ []) s, command ∷ [])
   commanded-sent n k row command t there next to is commands =
-      let has = has_number (commands_of row) k next in
+      let has = has_number (begin s) (commands_of row) k next in
       let old = untold n row (told_to ts n) refl there has.idle in
       let told : row_told (Some t) (Some row) ≡ Some (record row { token = promised command row.token; number = row.number + 1; outstanding = Some command }) =
       λ i. Some (record { incarnation = (commands i).incarnation; token = promised (is i) row.token; number = (commands i).number; outstanding = Some (is i) }) in
       let sent : Answer = Ok (with_row now n (Some (record row { token = promised command row.token; number = row.number + 1; outstanding = Some command })), command ∷ []) in
       let busy : Answer = Ok (now, []) in
       let spent : Answer = Err Spent in
-      ap (λ (o : Option Message). cond (is_some o) busy (cond (nat_lt row.number greatest_number) sent spent)) has.idle
+      ap (λ (o : Option Message). cond (is_some o) busy (cond (nat_lt row.number (begin s + greatest_number)) sent spent)) has.idle
       ∙ ap (λ (b : Bool). cond b sent spent) has.room
       ∙ sym (ap (λ (x : ServerState). let a : Answer = Ok (x, command ∷ []) in a) (with_more_told n row t to old.0 old.1 ∙ ap (λ (o : Option Row). with_row now n o) told))
 
@@ -158,48 +158,48 @@ module _ (ts : List Told) (s : ServerState) where
     pub revoke-gone : None ≡ option_map commands_of (now.rows n) → revoked_from now r n (now.rows n) ≡ Ok (with_told (ts ++ []) s, [])
     revoke-gone is = gone n (revoked_from now r n) refl is
 
-    pub revoke-busy : (c : Commands) → Some c ≡ option_map commands_of (now.rows n) → next_number c ≡ Ok None → revoked_from now r n (now.rows n) ≡ Ok (with_told (ts ++ []) s, [])
+    pub revoke-busy : (c : Commands) → Some c ≡ option_map commands_of (now.rows n) → next_number (begin s) c ≡ Ok None → revoked_from now r n (now.rows n) ≡ Ok (with_told (ts ++ []) s, [])
     revoke-busy c is next =
         let x = row_of_commands (now.rows n) c is in
-        ap (revoked_from now r n) x.1 ∙ commanded-busy n x.0 x.0.token _ (ap next_number (sym x.2) ∙ next)
+        ap (revoked_from now r n) x.1 ∙ commanded-busy n x.0 x.0.token _ (ap (next_number (begin s)) (sym x.2) ∙ next)
 
-    pub revoke-spent : (c : Commands) (e : StepError) → Some c ≡ option_map commands_of (now.rows n) → next_number c ≡ Err e → revoked_from now r n (now.rows n) ≡ Err e
+    pub revoke-spent : (c : Commands) (e : StepError) → Some c ≡ option_map commands_of (now.rows n) → next_number (begin s) c ≡ Err e → revoked_from now r n (now.rows n) ≡ Err e
     revoke-spent c e is next =
         let x = row_of_commands (now.rows n) c is in
-        ap (revoked_from now r n) x.1 ∙ commanded-spent n x.0 x.0.token _ e (ap next_number (sym x.2) ∙ next)
+        ap (revoked_from now r n) x.1 ∙ commanded-spent n x.0 x.0.token _ e (ap (next_number (begin s)) (sym x.2) ∙ next)
 
-    pub revoke-sent : (c : Commands) (k : ℕ) (t : Told) → Some c ≡ option_map commands_of (now.rows n) → next_number c ≡ Ok (Some k) → t.node ≡ n → t.command ≡ Revoke s.file k (holder c) r.call r.mode wanted → t.commands ≡ told_commands t.command c → revoked_from now r n (now.rows n) ≡ Ok (with_told (ts ++ t ∷ []) s, t.command ∷ [])
+    pub revoke-sent : (c : Commands) (k : ℕ) (t : Told) → Some c ≡ option_map commands_of (now.rows n) → next_number (begin s) c ≡ Ok (Some k) → t.node ≡ n → t.command ≡ Revoke s.file k (holder c) r.call r.mode wanted → t.commands ≡ told_commands t.command c → revoked_from now r n (now.rows n) ≡ Ok (with_told (ts ++ t ∷ []) s, t.command ∷ [])
     revoke-sent c k t is next to command_is commands =
         let x = row_of_commands (now.rows n) c is in
-        let has = has_number c k next in
+        let has = has_number (begin s) c k next in
         let command = Revoke s.file (x.0.number + 1) (record { node = n; incarnation = x.0.incarnation }) r.call r.mode wanted in
         let same : t.command ≡ command = command_is ∙ (λ i. Revoke s.file ((has.number ∙ ap (λ (y : Commands). y.number + 1) x.2) i) (record { node = n; incarnation = (x.2 i).incarnation }) r.call r.mode wanted) in
         ap (revoked_from now r n) x.1
-        ∙ commanded-sent n k x.0 command t x.1 (ap next_number (sym x.2) ∙ next) to same (commands ∙ (λ i. told_commands (same i) (x.2 i)))
+        ∙ commanded-sent n k x.0 command t x.1 (ap (next_number (begin s)) (sym x.2) ∙ next) to same (commands ∙ (λ i. told_commands (same i) (x.2 i)))
         ∙ ap (λ (m : Message). let a : Answer = Ok (with_told (ts ++ t ∷ []) s, m ∷ []) in a) (sym same)
 
   module _ (r : TokenRequest) where
     pub grant-gone : None ≡ option_map commands_of (now.rows r.call.node) → granted_to now r (now.rows r.call.node) ≡ Ok (with_told (ts ++ []) s, [])
     grant-gone is = gone r.call.node (granted_to now r) refl is
 
-    pub grant-busy : (c : Commands) → Some c ≡ option_map commands_of (now.rows r.call.node) → next_number c ≡ Ok None → granted_to now r (now.rows r.call.node) ≡ Ok (with_told (ts ++ []) s, [])
+    pub grant-busy : (c : Commands) → Some c ≡ option_map commands_of (now.rows r.call.node) → next_number (begin s) c ≡ Ok None → granted_to now r (now.rows r.call.node) ≡ Ok (with_told (ts ++ []) s, [])
     grant-busy c is next =
         let x = row_of_commands (now.rows r.call.node) c is in
-        ap (granted_to now r) x.1 ∙ commanded-busy r.call.node x.0 _ _ (ap next_number (sym x.2) ∙ next)
+        ap (granted_to now r) x.1 ∙ commanded-busy r.call.node x.0 _ _ (ap (next_number (begin s)) (sym x.2) ∙ next)
 
-    pub grant-spent : (c : Commands) (e : StepError) → Some c ≡ option_map commands_of (now.rows r.call.node) → next_number c ≡ Err e → granted_to now r (now.rows r.call.node) ≡ Err e
+    pub grant-spent : (c : Commands) (e : StepError) → Some c ≡ option_map commands_of (now.rows r.call.node) → next_number (begin s) c ≡ Err e → granted_to now r (now.rows r.call.node) ≡ Err e
     grant-spent c e is next =
         let x = row_of_commands (now.rows r.call.node) c is in
-        ap (granted_to now r) x.1 ∙ commanded-spent r.call.node x.0 _ _ e (ap next_number (sym x.2) ∙ next)
+        ap (granted_to now r) x.1 ∙ commanded-spent r.call.node x.0 _ _ e (ap (next_number (begin s)) (sym x.2) ∙ next)
 
-    pub grant-sent : (c : Commands) (k : ℕ) (t : Told) → Some c ≡ option_map commands_of (now.rows r.call.node) → next_number c ≡ Ok (Some k) → t.node ≡ r.call.node → t.command ≡ Grant s.file k r.call r.mode (granted_span now r) → t.commands ≡ told_commands t.command c → granted_to now r (now.rows r.call.node) ≡ Ok (with_told (ts ++ t ∷ []) s, t.command ∷ [])
+    pub grant-sent : (c : Commands) (k : ℕ) (t : Told) → Some c ≡ option_map commands_of (now.rows r.call.node) → next_number (begin s) c ≡ Ok (Some k) → t.node ≡ r.call.node → t.command ≡ Grant s.file k r.call r.mode (granted_span now r) → t.commands ≡ told_commands t.command c → granted_to now r (now.rows r.call.node) ≡ Ok (with_told (ts ++ t ∷ []) s, t.command ∷ [])
     grant-sent c k t is next to command_is commands =
         let x = row_of_commands (now.rows r.call.node) c is in
-        let has = has_number c k next in
+        let has = has_number (begin s) c k next in
         let command = Grant s.file (x.0.number + 1) r.call r.mode (granted_span now r) in
         let same : t.command ≡ command = command_is ∙ (λ i. Grant s.file ((has.number ∙ ap (λ (y : Commands). y.number + 1) x.2) i) r.call r.mode (granted_span now r)) in
         ap (granted_to now r) x.1
-        ∙ commanded-sent r.call.node k x.0 command t x.1 (ap next_number (sym x.2) ∙ next) to same (commands ∙ (λ i. told_commands (same i) (x.2 i)))
+        ∙ commanded-sent r.call.node k x.0 command t x.1 (ap (next_number (begin s)) (sym x.2) ∙ next) to same (commands ∙ (λ i. told_commands (same i) (x.2 i)))
         ∙ ap (λ (m : Message). let a : Answer = Ok (with_told (ts ++ t ∷ []) s, m ∷ []) in a) (sym same)
 
 -- one more command

@@ -23,7 +23,7 @@ use Rattle.token_queue.specs.Actives.{requests_of, waiting_for}
 use Rattle.token_queue.proofs.ActiveLaws.{waiting_for-at, waiting_for-length}
 use Rattle.token_server.specs.declared.lists.Lists.{Lists}
 use Rattle.token_server.specs.declared.told.Told.{Told}
-use Rattle.token_server.specs.State.{Row, ServerState, with_row}
+use Rattle.token_server.specs.State.{Row, ServerState, with_row, begin}
 use Rattle.token_server.specs.Sketches.{without, still_active}
 use Rattle.token_server.specs.Serve.{row_conflicts, conflicting_node, commanded, granted_to, revoked_from, served, each_served}
 use Rattle.token_server.specs.Obstacles.{obstacle, are_apart, is_idle}
@@ -209,7 +209,7 @@ silent-busy s t node out busy is =
     subst (λ (x : ServerState). is_idle (x.rows node) ≡ false) (ap (λ (p : ServerState × List Message). p.0) pair) busy
 
 commanded-busy : (s t : ServerState) (node : ℕ) (row : Row) (token : Token) (command : Message) (out : List Message) → s.rows node ≡ Some row → commanded s node row token command ≡ Ok (t, out) → is_idle (t.rows node) ≡ false
-commanded-busy s t node row token command out there is = by (is_some row.outstanding) (nat_lt row.number greatest_number) refl is
+commanded-busy s t node row token command out there is = by (is_some row.outstanding) (nat_lt row.number (begin s + greatest_number)) refl is
   where
     made : Row
     made = record row { token = token; number = row.number + 1; outstanding = Some command }

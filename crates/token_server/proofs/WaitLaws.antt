@@ -5,12 +5,15 @@ use Rattle.std.proofs.Common.{refl, ap, sym, subst, ◌∙◌, inl, inr, arith, 
 use Rattle.std.proofs.lemmas.Grind.{common_steps}
 use Rattle.std.proofs.lemmas.List.Folds.{list_any-append}
 use Rattle.model.specs.declared.call.CallId.{CallId}
+use Rattle.model.specs.declared.host.Host.{Host}
 use Rattle.model.specs.declared.mode.Mode.{Mode}
 use Rattle.model.specs.Owners.{host_of_call}
 use Rattle.messages.specs.declared.refusal.StepError.{StepError}
 use Rattle.messages.specs.declared.refusal.StepError.TheVariants.{Stranger}
 use Rattle.messages.specs.declared.message.Message.{Message}
-use Rattle.messages.specs.declared.message.Message.TheVariants.{Request, Grant, Revoke, Taken, Released, Conflict, Deny, Freed}
+use Rattle.messages.specs.declared.message.Message.TheVariants.{Request, Grant, Revoke, Taken, Released, Conflict, Deny, Freed, Hello, Report}
+use Rattle.messages.specs.declared.token_run.TokenRun.{TokenRun}
+use Rattle.messages.specs.Reports.{reported}
 use Rattle.messages.specs.declared.outcome.Outcome.{Outcome}
 use Rattle.messages.specs.Messages.{addressee, host_of, is_within, same_call, sending}
 use Rattle.token_set.specs.Tokens.{Token}
@@ -18,10 +21,10 @@ use Rattle.token_set.specs.Releases.{lowered}
 use Rattle.token_queue.specs.declared.token_request.TokenRequest.{TokenRequest}
 use Rattle.token_server.specs.declared.event.ServerEvent.TheVariants.{Deliver, Resend, Learn}
 use Rattle.token_queue.specs.Requests.{is_of_call, is_up_to}
-use Rattle.token_server.specs.State.{Row, ServerState, forgotten, requests, requeued}
+use Rattle.token_server.specs.State.{Row, ServerState, awaits, forgotten, requests, requeued}
 use Rattle.token_server.specs.Serve.{meets_some, admitted, conflicting_node, commanded, granted_to, revoked_from, served, with_more, and_then, each_served, ready, serve}
 use Rattle.token_server.specs.Resends.{outstanding, sending_first}
-use Rattle.token_server.specs.Server.{Change, with_a_row, request_of, enqueued_with, enqueued, asked, is_grant, revoked_mode, acknowledged, ended, put_off, postponed, denial, taken, released, in_conflict, row_of_host, freed, delivered, is_server, then_serve}
+use Rattle.token_server.specs.Server.{Change, with_a_row, request_of, enqueued_with, enqueued, asked, is_grant, revoked_mode, acknowledged, ended, put_off, postponed, denial, taken, released, in_conflict, asks_token, heard, row_of_host, freed, delivered, is_server, then_serve}
 use Rattle.token_server.specs.Waiting.{KeepsWhatWaits}
 
 -- the call has one of the requests
@@ -170,6 +173,13 @@ taken-leaves call s number own (Some row) h =
     let done : Option Change = Some (next, []) in
     elim (is_grant number row.outstanding) as (λ b. Leaves call (cond b done None)) [ true ↦ waiting-kept call next h | false ↦ tt ]
 
+heard-leaves : (call : CallId) (s : ServerState) (number : ℕ) (holder : Host) (runs : List TokenRun) (row : Option Row) → Has call s.waiting → Leaves call (heard s number holder runs row)
+heard-leaves call s number holder runs None h = tt
+heard-leaves call s number holder runs (Some row) h =
+    let next = acknowledged s holder.node row (reported runs) in
+    let done : Option Change = Some (next, []) in
+    elim (asks_token number row.outstanding) as (λ b. Leaves call (cond b done None)) [ true ↦ waiting-kept call next h | false ↦ tt ]
+
 mapped-leaves : (call : CallId) (changed : Change) (mode : Option Mode) → IsKept call changed.0 → Leaves call (option_map (λ m. changed) mode)
 mapped-leaves call changed None h = tt
 mapped-leaves call changed (Some mode) h = h
@@ -196,6 +206,8 @@ delivered-leaves call s (Conflict file number holder own lock) h = by (row_of_ho
         mapped-leaves call (next, denial (Deny s.file own holder number lock) (request_of own s.active)) (revoked_mode number row.outstanding) (waiting-kept call next (has-front call s.waiting (put_off (request_of own s.active)) h))
 delivered-leaves call s (Deny file own holder number lock) h = tt
 delivered-leaves call s (Freed file holder) h = freed-kept call s (row_of_host s holder) (waiting-kept call s h)
+delivered-leaves call s (Hello file number holder) h = tt
+delivered-leaves call s (Report file number holder runs) h = heard-leaves call s number holder runs (row_of_host s holder) h
 
 -- to serve the requests leaves them, and what is known as dead
 abbrev Stays : ServerState → Result (ServerState × List Message) StepError → Type 0
@@ -305,7 +317,11 @@ sent-kept call s commands (Ok done) new out stays kept is =
     subst (IsKept call) made (same-kept call s done.0 same.0 same.1 kept)
 
 serve-kept : (call : CallId) (s : ServerState) (commands : List Message) (new : ServerState) (out : Outcome) → IsKept call s → sending_first commands (serve s) ≡ Ok (new, out) → IsKept call new
-serve-kept call s commands new out kept is = sent-kept call (ready s) commands (serve s) new out (each-stays (ready s).active (ready s)) (ready-kept call s kept) is
+serve-kept call s commands new out kept is = by (awaits s) is
+  where
+    by : (b : Bool) → sending_first commands (cond b (Ok (s, [])) (each_served (ready s).active (ready s))) ≡ Ok (new, out) → IsKept call new
+    by true is = sent-kept call s commands (Ok (s, [])) new out (stays-ok s s [] refl refl) kept is
+    by false is = sent-kept call (ready s) commands (each_served (ready s).active (ready s)) new out (each-stays (ready s).active (ready s)) (ready-kept call s kept) is
 
 then_serve-kept : (call : CallId) (s : ServerState) (o : Option Change) (new : ServerState) (out : Outcome) → IsKept call s → Leaves call o → then_serve s (Ok o) ≡ Ok (new, out) → IsKept call new
 then_serve-kept call s None new out kept leaves is =

@@ -1,5 +1,5 @@
 -- What a planned step changes of a server, and no more.
-use Rattle.std.specs.Prelude.{◌≡◌, ℕ, ◌+◌, ◌-◌, ◌≤◌, Bool, false, ◌&&◌, not, ◌==◌, if◌then◌else◌, List, [], ◌∷◌, ◌++◌, filter, find, length, All, slice_get, slice_set, Option, Some, None, Vec}
+use Rattle.std.specs.Prelude.{◌≡◌, ℕ, ◌+◌, ◌-◌, ◌≤◌, Bool, true, false, ◌&&◌, not, ◌==◌, if◌then◌else◌, List, [], ◌∷◌, ◌++◌, filter, find, length, All, slice_get, slice_set, Option, Some, None, Vec}
 use Rattle.std.specs.Global.{Global}
 use Rattle.model.specs.declared.call.CallId.{CallId}
 use Rattle.std.specs.Vec.{vec_capacity}
@@ -23,12 +23,12 @@ use Rattle.token_server.specs.declared.change.Parts.{Parts}
 use Rattle.token_server.specs.declared.lists.Lists.{Lists}
 use Rattle.token_server.specs.declared.sketch.Moved.{Moved}
 use Rattle.token_server.specs.declared.sketch.Moved.TheVariants.{Nothing, New, Again, Waiting, PutOff}
-use Rattle.token_server.specs.State.{Commands, Row, ServerState}
+use Rattle.token_server.specs.State.{Commands, Row, ServerState, awaits}
 use Rattle.token_server.specs.Admitting.{all_but, IsAdmitted}
 use Rattle.token_server.specs.declared.sketch.Sketch.{Sketch}
 use Rattle.token_server.specs.declared.sketch.Changed.{Changed}
 use Rattle.token_server.specs.Obstacles.{obstacle}
-use Rattle.token_server.specs.Sketches.{row_after, dead_after, rows_after, without, still_active, queue_moved, waiting_moved, sketched}
+use Rattle.token_server.specs.Sketches.{row_after, dead_after, without, still_active, queue_moved, waiting_moved, sketched}
 use Rattle.token_server.specs.Parts.{ServerParts, row_in, row_seen, rows_of, deaths_of, client_at}
 use Rattle.token_server.specs.Ready.{IsReady}
 
@@ -63,10 +63,6 @@ with_client clients e (Some client) = slice_set clients e.place (client_after e 
 abbrev pub overlaid : List Client → Option RowEdit → List Client
 overlaid clients None = clients
 overlaid clients (Some e) = with_client clients e (slice_get clients e.place)
-
--- the rows after the edit are those before it, but that of a node that changes
-abbrev pub ChangesOne : List Client → Option RowEdit → Type 0
-ChangesOne clients edit = (changed : Option Changed) × (rows_of (overlaid clients edit) ≡ rows_after changed (rows_of clients))
 
 -- the client is there, with that row
 abbrev pub IsReadAs : Option Client → Option TokenHolder → Type 0
@@ -114,14 +110,15 @@ waiting_after l waiting = waiting_moved l.moved (without l.dropped waiting)
 
 -- the state once a row is edited, where no request moves
 abbrev pub reached : ServerParts → Option RowEdit → ServerState
-reached p rows = record { shape = p.shape; file = p.file; rows = rows_of (overlaid p.clients rows); dead = deaths_of (overlaid p.clients rows); queue = p.queue.requests; active = requests_of p.active.held; waiting = p.waiting.requests }
+reached p rows = record { shape = p.shape; file = p.file; epoch = p.epoch; rows = rows_of (overlaid p.clients rows); dead = deaths_of (overlaid p.clients rows); queue = p.queue.requests; active = requests_of p.active.held; waiting = p.waiting.requests }
 
--- the requests change as the sketch has it; then these come from the queue, and each that is served is known with the node whose row it waits for
+-- the requests change as the sketch has it; then, unless a node has not told its token, these come from the queue, and each that is served is known with the node whose row it waits for
 pub record AreListed (p : ServerParts) (k : Sketch) (rows : Option RowEdit) (l : Lists) : Type 0 where
   pub served : still_active l.ended (without l.dropped (requests_of p.active.held)) ≡ (sketched p k).active
   pub queued : queue_moved l.moved (without l.dropped p.queue.requests) (without l.dropped p.waiting.requests) ≡ (sketched p k).queue
   pub put_off : waiting_moved l.moved (without l.dropped p.waiting.requests) ≡ (sketched p k).waiting
-  pub comes : IsAdmitted (sketched p k).active (sketched p k).queue (requests_of l.fresh.items)
+  pub comes : awaits (sketched p k) ≡ false → IsAdmitted (sketched p k).active (sketched p k).queue (requests_of l.fresh.items)
+  pub rests : awaits (sketched p k) ≡ true → l.fresh.items ≡ []
   pub waits : All (λ h. obstacle (reached p rows) h.request ≡ h.at) (held_after l p.active.held)
 
 -- the state once the draft is made
@@ -129,6 +126,7 @@ abbrev pub drafted : ServerParts → Draft → ServerState
 drafted p d = record {
   shape = p.shape;
   file = p.file;
+  epoch = p.epoch;
   rows = rows_of (overlaid p.clients d.rows);
   dead = deaths_of (overlaid p.clients d.rows);
   queue = queue_after d.lists p.queue.requests p.waiting.requests;
@@ -201,6 +199,7 @@ pub record PartsFit (p : ServerParts) (v : Parts) : Type 0 where
   pub queued : HasRoom p.queue v.spares.queue (many_moved v.draft.lists.moved (without v.draft.lists.dropped p.waiting.requests))
   pub put_off : HasRoom p.waiting v.spares.waiting (many_put_off v.draft.lists.moved)
   pub nodes : length (overlaid p.clients v.draft.rows) ≡ length p.clients
+  pub awaited : v.draft.awaits ≡ awaits (made p v)
   pub ready : IsReady (made p v) (held_after v.draft.lists p.active.held)
 
 -- the edit was planned from a server with these parts

@@ -6,11 +6,12 @@ use Rattle.messages.specs.declared.message.Message.{Message}
 use Rattle.messages.specs.declared.message.Message.TheVariants.{Grant}
 use Rattle.messages.specs.Messages.{greatest_number}
 use Rattle.token_queue.specs.declared.token_request.TokenRequest.{TokenRequest}
-use Rattle.token_server.specs.State.{Row, ServerState}
+use Rattle.token_server.specs.State.{Row, ServerState, begin, awaits}
 use Rattle.token_server.specs.Serve.{row_conflicts, ready, with_more, each_served, serve}
 
--- the request is one of those that are served, and its turn has come: those before it were, and its node has that row. It needs some bytes, which are among those that it would like to have
+-- each node that was asked for its token has told it, since nothing is served before. The request is one of those that are served, and its turn has come: those before it were, and its node has that row. It needs some bytes, which are among those that it would like to have
 pub record IsServed (s : ServerState) (r : TokenRequest) (row : Row) : Type 0 where
+  pub told : awaits s ≡ false
   pub before : List TokenRequest
   pub after : List TokenRequest
   pub among : (ready s).active ≡ before ++ r ∷ after
@@ -26,7 +27,7 @@ pub record IsServed (s : ServerState) (r : TokenRequest) (row : Row) : Type 0 wh
 pub record IsUnhindered (s : ServerState) (r : TokenRequest) (row : Row) : Type 0 where
   pub unopposed : (n : ℕ) → IsNumber s.shape.nodes n → n ≢ r.call.node → row_conflicts (s.rows n) r.wanted.required r.mode ≡ false
   pub idle : row.outstanding ≡ None
-  pub room : row.number < greatest_number
+  pub room : row.number < begin s + greatest_number
 
 -- the server grants the request all bytes that it needs, and then serves those after it
 pub record IsGranted (s : ServerState) (r : TokenRequest) (row : Row) (is : IsServed s r row) : Type 0 where

@@ -1,9 +1,11 @@
 -- What a request that is served waits for.
-use Rattle.std.specs.Prelude.{ℕ, ◌-◌, Bool, true, false, not, ◌&&◌, nat_le, if◌then◌else◌, List, [], ◌∷◌, is_some, Option, Some, None}
+use Rattle.std.specs.Prelude.{ℕ, ◌-◌, Bool, true, false, not, ◌&&◌, ◌||◌, ◌==◌, nat_le, if◌then◌else◌, List, [], ◌∷◌, is_some, Option, Some, None}
 use Rattle.intervals.specs.Bytes.{Range}
+use Rattle.token_queue.specs.declared.held.Held.{Held}
 use Rattle.token_queue.specs.declared.token_request.TokenRequest.{TokenRequest}
 use Rattle.token_server.specs.declared.node_change.NodeChange.{NodeChange}
-use Rattle.token_server.specs.declared.node_change.NodeChange.TheVariants.{Forgotten, Asked, Answered, Relieved}
+use Rattle.token_server.specs.declared.node_change.NodeChange.TheVariants.{Forgotten, Asked, Answered, Relieved, Reported}
+use Rattle.token_server.specs.declared.sketch.Changed.{Changed}
 use Rattle.token_server.specs.State.{Row, ServerState}
 use Rattle.token_queue.specs.Requests.{meets}
 use Rattle.token_server.specs.Serve.{conflicting_node, meets_some}
@@ -22,12 +24,22 @@ abbrev pub is_dropped : ℕ → Option Row → Bool
 is_dropped incarnation None = false
 is_dropped incarnation (Some row) = nat_le row.incarnation incarnation
 
--- once a row changes so, bytes of the span that stood in the way may do so no longer
+-- once a row changes so, bytes of the span that stood in the way may do so no longer, or others may
 abbrev pub frees : NodeChange → Option Row → Range → Bool
 frees (Forgotten incarnation) row s = is_dropped incarnation row
-frees (Asked host) row s = is_dropped (host.incarnation - 1) row
+frees (Asked host begin) row s = is_dropped (host.incarnation - 1) row
 frees Answered row s = false
 frees (Relieved span mode) row s = meets span s
+frees (Reported runs) row s = true
+
+-- the row may come to stand in the way of a request for which it did not
+abbrev pub may_bar : NodeChange → Bool
+may_bar (Reported runs) = true
+may_bar _ = false
+
+-- once the row of a node changes so, the request may wait for another row than before
+abbrev pub may_turn : Changed → Option Row → Held → Bool
+may_turn c row h = (may_bar c.change || (h.at == c.node)) && frees c.change row h.request.wanted.required
 
 -- a command may go to the node of the row
 abbrev pub is_idle : Option Row → Bool

@@ -8,7 +8,9 @@ use Rattle.token_set.specs.Sets.{token_of}
 use Rattle.messages.specs.declared.refusal.StepError.{StepError}
 use Rattle.messages.specs.declared.refusal.StepError.TheVariants.{Spent}
 use Rattle.messages.specs.declared.message.Message.{Message}
+use Rattle.messages.specs.declared.token_run.TokenRun.{TokenRun}
 use Rattle.messages.specs.Messages.{greatest_number}
+use Rattle.messages.specs.Reports.{reported}
 use Rattle.messages.specs.Shapes.{ShapeFields}
 use Rattle.token_queue.specs.Requests.{LineParts}
 use Rattle.token_queue.specs.Actives.{ActiveParts, requests_of}
@@ -61,9 +63,9 @@ rows_of clients node = row_of (client_at clients node)
 unfoldable pub deaths_of : List Client → ℕ → ℕ
 deaths_of clients node = dead_of (client_at clients node)
 
--- the number of the next command, unless one is under way
-abbrev pub next_number : Commands → Result (Option ℕ) StepError
-next_number c = if is_some c.outstanding then Ok None else (if nat_lt c.number greatest_number then Ok (Some (c.number + 1)) else Err Spent)
+-- the number of the next command of an epoch whose commands begin after that number, unless one is under way
+abbrev pub next_number : ℕ → Commands → Result (Option ℕ) StepError
+next_number begin c = if is_some c.outstanding then Ok None else (if nat_lt c.number (begin + greatest_number) then Ok (Some (c.number + 1)) else Err Spent)
 
 -- the commands once the last is answered
 abbrev pub answered_commands : Commands → Commands
@@ -81,6 +83,10 @@ answered row = record row { outstanding = None }
 abbrev pub relieved : Range → Mode → Row → Row
 relieved span mode row = record row { token = lowered row.token span mode; outstanding = None }
 
+-- the row once its node has told its token, which has those runs
+abbrev pub reporting : List TokenRun → Row → Row
+reporting runs row = record row { token = reported runs; outstanding = None }
+
 -- the row once a command was sent that leaves its token
 abbrev pub told : Message → Row → Row
 told command row = record row { number = row.number + 1; outstanding = Some command }
@@ -93,10 +99,11 @@ given span mode command row = record row { token = raised row.token span mode; n
 abbrev pub with_change : ℕ → (Option Row → Option Row) → (ℕ → Option Row) → ℕ → Option Row
 with_change node f rows n = if n == node then f (rows n) else rows n
 
--- of one file: what it knows of each node, from node 1 on; the requests that are served, each with the node whose row it waits for, those that are queued, and those that wait
+-- of one file: the epoch of the server; what it knows of each node, from node 1 on; the requests that are served, each with the node whose row it waits for, those that are queued, and those that wait
 pub record ServerParts : Type 0 where
   pub shape : ShapeFields
   pub file : ℕ
+  pub epoch : ℕ
   pub clients : List Client
   pub active : ActiveParts
   pub queue : LineParts
@@ -104,4 +111,4 @@ pub record ServerParts : Type 0 where
 
 -- the state that the parts stand for
 abbrev pub server_state : ServerParts → ServerState
-server_state p = record { shape = p.shape; file = p.file; rows = rows_of p.clients; dead = deaths_of p.clients; queue = p.queue.requests; active = requests_of p.active.held; waiting = p.waiting.requests }
+server_state p = record { shape = p.shape; file = p.file; epoch = p.epoch; rows = rows_of p.clients; dead = deaths_of p.clients; queue = p.queue.requests; active = requests_of p.active.held; waiting = p.waiting.requests }

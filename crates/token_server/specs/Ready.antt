@@ -1,11 +1,12 @@
 -- What holds of a server between two steps.
-use Rattle.std.specs.Prelude.{◌≡◌, ◌<◌, ◌≤◌, true, false, List, [], length, count_by, All}
+use Rattle.std.specs.Prelude.{◌≡◌, ℕ, ◌<◌, ◌≤◌, Bool, true, false, List, [], length, count_by, All, IfSome}
 use Rattle.model.specs.declared.call.CallId.{CallId}
 use Rattle.model.specs.Limits.{IsNumber}
+use Rattle.messages.specs.Epochs.{IsEpoch}
 use Rattle.token_queue.specs.declared.held.Held.{Held}
 use Rattle.token_queue.specs.declared.token_request.TokenRequest.{TokenRequest}
 use Rattle.token_queue.specs.Requests.{is_of_call}
-use Rattle.token_server.specs.State.{ServerState, requests}
+use Rattle.token_server.specs.State.{ServerState, requests, begin, awaits}
 use Rattle.token_server.specs.Parts.{ServerParts, server_state}
 use Rattle.token_server.specs.Obstacles.{obstacle, are_apart, is_idle}
 use Rattle.token_server.specs.Admitting.{all_stay}
@@ -14,21 +15,29 @@ use Rattle.token_server.specs.Admitting.{all_stay}
 abbrev pub AreDistinct : List TokenRequest → Type 0
 AreDistinct rs = (call : CallId) → count_by (is_of_call call) rs ≤ 1
 
--- no two requests are of one call, and none is of an incarnation known as dead
+-- no number of a row is one of an epoch before the server's
+abbrev pub AreOfEpoch : ServerState → Type 0
+AreOfEpoch s = (node : ℕ) → IfSome (s.rows node) (λ row. begin s ≤ row.number)
+
+-- no two requests are of one call, and none is of an incarnation known as dead; no number of a row is of an earlier epoch
 pub record IsOrderly (s : ServerState) : Type 0 where
   pub distinct : AreDistinct (requests s)
   pub living : All (λ r. s.dead r.call.node < r.call.incarnation) (requests s)
+  pub counted : AreOfEpoch s
 
--- each request that is served waits for the row that stands in its way, to whose node no command may go, no two of them need a byte in common, and each that is queued needs a byte of one that is served or of one before it
+-- each request that is served waits for the row that stands in its way, to whose node no command may go, and no two of them need a byte in common. While a node has not told its token none is served, and after that each that is queued needs a byte of one that is served or of one before it
 pub record IsReady (s : ServerState) (held : List Held) : Type 0 where
   pub waits : All (λ h. obstacle s h.request ≡ h.at) held
   pub quiet : All (λ h. is_idle (s.rows h.at) ≡ false) held
   pub apart : are_apart s.active ≡ true
-  pub settled : all_stay s.active [] s.queue ≡ true
+  pub resting : awaits s ≡ true → s.active ≡ []
+  pub settled : awaits s ≡ false → all_stay s.active [] s.queue ≡ true
   pub orderly : IsOrderly s
 
--- there is a client for each node, and the file is one of the cluster's
-pub record IsServer (p : ServerParts) : Type 0 where
+-- there is a client for each node, the file is one of the cluster's, and it is known whether a node has not told its token
+pub record IsServer (p : ServerParts) (awaiting : Bool) : Type 0 where
   pub each_node : length p.clients ≡ p.shape.nodes
   pub file_in : IsNumber p.shape.files p.file
+  pub epoch_in : IsEpoch p.epoch
+  pub awaited : awaiting ≡ awaits (server_state p)
   pub ready : IsReady (server_state p) p.active.held

@@ -14,7 +14,7 @@ use Rattle.messages.specs.declared.message.Message.TheVariants.{Grant, Revoke}
 use Rattle.messages.specs.Messages.{greatest_number}
 use Rattle.token_queue.specs.declared.token_request.TokenRequest.{TokenRequest}
 use Rattle.token_queue.specs.Requests.{meets}
-use Rattle.token_server.specs.State.{Row, ServerState, with_row}
+use Rattle.token_server.specs.State.{Row, ServerState, with_row, begin, awaits}
 
 -- the request needs a byte that one of these needs
 abbrev pub meets_some : TokenRequest → List TokenRequest → Bool
@@ -60,7 +60,7 @@ conflicting_node s r = first (λ n. not (n == r.call.node) && row_conflicts (s.r
 abbrev pub commanded : ServerState → ℕ → Row → Token → Message → Result (ServerState × List Message) StepError
 commanded s node row token command =
     if is_some row.outstanding then Ok (s, [])
-    else (if nat_lt row.number greatest_number
+    else (if nat_lt row.number (begin s + greatest_number)
     then Ok (with_row s node (Some (record row { token = token; number = row.number + 1; outstanding = Some command })), command ∷ [])
     else Err Spent)
 
@@ -105,8 +105,8 @@ ready s =
     let next = admitted s.active [] s.queue in
     record s { active = next.0; queue = next.1 }
 
--- then all that are served are
+-- then all that are served are; nothing is before each node that was asked for its token has told it
 abbrev pub serve : ServerState → Result (ServerState × List Message) StepError
 serve s =
     let next = ready s in
-    each_served next.active next
+    if awaits s then Ok (s, []) else each_served next.active next

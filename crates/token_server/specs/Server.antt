@@ -13,7 +13,9 @@ use Rattle.messages.specs.declared.refusal.StepError.{StepError}
 use Rattle.messages.specs.declared.refusal.StepError.TheVariants.{Stranger}
 use Rattle.messages.specs.declared.message.Urgency.TheVariants.{Now, Waits}
 use Rattle.messages.specs.declared.message.Message.{Message}
-use Rattle.messages.specs.declared.message.Message.TheVariants.{Request, Grant, Revoke, Taken, Released, Conflict, Deny, Freed}
+use Rattle.messages.specs.declared.message.Message.TheVariants.{Request, Grant, Revoke, Taken, Released, Conflict, Deny, Freed, Hello, Report}
+use Rattle.messages.specs.declared.token_run.TokenRun.{TokenRun}
+use Rattle.messages.specs.Reports.{reported}
 use Rattle.messages.specs.declared.outcome.Outcome.{Outcome}
 use Rattle.messages.specs.declared.actor.Actor.{Actor}
 use Rattle.messages.specs.declared.actor.Actor.TheVariants.{Node as ANode, Server as AServer}
@@ -22,7 +24,7 @@ use Rattle.token_queue.specs.declared.token_request.TokenRequest.{TokenRequest}
 use Rattle.token_server.specs.declared.event.ServerEvent.{ServerEvent}
 use Rattle.token_server.specs.declared.event.ServerEvent.TheVariants.{Deliver, Resend, Learn}
 use Rattle.token_queue.specs.Requests.{is_of_call}
-use Rattle.token_server.specs.State.{Row, ServerState, empty_row, with_row, forgotten, requeued}
+use Rattle.token_server.specs.State.{Row, ServerState, empty_row, begin, with_row, forgotten, requeued}
 use Rattle.token_server.specs.Serve.{serve}
 use Rattle.token_server.specs.Resends.{sending_first, resend_rule}
 
@@ -31,7 +33,7 @@ abbrev pub Change : Type 0
 Change = ServerState × List Message
 
 abbrev pub with_a_row : ServerState → CallId → Option Row → ServerState
-with_a_row s call None = with_row s call.node (Some (empty_row call.incarnation))
+with_a_row s call None = with_row s call.node (Some (empty_row (begin s) call.incarnation))
 with_a_row s call (Some row) = s
 
 -- the first request of the call, if there is one
@@ -107,6 +109,16 @@ in_conflict s number holder call lock None = None
 in_conflict s number holder call lock (Some row) =
     option_map (λ mode. (postponed call (acknowledged s holder.node row row.token), denial (Deny s.file call holder number lock) (request_of call s.active))) (revoked_mode number row.outstanding)
 
+-- the node is asked for its token with that number
+abbrev pub asks_token : ℕ → Option Message → Bool
+asks_token number (Some (Hello file k holder)) = k == number
+asks_token number _ = false
+
+-- a node that is asked for its token tells it: its row has that token from now on
+abbrev pub heard : ServerState → ℕ → Host → List TokenRun → Option Row → Option Change
+heard s number holder runs None = None
+heard s number holder runs (Some row) = if asks_token number row.outstanding then Some (acknowledged s holder.node row (reported runs), []) else None
+
 -- the row of the node, if it is of that incarnation
 abbrev pub row_of_host : ServerState → Host → Option Row
 row_of_host s h = row_of_incarnation h.incarnation (s.rows h.node)
@@ -123,6 +135,7 @@ delivered s (Taken file number call) = taken s number call (row_of_host s (host_
 delivered s (Released file number holder call span) = released s number holder span (row_of_host s holder)
 delivered s (Conflict file number holder call lock) = in_conflict s number holder call lock (row_of_host s holder)
 delivered s (Freed file holder) = Some (freed s (row_of_host s holder), [])
+delivered s (Report file number holder runs) = heard s number holder runs (row_of_host s holder)
 delivered s _ = None
 
 abbrev pub is_server : ℕ → Actor → Bool

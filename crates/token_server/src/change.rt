@@ -10,11 +10,12 @@ use std::alloc::Global;
 use token_set::edit::TokenEdit;
 
 /// What an event changes of a server before it serves: the node that changes, if one does, and the requests that are
-/// served, that are queued and that wait from then on.
+/// served, that are queued and that wait from then on, and whether a node has not told its token yet.
 #[derive(Drop)]
 pub struct Draft {
     pub rows: Option<RowEdit>,
     pub lists: Lists,
+    pub awaits: bool,
 }
 
 /// What a node at a place (from 0) is given as the server serves, if it has a row: the commands to it

@@ -2,20 +2,29 @@
 ghost use Rattle.std.specs.Prelude.{◌≡◌, ◌-◌, ◌≤◌, ◌↔◌, ◌||◌, true, IsTrue, IfOk, Some, None};
 ghost use Rattle.std.specs.Option.{option_map};
 ghost use Rattle.intervals.specs.Bytes.{whole};
+ghost use Rattle.model.specs.Limits.{IsNumber, most_nodes};
+ghost use Rattle.members.specs.Parts.{members_state};
 ghost use Rattle.token_server.specs.State.{row_above};
 ghost use Rattle.token_server.specs.Serve.{row_conflicts};
-ghost use Rattle.token_server.specs.Parts.{row_seen, answered, relieved, SameKnown};
+ghost use Rattle.token_server.specs.Parts.{row_seen, answered, relieved, reporting, SameKnown};
+ghost use Rattle.token_server.specs.Rebuilds.{rebuilt_row, rebuilt_dead};
 ghost use Rattle.token_server.specs.Resends.{outstanding_of};
 ghost use Rattle.token_server.specs.Sketches.{row_or_empty, row_after, dead_after};
 ghost use Rattle.token_server.specs.Edits.{seen_row, client_after, row_with, row_kept, given_to_row};
 
 use crate::commands::Commands;
 use crate::node_change::NodeChange;
+use crate::reports::token_told;
 use crate::row_edit::{RowAfter, RowEdit};
-use crate::token_holder::{RowView, TokenHolder};
-use intervals::span::{GREATEST, Span};
+use crate::token_holder::{RowView, TokenHolder, excludes};
+use intervals::span::Span;
 use intervals::span_map::NoMemory;
+use members::members::Members;
+use messages::epoch_number::EpochNumber;
+use messages::file_number::FileNumber;
 use messages::message::Message;
+use messages::token_run::TokenRuns;
+use model::host::Host;
 use model::mode::Mode;
 use std::alloc::Global;
 use token_set::edit::TokenEdit;
@@ -35,6 +44,32 @@ impl Client {
         ensures { result ≡ record { dead = 0; row = None } }
     {
         Client { dead: 0, row: None }
+    }
+
+    /// A node of the cluster, as a server of the file knows it that was rebuilt: if it is alive, it is asked for its
+    /// token.
+    pub fn rebuilt(
+        alloc: Global,
+        file: FileNumber,
+        number: EpochNumber,
+        node: u8,
+        members: &Members,
+    ) -> Client
+        requires { IsNumber (members_state members.now.nodes).nodes node × IsNumber most_nodes node }
+        ensures row { row_seen result.row ≡ rebuilt_row file number members.now node }
+        ensures dead { result.dead ≡ rebuilt_dead members.now node }
+    {
+        let row = match members.alive(node) {
+            Some(incarnation) => Some(TokenHolder {
+                commands: Commands::asking(file, number, Host { node, incarnation }),
+                token: TokenSet::new(alloc),
+            }),
+            None => None,
+        };
+        Client {
+            dead: members.dead(node),
+            row,
+        }
     }
 
     /// Its row, if it has one.
@@ -74,9 +109,12 @@ impl Client {
     {
         match change {
             NodeChange::Forgotten { incarnation } => Ok(self.row_above(*incarnation)),
-            NodeChange::Asked { host } => Ok(Some(self.asking_row(alloc, host.incarnation))),
+            NodeChange::Asked { host, begin } => {
+                Ok(Some(self.asking_row(alloc, host.incarnation, *begin)))
+            }
             NodeChange::Answered => Ok(self.answered_row()),
             NodeChange::Relieved { span, mode } => self.relieved_row(*span, *mode),
+            NodeChange::Reported { runs } => self.reporting_row(alloc, runs),
         }
     }
 
@@ -93,10 +131,11 @@ impl Client {
         }
     }
 
-    // Its row of that incarnation or a later one, or else an empty one of that.
-    fn asking_row(&self, alloc: Global, incarnation: u16) -> RowAfter
+    // Its row of that incarnation or a later one, or else an empty one of that, of which the commands begin
+    // after the number.
+    fn asking_row(&self, alloc: Global, incarnation: u16, begin: u64) -> RowAfter
         requires { 1 ≤ incarnation }
-        ensures { row_seen (row_kept (Some result) self.now.row) ≡ row_or_empty incarnation (row_above (incarnation - 1) (row_seen self.now.row)) }
+        ensures { row_seen (row_kept (Some result) self.now.row) ≡ row_or_empty begin incarnation (row_above (incarnation - 1) (row_seen self.now.row)) }
     {
         match &self.row {
             Some(row) if row.commands.incarnation() >= incarnation => RowAfter {
@@ -104,7 +143,7 @@ impl Client {
                 token: None,
             },
             _ => RowAfter {
-                commands: Commands::new(incarnation),
+                commands: Commands::new(incarnation, begin),
                 token: Some(TokenSet::new(alloc)),
             },
         }
@@ -132,6 +171,19 @@ impl Client {
         Ok(Some(RowAfter {
             commands: row.commands.answered(),
             token: Some(token),
+        }))
+    }
+
+    // Its row once it has told its token, which has these runs.
+    fn reporting_row(&self, alloc: Global, runs: &TokenRuns) -> Result<Option<RowAfter>, NoMemory>
+        ensures { IfOk result (λ after. row_seen (row_kept after self.now.row) ≡ option_map (reporting runs.now) (row_seen self.now.row)) }
+    {
+        let Some(row) = &self.row else {
+            return Ok(None);
+        };
+        Ok(Some(RowAfter {
+            commands: row.commands.answered(),
+            token: Some(token_told(alloc, runs)?),
         }))
     }
 
@@ -177,19 +229,15 @@ impl Client {
     pub fn outstanding(&self) -> Option<Message>
         ensures { result ≡ outstanding_of (row_seen self.now.row) }
     {
-        self.row.as_ref()?.commands.outstanding
+        Some(self.row.as_ref()?.commands.outstanding?.message())
     }
 
     /// Whether a byte of its row's token is exclusive, or that is noted of another.
     pub fn notes_exclusive(&self, noted: bool) -> bool
         ensures { result ≡ (noted || row_conflicts (row_seen self.now.row) whole Mode.Read) }
     {
-        let every_byte = Span {
-            lo: 0,
-            hi: GREATEST,
-        };
         match &self.row {
-            Some(row) => noted || row.token.conflicts(every_byte, Mode::Read),
+            Some(row) => noted || excludes(&row.token),
             None => noted,
         }
     }

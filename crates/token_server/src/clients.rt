@@ -2,7 +2,11 @@
 ghost use Rattle.std.specs.Prelude.{◌≡◌, ◌≢◌, ℕ, ◌+◌, ◌<◌, ◌≤◌, ◌↔◌, true, length, slice_get, All, IsTrue, IfOk, IfSome, OnSome, MatchOption, [], ◌∷◌, ◌++◌, ◌==◌, Some, None};
 ghost use Rattle.std.specs.List.{list_any};
 ghost use Rattle.std.specs.Option.{option_copied};
-ghost use Rattle.model.specs.Limits.{IsNumber};
+ghost use Rattle.intervals.specs.Search.{some_passes};
+ghost use Rattle.model.specs.Limits.{IsNumber, most_nodes};
+ghost use Rattle.members.specs.Parts.{members_state};
+ghost use Rattle.token_server.specs.State.{is_awaited};
+ghost use Rattle.token_server.specs.Rebuilds.{rebuilt_by, AreRebuilt};
 ghost use Rattle.token_server.specs.Parts.{row_seen, row_state, client_at, rows_of, deaths_of, SameClients};
 ghost use Rattle.token_server.specs.Resends.{outstanding_to};
 ghost use Rattle.token_server.specs.Server.{row_of_incarnation};
@@ -16,8 +20,12 @@ use crate::row_edit::RowEdit;
 use crate::sketch::Changed;
 use crate::token_holder::{RowView, TokenHolder};
 use intervals::span_map::NoMemory;
+use members::members::Members;
+use messages::epoch_number::EpochNumber;
+use messages::file_number::FileNumber;
 use messages::items::Items;
 use messages::message::Message;
+use messages::shape::Shape;
 use model::host::Host;
 use std::alloc::Global;
 use std::marker::Model;
@@ -53,6 +61,26 @@ fn unknown(alloc: Global, nodes: u8) -> Result<Vec<Client>, NoMemory>
     let mut clients = Vec::new(alloc);
     for _node in 0..nodes {
         clients.push(Client::new())?;
+    }
+    Ok(clients)
+}
+
+// Each of so many nodes, as a server of the file knows them that was rebuilt.
+fn rebuilt(
+    alloc: Global,
+    nodes: u8,
+    file: FileNumber,
+    number: EpochNumber,
+    members: &Members,
+) -> Result<Vec<Client>, NoMemory>
+    requires few { nodes ≤ most_nodes }
+    requires of_shape { (members_state members.now.nodes).nodes ≡ nodes }
+    ensures rebuilt { IfOk result (λ clients. AreRebuilt file number members.now nodes clients.items) }
+    ensures len { IfOk result (λ clients. length clients.items ≡ nodes) }
+{
+    let mut clients = Vec::new(alloc);
+    for place in 0..nodes {
+        clients.push(Client::rebuilt(alloc, file, number, place + 1, members))?;
     }
     Ok(clients)
 }
@@ -93,6 +121,31 @@ impl Clients {
     {
         Ok(Clients {
             clients: unknown(alloc, nodes)?,
+            may_exclude: false,
+        })
+    }
+
+    /// The nodes of a cluster, as a server of the file knows them that was rebuilt with that epoch: each that is
+    /// alive is asked for its token.
+    ///
+    /// # Errors
+    /// `NoMemory` where a request for memory was refused.
+    pub fn rebuilt(
+        alloc: Global,
+        shape: Shape,
+        file: FileNumber,
+        epoch: u16,
+        members: &Members,
+    ) -> Result<Clients, NoMemory>
+        requires later { 2 ≤ epoch }
+        requires of_shape { (members_state members.now.nodes).nodes ≡ shape.nodes }
+        ensures rows { IfOk result (λ clients. rows_of clients ≡ (rebuilt_by shape file epoch members.now).rows) }
+        ensures deaths { IfOk result (λ clients. deaths_of clients ≡ (rebuilt_by shape file epoch members.now).dead) }
+        ensures len { IfOk result (λ clients. length clients ≡ shape.nodes) }
+    {
+        let number = EpochNumber::of(epoch);
+        Ok(Clients {
+            clients: rebuilt(alloc, shape.nodes(), file, number, members)?,
             may_exclude: false,
         })
     }
@@ -194,11 +247,40 @@ impl Clients {
         self.edited_row(edit, node)
     }
 
-    /// Whether it is known at once that no row has an exclusive byte.
-    pub fn excludes_none(&self) -> bool
-        ensures { result ≡ true → NoneExclusive (rows_of self.now) }
+    /// Whether it is known at once that no row has an exclusive byte once the edit is made.
+    pub fn excludes_none(&self, edit: &Option<RowEdit>) -> bool
+        ensures { result ≡ true → NoneExclusive (rows_of (overlaid self.now edit.now)) }
     {
-        !self.may_exclude
+        if self.may_exclude {
+            return false;
+        }
+        match edit {
+            Some(edit) => !edit.may_exclude(),
+            None => true,
+        }
+    }
+
+    // Whether the node is asked for its token, once the edit is made.
+    fn is_awaited(&self, edit: &Option<RowEdit>, node: u8) -> bool
+        requires { 1 ≤ node }
+        ensures { result ≡ is_awaited (rows_of (overlaid self.now edit.now) node) }
+    {
+        match self.row_after(edit, node) {
+            Some(row) => row.commands.is_asked(),
+            None => false,
+        }
+    }
+
+    /// Whether one of the first so many nodes is asked for its token, once the edit is made.
+    pub fn awaits(&self, edit: &Option<RowEdit>, nodes: u8) -> bool
+        ensures { result ≡ some_passes (λ node. is_awaited (rows_of (overlaid self.now edit.now) node)) 1 nodes }
+    {
+        for place in 0..nodes {
+            if self.is_awaited(edit, place + 1) {
+                return true;
+            }
+        }
+        false
     }
 
     // The edit is made, if a node stands at its place.

@@ -1,23 +1,28 @@
 //! Commands of a token server to a node.
-ghost use Rattle.std.specs.Prelude.{◌≡◌, ◌≤◌, ◌<◌, ◌↔◌, IsTrue, None};
-ghost use Rattle.messages.specs.Messages.{greatest_number};
-ghost use Rattle.token_server.specs.Server.{is_grant, revoked_mode};
+ghost use Rattle.std.specs.Prelude.{◌≡◌, ◌≤◌, ◌+◌, ◌↔◌, IsTrue, Some, None};
+ghost use Rattle.messages.specs.Epochs.{IsEpoch, before_epoch};
+ghost use Rattle.messages.specs.declared.message.Message.TheVariants.{Hello};
+ghost use Rattle.token_server.specs.State.{is_hello};
+ghost use Rattle.token_server.specs.Server.{is_grant, revoked_mode, asks_token};
 ghost use Rattle.token_server.specs.Told.{awaiting};
 ghost use Rattle.token_server.specs.Parts.{next_number, told_commands, answered_commands};
 
-use messages::command_number::CommandNumber;
-use messages::message::Message;
+use crate::command::{Command, Order};
+use messages::command_number::{CommandNumber, GREATEST_NUMBER};
+use messages::epoch_number::EpochNumber;
+use messages::file_number::FileNumber;
 use messages::refusal::StepError;
+use model::host::Host;
 use model::mode::Mode;
 use std::marker::Model;
 
-/// The commands to a node in one incarnation (from 1): the number of the last (0 at first), and that
-/// command while no answer has come.
+/// The commands to a node in one incarnation (from 1): the number of the last (at first the one after which
+/// those of the server's epoch begin), and that command while no answer has come.
 #[derive(Clone, Copy, Debug)]
 pub struct Commands {
     pub incarnation: u16,
-    pub number: u32,
-    pub outstanding: Option<Message>,
+    pub number: u64,
+    pub outstanding: Option<Command>,
 }
 
 impl Model for Commands {
@@ -33,16 +38,36 @@ impl Model for Commands {
     ghost inverse = { λ v. record { incarnation = v.incarnation; number = v.number; outstanding = v.outstanding } };
 }
 
+/// The number after which the commands of an epoch begin.
+pub fn before_epoch(epoch: u16) -> u64
+    requires { IsEpoch epoch }
+    ensures { result ≡ before_epoch epoch }
+{
+    CommandNumber::of(epoch, 1).get() - 1
+}
+
 impl Commands {
-    /// None has been sent yet.
-    pub fn new(incarnation: u16) -> Commands
+    /// None has been sent yet: they begin after that number.
+    pub fn new(incarnation: u16, number: u64) -> Commands
         requires { 1 ≤ incarnation }
-        ensures { result ≡ record { incarnation = incarnation; number = 0; outstanding = None } }
+        ensures { result ≡ record { incarnation = incarnation; number = number; outstanding = None } }
     {
         Commands {
             incarnation,
-            number: 0,
+            number,
             outstanding: None,
+        }
+    }
+
+    /// The holder is asked for its token by a server that was rebuilt: they begin after that number.
+    pub fn asking(file: FileNumber, number: EpochNumber, holder: Host) -> Commands
+        ensures { result ≡ record { incarnation = holder.incarnation; number = number; outstanding = Some (Hello file number holder) } }
+    {
+        let hello = Order::Hello { number, holder };
+        Commands {
+            incarnation: holder.incarnation,
+            number: number.get(),
+            outstanding: Some(Command::of(file, hello)),
         }
     }
 
@@ -54,45 +79,59 @@ impl Commands {
         self.incarnation
     }
 
-    /// The number of the next command, unless one is under way.
+    /// The number of the next command of the epoch, unless one is under way.
     ///
     /// # Errors
-    /// `Spent` where it would be past 4,294,967,295.
-    pub fn next_number(&self) -> Result<Option<CommandNumber>, StepError>
-        ensures { result ≡ next_number self.now }
+    /// `Spent` where it would be past 4,294,967,295 in the epoch.
+    pub fn next_number(&self, epoch: u16) -> Result<Option<CommandNumber>, StepError>
+        requires epoch_in { IsEpoch epoch }
+        requires counted { self.now.outstanding ≡ None → before_epoch epoch ≤ self.now.number }
+        ensures { result ≡ next_number (before_epoch epoch) self.now }
     {
         if self.outstanding.is_some() {
             return Ok(None);
         }
-        if self.number == u32::MAX {
+        let sent = self.number - before_epoch(epoch);
+        if sent >= GREATEST_NUMBER as u64 {
             return Err(StepError::Spent);
         }
-        Ok(Some(CommandNumber::of(self.number + 1)))
+        Ok(Some(CommandNumber::of(epoch, sent as u32 + 1)))
     }
 
     /// Whether the Grant with that number is under way.
-    pub fn grants(&self, number: u32) -> bool
+    pub fn grants(&self, number: u64) -> bool
         ensures { result ≡ is_grant number self.now.outstanding }
     {
         match &self.outstanding {
-            Some(Message::Grant { number: own, .. }) => own.get() == number,
-            _ => false,
+            Some(command) => command.is_grant(number),
+            None => false,
         }
     }
 
     /// The mode of the Revoke with that number, if it is under way.
-    pub fn revoked_mode(&self, number: u32) -> Option<Mode>
+    pub fn revoked_mode(&self, number: u64) -> Option<Mode>
         ensures { result ≡ revoked_mode number self.now.outstanding }
     {
+        self.outstanding.as_ref()?.revoked_mode(number)
+    }
+
+    /// Whether the node is asked for its token with that number.
+    pub fn asks_token(&self, number: u64) -> bool
+        ensures { result ≡ asks_token number self.now.outstanding }
+    {
         match &self.outstanding {
-            Some(
-                Message::Revoke {
-                    number: own,
-                    mode,
-                    ..
-                },
-            ) if own.get() == number => Some(*mode),
-            _ => None,
+            Some(command) => command.asks_token(number),
+            None => false,
+        }
+    }
+
+    /// Whether the node is asked for its token.
+    pub fn is_asked(&self) -> bool
+        ensures { result ≡ is_hello self.now.outstanding }
+    {
+        match &self.outstanding {
+            Some(command) => command.is_hello(),
+            None => false,
         }
     }
 
@@ -106,24 +145,24 @@ impl Commands {
         }
     }
 
-    /// Once the next command is sent.
-    pub fn told(self, command: &Message) -> Commands
-        requires { self.number < greatest_number }
-        ensures { result ≡ told_commands command.now self }
+    /// Once the next command is sent, which has that number.
+    pub fn told(self, number: CommandNumber, command: Command) -> Commands
+        requires { number ≡ self.number + 1 }
+        ensures { result ≡ told_commands command self }
     {
         Commands {
             incarnation: self.incarnation,
-            number: self.number + 1,
-            outstanding: Some(*command),
+            number: number.get(),
+            outstanding: Some(command),
         }
     }
 
     /// Once that command is under way.
-    pub fn awaiting(self, command: &Message) -> Commands
-        ensures { result ≡ awaiting command.now self }
+    pub fn awaiting(self, command: Command) -> Commands
+        ensures { result ≡ awaiting command self }
     {
         Commands {
-            outstanding: Some(*command),
+            outstanding: Some(command),
             ..self
         }
     }
@@ -136,7 +175,7 @@ impl Commands {
             return false;
         }
         match (&self.outstanding, &other.outstanding) {
-            (Some(command), Some(next)) => command.same(next),
+            (Some(command), Some(next)) => command.message().same(&next.message()),
             (None, None) => true,
             _ => false,
         }

@@ -2,7 +2,7 @@
 use messages::message::Message;
 
 /// What may happen at a server.
-#[derive(Clone, Copy, Debug, PartialEq, Eq)]
+#[derive(Debug, PartialEq, Eq, Drop)]
 pub enum ServerEvent {
     /// A message comes.
     Deliver(Message),

@@ -4,6 +4,7 @@
 pub mod change;
 mod client;
 mod clients;
+mod command;
 mod commands;
 pub mod event;
 mod gone;
@@ -11,6 +12,7 @@ pub mod laws;
 pub mod lists;
 mod moves;
 mod node_change;
+mod reports;
 mod row_edit;
 pub mod server;
 mod sketch;

@@ -1,22 +1,27 @@
 //! How an event changes what a token server knows of a node.
 ghost use Rattle.std.specs.Prelude.{◌≡◌};
 ghost use Rattle.token_server.specs.Sketches.{dropped_to, dead_after};
+ghost use Rattle.token_server.specs.Obstacles.{may_bar};
 
 use intervals::span::Span;
+use messages::token_run::TokenRuns;
 use model::host::Host;
 use model::mode::Mode;
 
 /// How an event changes what the server knows of a node.
-#[derive(Clone, Copy)]
+#[derive(Drop)]
 pub enum NodeChange {
     /// Its incarnations up to this one are known to be dead.
     Forgotten { incarnation: u16 },
-    /// It asks in this incarnation: those before it are known to be dead, and it has a row.
-    Asked { host: Host },
+    /// It asks in this incarnation: those before it are known to be dead, and it has a row, in a new one of
+    /// which its commands begin after that number.
+    Asked { host: Host, begin: u64 },
     /// The command to it is answered.
     Answered,
     /// The command to it is answered: it gave up the span for the mode.
     Relieved { span: Span, mode: Mode },
+    /// The command to it is answered: it told its token, which has these runs.
+    Reported { runs: TokenRuns },
 }
 
 impl NodeChange {
@@ -26,8 +31,9 @@ impl NodeChange {
     {
         match self {
             NodeChange::Forgotten { incarnation } => Some(*incarnation),
-            NodeChange::Asked { host } => Some(host.incarnation - 1),
-            NodeChange::Answered | NodeChange::Relieved { .. } => None,
+            NodeChange::Asked { host, .. } => Some(host.incarnation - 1),
+            NodeChange::Answered | NodeChange::Relieved { .. } | NodeChange::Reported { .. } =>
+                None,
         }
     }
 
@@ -37,8 +43,19 @@ impl NodeChange {
     {
         match self {
             NodeChange::Forgotten { incarnation } => dead.max(*incarnation),
-            NodeChange::Asked { host } => dead.max(host.incarnation - 1),
-            NodeChange::Answered | NodeChange::Relieved { .. } => dead,
+            NodeChange::Asked { host, .. } => dead.max(host.incarnation - 1),
+            NodeChange::Answered | NodeChange::Relieved { .. } | NodeChange::Reported { .. } =>
+                dead,
+        }
+    }
+
+    /// Whether its row may come to stand in the way of a request for which it did not.
+    pub fn may_bar(&self) -> bool
+        ensures { result ≡ may_bar self.now }
+    {
+        match self {
+            NodeChange::Reported { .. } => true,
+            _ => false,
         }
     }
 }

@@ -1,10 +1,15 @@
 //! Nodes as a token server will know them once a planned step is made.
-ghost use Rattle.std.specs.Prelude.{◌≡◌};
+ghost use Rattle.std.specs.Prelude.{◌≡◌, false, Option};
+ghost use Rattle.intervals.specs.Bytes.{whole};
+ghost use Rattle.model.specs.declared.mode.Mode.TheVariants.{Read};
+ghost use Rattle.token_server.specs.Serve.{row_conflicts};
+ghost use Rattle.token_server.specs.Parts.{row_seen};
+ghost use Rattle.token_server.specs.declared.token_holder.TokenHolder.{TokenHolder};
 ghost use Rattle.token_server.specs.Edits.{seen_row, row_kept};
 
 use crate::client::Client;
 use crate::commands::Commands;
-use crate::token_holder::RowView;
+use crate::token_holder::{RowView, excludes};
 use token_set::set::TokenSet;
 
 /// A row from now on: the commands to its node, and its token, or none where that stays.
@@ -37,6 +42,21 @@ impl RowEdit {
                 token: &row.token,
             }),
             (None, None) => None,
+        }
+    }
+
+    /// Whether it gives its node a token that has an exclusive byte.
+    pub fn may_exclude(&self) -> bool
+        ensures { result ≡ false → (row : Option TokenHolder) → row_conflicts (row_seen row) whole Read ≡ false → row_conflicts (row_seen (row_kept self.now.row row)) whole Read ≡ false }
+    {
+        match &self.row {
+            Some(
+                RowAfter {
+                    token: Some(token),
+                    ..
+                },
+            ) => excludes(token),
+            _ => false,
         }
     }
 }

@@ -1,22 +1,24 @@
 //! The token server of a file.
-ghost use Rattle.std.specs.Prelude.{◌≡◌, ◌≢◌, ℕ, ◌+◌, ◌-◌, ◌<◌, ◌↔◌, ◌++◌, not, ◌&&◌, ◌||◌, ◌==◌, IsTrue, length, IfSome, IfOk, IfErr, MatchOption, [], Option, Some, None, Ok, Err};
+ghost use Rattle.std.specs.Prelude.{◌≡◌, ◌≢◌, ℕ, ◌+◌, ◌-◌, ◌<◌, ◌≤◌, ◌↔◌, ◌++◌, true, false, not, ◌&&◌, ◌||◌, ◌==◌, IsTrue, length, IfSome, IfOk, IfErr, MatchOption, [], Option, Some, None, Ok, Err};
 ghost use Rattle.std.specs.Option.{option_map, option_to_list};
 ghost use Rattle.model.specs.Limits.{IsNumber};
 ghost use Rattle.model.specs.Owners.{host_of_call};
 ghost use Rattle.messages.specs.Messages.{sending, addressee, host_of, is_within};
+ghost use Rattle.members.specs.Parts.{members_state};
 ghost use Rattle.token_queue.specs.Actives.{requests_of};
-ghost use Rattle.token_server.specs.State.{first_server, forgotten, requeued};
+ghost use Rattle.token_server.specs.State.{first_server, rebuilt, awaits, forgotten, requeued};
 ghost use Rattle.token_server.specs.Serve.{serve};
 ghost use Rattle.token_server.specs.Told.{commands_told};
 ghost use Rattle.token_server.specs.Resends.{outstanding, sending_first, resend_rule};
-ghost use Rattle.token_server.specs.Server.{server_rule, learn_rule, asked, row_of_host, freed, revoked_mode, taken, released, in_conflict, delivered, is_server};
+ghost use Rattle.token_server.specs.Server.{server_rule, learn_rule, asked, row_of_host, freed, revoked_mode, taken, released, in_conflict, heard, delivered, is_server};
 ghost use Rattle.token_server.specs.Parts.{server_state, rows_of};
 ghost use Rattle.token_server.specs.Ready.{IsOrderly};
-ghost use Rattle.token_server.specs.Sketches.{dropped, without, moved_for, rows_after, sketched};
-ghost use Rattle.token_server.specs.Edits.{overlaid, planned, AreListed, Fits, HasRoom, HeldHasRoom, many_moved, many_put_off};
+ghost use Rattle.token_server.specs.Sketches.{is_answer, dropped, without, moved_for, rows_after, sketched};
+ghost use Rattle.token_server.specs.Edits.{overlaid, reached, planned, AreListed, Fits, HasRoom, HeldHasRoom, many_moved, many_put_off};
 
 use crate::change::{Change, Draft, Edit, Parts};
 use crate::clients::Clients;
+use crate::commands::before_epoch;
 use crate::event::ServerEvent;
 use crate::lists::{Lists, Spares};
 use crate::moves;
@@ -26,6 +28,7 @@ use crate::sketch::{Moved, Sketch};
 use crate::told::Told;
 use intervals::span::Span;
 use intervals::span_map::NoMemory;
+use members::members::Members;
 use messages::actor::Actor;
 use messages::command_number::CommandNumber;
 use messages::file_number::FileNumber;
@@ -34,6 +37,7 @@ use messages::message::{Message, Urgency};
 use messages::outcome::Outcome;
 use messages::refusal::StepError;
 use messages::shape::Shape;
+use messages::token_run::TokenRuns;
 use model::call::CallId;
 use model::host::Host;
 use model::lock_info::LockInfo;
@@ -51,15 +55,20 @@ mod serving;
 
 /// The token server of one file: what it knows of each node, the requests that are queued, in the
 /// order in which they came, those that are served, no two of which need a byte in common, and those that
-/// wait for a lock of another node to go.
+/// wait for a lock of another node to go. One that was rebuilt serves none before each node that is alive
+/// has told its token, or is known to be dead.
 #[derive(Drop)]
 pub struct Server {
     shape: Shape,
     file: u16,
+    // 1 until it was rebuilt.
+    epoch: u16,
     clients: Clients,
     active: Active,
     queue: Line,
     waiting: Line,
+    // Whether a node has not told its token yet.
+    awaits: bool,
 }
 
 impl Model for Server {
@@ -68,9 +77,9 @@ impl Model for Server {
 
     ghost Value = { ServerParts };
 
-    ghost view = { λ s. record { shape = s.shape; file = s.file; clients = s.clients; active = s.active; queue = s.queue; waiting = s.waiting } };
+    ghost view = { λ s. record { shape = s.shape; file = s.file; epoch = s.epoch; clients = s.clients; active = s.active; queue = s.queue; waiting = s.waiting } };
 
-    ghost invariant = { λ s. IsServer (record { shape = s.shape; file = s.file; clients = s.clients; active = s.active; queue = s.queue; waiting = s.waiting }) };
+    ghost invariant = { λ s. IsServer (record { shape = s.shape; file = s.file; epoch = s.epoch; clients = s.clients; active = s.active; queue = s.queue; waiting = s.waiting }) s.awaits };
 }
 
 impl Server {
@@ -85,11 +94,49 @@ impl Server {
         Ok(Server {
             shape,
             file,
+            epoch: 1,
             clients: Clients::new(alloc, shape.nodes())?,
             active: Active::new(alloc),
             queue: Line::new(alloc),
             waiting: Line::new(alloc),
+            awaits: false,
         })
+    }
+
+    /// The server of a file of the shape that is rebuilt after it failed, with that epoch, 2 to 65,535, from the
+    /// members of the cluster: it knows the incarnations as dead that were declared failed, and asks each node that
+    /// is alive for its token. What it sends, by rising node.
+    ///
+    /// # Errors
+    /// `NoMemory` where a request for memory was refused.
+    pub fn rebuild(
+        alloc: Global,
+        shape: Shape,
+        file: u16,
+        epoch: u16,
+        members: &Members,
+    ) -> Result<(Server, Outcome), NoMemory>
+        requires file_in { IsNumber shape.files file }
+        requires later { 2 ≤ epoch }
+        requires of_shape { (members_state members.now.nodes).nodes ≡ shape.nodes }
+        ensures state { let nodes = members_state members.now.nodes in IfOk result (λ r. server_state r.0 ≡ rebuilt shape file epoch nodes.alive nodes.incarnation) }
+        ensures outcome { let nodes = members_state members.now.nodes in IfOk result (λ r. r.1 ≡ sending (outstanding (rebuilt shape file epoch nodes.alive nodes.incarnation))) }
+    {
+        let _ = shape.files(); // tells the proof how many files there may be
+        let clients = Clients::rebuilt(alloc, shape, FileNumber::of(file), epoch, members)?;
+        let hellos = clients.outstanding(alloc)?;
+        let awaits = clients.awaits(&None, shape.nodes());
+        let server = Server {
+            shape,
+            file,
+            epoch,
+            clients,
+            active: Active::new(alloc),
+            queue: Line::new(alloc),
+            waiting: Line::new(alloc),
+            awaits,
+        };
+        Ok((server, Outcome::sending(hellos)))
     }
 
     /// An equal server.
@@ -102,19 +149,21 @@ impl Server {
         Ok(Server {
             shape: self.shape,
             file: self.file,
+            epoch: self.epoch,
             clients: self.clients.copy()?,
             active: self.active.copy()?,
             queue: self.queue.copy()?,
             waiting: self.waiting.copy()?,
+            awaits: self.awaits,
         })
     }
 
-    /// Whether both are servers of one file in clusters of one shape and know the same, with the
-    /// same requests in the same order.
+    /// Whether both are servers of one file in clusters of one shape, of one epoch, and know the same, with
+    /// the same requests in the same order.
     pub fn same(&self, other: &Server) -> bool
         ensures { IsTrue result ↔ (server_state self.now ≡ server_state other.now) }
     {
-        if self.shape != other.shape || self.file != other.file {
+        if self.shape != other.shape || self.file != other.file || self.epoch != other.epoch {
             return false;
         }
         if !self.queue.same(&other.queue) || !self.active.same(&other.active) {
@@ -160,11 +209,12 @@ impl Server {
     {
         let host = request.call.host();
         let moved = self.enqueued(request);
-        Sketch::of(host.node, NodeChange::Asked { host }, moved, None)
+        let begin = before_epoch(self.epoch);
+        Sketch::of(host.node, NodeChange::Asked { host, begin }, moved, None)
     }
 
     // The mode that the command with that number revokes, if it is under way to that holder.
-    fn revoked_mode(&self, number: u32, holder: Host) -> Option<Mode>
+    fn revoked_mode(&self, number: u64, holder: Host) -> Option<Mode>
         ensures { MatchOption (row_of_host (server_state self.now) holder) (result ≡ None) (λ row. result ≡ revoked_mode number row.outstanding) }
     {
         self.clients.row_of(holder)?.commands.revoked_mode(number)
@@ -172,7 +222,7 @@ impl Server {
 
     // Takes a node's answer to a Grant: the call's request is served no longer. `None` where the answer
     // doesn't count.
-    fn on_taken(&self, number: u32, call: CallId) -> Option<Sketch>
+    fn on_taken(&self, number: u64, call: CallId) -> Option<Sketch>
         requires { IsNumber self.now.shape.nodes call.node }
         ensures state { taken (server_state self.now) number call (row_of_host (server_state self.now) (host_of_call call)) ≡ option_map (λ k. (sketched self.now k, [])) result }
         ensures in_cluster { IfSome result (λ k. IfSome k.changed (λ c. IsNumber self.now.shape.nodes c.node)) }
@@ -186,7 +236,7 @@ impl Server {
     }
 
     // Takes a holder's answer that it gave up a span. `None` where the answer doesn't count.
-    fn on_released(&self, number: u32, holder: Host, span: Span) -> Option<Sketch>
+    fn on_released(&self, number: u64, holder: Host, span: Span) -> Option<Sketch>
         requires { IsNumber self.now.shape.nodes holder.node }
         ensures state { released (server_state self.now) number holder span (row_of_host (server_state self.now) holder) ≡ option_map (λ k. (sketched self.now k, [])) result }
         ensures in_cluster { IfSome result (λ k. IfSome k.changed (λ c. IsNumber self.now.shape.nodes c.node)) }
@@ -218,21 +268,47 @@ impl Server {
         ensures in_cluster { IfSome result (λ d. IfSome d.0.changed (λ c. IsNumber self.now.shape.nodes c.node)) }
     {
         self.revoked_mode(number.get(), holder)?;
-        let deny = Message::Deny {
-            file: self.file_number(),
-            call,
-            holder,
-            number,
-            lock,
-        };
+        let file = self.file_number();
         let own = self.active.find(call);
         let (moved, denial) = match own {
             Some(request) if request.urgency == Urgency::Waits => (Moved::PutOff(request), None),
-            Some(_) => (Moved::Nothing, Some(deny)),
+            Some(_) => {
+                let deny = Message::Deny {
+                    file,
+                    call,
+                    holder,
+                    number,
+                    lock,
+                };
+                (Moved::Nothing, Some(deny))
+            }
             None => (Moved::Nothing, None),
         };
         let sketch = Sketch::of(holder.node, NodeChange::Answered, moved, Some(call));
         Some((sketch, denial))
+    }
+
+    // Takes the token that a node tells, which has those runs. `None` where it is not asked for it with that
+    // number.
+    fn on_report(
+        &self,
+        alloc: Global,
+        number: u64,
+        holder: Host,
+        runs: &TokenRuns,
+    ) -> Result<Option<Sketch>, NoMemory>
+        requires { IsNumber self.now.shape.nodes holder.node }
+        ensures state { IfOk result (λ r. heard (server_state self.now) number holder runs.now (row_of_host (server_state self.now) holder) ≡ option_map (λ k. (sketched self.now k, [])) r) }
+        ensures in_cluster { IfOk result (λ r. IfSome r (λ k. IfSome k.changed (λ c. IsNumber self.now.shape.nodes c.node))) }
+    {
+        match self.clients.row_of(holder) {
+            Some(row) if row.commands.asks_token(number) => {}
+            _ => return Ok(None),
+        }
+        let reported = NodeChange::Reported {
+            runs: runs.copy(alloc)?,
+        };
+        Ok(Some(Sketch::of(holder.node, reported, Moved::Nothing, None)))
     }
 
     // Takes that locks of the holder may be gone: where its row is of that incarnation, what waits is asked
@@ -262,20 +338,30 @@ impl Server {
         }
     }
 
+    // Whether a node has not told its token yet, once the row is edited: an event asks none for it.
+    fn awaits_after(&self, rows: &Option<RowEdit>) -> bool
+        requires { awaits (server_state self.now) ≡ false → awaits (reached self.now rows.now) ≡ false }
+        ensures { result ≡ awaits (reached self.now rows.now) }
+    {
+        self.awaits && self.clients.awaits(rows, self.shape.nodes())
+    }
+
     // How the requests change.
     fn lists(
         &self,
         alloc: Global,
         rows: &Option<RowEdit>,
+        awaiting: bool,
         sketch: &Sketch,
     ) -> Result<Lists, NoMemory>
         requires rows { rows_of (overlaid self.now.clients rows.now) ≡ rows_after sketch.now.changed (rows_of self.now.clients) }
+        requires awaited { awaiting ≡ awaits (reached self.now rows.now) }
         requires in_cluster { IfSome sketch.now.changed (λ c. IsNumber self.now.shape.nodes c.node) }
         requires orderly { IsOrderly (sketched self.now sketch.now) }
         ensures { IfOk result (λ lists. AreListed self.now sketch.now rows.now lists) }
     {
         let dropped = self.newly_dead(sketch);
-        let fresh = self.admit(alloc, dropped, sketch)?;
+        let fresh = self.admit(alloc, awaiting, dropped, sketch)?;
         Ok(Lists {
             dropped,
             ats: self.awaited(alloc, rows, &sketch.changed)?,
@@ -310,7 +396,7 @@ impl Server {
     }
 
     // Serves the requests: each is granted, but where other nodes' rows conflict with it, the token of the
-    // least such node is revoked first.
+    // least such node is revoked first. None is served before each node has told its token.
     fn serve(&self, sketch: &Sketch, alloc: Global) -> Result<(Edit, Items<Message>), StepError>
         requires in_cluster { IfSome sketch.now.changed (λ c. IsNumber self.now.shape.nodes c.node) }
         requires orderly { IsOrderly (sketched self.now sketch.now) }
@@ -319,9 +405,14 @@ impl Server {
         ensures err { IfErr result (λ e. e ≢ StepError.NoMemory → serve (sketched self.now sketch.now) ≡ Err e) }
     {
         let rows = self.clients.edit(alloc, &sketch.changed)?;
-        let lists = self.lists(alloc, &rows, sketch)?;
+        let awaits = self.awaits_after(&rows);
+        let lists = self.lists(alloc, &rows, awaits, sketch)?;
         let spares = self.spares(&lists)?;
-        let draft = Draft { rows, lists };
+        let draft = Draft {
+            rows,
+            lists,
+            awaits,
+        };
         let touched = self.touched(&draft.rows, sketch);
         let told = self.commands(&draft, touched, alloc)?;
         let given = self.given(&draft, alloc, told.as_slice())?;
@@ -331,40 +422,66 @@ impl Server {
         ))
     }
 
-    // What a message changes before the server serves, and what is sent for it, or `None` where it does
-    // nothing at all.
-    fn deliver(&self, message: &Message) -> Option<(Sketch, Option<Message>)>
-        requires { IsNumber self.now.shape.nodes (host_of message.now).node }
+    // What an answer to a command changes before the server serves, and what is sent for it, or `None` where
+    // the answer doesn't count.
+    fn on_answer(&self, message: &Message) -> Option<(Sketch, Option<Message>)>
+        requires answer { is_answer message.now ≡ true }
+        requires in_cluster { IsNumber self.now.shape.nodes (host_of message.now).node }
         ensures state { delivered (server_state self.now) message.now ≡ option_map (λ d. (sketched self.now d.0, option_to_list d.1)) result }
         ensures in_cluster { IfSome result (λ d. IfSome d.0.changed (λ c. IsNumber self.now.shape.nodes c.node)) }
     {
-        match *message {
-            Message::Request {
-                call,
-                urgency,
-                mode,
-                wanted,
-                ..
-            } => Some((
-                self.ask(TokenRequest::new(call, urgency, mode, wanted)),
-                None,
-            )),
-            Message::Taken { number, call, .. } => Some((self.on_taken(number.get(), call)?, None)),
+        match message {
+            Message::Taken { number, call, .. } => silent(self.on_taken(number.get(), *call)),
             Message::Released {
                 number,
                 holder,
                 span,
                 ..
-            } => Some((self.on_released(number.get(), holder, span)?, None)),
+            } => silent(self.on_released(number.get(), *holder, *span)),
             Message::Conflict {
                 number,
                 holder,
                 call,
                 lock,
                 ..
-            } => self.on_conflict(number, holder, call, lock),
-            Message::Freed { holder, .. } => Some((self.on_freed(holder), None)),
-            Message::Grant { .. } | Message::Revoke { .. } | Message::Deny { .. } => None,
+            } => self.on_conflict(*number, *holder, *call, *lock),
+            _ => unreachable!(),
+        }
+    }
+
+    // What a message changes before the server serves, and what is sent for it, or `None` where it does
+    // nothing at all.
+    fn deliver(
+        &self,
+        alloc: Global,
+        message: &Message,
+    ) -> Result<Option<(Sketch, Option<Message>)>, NoMemory>
+        requires { IsNumber self.now.shape.nodes (host_of message.now).node }
+        ensures state { IfOk result (λ r. delivered (server_state self.now) message.now ≡ option_map (λ d. (sketched self.now d.0, option_to_list d.1)) r) }
+        ensures in_cluster { IfOk result (λ r. IfSome r (λ d. IfSome d.0.changed (λ c. IsNumber self.now.shape.nodes c.node))) }
+    {
+        match message {
+            Message::Request {
+                call,
+                urgency,
+                mode,
+                wanted,
+                ..
+            } => {
+                let request = TokenRequest::new(*call, *urgency, *mode, *wanted);
+                Ok(silent(Some(self.ask(request))))
+            }
+            Message::Taken { .. } => Ok(self.on_answer(message)),
+            Message::Released { .. } => Ok(self.on_answer(message)),
+            Message::Conflict { .. } => Ok(self.on_answer(message)),
+            Message::Freed { holder, .. } => Ok(silent(Some(self.on_freed(*holder)))),
+            Message::Report {
+                number,
+                holder,
+                runs,
+                ..
+            } => Ok(silent(self.on_report(alloc, number.get(), *holder, runs)?)),
+            _ => Ok(None),
         }
     }
 
@@ -418,15 +535,22 @@ impl Server {
             queue: None,
             waiting: None,
         };
-        let draft = Draft { rows: None, lists };
+        let draft = Draft {
+            rows: None,
+            lists,
+            awaits: self.awaits,
+        };
         Ok(Change {
             edit: Edit::new(alloc, draft, Vec::new(alloc), spares)?,
             outcome: Outcome::sending(Items::new(alloc)),
         })
     }
 
-    // Takes a message.
-    fn take(&self, alloc: Global, message: &Message) -> Result<Change, StepError>
+    /// Plans what the delivery of the message changes, as `plan` does.
+    ///
+    /// # Errors
+    /// Those of `step`.
+    pub fn plan_delivery(&self, alloc: Global, message: &Message) -> Result<Change, StepError>
         ensures fits { IfOk result (λ change. Fits self.now change.edit) }
         ensures ok { IfOk result (λ change. server_rule (server_state self.now) (ServerEvent.Deliver message.now) ≡ Ok (planned self.now change.edit, change.outcome)) }
         ensures err { IfErr result (λ e. e ≢ StepError.NoMemory → server_rule (server_state self.now) (ServerEvent.Deliver message.now) ≡ Err e) }
@@ -439,7 +563,7 @@ impl Server {
         if host.incarnation <= self.clients.dead(host.node) {
             return Ok(self.no_change(alloc)?);
         }
-        match self.deliver(message) {
+        match self.deliver(alloc, message)? {
             Some((sketch, first)) => self.serve_after(&sketch, alloc, first),
             None => Ok(self.no_change(alloc)?),
         }
@@ -485,7 +609,7 @@ impl Server {
         ensures refused { (r : StepError) → r ≢ StepError.Spent → server_rule (server_state self.now) event.now ≡ Err r → result ≡ Err r }
     {
         match event {
-            ServerEvent::Deliver(message) => self.take(alloc, message),
+            ServerEvent::Deliver(message) => self.plan_delivery(alloc, message),
             ServerEvent::Resend => self.resend(alloc),
             ServerEvent::Learn { node, incarnation } => self.learn(alloc, *node, *incarnation),
         }
@@ -503,7 +627,12 @@ impl Server {
             given,
             spares,
         } = Box::into_inner(edit.parts);
-        let Draft { rows, lists } = draft;
+        let Draft {
+            rows,
+            lists,
+            awaits,
+        } = draft;
+        self.awaits = awaits;
         self.clients.apply(rows);
         self.clients.give_each(given);
         moves::change(
@@ -523,13 +652,14 @@ impl Server {
     /// Where another node's token has some of the bytes that it needs, that is revoked first, one node
     /// after the other; where a holder then names a lock in the way, the request is denied, or, where it
     /// may wait, put off until the holder says that locks of it may be gone. An answer counts once, and
-    /// only where the command with its number waits for one of its kind. (Tokens revoked by required and
-    /// desired ranges: Schmuck and Haskin, FAST 2002.)
+    /// only where the command with its number waits for one of its kind. A server that was rebuilt serves
+    /// none before each node that was asked for its token has told it, or is known to be dead. (Tokens revoked
+    /// by required and desired ranges: Schmuck and Haskin, FAST 2002.)
     ///
     /// # Errors
     /// `Stranger` where a message is not for this server or names a node that the cluster doesn't have,
     /// which is tested first; `Spent` where the next command to a node would need a number past
-    /// 4,294,967,295; `NoMemory` where a request for memory was refused, which may come before `Spent`.
+    /// 4,294,967,295 in the server's epoch; `NoMemory` where a request for memory was refused, which may come before `Spent`.
     pub fn step(&self, alloc: Global, event: &ServerEvent) -> Result<(Server, Outcome), StepError>
         ensures ok { IfOk result (λ r. server_rule (server_state self.now) event.now ≡ Ok (server_state r.0, r.1)) }
         ensures err { IfErr result (λ e. e ≢ StepError.NoMemory → server_rule (server_state self.now) event.now ≡ Err e) }
@@ -542,6 +672,13 @@ impl Server {
         let outcome = next.apply(change);
         Ok((next, outcome))
     }
+}
+
+// What an event changes, where nothing is sent for it before the server serves.
+fn silent(sketch: Option<Sketch>) -> Option<(Sketch, Option<Message>)>
+    ensures { result ≡ option_map (λ k. (k, None)) sketch }
+{
+    Some((sketch?, None))
 }
 
 // What an edit changes, where those messages are sent and then what serving sends.
@@ -563,7 +700,7 @@ fn commands_told(alloc: Global, told: &[Told]) -> Result<Items<Message>, NoMemor
 {
     let mut commands = Items::new(alloc);
     for next in told {
-        commands.push(next.command)?;
+        commands.push(next.command.message())?;
     }
     Ok(commands)
 }

@@ -25,16 +25,16 @@ pub enum Moved {
 }
 
 /// A node of which the server knows something else, and how.
-#[derive(Clone, Copy)]
+#[derive(Drop)]
 pub struct Changed {
     pub node: u8,
     pub change: NodeChange,
 }
 
-/// What an event changes of a server before it serves, in so few words that it takes no memory: what is
-/// known of a node (requests of its dead incarnations go), then what moves, and the call whose request is
-/// served no longer, if there is one.
-#[derive(Clone, Copy)]
+/// What an event changes of a token server before it serves, in so few words that only a report takes memory:
+/// what is known of a node (requests of its dead incarnations go), then what moves, and the call whose request
+/// is served no longer, if there is one.
+#[derive(Drop)]
 pub struct Sketch {
     pub changed: Option<Changed>,
     pub moved: Moved,

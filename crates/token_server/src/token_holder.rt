@@ -1,10 +1,15 @@
 //! Rows of a token server.
 ghost use Rattle.std.specs.Prelude.{◌≡◌, ◌↔◌, IsTrue, IfOk};
+ghost use Rattle.intervals.specs.Bytes.{whole};
+ghost use Rattle.token_set.specs.Tokens.{conflicts};
+ghost use Rattle.token_set.specs.Sets.{token_of};
 ghost use Rattle.token_server.specs.Parts.{row_state, SameRow};
 ghost use Rattle.token_server.specs.Edits.{given_row};
 
 use crate::commands::Commands;
+use intervals::span::{GREATEST, Span};
 use intervals::span_map::NoMemory;
+use model::mode::Mode;
 use token_set::edit::TokenEdit;
 use token_set::set::TokenSet;
 
@@ -20,6 +25,17 @@ pub struct TokenHolder {
 pub struct RowView<'a> {
     pub commands: &'a Commands,
     pub token: &'a TokenSet,
+}
+
+/// Whether a byte of the token is exclusive.
+pub fn excludes(token: &TokenSet) -> bool
+    ensures { result ≡ conflicts (token_of token.now) whole Mode.Read }
+{
+    let every_byte = Span {
+        lo: 0,
+        hi: GREATEST,
+    };
+    token.conflicts(every_byte, Mode::Read)
 }
 
 impl TokenHolder {

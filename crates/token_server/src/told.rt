@@ -1,20 +1,19 @@
 //! Commands that a server sends as it serves.
-ghost use Rattle.std.specs.Prelude.{◌≡◌, ◌≤◌, ◌<◌, IfSome};
-ghost use Rattle.messages.specs.Messages.{greatest_number};
+ghost use Rattle.std.specs.Prelude.{◌≡◌, ◌≤◌, ◌+◌};
 ghost use Rattle.token_server.specs.Parts.{told_commands};
-ghost use Rattle.token_server.specs.Told.{told_to, bars, cut};
+ghost use Rattle.token_server.specs.Told.{told_to, cut};
 
+use crate::command::Command;
 use crate::commands::Commands;
 use intervals::span::Span;
-use messages::message::Message;
-use model::mode::Mode;
+use messages::command_number::CommandNumber;
 
 /// A node that is sent a command, and the commands to it from then on.
 #[derive(Clone, Copy, Debug)]
 pub struct Told {
     pub node: u8,
     pub commands: Commands,
-    pub command: Message,
+    pub command: Command,
 }
 
 /// What a node is told, if it is.
@@ -43,36 +42,15 @@ pub fn cut(required: Span, within: Span, other: Span) -> Span
 }
 
 impl Told {
-    /// A node that is sent the next command.
-    pub fn new(node: u8, commands: Commands, command: &Message) -> Told
-        requires { commands.number < greatest_number }
-        ensures { result ≡ record { node = node; commands = told_commands command.now commands; command = command.now } }
+    /// A node that is sent the next command, which has that number.
+    pub fn new(node: u8, commands: Commands, number: CommandNumber, command: Command) -> Told
+        requires { number ≡ commands.number + 1 }
+        ensures { result ≡ record { node = node; commands = told_commands command commands; command = command } }
     {
         Told {
             node,
-            commands: commands.told(command),
-            command: *command,
-        }
-    }
-
-    /// What the node is granted by the command, if that conflicts with the mode.
-    pub fn granted(&self, mode: Mode) -> Option<Span>
-        ensures value { result ≡ bars self.now.command mode }
-        ensures ordered { IfSome result (λ s. s.lo ≤ s.hi) }
-    {
-        match (&self.command, mode) {
-            (
-                Message::Grant {
-                    mode: Mode::Read,
-                    ..
-                },
-                Mode::Read,
-            ) => None,
-            (Message::Grant { span, .. }, _) => {
-                let _ = &span.lo; // tells the proof that the span has a byte
-                Some(*span)
-            }
-            _ => None,
+            commands: commands.told(number, command),
+            command,
         }
     }
 }

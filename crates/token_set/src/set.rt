@@ -1,6 +1,6 @@
 //! The token of one node for one file.
-ghost use Rattle.std.specs.Prelude.{◌≡◌, ◌≤◌, ℕ, true, false, Some, IfOk, OnOk, OnErr, IsTrue, ◌↔◌, MatchOption};
-ghost use Rattle.intervals.specs.Bytes.{IsLargest, NoneIn, put, largest_around};
+ghost use Rattle.std.specs.Prelude.{◌≡◌, ◌≤◌, ◌<◌, ℕ, true, false, Some, None, IfOk, OnOk, OnErr, IsTrue, ◌↔◌, MatchOption};
+ghost use Rattle.intervals.specs.Bytes.{greatest, IsLargest, NoneIn, put, largest_around};
 ghost use Rattle.intervals.specs.Edits.{written};
 ghost use Rattle.model.specs.Locks.{IsRegion};
 ghost use Rattle.lock_table.specs.Rows.{held};
@@ -447,7 +447,8 @@ impl TokenSet {
     /// # Errors
     /// `NoMemory` where a request for memory was refused.
     pub fn runs(&self, alloc: Global) -> Result<Vec<(Span, Level)>, NoMemory>
-        ensures { IfOk result (λ runs. ListsRuns (token_of self.now) runs.items) }
+        ensures listed { IfOk result (λ runs. ListsRuns (token_of self.now) runs.items) }
+        ensures bounded { IfOk result (λ runs. (b : ℕ) → greatest < b → token_of self.now b ≡ None) }
     {
         let mut runs = Vec::new(alloc);
         let mut from = 0;

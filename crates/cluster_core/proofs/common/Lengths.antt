@@ -1,6 +1,6 @@
 -- How many entries a run has.
-use Rattle.std.proofs.Common.{◌≡◌, ℕ, ◌+◌, refl, sym, ◌∙◌, ap, arith, nat_le, List, [], ◌∷◌, length, Result, Ok, Err}
-use Rattle.messages.specs.Messages.{addressee}
+use Rattle.std.proofs.Common.{◌≡◌, ℕ, ◌+◌, refl, sym, ◌∙◌, ap, arith, nat_le, nat_lt, List, [], ◌∷◌, length, Result, Ok, Err}
+use Rattle.messages.specs.Messages.{addressee, sending}
 use Rattle.messages.specs.declared.actor.Actor.{Actor}
 use Rattle.messages.specs.declared.actor.Actor.TheVariants.{Node as ANode, Server as AServer}
 use Rattle.messages.specs.declared.message.Message.{Message}
@@ -10,16 +10,17 @@ use Rattle.messages.specs.declared.refusal.Refused.{Refused}
 use Rattle.messages.specs.declared.refusal.Refused.TheVariants.{NotAlive, NotDead, TooManyRestarts}
 use Rattle.messages.specs.Refusals.{refused_by}
 use Rattle.messages.specs.declared.event.Event.{Event}
-use Rattle.messages.specs.declared.event.Event.TheVariants.{Call, Deliver, Interrupt, Retry, Resend, Declare, Restart, Learn}
+use Rattle.messages.specs.declared.event.Event.TheVariants.{Call, Deliver, Interrupt, Retry, Resend, Declare, Restart, Learn, FailServer, StartServer}
 use Rattle.messages.specs.declared.entry.Entry.{Entry}
 use Rattle.node_core.specs.declared.event.NodeEvent.TheVariants as node
 use Rattle.node_core.specs.State.{NodeState}
 use Rattle.node_core.specs.Node.{node_rule}
 use Rattle.token_server.specs.declared.event.ServerEvent.TheVariants as server
 use Rattle.token_server.specs.State.{ServerState}
+use Rattle.token_server.specs.Resends.{outstanding}
 use Rattle.token_server.specs.Server.{server_rule}
 use Rattle.cluster_core.specs.World.{WorldState, most_incarnations}
-use Rattle.cluster_core.specs.Next.{next, taken, delivered, after_node, after_server, recorded, named_incarnation, with_node, with_server, declared, restarted, silent}
+use Rattle.cluster_core.specs.Next.{next, taken, delivered, after_node, after_server, recorded, named_incarnation, with_node, with_server, declared, restarted, silent, failed, started, next_server}
 use Rattle.cluster_core.specs.Runs.{Leads}
 use Rattle.cluster_core.proofs.common.Choices.{if_either}
 use Rattle.cluster_core.proofs.steps.Steps.{next_taken}
@@ -61,6 +62,11 @@ taken-grows w (Declare n) =
 taken-grows w (Restart n) =
     if_either (GrowsBy w.length) (w.alive n) _ _ (refused-grows w.length NotDead)
     (if_either (GrowsBy w.length) (nat_le (w.nodes n).incarnation most_incarnations) _ _ (made-grows w.length (silent (restarted w n) (Restart n) (w.nodes n).incarnation) refl) (refused-grows w.length TooManyRestarts))
+taken-grows w (FailServer file) =
+    if_either (GrowsBy w.length) (w.working file) _ _ (made-grows w.length (silent (failed w file) (FailServer file) (w.servers file).epoch) refl) (refused-grows w.length NotAlive)
+taken-grows w (StartServer file) =
+    if_either (GrowsBy w.length) (w.working file) _ _ (refused-grows w.length NotDead)
+    (if_either (GrowsBy w.length) (nat_lt (w.servers file).epoch most_incarnations) _ _ (made-grows w.length (recorded (started w file) (StartServer file) ((w.servers file).epoch + 1) (sending (outstanding (next_server w file)))) refl) (refused-grows w.length TooManyRestarts))
 
 pub grows : (w v : WorldState) (event : Event) (e : Entry) → next w event ≡ Ok (v, e) → v.length ≡ w.length + 1
 grows w v event e step = taken-grows w event (v, e) (next_taken w event (v, e) step).1

@@ -1,5 +1,6 @@
 -- A node that first does a revoke in whose way a lock is gives the evidence for it.
 use Rattle.std.proofs.Common.{◌≡◌, ℕ, ◌+◌, ◌≤◌, Bool, true, false, ◌&&◌, ◌||◌, ◌==◌, inl, inr, refl, sym, ◌∙◌, ap, subst, arith, List, [], ◌∷◌, ◌++◌, length, length-append, get_or, All, Option, Some, None, MatchOption}
+use Rattle.std.specs.Prelude.{max}
 use Rattle.std.specs.List.{list_any}
 use Rattle.std.proofs.lemmas.Bool.{and_parts, and_from, eqb-true, eq-eqb, cases_Bool}
 use Rattle.std.proofs.lemmas.List.Elements.{All-nil, All-same}
@@ -15,6 +16,7 @@ use Rattle.model.specs.Step.{Step}
 use Rattle.model.proofs.WayLaws.{lowest_in_way_is_lowest}
 use Rattle.messages.specs.Shapes.{ShapeFields}
 use Rattle.messages.specs.Wants.{Wants}
+use Rattle.messages.specs.Epochs.{begin_of}
 use Rattle.messages.specs.Messages.{same_host, is_conflict}
 use Rattle.messages.specs.declared.message.Message.TheVariants.{Revoke, Conflict}
 use Rattle.messages.proofs.SameMessages.{host_refl}
@@ -44,7 +46,7 @@ pub record Revokes (shape : ShapeFields) (past : List Entry) (w later : WorldSta
   pub own : IsOwn (w.nodes n).table (w.nodes n).node (w.nodes n).incarnation
   pub asked : IsAsked shape past file call mode wanted.required
   pub other : (w.nodes n).node ≡ call.node → ⊥
-  pub next_one : number ≡ ((w.nodes n).files file).last + 1
+  pub next_one : number ≡ max ((w.nodes n).files file).last (begin_of number) + 1
   pub does : made.event ≡ Deliver (Revoke file number (host (w.nodes n)) call mode wanted)
   pub no_reply : made.reply ≡ None
   pub answer : made.sends ≡ Conflict file number (host (w.nodes n)) call lock ∷ []
@@ -108,7 +110,7 @@ module _ (shape : ShapeFields) (past : List Entry) (w later : WorldState) (made 
     up_to = after-keeps shape past (made ∷ []) (length past) w (omega arith) (after_all shape past (length past) w (omega arith) r.leads);
     there = ap (has_node w) (r.named n) ∙ r.there;
     holder_is = ap (λ (k : ℕ). host (w.nodes k)) (r.named n);
-    is_next = ap (λ (k : ℕ). ((w.nodes k).files file).last + 1) (r.named n) ∙ sym r.next_one;
+    is_next = ap (λ (k : ℕ). max ((w.nodes k).files file).last (begin_of number) + 1) (r.named n) ∙ sym r.next_one;
   }
 
   abbrev evidence_now : HasEvidence shape (past ++ made ∷ []) file call (host s) number lock

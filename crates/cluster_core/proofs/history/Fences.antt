@@ -8,7 +8,7 @@ use Rattle.messages.specs.declared.actor.Actor.{Actor}
 use Rattle.messages.specs.declared.actor.Actor.TheVariants.{Node as ANode, Server as AServer}
 use Rattle.messages.specs.declared.message.Message.{Message}
 use Rattle.messages.specs.declared.event.Event.{Event}
-use Rattle.messages.specs.declared.event.Event.TheVariants.{Call, Deliver, Interrupt, Retry, Resend, Declare, Restart, Learn}
+use Rattle.messages.specs.declared.event.Event.TheVariants.{Call, Deliver, Interrupt, Retry, Resend, Declare, Restart, Learn, FailServer, StartServer}
 use Rattle.messages.specs.declared.entry.Entry.{Entry}
 use Rattle.node_core.specs.declared.event.NodeEvent.TheVariants as node
 use Rattle.node_core.specs.State.{NodeState, first_node, id_of}
@@ -25,7 +25,7 @@ use Rattle.cluster_core.proofs.steps.NodeSteps.{call_done}
 use Rattle.cluster_core.proofs.steps.NodeNumbers.{node_rule-steps}
 use Rattle.cluster_core.proofs.steps.ServerSteps.{server_rule-sending}
 use Rattle.cluster_core.proofs.history.Placing.{declared_node}
-use Rattle.cluster_core.proofs.steps.Steps.{next_taken, next_step, node_step, server_step, declare_step, restart_step}
+use Rattle.cluster_core.proofs.steps.Steps.{next_taken, next_step, node_step, server_step, declare_step, restart_step, fail_step, start_step}
 
 -- incarnations only rise
 incarnations_rise : (w : WorldState) (event : Event) (q : WorldState × Entry) → next w event ≡ Ok q → (n : ℕ) → (w.nodes n).incarnation ≤ (q.0.nodes n).incarnation
@@ -40,7 +40,9 @@ incarnations_rise w event q h = next_step w (λ p. (n : ℕ) → (w.nodes n).inc
     (λ k is alive m. at_number m k (λ b. (w.nodes m).incarnation ≤ (if b then first_node w.shape k ((w.nodes k).incarnation + 1) else w.nodes m).incarnation)
     (λ same. let at = ap (λ (j : ℕ). (w.nodes j).incarnation) same in omega arith)
     (λ other. omega arith))
-    (λ k is dead few m. omega arith) h
+    (λ k is dead few m. omega arith)
+    (λ f is works m. omega arith)
+    (λ f is stopped few m. omega arith) h
 
 -- a call that an entry names is of the incarnation that its node is in
 module _ (w : WorldState) (named : (n : ℕ) → (w.nodes n).node ≡ n) where
@@ -69,13 +71,17 @@ module _ (w : WorldState) (named : (n : ℕ) → (w.nodes n).node ≡ n) where
   taken_names (Learn file n i) q h = server_step w NamesLive (Learn file n i) file (server_rule (w.servers file) (server.Learn n i)) q (λ done is id c. absurd (not_there done.1.call id (server_rule-sending (w.servers file) (server.Learn n i) done is).0 c)) h
   taken_names (Declare n) q h = declare_step w NamesLive n q (λ k is alive id c. absurd (none-some id c)) h
   taken_names (Restart n) q h = restart_step w NamesLive n q (λ k is dead few id c. absurd (none-some id c)) h
+  taken_names (FailServer file) q h = fail_step w NamesLive file q (λ f is works id c. absurd (none-some id c)) h
+  taken_names (StartServer file) q h = start_step w NamesLive file q (λ f is stopped few id c. absurd (none-some id c)) h
 
 still_named : (w : WorldState) (event : Event) (q : WorldState × Entry) → next w event ≡ Ok q → ((n : ℕ) → (w.nodes n).node ≡ n) → (n : ℕ) → (q.0.nodes n).node ≡ n
 still_named w event q h named = next_step w (λ p. (n : ℕ) → (p.0.nodes n).node ≡ n) event q
     (λ n step done is m. at_number m n (λ b. (if b then done.0 else w.nodes m).node ≡ m) (λ same. (node_rule-steps (w.nodes n) step done is).node ∙ named n ∙ sym same) (λ other. named m))
     (λ file step done is. named)
     (λ k is alive m. at_number m k (λ b. (if b then first_node w.shape k ((w.nodes k).incarnation + 1) else w.nodes m).node ≡ m) (λ same. sym same) (λ other. named m))
-    (λ k is dead few. named) h
+    (λ k is dead few. named)
+    (λ f is works. named)
+    (λ f is stopped few. named) h
 
 -- no entry names a call of an incarnation that is past
 past_silent : (es : List Entry) (w v : WorldState) (n i : ℕ) → ((m : ℕ) → (w.nodes m).node ≡ m) → i < (w.nodes n).incarnation → Leads w es v → (k : ℕ) (e : Entry) (id : CallId) → slice_get es k ≡ Some e → e.call ≡ Some id → id.node ≡ n → id.incarnation ≡ i → ⊥

@@ -4,7 +4,7 @@ use Rattle.std.proofs.lemmas.Bool.{false≢true}
 use Rattle.model.specs.declared.call.CallId.{CallId}
 use Rattle.model.specs.declared.op.Op.{Op}
 use Rattle.messages.specs.declared.event.Event.{Event}
-use Rattle.messages.specs.declared.event.Event.TheVariants.{Call, Deliver, Interrupt, Retry, Resend, Declare, Restart, Learn}
+use Rattle.messages.specs.declared.event.Event.TheVariants.{Call, Deliver, Interrupt, Retry, Resend, Declare, Restart, Learn, FailServer, StartServer}
 use Rattle.messages.specs.declared.entry.Entry.{Entry}
 use Rattle.messages.proofs.SameMessages.{call_exact, call_refl}
 use Rattle.cluster_core.specs.Histories.{IsCalledAt}
@@ -28,6 +28,8 @@ go_on true (Resend file) x y c h e = h e
 go_on true (Declare node) x y c h e = h e
 go_on true (Restart node) x y c h e = h e
 go_on true (Learn file node incarnation) x y c h e = h e
+go_on true (FailServer file) x y c h e = h e
+go_on true (StartServer file) x y c h e = h e
 go_on false event x y c h e = h e
 
 pub find_call-keeps : (es fs : List Entry) (id : CallId) (c : ℕ × Op) → find_call es id ≡ Some c → find_call (es ++ fs) id ≡ Some c

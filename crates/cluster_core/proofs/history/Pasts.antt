@@ -1,10 +1,11 @@
 -- Each step of the cluster keeps what holds of it and of its past, where tokens are apart and answers are known.
-use Rattle.std.proofs.Common.{◌≡◌, ℕ, ◌+◌, ◌≤◌, Bool, true, false, not, if◌then◌else◌, ◌&&◌, ◌||◌, ◌==◌, inl, inr, refl, sym, ◌∙◌, ap, subst, arith, nat_le, List, [], ◌∷◌, ◌++◌, append-nil, append_assoc, All, Option, Some, None, Result, Ok}
-use Rattle.std.specs.List.{list_any}
+use Rattle.std.proofs.Common.{◌≡◌, ℕ, ◌+◌, ◌≤◌, ◌<◌, Bool, true, false, not, if◌then◌else◌, ◌&&◌, ◌||◌, ◌==◌, inl, inr, refl, sym, ◌∙◌, ap, subst, arith, nat_le, List, [], ◌∷◌, ◌++◌, append-nil, append_assoc, All, Option, Some, None, Result, Ok}
+use Rattle.std.specs.Prelude.{max, nat_lt}
+use Rattle.std.specs.List.{list_any, range_with_len}
 use Rattle.std.proofs.lemmas.Bool.{and_parts, both_ways, cases_Bool, eqb-true, eq-eqb, false≢true, or_right}
 use Rattle.std.proofs.lemmas.Bool.Decides.{nat_tests}
 use Rattle.std.proofs.lemmas.Option.{none-some, same_Some}
-use Rattle.std.proofs.lemmas.List.Elements.{All-nil, All-head, All-tail}
+use Rattle.std.proofs.lemmas.List.Elements.{All-nil}
 use Rattle.intervals.specs.Bytes.{Range}
 use Rattle.model.specs.declared.call.CallId.{CallId}
 use Rattle.model.specs.declared.host.Host.{Host}
@@ -17,29 +18,31 @@ use Rattle.token_set.specs.Releases.{given_up_span, answer_of}
 use Rattle.messages.specs.Versions.{most_regions}
 use Rattle.messages.specs.Shapes.{ShapeFields, IsShape}
 use Rattle.messages.specs.Wants.{Wants}
-use Rattle.messages.specs.Messages.{addressee, is_among, is_conflict, is_within, same_host, same_message}
+use Rattle.messages.specs.Epochs.{begin_of}
+use Rattle.messages.specs.Messages.{addressee, is_among, is_conflict, is_within, same_host, same_message, sending}
 use Rattle.messages.proofs.SameMessages.{host_exact, same_message-is-equality}
 use Rattle.messages.specs.declared.refusal.StepError.{StepError}
 use Rattle.messages.specs.declared.message.Message.{Message}
-use Rattle.messages.specs.declared.message.Message.TheVariants.{Request, Grant, Revoke, Taken, Released, Conflict, Deny, Freed}
+use Rattle.messages.specs.declared.message.Message.TheVariants.{Request, Grant, Revoke, Taken, Released, Conflict, Deny, Freed, Hello, Report}
 use Rattle.messages.specs.declared.event.Event.{Event}
-use Rattle.messages.specs.declared.event.Event.TheVariants.{Call, Deliver, Interrupt, Retry, Resend, Declare, Restart, Learn}
+use Rattle.messages.specs.declared.event.Event.TheVariants.{Call, Deliver, Interrupt, Retry, Resend, Declare, Restart, Learn, FailServer, StartServer}
 use Rattle.messages.specs.declared.entry.Entry.{Entry}
 use Rattle.messages.specs.declared.outcome.Outcome.{Outcome}
 use Rattle.node_core.specs.declared.event.NodeEvent.TheVariants as node
 use Rattle.node_core.specs.declared.open_call.OpenCall.{OpenCall}
 use Rattle.node_core.specs.State.{NodeState, Effect, quiet, host, outcome, process, open_call_of}
 use Rattle.node_core.specs.Try.{tried_if}
-use Rattle.node_core.specs.Calls.{is_pid, is_in_shape, is_busy, after_call}
-use Rattle.node_core.specs.Commands.{remembered, answer_to, revoked, delivered, deliver_rule}
+use Rattle.node_core.specs.Calls.{is_pid, is_in_shape, is_busy, called, after_call}
+use Rattle.node_core.specs.Commands.{renewed, in_epoch, remembered, answer_to, revoked, delivered, deliver_rule}
 use Rattle.node_core.specs.Interrupts.{interrupted, interrupt_rule}
 use Rattle.node_core.specs.Retries.{retry_rule}
 use Rattle.node_core.specs.Node.{node_rule}
 use Rattle.token_server.specs.declared.event.ServerEvent.TheVariants as server
-use Rattle.token_server.specs.State.{ServerState}
+use Rattle.token_server.specs.State.{ServerState, begin, awaited_row}
+use Rattle.token_server.specs.Resends.{outstanding_of, outstanding}
 use Rattle.token_server.specs.Server.{server_rule}
 use Rattle.cluster_core.specs.World.{WorldState, first_world, most_incarnations, has_node}
-use Rattle.cluster_core.specs.Next.{has_actor, is_known, entry, recorded, with_node, after_node, after_server, declared, restarted, silent, taken, next}
+use Rattle.cluster_core.specs.Next.{has_actor, is_known, entry, recorded, with_node, after_node, after_server, declared, restarted, silent, failed, started, next_server, with_server, taken, next}
 use Rattle.cluster_core.specs.Runs.{Leads}
 use Rattle.cluster_core.specs.Safe.{IsSafe}
 use Rattle.cluster_core.proofs.tokens.Heard.{IsHeard}
@@ -47,9 +50,10 @@ use Rattle.cluster_core.specs.Histories.{EntryAt, IsCalledAt, names_conflict, Ha
 use Rattle.cluster_core.specs.Evidence.{IsTold, HasEvidence, is_wait}
 use Rattle.cluster_core.proofs.history.Placement.{slots_of, items_in, history_of}
 use Rattle.cluster_core.specs.Plain.{IsPlainHistory}
+use Rattle.cluster_core.proofs.common.Choices.{at_number}
 use Rattle.cluster_core.proofs.history.Entries.{none_named, none_called, none_replied}
 use Rattle.cluster_core.proofs.steps.NodeSteps.{IsTo, call_done, call_free, deliver_done, interrupt_done, retry_done}
-use Rattle.cluster_core.proofs.steps.Steps.{next_taken, next_unfenced, node_step, server_step, declare_step, restart_step}
+use Rattle.cluster_core.proofs.steps.Steps.{next_taken, next_unfenced, node_step, server_step, declare_step, restart_step, fail_step, start_step}
 use Rattle.cluster_core.proofs.steps.ServerSteps.{IsSending, server_rule-sending}
 use Rattle.model.specs.Anchors.{IsOwn}
 use Rattle.model.proofs.NodeTables.{own_empty}
@@ -57,15 +61,19 @@ use Rattle.cluster_core.proofs.steps.Tries.{IsSilent, not_busy}
 use Rattle.cluster_core.proofs.history.Nodes.{IsOpen, IsExplained, IsDenied, IsNoDeclaration, Moves, found_open}
 use Rattle.cluster_core.proofs.steps.Moves.{delivered_receives, quiet_receives, interrupted_receives, retried_receives, call_moves}
 use Rattle.cluster_core.proofs.history.Lifting.{IsFreeElsewhere}
+use Rattle.cluster_core.proofs.steps.NodeTokens.{all_among, called_asks, tried_if_asks, interrupted_asks}
+use Rattle.cluster_core.proofs.tokens.Epochs.{EndsOf}
+use Rattle.cluster_core.proofs.tokens.Ending.{IsShort, asks_ends, delivered_ends}
 use Rattle.cluster_core.proofs.tokens.Unbarred.{safe_free}
-use Rattle.cluster_core.proofs.steps.Requested.{Comes, Makes, Tells, delivered-steps, resend-steps, learn-steps}
-use Rattle.cluster_core.proofs.steps.Sends.{IsFreely, AsksFor, Conflicts, called-sends, tried_if-sends, interrupted-sends, delivered-sends}
+use Rattle.cluster_core.proofs.steps.Requested.{Comes, AnyNumber, Makes, Tells, mapped, delivered-steps, resend-steps, learn-steps}
+use Rattle.cluster_core.proofs.steps.Sends.{IsFreely, AsksFor, EntersConflicts, called-sends, tried_if-sends, interrupted-sends, delivered-sends}
+use Rattle.cluster_core.proofs.history.Resting.{union_live, rests_after}
 use Rattle.cluster_core.proofs.history.Slots.{slotted_first, all_slotted_first, slots_fit, slots_legal, slots_at_their_places}
 use Rattle.cluster_core.proofs.history.Plain.{plain_slots, plain_legal, plain_items}
 use Rattle.cluster_core.proofs.history.Placing.{declared_node}
-use Rattle.cluster_core.proofs.history.Witnesses.{IsAskedBy, Denies, Backed, HeldFor, StaysOpen, backed-keeps, called_one, urgent}
+use Rattle.cluster_core.proofs.history.Witnesses.{asked_ends, IsAskedBy, Denies, Backed, HeldFor, StaysOpen, backed-keeps, called_one, urgent}
 use Rattle.cluster_core.proofs.history.Denials.{denies_now}
-use Rattle.cluster_core.proofs.history.Worlds.{Good, replied_named, server_good, node_good, declared_good, restarted_good, stays, asks, leads_on, union_stays, others_stay}
+use Rattle.cluster_core.proofs.history.Worlds.{Good, replied_named, server_good, servers_good, put_comes, node_good, declared_good, restarted_good, stays, asks, leads_on, union_stays, others_stay}
 
 -- the message that is delivered
 message_in : Event → Option Message
@@ -84,15 +92,6 @@ node_in _ = 0
 restarted_node : {m n : ℕ} → Restart m ≡ Restart n → m ≡ n
 unfolding node_in
 restarted_node h = ap node_in h
-
--- a message that was sent is backed
-among_backed : (P : Message → Type 0) (ms : List Message) (m : Message) → All P ms → is_among ms m ≡ true → P m
-among_backed P [] m all h = absurd (false≢true h)
-among_backed P (x ∷ xs) m all h =
-    elim (same_message m x) as (λ b. same_message m x ≡ b → (b || list_any (same_message m) xs) ≡ true → P m) [
-      | true ↦ λ same here. subst P (sym ((same_message-is-equality m x).0 same)) (All-head P x xs all)
-      | false ↦ λ other here. among_backed P xs m (All-tail P x xs all) here
-    ] refl h
 
 -- one that passes a test is among them
 passing : (test : Message → Bool) (ms : List Message) → list_any test ms ≡ true → (m : Message) × (is_among ms m ≡ true) × (test m ≡ true)
@@ -121,6 +120,20 @@ conflict_is file holder number (Taken f k call) is = absurd (false≢true is)
 conflict_is file holder number (Released f k h call span) is = absurd (false≢true is)
 conflict_is file holder number (Deny f call h k lock) is = absurd (false≢true is)
 conflict_is file holder number (Freed f h) is = absurd (false≢true is)
+conflict_is file holder number (Hello f k h) is = absurd (false≢true is)
+conflict_is file holder number (Report f k h runs) is = absurd (false≢true is)
+
+-- the last command done, once the node has heard of the epoch
+entered_last : (s : NodeState) (file number : ℕ) → ((in_epoch s file number).files file).last ≡ max (s.files file).last (begin_of number)
+entered_last s file number =
+    let x = s.files file in
+    let first = begin_of number in
+    at_number file file (λ b. (if b then renewed x number else x).last ≡ max x.last first)
+    (λ same. elim (nat_lt x.last first) as (λ b. nat_lt x.last first ≡ b → (if b then record x { last = first; answer = None } else x).last ≡ max x.last first) [
+      | true ↦ λ h. let lt : x.last < first = grind (arith, nat_tests, h) in omega arith
+      | false ↦ λ h. let ge : first ≤ x.last = grind (arith, nat_tests, h) in omega arith
+    ] refl)
+    (λ other. absurd (other refl))
 
 -- a node that first does a revoke in whose way a lock is names it, and does nothing else that others see
 pub record Names (s : NodeState) (file number : ℕ) (call : CallId) (lock : LockInfo) (e : Effect) : Type 0 where
@@ -128,12 +141,13 @@ pub record Names (s : NodeState) (file number : ℕ) (call : CallId) (lock : Loc
   pub no_reply : e.reply ≡ None
   pub table : e.state.table ≡ s.table
 
-names_first : (s : NodeState) (file number : ℕ) (holder : Host) (call : CallId) (mode : Mode) (wanted : Wants) (lock : LockInfo) → number ≡ (s.files file).last + 1 → lowest_in_way (s.table.locks file) s.node s.incarnation wanted.required mode ≡ Some lock → Names s file number call lock (delivered s (Revoke file number holder call mode wanted))
+names_first : (s : NodeState) (file number : ℕ) (holder : Host) (call : CallId) (mode : Mode) (wanted : Wants) (lock : LockInfo) → number ≡ ((in_epoch s file number).files file).last + 1 → lowest_in_way (s.table.locks file) s.node s.incarnation wanted.required mode ≡ Some lock → Names s file number call lock (delivered s (Revoke file number holder call mode wanted))
 names_first s file number holder call mode wanted lock is here =
-    let e = revoked s file number call mode wanted in
-    let again = if (number == (s.files file).last) && nat_le 1 number then remembered s (s.files file).answer else quiet s in
+    let t = in_epoch s file number in
+    let e = revoked t file number call mode wanted in
+    let again = if (number == (t.files file).last) && nat_le 1 number then remembered t (t.files file).answer else quiet t in
     let span : Range = given_up_span (s.table.locks file) s.node s.incarnation mode wanted.required wanted.desired in
-    let first = eq-eqb number ((s.files file).last + 1) is in
+    let first = eq-eqb number ((t.files file).last + 1) is in
     record {
       answer = ap (λ (b : Bool). (if b then e else again).sends) first ∙ ap (λ (o : Option LockInfo). answer_to file number (host s) call (answer_of o span) ∷ []) here;
       no_reply = ap (λ (b : Bool). (if b then e else again).reply) first;
@@ -146,10 +160,10 @@ module _ (shape : ShapeFields) (past : List Entry) (w : WorldState) (few : IsNum
   After event p = next w event ≡ Ok p → IsSafe p.0 → IsNumber most_nodes p.0.shape.nodes × Good shape (past ++ p.1 ∷ []) p.0
 
   known_backed : (m : Message) → is_among w.sent m ≡ true → Backed shape past w m
-  known_backed m known = among_backed (Backed shape past w) w.sent m g.backed known
+  known_backed m known = all_among (Backed shape past w) w.sent m g.backed known
 
   freely : (run : List Entry) (v : WorldState) → IsFreely (Backed shape run v)
-  freely run v = record { taken = λ file number call. tt; released = λ file number holder call span. tt; freed = λ file holder. tt }
+  freely run v = record { taken = λ file number call. tt; released = λ file number holder call span. tt; freed = λ file holder. tt; report = λ file number holder runs. tt }
 
   not-true-false : (b : Bool) → not b ≡ false → b ≡ true
   not-true-false true h = refl
@@ -198,8 +212,8 @@ module _ (shape : ShapeFields) (past : List Entry) (w : WorldState) (few : IsNum
       denied : (d : IsDenied (w.nodes n) u made) → Denies shape past w d.file d.call d.holder d.number d.lock
       denied d = (known_backed (Deny d.file d.call d.holder d.number d.lock) (known (Deny d.file d.call d.holder d.number d.lock) d.is_deny)).0
 
-      pub keeps : ((asks : AsksFor (Backed shape (past ++ made ∷ []) later) u) → All (Backed shape (past ++ made ∷ []) later) o.sends) → IsSafe later → IsNumber most_nodes w.shape.nodes × Good shape (past ++ made ∷ []) later
-      keeps sends safe = (few, node_good shape past w n u event incarnation o g made_so moves not_strange (free safe) denied (sends (asks shape past w n u event incarnation o g made_so moves not_strange)) undeclared)
+      pub keeps : ((asks : AsksFor (Backed shape (past ++ made ∷ []) later) u) → All (Backed shape (past ++ made ∷ []) later) o.sends) → EndsOf u → IsSafe later → IsNumber most_nodes w.shape.nodes × Good shape (past ++ made ∷ []) later
+      keeps sends ends_on safe = (few, node_good shape past w n u event incarnation o g made_so moves not_strange (free safe) denied (sends (asks shape past w n u event incarnation o g made_so moves not_strange)) undeclared ends_on)
 
   call_good : (n pid : ℕ) (op : Op) → is_known w (Call n pid op) ≡ true → (is_in_shape (w.nodes n).shape op ≡ true) × (is_busy (w.nodes n) pid op ≡ false) → After (Call n pid op) (recorded (with_node w n (after_call (w.nodes n) pid op).0) (Call n pid op) 0 (after_call (w.nodes n) pid op).1)
   call_good n pid op known free made_so safe =
@@ -210,7 +224,7 @@ module _ (shape : ShapeFields) (past : List Entry) (w : WorldState) (few : IsNum
       let there = (and_parts (has_node w n) (is_pid pid && is_in_shape w.shape op) known).0 in
       let run = past ++ entry event 0 r.1 ∷ [] in
       let v = (recorded (with_node w n r.0) event 0 r.1).0 in
-      keeps n r.0 event 0 r.1 there moves (λ m h. absurd (cc)) tt made_so (called-sends (Backed shape run v) (freely run v) (record s { calls = s.calls + 1 }) (s.calls + 1) pid op) safe
+      keeps n r.0 event 0 r.1 there moves (λ m h. absurd (cc)) tt made_so (called-sends (Backed shape run v) (freely run v) (record s { calls = s.calls + 1 }) (s.calls + 1) pid op) (asks_ends s (called (record s { calls = s.calls + 1 }) (s.calls + 1) pid op) (let a = called_asks (record s { calls = s.calls + 1 }) (s.calls + 1) pid op in record { node_is = a.node_is; incarnation_is = a.incarnation_is; files_are = a.files_are; sends = a.sends }) (g.ends n)) safe
 
   retry_good : (n pid : ℕ) (done : NodeState × Outcome) → has_node w n ≡ true → retry_rule (w.nodes n) pid ≡ Ok done → After (Retry n pid) (recorded (with_node w n done.0) (Retry n pid) (w.nodes n).incarnation done.1)
   retry_good n pid done there h =
@@ -224,7 +238,7 @@ module _ (shape : ShapeFields) (past : List Entry) (w : WorldState) (few : IsNum
       let run = past ++ entry event s.incarnation o ∷ [] in
       let v = (recorded (with_node w n effect.state) event s.incarnation o).0 in
       let test : OpenCall → Bool = λ c. c.pid == pid in
-      subst P is (λ made_so safe. keeps n effect.state event s.incarnation o there received.moves (λ m h. absurd (cc)) tt made_so (tried_if-sends (Backed shape run v) (freely run v) s (open_call_of s pid) (λ c f. (found_open test s.pending c f).0)) safe)
+      subst P is (λ made_so safe. keeps n effect.state event s.incarnation o there received.moves (λ m h. absurd (cc)) tt made_so (tried_if-sends (Backed shape run v) (freely run v) s (open_call_of s pid) (λ c f. (found_open test s.pending c f).0)) (asks_ends s effect (tried_if_asks s (open_call_of s pid)) (g.ends n)) safe)
 
   interrupt_good : (n pid : ℕ) (done : NodeState × Outcome) → has_node w n ≡ true → interrupt_rule (w.nodes n) pid ≡ Ok done → After (Interrupt n pid) (recorded (with_node w n done.0) (Interrupt n pid) (w.nodes n).incarnation done.1)
   interrupt_good n pid done there h =
@@ -236,7 +250,7 @@ module _ (shape : ShapeFields) (past : List Entry) (w : WorldState) (few : IsNum
       let o = (outcome None effect).1 in
       let run = past ++ entry event s.incarnation o ∷ [] in
       let v = (recorded (with_node w n effect.state) event s.incarnation o).0 in
-      subst P (interrupt_done s pid done h) (λ made_so safe. keeps n effect.state event s.incarnation o there received.moves (λ m h. absurd (cc)) tt made_so (interrupted-sends (Backed shape run v) (freely run v) s (open_call_of s pid)) safe)
+      subst P (interrupt_done s pid done h) (λ made_so safe. keeps n effect.state event s.incarnation o there received.moves (λ m h. absurd (cc)) tt made_so (interrupted-sends (Backed shape run v) (freely run v) s (open_call_of s pid)) (asks_ends s effect (interrupted_asks s (open_call_of s pid)) (g.ends n)) safe)
 
   -- a message for another incarnation does nothing
   idle_good : (n : ℕ) (m : Message) → has_node w n ≡ true → is_among w.sent m ≡ true → After (Deliver m) (recorded (with_node w n (w.nodes n)) (Deliver m) 0 (outcome None (quiet (w.nodes n))).1)
@@ -247,7 +261,7 @@ module _ (shape : ShapeFields) (past : List Entry) (w : WorldState) (few : IsNum
       let run = past ++ entry event 0 o ∷ [] in
       let v = (recorded (with_node w n s) event 0 o).0 in
       let received = quiet_receives past s (g.holds n) event (quiet s) refl refl in
-      keeps n s event 0 o there received.moves (λ k h. subst (λ (x : Message). is_among w.sent x ≡ true) (same_message_of m k h) known) tt made_so (λ all. All-nil (Backed shape run v)) safe
+      keeps n s event 0 o there received.moves (λ k h. subst (λ (x : Message). is_among w.sent x ≡ true) (same_message_of m k h) known) tt made_so (λ all. All-nil (Backed shape run v)) (g.ends n) safe
 
   -- a message for the node in its incarnation
   module _ (n : ℕ) (m : Message) (there : has_node w n ≡ true) (known : is_among w.sent m ≡ true) (to : IsTo (w.nodes n) m) where
@@ -280,7 +294,7 @@ module _ (shape : ShapeFields) (past : List Entry) (w : WorldState) (few : IsNum
       remembers file k h = backed-keeps shape past (entry (Deliver m) 0 told) w v its_stays k (known_backed k (heard.answers n file k there h))
 
       -- no conflict of that number was sent before
-      unsaid : (file number : ℕ) → number ≡ (s.files file).last + 1 → (k : ℕ) (e : Entry) → EntryAt past k e → names_conflict file (host s) number e ≡ false
+      unsaid : (file number : ℕ) → number ≡ max (s.files file).last (begin_of number) + 1 → (k : ℕ) (e : Entry) → EntryAt past k e → names_conflict file (host s) number e ≡ false
       unsaid file number is k e at = g.told k e (is_conflict file (host s) number) at (elim (cases_Bool (list_any (is_conflict file (host s) number) w.sent)) [
         | inl some ↦
             let found = passing (is_conflict file (host s) number) w.sent some in
@@ -291,9 +305,10 @@ module _ (shape : ShapeFields) (past : List Entry) (w : WorldState) (few : IsNum
         | inr none ↦ none
       ])
 
-    conflict_there : (file number : ℕ) (holder : Host) (call : CallId) (mode : Mode) (wanted : Wants) → m ≡ Revoke file number holder call mode wanted → (made_so : next w (Deliver m) ≡ Ok (recorded (with_node w n effect.state) (Deliver m) 0 told)) (lock : LockInfo) → number ≡ (s.files file).last + 1 → lowest_in_way (s.table.locks file) s.node s.incarnation wanted.required mode ≡ Some lock → Denies shape run v file call (host s) number lock
-    conflict_there file number holder call mode wanted is made_so lock next_one in_way =
-        let names : Names s file number call lock effect = subst (λ (x : Message). Names s file number call lock (delivered s x)) (sym is) (names_first s file number holder call mode wanted lock next_one in_way) in
+    conflict_there : (file number : ℕ) (holder : Host) (call : CallId) (mode : Mode) (wanted : Wants) → m ≡ Revoke file number holder call mode wanted → (made_so : next w (Deliver m) ≡ Ok (recorded (with_node w n effect.state) (Deliver m) 0 told)) (lock : LockInfo) → number ≡ ((in_epoch s file number).files file).last + 1 → lowest_in_way (s.table.locks file) s.node s.incarnation wanted.required mode ≡ Some lock → Denies shape run v file call (host s) number lock
+    conflict_there file number holder call mode wanted is made_so lock entered_one in_way =
+        let next_one : number ≡ max (s.files file).last (begin_of number) + 1 = entered_one ∙ ap (λ (k : ℕ). k + 1) (entered_last s file number) in
+        let names : Names s file number call lock effect = subst (λ (x : Message). Names s file number call lock (delivered s x)) (sym is) (names_first s file number holder call mode wanted lock entered_one in_way) in
         let behind : Backed shape past w (Revoke file number holder call mode wanted) = known_backed (Revoke file number holder call mode wanted) (subst (λ (x : Message). is_among w.sent x ≡ true) is known) in
         let addressed : IsTo s (Revoke file number holder call mode wanted) = subst (IsTo s) is to in
         let node_is = eqb-true holder.node s.node addressed.node in
@@ -321,7 +336,7 @@ module _ (shape : ShapeFields) (past : List Entry) (w : WorldState) (few : IsNum
           strangers = g.strangers;
         })
 
-    conflicts : (made_so : next w (Deliver m) ≡ Ok (recorded (with_node w n effect.state) (Deliver m) 0 told)) (x : Message) → m ≡ x → Conflicts (Backed shape run v) (freely run v) s x
+    conflicts : (made_so : next w (Deliver m) ≡ Ok (recorded (with_node w n effect.state) (Deliver m) 0 told)) (x : Message) → m ≡ x → EntersConflicts (Backed shape run v) (freely run v) s x
     conflicts made_so (Revoke file number holder call mode wanted) is = λ lock next_one in_way. conflict_there file number holder call mode wanted is made_so lock next_one in_way
     conflicts made_so (Request f call urgency mode wanted) is = tt
     conflicts made_so (Grant f number call mode span) is = tt
@@ -330,11 +345,25 @@ module _ (shape : ShapeFields) (past : List Entry) (w : WorldState) (few : IsNum
     conflicts made_so (Conflict f number holder call lock) is = tt
     conflicts made_so (Deny f call holder number lock) is = tt
     conflicts made_so (Freed f holder) is = tt
+    conflicts made_so (Hello f number holder) is = tt
+    conflicts made_so (Report f number holder runs) is = tt
+
+    short : (x : Message) → Backed shape past w x → IsShort x
+    short (Grant f number call mode span) b = b
+    short (Request f call urgency mode wanted) b = tt
+    short (Revoke f number holder call mode wanted) b = tt
+    short (Taken f number call) b = tt
+    short (Released f number holder call span) b = tt
+    short (Conflict f number holder call lock) b = tt
+    short (Deny f call holder number lock) b = tt
+    short (Freed f holder) b = tt
+    short (Hello f number holder) b = tt
+    short (Report f number holder runs) b = tt
 
     pub delivered_good : After (Deliver m) (recorded (with_node w n effect.state) (Deliver m) 0 told)
     delivered_good made_so safe =
         keeps n effect.state (Deliver m) 0 told there its_moves (λ k h. subst (λ (x : Message). is_among w.sent x ≡ true) (same_message_of m k h) known) tt made_so
-        (delivered-sends (Backed shape run v) (freely run v) s m (remembers made_so) (conflicts made_so m refl)) safe
+        (delivered-sends (Backed shape run v) (freely run v) s m (remembers made_so) (conflicts made_so m refl)) (delivered_ends s m to (short m (known_backed m known)) (g.ends n)) safe
 
   message_good : (n : ℕ) (m : Message) (done : NodeState × Outcome) → has_node w n ≡ true → is_among w.sent m ≡ true → deliver_rule (w.nodes n) m ≡ Ok done → After (Deliver m) (recorded (with_node w n done.0) (Deliver m) 0 done.1)
   message_good n m done there known h =
@@ -343,11 +372,14 @@ module _ (shape : ShapeFields) (past : List Entry) (w : WorldState) (few : IsNum
       elim (deliver_done s m done h) [ inl taken ↦ subst P taken.1 (delivered_good n m there known taken.0) | inr passed ↦ subst P passed (idle_good n m there known) ]
 
   -- a step of a server
-  makes : (file : ℕ) → Makes file (HeldFor shape past file) (Backed shape past w)
-  makes file = record { grants = λ number call mode span. tt; revokes = λ number holder r desired held other. (held.0, other) }
+  makes : (file : ℕ) → Makes file AnyNumber (HeldFor shape past file) (Backed shape past w)
+  makes file = record {
+    grants = λ number r span any held bound. let asked = asked_ends shape past file r.call r.mode r.wanted.required held.0 in let likes = held.2 in omega arith;
+    revokes = λ number holder r desired any held other. (held.0, other);
+  }
 
   abbrev Serves : ℕ → Result (ServerState × Outcome) StepError → Type 0
-  Serves file r = (done : ServerState × Outcome) → r ≡ Ok done → Comes file (HeldFor shape past file) (Backed shape past w) done.0 × All (Backed shape past w) done.1.sends
+  Serves file r = (done : ServerState × Outcome) → r ≡ Ok done → Comes file AnyNumber (HeldFor shape past file) (Backed shape past w) done.0 × All (Backed shape past w) done.1.sends
 
   server_next : (event : Event) (file : ℕ) (r : Result (ServerState × Outcome) StepError) (p : WorldState × Entry) → ((done : ServerState × Outcome) → r ≡ Ok done → IsSending done) → IsNoDeclaration event → Serves file r → after_server w event file r ≡ Ok p → After event p
   server_next event file r p sends undeclared serves h = server_step w (After event) event file r p (λ done is.
@@ -358,17 +390,17 @@ module _ (shape : ShapeFields) (past : List Entry) (w : WorldState) (few : IsNum
   told_good : (m : Message) (file : ℕ) (p : WorldState × Entry) → Tells file (HeldFor shape past file) (Backed shape past w) m → after_server w (Deliver m) file (server_rule (w.servers file) (server.Deliver m)) ≡ Ok p → After (Deliver m) p
   told_good m file p tells h =
       let t = w.servers file in
-      server_next (Deliver m) file (server_rule t (server.Deliver m)) p (λ done is. server_rule-sending t (server.Deliver m) done is) tt (delivered-steps file (HeldFor shape past file) (Backed shape past w) (makes file) t m tells (g.comes file)) h
+      server_next (Deliver m) file (server_rule t (server.Deliver m)) p (λ done is. server_rule-sending t (server.Deliver m) done is) tt (delivered-steps file AnyNumber (HeldFor shape past file) (Backed shape past w) (makes file) t m tells (g.comes file)) h
 
   resend_good : (file : ℕ) (p : WorldState × Entry) → after_server w (Resend file) file (server_rule (w.servers file) server.Resend) ≡ Ok p → After (Resend file) p
   resend_good file p h =
       let t = w.servers file in
-      server_next (Resend file) file (server_rule t server.Resend) p (λ done is. server_rule-sending t server.Resend done is) tt (resend-steps file (HeldFor shape past file) (Backed shape past w) (makes file) t (g.comes file)) h
+      server_next (Resend file) file (server_rule t server.Resend) p (λ done is. server_rule-sending t server.Resend done is) tt (resend-steps file AnyNumber (HeldFor shape past file) (Backed shape past w) (makes file) t (g.comes file)) h
 
   learn_good : (file n i : ℕ) (p : WorldState × Entry) → after_server w (Learn file n i) file (server_rule (w.servers file) (server.Learn n i)) ≡ Ok p → After (Learn file n i) p
   learn_good file n i p h =
       let t = w.servers file in
-      server_next (Learn file n i) file (server_rule t (server.Learn n i)) p (λ done is. server_rule-sending t (server.Learn n i) done is) tt (learn-steps file (HeldFor shape past file) (Backed shape past w) (makes file) t n i (g.comes file)) h
+      server_next (Learn file n i) file (server_rule t (server.Learn n i)) p (λ done is. server_rule-sending t (server.Learn n i) done is) tt (learn-steps file AnyNumber (HeldFor shape past file) (Backed shape past w) (makes file) t n i (g.comes file)) h
 
   node_told : (n : ℕ) (m : Message) (p : WorldState × Entry) → has_node w n ≡ true → is_among w.sent m ≡ true → after_node w (Deliver m) n (node_rule (w.nodes n) (node.Deliver m)) ≡ Ok p → After (Deliver m) p
   node_told n m p there known h = node_step w (After (Deliver m)) (Deliver m) n (node_rule (w.nodes n) (node.Deliver m)) p (λ done is. message_good n m done there known is) h
@@ -378,6 +410,34 @@ module _ (shape : ShapeFields) (past : List Entry) (w : WorldState) (few : IsNum
 
   restart_good : (n k : ℕ) → Restart n ≡ Restart k → (w.nodes k).incarnation ≤ most_incarnations → After (Restart n) (silent (restarted w k) (Restart n) (w.nodes k).incarnation)
   restart_good n k is = subst (λ (j : ℕ). (w.nodes j).incarnation ≤ most_incarnations → After (Restart n) (silent (restarted w j) (Restart n) (w.nodes j).incarnation)) (restarted_node is) (λ small made_so safe. (few, restarted_good shape past w n small g made_so))
+
+  -- a server fails, and one is rebuilt: it holds no request, and sends but questions
+  fail_good : (event : Event) → IsNoDeclaration event → (file : ℕ) → After event (silent (failed w file) event (w.servers file).epoch)
+  fail_good event undeclared file made_so safe =
+      (few, servers_good shape past w w.servers (failed w file).working event (w.servers file).epoch (sending []) refl refl undeclared g made_so g.comes (All-nil (Backed shape past w)))
+
+  asks_rebuilt : (file n : ℕ) (b : Bool) (m : Message) → outstanding_of (if b then Some (awaited_row file (begin (next_server w file)) n (w.nodes n).incarnation) else None) ≡ Some m → Backed shape past w m
+  asks_rebuilt file n true m h = subst (Backed shape past w) (same_Some _ m h) tt
+  asks_rebuilt file n false m h = absurd (none-some m h)
+
+  rebuilt_outstanding : (file n : ℕ) (m : Message) → outstanding_of ((next_server w file).rows n) ≡ Some m → Backed shape past w m
+  rebuilt_outstanding file n m h = asks_rebuilt file n (has_node w n && w.alive n) m h
+
+  rebuilt_comes : (file : ℕ) → Comes file AnyNumber (HeldFor shape past file) (Backed shape past w) (next_server w file)
+  rebuilt_comes file = record {
+    file_is = refl;
+    held = All-nil (HeldFor shape past file);
+    outstanding = λ n row m there h. rebuilt_outstanding file n m (ap outstanding_of there ∙ h);
+    numbers = λ number fits. tt;
+  }
+
+  start_good : (event : Event) → IsNoDeclaration event → (file : ℕ) → After event (recorded (started w file) event ((w.servers file).epoch + 1) (sending (outstanding (next_server w file))))
+  start_good event undeclared file made_so safe =
+      let t = next_server w file in (
+        few,
+        servers_good shape past w (with_server w file t).servers (started w file).working event ((w.servers file).epoch + 1) (sending (outstanding t)) refl refl undeclared g made_so (put_comes shape past w file t g (rebuilt_comes file))
+            (mapped (Backed shape past w) (λ n. outstanding_of (t.rows n)) (range_with_len 1 t.shape.nodes) (λ n m h. rebuilt_outstanding file n m h)),
+      )
 
   taken_good : (event : Event) (p : WorldState × Entry) → is_known w event ≡ true → taken w event ≡ Ok p → After event p
   taken_good (Call n pid op) p known h =
@@ -407,12 +467,19 @@ module _ (shape : ShapeFields) (past : List Entry) (w : WorldState) (few : IsNum
   taken_good (Deliver (Taken file number call)) p known h = told_good (Taken file number call) file p tt h
   taken_good (Deliver (Released file number holder call span)) p known h = told_good (Released file number holder call span) file p tt h
   taken_good (Deliver (Freed file holder)) p known h = told_good (Freed file holder) file p tt h
+  taken_good (Deliver (Report file number holder runs)) p known h = told_good (Report file number holder runs) file p tt h
+  taken_good (Deliver (Hello file number holder)) p known h =
+      let m = Hello file number holder in
+      let both = and_parts (has_node w holder.node) (is_among w.sent m) known in
+      node_told holder.node m p both.0 both.1 h
   taken_good (Interrupt n pid) p known h = node_step w (After (Interrupt n pid)) (Interrupt n pid) n (node_rule (w.nodes n) (node.Interrupt pid)) p (λ done is. interrupt_good n pid done (and_parts (has_node w n) (is_pid pid) known).0 is) h
   taken_good (Retry n pid) p known h = node_step w (After (Retry n pid)) (Retry n pid) n (node_rule (w.nodes n) (node.Retry pid)) p (λ done is. retry_good n pid done (and_parts (has_node w n) (is_pid pid) known).0 is) h
   taken_good (Resend file) p known h = resend_good file p h
   taken_good (Learn file n i) p known h = learn_good file n i p h
   taken_good (Declare n) p known h = declare_step w (After (Declare n)) n p (λ k is alive. declare_good n k known is) h
   taken_good (Restart n) p known h = restart_step w (After (Restart n)) n p (λ k is dead small. restart_good n k is small) h
+  taken_good (FailServer file) p known h = fail_step w (After (FailServer file)) file p (λ f is works. fail_good (FailServer file) tt f) h
+  taken_good (StartServer file) p known h = start_step w (After (StartServer file)) file p (λ f is stopped small. start_good (StartServer file) tt f) h
 
   pub next_good : (event : Event) (p : WorldState × Entry) → next w event ≡ Ok p → IsSafe p.0 → IsNumber most_nodes p.0.shape.nodes × Good shape (past ++ p.1 ∷ []) p.0
   next_good event p h safe =
@@ -437,11 +504,13 @@ good_first shape = record {
   one_reply = λ id r q j k a b. absurd (none_replied id r j a);
   told = λ k e test at none. absurd (none-some e at.2);
   asked = λ n. All-nil (IsAskedBy shape [] ((first_world shape).nodes n));
+  ends = λ n file b past_end. refl;
   backed = All-nil (Backed shape [] (first_world shape));
   comes = λ file. record {
     file_is = refl;
     held = All-nil (HeldFor shape [] file);
     outstanding = λ n row m there h. absurd (none-some row there);
+    numbers = λ number fits. tt;
   };
   slotted = slotted_first shape;
   all = all_slotted_first;
@@ -452,7 +521,7 @@ abbrev pub AllOwn : WorldState → Type 0
 AllOwn w = (n : ℕ) → IsOwn (w.nodes n).table (w.nodes n).node (w.nodes n).incarnation
 
 -- together with what holds of tokens and answers it holds after each run
-module _ (shape : ShapeFields) (is_shape : IsShape shape) (Q : WorldState → Type 0) (begins : Q (first_world shape)) (goes_on : (w : WorldState) → AllOwn w → Q w → (event : Event) (p : WorldState × Entry) → next w event ≡ Ok p → Q p.0) (heard : (w : WorldState) → Q w → IsHeard w) where
+module _ (shape : ShapeFields) (is_shape : IsShape shape) (Q : WorldState → Type 0) (begins : Q (first_world shape)) (goes_on : (w : WorldState) → AllOwn w → ((n : ℕ) → EndsOf (w.nodes n)) → Q w → (event : Event) (p : WorldState × Entry) → next w event ≡ Ok p → Q p.0) (heard : (w : WorldState) → Q w → IsHeard w) where
   pub record Both (past : List Entry) (w : WorldState) : Type 0 where
     pub present : Q w
     pub good : Good shape past w
@@ -463,7 +532,7 @@ module _ (shape : ShapeFields) (is_shape : IsShape shape) (Q : WorldState → Ty
       subst P (sym (append-nil past)) (subst (Both past) l b)
   both_run past (e ∷ es) w v few b l =
       let P : List Entry → Type 0 = λ xs. Both xs v in
-      let present = goes_on w (λ n. (b.good.holds n).own) b.present e.event (l.0, e) l.1 in
+      let present = goes_on w (λ n. (b.good.holds n).own) b.good.ends b.present e.event (l.0, e) l.1 in
       let after = next_good shape past w few b.good (heard w b.present) e.event (l.0, e) l.1 (heard l.0 present).safe in
       subst P (append_assoc past (e ∷ []) es) (both_run (past ++ e ∷ []) es l.0 v after.0 (record { present = present; good = after.1 }) l.2)
 
@@ -485,6 +554,7 @@ module _ (shape : ShapeFields) (is_shape : IsShape shape) (Q : WorldState → Ty
           one_reply = g.one_reply;
           fits = slots_fit shape es slots g.slotted g.one_reply g.all;
           legal = slots_legal shape es slots g.slotted w l;
+          lives = sym (union_live w (rests_after shape es w l));
         },
         slots_at_their_places shape es slots g.slotted g.one_reply g.all,
       )
@@ -501,14 +571,19 @@ module _ (shape : ShapeFields) (is_shape : IsShape shape) (Q : WorldState → Ty
         one_reply = g.one_reply;
         fits = plain_items shape es slots g.slotted g.one_reply g.all;
         legal = plain_legal shape es slots g.slotted w l;
+        lives = sym (union_live w (rests_after shape es w l));
       }
+
+  -- what holds together with it
+  pub kept_after : (es : List Entry) (w : WorldState) → Leads (first_world shape) es w → Q w
+  kept_after es w l = (both_after es w l).present
 
   -- and each denial its evidence
   pub evidence_after : (es : List Entry) (w : WorldState) (file : ℕ) (call : CallId) (holder : Host) (number : ℕ) (lock : LockInfo) → Leads (first_world shape) es w → IsTold w file call holder number lock → HasEvidence shape es file call holder number lock
   evidence_after es w file call holder number lock l told =
       let both = both_after es w l in
       let g = both.good in
-      let backed : (m : Message) → is_among w.sent m ≡ true → Backed shape es w m = λ m known. among_backed (Backed shape es w) w.sent m g.backed known in
+      let backed : (m : Message) → is_among w.sent m ≡ true → Backed shape es w m = λ m known. all_among (Backed shape es w) w.sent m g.backed known in
       elim told [
         | inl conflict ↦ (backed (Conflict file number holder call lock) conflict).evidence
         | inr rest ↦ elim rest [
@@ -521,5 +596,5 @@ module _ (shape : ShapeFields) (is_shape : IsShape shape) (Q : WorldState → Ty
   pub no_wait_after : (es : List Entry) (w : WorldState) (file : ℕ) (call : CallId) (holder : Host) (number : ℕ) (lock : LockInfo) (pid : ℕ) (op : Op) (at : ℕ) → Leads (first_world shape) es w → is_among w.sent (Deny file call holder number lock) ≡ true → IsCalledAt es call pid op at → is_wait op ≡ false
   no_wait_after es w file call holder number lock pid op at l sent called =
       let g = (both_after es w l).good in
-      let urgency = (among_backed (Backed shape es w) w.sent (Deny file call holder number lock) g.backed sent).1 in
+      let urgency = (all_among (Backed shape es w) w.sent (Deny file call holder number lock) g.backed sent).1 in
       ap is_wait (called_one es call pid urgency.pid op urgency.op at urgency.at g.one_call called urgency.called).op_is ∙ urgency.waits

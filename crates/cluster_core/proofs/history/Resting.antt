@@ -3,7 +3,6 @@ use Rattle.std.proofs.Common.{◌≡◌, ℕ, ◌+◌, Bool, true, false, not, i
 use Rattle.std.proofs.lemmas.Bool.{both_ways}
 use Rattle.intervals.specs.Bytes.{nothing}
 use Rattle.model.specs.Descriptors.{no_processes}
-use Rattle.model.specs.Table.{empty_table}
 use Rattle.messages.specs.Versions.{most_regions}
 use Rattle.messages.specs.Shapes.{ShapeFields}
 use Rattle.messages.specs.Messages.{addressee}
@@ -11,21 +10,19 @@ use Rattle.messages.specs.declared.actor.Actor.{Actor}
 use Rattle.messages.specs.declared.actor.Actor.TheVariants.{Node as ANode, Server as AServer}
 use Rattle.messages.specs.declared.message.Message.{Message}
 use Rattle.messages.specs.declared.event.Event.{Event}
-use Rattle.messages.specs.declared.event.Event.TheVariants.{Call, Deliver, Interrupt, Retry, Resend, Declare, Restart, Learn}
+use Rattle.messages.specs.declared.event.Event.TheVariants.{Call, Deliver, Interrupt, Retry, Resend, Declare, Restart, Learn, FailServer, StartServer}
 use Rattle.messages.specs.declared.entry.Entry.{Entry}
 use Rattle.node_core.specs.declared.event.NodeEvent.TheVariants as node
 use Rattle.node_core.specs.State.{NodeState, first_node, first_file}
 use Rattle.node_core.specs.Node.{node_rule}
 use Rattle.token_server.specs.declared.event.ServerEvent.TheVariants as server
 use Rattle.token_server.specs.Server.{server_rule}
-use Rattle.cluster_core.specs.declared.item.Item.{Item}
 use Rattle.cluster_core.specs.World.{WorldState, first_world, has_node, is_alive, is_live}
 use Rattle.cluster_core.specs.Next.{is_fenced, is_stopped, with_node, delivered, taken, next}
 use Rattle.cluster_core.specs.Runs.{Leads}
 use Rattle.cluster_core.specs.Union.{union, live_union}
-use Rattle.cluster_core.specs.Histories.{Legal, HasHistory}
 use Rattle.cluster_core.proofs.common.Choices.{at_number}
-use Rattle.cluster_core.proofs.steps.Steps.{next_taken, next_unfenced, node_step, server_step, declare_step, restart_step}
+use Rattle.cluster_core.proofs.steps.Steps.{next_taken, next_unfenced, node_step, server_step, declare_step, restart_step, fail_step, start_step}
 
 -- each node that is not alive is as it will begin
 abbrev pub Rests : WorldState → Type 0
@@ -63,6 +60,8 @@ module _ (w : WorldState) (rests : Rests w) where
       at_number m k (λ b. (if b then true else w.alive m) ≡ false → w.nodes m ≡ first_node w.shape m (w.nodes m).incarnation)
       (λ same now. absurd (cc))
       (λ other now. rests m now) dead) h
+  taken_rests (FailServer file) q free h = fail_step w (λ x. Rests x.0) file q (λ f is works. rests) h
+  taken_rests (StartServer file) q free h = start_step w (λ x. Rests x.0) file q (λ f is stopped few. rests) h
 
   pub next_rests : (event : Event) (q : WorldState × Entry) → next w event ≡ Ok q → Rests q.0
   next_rests event q h = taken_rests event q (next_unfenced w event q h) (next_taken w event q h).1
@@ -105,7 +104,3 @@ rests_run (e ∷ es) w v r l = rests_run es l.0 v (next_rests w r e.event (l.0, 
 
 pub rests_after : (shape : ShapeFields) (es : List Entry) (w : WorldState) → Leads (first_world shape) es w → Rests w
 rests_after shape es w l = rests_run es (first_world shape) w (rests_first shape) l
-
--- so the last table of a history is that of the live nodes
-pub legal_live : (shape : ShapeFields) (es : List Entry) (h : List Item) (has : HasHistory shape es h) → Legal (empty_table (most_regions shape.version)) h (live_union has.world)
-legal_live shape es h has = subst (Legal (empty_table (most_regions shape.version)) h) (sym (union_live has.world (rests_after shape es has.world has.leads))) has.legal

@@ -2,7 +2,7 @@
 use Rattle.std.proofs.Common.{◌≡◌, ℕ, ◌≤◌, true, ◌==◌, ◌⊎◌, inl, inr, sym, ◌∙◌, ap, subst, arith, List, [], ◌∷◌, ◌++◌, length, take, All, Contains, refl, Some}
 use Rattle.std.proofs.lemmas.Bool.{and_parts, eqb-true, false≢true}
 use Rattle.std.proofs.lemmas.List.Elements.{All-contains, All-weaker}
-use Rattle.intervals.specs.Bytes.{Range}
+use Rattle.intervals.specs.Bytes.{Range, greatest}
 use Rattle.model.specs.declared.call.CallId.{CallId}
 use Rattle.model.specs.declared.host.Host.{Host}
 use Rattle.model.specs.declared.lock_info.LockInfo.{LockInfo}
@@ -19,7 +19,7 @@ use Rattle.messages.specs.declared.message.Urgency.{Urgency}
 use Rattle.messages.specs.declared.message.Urgency.TheVariants.{Now, Waits}
 use Rattle.messages.proofs.SameMessages.{call_exact}
 use Rattle.messages.specs.declared.message.Message.{Message}
-use Rattle.messages.specs.declared.message.Message.TheVariants.{Request, Grant, Revoke, Taken, Released, Conflict, Deny, Freed}
+use Rattle.messages.specs.declared.message.Message.TheVariants.{Request, Grant, Revoke, Taken, Released, Conflict, Deny, Freed, Hello, Report}
 use Rattle.messages.specs.declared.event.Event.{Event}
 use Rattle.messages.specs.declared.event.Event.TheVariants.{Call}
 use Rattle.messages.specs.declared.entry.Entry.{Entry}
@@ -54,6 +54,10 @@ about_host t p op mode c a =
 
 pub about_node : (t : Table) (p : Process) (op : Op) (mode : Mode) (c : LockTarget) → IsAbout t p op mode c → c.owner.node ≡ p.node
 about_node t p op mode c a = eqb-true c.owner.node p.node (and_parts (c.owner.node == p.node) (c.owner.incarnation == p.incarnation) (about_host t p op mode c a)).0
+
+-- no call is about bytes after the last of a file
+pub asked_ends : (shape : ShapeFields) (es : List Entry) (file : ℕ) (call : CallId) (mode : Mode) (span : Range) → IsAsked shape es file call mode span → span.hi ≤ greatest
+asked_ends shape es file call mode span a = subst (λ (s : Range). s.hi ≤ greatest) a.span_is (about_span (union a.world) (caller call a.pid) a.op mode a.about a.asks).ends
 
 -- a call is made at one entry
 pub record SameCall (at to pid qid : ℕ) (op oq : Op) : Type 0 where
@@ -183,21 +187,23 @@ pub record Denies (shape : ShapeFields) (past : List Entry) (w : WorldState) (fi
 
 -- what stands behind a message
 abbrev pub Backed : ShapeFields → List Entry → WorldState → Message → Type 0
-Backed shape past w (Request file call urgency mode wanted) = IsAsked shape past file call mode wanted.required × IsOfUrgency past call urgency
+Backed shape past w (Request file call urgency mode wanted) = IsAsked shape past file call mode wanted.required × IsOfUrgency past call urgency × (wanted.desired.hi ≤ greatest)
 Backed shape past w (Revoke file number holder call mode wanted) = IsAsked shape past file call mode wanted.required × (holder.node ≡ call.node → ⊥)
 Backed shape past w (Conflict file number holder call lock) = Denies shape past w file call holder number lock
 Backed shape past w (Deny file call holder number lock) = Denies shape past w file call holder number lock × IsOfUrgency past call Now
-Backed shape past w (Grant file number call mode span) = Unit {0}
+Backed shape past w (Grant file number call mode span) = span.hi ≤ greatest
 Backed shape past w (Taken file number call) = Unit {0}
 Backed shape past w (Released file number holder call span) = Unit {0}
 Backed shape past w (Freed file holder) = Unit {0}
+Backed shape past w (Hello file number holder) = Unit {0}
+Backed shape past w (Report file number holder runs) = Unit {0}
 
 -- and behind a request that a server keeps
 abbrev pub HeldFor : ShapeFields → List Entry → ℕ → TokenRequest → Type 0
-HeldFor shape past file r = IsAsked shape past file r.call r.mode r.wanted.required × IsOfUrgency past r.call r.urgency
+HeldFor shape past file r = IsAsked shape past file r.call r.mode r.wanted.required × IsOfUrgency past r.call r.urgency × (r.wanted.desired.hi ≤ greatest)
 
 pub held-keeps : (shape : ShapeFields) (past : List Entry) (e : Entry) (file : ℕ) (r : TokenRequest) → HeldFor shape past file r → HeldFor shape (past ++ e ∷ []) file r
-held-keeps shape past e file r h = (asked-keeps shape past e file r.call r.mode r.wanted.required h.0, urgency-keeps past e r.call r.urgency h.1)
+held-keeps shape past e file r h = (asked-keeps shape past e file r.call r.mode r.wanted.required h.0, urgency-keeps past e r.call r.urgency h.1, h.2)
 
 -- each open call was open before under its name, or is new
 abbrev pub StaysOpen : List Entry → NodeState → NodeState → Type 0
@@ -221,7 +227,7 @@ module _ (shape : ShapeFields) (past : List Entry) (e : Entry) (w v : WorldState
       }
 
   pub backed-keeps : (m : Message) → Backed shape past w m → Backed shape (past ++ e ∷ []) v m
-  backed-keeps (Request file call urgency mode wanted) b = (asked-keeps shape past e file call mode wanted.required b.0, urgency-keeps past e call urgency b.1)
+  backed-keeps (Request file call urgency mode wanted) b = (asked-keeps shape past e file call mode wanted.required b.0, urgency-keeps past e call urgency b.1, b.2)
   backed-keeps (Revoke file number holder call mode wanted) b = (asked-keeps shape past e file call mode wanted.required b.0, b.1)
   backed-keeps (Conflict file number holder call lock) b = denies-keeps file call holder number lock b
   backed-keeps (Deny file call holder number lock) b = (denies-keeps file call holder number lock b.0, urgency-keeps past e call Now b.1)
@@ -229,3 +235,5 @@ module _ (shape : ShapeFields) (past : List Entry) (e : Entry) (w v : WorldState
   backed-keeps (Taken file number call) b = b
   backed-keeps (Released file number holder call span) b = b
   backed-keeps (Freed file holder) b = b
+  backed-keeps (Hello file number holder) b = b
+  backed-keeps (Report file number holder runs) b = b

@@ -1,5 +1,5 @@
 -- What holds of the cluster after each run.
-use Rattle.std.proofs.Common.{◌≡◌, ℕ, ◌+◌, ◌≤◌, Bool, true, false, if◌then◌else◌, ◌==◌, ◌⊎◌, inl, inr, refl, sym, ◌∙◌, ap, subst, arith, List, [], ◌∷◌, ◌++◌, length, length-append, get_or, All, Contains, Some, None, Ok}
+use Rattle.std.proofs.Common.{◌≡◌, ℕ, ◌+◌, ◌≤◌, Bool, true, false, if◌then◌else◌, ◌⊎◌, inl, inr, refl, sym, ◌∙◌, ap, subst, arith, List, [], ◌∷◌, ◌++◌, length, length-append, get_or, All, Contains, Some, None, Ok}
 use Rattle.std.specs.List.{list_any}
 use Rattle.std.proofs.lemmas.Bool.{eq-eqb, cases_Bool, or_parts}
 use Rattle.std.proofs.lemmas.List.Folds.{list_any-append}
@@ -27,6 +27,7 @@ use Rattle.cluster_core.specs.Runs.{Leads}
 use Rattle.cluster_core.specs.Union.{union}
 use Rattle.cluster_core.specs.Histories.{caller, EntryAt, IsRepliedAt, OneCall, OneReply}
 use Rattle.cluster_core.specs.Evidence.{IsAbout, IsAsked}
+use Rattle.cluster_core.proofs.tokens.Epochs.{EndsOf}
 use Rattle.cluster_core.proofs.history.Placement.{slots_of}
 use Rattle.cluster_core.proofs.common.Choices.{at_number}
 use Rattle.cluster_core.proofs.runs.JournalRuns.{leads_push}
@@ -43,9 +44,9 @@ use Rattle.cluster_core.proofs.history.Prefixes.{after_all}
 use Rattle.cluster_core.proofs.history.Slots.{Slotted, AllSlotted, Stands}
 use Rattle.cluster_core.proofs.history.Placing.{Placed, nothing_placed, gone_placed, answer_placed, denial_placed}
 use Rattle.cluster_core.proofs.history.Quiet.{refusal_names}
-use Rattle.cluster_core.proofs.steps.Requested.{Comes, comes-weaker}
+use Rattle.cluster_core.proofs.steps.Requested.{Comes, AnyNumber, comes-weaker}
 use Rattle.cluster_core.proofs.steps.Sends.{AsksFor}
-use Rattle.cluster_core.proofs.history.Witnesses.{IsAskedBy, MayRefuse, for_urgency, Denies, Backed, HeldFor, StaysOpen, asked-keeps, held-keeps, backed-keeps}
+use Rattle.cluster_core.proofs.history.Witnesses.{asked_ends, IsAskedBy, MayRefuse, for_urgency, Denies, Backed, HeldFor, StaysOpen, asked-keeps, held-keeps, backed-keeps}
 
 -- each message that an entry sent is among those that were sent
 abbrev pub Told : List Entry → List Message → Type 0
@@ -68,8 +69,9 @@ pub record Good (shape : ShapeFields) (past : List Entry) (w : WorldState) : Typ
   pub one_reply : OneReply past
   pub told : Told past w.sent
   pub asked : (n : ℕ) → All (IsAskedBy shape past (w.nodes n)) (w.nodes n).pending
+  pub ends : (n : ℕ) → EndsOf (w.nodes n)
   pub backed : All (Backed shape past w) w.sent
-  pub comes : (file : ℕ) → Comes file (HeldFor shape past file) (Backed shape past w) (w.servers file)
+  pub comes : (file : ℕ) → Comes file AnyNumber (HeldFor shape past file) (Backed shape past w) (w.servers file)
   pub slotted : Slotted shape past (slots_of past)
   pub all : AllSlotted past (slots_of past)
 
@@ -102,17 +104,17 @@ stays_same past s =
     All-weaker (Contains s.pending) P (λ c there. inl (there, refl)) s.pending (All-contains_itself s.pending)
 
 -- what servers keep, of which one may have made a step
-comes-push : (shape : ShapeFields) (past : List Entry) (e : Entry) (w v : WorldState) (file : ℕ) (t : ServerState) → ((n : ℕ) → StaysOpen past (w.nodes n) (v.nodes n)) → Comes file (HeldFor shape past file) (Backed shape past w) t → Comes file (HeldFor shape (past ++ e ∷ []) file) (Backed shape (past ++ e ∷ []) v) t
-comes-push shape past e w v file t stays c = comes-weaker file (HeldFor shape past file) (HeldFor shape (past ++ e ∷ []) file) (Backed shape past w) (Backed shape (past ++ e ∷ []) v) t
+comes-push : (shape : ShapeFields) (past : List Entry) (e : Entry) (w v : WorldState) (file : ℕ) (t : ServerState) → ((n : ℕ) → StaysOpen past (w.nodes n) (v.nodes n)) → Comes file AnyNumber (HeldFor shape past file) (Backed shape past w) t → Comes file AnyNumber (HeldFor shape (past ++ e ∷ []) file) (Backed shape (past ++ e ∷ []) v) t
+comes-push shape past e w v file t stays c = comes-weaker file AnyNumber (HeldFor shape past file) (HeldFor shape (past ++ e ∷ []) file) (Backed shape past w) (Backed shape (past ++ e ∷ []) v) t
     (held-keeps shape past e file)
     (λ m b. backed-keeps shape past e w v stays m b) c
 
--- a step of a server
-module _ (shape : ShapeFields) (past : List Entry) (w : WorldState) (file : ℕ) (t : ServerState) (event : Event) (o : Outcome) (no_call : o.call ≡ None) (no_reply : o.reply ≡ None) (undeclared : IsNoDeclaration event) (g : Good shape past w) (step : next w event ≡ Ok (recorded (with_server w file t) event 0 o)) (comes : Comes file (HeldFor shape past file) (Backed shape past w) t) (sends : All (Backed shape past w) o.sends) where
-  pub server_good : Good shape (past ++ entry event 0 o ∷ []) (recorded (with_server w file t) event 0 o).0
-  server_good =
-      let e = entry event 0 o in
-      let v = (recorded (with_server w file t) event 0 o).0 in
+-- a step after which servers alone differ
+module _ (shape : ShapeFields) (past : List Entry) (w : WorldState) (servers : ℕ → ServerState) (working : ℕ → Bool) (event : Event) (incarnation : ℕ) (o : Outcome) (no_call : o.call ≡ None) (no_reply : o.reply ≡ None) (undeclared : IsNoDeclaration event) (g : Good shape past w) (step : next w event ≡ Ok (recorded (record w { servers = servers; working = working }) event incarnation o)) (each : (f : ℕ) → Comes f AnyNumber (HeldFor shape past f) (Backed shape past w) (servers f)) (sends : All (Backed shape past w) o.sends) where
+  pub servers_good : Good shape (past ++ entry event incarnation o ∷ []) (recorded (record w { servers = servers; working = working }) event incarnation o).0
+  servers_good =
+      let e = entry event incarnation o in
+      let v = (recorded (record w { servers = servers; working = working }) event incarnation o).0 in
       let run = past ++ e ∷ [] in
       let leads = leads_push (first_world shape) w v past e g.leads step in
       let stays : (n : ℕ) → StaysOpen past (w.nodes n) (v.nodes n) = λ n. stays_same past (w.nodes n) in
@@ -132,16 +134,23 @@ module _ (shape : ShapeFields) (past : List Entry) (w : WorldState) (file : ℕ)
         one_reply = one_reply-push past e g.one_reply (λ id reply h. absurd (not_there o.reply (id, reply) no_reply h));
         told = told-push past w.sent e g.told;
         asked = λ n. All-weaker (IsAskedBy shape past (w.nodes n)) (IsAskedBy shape run (w.nodes n)) (λ c a. asked-keeps shape past e c.file (id_of (w.nodes n) c.number) c.mode c.span a) (w.nodes n).pending (g.asked n);
+        ends = g.ends;
         backed = All-append Q w.sent o.sends (All-weaker P Q keep w.sent g.backed) (All-weaker P Q keep o.sends sends);
         comes = λ f. comes-push shape past e w v f (v.servers f) stays (each f);
         slotted = placed.slotted;
         all = placed.all;
       }
-    where
-      each : (f : ℕ) → Comes f (HeldFor shape past f) (Backed shape past w) (if f == file then t else w.servers f)
-      each f = at_number f file (λ b. Comes f (HeldFor shape past f) (Backed shape past w) (if b then t else w.servers f))
-          (λ same. subst (λ (k : ℕ). Comes k (HeldFor shape past k) (Backed shape past w) t) (sym same) comes)
-          (λ other. g.comes f)
+
+-- one server is another
+pub put_comes : (shape : ShapeFields) (past : List Entry) (w : WorldState) (file : ℕ) (t : ServerState) → Good shape past w → Comes file AnyNumber (HeldFor shape past file) (Backed shape past w) t → (f : ℕ) → Comes f AnyNumber (HeldFor shape past f) (Backed shape past w) ((with_server w file t).servers f)
+put_comes shape past w file t g comes f = at_number f file (λ b. Comes f AnyNumber (HeldFor shape past f) (Backed shape past w) (if b then t else w.servers f))
+    (λ same. subst (λ (k : ℕ). Comes k AnyNumber (HeldFor shape past k) (Backed shape past w) t) (sym same) comes)
+    (λ other. g.comes f)
+
+-- a step of a server
+module _ (shape : ShapeFields) (past : List Entry) (w : WorldState) (file : ℕ) (t : ServerState) (event : Event) (o : Outcome) (no_call : o.call ≡ None) (no_reply : o.reply ≡ None) (undeclared : IsNoDeclaration event) (g : Good shape past w) (step : next w event ≡ Ok (recorded (with_server w file t) event 0 o)) (comes : Comes file AnyNumber (HeldFor shape past file) (Backed shape past w) t) (sends : All (Backed shape past w) o.sends) where
+  pub server_good : Good shape (past ++ entry event 0 o ∷ []) (recorded (with_server w file t) event 0 o).0
+  server_good = servers_good shape past w (with_server w file t).servers w.working event 0 o no_call no_reply undeclared g step (put_comes shape past w file t g comes) sends
 
 -- a step of a node
 module _ (shape : ShapeFields) (past : List Entry) (w : WorldState) (n : ℕ) (u : NodeState) (event : Event) (incarnation : ℕ) (o : Outcome) (g : Good shape past w) (step : next w event ≡ Ok (recorded (with_node w n u) event incarnation o)) (moves : Moves past (w.nodes n) u (entry event incarnation o)) (strange : has_node w n ≡ false → (u.pending ≡ []) × IsSilent (w.nodes n) u o.reply) where
@@ -267,12 +276,13 @@ module _ (shape : ShapeFields) (past : List Entry) (w : WorldState) (n : ℕ) (u
 
   -- what the node asks for is backed
   pub asks : AsksFor (Backed shape run later) u
-  asks c wanted there same =
+  asks c wanted there same likes =
       let P : NodeState → Type 0 = λ x. All (IsAskedBy shape run x) x.pending in
       let a = All-contains (IsAskedBy shape run u) u.pending c (subst P after (all_asked n)) there in
       let its = All-contains (IsOpen run u) u.pending c moves.holds.waiting there in (
         subst (IsAsked shape run c.file (id_of u c.number) c.mode) (sym same) a,
         record { at = its.called.at; pid = c.pid; op = its.op; called = its.called.there; waits = for_urgency c.intent its.op its.ready.is_for },
+        (let last = asked_ends shape run c.file (id_of u c.number) c.mode c.span a in omega arith),
       )
 
   -- and makes the step of the node's table
@@ -282,7 +292,7 @@ module _ (shape : ShapeFields) (past : List Entry) (w : WorldState) (n : ℕ) (u
       step_lifts w later n pid op reply there (g.named n) (g.limits n) (g.holds n).own differs free (subst P (ap (λ (x : NodeState). x.table) (sym after)) local)
 
   -- the slots: a reply has the item of its call
-  module _ (free_elsewhere : (x : IsExplained past (w.nodes n) u (entry event incarnation o)) → has_node w n ≡ true → IsFreeElsewhere w n x.pid x.op x.reply) (denied : (d : IsDenied (w.nodes n) u (entry event incarnation o)) → Denies shape past w d.file d.call d.holder d.number d.lock) (sends : All (Backed shape run later) o.sends) (undeclared : IsNoDeclaration event) where
+  module _ (free_elsewhere : (x : IsExplained past (w.nodes n) u (entry event incarnation o)) → has_node w n ≡ true → IsFreeElsewhere w n x.pid x.op x.reply) (denied : (d : IsDenied (w.nodes n) u (entry event incarnation o)) → Denies shape past w d.file d.call d.holder d.number d.lock) (sends : All (Backed shape run later) o.sends) (undeclared : IsNoDeclaration event) (ends_on : EndsOf u) where
     abbrev Slots_placed : Type 0
     Slots_placed = Placed shape past w later made g.slotted g.all g.leads leads_on
 
@@ -344,6 +354,7 @@ module _ (shape : ShapeFields) (past : List Entry) (w : WorldState) (n : ℕ) (u
           one_reply = one_reply-push past made g.one_reply (λ id reply h. (first_reply id reply h).fresh);
           told = told-push past w.sent made g.told;
           asked = all_asked;
+          ends = at_each (λ x m. EndsOf x) ends_on (λ m other. g.ends m);
           backed = All-append Q w.sent o.sends (All-weaker P Q keep w.sent g.backed) sends;
           comes = λ f. comes-push shape past made w later f (w.servers f) stays (g.comes f);
           slotted = placed.slotted;
@@ -445,6 +456,7 @@ module _ (shape : ShapeFields) (past : List Entry) (w : WorldState) (n : ℕ) (t
         one_reply = one_reply-push past declaration g.one_reply (λ id reply h. absurd (no_reply_now shape past w (declared w n) (Declare n) now g id reply h));
         told = told-push past w.sent declaration g.told;
         asked = each_node (λ x m. All (IsAskedBy shape told_run x) x.pending) (none_asked shape past w (declared w n) (Declare n) now g n (now + 1)) (λ m. stays_asked shape past w (declared w n) (Declare n) now g (w.nodes m) (g.asked m));
+        ends = each_node (λ x m. EndsOf x) (λ f b past_end. refl) g.ends;
         backed = All-append Q w.sent [] (All-weaker P Q keep w.sent g.backed) (All-nil Q);
         comes = λ f. comes-push shape past declaration w after_it f (w.servers f) open_before (g.comes f);
         slotted = placed.slotted;
@@ -488,6 +500,7 @@ module _ (shape : ShapeFields) (past : List Entry) (w : WorldState) (n : ℕ) (f
         one_reply = one_reply-push past restart g.one_reply (λ id reply h. absurd (no_reply_now shape past w (restarted w n) (Restart n) i g id reply h));
         told = told-push past w.sent restart g.told;
         asked = λ m. stays_asked shape past w (restarted w n) (Restart n) i g (w.nodes m) (g.asked m);
+        ends = g.ends;
         backed = All-append Q w.sent [] (All-weaker P Q keep w.sent g.backed) (All-nil Q);
         comes = λ f. comes-push shape past restart w begun_world f (w.servers f) open_before (g.comes f);
         slotted = placed.slotted;

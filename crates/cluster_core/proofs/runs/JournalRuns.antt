@@ -36,7 +36,7 @@ ran_empty shape events w is = record { leads = sym is; so_far = refl }
 
 -- the entry of a step is of its event
 pub entry_event : (w v : WorldState) (event : Event) (e : Entry) → next w event ≡ Ok (v, e) → e.event ≡ event
-entry_event w v event e step = next_step w (λ q. q.1.event ≡ event) event (v, e) (λ n s done is. refl) (λ file s done is. refl) (λ n is alive. refl) (λ n is dead few. refl) step
+entry_event w v event e step = next_step w (λ q. q.1.event ≡ event) event (v, e) (λ n s done is. refl) (λ file s done is. refl) (λ n is alive. refl) (λ n is dead few. refl) (λ file is works. refl) (λ file is stopped few. refl) step
 
 -- one more event happened
 pub ran_more : (shape : ShapeFields) (events : List Event) (i : ℕ) (es fs : List Entry) (w v : WorldState) (event : Event) (e : Entry) → i < length events → event ≡ get_or events i event → Ran shape events i es w → kept_next w event ≡ Ok (v, e) → fs ≡ es ++ e ∷ [] → Ran shape events (i + 1) fs v
@@ -75,7 +75,7 @@ first_refusal shape events i es w event refusal lt is ran refused = record {
 
 -- a step keeps the shape, and so does a run
 next_shape : (w v : WorldState) (event : Event) (e : Entry) → next w event ≡ Ok (v, e) → v.shape ≡ w.shape
-next_shape w v event e step = next_step w (λ q. q.0.shape ≡ w.shape) event (v, e) (λ n s done is. refl) (λ file s done is. refl) (λ n is alive. refl) (λ n is dead few. refl) step
+next_shape w v event e step = next_step w (λ q. q.0.shape ≡ w.shape) event (v, e) (λ n s done is. refl) (λ file s done is. refl) (λ n is alive. refl) (λ n is dead few. refl) (λ file is works. refl) (λ file is stopped few. refl) step
 
 pub leads_shape : (w v : WorldState) (es : List Entry) → Leads w es v → v.shape ≡ w.shape
 leads_shape w v [] leads = ap (λ (u : WorldState). u.shape) (sym leads)

@@ -17,10 +17,12 @@ use Rattle.cluster_core.proofs.tokens.Covering.{Covered, first_covered}
 use Rattle.cluster_core.proofs.tokens.Served.{all_covered, next_covered}
 use Rattle.cluster_core.proofs.tokens.Unbarred.{safe_of}
 use Rattle.cluster_core.proofs.tokens.Present.{Present}
-use Rattle.cluster_core.proofs.tokens.Apart.{next_present, present_first, present_apart, answers_counted, remembered_sent}
+use Rattle.cluster_core.proofs.tokens.Apart.{next_present, present_first, present_apart, numbers_tell, answers_counted, remembered_sent}
+use Rattle.cluster_core.proofs.tokens.Epochs.{EndsOf}
+use Rattle.cluster_core.specs.Numbers.{NoNumberIsUsedTwice}
 use Rattle.cluster_core.proofs.tokens.Heard.{IsHeard}
 use Rattle.cluster_core.proofs.history.Plain.{plain_slots}
-use Rattle.cluster_core.proofs.history.Pasts.{AllOwn, safe_after, history_after, plain_after, evidence_after, no_wait_after}
+use Rattle.cluster_core.proofs.history.Pasts.{AllOwn, kept_after, safe_after, history_after, plain_after, evidence_after, no_wait_after}
 
 -- tokens, rows and messages fit, and locks are covered
 pub record IsCovered (w : WorldState) : Type 0 where
@@ -30,8 +32,8 @@ pub record IsCovered (w : WorldState) : Type 0 where
 covered_first : (shape : ShapeFields) → IsCovered (first_world shape)
 covered_first shape = record { present = present_first shape; covered = λ n. first_covered shape n 1 }
 
-covered_next : (w : WorldState) → AllOwn w → IsCovered w → (event : Event) (p : WorldState × Entry) → next w event ≡ Ok p → IsCovered p.0
-covered_next w own c event p h = record { present = next_present w c.present event p h; covered = next_covered w event p (λ n. (own n).locks) c.covered h }
+covered_next : (w : WorldState) → AllOwn w → ((n : ℕ) → EndsOf (w.nodes n)) → IsCovered w → (event : Event) (p : WorldState × Entry) → next w event ≡ Ok p → IsCovered p.0
+covered_next w own ends c event p h = record { present = next_present w c.present ends event p h; covered = next_covered w event p (λ n. (own n).locks) c.covered h }
 
 covered_heard : (w : WorldState) → IsCovered w → IsHeard w
 covered_heard w c = record {
@@ -60,3 +62,7 @@ every_denial shape es is at w file call holder number lock l told = evidence_aft
 
 pub no_wait : NoWaitIsDenied
 no_wait shape es w file call holder number lock pid op at is l sent called = no_wait_after shape is IsCovered (covered_first shape) covered_next covered_heard es w file call holder number lock pid op at l sent called
+
+-- and no number is used for two commands about one file to one incarnation of a node
+pub no_number : NoNumberIsUsedTwice
+no_number shape es is w l = numbers_tell w (kept_after shape is IsCovered (covered_first shape) covered_next covered_heard es w l).present

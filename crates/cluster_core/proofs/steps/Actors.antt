@@ -7,7 +7,7 @@ use Rattle.messages.specs.declared.actor.Actor.{Actor}
 use Rattle.messages.specs.declared.actor.Actor.TheVariants.{Node as ANode, Server as AServer}
 use Rattle.messages.specs.declared.message.Message.{Message}
 use Rattle.messages.specs.declared.event.Event.{Event}
-use Rattle.messages.specs.declared.event.Event.TheVariants.{Call, Deliver, Interrupt, Retry, Resend, Declare, Restart, Learn}
+use Rattle.messages.specs.declared.event.Event.TheVariants.{Call, Deliver, Interrupt, Retry, Resend, Declare, Restart, Learn, FailServer, StartServer}
 use Rattle.messages.specs.declared.entry.Entry.{Entry}
 use Rattle.messages.specs.declared.outcome.Outcome.{Outcome}
 use Rattle.messages.specs.declared.refusal.Refused.{Refused}
@@ -65,18 +65,20 @@ node_takes w (Resend file) n step e = absurd (cc)
 node_takes w (Declare k) n step e = absurd (cc)
 node_takes w (Restart k) n step e = absurd (cc)
 node_takes w (Learn file k incarnation) n step e = absurd (cc)
+node_takes w (FailServer file) n step e = absurd (cc)
+node_takes w (StartServer file) n step e = absurd (cc)
 
 -- and so does a server
 pub record ServerTakes (w : WorldState) (event : Event) (f : ℕ) (step : ServerEvent) : Type 0 where
   pub same : IsServerStepOf event step
-  pub fenced : is_fenced w event ≡ false
+  pub fenced : is_fenced w event ≡ not (w.working f)
   pub takes : taken w event ≡ after_server w event f (server_rule (w.servers f) step)
 
-to_server : (w : WorldState) (m : Message) (f : ℕ) (step : ServerEvent) (to : Actor) → is_server f to ≡ true → step ≡ server.Deliver m → (is_stopped w to ≡ false) × (delivered w m to ≡ after_server w (Deliver m) f (server_rule (w.servers f) step))
+to_server : (w : WorldState) (m : Message) (f : ℕ) (step : ServerEvent) (to : Actor) → is_server f to ≡ true → step ≡ server.Deliver m → (is_stopped w to ≡ not (w.working f)) × (delivered w m to ≡ after_server w (Deliver m) f (server_rule (w.servers f) step))
 to_server w m f step (ANode n) ours is = absurd (cc)
 to_server w m f step (AServer g) ours is =
     let same : g ≡ f = eqb-true g f ours in
-    (refl, λ i. after_server w (Deliver m) (same i) (server_rule (w.servers (same i)) (sym is i)))
+    (ap (λ (j : ℕ). not (w.working j)) same, λ i. after_server w (Deliver m) (same i) (server_rule (w.servers (same i)) (sym is i)))
 
 pub server_takes : (w : WorldState) (event : Event) (f : ℕ) (step : ServerEvent) → server_event f event ≡ Some step → ServerTakes w event f step
 server_takes w (Call n pid op) f step e = absurd (cc)
@@ -89,13 +91,15 @@ server_takes w (Retry n pid) f step e = absurd (cc)
 server_takes w (Resend g) f step e =
     let one = one_event (g == f) server.Resend step e in
     let same : g ≡ f = eqb-true g f one.0 in
-    record { same = one.1; fenced = refl; takes = λ i. after_server w (Resend g) (same i) (server_rule (w.servers (same i)) (sym one.1 i)) }
+    record { same = one.1; fenced = ap (λ (j : ℕ). not (w.working j)) same; takes = λ i. after_server w (Resend g) (same i) (server_rule (w.servers (same i)) (sym one.1 i)) }
 server_takes w (Declare n) f step e = absurd (cc)
 server_takes w (Restart n) f step e = absurd (cc)
 server_takes w (Learn g n incarnation) f step e =
     let one = one_event (g == f) (server.Learn n incarnation) step e in
     let same : g ≡ f = eqb-true g f one.0 in
-    record { same = one.1; fenced = refl; takes = λ i. after_server w (Learn g n incarnation) (same i) (server_rule (w.servers (same i)) (sym one.1 i)) }
+    record { same = one.1; fenced = ap (λ (j : ℕ). not (w.working j)) same; takes = λ i. after_server w (Learn g n incarnation) (same i) (server_rule (w.servers (same i)) (sym one.1 i)) }
+server_takes w (FailServer g) f step e = absurd (cc)
+server_takes w (StartServer g) f step e = absurd (cc)
 
 -- a step that is done is of an event that the actor takes
 pub node_done_by : (s : NodeState) (event : Option NodeEvent) (done : NodeState × Outcome) → node_at s event ≡ Ok done → (step : NodeEvent) × (event ≡ Some step) × (node_rule s step ≡ Ok done)
@@ -120,7 +124,7 @@ pub server_next : (w : WorldState) (event : Event) (f : ℕ) (s : ServerState) (
 server_next w event f s o known steps =
     let by = server_done_by (w.servers f) (server_event f event) (s, o) steps.done in
     let takes = server_takes w event f by.0 by.1 in
-    goes w event _ known takes.fenced (takes.takes ∙ ap (after_server w event f) by.2)
+    goes w event _ known (takes.fenced ∙ ap not steps.working) (takes.takes ∙ ap (after_server w event f) by.2)
 
 -- a node that begins again is as it was
 pub restart_keeps : (w : WorldState) (n : ℕ) (q : WorldState × Entry) → kept_next w (Restart n) ≡ Ok q → q.0.nodes n ≡ w.nodes n

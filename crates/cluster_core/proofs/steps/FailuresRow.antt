@@ -1,18 +1,25 @@
--- A node that is declared and restarted, step by step.
-use Rattle.std.proofs.Common.{◌≡◌, refl, Option, Some, None, Result, Ok, Err}
+-- A node that is declared and restarted, and a token server that fails and is rebuilt, step by step.
+use Rattle.std.proofs.Common.{◌≡◌, true, refl, List, [], ◌∷◌, Option, Some, None, Result, Ok, Err}
+use Rattle.intervals.specs.Search.{first}
 use Rattle.model.specs.declared.policy.Policy.TheVariants.{Wide}
 use Rattle.model.specs.declared.call.CallId.{CallId}
 use Rattle.model.specs.declared.op.Op.TheVariants.{Spawn}
 use Rattle.model.specs.declared.reply.Reply.{Reply}
 use Rattle.model.specs.declared.reply.Reply.TheVariants.{Done}
-use Rattle.messages.specs.declared.version.Version.TheVariants.{Second}
+use Rattle.messages.specs.declared.version.Version.TheVariants.{First, Second}
 use Rattle.messages.specs.Shapes.{ShapeFields}
 use Rattle.messages.specs.declared.refusal.Refused.{Refused}
 use Rattle.messages.specs.declared.refusal.Refused.TheVariants.{Stranger, NotAlive, NotDead, Fenced}
-use Rattle.messages.specs.declared.event.Event.TheVariants.{Call, Declare, Restart, Learn}
+use Rattle.messages.specs.declared.event.Event.TheVariants.{Call, Deliver, Resend, Declare, Restart, Learn, FailServer, StartServer}
 use Rattle.messages.specs.declared.entry.Entry.{Entry}
+use Rattle.messages.specs.declared.message.Message.{Message}
+use Rattle.messages.specs.declared.message.Message.TheVariants.{Hello, Report}
+use Rattle.messages.specs.Reports.{runs_of}
+use Rattle.messages.specs.Messages.{sending}
+use Rattle.token_set.specs.Tokens.{no_token}
+use Rattle.token_server.specs.State.{awaits}
 use Rattle.cluster_core.specs.World.{WorldState, first_world}
-use Rattle.cluster_core.specs.Next.{declared, restarted, silent, next}
+use Rattle.cluster_core.specs.Next.{declared, restarted, failed, started, next_server, recorded, silent, next}
 
 abbrev one : ShapeFields
 one = record { version = Second; nodes = 1; files = 1; policy = Wide }
@@ -49,7 +56,63 @@ restarts : next stopped (Restart 1) ≡ Ok (silent (restarted stopped 1) (Restar
 restarts = refl
 
 learns : (p : WorldState × Entry) × (next again (Learn 1 1 1) ≡ Ok p)
+unfolding first
 learns = (_, refl)
 
 spawns : reply_of (next again (Call 1 1 Spawn)) ≡ Some (record { node = 1; incarnation = 2; number = 1 }, Done)
 spawns = refl
+
+-- of two nodes the second was declared: the server that is rebuilt asks the first, and waits for it
+abbrev two : ShapeFields
+two = record { version = Second; nodes = 2; files = 1; policy = Wide }
+
+abbrev declared_one : WorldState
+declared_one = (silent (declared (first_world two) 2) (Declare 2) 1).0
+
+abbrev failing : WorldState
+failing = (silent (failed declared_one 1) (FailServer 1) 1).0
+
+abbrev hello : Message
+hello = Hello 1 4294967296 (record { node = 1; incarnation = 1 })
+
+abbrev rebuilding : WorldState × Entry
+rebuilding = recorded (started failing 1) (StartServer 1) 2 (sending (hello ∷ []))
+
+old_version : next (first_world (record { version = First; nodes = 1; files = 1; policy = Wide })) (FailServer 1) ≡ Err Stranger
+old_version = refl
+
+works : next declared_one (StartServer 1) ≡ Err NotDead
+works = refl
+
+fails : next declared_one (FailServer 1) ≡ Ok (silent (failed declared_one 1) (FailServer 1) 1)
+fails = refl
+
+failed_before : next failing (FailServer 1) ≡ Err NotAlive
+failed_before = refl
+
+fenced_server : next failing (Resend 1) ≡ Err Fenced
+fenced_server = refl
+
+fenced_learning : next failing (Learn 1 2 1) ≡ Err Fenced
+fenced_learning = refl
+
+starts : next failing (StartServer 1) ≡ Ok rebuilding
+starts = refl
+
+knows_dead : ((next_server failing 1).dead 1 ≡ 0) × ((next_server failing 1).dead 2 ≡ 1)
+knows_dead = (refl, refl)
+
+waits_for_one : awaits (next_server failing 1) ≡ true
+unfolding first
+waits_for_one = refl
+
+abbrev sends_of : Result (WorldState × Entry) Refused → List Message
+sends_of (Ok p) = p.1.sends
+sends_of (Err e) = []
+
+asks_again : sends_of (next rebuilding.0 (Resend 1)) ≡ hello ∷ []
+unfolding first
+asks_again = refl
+
+tells : sends_of (next rebuilding.0 (Deliver hello)) ≡ Report 1 4294967296 (record { node = 1; incarnation = 1 }) (runs_of no_token) ∷ []
+tells = refl

@@ -1,26 +1,18 @@
 -- The index of the messages that were sent, as messages are added.
-use Rattle.std.proofs.Common.{◌≡◌, ℕ, zero, suc, ◌+◌, ◌<◌, ◌≤◌, Bool, true, false, cond, ◌||◌, ◌⊎◌, nat_eq, refl, sym, ◌∙◌, ap, subst, arith, List, [], ◌∷◌, ◌++◌, length, take, get_or, slice_get, Option, Some, None, is_some}
+use Rattle.std.proofs.Common.{◌≡◌, ℕ, zero, suc, ◌+◌, ◌<◌, ◌≤◌, Bool, true, false, cond, ◌||◌, ◌⊎◌, nat_eq, refl, sym, ◌∙◌, ap, subst, arith, List, [], ◌∷◌, ◌++◌, length, take, get_or, slice_get, All, Option, Some, None, is_some}
 use Rattle.std.proofs.Math.Bool.{or_comm}
 use Rattle.std.proofs.Math.Seq.{take-append_seam}
 use Rattle.std.proofs.lemmas.Bool.{or_cases, or_left, or_right, both_ways, eqb-true, eq-eqb}
 use Rattle.std.proofs.lemmas.List.{take_all, take_more}
 use Rattle.std.proofs.lemmas.List.Folds.{list_any-append}
+use Rattle.std.proofs.lemmas.List.Elements.{All-nil, All-head, All-tail, All-push, All-weaker}
 use Rattle.std.proofs.lemmas.Option.{get_or_from_slice_get, slice_get_within, slice_get_past, slice_get-get_or}
 use Rattle.std.specs.Prelude.{IsTrue, ◌↔◌}
 use Rattle.std.specs.HashMap.{get, Updates as Places_Updates}
-use Rattle.std.specs.HashSet.{contains, Updates}
 use Rattle.messages.specs.declared.message.Message.{Message}
 use Rattle.messages.specs.Messages.{same_message, is_among}
-use Rattle.messages.specs.contracts.message.MessagePartialEq.TheImpl as derived
-use Rattle.messages.proofs.SameMessages.{same_message-is-equality, message_eq}
-use Rattle.cluster_core.specs.Known.{Places, Others, fingerprint, is_this, stands_at, has, KnowsFirst, Knows, SaysTheSame}
-
--- the derived `==` of messages is the test of the definitions
-pub eq-same_message : derived.ghosts.eq ≡ same_message
-eq-same_message i a b = message_eq a b i
-
-pub contains-same_message : (known : Others) (m : Message) → contains derived.ghosts.eq known m ≡ contains same_message known m
-contains-same_message known m = ap (λ (eq : Message → Message → Bool). contains eq known m) eq-same_message
+use Rattle.messages.proofs.SameMessages.{same_message-is-equality}
+use Rattle.cluster_core.specs.Known.{Places, Others, fingerprint, is_this, stands_at, stands_among, has, KnowsFirst, Knows, SaysTheSame}
 
 pub is_among-append : (xs ys : List Message) (m : Message) → is_among (xs ++ ys) m ≡ (is_among xs m || is_among ys m)
 is_among-append xs ys m = list_any-append (same_message m) xs ys
@@ -34,21 +26,12 @@ sent_now xs ys m h = is_among-append xs ys m ∙ or_right (is_among xs m) (is_am
 pub sent_either : (xs ys : List Message) (m : Message) → is_among (xs ++ ys) m ≡ true → (is_among xs m ≡ true) ⊎ (is_among ys m ≡ true)
 sent_either xs ys m h = or_cases (is_among xs m) (is_among ys m) (sym (is_among-append xs ys m) ∙ h)
 
-same_message-turned : (a b : Message) → same_message a b ≡ true → same_message b a ≡ true
-same_message-turned a b same = (same_message-is-equality b a).1 (sym ((same_message-is-equality a b).0 same))
-
-turned : (a b : Message) → same_message a b ≡ same_message b a
-turned a b =
-    elim (same_message a b) as (λ t. same_message a b ≡ t → t ≡ same_message b a) [
-      | true ↦ λ h. sym (same_message-turned a b h)
-      | false ↦ λ h. elim (same_message b a) as (λ u. same_message b a ≡ u → false ≡ u) [ true ↦ λ k. cc (h, same_message-turned b a k) | false ↦ λ k. refl ] refl
-    ] refl
-
 -- no message
-pub knows_none : (places : Places) (others : Others) → ((f : ℕ) → get nat_eq places f ≡ None) → ((m : Message) → contains same_message others m ≡ false) → KnowsFirst places others [] 0
-knows_none places others none empty = record {
-  finds = λ q. ap (λ (o : Option ℕ). stands_at [] q o || contains same_message others q) (none (fingerprint q)) ∙ empty q;
+pub knows_none : (places : Places) → ((f : ℕ) → get nat_eq places f ≡ None) → KnowsFirst places [] [] 0
+knows_none places none = record {
+  finds = λ q. ap (λ (o : Option ℕ). stands_at [] q o || false) (none (fingerprint q));
   before = λ f k found. absurd (let no = none f in cc);
+  others_before = All-nil (λ k. k < 0);
 }
 
 -- what the index has of one message
@@ -86,6 +69,9 @@ module _ (places : Places) (others : Others) (sent : List Message) (n : ℕ) (m 
   has_it q false true same is there_too = refl
   has_it q false false same is there_too = refl
 
+  later : All (λ k. k < n + 1) others
+  later = All-weaker (λ k. k < n) (λ k. k < n + 1) (λ k lt. omega arith) others known.others_before
+
   pub knows_known : has places others sent m ≡ true → KnowsFirst places others sent (n + 1)
   knows_known is_known = record {
     finds = λ q.
@@ -94,11 +80,12 @@ module _ (places : Places) (others : Others) (sent : List Message) (n : ℕ) (m 
         ∙ (has_it q (same_message q m) (is_among (take n sent) q) refl refl (λ same. subst P (sym ((same_message-is-equality q m).0 same)) (sym (known.finds m) ∙ is_known))
         ∙ sym (one_more q));
     before = λ f k found. let lt = known.before f k found in omega arith;
+    others_before = later;
   }
 
   pub knows_stands : (first : ℕ) → get nat_eq places (fingerprint m) ≡ Some first → stands_at sent m (Some first) ≡ true → KnowsFirst places others sent (n + 1)
   knows_stands first found stands =
-      knows_known (or_left (stands_at sent m (get nat_eq places (fingerprint m))) (contains same_message others m) (ap (stands_at sent m) found ∙ stands))
+      knows_known (or_left (stands_at sent m (get nat_eq places (fingerprint m))) (stands_among sent m others) (ap (stands_at sent m) found ∙ stands))
 
   -- one that comes to the place of its fingerprint
   placed : (q : Message) (e b a c : Bool) (o : Option ℕ) → nat_eq (fingerprint m) (fingerprint q) ≡ e → same_message q m ≡ b → o ≡ get nat_eq places (fingerprint q) → (nat_eq (fingerprint m) (fingerprint q) ≡ true → o ≡ None) → (stands_at sent q o || c) ≡ a → (stands_at sent q (cond e (Some n) o) || c) ≡ (a || (b || false))
@@ -125,10 +112,11 @@ module _ (places : Places) (others : Others) (sent : List Message) (n : ℕ) (m 
   knows_at next none updates = record {
     finds = λ q.
         let P : ℕ → Type 0 = λ f. get nat_eq places f ≡ None in
-        ap (λ (o : Option ℕ). stands_at sent q o || contains same_message others q) (updates.0 (fingerprint q))
-        ∙ (placed q (nat_eq (fingerprint m) (fingerprint q)) (same_message q m) (is_among (take n sent) q) (contains same_message others q) (get nat_eq places (fingerprint q)) refl refl refl (λ same. subst P (eqb-true (fingerprint m) (fingerprint q) same) none) (known.finds q)
+        ap (λ (o : Option ℕ). stands_at sent q o || stands_among sent q others) (updates.0 (fingerprint q))
+        ∙ (placed q (nat_eq (fingerprint m) (fingerprint q)) (same_message q m) (is_among (take n sent) q) (stands_among sent q others) (get nat_eq places (fingerprint q)) refl refl refl (λ same. subst P (eqb-true (fingerprint m) (fingerprint q) same) none) (known.finds q)
         ∙ sym (one_more q));
     before = λ f k found. within (nat_eq (fingerprint m) f) f k (sym (updates.0 f) ∙ found);
+    others_before = later;
   }
     where
       within : (e : Bool) (f k : ℕ) → cond e (Some n) (get nat_eq places f) ≡ Some k → k < n + 1
@@ -141,30 +129,26 @@ module _ (places : Places) (others : Others) (sent : List Message) (n : ℕ) (m 
       knows_at next (ap (get nat_eq places) (sym is) ∙ not_found (get nat_eq places print) fresh) (subst P is updates)
 
   -- one more of the others
-  other : (s c e a : Bool) → (s || c) ≡ a → (s || cond e true c) ≡ (a || (e || false))
-  other true c true true found = refl
-  other true c false true found = refl
-  other true c e false found = cc
-  other false true true true found = refl
-  other false true false true found = refl
-  other false false true false found = refl
-  other false false false false found = refl
-  other false true e false found = cc
-  other false false e true found = cc
+  other : (s c e a : Bool) → (s || c) ≡ a → (s || (c || (e || false))) ≡ (a || (e || false))
+  other true c e a found = ap (λ (b : Bool). b || (e || false)) found
+  other false c e a found = ap (λ (b : Bool). b || (e || false)) found
 
-  pub knows_other : (next : Others) → Updates derived.ghosts.eq others next m true → KnowsFirst places next sent (n + 1)
-  knows_other next updates =
-      let Q : (Message → Message → Bool) → Type 0 = λ eq. Updates eq others next m true in
-      let new : Updates same_message others next m true = subst Q eq-same_message updates in
-      record {
+  pub knows_other : (next : Others) → next ≡ others ++ n ∷ [] → KnowsFirst places next sent (n + 1)
+  knows_other next is =
+      subst (λ (xs : Others). KnowsFirst places xs sent (n + 1)) (sym is) (record {
         finds = λ q.
             let s = stands_at sent q (get nat_eq places (fingerprint q)) in
-            ap (λ (b : Bool). s || b) (new.0 q)
-            ∙ (ap (λ (b : Bool). s || cond b true (contains same_message others q)) (turned m q)
-            ∙ (other s (contains same_message others q) (same_message q m) (is_among (take n sent) q) (known.finds q)
+            let c = stands_among sent q others in
+            ap (λ (b : Bool). s || b) (list_any-append (λ k. stands_at sent q (Some k)) others (n ∷ []))
+            ∙ (ap (λ (o : Option Message). s || (c || (is_this q o || false))) there
+            ∙ (other s c (same_message q m) (is_among (take n sent) q) (known.finds q)
             ∙ sym (one_more q)));
         before = λ f k found. let lt = known.before f k found in omega arith;
-      }
+        others_before = All-push (λ k. k < n + 1) others n later (omega arith);
+      })
+
+  pub knows_among : stands_among sent m others ≡ true → KnowsFirst places others sent (n + 1)
+  knows_among stands = knows_known (or_right (stands_at sent m (get nat_eq places (fingerprint m))) (stands_among sent m others) stands)
 
 -- the same index of a longer list
 stands_before : (sent more : List Message) (q : Message) (o : Option ℕ) → ((k : ℕ) → o ≡ Some k → k < length sent) → stands_at (sent ++ more) q o ≡ stands_at sent q o
@@ -176,22 +160,31 @@ stands_before sent more q (Some k) within = ap (is_this q) (reads sent more k (w
     reads (x ∷ xs) ys zero lt = refl
     reads (x ∷ xs) ys (suc i) lt = reads xs ys i (omega arith)
 
+among_before : (sent more : List Message) (q : Message) (others : Others) → All (λ k. k < length sent) others → stands_among (sent ++ more) q others ≡ stands_among sent q others
+among_before sent more q [] all = refl
+among_before sent more q (k ∷ rest) all =
+    let first = stands_before sent more q (Some k) (λ j is. let lt = All-head (λ i. i < length sent) k rest all in let same : k ≡ j = cc in omega arith) in
+    let others = among_before sent more q rest (All-tail (λ i. i < length sent) k rest all) in
+    λ i. first i || others i
+
 pub knows_same : (places next : Places) (others rest : Others) (sent : List Message) → SaysTheSame places others next rest → Knows places others sent → Knows next rest sent
 knows_same places next others rest sent same known = record {
   finds = λ q.
-      ap (λ (o : Option ℕ). stands_at sent q o || contains same_message rest q) (same.at_places (fingerprint q))
-      ∙ (ap (λ (b : Bool). stands_at sent q (get nat_eq places (fingerprint q)) || b) (same.of_others q)
+      ap (λ (o : Option ℕ). stands_at sent q o || stands_among sent q rest) (same.at_places (fingerprint q))
+      ∙ (ap (λ (xs : Others). stands_at sent q (get nat_eq places (fingerprint q)) || stands_among sent q xs) same.of_others
       ∙ known.finds q);
   before = λ f k found. known.before f k (sym (same.at_places f) ∙ found);
+  others_before = subst (λ (xs : Others). All (λ k. k < length sent) xs) (sym same.of_others) known.others_before;
 }
 
 pub knows_start : (places : Places) (others : Others) (sent more : List Message) → Knows places others sent → KnowsFirst places others (sent ++ more) (length sent)
 knows_start places others sent more known = record {
   finds = λ q.
-      ap (λ (b : Bool). b || contains same_message others q) (stands_before sent more q (get nat_eq places (fingerprint q)) (known.before (fingerprint q)))
+      (λ i. stands_before sent more q (get nat_eq places (fingerprint q)) (known.before (fingerprint q)) i || among_before sent more q others known.others_before i)
       ∙ (known.finds q
       ∙ ap (λ (xs : List Message). is_among xs q) (take_all (length sent) sent (omega arith) ∙ sym (take-append_seam sent more)));
   before = known.before;
+  others_before = known.others_before;
 }
 
 pub knows_all : (places : Places) (others : Others) (sent : List Message) (q : Message) → Knows places others sent → has places others sent q ≡ is_among sent q

@@ -17,7 +17,7 @@ use Rattle.messages.specs.declared.refusal.Refused.{Refused}
 use Rattle.messages.specs.declared.refusal.Refused.TheVariants.{Stranger, NotAlive, NotDead, TooManyRestarts}
 use Rattle.members.specs.Members.{MembersState, live_incarnation, declared_failed, with_declared, with_restarted}
 use Rattle.members.specs.Members as member
-use Rattle.members.specs.Parts.{MemberParts, alive_in, incarnation_in, members_state}
+use Rattle.members.specs.Parts.{MemberParts, MembersParts, alive_in, incarnation_in, incarnation_of, members_state}
 use Rattle.members.proofs.Rules.{declaration, restart}
 use Rattle.node_core.specs.Parts.{NodeParts, node_state}
 use Rattle.node_core.specs.State.{NodeState, first_node}
@@ -30,10 +30,10 @@ use Rattle.cluster_core.specs.Changes.{IsRestart}
 use Rattle.cluster_core.proofs.common.Choices.{at_number}
 use Rattle.cluster_core.proofs.common.Numbered.{within_is, put_at}
 
-abbrev pub declared_parts : WorldParts → List MemberParts → WorldParts
+abbrev pub declared_parts : WorldParts → MembersParts → WorldParts
 declared_parts p members = record p { members = members; length = p.length + 1 }
 
-abbrev pub restarted_parts : WorldParts → ℕ → NodeParts → List MemberParts → WorldParts
+abbrev pub restarted_parts : WorldParts → ℕ → NodeParts → MembersParts → WorldParts
 restarted_parts p n x members = record p { nodes = slice_set p.nodes (n - 1) x; members = members; length = p.length + 1 }
 
 -- what comes of a declaration or a restart of a member
@@ -67,61 +67,65 @@ module _ (p : WorldParts) (world : IsWorld p) (n : ℕ) (number : is_within p.sh
   in_nodes : n ≤ length p.nodes
   in_nodes = let most = (within_is p.shape.nodes n number).1 in omega (arith, most, world.nodes_there)
 
-  is_one : is_within (length p.members) n ≡ true
+  is_one : is_within (length p.members.nodes) n ≡ true
   is_one = ap (λ (k : ℕ). is_within k n) world.members_there ∙ number
 
   -- what the members say of the node is what the world does
-  pub alive_there : is_some (live_incarnation (members_state p.members) n) ≡ alive_at p n
+  pub alive_there : is_some (live_incarnation (members_state p.members.nodes) n) ≡ alive_at p n
   alive_there =
-      ap (λ (b : Bool). is_some (if b && alive_at p n then Some (incarnation_in p.members n) else None)) is_one
-      ∙ told (alive_at p n) (incarnation_in p.members n)
+      ap (λ (b : Bool). is_some (if b && alive_at p n then Some (incarnation_in p.members.nodes n) else None)) is_one
+      ∙ told (alive_at p n) (incarnation_in p.members.nodes n)
 
-  pub declared_there : (i : ℕ) → member.was_declared (members_state p.members) n i ≡ was_declared (world_state p) n i
+  pub declared_there : (i : ℕ) → member.was_declared (members_state p.members.nodes) n i ≡ was_declared (world_state p) n i
   declared_there i =
-      ap (λ (b : Bool). b && (nat_le 1 i && nat_lt i (incarnation_in p.members n))) is_one
+      ap (λ (b : Bool). b && (nat_le 1 i && nat_lt i (incarnation_in p.members.nodes n))) is_one
       ∙ ap (λ (k : ℕ). nat_le 1 i && nat_lt i k) (sym (world.own_incarnation n))
 
-  pub declares : declare_rule (world_state p) n ≡ after_declare (world_state p) n (declared_failed (members_state p.members) n)
+  pub declares : declare_rule (world_state p) n ≡ after_declare (world_state p) n (declared_failed (members_state p.members.nodes) n)
   declares =
       ap (λ (k : ℕ). if alive_at p n then Ok (silent (declared (world_state p) n) (Declare n) k) else Err NotAlive) (world.own_incarnation n)
-      ∙ declare_case (world_state p) n (incarnation_in p.members n) (with_declared (members_state p.members) n) (is_within (length p.members) n) (alive_at p n) is_one
+      ∙ declare_case (world_state p) n (incarnation_in p.members.nodes n) (with_declared (members_state p.members.nodes) n) (is_within (length p.members.nodes) n) (alive_at p n) is_one
 
-  pub restarts : restart_rule (world_state p) n ≡ after_restart (world_state p) n (member.restarted (members_state p.members) n)
+  pub restarts : restart_rule (world_state p) n ≡ after_restart (world_state p) n (member.restarted (members_state p.members.nodes) n)
   restarts =
       ap (λ (k : ℕ). if alive_at p n then Err NotDead else (if nat_le k most_incarnations then Ok (silent (restarted (world_state p) n) (Restart n) k) else Err TooManyRestarts)) (world.own_incarnation n)
-      ∙ restart_case (world_state p) n (incarnation_in p.members n) (with_restarted (members_state p.members) n) (is_within (length p.members) n) (alive_at p n) (nat_le (incarnation_in p.members n) most_incarnations) is_one
+      ∙ restart_case (world_state p) n (incarnation_in p.members.nodes n) (with_restarted (members_state p.members.nodes) n) (is_within (length p.members.nodes) n) (alive_at p n) (nat_le (incarnation_in p.members.nodes n) most_incarnations) is_one
 
-  pub fails_there : (e : Refused) → alive_at p n ≡ true → declared_failed (members_state p.members) n ≡ Err e → ⊥
+  pub fails_there : (e : Refused) → alive_at p n ≡ true → declared_failed (members_state p.members.nodes) n ≡ Err e → ⊥
   fails_there e alive refused =
-      let goes : declared_failed (members_state p.members) n ≡ Ok (with_declared (members_state p.members) n, incarnation_in p.members n) = λ i. if not (is_one i) then Err Stranger else (if alive i then Ok (with_declared (members_state p.members) n, incarnation_in p.members n) else Err NotAlive) in
+      let goes : declared_failed (members_state p.members.nodes) n ≡ Ok (with_declared (members_state p.members.nodes) n, incarnation_in p.members.nodes n) = λ i. if not (is_one i) then Err Stranger else (if alive i then Ok (with_declared (members_state p.members.nodes) n, incarnation_in p.members.nodes n) else Err NotAlive) in
       let both = sym goes ∙ refused in absurd (cc)
 
   few_enough : (k : ℕ) → k ≤ 65535 → nat_le k 65535 ≡ true
   few_enough k h = grind (arith, nat_tests)
 
-  pub begins_there : (e : Refused) → alive_at p n ≡ false → incarnation_in p.members n ≤ most_incarnations → member.restarted (members_state p.members) n ≡ Err e → ⊥
+  pub begins_there : (e : Refused) → alive_at p n ≡ false → incarnation_in p.members.nodes n ≤ most_incarnations → member.restarted (members_state p.members.nodes) n ≡ Err e → ⊥
   begins_there e dead few refused =
-      let goes : member.restarted (members_state p.members) n ≡ Ok (with_restarted (members_state p.members) n, incarnation_in p.members n) = λ i. if not (is_one i) then Err Stranger else (if dead i then Err NotDead else (if few_enough (incarnation_in p.members n) few i then Ok (with_restarted (members_state p.members) n, incarnation_in p.members n) else Err TooManyRestarts)) in
+      let goes : member.restarted (members_state p.members.nodes) n ≡ Ok (with_restarted (members_state p.members.nodes) n, incarnation_in p.members.nodes n) = λ i. if not (is_one i) then Err Stranger else (if dead i then Err NotDead else (if few_enough (incarnation_in p.members.nodes n) few i then Ok (with_restarted (members_state p.members.nodes) n, incarnation_in p.members.nodes n) else Err TooManyRestarts)) in
       let both = sym goes ∙ refused in absurd (cc)
 
   -- the node of a member that is not alive
-  dead_seat : alive_at p n ≡ false → (world_state p).nodes n ≡ first_node p.shape n (incarnation_in p.members n)
+  dead_seat : alive_at p n ≡ false → (world_state p).nodes n ≡ first_node p.shape n (incarnation_in p.members.nodes n)
   dead_seat dead =
-      let its : (listed p n).incarnation + 1 ≡ incarnation_in p.members n = sym (ap (λ (b : Bool). (seated p.shape n b (listed p n)).incarnation) dead) ∙ world.own_incarnation n in
+      let its : (listed p n).incarnation + 1 ≡ incarnation_in p.members.nodes n = sym (ap (λ (b : Bool). (seated p.shape n b (listed p n)).incarnation) dead) ∙ world.own_incarnation n in
       ap (λ (b : Bool). seated p.shape n b (listed p n)) dead ∙ ap (λ (k : ℕ). first_node p.shape n k) its
 
   silent_is : (event : Event) (k i : ℕ) (o : Outcome) (items : List Message) (e : Entry) → i ≡ k → o ≡ sending items → items ≡ [] → e ≡ entry event k o → entry event i (sending []) ≡ e
   silent_is event k i o items e is made none entry_is = (λ j. entry event (is j) (sym (made ∙ ap sending none) j)) ∙ sym entry_is
 
-  -- declared
-  module _ (ms : List MemberParts) (k : ℕ) (done : declared_failed (members_state p.members) n ≡ Ok (members_state ms, k)) where
-    known : (is_within (length p.members) n ≡ true) × (alive_at p n ≡ true) × (◌≡◌ {A = MembersState × ℕ} (with_declared (members_state p.members) n, incarnation_in p.members n) (members_state ms, k))
-    known = declaration (is_within (length p.members) n) (alive_at p n) (with_declared (members_state p.members) n, incarnation_in p.members n) (members_state ms, k) done
+  -- the servers' members stay
+  epochs_kept : (ms : MembersParts) → ms.servers ≡ p.members.servers → (f : ℕ) → incarnation_in ms.servers f ≡ incarnation_of (alive_in ms.servers f) ((world_state p).servers f).epoch
+  epochs_kept ms others f = subst (λ (xs : List MemberParts). incarnation_in xs f ≡ incarnation_of (alive_in xs f) ((world_state p).servers f).epoch) (sym others) (world.own_epoch f)
 
-    become : with_declared (members_state p.members) n ≡ members_state ms
+  -- declared
+  module _ (ms : MembersParts) (others : ms.servers ≡ p.members.servers) (k : ℕ) (done : declared_failed (members_state p.members.nodes) n ≡ Ok (members_state ms.nodes, k)) where
+    known : (is_within (length p.members.nodes) n ≡ true) × (alive_at p n ≡ true) × (◌≡◌ {A = MembersState × ℕ} (with_declared (members_state p.members.nodes) n, incarnation_in p.members.nodes n) (members_state ms.nodes, k))
+    known = declaration (is_within (length p.members.nodes) n) (alive_at p n) (with_declared (members_state p.members.nodes) n, incarnation_in p.members.nodes n) (members_state ms.nodes, k) done
+
+    become : with_declared (members_state p.members.nodes) n ≡ members_state ms.nodes
     become = ap (λ (r : MembersState × ℕ). r.0) known.2
 
-    now_dead : (m : ℕ) → alive_in ms m ≡ (if m == n then false else alive_at p m)
+    now_dead : (m : ℕ) → alive_in ms.nodes m ≡ (if m == n then false else alive_at p m)
     now_dead m = ap (λ (s : MembersState). s.alive m) (sym become)
 
     declared_seat : (m : ℕ) → (world_state (declared_parts p ms)).nodes m ≡ (if m == n then first_node p.shape n (((world_state p).nodes n).incarnation + 1) else (world_state p).nodes m)
@@ -137,6 +141,7 @@ module _ (p : WorldParts) (world : IsWorld p) (n : ℕ) (number : is_within p.sh
       nodes = λ m. declared_seat m j;
       alive = λ m. now_dead m j;
       servers = (world_state p).servers;
+      working = alive_in (others j);
       sent = sym (append-nil p.sent) j;
       length = p.length + 1;
     })
@@ -146,13 +151,15 @@ module _ (p : WorldParts) (world : IsWorld p) (n : ℕ) (number : is_within p.sh
       nodes_there = world.nodes_there;
       members_there = ap (λ (s : MembersState). s.nodes) (sym become) ∙ world.members_there;
       servers_there = world.servers_there;
+      epochs_there = ap length others ∙ world.epochs_there;
       own_number = λ m.
           ap (λ (s : NodeState). s.node) (declared_seat m)
           ∙ at_number m n (λ b. (if b then first_node p.shape n (((world_state p).nodes n).incarnation + 1) else (world_state p).nodes m).node ≡ m) (λ same. sym same) (λ other. world.own_number m);
       own_incarnation = λ m.
           ap (λ (s : NodeState). s.incarnation) (declared_seat m)
-          ∙ (at_number m n (λ b. (if b then first_node p.shape n (((world_state p).nodes n).incarnation + 1) else (world_state p).nodes m).incarnation ≡ (if b then incarnation_in p.members n + 1 else incarnation_in p.members m)) (λ same. ap (λ (i : ℕ). i + 1) (world.own_incarnation n)) (λ other. world.own_incarnation m)
+          ∙ (at_number m n (λ b. (if b then first_node p.shape n (((world_state p).nodes n).incarnation + 1) else (world_state p).nodes m).incarnation ≡ (if b then incarnation_in p.members.nodes n + 1 else incarnation_in p.members.nodes m)) (λ same. ap (λ (i : ℕ). i + 1) (world.own_incarnation n)) (λ other. world.own_incarnation m)
           ∙ ap (λ (s : MembersState). s.incarnation m) become);
+      own_epoch = λ f. epochs_kept ms others f;
       within = omega arith;
     }
 
@@ -161,14 +168,14 @@ module _ (p : WorldParts) (world : IsWorld p) (n : ℕ) (number : is_within p.sh
         declares ∙ ap (after_declare (world_state p) n) done ∙ (λ j. Ok (declared_is k j, silent_is (Declare n) k k o items e refl made none entry_is j))
 
   -- restarted
-  module _ (x : NodeParts) (ms : List MemberParts) (k : ℕ) (begins : node_state x ≡ first_node p.shape n (incarnation_in p.members n)) (done : member.restarted (members_state p.members) n ≡ Ok (members_state ms, k)) where
-    right : (is_within (length p.members) n ≡ true) × (alive_at p n ≡ false) × (nat_le (incarnation_in p.members n) most_incarnations ≡ true) × (◌≡◌ {A = MembersState × ℕ} (with_restarted (members_state p.members) n, incarnation_in p.members n) (members_state ms, k))
-    right = restart (is_within (length p.members) n) (alive_at p n) (nat_le (incarnation_in p.members n) most_incarnations) (with_restarted (members_state p.members) n, incarnation_in p.members n) (members_state ms, k) done
+  module _ (x : NodeParts) (ms : MembersParts) (others : ms.servers ≡ p.members.servers) (k : ℕ) (begins : node_state x ≡ first_node p.shape n (incarnation_in p.members.nodes n)) (done : member.restarted (members_state p.members.nodes) n ≡ Ok (members_state ms.nodes, k)) where
+    right : (is_within (length p.members.nodes) n ≡ true) × (alive_at p n ≡ false) × (nat_le (incarnation_in p.members.nodes n) most_incarnations ≡ true) × (◌≡◌ {A = MembersState × ℕ} (with_restarted (members_state p.members.nodes) n, incarnation_in p.members.nodes n) (members_state ms.nodes, k))
+    right = restart (is_within (length p.members.nodes) n) (alive_at p n) (nat_le (incarnation_in p.members.nodes n) most_incarnations) (with_restarted (members_state p.members.nodes) n, incarnation_in p.members.nodes n) (members_state ms.nodes, k) done
 
-    turned : with_restarted (members_state p.members) n ≡ members_state ms
+    turned : with_restarted (members_state p.members.nodes) n ≡ members_state ms.nodes
     turned = ap (λ (r : MembersState × ℕ). r.0) right.3
 
-    now_alive : (m : ℕ) → alive_in ms m ≡ (if m == n then true else alive_at p m)
+    now_alive : (m : ℕ) → alive_in ms.nodes m ≡ (if m == n then true else alive_at p m)
     now_alive m = ap (λ (s : MembersState). s.alive m) (sym turned)
 
     restarted_seat : (m : ℕ) → (world_state (restarted_parts p n x ms)).nodes m ≡ (world_state p).nodes m
@@ -184,6 +191,7 @@ module _ (p : WorldParts) (world : IsWorld p) (n : ℕ) (number : is_within p.sh
       nodes = λ m. restarted_seat m j;
       alive = λ m. now_alive m j;
       servers = (world_state p).servers;
+      working = alive_in (others j);
       sent = sym (append-nil p.sent) j;
       length = p.length + 1;
     })
@@ -193,8 +201,10 @@ module _ (p : WorldParts) (world : IsWorld p) (n : ℕ) (number : is_within p.sh
       nodes_there = length-set p.nodes (n - 1) x ∙ world.nodes_there;
       members_there = ap (λ (s : MembersState). s.nodes) (sym turned) ∙ world.members_there;
       servers_there = world.servers_there;
+      epochs_there = ap length others ∙ world.epochs_there;
       own_number = λ m. ap (λ (s : NodeState). s.node) (restarted_seat m) ∙ world.own_number m;
       own_incarnation = λ m. ap (λ (s : NodeState). s.incarnation) (restarted_seat m) ∙ (world.own_incarnation m ∙ ap (λ (s : MembersState). s.incarnation m) turned);
+      own_epoch = λ f. epochs_kept ms others f;
       within = omega arith;
     }
 
@@ -203,25 +213,25 @@ module _ (p : WorldParts) (world : IsWorld p) (n : ℕ) (number : is_within p.sh
         restarts ∙ ap (after_restart (world_state p) n) done ∙ (λ j. Ok (restarted_is k j, silent_is (Restart n) k k o items e refl made none entry_is j))
 
   -- planned
-  pub restart_refused : (e : Refused) → member.restarted (members_state p.members) n ≡ Err e → restart_rule (world_state p) n ≡ Err e
+  pub restart_refused : (e : Refused) → member.restarted (members_state p.members.nodes) n ≡ Err e → restart_rule (world_state p) n ≡ Err e
   restart_refused e refused = restarts ∙ ap (after_restart (world_state p) n) refused
 
-  pub restart_goes : (s : MembersState) (k : ℕ) (e : Refused) → member.restarted (members_state p.members) n ≡ Ok (s, k) → restart_rule (world_state p) n ≡ Err e → ⊥
+  pub restart_goes : (s : MembersState) (k : ℕ) (e : Refused) → member.restarted (members_state p.members.nodes) n ≡ Ok (s, k) → restart_rule (world_state p) n ≡ Err e → ⊥
   restart_goes s k e goes refused = let both : ◌≡◌ {A = Result (WorldState × Entry) Refused} (Ok (silent (restarted (world_state p) n) (Restart n) k)) (Err e) = sym (restarts ∙ ap (after_restart (world_state p) n) goes) ∙ refused in absurd (cc)
 
-  pub restart_is : (s : MembersState) (k : ℕ) → member.restarted (members_state p.members) n ≡ Ok (s, k) → (made : WorldState × Entry) × (restart_rule (world_state p) n ≡ Ok made)
+  pub restart_is : (s : MembersState) (k : ℕ) → member.restarted (members_state p.members.nodes) n ≡ Ok (s, k) → (made : WorldState × Entry) × (restart_rule (world_state p) n ≡ Ok made)
   restart_is s k goes = (silent (restarted (world_state p) n) (Restart n) k, restarts ∙ ap (after_restart (world_state p) n) goes)
 
   few_is : (k : ℕ) → nat_le k 65535 ≡ true → k ≤ 65535
   few_is k h = grind (arith, nat_tests, h)
 
-  pub may_restart : (s : MembersState) (k : ℕ) (y : NodeParts) → member.restarted (members_state p.members) n ≡ Ok (s, k) → node_state y ≡ first_node p.shape n k → IsRestart p n y
+  pub may_restart : (s : MembersState) (k : ℕ) (y : NodeParts) → member.restarted (members_state p.members.nodes) n ≡ Ok (s, k) → node_state y ≡ first_node p.shape n k → IsRestart p n y
   may_restart s k y goes begins =
-      let right = restart (is_within (length p.members) n) (alive_at p n) (nat_le (incarnation_in p.members n) most_incarnations) (with_restarted (members_state p.members) n, incarnation_in p.members n) (s, k) goes in
+      let right = restart (is_within (length p.members.nodes) n) (alive_at p n) (nat_le (incarnation_in p.members.nodes n) most_incarnations) (with_restarted (members_state p.members.nodes) n, incarnation_in p.members.nodes n) (s, k) goes in
       record {
         number = number;
         dead = right.1;
-        few = few_is (incarnation_in p.members n) right.2;
+        few = few_is (incarnation_in p.members.nodes n) right.2;
         begins = begins ∙ ap (λ (r : MembersState × ℕ). first_node p.shape n r.1) (sym right.3);
       }
 

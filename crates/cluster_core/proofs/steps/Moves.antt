@@ -15,21 +15,22 @@ use Rattle.model.specs.Limits.{IsProcess}
 use Rattle.token_set.specs.Tokens.{raised}
 use Rattle.messages.specs.Wants.{Wants}
 use Rattle.messages.specs.declared.message.Message.{Message}
-use Rattle.messages.specs.declared.message.Message.TheVariants.{Request, Grant, Revoke, Taken, Released, Conflict, Deny, Freed}
+use Rattle.messages.specs.declared.message.Message.TheVariants.{Request, Grant, Revoke, Taken, Released, Conflict, Deny, Freed, Hello, Report}
+use Rattle.messages.specs.Reports.{runs_of}
 use Rattle.messages.specs.declared.event.Event.{Event}
 use Rattle.messages.specs.declared.event.Event.TheVariants.{Call, Deliver}
 use Rattle.messages.specs.declared.entry.Entry.{Entry}
 use Rattle.node_core.specs.declared.open_call.OpenCall.{OpenCall}
-use Rattle.node_core.specs.State.{NodeState, FileState, Effect, quiet, answered, without_call, process, id_of, open_call_of, outcome}
+use Rattle.node_core.specs.State.{NodeState, FileState, Effect, quiet, sent, host, answered, without_call, process, id_of, open_call_of, outcome}
 use Rattle.node_core.specs.Try.{refusal_of, tried, tried_if}
 use Rattle.node_core.specs.Calls.{is_in_shape, called, after_call}
-use Rattle.node_core.specs.Commands.{remembered, in_order, after_command, granted, revoked, denied, delivered}
+use Rattle.node_core.specs.Commands.{in_epoch, remembered, in_order, after_command, granted, revoked, denied, delivered}
 use Rattle.node_core.specs.Interrupts.{interrupted}
 use Rattle.cluster_core.specs.Histories.{IsRepliedAt}
 use Rattle.cluster_core.specs.Next.{entry}
 use Rattle.cluster_core.proofs.history.Entries.{not_there, IsNamed, Unanswered, unanswered-push, named-push}
 use Rattle.cluster_core.proofs.history.Fitting.{Called, called-keeps, called-last}
-use Rattle.cluster_core.proofs.steps.NodeSteps.{IsTo, answered_if_either, interrupted_either, in_order_either}
+use Rattle.cluster_core.proofs.steps.NodeSteps.{IsTo, answered_if_either, interrupted_either, in_order_either, told_either}
 use Rattle.model.specs.Anchors.{IsOwn}
 use Rattle.cluster_core.proofs.steps.Tries.{Continues, IsAnswered, IsSilent, Stays, IsIdle, same_continues, stays_closed, tried_ends, interrupted_ends, called_ends}
 use Rattle.cluster_core.proofs.history.Nodes.{IsOpen, Holds, Moves, IsNoDenial, still_goes_on, open-continues, opened, all_wait, others_wait, found_open, stay_same, stay_closed, stay_opened}
@@ -237,13 +238,44 @@ module _ (past : List Entry) (s : NodeState) (holds : Holds past s) where
   in_order_receives event file number effect done =
       in_order_either (λ e. Receives past s e.state (said event e)) s file number effect (λ next. done) (remembered_receives event (s.files file).answer) (quiet_receives event (quiet s) refl refl)
 
+  -- the node learns at most of files
+  learned_receives : (files : ℕ → FileState) (event : Event) (e : Effect) → e.state ≡ record s { files = files } → e.reply ≡ None → Receives past s e.state (said event e)
+  learned_receives files event e same none =
+      let next = record s { files = files } in
+      let P : NodeState → Type 0 = λ u. Receives past s u (said event e) in
+      let silent : IsSilent s next e.reply = record { no_reply = none; table = refl } in
+      subst P (sym same) (record {
+        moves = silent_moves past (said event e) s next (record { node = refl; incarnation = refl; own = still.own; goes_on = still.goes_on }) refl refl refl silent holds;
+        idle = λ empty. (empty, silent);
+      })
+
+  -- it answers again
+  recalled_receives : (file number : ℕ) (event : Event) (answer : Option Message) → (let e = remembered (in_epoch s file number) answer in Receives past s e.state (said event e))
+  recalled_receives file number event None = learned_receives (in_epoch s file number).files event (quiet (in_epoch s file number)) refl refl
+  recalled_receives file number event (Some m) = learned_receives (in_epoch s file number).files event (remembered (in_epoch s file number) (Some m)) refl refl
+
+  -- a command, in the epoch that it is of
+  entered_receives : (event : Event) (file number : ℕ) (effect : Effect) → Receives past s effect.state (said event effect) → (let all = in_order (in_epoch s file number) file number effect in Receives past s all.state (said event all))
+  entered_receives event file number effect done =
+      let t = in_epoch s file number in
+      in_order_either (λ e. Receives past s e.state (said event e)) t file number effect (λ next. done) (recalled_receives file number event (t.files file).answer) (learned_receives t.files event (quiet t) refl refl)
+
   pub delivered_receives : (m : Message) → IsTo s m → Receives past s (delivered s m).state (said (Deliver m) (delivered s m))
   delivered_receives (Grant file number call mode span) to =
       let event = Deliver (Grant file number call mode span) in
-      in_order_receives event file number (granted s file number call mode span) (granted_receives event file number call mode span tt)
+      let t = in_epoch s file number in
+      let next = after_command t file (raised (t.files file).token span mode) number (Taken file number call) (t.files file).asked in
+      entered_receives event file number (granted t file number call mode span) (tried_receives next.files (λ c. c.number == call.number) (said event (granted t file number call mode span)) tt refl refl)
   delivered_receives (Revoke file number holder call mode wanted) to =
       let event = Deliver (Revoke file number holder call mode wanted) in
-      in_order_receives event file number (revoked s file number call mode wanted) (revoked_receives event file number call mode wanted)
+      let t = in_epoch s file number in
+      let e = revoked t file number call mode wanted in
+      entered_receives event file number e (learned_receives e.state.files event e refl refl)
+  delivered_receives (Hello file number holder) to =
+      let event = Deliver (Hello file number holder) in
+      let t = in_epoch s file number in
+      told_either (λ e. Receives past s e.state (said event e)) t file number (λ is. learned_receives t.files event (sent t (Report file number (host t) (runs_of (t.files file).token))) refl refl) (learned_receives t.files event (quiet t) refl refl)
+  delivered_receives (Report file number holder runs) to = quiet_receives (Deliver (Report file number holder runs)) (quiet s) refl refl
   delivered_receives (Deny file call holder number lock) to = denied_receives file call holder number lock to (find (λ c. c.number == call.number) s.pending) refl
   delivered_receives (Request file call urgency mode wanted) to = quiet_receives (Deliver (Request file call urgency mode wanted)) (quiet s) refl refl
   delivered_receives (Taken file number call) to = quiet_receives (Deliver (Taken file number call)) (quiet s) refl refl

@@ -3,14 +3,14 @@ use Rattle.std.proofs.Common.{◌≡◌, ℕ, ◌+◌, inl, inr, refl, ap, subst
 use Rattle.model.specs.declared.call.CallId.{CallId}
 use Rattle.token_set.specs.Tokens.{raised}
 use Rattle.messages.specs.declared.message.Message.{Message}
-use Rattle.messages.specs.declared.message.Message.TheVariants.{Grant, Revoke, Taken, Deny}
+use Rattle.messages.specs.declared.message.Message.TheVariants.{Grant, Revoke, Taken, Deny, Hello}
 use Rattle.messages.specs.declared.outcome.Outcome.{Outcome}
 use Rattle.node_core.specs.declared.event.NodeEvent.{NodeEvent}
 use Rattle.node_core.specs.declared.event.NodeEvent.TheVariants.{Call, Deliver, Interrupt, Retry}
 use Rattle.node_core.specs.State.{NodeState, Effect, open_call, open_call_of}
-use Rattle.node_core.specs.Commands.{in_order, after_command, granted, revoked, delivered}
+use Rattle.node_core.specs.Commands.{in_epoch, in_order, after_command, granted, revoked, delivered}
 use Rattle.node_core.specs.Node.{node_rule}
-use Rattle.cluster_core.proofs.steps.NodeSteps.{call_done, deliver_done, interrupt_done, retry_done, remembered_state, in_order_either}
+use Rattle.cluster_core.proofs.steps.NodeSteps.{call_done, deliver_done, interrupt_done, retry_done, remembered_state, in_order_either, told_either}
 use Rattle.cluster_core.proofs.steps.NodeTokens.{called_asks, tried_if_asks, denied_asks, interrupted_asks}
 
 in_order-node : (s : NodeState) (file number : ℕ) (e : Effect) → e.state.node ≡ s.node → (in_order s file number e).state.node ≡ s.node
@@ -20,9 +20,11 @@ in_order-node s file number e kept =
 -- a message leaves the node its number
 delivered-node : (s : NodeState) (m : Message) → (delivered s m).state.node ≡ s.node
 delivered-node s (Grant file number call mode span) =
-    let next = after_command s file (raised (s.files file).token span mode) number (Taken file number call) (s.files file).asked in
-    in_order-node s file number (granted s file number call mode span) (tried_if_asks next (open_call next call.number)).node_is
-delivered-node s (Revoke file number holder call mode wanted) = in_order-node s file number (revoked s file number call mode wanted) refl
+    let t = in_epoch s file number in
+    let next = after_command t file (raised (t.files file).token span mode) number (Taken file number call) (t.files file).asked in
+    in_order-node t file number (granted t file number call mode span) (tried_if_asks next (open_call next call.number)).node_is
+delivered-node s (Revoke file number holder call mode wanted) = let t = in_epoch s file number in in_order-node t file number (revoked t file number call mode wanted) refl
+delivered-node s (Hello file number holder) = told_either (λ e. e.state.node ≡ s.node) (in_epoch s file number) file number (λ is. refl) refl
 delivered-node s (Deny file call holder number lock) = (denied_asks s lock (open_call s call.number)).node_is
 delivered-node s m = refl
 
@@ -33,9 +35,11 @@ in_order-incarnation s file number e kept =
 -- and its incarnation
 delivered-incarnation : (s : NodeState) (m : Message) → (delivered s m).state.incarnation ≡ s.incarnation
 delivered-incarnation s (Grant file number call mode span) =
-    let next = after_command s file (raised (s.files file).token span mode) number (Taken file number call) (s.files file).asked in
-    in_order-incarnation s file number (granted s file number call mode span) (tried_if_asks next (open_call next call.number)).incarnation_is
-delivered-incarnation s (Revoke file number holder call mode wanted) = in_order-incarnation s file number (revoked s file number call mode wanted) refl
+    let t = in_epoch s file number in
+    let next = after_command t file (raised (t.files file).token span mode) number (Taken file number call) (t.files file).asked in
+    in_order-incarnation t file number (granted t file number call mode span) (tried_if_asks next (open_call next call.number)).incarnation_is
+delivered-incarnation s (Revoke file number holder call mode wanted) = let t = in_epoch s file number in in_order-incarnation t file number (revoked t file number call mode wanted) refl
+delivered-incarnation s (Hello file number holder) = told_either (λ e. e.state.incarnation ≡ s.incarnation) (in_epoch s file number) file number (λ is. refl) refl
 delivered-incarnation s (Deny file call holder number lock) = (denied_asks s lock (open_call s call.number)).incarnation_is
 delivered-incarnation s m = refl
 

@@ -7,16 +7,18 @@ use Rattle.model.specs.declared.reply.Reply.{Reply}
 use Rattle.model.specs.declared.reply.Reply.TheVariants.{Interrupted}
 use Rattle.model.specs.Table.{Table}
 use Rattle.messages.specs.declared.message.Message.{Message}
+use Rattle.messages.specs.declared.message.Message.TheVariants.{Report}
+use Rattle.messages.specs.Reports.{runs_of}
 use Rattle.messages.specs.declared.outcome.Outcome.{Outcome}
 use Rattle.messages.specs.declared.refusal.StepError.TheVariants.{Busy, Stranger, Spent}
 use Rattle.messages.specs.Messages.{addressee, host_of, file_of, is_within, greatest_number}
 use Rattle.node_core.specs.declared.open_call.Intent.{Intent}
 use Rattle.node_core.specs.declared.open_call.Intent.TheVariants as intent
 use Rattle.node_core.specs.declared.open_call.OpenCall.{OpenCall}
-use Rattle.node_core.specs.State.{NodeState, Effect, quiet, answered, outcome, open_call_of}
+use Rattle.node_core.specs.State.{NodeState, Effect, host, quiet, sent, answered, outcome, open_call_of}
 use Rattle.node_core.specs.Try.{settled, may_free, with_freed, with_freed_of, answered_if, tried_if}
 use Rattle.node_core.specs.Calls.{is_pid, is_in_shape, is_busy, shut_by, after_call, call_rule}
-use Rattle.node_core.specs.Commands.{remembered, in_order, delivered, is_node, deliver_rule}
+use Rattle.node_core.specs.Commands.{remembered, told, in_order, delivered, is_node, deliver_rule}
 use Rattle.node_core.specs.Interrupts.{interruption_of, interrupted, interrupt_rule}
 use Rattle.node_core.specs.Retries.{retry_rule}
 use Rattle.cluster_core.proofs.common.Choices.{if_either, at_number}
@@ -96,3 +98,8 @@ in_order_either P s file number e next again idle =
     let last = (number == (s.files file).last) && nat_le 1 number in
     let others : Effect = if last then remembered s (s.files file).answer else quiet s in
     at_number number ((s.files file).last + 1) (λ b. P (if b then e else others)) next (λ other. if_either P last (remembered s (s.files file).answer) (quiet s) again idle)
+
+-- a question for the token: it is told where no later command is done, or nothing happens
+pub told_either : (P : Effect → Type 0) (s : NodeState) (file number : ℕ) → (number ≡ (s.files file).last → P (sent s (Report file number (host s) (runs_of (s.files file).token)))) → P (quiet s) → P (told s file number)
+told_either P s file number tells nothing =
+    at_number number (s.files file).last (λ b. P (if b then sent s (Report file number (host s) (runs_of (s.files file).token)) else quiet s)) tells (λ other. nothing)

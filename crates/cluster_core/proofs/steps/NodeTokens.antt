@@ -1,8 +1,9 @@
 -- What a node's step does to its tokens, and what it sends.
 use Rattle.std.specs.Prelude.{◌==◌}
-use Rattle.std.specs.List.{filter_map, cons_option}
-use Rattle.std.proofs.Common.{◌≡◌, ℕ, ◌+◌, Bool, true, false, if◌then◌else◌, ◌||◌, ◌⊎◌, inl, inr, refl, sym, ◌∙◌, ap, subst, List, [], ◌∷◌, ◌++◌, Option, Some, None, Result, Ok, Err}
-use Rattle.std.proofs.lemmas.Bool.{or_cases, or_left}
+use Rattle.std.specs.List.{filter_map, cons_option, list_any}
+use Rattle.std.proofs.Common.{◌≡◌, ℕ, ◌+◌, Bool, true, false, if◌then◌else◌, ◌||◌, ◌⊎◌, inl, inr, refl, sym, ◌∙◌, ap, subst, List, [], ◌∷◌, ◌++◌, All, Option, Some, None, Result, Ok, Err}
+use Rattle.std.proofs.lemmas.Bool.{or_cases, or_left, or_right, false≢true}
+use Rattle.std.proofs.lemmas.List.Elements.{All-nil, All-cons, All-head, All-tail}
 use Rattle.intervals.specs.Bytes.{Range}
 use Rattle.model.specs.declared.call.CallId.{CallId}
 use Rattle.model.specs.declared.host.Host.{Host}
@@ -35,7 +36,7 @@ use Rattle.cluster_core.proofs.common.Choices.{if_either, at_number}
 use Rattle.cluster_core.proofs.steps.KnownMessages.{sent_either}
 use Rattle.cluster_core.proofs.steps.NodeSteps.{in_order_either, shut_keeps}
 use Rattle.cluster_core.proofs.tokens.Talks.{settled, IsHostOf, IsCommandTo, IsAnswerOf, unasked}
-use Rattle.cluster_core.proofs.tokens.TalkMoves.{done_file}
+use Rattle.cluster_core.proofs.tokens.TalkMoves.{done_file, is_answer}
 
 -- each of the messages is so
 abbrev pub Only : (Message → Type 0) → List Message → Type 0
@@ -64,8 +65,21 @@ only_mapped P f (n ∷ ns) each = elim (f n) as (λ o. f n ≡ o → Only P (con
   | Some m ↦ λ is. only_more P m (filter_map f ns) (each n m is) (only_mapped P f ns each)
 ] refl
 
+-- what holds of all holds of each that is among them, and the other way round
+pub all_among : (P : Message → Type 0) (ms : List Message) (m : Message) → All P ms → is_among ms m ≡ true → P m
+all_among P [] m all h = absurd (false≢true h)
+all_among P (x ∷ xs) m all h =
+    elim (same_message m x) as (λ b. same_message m x ≡ b → (b || list_any (same_message m) xs) ≡ true → P m) [
+      | true ↦ λ same here. subst P (sym ((same_message-is-equality m x).0 same)) (All-head P x xs all)
+      | false ↦ λ other here. all_among P xs m (All-tail P x xs all) here
+    ] refl h
+
 pub first_among : (x : Message) (xs : List Message) → is_among (x ∷ xs) x ≡ true
 first_among x xs = or_left (same_message x x) (is_among xs x) ((same_message-is-equality x x).1 refl)
+
+pub only_all : (P : Message → Type 0) (ms : List Message) → Only P ms → All P ms
+only_all P [] each = All-nil P
+only_all P (x ∷ xs) each = All-cons P x xs (each x (first_among x xs)) (only_all P xs (λ m there. each m (or_right (same_message m x) (is_among xs m) there)))
 
 -- the node in that incarnation asks for a token, or tells that locks may be gone
 abbrev pub IsAsking : ℕ → ℕ → Message → Type 0
@@ -222,6 +236,7 @@ pub record Repeats (s : NodeState) (e : Effect) : Type 0 where
 -- the node does the next command about a file, and answers it
 pub record Does (s : NodeState) (file number : ℕ) (command : Message) (e : Effect) : Type 0 where
   pub answer : Message
+  pub answers_it : is_answer answer ≡ true
   pub of : IsAnswerOf file s.node s.incarnation number answer
   pub is_next : number ≡ (s.files file).last + 1
   pub node_is : e.state.node ≡ s.node
@@ -248,6 +263,7 @@ granted_does s file number call mode span node incarnation is_next =
     let P : Message → Type 0 = λ m. (m ≡ answer) ⊎ IsAsking s.node s.incarnation m in
     record {
       answer = answer;
+      answers_it = refl;
       of = (refl, refl, node, incarnation);
       is_next = is_next;
       node_is = asks.node_is;
@@ -262,6 +278,10 @@ answer_is : (s : NodeState) (file number : ℕ) (call : CallId) (up : GaveUp) �
 answer_is s file number call (gives.Released span) = (refl, refl, refl, refl)
 answer_is s file number call (gives.Conflict lock) = (refl, refl, refl, refl)
 
+answers_revoke : (file number : ℕ) (h : Host) (call : CallId) (up : GaveUp) → is_answer (answer_to file number h call up) ≡ true
+answers_revoke file number h call (gives.Released span) = refl
+answers_revoke file number h call (gives.Conflict lock) = refl
+
 given_up : (t : Token) (file number : ℕ) (holder own : Host) (call : CallId) (mode : Mode) (wanted : Wants) (up : GaveUp) → after_giving_up t mode up ≡ settled t (Revoke file number holder call mode wanted) (answer_to file number own call up)
 given_up t file number holder own call mode wanted (gives.Released span) = refl
 given_up t file number holder own call mode wanted (gives.Conflict lock) = refl
@@ -272,6 +292,7 @@ revoked_does s file number holder call mode wanted is_next =
     let answer = answer_to file number (host s) call up in
     record {
       answer = answer;
+      answers_it = answers_revoke file number (host s) call up;
       of = answer_is s file number call up;
       is_next = is_next;
       node_is = refl;

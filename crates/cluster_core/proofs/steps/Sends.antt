@@ -1,8 +1,9 @@
 -- What a node sends.
-use Rattle.std.specs.Prelude.{◌==◌}
-use Rattle.std.proofs.Common.{◌≡◌, ℕ, ◌+◌, Bool, false, refl, sym, subst, [], ◌∷◌, ◌++◌, All, Contains, Option, Some, None, Result, Ok, Err}
+use Rattle.std.specs.Prelude.{max, ◌==◌, nat_lt, if◌then◌else◌}
+use Rattle.std.proofs.Common.{◌≡◌, ℕ, ◌+◌, ◌≤◌, arith, Bool, true, false, refl, sym, ap, ◌∙◌, List, subst, [], ◌∷◌, ◌++◌, All, Contains, Option, Some, None, Result, Ok, Err}
+use Rattle.std.proofs.lemmas.Option.{none-some}
 use Rattle.std.proofs.lemmas.List.Elements.{All-nil, All-cons, All-push, Contains-push}
-use Rattle.intervals.specs.Bytes.{Range}
+use Rattle.intervals.specs.Bytes.{Range, whole, greatest}
 use Rattle.model.specs.declared.call.CallId.{CallId}
 use Rattle.model.specs.declared.host.Host.{Host}
 use Rattle.model.specs.declared.lock_info.LockInfo.{LockInfo}
@@ -13,32 +14,56 @@ use Rattle.model.specs.declared.reply.Reply.{Reply}
 use Rattle.model.specs.Locks.{lowest_blocker, lowest_in_way}
 use Rattle.model.specs.Descriptors.{is_of_file, has_open}
 use Rattle.model.specs.Table.{Table, LockTarget, around, descriptor, target, lock_within, after_close, after_exit}
-use Rattle.token_set.specs.Tokens.{covers, desired, raised}
+use Rattle.model.specs.declared.policy.Policy.{Policy}
+use Rattle.model.specs.declared.policy.Policy.TheVariants.{Wide, Exact}
+use Rattle.token_set.specs.Tokens.{Token, holds_nothing, covers, desired, raised}
 use Rattle.token_set.specs.Releases.{given_up_span, answer_of}
 use Rattle.messages.specs.Wants.{Wants}
 use Rattle.messages.specs.declared.message.Message.{Message}
-use Rattle.messages.specs.declared.message.Message.TheVariants.{Request, Grant, Revoke, Taken, Released, Conflict, Deny, Freed}
+use Rattle.messages.specs.declared.message.Message.TheVariants.{Request, Grant, Revoke, Taken, Released, Conflict, Deny, Freed, Hello, Report}
+use Rattle.messages.specs.declared.token_run.TokenRun.{TokenRun}
+use Rattle.messages.specs.Epochs.{begin_of}
+use Rattle.messages.specs.Reports.{runs_of}
 use Rattle.node_core.specs.declared.open_call.Intent.{Intent}
 use Rattle.node_core.specs.declared.open_call.Intent.TheVariants as intent
 use Rattle.node_core.specs.declared.open_call.OpenCall.{OpenCall}
-use Rattle.node_core.specs.State.{NodeState, Effect, quiet, with_file, without_call_of, host, process, id_of, target_of, open_call}
+use Rattle.node_core.specs.State.{FileState, NodeState, Effect, quiet, with_file, without_call_of, host, process, id_of, target_of, open_call}
 use Rattle.node_core.specs.Try.{settled, urgency_of, requested, refusal_of, answered_if, may_free, with_freed, locked_by, answered_here, tried, tried_against, tried_if}
 use Rattle.node_core.specs.Calls.{lock_call, unlock_call, called, shut_by}
-use Rattle.node_core.specs.Commands.{remembered, in_order, after_command, granted, answer_to, revoked, denied, delivered}
+use Rattle.node_core.specs.Commands.{renewed, in_epoch, remembered, in_order, after_command, granted, answer_to, revoked, denied, delivered}
 use Rattle.node_core.specs.Interrupts.{interruption_of, interrupted}
 use Rattle.cluster_core.proofs.common.Choices.{if_either}
-use Rattle.cluster_core.proofs.steps.NodeSteps.{in_order_either, shut_keeps}
+use Rattle.cluster_core.proofs.steps.NodeSteps.{in_order_either, told_either, shut_keeps}
 use Rattle.cluster_core.proofs.history.Nodes.{found_open}
+
+-- what a node would like to have ends with the file, or with what it needs
+desired_end : (policy : Policy) (t : Token) (span : Range) → (desired policy t span).hi ≤ max greatest span.hi
+desired_end Exact t span = omega arith
+desired_end Wide t span = if_either (λ (s : Range). s.hi ≤ max greatest span.hi) (holds_nothing t) whole (record { lo = span.lo; hi = greatest }) (omega arith) (omega arith)
 
 -- the messages that need no reason
 pub record IsFreely (P : Message → Type 0) : Type 0 where
   pub taken : (file number : ℕ) (call : CallId) → P (Taken file number call)
   pub released : (file number : ℕ) (holder : Host) (call : CallId) (span : Range) → P (Released file number holder call span)
   pub freed : (file : ℕ) (holder : Host) → P (Freed file holder)
+  pub report : (file number : ℕ) (holder : Host) (runs : List TokenRun) → P (Report file number holder runs)
 
 -- what is asked for an open call
 abbrev pub AsksFor : (Message → Type 0) → NodeState → Type 0
-AsksFor P u = (c : OpenCall) (wanted : Wants) → Contains u.pending c → wanted.required ≡ c.span → P (Request c.file (id_of u c.number) (urgency_of c.intent) c.mode wanted)
+AsksFor P u = (c : OpenCall) (wanted : Wants) → Contains u.pending c → wanted.required ≡ c.span → wanted.desired.hi ≤ max greatest c.span.hi → P (Request c.file (id_of u c.number) (urgency_of c.intent) c.mode wanted)
+
+-- the answers that a node remembers
+abbrev pub Remembers : (Message → Type 0) → NodeState → Type 0
+Remembers P s = (file : ℕ) (m : Message) → (s.files file).answer ≡ Some m → P m
+
+-- a node that hears of an epoch remembers no more
+pub entered-remembers : (P : Message → Type 0) (s : NodeState) (file number : ℕ) → Remembers P s → Remembers P (in_epoch s file number)
+entered-remembers P s file number old f m h =
+    let first = begin_of number in
+    let x = s.files file in
+    let anew : (y : FileState) → y ≡ renewed x number → y.answer ≡ Some m → P m = λ y is there.
+    elim (nat_lt x.last first) as (λ c. (if c then record x { last = first; answer = None } else x).answer ≡ Some m → P m) [ true ↦ λ none. absurd (none-some m none) | false ↦ λ same. old file m same ] (ap (λ (z : FileState). z.answer) (sym is) ∙ there) in
+    elim (f == file) as (λ c. (if c then renewed x number else s.files f).answer ≡ Some m → P m) [ true ↦ λ there. anew (renewed x number) refl there | false ↦ λ there. old f m there ] h
 
 module _ (P : Message → Type 0) (free : IsFreely P) where
   -- the messages of an effect are so where what it asks for is
@@ -77,7 +102,7 @@ module _ (P : Message → Type 0) (free : IsFreely P) where
       let wanted : Wants = record { required = c.span; desired = desired s.shape.policy (s.files c.file).token c.span } in
       if_either SendsOnly (covers (s.files c.file).token c.span c.mode) (answered_here s c c.intent) (requested s c)
       (answered_here-sends s c c.intent)
-      (λ asks. All-cons P (Request c.file (id_of s c.number) (urgency_of c.intent) c.mode wanted) [] (asks c wanted there refl) (All-nil P))
+      (λ asks. All-cons P (Request c.file (id_of s c.number) (urgency_of c.intent) c.mode wanted) [] (asks c wanted there refl (desired_end s.shape.policy (s.files c.file).token c.span)) (All-nil P))
 
   pub tried-sends : (s : NodeState) (c : OpenCall) → Contains s.pending c → SendsOnly (tried s c)
   tried-sends s c there = tried_against-sends s c (lowest_blocker (s.table.locks c.file) c.owner c.span c.mode) there
@@ -111,18 +136,14 @@ module _ (P : Message → Type 0) (free : IsFreely P) where
   called-sends s number pid (Unlock fd kind start len) = unlock_call-sends s number (target s.table (process s pid) None fd kind start len)
   called-sends s number pid (Query fd kind mode start len) = lock_call-sends s number pid intent.Query mode (target s.table (process s pid) None fd kind start len)
 
-  -- the answers that a node remembers
-  abbrev pub Remembers : NodeState → Type 0
-  Remembers s = (file : ℕ) (m : Message) → (s.files file).answer ≡ Some m → P m
-
-  remembered-sends : (s : NodeState) (file : ℕ) → Remembers s → SendsOnly (remembered s (s.files file).answer)
+  remembered-sends : (s : NodeState) (file : ℕ) → Remembers P s → SendsOnly (remembered s (s.files file).answer)
   remembered-sends s file old = each (s.files file).answer refl
     where
       each : (o : Option Message) → (s.files file).answer ≡ o → SendsOnly (remembered s o)
       each None is asks = All-nil P
       each (Some m) is asks = All-cons P m [] (old file m is) (All-nil P)
 
-  in_order-sends : (s : NodeState) (file number : ℕ) (e : Effect) → Remembers s → (number ≡ (s.files file).last + 1 → SendsOnly e) → SendsOnly (in_order s file number e)
+  in_order-sends : (s : NodeState) (file number : ℕ) (e : Effect) → Remembers P s → (number ≡ (s.files file).last + 1 → SendsOnly e) → SendsOnly (in_order s file number e)
   in_order-sends s file number e old next = in_order_either SendsOnly s file number e next (remembered-sends s file old) (nothing_sent (quiet s) refl)
 
   granted-sends : (s : NodeState) (file number : ℕ) (call : CallId) (mode : Mode) (span : Range) → SendsOnly (granted s file number call mode span)
@@ -155,9 +176,22 @@ module _ (P : Message → Type 0) (free : IsFreely P) where
   interrupted-sends s None = λ asks. All-nil P
   interrupted-sends s (Some c) = answered_if-sends s c.number (interruption_of c.intent)
 
-  pub delivered-sends : (s : NodeState) (m : Message) → Remembers s → Conflicts s m → SendsOnly (delivered s m)
-  delivered-sends s (Grant file number call mode span) old conflict = in_order-sends s file number (granted s file number call mode span) old (λ is. granted-sends s file number call mode span)
-  delivered-sends s (Revoke file number holder call mode wanted) old conflict = in_order-sends s file number (revoked s file number call mode wanted) old (revoked-sends s file number holder call mode wanted conflict)
+  -- a revoke that names a lock does so once the node has heard of its epoch
+  abbrev pub EntersConflicts : NodeState → Message → Type 0
+  EntersConflicts s (Revoke file number holder call mode wanted) = Conflicts (in_epoch s file number) (Revoke file number holder call mode wanted)
+  EntersConflicts s _ = Unit {0}
+
+  pub delivered-sends : (s : NodeState) (m : Message) → Remembers P s → EntersConflicts s m → SendsOnly (delivered s m)
+  delivered-sends s (Grant file number call mode span) old conflict =
+      let t = in_epoch s file number in
+      in_order-sends t file number (granted t file number call mode span) (entered-remembers P s file number old) (λ is. granted-sends t file number call mode span)
+  delivered-sends s (Revoke file number holder call mode wanted) old conflict =
+      let t = in_epoch s file number in
+      in_order-sends t file number (revoked t file number call mode wanted) (entered-remembers P s file number old) (revoked-sends t file number holder call mode wanted conflict)
+  delivered-sends s (Hello file number holder) old conflict =
+      let t = in_epoch s file number in
+      told_either SendsOnly t file number (λ is asks. All-cons P (Report file number (host t) (runs_of (t.files file).token)) [] (free.report file number (host t) (runs_of (t.files file).token)) (All-nil P)) (nothing_sent (quiet t) refl)
+  delivered-sends s (Report file number holder runs) old conflict = nothing_sent (quiet s) refl
   delivered-sends s (Deny file call holder number lock) old conflict = denied-sends s lock (open_call s call.number)
   delivered-sends s (Request file call urgency mode wanted) old conflict = nothing_sent (quiet s) refl
   delivered-sends s (Taken file number call) old conflict = nothing_sent (quiet s) refl

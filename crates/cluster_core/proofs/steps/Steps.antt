@@ -1,13 +1,13 @@
 -- A step of the cluster is a step of one of its nodes or servers.
-use Rattle.std.proofs.Common.{◌≡◌, ℕ, ◌<◌, ◌≤◌, if◌then◌else◌, arith, true, false, not, nat_le, refl, subst, Result, Ok, Err}
-use Rattle.std.proofs.lemmas.Bool.{not-false, leb-true}
+use Rattle.std.proofs.Common.{◌≡◌, ℕ, ◌+◌, ◌<◌, ◌≤◌, if◌then◌else◌, arith, true, false, not, nat_le, nat_lt, refl, subst, Result, Ok, Err}
+use Rattle.std.proofs.lemmas.Bool.{not-false, leb-true, ltb-true}
 use Rattle.std.proofs.lemmas.Bool.Decides.{nat_tests}
-use Rattle.messages.specs.Messages.{addressee}
+use Rattle.messages.specs.Messages.{addressee, sending}
 use Rattle.messages.specs.declared.actor.Actor.{Actor}
 use Rattle.messages.specs.declared.actor.Actor.TheVariants.{Node as ANode, Server as AServer}
 use Rattle.messages.specs.declared.message.Message.{Message}
 use Rattle.messages.specs.declared.event.Event.{Event}
-use Rattle.messages.specs.declared.event.Event.TheVariants.{Call, Deliver, Interrupt, Retry, Resend, Declare, Restart, Learn}
+use Rattle.messages.specs.declared.event.Event.TheVariants.{Call, Deliver, Interrupt, Retry, Resend, Declare, Restart, Learn, FailServer, StartServer}
 use Rattle.messages.specs.declared.entry.Entry.{Entry}
 use Rattle.messages.specs.declared.outcome.Outcome.{Outcome}
 use Rattle.messages.specs.declared.refusal.Refused.{Refused}
@@ -20,9 +20,10 @@ use Rattle.node_core.specs.Node.{node_rule}
 use Rattle.token_server.specs.declared.event.ServerEvent.{ServerEvent}
 use Rattle.token_server.specs.declared.event.ServerEvent.TheVariants as server
 use Rattle.token_server.specs.State.{ServerState}
+use Rattle.token_server.specs.Resends.{outstanding}
 use Rattle.token_server.specs.Server.{server_rule}
 use Rattle.cluster_core.specs.World.{WorldState, journal_limit, most_incarnations}
-use Rattle.cluster_core.specs.Next.{is_known, is_fenced, recorded, named_incarnation, with_node, with_server, after_node, after_server, declared, restarted, silent, delivered, taken, next, kept_next}
+use Rattle.cluster_core.specs.Next.{is_known, is_fenced, recorded, named_incarnation, with_node, with_server, after_node, after_server, declared, restarted, silent, failed, started, next_server, delivered, taken, next, kept_next}
 use Rattle.cluster_core.proofs.common.Refusals.{ok_is, if_ok, unless_refused}
 
 -- a step that is not refused is of actors, processes and messages that the world knows
@@ -32,7 +33,7 @@ next_taken w event q h =
     let free = unless_refused (is_fenced w event) (taken w event) q Fenced known.1 in
     (not-false (is_known w event) known.0, free.1)
 
--- nor is it one of a node that was declared failed
+-- nor is it one of a node or a server that was declared failed
 pub next_unfenced : (w : WorldState) (event : Event) (q : WorldState × Entry) → next w event ≡ Ok q → is_fenced w event ≡ false
 next_unfenced w event q h =
     let known = unless_refused (not (is_known w event)) _ q Stranger h in
@@ -79,6 +80,24 @@ module _ (w : WorldState) (P : WorldState × Entry → Type 0) where
   abbrev pub OnRestart : Event → Type 0
   OnRestart event = (n : ℕ) → event ≡ Restart n → w.alive n ≡ false → (w.nodes n).incarnation ≤ most_incarnations → P (silent (restarted w n) event (w.nodes n).incarnation)
 
+  -- or a server is declared failed, or is rebuilt
+  abbrev pub OnFail : Event → Type 0
+  OnFail event = (file : ℕ) → event ≡ FailServer file → w.working file ≡ true → P (silent (failed w file) event (w.servers file).epoch)
+
+  abbrev pub OnStart : Event → Type 0
+  OnStart event = (file : ℕ) → event ≡ StartServer file → w.working file ≡ false → (w.servers file).epoch < most_incarnations → P (recorded (started w file) event ((w.servers file).epoch + 1) (sending (outstanding (next_server w file))))
+
+  pub fail_step : (file : ℕ) (q : WorldState × Entry) → OnFail (FailServer file) → taken w (FailServer file) ≡ Ok q → P q
+  fail_step file q on_fail h =
+      let done = if_ok (w.working file) _ q NotAlive h in
+      subst P done.1 (on_fail file refl done.0)
+
+  pub start_step : (file : ℕ) (q : WorldState × Entry) → OnStart (StartServer file) → taken w (StartServer file) ≡ Ok q → P q
+  start_step file q on_start h =
+      let stopped = unless_refused (w.working file) _ q NotDead h in
+      let done = if_ok (nat_lt (w.servers file).epoch most_incarnations) _ q TooManyRestarts stopped.1 in
+      subst P done.1 (on_start file refl stopped.0 (ltb-true (w.servers file).epoch most_incarnations done.0))
+
   pub declare_step : (n : ℕ) (q : WorldState × Entry) → OnDeclare (Declare n) → taken w (Declare n) ≡ Ok q → P q
   declare_step n q on_declare h =
       let done = if_ok (w.alive n) _ q NotAlive h in
@@ -94,15 +113,17 @@ module _ (w : WorldState) (P : WorldState × Entry → Type 0) where
   message_step m (ANode n) q on_node on_server h = node_step (Deliver m) n (node_rule (w.nodes n) (node.Deliver m)) q (on_node n (node.Deliver m)) h
   message_step m (AServer file) q on_node on_server h = server_step (Deliver m) file (server_rule (w.servers file) (server.Deliver m)) q (on_server file (server.Deliver m)) h
 
-  taken_step : (event : Event) (q : WorldState × Entry) → OnNode event → OnServer event → OnDeclare event → OnRestart event → taken w event ≡ Ok q → P q
-  taken_step (Call n pid op) q on_node on_server on_declare on_restart h = node_step (Call n pid op) n (node_rule (w.nodes n) (node.Call pid op)) q (on_node n (node.Call pid op)) h
-  taken_step (Deliver m) q on_node on_server on_declare on_restart h = message_step m (addressee m) q on_node on_server h
-  taken_step (Interrupt n pid) q on_node on_server on_declare on_restart h = node_step (Interrupt n pid) n (node_rule (w.nodes n) (node.Interrupt pid)) q (on_node n (node.Interrupt pid)) h
-  taken_step (Retry n pid) q on_node on_server on_declare on_restart h = node_step (Retry n pid) n (node_rule (w.nodes n) (node.Retry pid)) q (on_node n (node.Retry pid)) h
-  taken_step (Resend file) q on_node on_server on_declare on_restart h = server_step (Resend file) file (server_rule (w.servers file) server.Resend) q (on_server file server.Resend) h
-  taken_step (Declare n) q on_node on_server on_declare on_restart h = declare_step n q on_declare h
-  taken_step (Restart n) q on_node on_server on_declare on_restart h = restart_step n q on_restart h
-  taken_step (Learn file n incarnation) q on_node on_server on_declare on_restart h = server_step (Learn file n incarnation) file (server_rule (w.servers file) (server.Learn n incarnation)) q (on_server file (server.Learn n incarnation)) h
+  taken_step : (event : Event) (q : WorldState × Entry) → OnNode event → OnServer event → OnDeclare event → OnRestart event → OnFail event → OnStart event → taken w event ≡ Ok q → P q
+  taken_step (Call n pid op) q on_node on_server on_declare on_restart on_fail on_start h = node_step (Call n pid op) n (node_rule (w.nodes n) (node.Call pid op)) q (on_node n (node.Call pid op)) h
+  taken_step (Deliver m) q on_node on_server on_declare on_restart on_fail on_start h = message_step m (addressee m) q on_node on_server h
+  taken_step (Interrupt n pid) q on_node on_server on_declare on_restart on_fail on_start h = node_step (Interrupt n pid) n (node_rule (w.nodes n) (node.Interrupt pid)) q (on_node n (node.Interrupt pid)) h
+  taken_step (Retry n pid) q on_node on_server on_declare on_restart on_fail on_start h = node_step (Retry n pid) n (node_rule (w.nodes n) (node.Retry pid)) q (on_node n (node.Retry pid)) h
+  taken_step (Resend file) q on_node on_server on_declare on_restart on_fail on_start h = server_step (Resend file) file (server_rule (w.servers file) server.Resend) q (on_server file server.Resend) h
+  taken_step (Declare n) q on_node on_server on_declare on_restart on_fail on_start h = declare_step n q on_declare h
+  taken_step (Restart n) q on_node on_server on_declare on_restart on_fail on_start h = restart_step n q on_restart h
+  taken_step (Learn file n incarnation) q on_node on_server on_declare on_restart on_fail on_start h = server_step (Learn file n incarnation) file (server_rule (w.servers file) (server.Learn n incarnation)) q (on_server file (server.Learn n incarnation)) h
+  taken_step (FailServer file) q on_node on_server on_declare on_restart on_fail on_start h = fail_step file q on_fail h
+  taken_step (StartServer file) q on_node on_server on_declare on_restart on_fail on_start h = start_step file q on_start h
 
-  pub next_step : (event : Event) (q : WorldState × Entry) → OnNode event → OnServer event → OnDeclare event → OnRestart event → next w event ≡ Ok q → P q
-  next_step event q on_node on_server on_declare on_restart h = taken_step event q on_node on_server on_declare on_restart (next_taken w event q h).1
+  pub next_step : (event : Event) (q : WorldState × Entry) → OnNode event → OnServer event → OnDeclare event → OnRestart event → OnFail event → OnStart event → next w event ≡ Ok q → P q
+  next_step event q on_node on_server on_declare on_restart on_fail on_start h = taken_step event q on_node on_server on_declare on_restart on_fail on_start (next_taken w event q h).1

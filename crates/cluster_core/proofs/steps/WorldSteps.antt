@@ -12,7 +12,7 @@ use Rattle.messages.specs.Messages.{is_within}
 use Rattle.messages.specs.Entries.{NamesItsCall, NamesItsIncarnation}
 use Rattle.messages.specs.declared.message.Message.{Message}
 use Rattle.messages.specs.declared.event.Event.{Event}
-use Rattle.messages.specs.declared.event.Event.TheVariants.{Call, Deliver, Interrupt, Retry, Resend, Declare, Restart, Learn}
+use Rattle.messages.specs.declared.event.Event.TheVariants.{Call, Deliver, Interrupt, Retry, Resend, Declare, Restart, Learn, FailServer, StartServer}
 use Rattle.messages.specs.declared.outcome.Outcome.{Outcome}
 use Rattle.messages.specs.declared.entry.Entry.{Entry}
 use Rattle.messages.specs.declared.refusal.StepError.{StepError}
@@ -30,13 +30,13 @@ use Rattle.token_server.specs.State.{ServerState, first_server}
 use Rattle.token_server.specs.Server.{server_rule}
 use Rattle.cluster_core.specs.World.{first_world, journal_limit}
 use Rattle.cluster_core.specs.Next.{with_node, with_server, recorded, entry, named_incarnation, after_node, after_server}
-use Rattle.cluster_core.specs.Parts.{WorldParts, IsWorld, IsRest, IsStepOf, IsServerStepOf, IsTakenByNode, numbered, seated, listed, alive_at, world_state}
+use Rattle.cluster_core.specs.Parts.{WorldParts, IsWorld, IsRest, IsStepOf, IsServerStepOf, IsTakenByNode, numbered, seated, listed, alive_at, works_at, world_state}
 use Rattle.cluster_core.proofs.common.Choices.{at_number}
 use Rattle.members.specs.Members.{MembersState, first_members}
-use Rattle.members.specs.Parts.{incarnation_in, members_state}
+use Rattle.members.specs.Parts.{incarnation_in, incarnation_of, members_state}
 use Rattle.cluster_core.proofs.common.Numbered.{within_is, put_at, read_number}
 use Rattle.cluster_core.proofs.steps.NodeNumbers.{NamesBy, node_rule-steps}
-use Rattle.cluster_core.proofs.steps.ServerSteps.{server_rule-sending}
+use Rattle.cluster_core.proofs.steps.ServerSteps.{server_rule-sending, server_rule-epoch}
 
 -- the world with another node, more messages, and one more entry
 abbrev pub with_node_parts : WorldParts → ℕ → NodeParts → List Message → WorldParts
@@ -60,6 +60,7 @@ node_put p n next event incarnation o least most alive =
       nodes = λ m. seat_put p n next o.sends least most alive m i;
       alive = alive_at p;
       servers = numbered server_state (first_server p.shape) 1 p.servers;
+      working = works_at p;
       sent = p.sent ++ o.sends;
       length = p.length + 1;
     })
@@ -71,6 +72,7 @@ server_put p file next event o least most =
       nodes = (world_state p).nodes;
       alive = alive_at p;
       servers = λ m. put_at server_state (first_server p.shape) p.servers file next least most m i;
+      working = works_at p;
       sent = p.sent ++ o.sends;
       length = p.length + 1;
     })
@@ -84,24 +86,37 @@ node_world p n step next o least most room world alive done =
       nodes_there = length-set p.nodes (n - 1) next ∙ world.nodes_there;
       members_there = world.members_there;
       servers_there = world.servers_there;
+      epochs_there = world.epochs_there;
       own_number = λ m.
           ap (λ (s : NodeState). s.node) (seat_put p n next o.sends least there alive m)
           ∙ at_number m n (λ b. (if b then node_state next else (world_state p).nodes m).node ≡ m) (λ same. steps.node ∙ world.own_number n ∙ sym same) (λ other. world.own_number m);
       own_incarnation = λ m.
           ap (λ (s : NodeState). s.incarnation) (seat_put p n next o.sends least there alive m)
-          ∙ at_number m n (λ b. (if b then node_state next else (world_state p).nodes m).incarnation ≡ incarnation_in p.members m) (λ same. steps.incarnation ∙ world.own_incarnation n ∙ ap (incarnation_in p.members) (sym same)) (λ other. world.own_incarnation m);
+          ∙ at_number m n (λ b. (if b then node_state next else (world_state p).nodes m).incarnation ≡ incarnation_in p.members.nodes m) (λ same. steps.incarnation ∙ world.own_incarnation n ∙ ap (incarnation_in p.members.nodes) (sym same)) (λ other. world.own_incarnation m);
+      own_epoch = world.own_epoch;
       within = omega arith;
     }
 
-server_world : (p : WorldParts) (file : ℕ) (next : ServerParts) (sends : List Message) → p.length < journal_limit → IsWorld p → IsWorld (with_server_parts p file next sends)
-server_world p file next sends room world = record {
-  nodes_there = world.nodes_there;
-  members_there = world.members_there;
-  servers_there = length-set p.servers (file - 1) next ∙ world.servers_there;
-  own_number = world.own_number;
-  own_incarnation = world.own_incarnation;
-  within = omega arith;
-}
+-- a server's step leaves the world one, for it keeps the epoch
+server_world : (p : WorldParts) (file : ℕ) (step : ServerEvent) (next : ServerParts) (o : Outcome) → is_within p.shape.files file ≡ true → p.length < journal_limit → IsWorld p → server_rule ((world_state p).servers file) step ≡ Ok (server_state next, o) → IsWorld (with_server_parts p file next o.sends)
+server_world p file step next o number room world done =
+    let bounds = within_is p.shape.files file number in
+    let least : 1 ≤ file = bounds.0 in
+    let most : file ≤ length p.servers = omega (arith, bounds.1, world.servers_there) in
+    record {
+      nodes_there = world.nodes_there;
+      members_there = world.members_there;
+      servers_there = length-set p.servers (file - 1) next ∙ world.servers_there;
+      epochs_there = world.epochs_there;
+      own_number = world.own_number;
+      own_incarnation = world.own_incarnation;
+      own_epoch = λ f.
+          world.own_epoch f
+          ∙ ap (incarnation_of (works_at p f))
+          (sym (ap (λ (s : ServerState). s.epoch) (put_at server_state (first_server p.shape) p.servers file next least most f)
+          ∙ at_number f file (λ b. (if b then server_state next else (world_state p).servers f).epoch ≡ ((world_state p).servers f).epoch) (λ same. server_rule-epoch ((world_state p).servers file) step (server_state next, o) done ∙ ap (λ (g : ℕ). ((world_state p).servers g).epoch) (sym same)) (λ other. refl)));
+      within = omega arith;
+    }
 
 names : (event : Event) (node : ℕ) (step : NodeEvent) (number : ℕ) (call : Option CallId) → IsStepOf event node step → number ≡ node → NamesBy number step call → NamesItsCall event call
 names (Call n pid op) node step number None is own by = let P : NodeEvent → Type 0 = λ e. NamesBy number e None in absurd (subst P is.1 by)
@@ -134,6 +149,8 @@ server_names (Resend file) step s next o is done = ((server_rule-sending s step 
 server_names (Learn file n incarnation) step s next o is done = ((server_rule-sending s step (next, o) done).0, refl)
 server_names (Declare n) step s next o is done = absurd is
 server_names (Restart n) step s next o is done = absurd is
+server_names (FailServer file) step s next o is done = absurd is
+server_names (StartServer file) step s next o is done = absurd is
 
 -- the node and the server that stand at their number's place
 pub read_node : (p : WorldParts) (n : ℕ) (x : NodeParts) → IsWorld p → is_within p.shape.nodes n ≡ true → alive_at p n ≡ true → x ≡ slice_index_or p.nodes (n - 1) x → (world_state p).nodes n ≡ node_state x
@@ -219,10 +236,12 @@ module _ (p now : WorldParts) (view : p ≡ now) (world : IsWorld p) (o : Outcom
     servers_made : with_servers ≡ with_server_parts p file next o.sends
     servers_made = λ i. record { shape = p.shape; nodes = p.nodes; members = p.members; servers = servers_are i; sent = more i; length = p.length + 1 }
 
-    pub server_settled : now.length < journal_limit → IsWorld (record { shape = p.shape; nodes = p.nodes; members = p.members; servers = servers; sent = sent; length = p.length + 1 })
-    server_settled room =
+    pub server_settled : now.length < journal_limit → is_within now.shape.files file ≡ true → server_rule ((world_state now).servers file) step ≡ Ok (server_state next, o) → IsWorld (record { shape = p.shape; nodes = p.nodes; members = p.members; servers = servers; sent = sent; length = p.length + 1 })
+    server_settled room number done =
         let space = subst (λ (q : WorldParts). q.length < journal_limit) (sym view) room in
-        subst IsWorld (sym servers_made) (server_world p file next o.sends space world)
+        let within = subst (λ (q : WorldParts). is_within q.shape.files file ≡ true) (sym view) number in
+        let before = subst (λ (q : WorldParts). server_rule ((world_state q).servers file) step ≡ Ok (server_state next, o)) (sym view) done in
+        subst IsWorld (sym servers_made) (server_world p file step next o within space world before)
 
     pub server_returns : (event : Event) (e : Entry) → is_within now.shape.files file ≡ true → server_rule ((world_state now).servers file) step ≡ Ok (server_state next, o) → e ≡ entry event 0 o → after_server (world_state now) event file (server_rule ((world_state now).servers file) step) ≡ Ok (world_state (record { shape = p.shape; nodes = p.nodes; members = p.members; servers = servers; sent = sent; length = p.length + 1 }), e)
     server_returns event e number done e_is =
@@ -232,27 +251,32 @@ module _ (p now : WorldParts) (view : p ≡ now) (world : IsWorld p) (o : Outcom
         (server_done p event file step next o with_servers e world within before servers_made e_is)
 
 -- a world whose nodes and servers are as they began
-pub first_is_world : (p : WorldParts) → length p.nodes ≡ p.shape.nodes → members_state p.members ≡ first_members p.shape.nodes → length p.servers ≡ p.shape.files → IsRest node_state (λ n. first_node p.shape n 1) p.nodes → p.length ≤ journal_limit → IsWorld p
-first_is_world p nodes members servers first within = record {
+pub first_is_world : (p : WorldParts) → length p.nodes ≡ p.shape.nodes → members_state p.members.nodes ≡ first_members p.shape.nodes → members_state p.members.servers ≡ first_members p.shape.files → length p.servers ≡ p.shape.files → IsRest node_state (λ n. first_node p.shape n 1) p.nodes → IsRest server_state (first_server p.shape) p.servers → p.length ≤ journal_limit → IsWorld p
+first_is_world p nodes members epochs servers first first_servers within = record {
   nodes_there = nodes;
   members_there = ap (λ (s : MembersState). s.nodes) members;
   servers_there = servers;
+  epochs_there = ap (λ (s : MembersState). s.nodes) epochs;
   own_number = λ n. seat_begun n ∙ ap (λ (s : NodeState). s.node) (first n);
   own_incarnation = λ n.
       ap (λ (s : MembersState). (seated p.shape n (s.alive n) (listed p n)).incarnation) members
       ∙ (ap (λ (s : NodeState). s.incarnation) (first n) ∙ ap (λ (s : MembersState). s.incarnation n) (sym members));
+  own_epoch = λ f.
+      ap (λ (s : MembersState). s.incarnation f) epochs
+      ∙ sym (ap (λ (s : MembersState). incarnation_of (s.alive f) ((world_state p).servers f).epoch) epochs ∙ ap (λ (s : ServerState). s.epoch) (first_servers f));
   within = within;
 }
   where
     seat_begun : (n : ℕ) → (seated p.shape n (alive_at p n) (listed p n)).node ≡ (listed p n).node
     seat_begun n = ap (λ (s : MembersState). (seated p.shape n (s.alive n) (listed p n)).node) members
 
-pub first_is_first : (p : WorldParts) → IsRest node_state (λ n. first_node p.shape n 1) p.nodes → members_state p.members ≡ first_members p.shape.nodes → IsRest server_state (first_server p.shape) p.servers → p.sent ≡ [] → p.length ≡ 0 → world_state p ≡ first_world p.shape
-first_is_first p nodes members servers sent none = λ i. record {
+pub first_is_first : (p : WorldParts) → IsRest node_state (λ n. first_node p.shape n 1) p.nodes → members_state p.members.nodes ≡ first_members p.shape.nodes → members_state p.members.servers ≡ first_members p.shape.files → IsRest server_state (first_server p.shape) p.servers → p.sent ≡ [] → p.length ≡ 0 → world_state p ≡ first_world p.shape
+first_is_first p nodes members epochs servers sent none = λ i. record {
   shape = p.shape;
   nodes = λ n. seated p.shape n ((members i).alive n) (nodes n i);
   alive = (members i).alive;
   servers = λ file. servers file i;
+  working = (epochs i).alive;
   sent = sent i;
   length = none i;
 }

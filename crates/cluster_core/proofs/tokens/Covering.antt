@@ -1,5 +1,5 @@
 -- The locks of a node are covered by its tokens, and each step of the node keeps them so.
-use Rattle.std.proofs.Common.{◌≡◌, ℕ, ◌+◌, ◌≤◌, Bool, true, false, if◌then◌else◌, ◌&&◌, ◌||◌, ◌==◌, nat_le, inl, inr, refl, sym, subst, ◌++◌, [], ◌∷◌, Option, Some, None, Result, Ok, Err}
+use Rattle.std.proofs.Common.{◌≡◌, ℕ, ◌+◌, ◌≤◌, Bool, true, false, if◌then◌else◌, ◌&&◌, ◌||◌, ◌==◌, nat_le, nat_lt, inl, inr, refl, sym, subst, ◌++◌, [], ◌∷◌, Option, Some, None, Result, Ok, Err}
 use Rattle.std.proofs.lemmas.Bool.{and_parts, eqb-true, leb-true}
 use Rattle.std.proofs.lemmas.Option.{none-some, same_Some}
 use Rattle.intervals.specs.Bytes.{Range, put, is_in}
@@ -29,7 +29,8 @@ use Rattle.token_set.proofs.ReleaseLaws.{lowering_keeps_locks}
 use Rattle.messages.specs.Shapes.{ShapeFields}
 use Rattle.messages.specs.Wants.{Wants}
 use Rattle.messages.specs.declared.message.Message.{Message}
-use Rattle.messages.specs.declared.message.Message.TheVariants.{Grant, Revoke, Taken, Deny}
+use Rattle.messages.specs.declared.message.Message.TheVariants.{Grant, Revoke, Taken, Deny, Hello}
+use Rattle.messages.specs.Epochs.{begin_of}
 use Rattle.messages.specs.declared.outcome.Outcome.{Outcome}
 use Rattle.node_core.specs.declared.event.NodeEvent.{NodeEvent}
 use Rattle.node_core.specs.declared.event.NodeEvent.TheVariants.{Call, Deliver, Interrupt, Retry}
@@ -39,12 +40,12 @@ use Rattle.node_core.specs.declared.open_call.OpenCall.{OpenCall}
 use Rattle.node_core.specs.State.{NodeState, FileState, Effect, first_node, process, host, open_call, open_call_of, without_call_of, target_of}
 use Rattle.node_core.specs.Try.{requested, refusal_of, answered_if, locked_by, answered_here, tried, tried_against, tried_if}
 use Rattle.node_core.specs.Calls.{called, after_call, lock_call, unlock_call, shut_by}
-use Rattle.node_core.specs.Commands.{in_order, after_command, granted, revoked, answer_to, is_conflict, denied, delivered}
+use Rattle.node_core.specs.Commands.{renewed, in_epoch, in_order, after_command, granted, revoked, answer_to, is_conflict, denied, delivered}
 use Rattle.node_core.specs.Interrupts.{interruption_of, interrupted}
 use Rattle.node_core.specs.Node.{node_rule}
 use Rattle.cluster_core.specs.Safe.{Excludes}
-use Rattle.cluster_core.proofs.common.Choices.{at_number}
-use Rattle.cluster_core.proofs.steps.NodeSteps.{call_done, deliver_done, interrupt_done, retry_done, remembered_state, in_order_either}
+use Rattle.cluster_core.proofs.common.Choices.{if_either, at_number}
+use Rattle.cluster_core.proofs.steps.NodeSteps.{call_done, deliver_done, interrupt_done, retry_done, remembered_state, in_order_either, told_either}
 use Rattle.cluster_core.proofs.steps.Tries.{locked_by_settles, shut_settles}
 use Rattle.cluster_core.proofs.tokens.Clearing.{released_clear}
 
@@ -247,10 +248,30 @@ interrupted_covered : (s : NodeState) (c : Option OpenCall) → Covered s → Co
 interrupted_covered s None old = old
 interrupted_covered s (Some c) old = answered_if_covered s c.number (interruption_of c.intent) old
 
+-- to hear of an epoch changes no token
+entered_covered : (s : NodeState) (file number : ℕ) → Covered s → Covered (in_epoch s file number)
+entered_covered s file number old f o b mode there =
+    let first = begin_of number in
+    let x = s.files file in
+    let same : (renewed x number).token ≡ x.token = if_either (λ (y : FileState). y.token ≡ x.token) (nat_lt x.last first) (record x { last = first; answer = None }) x refl refl in
+    at_number f file (λ c. serves ((if c then renewed x number else s.files f).token b) mode ≡ true)
+    (λ is. subst (λ (u : Token). serves (u b) mode ≡ true) (sym same) (subst (λ (k : ℕ). serves ((s.files k).token b) mode ≡ true) is (old f o b mode there)))
+    (λ other. old f o b mode there)
+
 -- a message is taken
 pub delivered_covered : (s : NodeState) (m : Message) → OwnLocks s → Covered s → Covered (delivered s m).state
-delivered_covered s (Grant file number call mode span) own old = in_order_covered s file number (granted s file number call mode span) old (granted_covered s file number call mode span old)
-delivered_covered s (Revoke file number holder call mode wanted) own old = in_order_covered s file number (revoked s file number call mode wanted) old (revoked_covered s file number call mode wanted own old)
+delivered_covered s (Grant file number call mode span) own old =
+    let t = in_epoch s file number in
+    let before = entered_covered s file number old in
+    in_order_covered t file number (granted t file number call mode span) before (granted_covered t file number call mode span before)
+delivered_covered s (Revoke file number holder call mode wanted) own old =
+    let t = in_epoch s file number in
+    let before = entered_covered s file number old in
+    in_order_covered t file number (revoked t file number call mode wanted) before (revoked_covered t file number call mode wanted own before)
+delivered_covered s (Hello file number holder) own old =
+    let t = in_epoch s file number in
+    let before = entered_covered s file number old in
+    told_either (λ e. Covered e.state) t file number (λ is. before) before
 delivered_covered s (Deny file call holder number lock) own old = denied_covered s lock (open_call s call.number) old
 delivered_covered s m own old = old
 

@@ -1,5 +1,6 @@
 -- A node that is declared failed, and one that restarts, keep what holds of tokens, rows and messages.
-use Rattle.std.proofs.Common.{◌≡◌, ℕ, ◌+◌, ◌≤◌, if◌then◌else◌, ◌==◌, ◌⊎◌, inl, inr, refl, sym, ◌∙◌, ap, subst, arith, List, append-nil, Option}
+use Rattle.std.proofs.Common.{◌≡◌, ℕ, ◌+◌, ◌≤◌, true, false, ◌&&◌, if◌then◌else◌, ◌==◌, ◌⊎◌, inl, inr, refl, sym, ◌∙◌, ap, subst, arith, List, append-nil, Option}
+use Rattle.std.proofs.lemmas.Bool.{and_parts, and_from}
 use Rattle.std.proofs.lemmas.Option.{none-some}
 use Rattle.model.specs.declared.level.Level.TheVariants.{Exclusive}
 use Rattle.token_set.specs.Tokens.{Token, no_token}
@@ -7,8 +8,8 @@ use Rattle.messages.specs.Messages.{host_of}
 use Rattle.messages.specs.declared.message.Message.{Message}
 use Rattle.messages.specs.declared.event.Event.{Event}
 use Rattle.node_core.specs.State.{FileState, NodeState, first_file, first_node}
-use Rattle.token_server.specs.State.{Row}
-use Rattle.cluster_core.specs.World.{WorldState}
+use Rattle.token_server.specs.State.{Row, begin}
+use Rattle.cluster_core.specs.World.{WorldState, has_node}
 use Rattle.cluster_core.specs.Next.{declared, restarted, silent}
 use Rattle.cluster_core.proofs.common.Choices.{at_number}
 use Rattle.cluster_core.proofs.tokens.Talks.{Sent, command_host, answer_host, unasked, Talk, MayHold}
@@ -20,15 +21,17 @@ abbrev pub NoneLater : Sent → ℕ → ℕ → Type 0
 NoneLater was n incarnation = (m : Message) → was m → (host_of m).node ≡ n → (host_of m).incarnation ≤ incarnation
 
 -- of its next incarnation nothing was said yet: no row is of it, no command was sent to it, and it answered none
-pub talk-begins : (was : Sent) (file n incarnation : ℕ) (f : FileState) (row : Option Row) (dead : ℕ) → NoneLater was n incarnation → Talk was file n incarnation f row dead → Talk was file n (incarnation + 1) (unasked first_file) row dead
-talk-begins was file n incarnation f row dead later t = record {
+pub talk-begins : (was : Sent) (file n incarnation : ℕ) (f : FileState) (row : Option Row) (dead begin : ℕ) → NoneLater was n incarnation → Talk was file n incarnation f row dead begin → Talk was file n (incarnation + 1) (unasked first_file) row dead begin
+talk-begins was file n incarnation f row dead begin later t = record {
   lives = let lives = t.lives in omega arith;
   aged = t.aged;
+  named = t.named;
+  numbered = t.numbered;
   waits = t.waits;
   counted = t.counted;
   one_number = t.one_number;
   in_step = inl (record {
-    last = refl;
+    last = omega arith;
     token = refl;
     none = λ r there of. let aged = t.aged r there in let lives = t.lives in absurd (omega arith);
   });
@@ -38,7 +41,6 @@ talk-begins was file n incarnation f row dead later t = record {
       let old = later m sent host.0 in
       absurd (omega arith);
   remembered = λ m h. absurd (none-some m h);
-  answered = λ h. absurd (omega arith);
 }
 
 -- and it can hold nothing
@@ -62,7 +64,7 @@ module _ (w : WorldState) (p : Present w) (n : ℕ) where
   next_nodes m = if m == n then fresh else w.nodes m
 
   none_later : NoneLater (Was w) n i
-  none_later m sent is = subst (λ (k : ℕ). (host_of m).incarnation ≤ (w.nodes k).incarnation) is (p.no_future m sent)
+  none_later m sent is = subst (λ (k : ℕ). (host_of m).incarnation ≤ (w.nodes k).incarnation) is (p.no_future m sent).0
 
   begins_serves : (file : ℕ) → Serves (Was w) next_nodes w.shape file (w.servers file)
   begins_serves file =
@@ -71,9 +73,10 @@ module _ (w : WorldState) (p : Present w) (n : ℕ) where
       record {
         file_is = s.file_is;
         shape_is = s.shape_is;
-        talks = λ m. at_number m n (λ b. Talk (Was w) file m (if b then fresh else w.nodes m).incarnation (unasked ((if b then fresh else w.nodes m).files file)) (t.rows m) (t.dead m))
-            (λ same. subst (λ (k : ℕ). Talk (Was w) file k (i + 1) (unasked first_file) (t.rows k) (t.dead k)) (sym same)
-            (talk-begins (Was w) file n i (unasked ((w.nodes n).files file)) (t.rows n) (t.dead n) none_later (s.talks n)))
+        from = s.from;
+        talks = λ m. at_number m n (λ b. Talk (Was w) file m (if b then fresh else w.nodes m).incarnation (unasked ((if b then fresh else w.nodes m).files file)) (t.rows m) (t.dead m) (begin t))
+            (λ same. subst (λ (k : ℕ). Talk (Was w) file k (i + 1) (unasked first_file) (t.rows k) (t.dead k) (begin t)) (sym same)
+            (talk-begins (Was w) file n i (unasked ((w.nodes n).files file)) (t.rows n) (t.dead n) (begin t) none_later (s.talks n)))
             (λ other. s.talks m);
         held = s.held;
       }
@@ -99,17 +102,33 @@ module _ (w : WorldState) (p : Present w) (n : ℕ) where
     named = λ m. at_number m n (λ b. (if b then fresh else w.nodes m).node ≡ m) (λ same. sym same) (λ other. p.named m);
     no_future = λ m sent.
         let k = (host_of m).node in
-        let known = p.no_future m sent in
-        at_number k n (λ b. (host_of m).incarnation ≤ (if b then fresh else w.nodes k).incarnation)
-        (λ same. let old = none_later m sent same in omega arith)
-        (λ other. known);
+        let known = p.no_future m sent in (
+          at_number k n (λ b. (host_of m).incarnation ≤ (if b then fresh else w.nodes k).incarnation)
+              (λ same. let old = none_later m sent same in omega arith)
+              (λ other. known.0),
+          at_number k n (λ b. (host_of m).incarnation ≡ (if b then fresh else w.nodes k).incarnation → (has_node w k && (if b then false else w.alive k)) ≡ true)
+              (λ same is. let old = none_later m sent same in absurd (omega arith))
+              (λ other. known.1),
+        );
     serves = begins_serves;
     apart = begins_apart;
   }
 
   -- who is alive is nothing that it speaks of
   pub restarted_present : Present (restarted w n)
-  restarted_present = record { named = p.named; no_future = p.no_future; serves = p.serves; apart = p.apart }
+  restarted_present = record {
+    named = p.named;
+    no_future = λ m sent.
+        let k = (host_of m).node in
+        let known = p.no_future m sent in (
+          known.0,
+          λ is. at_number k n (λ b. (has_node w k && (if b then true else w.alive k)) ≡ true)
+              (λ same. let parts = and_parts (has_node w k) (w.alive k) (known.1 is) in and_from (has_node w k) true parts.0 refl)
+              (λ other. known.1 is),
+        );
+    serves = p.serves;
+    apart = p.apart;
+  }
 
 -- an entry that sends nothing
 pub silent_present : (w : WorldState) → Present w → (event : Event) (incarnation : ℕ) → Present (silent w event incarnation).0

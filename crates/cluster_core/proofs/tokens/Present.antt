@@ -8,17 +8,19 @@ use Rattle.model.specs.declared.mode.Mode.{Mode}
 use Rattle.token_set.specs.Tokens.{Token, raised, level_conflicts}
 use Rattle.token_set.proofs.TokenLaws.{raised-at, raised_level-excludes, exclusive-conflicts}
 use Rattle.messages.specs.Shapes.{ShapeFields}
+use Rattle.model.specs.declared.host.Host.{Host}
 use Rattle.messages.specs.Messages.{host_of, is_among, is_within}
 use Rattle.messages.specs.declared.message.Message.{Message}
 use Rattle.messages.specs.declared.message.Message.TheVariants.{Grant}
 use Rattle.node_core.specs.State.{FileState, NodeState}
-use Rattle.token_server.specs.State.{Row, ServerState, with_row, requests}
+use Rattle.token_server.specs.State.{Row, ServerState, begin, with_row, requests}
 use Rattle.token_server.specs.Serve.{row_conflicts_at}
-use Rattle.cluster_core.specs.World.{WorldState}
+use Rattle.cluster_core.specs.World.{WorldState, is_alive}
 use Rattle.cluster_core.specs.Safe.{Excludes}
 use Rattle.cluster_core.proofs.common.Choices.{at_number}
 use Rattle.cluster_core.proofs.tokens.Talks.{Sent, IsCommandTo, same_command, promised, unasked, Talk, MayHold, held}
-use Rattle.cluster_core.proofs.tokens.TalkMoves.{NoNews, talk-no_news, may_hold-no_news, commanded_row, IsCommanding, talk-commanded, may_hold-commanded}
+use Rattle.cluster_core.proofs.tokens.TalkMoves.{NoNews, talk-no_news, may_hold-no_news}
+use Rattle.cluster_core.proofs.tokens.RowMoves.{commanded_row, IsCommanding, talk-commanded, may_hold-commanded}
 use Rattle.cluster_core.proofs.steps.ServerRows.{IsCurrent, Serves, IsFreeFor, Commands, current_row}
 
 -- the message was sent
@@ -33,9 +35,18 @@ Holding was nodes file n t = MayHold was file n (nodes n).incarnation (unasked (
 abbrev pub StayApart : Sent → (ℕ → NodeState) → ShapeFields → ℕ → Type 0
 StayApart was nodes shape file = (m n : ℕ) (t u : Token) → is_within shape.nodes m ≡ true → is_within shape.nodes n ≡ true → (m ≡ n → ⊥) → Holding was nodes file m t → Holding was nodes file n u → Excludes t u
 
+-- the node has come to that incarnation, and is alive if it is in it
+abbrev pub IsBegun : WorldState → Host → Type 0
+IsBegun w h = (h.incarnation ≤ (w.nodes h.node).incarnation) × (h.incarnation ≡ (w.nodes h.node).incarnation → is_alive w h.node ≡ true)
+
+pub begun_as : (w : WorldState) (h k : Host) → h.node ≡ k.node → h.incarnation ≡ k.incarnation → IsBegun w h → IsBegun w k
+begun_as w h k nodes incarnations is =
+    let same : h ≡ k = λ i. record { node = nodes i; incarnation = incarnations i } in
+    subst (IsBegun w) same is
+
 pub record Present (w : WorldState) : Type 0 where
   pub named : (n : ℕ) → (w.nodes n).node ≡ n
-  pub no_future : (m : Message) → Was w m → (host_of m).incarnation ≤ (w.nodes (host_of m).node).incarnation
+  pub no_future : (m : Message) → Was w m → IsBegun w (host_of m)
   pub serves : (file : ℕ) → Serves (Was w) w.nodes w.shape file (w.servers file)
   pub apart : (file : ℕ) → StayApart (Was w) w.nodes w.shape file
 
@@ -53,7 +64,8 @@ pub serves-no_news : (was now : Sent) (nodes : ℕ → NodeState) (shape : Shape
 serves-no_news was now nodes shape file t news s = record {
   file_is = s.file_is;
   shape_is = s.shape_is;
-  talks = λ n. talk-no_news was now file n (nodes n).incarnation (unasked ((nodes n).files file)) (t.rows n) (t.dead n) (news n) (s.talks n);
+  from = s.from;
+  talks = λ n. talk-no_news was now file n (nodes n).incarnation (unasked ((nodes n).files file)) (t.rows n) (t.dead n) (begin t) (news n) (s.talks n);
   held = s.held;
 }
 
@@ -105,8 +117,8 @@ module _ (was now : Sent) (nodes : ℕ → NodeState) (shape : ShapeFields) (fil
   pub files_no_news : (f n : ℕ) → (f ≡ file → ⊥) → NoNews was now f n (nodes n).incarnation
   files_no_news f n other = tells_no_other f n (λ same is. other same)
 
-  its_talk : Talk was file g.node (nodes g.node).incarnation (heard g.node) (Some g.row) (g.state.dead g.node)
-  its_talk = subst (λ (o : Option Row). Talk was file g.node (nodes g.node).incarnation (heard g.node) o (g.state.dead g.node)) g.there (g.serves.talks g.node)
+  its_talk : Talk was file g.node (nodes g.node).incarnation (heard g.node) (Some g.row) (g.state.dead g.node) (begin g.state)
+  its_talk = subst (λ (o : Option Row). Talk was file g.node (nodes g.node).incarnation (heard g.node) o (g.state.dead g.node) (begin g.state)) g.there (g.serves.talks g.node)
 
   abbrev later : ServerState
   later = with_row g.state g.node (Some (commanded_row g.row g.command))
@@ -118,10 +130,11 @@ module _ (was now : Sent) (nodes : ℕ → NodeState) (shape : ShapeFields) (fil
       record {
         file_is = g.serves.file_is;
         shape_is = g.serves.shape_is;
-        talks = λ n. at_number n g.node (λ b. Talk now file n (nodes n).incarnation (heard n) (if b then Some row else g.state.rows n) (g.state.dead n))
-            (λ same. subst (λ (k : ℕ). Talk now file k (nodes k).incarnation (heard k) (Some row) (g.state.dead k)) (sym same)
-            (talk-commanded was now file g.node (nodes g.node).incarnation (heard g.node) g.row (g.state.dead g.node) g.command g.idle g.to news its_talk))
-            (λ other. talk-no_news was now file n (nodes n).incarnation (heard n) (g.state.rows n) (g.state.dead n) (others_no_news n other) (g.serves.talks n));
+        from = g.serves.from;
+        talks = λ n. at_number n g.node (λ b. Talk now file n (nodes n).incarnation (heard n) (if b then Some row else g.state.rows n) (g.state.dead n) (begin g.state))
+            (λ same. subst (λ (k : ℕ). Talk now file k (nodes k).incarnation (heard k) (Some row) (g.state.dead k) (begin g.state)) (sym same)
+            (talk-commanded was now file g.node (nodes g.node).incarnation (heard g.node) g.row (g.state.dead g.node) (begin g.state) g.command g.idle g.plain g.few g.to news its_talk))
+            (λ other. talk-no_news was now file n (nodes n).incarnation (heard n) (g.state.rows n) (g.state.dead n) (begin g.state) (others_no_news n other) (g.serves.talks n));
         held = All-weaker (IsCurrent g.state) (IsCurrent later) current (requests g.state) g.serves.held;
       }
 
@@ -133,7 +146,7 @@ module _ (was now : Sent) (nodes : ℕ → NodeState) (shape : ShapeFields) (fil
   clear_of n u n_in other may (Grant f k call mode span) free = λ b here. false_from_ne_true (level_conflicts (u b) mode) (λ conflicts.
       let within : is_within g.state.shape.nodes n ≡ true = ap (λ (x : ShapeFields). is_within x.nodes n) g.serves.shape_is ∙ n_in in
       both_ways (row_conflicts_at (g.state.rows n) b mode) (free n b within other here)
-      (held was file n (nodes n).incarnation (heard n) (g.state.rows n) (g.state.dead n) (g.serves.talks n) u b mode may conflicts))
+      (held was file n (nodes n).incarnation (heard n) (g.state.rows n) (g.state.dead n) (begin g.state) (g.serves.talks n) (g.heard n within) u b mode may conflicts))
   clear_of n u n_in other may command free = tt
 
   unblocked : (n : ℕ) (u : Token) → is_within shape.nodes n ≡ true → (n ≡ g.node → ⊥) → Holding was nodes file n u → IsClearOf g.command u
@@ -142,7 +155,7 @@ module _ (was now : Sent) (nodes : ℕ → NodeState) (shape : ShapeFields) (fil
   -- what the node that it is for may hold
   its_token : (n : ℕ) (t : Token) → n ≡ g.node → Holding now nodes file n t → Holding was nodes file n t ⊎ (t ≡ promised ((nodes n).files file).token g.command)
   its_token n t same = subst (λ (k : ℕ). Holding now nodes file k t → Holding was nodes file k t ⊎ (t ≡ promised ((nodes k).files file).token g.command)) (sym same)
-      (may_hold-commanded was now file g.node (nodes g.node).incarnation (heard g.node) g.row (g.state.dead g.node) g.command g.idle g.to news its_talk t)
+      (may_hold-commanded was now file g.node (nodes g.node).incarnation (heard g.node) g.row (g.state.dead g.node) (begin g.state) g.command g.idle g.plain g.few g.to news its_talk t)
 
   other_token : (n : ℕ) (t : Token) → (n ≡ g.node → ⊥) → Holding now nodes file n t → Holding was nodes file n t
   other_token n t other may = may_hold-no_news was now file n (nodes n).incarnation (heard n) t (others_no_news n other) may

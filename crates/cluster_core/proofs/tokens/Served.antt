@@ -16,7 +16,9 @@ next_covered w event q own covered h =
     (λ n step done is m. at_number m n (λ b. Covered (if b then done.0 else w.nodes m)) (λ same. node_rule_covered (w.nodes n) done.0 step done.1 is (own n) (covered n)) (λ other. covered m))
     (λ file step done is. covered)
     (λ k is alive m. at_number m k (λ b. Covered (if b then first_node w.shape k ((w.nodes k).incarnation + 1) else w.nodes m)) (λ same. first_covered w.shape k ((w.nodes k).incarnation + 1)) (λ other. covered m))
-    (λ k is dead few. covered) h
+    (λ k is dead few. covered)
+    (λ f is works. covered)
+    (λ f is stopped few. covered) h
 
 -- where the locks of each node are covered, those of the world are
 pub all_covered : (w : WorldState) → ((n : ℕ) → Covered (w.nodes n)) → AreCovered w

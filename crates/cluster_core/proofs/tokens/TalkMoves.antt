@@ -1,14 +1,22 @@
--- The small moves of a node and a token server keep what they know of each other.
-use Rattle.std.specs.Prelude.{max, nat_le}
-use Rattle.std.proofs.Common.{◌≡◌, ℕ, ◌+◌, ◌<◌, ◌≤◌, true, false, if◌then◌else◌, ◌⊎◌, inl, inr, refl, sym, ◌∙◌, ap, subst, arith, Option, Some, None}
-use Rattle.std.proofs.lemmas.Bool.{cases_eq, leb-true, leb-false}
+-- The small moves of a node keep what it and a token server know of each other.
+use Rattle.std.specs.Prelude.{nat_lt}
+use Rattle.std.proofs.Common.{◌≡◌, ℕ, ◌+◌, ◌<◌, ◌≤◌, Bool, true, false, if◌then◌else◌, ◌⊎◌, inl, inr, refl, sym, ◌∙◌, ap, subst, arith, List, Option, Some, None}
+use Rattle.std.proofs.lemmas.Bool.{ltb-true}
 use Rattle.std.proofs.lemmas.Option.{same_Some, none-some}
+use Rattle.model.specs.declared.host.Host.{Host}
 use Rattle.token_set.specs.Tokens.{Token}
+use Rattle.messages.specs.declared.token_run.TokenRun.{TokenRun}
 use Rattle.messages.specs.declared.message.Message.{Message}
+use Rattle.messages.specs.declared.message.Message.TheVariants.{Grant, Report}
+use Rattle.messages.specs.Epochs.{begin_of}
+use Rattle.messages.specs.Messages.{host_of}
+use Rattle.messages.specs.Reports.{reported}
 use Rattle.node_core.specs.State.{FileState}
-use Rattle.token_server.specs.State.{Row, empty_row, row_above}
+use Rattle.node_core.specs.Commands.{renewed}
+use Rattle.token_server.specs.State.{Row, is_hello}
+use Rattle.cluster_core.specs.Numbers.{is_command}
 use Rattle.cluster_core.proofs.tokens.Lowering.{IsWithin}
-use Rattle.cluster_core.proofs.tokens.Talks.{Sent, IsCommandTo, IsAnswerOf, same_command, same_answer_of, promised, settled, settled_within, IsCountedIn, IsIdle, States, IsKnown, Talk, IsAhead, MayHold, on_the_way}
+use Rattle.cluster_core.proofs.tokens.Talks.{Sent, IsHostOf, IsCommandTo, IsAnswerOf, same_answer_of, promised, settled, settled_within, in_epoch, States, IsKnown, InStep, IsLast, Talk, IsAhead, MayHold, on_the_way}
 
 -- more messages were sent, but no command to the node and no answer of its incarnation
 pub record NoNews (was now : Sent) (file n incarnation : ℕ) : Type 0 where
@@ -16,17 +24,43 @@ pub record NoNews (was now : Sent) (file n incarnation : ℕ) : Type 0 where
   pub commands : (i k : ℕ) (m : Message) → now m → IsCommandTo file n i k m → was m
   pub answers : (k : ℕ) (m : Message) → now m → IsAnswerOf file n incarnation k m → was m
 
-pub talk-no_news : (was now : Sent) (file n incarnation : ℕ) (f : FileState) (row : Option Row) (dead : ℕ) → NoNews was now file n incarnation → Talk was file n incarnation f row dead → Talk now file n incarnation f row dead
-talk-no_news was now file n incarnation f row dead news t = record {
+-- a row is named by what was sent
+pub named_kept : (was now : Sent) (n i : ℕ) → ((m : Message) → was m → now m) → (m : Message) × was m × IsHostOf n i (host_of m) → (m : Message) × now m × IsHostOf n i (host_of m)
+named_kept was now n i kept a = (a.0, kept a.0 a.1, a.2)
+
+-- no command is new: what a node and a server have in step stays so
+in_step_kept : (was now : Sent) (file n incarnation : ℕ) (f : FileState) (row : Option Row) (begin : ℕ) → ((i k : ℕ) (m : Message) → now m → IsCommandTo file n i k m → was m) → InStep was file n incarnation f row begin → InStep now file n incarnation f row begin
+in_step_kept was now file n incarnation f row begin old (inl u) = inl u
+in_step_kept was now file n incarnation f row begin old (inr (inl k)) = inr (inl (record {
+  known = k.known;
+  there = k.there;
+  of = k.of;
+  told = k.told;
+  states = k.states;
+  fresh = λ l m sent to above. k.fresh l m (old incarnation l m sent to) to above;
+}))
+in_step_kept was now file n incarnation f row begin old (inr (inr a)) = inr (inr (record {
+  known = a.known;
+  there = a.there;
+  of = a.of;
+  hello = a.hello;
+  number = a.number;
+  last = a.last;
+  one = λ k l m x m_sent x_sent m_is x_is m_to x_to m_above x_above. a.one k l m x (old incarnation k m m_sent m_to) (old incarnation l x x_sent x_to) m_is x_is m_to x_to m_above x_above;
+}))
+
+pub talk-no_news : (was now : Sent) (file n incarnation : ℕ) (f : FileState) (row : Option Row) (dead begin : ℕ) → NoNews was now file n incarnation → Talk was file n incarnation f row dead begin → Talk now file n incarnation f row dead begin
+talk-no_news was now file n incarnation f row dead begin news t = record {
   lives = t.lives;
   aged = t.aged;
+  named = λ r there. named_kept was now n r.incarnation news.kept (t.named r there);
+  numbered = t.numbered;
   waits = λ r m there is. (news.kept m (t.waits r m there is).0, (t.waits r m there is).1);
   counted = λ i k m sent to. t.counted i k m (news.commands i k m sent to) to;
   one_number = λ i k m x a b m_to x_to. t.one_number i k m x (news.commands i k m a m_to) (news.commands i k x b x_to) m_to x_to;
-  in_step = t.in_step;
+  in_step = in_step_kept was now file n incarnation f row begin news.commands t.in_step;
   answers = λ k m sent of. t.answers k m (news.answers k m sent of) of;
   remembered = λ m is. let r = t.remembered m is in (news.kept m r.0, r.1, r.2);
-  answered = t.answered;
 }
 
 pub may_hold-no_news : (was now : Sent) (file n incarnation : ℕ) (f : FileState) (t : Token) → NoNews was now file n incarnation → MayHold now file n incarnation f t → MayHold was file n incarnation f t
@@ -34,6 +68,114 @@ may_hold-no_news was now file n incarnation f t news (inl same) = inl same
 may_hold-no_news was now file n incarnation f t news (inr p) = inr (record {
   command = p.command;
   ahead = let a = p.ahead in record { number = a.number; is = a.is; sent = news.commands incarnation a.number p.command a.sent a.is; above = a.above };
+  value = p.value;
+})
+
+-- the node hears of an epoch that is not later than the server's: it has done no command of it yet, and remembers no answer
+module _ (was : Sent) (file n incarnation : ℕ) (f : FileState) (row : Option Row) (dead begin number : ℕ) (upto : begin_of number ≤ begin) (t : Talk was file n incarnation f row dead begin) where
+  abbrev first : ℕ
+  first = begin_of number
+
+  abbrev anew : FileState
+  anew = record f { last = first; answer = None }
+
+  row_known : (k : IsKnown was file n incarnation f row begin) → (begin ≤ k.known.number) × (k.known.number < begin + in_epoch)
+  row_known k = t.numbered k.known k.there
+
+  states_anew : (r : Row) → begin ≤ r.number → f.last < first → States begin f r → States begin anew r
+  states_anew r from older (inl i) = let number = i.number in inl (record { outstanding = i.outstanding; number = omega arith; token = i.token })
+  states_anew r from older (inr (inl w)) = let number = w.number in inr (inl (record { command = w.command; outstanding = w.outstanding; number = omega arith; token = w.token }))
+  states_anew r from older (inr (inr d)) = let number = d.number in absurd (omega arith)
+
+  in_step_anew : f.last < first → InStep was file n incarnation f row begin → InStep was file n incarnation anew row begin
+  in_step_anew older (inl u) = inl (record { last = upto; token = u.token; none = u.none })
+  in_step_anew older (inr (inl k)) = inr (inl (record {
+    known = k.known;
+    there = k.there;
+    of = k.of;
+    told = k.told;
+    states = states_anew k.known (row_known k).0 older k.states;
+    fresh = λ l m sent to above. k.fresh l m sent to (omega arith);
+  }))
+  in_step_anew older (inr (inr a)) = inr (inr (record {
+    known = a.known;
+    there = a.there;
+    of = a.of;
+    hello = a.hello;
+    number = a.number;
+    last = upto;
+    one = λ k l m x m_sent x_sent m_is x_is m_to x_to m_above x_above. a.one k l m x m_sent x_sent m_is x_is m_to x_to (omega arith) (omega arith);
+  }))
+
+  talk-anew : f.last < first → Talk was file n incarnation anew row dead begin
+  talk-anew older = record {
+    lives = t.lives;
+    aged = t.aged;
+    named = t.named;
+    numbered = t.numbered;
+    waits = t.waits;
+    counted = t.counted;
+    one_number = t.one_number;
+    in_step = in_step_anew older t.in_step;
+    answers = λ k m sent of. let up = (t.answers k m sent of).0 in (omega arith, λ same. absurd (omega arith));
+    remembered = λ m h. absurd (none-some m h);
+  }
+
+  pub talk-renewed : Talk was file n incarnation (renewed f number) row dead begin
+  talk-renewed =
+      elim (nat_lt f.last first) as (λ b. nat_lt f.last first ≡ b → Talk was file n incarnation (if b then anew else f) row dead begin) [
+        | true ↦ λ h. talk-anew (ltb-true f.last first h)
+        | false ↦ λ h. t
+      ] refl
+
+  -- what it may hold it might have held before
+  pub may_hold-renewed : (u : Token) → MayHold was file n incarnation (renewed f number) u → MayHold was file n incarnation f u
+  may_hold-renewed u =
+      elim (nat_lt f.last first) as (λ b. nat_lt f.last first ≡ b → MayHold was file n incarnation (if b then anew else f) u → MayHold was file n incarnation f u) [
+        | true ↦ λ h may. fewer (ltb-true f.last first h) may
+        | false ↦ λ h may. may
+      ] refl
+    where
+      fewer : f.last < first → MayHold was file n incarnation anew u → MayHold was file n incarnation f u
+      fewer older (inl same) = inl same
+      fewer older (inr p) = inr (record {
+        command = p.command;
+        ahead = let a = p.ahead in let above = a.above in record { number = a.number; is = a.is; sent = a.sent; above = omega arith };
+        value = p.value;
+      })
+
+-- the node tells its token, and has done no later command
+pub record IsTelling (was now : Sent) (file n incarnation number : ℕ) (token : Token) : Type 0 where
+  pub kept : (m : Message) → was m → now m
+  pub commands : (i k : ℕ) (m : Message) → now m → IsCommandTo file n i k m → was m
+  pub answers : (k : ℕ) (m : Message) → now m → IsAnswerOf file n incarnation k m → was m ⊎ ((h : Host) × (runs : List TokenRun) × (m ≡ Report file number h runs) × (reported runs ≡ token))
+
+pub talk-tells : (was now : Sent) (file n incarnation : ℕ) (f : FileState) (row : Option Row) (dead begin : ℕ) → IsTelling was now file n incarnation f.last f.token → Talk was file n incarnation f row dead begin → Talk now file n incarnation f row dead begin
+talk-tells was now file n incarnation f row dead begin news t = record {
+  lives = t.lives;
+  aged = t.aged;
+  named = λ r there. named_kept was now n r.incarnation news.kept (t.named r there);
+  numbered = t.numbered;
+  waits = λ r m there is. (news.kept m (t.waits r m there is).0, (t.waits r m there is).1);
+  counted = λ i k m sent to. t.counted i k m (news.commands i k m sent to) to;
+  one_number = λ i k m x a b m_to x_to. t.one_number i k m x (news.commands i k m a m_to) (news.commands i k x b x_to) m_to x_to;
+  in_step = in_step_kept was now file n incarnation f row begin news.commands t.in_step;
+  answers = λ k m sent of. elim (news.answers k m sent of) [
+    | inl old ↦ t.answers k m old of
+    | inr told ↦
+        let report = Report file f.last told.0 told.1 in
+        let mine : IsAnswerOf file n incarnation k report = subst (IsAnswerOf file n incarnation k) told.2 of in
+        let number_is : f.last ≡ k = mine.1 in
+        (omega arith, λ same. subst (IsLast f) (sym told.2) told.3)
+  ];
+  remembered = λ m is. let r = t.remembered m is in (news.kept m r.0, r.1, r.2);
+}
+
+pub may_hold-tells : (was now : Sent) (file n incarnation : ℕ) (f : FileState) (t : Token) → ((i k : ℕ) (m : Message) → now m → IsCommandTo file n i k m → was m) → MayHold now file n incarnation f t → MayHold was file n incarnation f t
+may_hold-tells was now file n incarnation f t old (inl same) = inl same
+may_hold-tells was now file n incarnation f t old (inr p) = inr (record {
+  command = p.command;
+  ahead = let a = p.ahead in record { number = a.number; is = a.is; sent = old incarnation a.number p.command a.sent a.is; above = a.above };
   value = p.value;
 })
 
@@ -48,294 +190,125 @@ pub record IsDoing (was now : Sent) (file n incarnation : ℕ) (answer : Message
 abbrev pub done_file : FileState → ℕ → Message → Message → FileState
 done_file f number command answer = record { token = settled (promised f.token command) command answer; last = number; answer = Some answer; asked = false }
 
-module _ (was now : Sent) (file n incarnation : ℕ) (f : FileState) (row : Option Row) (dead : ℕ) (t : Talk was file n incarnation f row dead) (number : ℕ) (command answer : Message) (sent : was command) (to : IsCommandTo file n incarnation number command) (of : IsAnswerOf file n incarnation number answer) (is_next : number ≡ f.last + 1) (news : IsDoing was now file n incarnation answer) where
+-- an answer to a command, and no report
+abbrev pub is_answer : Message → Bool
+is_answer (Report g k holder runs) = false
+is_answer m = true
+
+-- which is the last where it is remembered
+last_is : (f : FileState) (m : Message) → is_answer m ≡ true → f.answer ≡ Some m → IsLast f m
+last_is f (Report g k holder runs) is h = absurd (cc)
+last_is f m is h = h
+
+module _ (was now : Sent) (file n incarnation : ℕ) (f : FileState) (row : Option Row) (dead begin : ℕ) (t : Talk was file n incarnation f row dead begin) (number : ℕ) (command answer : Message) (sent : was command) (plain : is_command command ≡ true) (to : IsCommandTo file n incarnation number command) (of : IsAnswerOf file n incarnation number answer) (answers_it : is_answer answer ≡ true) (is_next : number ≡ f.last + 1) (news : IsDoing was now file n incarnation answer) where
   ahead : IsAhead was file n incarnation f.last command
   ahead = record { number = number; is = to; sent = sent; above = omega arith }
 
-  pub talk-does : Talk now file n incarnation (done_file f number command answer) row dead
-  talk-does =
-      let w = on_the_way was file n incarnation f row dead t command ahead in
-      record {
-        lives = t.lives;
-        aged = t.aged;
-        waits = λ r m there is. (news.kept m (t.waits r m there is).0, (t.waits r m there is).1);
-        counted = λ i k m is m_to. t.counted i k m (news.commands i k m is m_to) m_to;
-        one_number = λ i k m x a b m_to x_to. t.one_number i k m x (news.commands i k m a m_to) (news.commands i k x b x_to) m_to x_to;
-        in_step = inr (record {
-          known = w.known;
-          there = w.there;
-          of = w.of;
-          states = inr (inr (record {
-            command = command;
-            outstanding = w.outstanding;
-            number = w.number ∙ sym is_next;
-            answer = answer;
-            remembers = refl;
-            token = ap (λ (u : Token). settled u command answer) (sym w.token);
-          }));
-        });
-        answers = λ k m is m_of. elim (news.answers k m is m_of) [
-          | inl old ↦ let up = (t.answers k m old m_of).0 in (omega arith, λ same. absurd (omega arith))
-          | inr same ↦
-              let mine : IsAnswerOf file n incarnation k answer = subst (IsAnswerOf file n incarnation k) same m_of in
-              let number_is = (same_answer_of file n incarnation k file n incarnation number answer mine of).number_is in
-              (omega arith, λ h. ap (λ (x : Message). Some x) (sym same))
-        ];
-        remembered = λ m is.
-            let P : Message → Type 0 = λ x. now x × (1 ≤ number) × IsAnswerOf file n incarnation number x in
-            subst P (same_Some answer m is) (news.told, omega arith, of);
-        answered = λ some. refl;
-      }
+  abbrev done : FileState
+  done = done_file f number command answer
+
+  counts : (r : Row) → row ≡ Some r → number ≤ r.number
+  counts r there = elim (t.counted incarnation number command sent to).1 [
+    | inl old ↦ let lives = t.lives in absurd (omega arith)
+    | inr c ↦ subst (λ (x : Row). number ≤ x.number) (same_Some c.counting r (sym c.there ∙ there)) c.up_to
+  ]
+
+  in_step_done : InStep was file n incarnation f row begin → InStep now file n incarnation done row begin
+  in_step_done (inl u) = elim (t.counted incarnation number command sent to).1 [
+    | inl old ↦ let lives = t.lives in absurd (omega arith)
+    | inr c ↦ absurd (u.none c.counting c.there c.of)
+  ]
+  in_step_done (inr (inl k)) =
+      let w = on_the_way was file n incarnation f row dead begin t k command ahead in
+      let later = k.fresh number command sent to (omega arith) in
+      let number_is = w.number in
+      inr (inl (record {
+        known = w.known;
+        there = w.there;
+        of = w.of;
+        told = subst (λ (x : Row). is_hello x.outstanding ≡ false) (same_Some k.known w.known (sym k.there ∙ w.there)) k.told;
+        states = inr (inr (record {
+          command = command;
+          outstanding = w.outstanding;
+          number = omega arith;
+          answer = answer;
+          remembers = refl;
+          token = ap (λ (u : Token). settled u command answer) (sym w.token);
+        }));
+        fresh = λ l m is m_to above. k.fresh l m (news.commands incarnation l m is m_to) m_to (omega arith);
+      }))
+  in_step_done (inr (inr a)) =
+      let up = counts a.known a.there in
+      let number_is = a.number in
+      inr (inr (record {
+        known = a.known;
+        there = a.there;
+        of = a.of;
+        hello = a.hello;
+        number = a.number;
+        last = omega arith;
+        one = λ k l m x m_sent x_sent m_is x_is m_to x_to m_above x_above. a.one k l m x (news.commands incarnation k m m_sent m_to) (news.commands incarnation l x x_sent x_to) m_is x_is m_to x_to (omega arith) (omega arith);
+      }))
+
+  pub talk-does : Talk now file n incarnation (done_file f number command answer) row dead begin
+  talk-does = record {
+    lives = t.lives;
+    aged = t.aged;
+    named = λ r there. named_kept was now n r.incarnation news.kept (t.named r there);
+    numbered = t.numbered;
+    waits = λ r m there is. (news.kept m (t.waits r m there is).0, (t.waits r m there is).1);
+    counted = λ i k m is m_to. t.counted i k m (news.commands i k m is m_to) m_to;
+    one_number = λ i k m x a b m_to x_to. t.one_number i k m x (news.commands i k m a m_to) (news.commands i k x b x_to) m_to x_to;
+    in_step = in_step_done t.in_step;
+    answers = λ k m is m_of. elim (news.answers k m is m_of) [
+      | inl old ↦ let up = (t.answers k m old m_of).0 in (omega arith, λ same. absurd (omega arith))
+      | inr same ↦
+          let mine : IsAnswerOf file n incarnation k answer = subst (IsAnswerOf file n incarnation k) same m_of in
+          let number_is = (same_answer_of file n incarnation k file n incarnation number answer mine of).number_is in
+          (omega arith, λ h. subst (IsLast done) (sym same) (last_is done answer answers_it refl))
+    ];
+    remembered = λ m is.
+        let P : Message → Type 0 = λ x. now x × (1 ≤ number) × IsAnswerOf file n incarnation number x in
+        subst P (same_Some answer m is) (news.told, omega arith, of);
+  }
+
+  -- no other command is ahead of it then
+  none_ahead : (k : ℕ) (m : Message) → was m → is_command m ≡ true → IsCommandTo file n incarnation k m → number < k → InStep was file n incarnation f row begin → ⊥
+  none_ahead k m m_sent m_is m_to above (inl u) = elim (t.counted incarnation number command sent to).1 [
+    | inl old ↦ let lives = t.lives in absurd (omega arith)
+    | inr c ↦ absurd (u.none c.counting c.there c.of)
+  ]
+  none_ahead k m m_sent m_is m_to above (inr (inl known)) =
+      let first = on_the_way was file n incarnation f row dead begin t known command ahead in
+      let number_is = first.number in
+      let later = known.fresh number command sent to (omega arith) in
+      elim (t.counted incarnation k m m_sent m_to).1 [
+        | inl old ↦ let lives = t.lives in absurd (omega arith)
+        | inr c ↦
+            let up : k ≤ first.known.number = subst (λ (x : Row). k ≤ x.number) (same_Some c.counting first.known (sym c.there ∙ first.there)) c.up_to in
+            absurd (omega arith)
+      ]
+  none_ahead k m m_sent m_is m_to above (inr (inr a)) =
+      let same = a.one number k command m sent m_sent plain m_is to m_to (omega arith) (omega arith) in
+      absurd (omega arith)
+
+  -- what a message that is no command promises is nothing
+  promises_none : (u : Token) (m : Message) → is_command m ≡ false → promised u m ≡ u
+  promises_none u (Grant g k call mode span) h = absurd (cc)
+  promises_none u m h = refl
 
   -- it may hold no more than before
   pub may_hold-does : (u : Token) → MayHold now file n incarnation (done_file f number command answer) u → (v : Token) × MayHold was file n incarnation f v × IsWithin u v
-  may_hold-does u (inl same) =
+  may_hold-does u may =
       let before = promised f.token command in
-      (before, inr (record { command = command; ahead = ahead; value = refl }), subst (λ (x : Token). IsWithin x before) (sym same) (settled_within before command answer))
-  may_hold-does u (inr p) =
-      let a = p.ahead in
-      let above = a.above in
-      elim (t.counted incarnation a.number p.command (news.commands incarnation a.number p.command a.sent a.is) a.is).1 [
-        | inl old ↦ let lives = t.lives in absurd (omega arith)
-        | inr c ↦
-            let w = on_the_way was file n incarnation f row dead t command ahead in
-            let up : a.number ≤ w.known.number = subst (λ (x : Row). a.number ≤ x.number) (same_Some c.counting w.known (sym c.there ∙ w.there)) c.up_to in
-            let number_is = w.number in
-            absurd (omega arith)
-      ]
-
--- the server forgets an incarnation that is not the live one
-module _ (was : Sent) (file n incarnation : ℕ) (f : FileState) (dead j : ℕ) (older : j < incarnation) where
-  known_kept : (r : Row) → IsKnown incarnation f (Some r) → r.incarnation ≡ incarnation
-  known_kept r k = ap (λ (x : Row). x.incarnation) (same_Some r k.known k.there) ∙ k.of
-
-  dropped : (r : Row) → Talk was file n incarnation f (Some r) dead → r.incarnation ≤ j → Talk was file n incarnation f None (max dead j)
-  dropped r t old = record {
-    lives = let lives = t.lives in omega arith;
-    aged = λ x h. absurd (none-some x h);
-    waits = λ x m h. absurd (none-some x h);
-    counted = λ i k m sent to.
-        let c = t.counted i k m sent to in (
-          c.0,
-          inl (elim c.1 [
-            | inl known ↦ omega arith
-            | inr counts ↦
-                let of : r.incarnation ≡ i = ap (λ (x : Row). x.incarnation) (same_Some r counts.counting counts.there) ∙ counts.of in
-                omega arith
-          ]),
-        );
-    one_number = t.one_number;
-    in_step = elim t.in_step [
-      | inl u ↦ inl (record { last = u.last; token = u.token; none = λ x h. absurd (none-some x h) })
-      | inr k ↦ let of = known_kept r k in absurd (omega arith)
-    ];
-    answers = t.answers;
-    remembered = t.remembered;
-    answered = t.answered;
-  }
-
-  stayed : (r : Row) → Talk was file n incarnation f (Some r) dead → j < r.incarnation → Talk was file n incarnation f (Some r) (max dead j)
-  stayed r t young =
-      let aged = t.aged r refl in
-      let same : dead ≡ max dead j = omega arith in
-      subst (λ (d : ℕ). Talk was file n incarnation f (Some r) d) same t
-
-  pub talk-forgets : (row : Option Row) → Talk was file n incarnation f row dead → Talk was file n incarnation f (row_above j row) (max dead j)
-  talk-forgets None t = record {
-    lives = let lives = t.lives in omega arith;
-    aged = λ r h. absurd (none-some r h);
-    waits = t.waits;
-    counted = λ i k m sent to.
-        let c = t.counted i k m sent to in
-        (c.0, elim c.1 [ inl known ↦ inl (omega arith) | inr counts ↦ inr counts ]);
-    one_number = t.one_number;
-    in_step = t.in_step;
-    answers = t.answers;
-    remembered = t.remembered;
-    answered = t.answered;
-  }
-  talk-forgets (Some r) t =
-      elim (nat_le r.incarnation j) as (λ b. nat_le r.incarnation j ≡ b → Talk was file n incarnation f (if b then None else Some r) (max dead j)) [
-        | true ↦ λ h. dropped r t (leb-true r.incarnation j h)
-        | false ↦ λ h. stayed r t (leb-false r.incarnation j h)
-      ] refl
-
--- the server makes a row where there is none
-pub talk-row : (was : Sent) (file n incarnation : ℕ) (f : FileState) (dead i : ℕ) → i ≡ dead + 1 → Talk was file n incarnation f None dead → Talk was file n incarnation f (Some (empty_row i)) dead
-talk-row was file n incarnation f dead i is t = record {
-  lives = t.lives;
-  aged = λ r h. ap (λ (x : Row). x.incarnation) (sym (same_Some (empty_row i) r h)) ∙ is;
-  waits = λ r m h o.
-      let none : None ≡ r.outstanding = ap (λ (x : Row). x.outstanding) (same_Some (empty_row i) r h) in
-      absurd (none-some m (none ∙ o));
-  counted = λ j k m sent to.
-      let c = t.counted j k m sent to in
-      (c.0, elim c.1 [ inl known ↦ inl known | inr counts ↦ absurd (none-some counts.counting counts.there) ]);
-  one_number = t.one_number;
-  in_step = elim t.in_step [
-    | inl u ↦ elim (cases_eq i incarnation) [
-      | inl same ↦ inr (record { known = empty_row i; there = refl; of = same; states = inl (record { outstanding = refl; number = sym u.last; token = sym u.token }) })
-      | inr other ↦ inl (record { last = u.last; token = u.token; none = λ r h of. other (ap (λ (x : Row). x.incarnation) (same_Some (empty_row i) r h) ∙ of) })
-    ]
-    | inr k ↦ absurd (none-some k.known k.there)
-  ];
-  answers = t.answers;
-  remembered = t.remembered;
-  answered = t.answered;
-}
-
--- the server takes the answer to the command of a row
-abbrev pub answered_row : Row → Message → Message → Row
-answered_row r command answer = record r { token = settled r.token command answer; outstanding = None }
-
-module _ (was : Sent) (file n incarnation : ℕ) (f : FileState) (r : Row) (dead k : ℕ) (command answer : Message) (told : was answer) (of_node : IsAnswerOf file n r.incarnation k answer) (waiting : r.outstanding ≡ Some command) (number_is : k ≡ r.number) (t : Talk was file n incarnation f (Some r) dead) where
-  abbrev after : Row
-  after = answered_row r command answer
-
-  idle : r.incarnation ≡ incarnation → States f r → IsIdle f after
-  idle of (inl i) = absurd (none-some command (sym i.outstanding ∙ waiting))
-  idle of (inr (inl w)) =
-      let up = (t.answers k answer told (subst (λ (i : ℕ). IsAnswerOf file n i k answer) of of_node)).0 in
-      let number = w.number in
-      absurd (omega arith)
-  idle of (inr (inr d)) =
-      let number = d.number in
-      let is = (t.answers k answer told (subst (λ (i : ℕ). IsAnswerOf file n i k answer) of of_node)).1 (omega arith) in
-      let one : d.answer ≡ answer = same_Some d.answer answer (sym d.remembers ∙ is) in
-      let same : d.command ≡ command = same_Some d.command command (sym d.outstanding ∙ waiting) in
-      record {
-        outstanding = refl;
-        number = d.number;
-        token = sym (d.token ∙ ap (λ (m : Message). settled r.token m d.answer) same ∙ ap (settled r.token command) one);
-      }
-
-  pub talk-answered : Talk was file n incarnation f (Some (answered_row r command answer)) dead
-  talk-answered = record {
-    lives = t.lives;
-    aged = λ x h. ap (λ (y : Row). y.incarnation) (sym (same_Some after x h)) ∙ t.aged r refl;
-    waits = λ x m h o.
-        let none : None ≡ x.outstanding = ap (λ (y : Row). y.outstanding) (same_Some after x h) in
-        absurd (none-some m (none ∙ o));
-    counted = λ i l m sent to.
-        let counts = t.counted i l m sent to in (
-          counts.0,
-          elim counts.1 [
-            | inl known ↦ inl known
-            | inr row ↦
-                let same = same_Some r row.counting row.there in
-                inr (record { counting = after; there = refl; of = ap (λ (y : Row). y.incarnation) same ∙ row.of; up_to = subst (λ (y : Row). l ≤ y.number) (sym same) row.up_to })
-          ],
-        );
-    one_number = t.one_number;
-    in_step = elim t.in_step [
-      | inl u ↦ inl (record { last = u.last; token = u.token; none = λ x h of. u.none r refl (ap (λ (y : Row). y.incarnation) (same_Some after x h) ∙ of) })
-      | inr known ↦
-          let same = same_Some r known.known known.there in
-          let of : r.incarnation ≡ incarnation = ap (λ (y : Row). y.incarnation) same ∙ known.of in
-          let states : States f r = subst (States f) (sym same) known.states in
-          inr (record { known = after; there = refl; of = of; states = inl (idle of states) })
-    ];
-    answers = t.answers;
-    remembered = t.remembered;
-    answered = t.answered;
-  }
-
--- the server sends a command to the node of a row that waits for no answer
-abbrev pub commanded_row : Row → Message → Row
-commanded_row r command = record r { token = promised r.token command; number = r.number + 1; outstanding = Some command }
-
--- that is all that was sent of commands and answers
-pub record IsCommanding (was now : Sent) (command : Message) : Type 0 where
-  pub kept : (m : Message) → was m → now m
-  pub commands : (f n i k : ℕ) (m : Message) → now m → IsCommandTo f n i k m → was m ⊎ (m ≡ command)
-  pub answers : (f n i k : ℕ) (m : Message) → now m → IsAnswerOf f n i k m → was m
-  pub sent : now command
-
-module _ (was now : Sent) (file n incarnation : ℕ) (f : FileState) (r : Row) (dead : ℕ) (command : Message) (free : r.outstanding ≡ None) (to : IsCommandTo file n r.incarnation (r.number + 1) command) (news : IsCommanding was now command) (t : Talk was file n incarnation f (Some r) dead) where
-  abbrev later : Row
-  later = commanded_row r command
-
-  -- the command that is new is this one
-  new_is : (i k : ℕ) (m : Message) → IsCommandTo file n i k m → m ≡ command → (i ≡ r.incarnation) × (k ≡ r.number + 1)
-  new_is i k m m_to is =
-      let both = same_command file n i k file n r.incarnation (r.number + 1) command (subst (IsCommandTo file n i k) is m_to) to in
-      (both.incarnation_is, both.number_is)
-
-  -- the number is above those that were sent
-  above : (i k : ℕ) (m : Message) → was m → IsCommandTo file n i k m → i ≡ r.incarnation → k ≡ r.number + 1 → ⊥
-  above i k m sent m_to same is = elim (t.counted i k m sent m_to).1 [
-    | inl known ↦ let aged = t.aged r refl in omega arith
-    | inr counts ↦ let up : k ≤ r.number = subst (λ (x : Row). k ≤ x.number) (sym (same_Some r counts.counting counts.there)) counts.up_to in omega arith
-  ]
-
-  now_idle : States f r → IsIdle f r
-  now_idle (inl i) = i
-  now_idle (inr (inl w)) = absurd (none-some w.command (sym free ∙ w.outstanding))
-  now_idle (inr (inr d)) = absurd (none-some d.command (sym free ∙ d.outstanding))
-
-  counts_later : (k : ℕ) (i : ℕ) → IsCountedIn (Some r) i k → IsCountedIn (Some later) i k
-  counts_later k i counts =
-      let same = same_Some r counts.counting counts.there in
-      let up : k ≤ r.number = subst (λ (y : Row). k ≤ y.number) (sym same) counts.up_to in
-      record { counting = later; there = refl; of = ap (λ (y : Row). y.incarnation) same ∙ counts.of; up_to = omega arith }
-
-  counted_now : (i k : ℕ) (m : Message) → now m → IsCommandTo file n i k m → (1 ≤ k) × ((i ≤ dead) ⊎ IsCountedIn (Some later) i k)
-  counted_now i k m sent m_to = elim (news.commands file n i k m sent m_to) [
-    | inl old ↦
-        let counts = t.counted i k m old m_to in
-        (counts.0, elim counts.1 [ inl known ↦ inl known | inr row ↦ inr (counts_later k i row) ])
-    | inr is ↦
-        let both = new_is i k m m_to is in
-        let number = both.1 in
-        (omega arith, inr (record { counting = later; there = refl; of = sym both.0; up_to = omega arith }))
-  ]
-
-  one_now : (i k : ℕ) (m x : Message) → now m → now x → IsCommandTo file n i k m → IsCommandTo file n i k x → m ≡ x
-  one_now i k m x a b m_to x_to = elim (news.commands file n i k m a m_to) [
-    | inl old_m ↦ elim (news.commands file n i k x b x_to) [
-      | inl old_x ↦ t.one_number i k m x old_m old_x m_to x_to
-      | inr new_x ↦ let both = new_is i k x x_to new_x in absurd (above i k m old_m m_to both.0 both.1)
-    ]
-    | inr new_m ↦ elim (news.commands file n i k x b x_to) [
-      | inl old_x ↦ let both = new_is i k m m_to new_m in absurd (above i k x old_x x_to both.0 both.1)
-      | inr new_x ↦ new_m ∙ sym new_x
-    ]
-  ]
-
-  pub talk-commanded : Talk now file n incarnation f (Some later) dead
-  talk-commanded = record {
-    lives = t.lives;
-    aged = λ x h. ap (λ (y : Row). y.incarnation) (sym (same_Some later x h)) ∙ t.aged r refl;
-    waits = λ x m h o.
-        let same = same_Some later x h in
-        let is : command ≡ m = same_Some command m (ap (λ (y : Row). y.outstanding) same ∙ o) in
-        let P : Row → Message → Type 0 = λ y c. now c × IsCommandTo file n y.incarnation y.number c in
-        subst (λ (y : Row). P y m) same (subst (P later) is (news.sent, to));
-    counted = counted_now;
-    one_number = one_now;
-    in_step = elim t.in_step [
-      | inl u ↦ inl (record { last = u.last; token = u.token; none = λ x h of. u.none r refl (ap (λ (y : Row). y.incarnation) (same_Some later x h) ∙ of) })
-      | inr known ↦
-          let same = same_Some r known.known known.there in
-          let i = now_idle (subst (States f) (sym same) known.states) in
-          inr (record {
-            known = later;
-            there = refl;
-            of = ap (λ (y : Row). y.incarnation) same ∙ known.of;
-            states = inr (inl (record { command = command; outstanding = refl; number = ap (λ (k : ℕ). k + 1) i.number; token = ap (λ (u : Token). promised u command) i.token }));
-          })
-    ];
-    answers = λ k m sent of. t.answers k m (news.answers file n incarnation k m sent of) of;
-    remembered = λ m is. let r = t.remembered m is in (news.kept m r.0, r.1, r.2);
-    answered = t.answered;
-  }
-
-  -- what the node may hold then: what it may have held, or its token with what the command promises
-  pub may_hold-commanded : (u : Token) → MayHold now file n incarnation f u → MayHold was file n incarnation f u ⊎ (u ≡ promised f.token command)
-  may_hold-commanded u (inl same) = inl (inl same)
-  may_hold-commanded u (inr p) =
-      let a = p.ahead in
-      elim (news.commands file n incarnation a.number p.command a.sent a.is) [
-        | inl old ↦ inl (inr (record { command = p.command; ahead = record { number = a.number; is = a.is; sent = old; above = a.above }; value = p.value }))
-        | inr is ↦ inr (p.value ∙ ap (promised f.token) is)
+      let own : (x : Token) → x ≡ done.token → (v : Token) × MayHold was file n incarnation f v × IsWithin x v = λ x same.
+      (before, inr (record { command = command; ahead = ahead; value = refl }), subst (λ (y : Token). IsWithin y before) (sym same) (settled_within before command answer)) in
+      elim may [
+        | inl same ↦ own u same
+        | inr p ↦
+            let a = p.ahead in
+            elim (is_command p.command) as (λ b. is_command p.command ≡ b → (v : Token) × MayHold was file n incarnation f v × IsWithin u v) [
+              | true ↦ λ is. absurd (none_ahead a.number p.command (news.commands incarnation a.number p.command a.sent a.is) is a.is a.above t.in_step)
+              | false ↦ λ is. own u (p.value ∙ promises_none done.token p.command is)
+            ] refl
       ]

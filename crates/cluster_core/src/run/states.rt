@@ -37,6 +37,7 @@ impl Run {
     /// `NoMemory` where a request for memory was refused. The run is then as it was.
     pub fn put_node(
         &mut self,
+        alloc: Global,
         event: Event,
         node: u8,
         state: Box<Node>,
@@ -49,7 +50,7 @@ impl Run {
         ensures unchanged { OnErr result (self.new ≡ self.old) }
     {
         self.entries.reserve(1)?;
-        let entry = self.world.put_node(event, node, state, outcome)?;
+        let entry = self.world.put_node(alloc, event, node, state, outcome)?;
         self.entries.push_reserved(entry);
         Ok(())
     }
@@ -61,6 +62,7 @@ impl Run {
     /// `NoMemory` where a request for memory was refused. The run is then as it was.
     pub fn put_server(
         &mut self,
+        alloc: Global,
         event: Event,
         file: u16,
         state: Box<Server>,
@@ -73,7 +75,7 @@ impl Run {
         ensures unchanged { OnErr result (self.new ≡ self.old) }
     {
         self.entries.reserve(1)?;
-        let entry = self.world.put_server(event, file, state, outcome)?;
+        let entry = self.world.put_server(alloc, event, file, state, outcome)?;
         self.entries.push_reserved(entry);
         Ok(())
     }

@@ -1,7 +1,10 @@
 //! What an event will do to a world.
+use messages::items::Items;
+use messages::message::Message;
 use node_core::change::Change as NodeChange;
 use node_core::node::Node;
 use token_server::change::Change as ServerChange;
+use token_server::server::Server;
 
 /// What an event will do to a world: the change of the one actor that takes it.
 #[derive(Drop)]
@@ -26,5 +29,15 @@ pub(crate) enum Change {
     Restarted {
         node: u8,
         begun: Box<Node>,
+    },
+    /// The token server of the file is declared failed.
+    Failed {
+        file: u16,
+    },
+    /// The token server of the file begins again, as this one, and asks the nodes for their tokens.
+    Started {
+        file: u16,
+        begun: Box<Server>,
+        sends: Items<Message>,
     },
 }

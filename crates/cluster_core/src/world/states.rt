@@ -61,14 +61,14 @@ impl World {
         &self.servers[file as usize - 1]
     }
 
-    /// Whether the server of the file is in the same state as that one.
+    /// Whether the server of the file works, and is in the same state as that one.
     pub fn has_server(&self, file: u16, server: &Server) -> bool
         ensures { IsTrue result ↔ HasServer (world_state self.now) file (server_state server.now) }
     {
         if !is_number(self.shape.files(), file) {
             return false;
         }
-        self.server(file).same(server)
+        self.works(file) && self.server(file).same(server)
     }
 
     /// The node does a step that was computed from its state: this is its next state, with what the
@@ -78,6 +78,7 @@ impl World {
     /// `NoMemory` where a request for memory was refused. The world is then as it was.
     pub(crate) fn put_node(
         &mut self,
+        alloc: Global,
         event: Event,
         node: u8,
         state: Box<Node>,
@@ -93,6 +94,7 @@ impl World {
         let incarnation = self.named_incarnation(&event, node);
         let sends = outcome.sends.as_slice();
         put_in(
+            alloc,
             &mut self.nodes,
             node as usize - 1,
             state,
@@ -109,6 +111,7 @@ impl World {
     /// `NoMemory` where a request for memory was refused. The world is then as it was.
     pub(crate) fn put_server(
         &mut self,
+        alloc: Global,
         event: Event,
         file: u16,
         state: Box<Server>,
@@ -123,6 +126,7 @@ impl World {
     {
         let sends = outcome.sends.as_slice();
         put_in(
+            alloc,
             &mut self.servers,
             file as usize - 1,
             state,
@@ -171,6 +175,7 @@ impl World {
 
 // Puts another item at an index, once the messages are sent.
 fn put_in<T: Drop>(
+    alloc: Global,
     items: &mut Vec<T>,
     index: usize,
     next: Box<T>,
@@ -182,7 +187,7 @@ fn put_in<T: Drop>(
     ensures sent { OnOk result (sent.new ≡ sent.old ++ messages.now) }
     ensures unchanged { OnErr result ((items.new.items ≡ items.old.items) × (sent.new ≡ sent.old)) }
 {
-    sent.extend(messages)?;
+    sent.extend(alloc, messages)?;
     items[index] = Box::into_inner(next);
     Ok(())
 }

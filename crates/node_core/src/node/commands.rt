@@ -1,21 +1,28 @@
 //! A node takes a message of a token server.
-ghost use Rattle.std.specs.Prelude.{◌≡◌, ◌≢◌, ◌==◌, ◌+◌, true, false, if◌then◌else◌, Ok, Err, IfOk, IfErr, IfSome};
+ghost use Rattle.std.specs.Prelude.{◌≡◌, ◌≢◌, ◌==◌, ◌+◌, true, false, if◌then◌else◌, Some, Ok, Err, IfOk, IfErr, IfSome};
 ghost use Rattle.model.specs.Limits.{IsNumber};
 ghost use Rattle.token_set.specs.Releases.{gave_up};
 ghost use Rattle.messages.specs.Messages.{is_within, host_of, file_of};
-ghost use Rattle.node_core.specs.Commands.{remembered, in_order, granted, revoked, denied, delivered, deliver_rule};
-ghost use Rattle.node_core.specs.State.{quiet};
+ghost use Rattle.messages.specs.declared.message.Message.TheVariants.{Report};
+ghost use Rattle.messages.specs.Reports.{runs_of};
+ghost use Rattle.node_core.specs.Answers.{answer_of};
+ghost use Rattle.node_core.specs.Commands.{in_epoch, remembered, in_order, granted, revoked, told, denied, delivered, deliver_rule};
+ghost use Rattle.node_core.specs.State.{quiet, host};
 ghost use Rattle.node_core.specs.Parts.{node_state, after_grant, after_revoke, out_of_order, is_for, IsCallOf};
-ghost use Rattle.node_core.specs.Plans.{drafted, planned, effect_of, DraftFits, PartsFit};
+ghost use Rattle.node_core.specs.Plans.{drafted, planned, effect_of, CommandFits, DraftFits, PartsFit};
 
 use super::Node;
 use crate::change::Change;
 use crate::command::Command;
 use crate::edit::{Draft, Edit};
 use crate::effect::Effect;
+use crate::file_row::FileEdit;
 use crate::numbers::{is_node, is_within};
 use crate::open_call::OpenCall;
+use crate::report::runs_of;
 use intervals::span::Span;
+use messages::epoch_number::EpochNumber;
+use messages::file_number::FileNumber;
 use messages::message::Message;
 use messages::refusal::StepError;
 use messages::wanted::Wanted;
@@ -24,44 +31,52 @@ use std::alloc::{AllocError, Global};
 use token_set::gave_up::GaveUp;
 
 impl Node {
-    // The number of the last command done.
-    fn last(&self, file: u16) -> u32
+    // What the node knows of the file, in the epoch of that number.
+    fn enter(&self, file: u16, number: u64) -> FileEdit
         requires { IsNumber (node_state self.now).shape.files file }
-        ensures { result ≡ ((node_state self.now).files file).last }
+        ensures state { drafted self.now (record { numbered = false; command = Some result }) ≡ in_epoch (node_state self.now) file number }
+        ensures last { result.last ≡ ((in_epoch (node_state self.now) file number).files file).last }
+        ensures answer { answer_of result.answer ≡ ((in_epoch (node_state self.now) file number).files file).answer }
+        ensures fits { CommandFits (node_state self.now).shape.files (Some result) }
     {
-        self.file(file).last
+        self.file(file).plan_renewal(file, number)
     }
 
-    // The answer to the last command is sent again.
-    fn remembered(&self, alloc: Global, file: u16) -> Result<Effect, AllocError>
-        requires { IsNumber (node_state self.now).shape.files file }
-        ensures value { IfOk result (λ effect. remembered (node_state self.now) ((node_state self.now).files file).answer ≡ effect_of self.now effect) }
+    // With that known of its file, the node sends the answer to the last command again.
+    fn remembered(&self, alloc: Global, known: FileEdit) -> Result<Effect, AllocError>
+        requires { CommandFits (node_state self.now).shape.files (Some known) }
+        ensures value { IfOk result (λ effect. remembered (drafted self.now (record { numbered = false; command = Some known })) (answer_of known.answer) ≡ effect_of self.now effect) }
         ensures fits { IfOk result (λ effect. PartsFit self.now effect.edit) }
     {
-        match self.file(file).answer {
-            None => Ok(Effect::quiet(alloc, Edit::none(alloc))),
-            Some(answer) => Effect::sent(alloc, Edit::none(alloc), answer),
+        let answer = known.answer;
+        let edit = Edit::of(alloc, Draft::of_command(known));
+        match answer {
+            None => Ok(Effect::quiet(alloc, edit)),
+            Some(answer) => Effect::sent(alloc, edit, answer.message()),
         }
     }
 
-    // Whether the command is the one after the last that was done.
+    // Whether the command is the one after the last that was done, in its epoch.
     fn is_next(&self, command: &Command) -> bool
         requires { IsNumber (node_state self.now).shape.files command.now.file }
-        ensures { result ≡ (command.now.number == ((node_state self.now).files command.now.file).last + 1) }
+        ensures { result ≡ (command.now.number == ((in_epoch (node_state self.now) command.now.file command.now.number).files command.now.file).last + 1) }
     {
-        command.number.get() as u64 == self.last(command.file.get()) as u64 + 1
+        let number = command.number.get();
+        number - 1 == self.enter(command.file.get(), number).last
     }
 
     // A command that is not the next one: the last one done is answered again, others do nothing.
     fn on_out_of_order(&self, alloc: Global, command: &Command) -> Result<Effect, AllocError>
         requires { IsNumber (node_state self.now).shape.files command.now.file }
-        ensures value { IfOk result (λ effect. out_of_order (node_state self.now) command.now.file command.now.number ≡ effect_of self.now effect) }
+        ensures value { IfOk result (λ effect. out_of_order (in_epoch (node_state self.now) command.now.file command.now.number) command.now.file command.now.number ≡ effect_of self.now effect) }
         ensures fits { IfOk result (λ effect. PartsFit self.now effect.edit) }
     {
-        if command.number.get() == self.last(command.file.get()) && command.number.get() >= 1 {
-            return self.remembered(alloc, command.file.get());
+        let number = command.number.get();
+        let known = self.enter(command.file.get(), number);
+        if number != known.last {
+            return Ok(Effect::quiet(alloc, Edit::of(alloc, Draft::of_command(known))));
         }
-        Ok(Effect::quiet(alloc, Edit::none(alloc)))
+        self.remembered(alloc, known)
     }
 
     // The token is raised, the command is done, and the answer to it is remembered.
@@ -72,10 +87,7 @@ impl Node {
         ensures fits { IfOk result (DraftFits self.now) }
     {
         let edit = self.file(command.file.get()).plan_grant(command, span)?;
-        Ok(Draft {
-            numbered: false,
-            command: Some(edit),
-        })
+        Ok(Draft::of_command(edit))
     }
 
     // The token is raised, and the call that it was for is tried if it is still open.
@@ -87,10 +99,10 @@ impl Node {
         let draft = self.raise(command, span)?;
         let waiting = self.open_call(command.call.number);
         let effect = self.try_if(alloc, draft, waiting)?;
-        effect.after(alloc, command.taken())
+        effect.after(alloc, command.taken().message())
     }
 
-    // Grants are done in the order of their numbers, each once.
+    // Grants of an epoch are done in the order of their numbers, each once.
     fn grant_in_order(
         &self,
         alloc: Global,
@@ -98,7 +110,7 @@ impl Node {
         span: Span,
     ) -> Result<Effect, AllocError>
         requires { IsNumber (node_state self.now).shape.files command.now.file }
-        ensures value { IfOk result (λ effect. in_order (node_state self.now) command.now.file command.now.number (granted (node_state self.now) command.now.file command.now.number command.now.call command.now.mode span) ≡ effect_of self.now effect) }
+        ensures value { IfOk result (λ effect. in_order (in_epoch (node_state self.now) command.now.file command.now.number) command.now.file command.now.number (granted (in_epoch (node_state self.now) command.now.file command.now.number) command.now.file command.now.number command.now.call command.now.mode span) ≡ effect_of self.now effect) }
         ensures fits { IfOk result (λ effect. PartsFit self.now effect.edit) }
     {
         if !self.is_next(command) {
@@ -134,11 +146,7 @@ impl Node {
         let gives = self.gives(command, wanted);
         let row = self.file(command.file.get());
         let edit = row.plan_revoke(command, self.host(), &gives)?;
-        let draft = Draft {
-            numbered: false,
-            command: Some(edit),
-        };
-        Ok((gives, draft))
+        Ok((gives, Draft::of_command(edit)))
     }
 
     // The token is given up as far as no lock is in the way, and the answer is sent.
@@ -151,11 +159,11 @@ impl Node {
         Effect::sent(
             alloc,
             Edit::of(alloc, draft),
-            command.answer(self.host(), gives),
+            command.answer(self.host(), gives).message(),
         )
     }
 
-    // Revokes are done in the order of their numbers, each once.
+    // Revokes of an epoch are done in the order of their numbers, each once.
     fn revoke_in_order(
         &self,
         alloc: Global,
@@ -163,13 +171,52 @@ impl Node {
         wanted: Wanted,
     ) -> Result<Effect, AllocError>
         requires { IsNumber (node_state self.now).shape.files command.now.file }
-        ensures value { IfOk result (λ effect. in_order (node_state self.now) command.now.file command.now.number (revoked (node_state self.now) command.now.file command.now.number command.now.call command.now.mode wanted) ≡ effect_of self.now effect) }
+        ensures value { IfOk result (λ effect. in_order (in_epoch (node_state self.now) command.now.file command.now.number) command.now.file command.now.number (revoked (in_epoch (node_state self.now) command.now.file command.now.number) command.now.file command.now.number command.now.call command.now.mode wanted) ≡ effect_of self.now effect) }
         ensures fits { IfOk result (λ effect. PartsFit self.now effect.edit) }
     {
         if !self.is_next(command) {
             return self.on_out_of_order(alloc, command);
         }
         self.revoke(alloc, command, wanted)
+    }
+
+    // The node's token for the file, as it reports it to a server that was rebuilt.
+    fn report(
+        &self,
+        alloc: Global,
+        file: FileNumber,
+        number: EpochNumber,
+    ) -> Result<Message, AllocError>
+        requires { IsNumber (node_state self.now).shape.files file }
+        ensures { IfOk result (λ report. report ≡ Report file number (host (node_state self.now)) (runs_of ((node_state self.now).files file).token)) }
+    {
+        Ok(Message::Report {
+            file,
+            number,
+            holder: self.host(),
+            runs: runs_of(alloc, &self.file(file.get()).token)?,
+        })
+    }
+
+    // A server that was rebuilt hears which token the node has, as long as no command of its epoch is
+    // done.
+    fn tell(
+        &self,
+        alloc: Global,
+        file: FileNumber,
+        number: EpochNumber,
+    ) -> Result<Effect, AllocError>
+        requires { IsNumber (node_state self.now).shape.files file }
+        ensures value { IfOk result (λ effect. told (in_epoch (node_state self.now) file number) file number ≡ effect_of self.now effect) }
+        ensures fits { IfOk result (λ effect. PartsFit self.now effect.edit) }
+    {
+        let known = self.enter(file.get(), number.get());
+        let is_begun = number.get() != known.last;
+        let edit = Edit::of(alloc, Draft::of_command(known));
+        if is_begun {
+            return Ok(Effect::quiet(alloc, edit));
+        }
+        Effect::sent(alloc, edit, self.report(alloc, file, number)?)
     }
 
     // A call that may be open no longer is answered with the lock in its way; one that waits stays
@@ -210,14 +257,14 @@ impl Node {
         ensures value { IfOk result (λ effect. delivered (node_state self.now) message.now ≡ effect_of self.now effect) }
         ensures fits { IfOk result (λ effect. PartsFit self.now effect.edit) }
     {
-        match *message {
+        match message {
             Message::Grant {
                 file,
                 number,
                 call,
                 mode,
                 span,
-            } => self.grant_in_order(alloc, &Command::new(file, number, call, mode), span),
+            } => self.grant_in_order(alloc, &Command::new(*file, *number, *call, *mode), *span),
             Message::Revoke {
                 file,
                 number,
@@ -225,10 +272,11 @@ impl Node {
                 mode,
                 wanted,
                 ..
-            } => self.revoke_in_order(alloc, &Command::new(file, number, call, mode), wanted),
+            } => self.revoke_in_order(alloc, &Command::new(*file, *number, *call, *mode), *wanted),
+            Message::Hello { file, number, .. } => self.tell(alloc, *file, *number),
             Message::Deny { call, lock, .. } => {
                 let waiting = self.open_call(call.number);
-                Ok(self.deny(alloc, waiting, lock))
+                Ok(self.deny(alloc, waiting, *lock))
             }
             _ => Ok(Effect::quiet(alloc, Edit::none(alloc))),
         }

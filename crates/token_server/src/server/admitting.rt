@@ -1,5 +1,5 @@
 //! Requests that come from the queue of a token server.
-ghost use Rattle.std.specs.Prelude.{◌≡◌, ◌+◌, ◌<◌, ◌≤◌, ◌++◌, ◌∷◌, [], true, ◌&&◌, ◌||◌, take, length, Some, IfOk};
+ghost use Rattle.std.specs.Prelude.{◌≡◌, ◌+◌, ◌<◌, ◌≤◌, ◌++◌, ◌∷◌, [], true, false, ◌&&◌, ◌||◌, take, length, Some, IfOk};
 ghost use Rattle.token_queue.specs.Requests.{meets, requests_in};
 ghost use Rattle.token_queue.specs.Actives.{requests_of};
 ghost use Rattle.token_server.specs.Serve.{meets_some};
@@ -22,23 +22,27 @@ use token_queue::token_request::TokenRequest;
 
 impl Server {
     // The requests that come from the queue once requests were dropped, one is served no longer and requests
-    // moved, in order.
+    // moved, in order: none while a node has not told its token.
     pub(super) fn admit(
         &self,
         alloc: Global,
+        awaiting: bool,
         dropped: Option<(u8, u16)>,
         sketch: &Sketch,
     ) -> Result<Vec<TokenRequest>, NoMemory>
         requires { AreDistinct (queue_moved sketch.now.moved (without dropped self.now.queue.requests) (without dropped self.now.waiting.requests)) }
-        ensures { IfOk result (λ fresh. IsAdmitted (still_active sketch.now.ended (without dropped (requests_of self.now.active.held))) (queue_moved sketch.now.moved (without dropped self.now.queue.requests) (without dropped self.now.waiting.requests)) fresh.items) }
+        ensures comes { IfOk result (λ fresh. awaiting ≡ false → IsAdmitted (still_active sketch.now.ended (without dropped (requests_of self.now.active.held))) (queue_moved sketch.now.moved (without dropped self.now.queue.requests) (without dropped self.now.waiting.requests)) fresh.items) }
+        ensures rests { IfOk result (λ fresh. awaiting ≡ true → fresh.items ≡ []) }
     {
-        let _ = &self.shape; // tells the proof that none can come while no request goes
+        let mut fresh = Vec::new(alloc);
+        if awaiting {
+            return Ok(fresh);
+        }
         let gone = Gone {
             dropped,
             ended: sketch.ended,
         };
-        let mut fresh = Vec::new(alloc);
-        admit_queued(&mut fresh, &gone, &self.active, &self.queue)?;
+        admit_queued(&mut fresh, &gone, !self.awaits, &self.active, &self.queue)?;
         admit_moved(
             &mut fresh,
             &gone,
@@ -184,20 +188,21 @@ fn admit_freed(
     Ok(())
 }
 
-// Those that come of a queue that had settled, once requests were dropped and one is served no longer.
+// Those that come of a queue, which had settled or not, once requests were dropped and one is served no longer.
 fn admit_queued(
     fresh: &mut Vec<TokenRequest>,
     gone: &Gone,
+    settled: bool,
     active: &Active,
     queue: &Line,
 ) -> Result<(), NoMemory>
     requires empty { fresh.old.items ≡ [] }
-    requires settled { all_stay (requests_of active.now.held) [] queue.now.requests ≡ true }
+    requires settled { settled ≡ true → all_stay (requests_of active.now.held) [] queue.now.requests ≡ true }
     requires served { AreDistinct (requests_of active.now.held) }
     requires queued { AreDistinct (without gone.now.dropped queue.now.requests) }
     ensures { IfOk result (λ done. IsAdmitted (served_on gone.now active.now.held) (without gone.now.dropped queue.now.requests) fresh.new.items) }
 {
-    if gone.dropped.is_some() {
+    if !settled || gone.dropped.is_some() {
         return admit_each(fresh, active.as_slice(), gone, &[], queue.slots());
     }
     let Some(call) = gone.ended else {

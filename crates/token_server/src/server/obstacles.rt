@@ -1,14 +1,15 @@
 //! What stands in the way of the requests that a token server serves.
-ghost use Rattle.std.specs.Prelude.{◌≡◌, ◌≤◌, ◌↔◌, true, false, not, ◌&&◌, ◌==◌, All, length, drop, IsSome, IfOk, IfSome, Option, Some};
+ghost use Rattle.std.specs.Prelude.{◌≡◌, ◌≤◌, ◌↔◌, true, false, not, ◌&&◌, ◌||◌, ◌==◌, All, length, drop, IsSome, IfOk, IfSome, Option, Some};
 ghost use Rattle.intervals.specs.Bytes.{Range};
 ghost use Rattle.model.specs.Limits.{IsNumber, most_nodes};
 ghost use Rattle.token_queue.specs.Actives.{requests_of, waiting_for};
 ghost use Rattle.token_server.specs.State.{Row};
 ghost use Rattle.token_server.specs.Serve.{row_conflicts, conflicting_node};
 ghost use Rattle.token_server.specs.Parts.{server_state, rows_of};
-ghost use Rattle.token_server.specs.Obstacles.{obstacle, is_dropped, frees};
+ghost use Rattle.token_server.specs.Obstacles.{obstacle, is_dropped, frees, may_bar, may_turn};
+ghost use Rattle.token_server.specs.Marks.{NoneExclusive};
 ghost use Rattle.token_server.specs.Sketches.{rows_after};
-ghost use Rattle.token_server.specs.Edits.{overlaid, reached, ChangesOne};
+ghost use Rattle.token_server.specs.Edits.{overlaid, reached};
 
 use super::Server;
 use crate::node_change::NodeChange;
@@ -50,13 +51,13 @@ impl Server {
     }
 
     // The node whose row a request waits for. No row stands in a reader's way where none has an exclusive byte.
-    fn obstacle(&self, rows: &Option<RowEdit>, request: &TokenRequest) -> u8
-        requires { ChangesOne self.now.clients rows.now }
+    fn obstacle(&self, rows: &Option<RowEdit>, readable: bool, request: &TokenRequest) -> u8
+        requires { readable ≡ true → NoneExclusive (reached self.now rows.now).rows }
         ensures { result ≡ obstacle (reached self.now rows.now) request.now }
     {
         let required = request.required();
         let _ = &required.lo; // tells the proof that the span has a byte
-        if reads(request.mode) && self.clients.excludes_none() {
+        if readable && reads(request.mode) {
             return request.call.node;
         }
         self.conflicting_node(rows, request)
@@ -74,16 +75,17 @@ impl Server {
         }
     }
 
-    // Whether bytes of a span may stand in the way no longer, once the row of a node changes so.
+    // Whether bytes of a span may stand in the way no longer, or others may, once the row of a node changes so.
     fn frees(&self, changed: &Changed, request: &TokenRequest) -> bool
         requires { IsNumber self.now.shape.nodes changed.now.node }
         ensures { result ≡ frees changed.now.change (rows_of self.now.clients changed.now.node) request.now.wanted.required }
     {
         match &changed.change {
             NodeChange::Forgotten { incarnation } => self.is_dropped(changed.node, *incarnation),
-            NodeChange::Asked { host } => self.is_dropped(changed.node, host.incarnation - 1),
+            NodeChange::Asked { host, .. } => self.is_dropped(changed.node, host.incarnation - 1),
             NodeChange::Answered => false,
             NodeChange::Relieved { span, .. } => request.meets(*span),
+            NodeChange::Reported { .. } => true,
         }
     }
 
@@ -94,25 +96,25 @@ impl Server {
     {
         match &changed.change {
             NodeChange::Forgotten { incarnation } => !self.is_dropped(changed.node, *incarnation),
-            NodeChange::Asked { host } => !self.is_dropped(changed.node, host.incarnation - 1),
+            NodeChange::Asked { host, .. } => !self.is_dropped(changed.node, host.incarnation - 1),
             NodeChange::Answered => true,
-            NodeChange::Relieved { .. } => false,
+            NodeChange::Relieved { .. } | NodeChange::Reported { .. } => false,
         }
     }
 
     // Whether a request that is served may wait for another row than before.
     fn is_freed(&self, changed: &Changed, held: &Held) -> bool
         requires { IsNumber self.now.shape.nodes changed.now.node }
-        ensures { result ≡ (held.now.at == changed.now.node && frees changed.now.change (rows_of self.now.clients changed.now.node) held.now.request.wanted.required) }
+        ensures { result ≡ may_turn changed.now (rows_of self.now.clients changed.now.node) held.now }
     {
-        held.at == changed.node && self.frees(changed, &held.request)
+        concerns(changed, held) && self.frees(changed, &held.request)
     }
 
     // How many of the requests that are served stand up to the last one that may wait for another row than before.
     fn freed_up_to(&self, changed: &Changed) -> usize
         requires { IsNumber self.now.shape.nodes changed.now.node }
         ensures within { result ≤ length self.now.active.held }
-        ensures rest { All (λ h. (h.at == changed.now.node && frees changed.now.change (rows_of self.now.clients changed.now.node) h.request.wanted.required) ≡ false) (drop result self.now.active.held) }
+        ensures rest { All (λ h. may_turn changed.now (rows_of self.now.clients changed.now.node) h ≡ false) (drop result self.now.active.held) }
     {
         if self.frees_none(changed) {
             return 0;
@@ -146,21 +148,23 @@ impl Server {
         let many = self.freed_up_to(changed);
         let mut ats = Vec::with_capacity(alloc, many)?;
         let active = self.active.as_slice();
+        let readable = self.clients.excludes_none(rows);
         for place in 0..many {
-            ats.push(self.at_after(rows, changed, &active[place]))?;
+            ats.push(self.at_after(rows, readable, changed, &active[place]))?;
         }
         Ok(ats)
     }
 
     // The node whose row a request that is served waits for once rows changed.
-    fn at_after(&self, rows: &Option<RowEdit>, changed: &Changed, held: &Held) -> u8
+    fn at_after(&self, rows: &Option<RowEdit>, readable: bool, changed: &Changed, held: &Held) -> u8
+        requires readable { readable ≡ true → NoneExclusive (reached self.now rows.now).rows }
         requires rows { rows_of (overlaid self.now.clients rows.now) ≡ rows_after (Some changed.now) (rows_of self.now.clients) }
         requires in_cluster { IsNumber self.now.shape.nodes changed.now.node }
         requires waits { obstacle (server_state self.now) held.now.request ≡ held.now.at }
         ensures { obstacle (reached self.now rows.now) held.now.request ≡ result }
     {
         if self.is_freed(changed, held) {
-            return self.obstacle(rows, &held.request);
+            return self.obstacle(rows, readable, &held.request);
         }
         held.at
     }
@@ -172,13 +176,13 @@ impl Server {
         rows: &Option<RowEdit>,
         requests: &[TokenRequest],
     ) -> Result<Vec<Held>, NoMemory>
-        requires { ChangesOne self.now.clients rows.now }
         ensures requests { IfOk result (λ fresh. requests_of fresh.items ≡ requests.now) }
         ensures waits { IfOk result (λ fresh. All (λ h. obstacle (reached self.now rows.now) h.request ≡ h.at) fresh.items) }
     {
         let mut fresh = Vec::new(alloc);
+        let readable = self.clients.excludes_none(rows);
         for request in requests {
-            let at = self.obstacle(rows, request);
+            let at = self.obstacle(rows, readable, request);
             fresh.push(Held {
                 request: *request,
                 at,
@@ -194,17 +198,25 @@ fn may_free(change: &NodeChange, request: &TokenRequest) -> bool
     ensures { result ≡ false → (row : Option Row) → frees change.now row request.now.wanted.required ≡ false }
 {
     match change {
-        NodeChange::Forgotten { .. } | NodeChange::Asked { .. } => true,
+        NodeChange::Forgotten { .. } | NodeChange::Asked { .. } | NodeChange::Reported { .. } =>
+            true,
         NodeChange::Answered => false,
         NodeChange::Relieved { span, .. } => request.meets(*span),
     }
 }
 
+// Whether the row that changes is the one for which a request waits, or may come to stand in its way.
+fn concerns(changed: &Changed, held: &Held) -> bool
+    ensures { result ≡ (may_bar changed.now.change || (held.now.at == changed.now.node)) }
+{
+    changed.change.may_bar() || held.at == changed.node
+}
+
 // Whether a request that is served may wait for another row than before.
 fn may_be_freed(changed: &Changed, held: &Held) -> bool
-    ensures { result ≡ false → (row : Option Row) → (held.now.at == changed.now.node && frees changed.now.change row held.now.request.wanted.required) ≡ false }
+    ensures { result ≡ false → (row : Option Row) → may_turn changed.now row held.now ≡ false }
 {
-    held.at == changed.node && may_free(&changed.change, &held.request)
+    concerns(changed, held) && may_free(&changed.change, &held.request)
 }
 
 // Whether the mode is that of a read lock.

@@ -4,11 +4,13 @@ ghost use Rattle.std.specs.List.{list_any};
 ghost use Rattle.std.specs.Option.{option_map, option_to_list};
 ghost use Rattle.model.specs.Limits.{IsNumber, most_nodes};
 ghost use Rattle.intervals.specs.Bytes.{largest_around};
+ghost use Rattle.messages.specs.Epochs.{before_epoch};
 ghost use Rattle.token_queue.specs.Actives.{requests_of};
 ghost use Rattle.token_server.specs.Serve.{narrowed, row_conflicts, row_conflicts_at, granted_span, conflicting_node, granted_to, revoked_from, served, each_served};
 ghost use Rattle.token_server.specs.Told.{promised, row_told, with_told, commands_told, cut, cut_all};
 ghost use Rattle.token_server.specs.Obstacles.{obstacle, are_apart, is_idle};
 ghost use Rattle.token_server.specs.Parts.{server_state, row_state, client_at, rows_of};
+ghost use Rattle.token_server.specs.Ready.{AreOfEpoch};
 ghost use Rattle.token_server.specs.Sketches.{commands_of, without, still_active};
 ghost use Rattle.token_server.specs.Edits.{overlaid, keeps, held_after, drafted, seen, given_to_client, with_given};
 ghost use Rattle.token_server.specs.Turns.{kept_of, IsTurn, AreServed};
@@ -17,13 +19,13 @@ ghost use Rattle.token_set.specs.Edits.{edited as edited_token};
 
 use super::Server;
 use crate::change::{Draft, Given};
+use crate::command::{Command, Order};
 use crate::commands::Commands;
 use crate::lists::Lists;
 use crate::token_holder::RowView;
 use crate::told::{Told, cut, told_to};
 use intervals::span::Span;
 use intervals::span_map::NoMemory;
-use messages::message::Message;
 use messages::refusal::StepError;
 use messages::wanted::Wanted;
 use model::host::Host;
@@ -32,7 +34,6 @@ use std::alloc::Global;
 use token_queue::held::Held;
 use token_queue::token_request::TokenRequest;
 use token_set::edit::TokenEdit;
-use token_set::set::TokenSet;
 
 impl Server {
     // What the request would like to have, without the bytes that another one that is served needs.
@@ -97,12 +98,14 @@ impl Server {
 
     // The commands to a node once those are told, if it has a row.
     fn commands_to(&self, draft: &Draft, told: &[Told], node: u8) -> Option<Commands>
-        requires { 1 ≤ node }
-        ensures { result ≡ option_map commands_of ((with_told told.now (drafted self.now draft.now)).rows node) }
+        requires node_in { 1 ≤ node }
+        requires counted { AreOfEpoch (drafted self.now draft.now) }
+        ensures value { result ≡ option_map commands_of ((with_told told.now (drafted self.now draft.now)).rows node) }
+        ensures counted { IfSome result (λ c. c.outstanding ≡ None → before_epoch self.now.epoch ≤ c.number) }
     {
         let row = self.clients.row_after(&draft.rows, node)?;
         match told_to(told, node) {
-            Some(told) => Some(told.commands.awaiting(&told.command)),
+            Some(told) => Some(told.commands.awaiting(told.command)),
             None => Some(*row.commands),
         }
     }
@@ -116,7 +119,8 @@ impl Server {
         request: &TokenRequest,
         at: u8,
     ) -> Result<Option<Told>, StepError>
-        requires { obstacle (with_told told.now (drafted self.now draft.now)) request.now ≡ at }
+        requires waits { obstacle (with_told told.now (drafted self.now draft.now)) request.now ≡ at }
+        requires counted { AreOfEpoch (drafted self.now draft.now) }
         ensures ok { IfOk result (λ o. served (with_told told.now (drafted self.now draft.now)) request.now ≡ Ok (with_told (told.now ++ option_to_list o) (drafted self.now draft.now), commands_told (option_to_list o))) }
         ensures node { IfOk result (λ o. IfSome o (λ t. 1 ≤ t.node)) }
         ensures busy { IfOk result (λ o. is_idle ((with_told (told.now ++ option_to_list o) (drafted self.now draft.now)).rows at) ≡ false) }
@@ -137,7 +141,8 @@ impl Server {
         node: u8,
         request: &TokenRequest,
     ) -> Result<Option<Told>, StepError>
-        requires { IsNumber self.now.shape.nodes node × IsNumber most_nodes node }
+        requires node_in { IsNumber self.now.shape.nodes node × IsNumber most_nodes node }
+        requires counted { AreOfEpoch (drafted self.now draft.now) }
         ensures ok { IfOk result (λ o. revoked_from (with_told told.now (drafted self.now draft.now)) request.now node ((with_told told.now (drafted self.now draft.now)).rows node) ≡ Ok (with_told (told.now ++ option_to_list o) (drafted self.now draft.now), commands_told (option_to_list o))) }
         ensures node { IfOk result (λ o. IfSome o (λ t. 1 ≤ t.node)) }
         ensures err { IfErr result (λ e. revoked_from (with_told told.now (drafted self.now draft.now)) request.now node ((with_told told.now (drafted self.now draft.now)).rows node) ≡ Err e) }
@@ -145,19 +150,19 @@ impl Server {
         let Some(commands) = self.commands_to(draft, told, node) else {
             return Ok(None);
         };
-        let Some(number) = commands.next_number()? else {
+        let Some(number) = commands.next_number(self.epoch)? else {
             return Ok(None);
         };
         let incarnation = commands.incarnation();
-        let command = Message::Revoke {
-            file: self.file_number(),
+        let order = Order::Revoke {
             number,
             holder: Host { node, incarnation },
             call: request.call,
             mode: request.mode,
             wanted: Wanted::new(request.required(), self.narrowed(draft, request)),
         };
-        Ok(Some(Told::new(node, commands, &command)))
+        let command = Command::of(self.file_number(), order);
+        Ok(Some(Told::new(node, commands, number, command)))
     }
 
     // The command that tells the request's node what it is granted, unless one to it is under way.
@@ -167,7 +172,8 @@ impl Server {
         told: &[Told],
         request: &TokenRequest,
     ) -> Result<Option<Told>, StepError>
-        requires { self.now.shape.nodes < conflicting_node (with_told told.now (drafted self.now draft.now)) request.now }
+        requires unopposed { self.now.shape.nodes < conflicting_node (with_told told.now (drafted self.now draft.now)) request.now }
+        requires counted { AreOfEpoch (drafted self.now draft.now) }
         ensures ok { IfOk result (λ o. granted_to (with_told told.now (drafted self.now draft.now)) request.now ((with_told told.now (drafted self.now draft.now)).rows request.now.call.node) ≡ Ok (with_told (told.now ++ option_to_list o) (drafted self.now draft.now), commands_told (option_to_list o))) }
         ensures node { IfOk result (λ o. IfSome o (λ t. 1 ≤ t.node)) }
         ensures err { IfErr result (λ e. granted_to (with_told told.now (drafted self.now draft.now)) request.now ((with_told told.now (drafted self.now draft.now)).rows request.now.call.node) ≡ Err e) }
@@ -176,22 +182,23 @@ impl Server {
         let Some(commands) = self.commands_to(draft, told, node) else {
             return Ok(None);
         };
-        let Some(number) = commands.next_number()? else {
+        let Some(number) = commands.next_number(self.epoch)? else {
             return Ok(None);
         };
-        let command = Message::Grant {
-            file: self.file_number(),
+        let order = Order::Grant {
             number,
             call: request.call,
             mode: request.mode,
             span: self.granted_span(draft, told, request),
         };
-        Ok(Some(Told::new(node, commands, &command)))
+        let command = Command::of(self.file_number(), order);
+        Ok(Some(Told::new(node, commands, number, command)))
     }
 
     // Serves a request: what it comes to is told last.
     fn serve_one(&self, draft: &Draft, told: &mut Vec<Told>, held: &Held) -> Result<(), StepError>
-        requires { obstacle (with_told told.old.items (drafted self.now draft.now)) held.now.request ≡ held.now.at }
+        requires waits { obstacle (with_told told.old.items (drafted self.now draft.now)) held.now.request ≡ held.now.at }
+        requires counted { AreOfEpoch (drafted self.now draft.now) }
         ensures ok { OnOk result (IsTurn (drafted self.now draft.now) held.now told.old.items told.new.items) }
         ensures err { IfErr result (λ e. e ≢ StepError.NoMemory → served (with_told told.old.items (drafted self.now draft.now)) held.now.request ≡ Err e) }
     {
@@ -215,6 +222,7 @@ impl Server {
         requires waits { All (λ h. obstacle (drafted self.now draft.now) h.request ≡ h.at) (held_after draft.now.lists self.now.active.held) }
         requires apart { are_apart (drafted self.now draft.now).active ≡ true }
         requires untouched { (n : ℕ) → touched ≢ Some n → (drafted self.now draft.now).rows n ≡ (server_state self.now).rows n }
+        requires counted { AreOfEpoch (drafted self.now draft.now) }
         ensures ok { IfOk result (λ told. AreServed (drafted self.now draft.now) (held_after draft.now.lists self.now.active.held) (kept_of draft.now.lists self.now.active.held) told.items) }
         ensures err { IfErr result (λ e. e ≢ StepError.NoMemory → each_served (drafted self.now draft.now).active (drafted self.now draft.now) ≡ Err e) }
     {
@@ -254,6 +262,7 @@ impl Server {
         requires waits { All (λ h. obstacle (drafted self.now draft.now) h.request ≡ h.at) (held_after draft.now.lists self.now.active.held) }
         requires apart { are_apart (drafted self.now draft.now).active ≡ true }
         requires untouched { (n : ℕ) → touched ≢ Some n → (drafted self.now draft.now).rows n ≡ (server_state self.now).rows n }
+        requires counted { AreOfEpoch (drafted self.now draft.now) }
         ensures ok { IfOk result (λ told. each_served (drafted self.now draft.now).active (drafted self.now draft.now) ≡ Ok (with_told told.items (drafted self.now draft.now), commands_told told.items)) }
         ensures nodes { IfOk result (λ told. All (λ t. 1 ≤ t.node) told.items) }
         ensures waits { IfOk result (λ told. All (λ h. obstacle (with_told told.items (drafted self.now draft.now)) h.request ≡ h.at) (held_after draft.now.lists self.now.active.held)) }
@@ -292,12 +301,12 @@ impl Server {
         ensures row { IfOk result (λ given. given_to_client given (client_at (overlaid self.now.clients draft.now.rows) told.now.node) ≡ row_told (Some told.now) (rows_of (overlaid self.now.clients draft.now.rows) told.now.node)) }
     {
         let token = match self.clients.row_after(&draft.rows, told.node) {
-            Some(row) => promised(row.token, &told.command)?,
+            Some(row) => told.command.promised(row.token)?,
             None => TokenEdit::Same,
         };
         Ok(Given {
             place: usize::from(told.node) - 1,
-            commands: told.commands.awaiting(&told.command),
+            commands: told.commands.awaiting(told.command),
             token,
         })
     }
@@ -402,18 +411,8 @@ fn around_told(row: RowView<'_>, told: &Told, required: Span, within: Span, mode
 {
     let _ = &required.lo; // tells the proof that the span has a byte
     let free = row.token.free_around(required, within, mode);
-    match told.granted(mode) {
+    match told.command.granted(mode) {
         Some(granted) => cut(required, free, granted),
         None => free,
-    }
-}
-
-// How the command changes a token.
-fn promised(token: &TokenSet, command: &Message) -> Result<TokenEdit, NoMemory>
-    ensures { IfOk result (λ edit. edited_token edit token.now ≡ promised command.now (token_of token.now)) }
-{
-    match command {
-        Message::Grant { mode, span, .. } => token.plan_grant(*span, *mode),
-        _ => Ok(TokenEdit::Same),
     }
 }

@@ -6,6 +6,7 @@ use Rattle.cluster_core.specs.Evidence.{DenialsHaveEvidence}
 use Rattle.cluster_core.specs.Histories.{HasOneHistory}
 use Rattle.cluster_core.specs.Journals.{JournalFields, events_of}
 use Rattle.cluster_core.specs.Numbers.{LeadsToNumbers}
+use Rattle.cluster_core.specs.Next.{kept_next}
 use Rattle.cluster_core.specs.Parts.{world_state}
 use Rattle.cluster_core.specs.Plain.{HasPlainHistory}
 use Rattle.cluster_core.specs.Runs.{IsRun}
@@ -22,12 +23,13 @@ loop-event-init c =
 pub loop-event-preserved : goal.loop-event-preserved
 loop-event-preserved c =
     let on = c.in_ok-take.ensures.ok in
-    ran_more _ _ _ _ _ _ _ _ on.0 c.loop-event-test.true c.event-item.is c.loop-event.invariant on.1 on.2
+    let taken = ap (kept_next (world_state c.loop-event.run.world)) (sym c.in_ok-copy.ensures) ∙ on.1 in
+    ran_more _ _ _ _ _ _ _ _ on.0 c.loop-event-test.true c.event-item.is c.loop-event.invariant taken on.2
 
 pub returns-in_err-take-clause-refused : goal.returns-in_err-take-clause-refused
 returns-in_err-take-clause-refused c =
     let p = err_from_is_err_and c.from_residual-in_err-take.result c.from_residual-in_err-take.ensures.1 in
-    rw (p.1, p.2) (λ other. first_refusal _ _ _ _ _ _ _ c.loop-event-test.true c.event-item.is c.loop-event.invariant (c.in_err-take.ensures.err other))
+    rw (p.1, p.2) (λ other. first_refusal _ _ _ _ _ _ _ c.loop-event-test.true c.event-item.is c.loop-event.invariant (ap (kept_next (world_state c.loop-event.run.world)) (sym c.in_ok-copy.ensures) ∙ c.in_err-take.ensures.err other))
 
 pub returns-clause-shape : goal.returns-clause-shape
 returns-clause-shape c =

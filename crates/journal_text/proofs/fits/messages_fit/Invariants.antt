@@ -1,6 +1,6 @@
 use Rattle.std.proofs.Common.{All, take}
-use Rattle.journal_text.specs.Served.{IsServedMessage}
+use Rattle.journal_text.specs.Fits.{FitsMessage}
 use Rattle.journal_text.proofs.fits.messages_fit.Given as goal
 
 abbrev pub invariant-loop-message : goal.invariant-loop-message
-invariant-loop-message l = All IsServedMessage (take l.message-index l.messages)
+invariant-loop-message l = All FitsMessage (take l.message-index l.messages)

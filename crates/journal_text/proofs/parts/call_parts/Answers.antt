@@ -1,7 +1,8 @@
 use Rattle.std.proofs.Common.{arith}
 use Rattle.std.specs.Fmt.{decimal}
 use Rattle.model.specs.Limits.{IsNumber, most_nodes}
-use Rattle.journal_text.specs.Parts.{AreCounted, counted_text, dot}
+use Rattle.journal_text.specs.Parts.{AreCounted, counted_text}
+use Rattle.journal_text.specs.Texts.{dot}
 use Rattle.journal_text.proofs.Names.{dot-lacks}
 use Rattle.texts.proofs.Pairs.{reads-joined, reads-joined_none}
 use Rattle.journal_text.proofs.parts.call_parts.Goals as goal

@@ -1,7 +1,7 @@
 use Rattle.std.proofs.Common.{arith}
 use Rattle.std.specs.Fmt.{decimal}
 use Rattle.model.specs.Limits.{IsNumber, most_nodes}
-use Rattle.journal_text.specs.Parts.{dot}
+use Rattle.journal_text.specs.Texts.{dot}
 use Rattle.journal_text.proofs.Names.{dot-lacks}
 use Rattle.texts.proofs.Pairs.{reads-joined, reads-joined_none}
 use Rattle.journal_text.proofs.parts.node_parts.Goals as goal

@@ -1,6 +1,6 @@
 use Rattle.std.proofs.Common.{arith}
 use Rattle.texts.proofs.SingleWords.{split-first}
-use Rattle.journal_text.specs.Parts.{dot}
+use Rattle.journal_text.specs.Texts.{dot}
 use Rattle.journal_text.proofs.parts.split_dot.Goals as goal
 
 pub returns : goal.returns

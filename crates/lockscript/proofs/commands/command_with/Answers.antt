@@ -19,4 +19,4 @@ returns-in-learn c = rw c.in-learn.is (reads-made learns c.args.operands.now c.r
 pub returns-in_default : goal.returns-in_default
 returns-in_default c =
     let other = c.in_default in
-    none-with begins-command c.args.word.now c.args.operands.now c.requires (other.not-call, (other.not-deliver, (other.not-lose, (other.not-interrupt, (other.not-retry, (other.not-resend, (other.not-declare, (other.not-restart, (other.not-learn, tt)))))))))
+    none-with begins-command c.args.word.now c.args.operands.now c.requires (other.not-call, (other.not-deliver, (other.not-lose, (other.not-interrupt, (other.not-retry, (other.not-resend, (other.not-declare, (other.not-restart, (other.not-learn, (other.not-text, (other.not-text-2, tt)))))))))))

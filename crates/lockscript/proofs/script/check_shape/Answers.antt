@@ -1,5 +1,5 @@
 use Rattle.std.proofs.lemmas.Result.{err_from_is_err_and}
-use Rattle.lockscript.proofs.ShapedTexts.{bad-another, bad-before}
+use Rattle.lockscript.proofs.ShapedTexts.{bad-before}
 use Rattle.lockscript.proofs.script.check_shape.Goals as goal
 
 pub returns-in_err-number-clause-bad : goal.returns-in_err-number-clause-bad

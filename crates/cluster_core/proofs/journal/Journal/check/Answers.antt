@@ -8,8 +8,7 @@ use Rattle.cluster_core.specs.Journals.{IsFirstWrong}
 use Rattle.cluster_core.proofs.runs.JournalRuns.{leads_read}
 use Rattle.cluster_core.proofs.runs.Checked.{first_wrong, none_wrong}
 use Rattle.cluster_core.proofs.runs.Replayed.{replayed_count}
-use Rattle.cluster_core.proofs.runs.Runs.{every_run, every_plain, safe_run, every_denial}
-use Rattle.cluster_core.proofs.tokens.Apart.{numbers_after}
+use Rattle.cluster_core.proofs.runs.Runs.{every_run, every_plain, safe_run, every_denial, no_number}
 use Rattle.cluster_core.proofs.journal.Journal.check.Goals as goal
 
 pub returns-then-len-clause-accepted : goal.returns-then-len-clause-accepted
@@ -44,7 +43,7 @@ pub returns-clause-safe : goal.returns-clause-safe
 returns-clause-safe c = λ w leads. safe_run c.args.shape c.args.entries.items w c.in_ok-world.ensures.within leads
 
 pub returns-clause-numbers : goal.returns-clause-numbers
-returns-clause-numbers c = numbers_after c.args.shape c.args.entries.items
+returns-clause-numbers c = no_number c.args.shape c.args.entries.items c.in_ok-world.ensures.within
 
 pub returns-clause-evidence : goal.returns-clause-evidence
 returns-clause-evidence c = every_denial c.args.shape c.args.entries.items c.in_ok-world.ensures.within

@@ -1,19 +1,14 @@
 use Rattle.std.proofs.Common.{ap, is_some, nat_eq, sym, ◌∙◌}
 use Rattle.std.specs.HashMap.{get}
-use Rattle.cluster_core.proofs.steps.KnownMessages.{knows_stands, knows_placed, knows_other, read_there}
+use Rattle.cluster_core.proofs.steps.KnownMessages.{knows_stands, knows_placed, read_there}
 use Rattle.cluster_core.proofs.known.Known.note.Goals as goal
 
 pub returns-in-Some-clause-knows : goal.returns-in-Some-clause-knows
 returns-in-Some-clause-knows c = λ known.
     let m = c.index-sent-place.result in
-    knows_stands c.args.self.now.places c.args.self.now.others c.args.sent.now c.args.place m (read_there c.args.sent.now c.args.place m c.requires.within c.index-sent-place.is) known c.in-Some.first (ap (get nat_eq c.args.self.now.places) (sym c.fingerprint-print.ensures) ∙ (sym (c.copied.ensures ∙ c.get.ensures.value) ∙ c.in-Some.is)) (sym c.stands_at.ensures ∙ c.if-stands_at.true)
+    knows_stands c.args.self.now.places c.args.self.now.others.items c.args.sent.now c.args.place m (read_there c.args.sent.now c.args.place m c.requires.within c.index-sent-place.is) known c.in-Some.first (ap (get nat_eq c.args.self.now.places) (sym c.fingerprint-print.ensures) ∙ (sym (c.copied.ensures ∙ c.get.ensures.value) ∙ c.in-Some.is)) (sym c.stands_at.ensures ∙ c.if-stands_at.true)
 
 pub returns-in-Ok-clause-knows : goal.returns-in-Ok-clause-knows
 returns-in-Ok-clause-knows c = λ known.
     let m = c.index-sent-place.result in
-    knows_placed c.args.self.now.places c.args.self.now.others c.args.sent.now c.args.place m (read_there c.args.sent.now c.args.place m c.requires.within c.index-sent-place.is) known c.insert.new.self c.fingerprint-print.result c.fingerprint-print.ensures (ap is_some (sym (c.copied.ensures ∙ c.get.ensures.value) ∙ c.in-None.is)) c.in-Ok.ensures.updates
-
-pub returns-in-Ok-insert-clause-knows : goal.returns-in-Ok-insert-clause-knows
-returns-in-Ok-insert-clause-knows c = λ known.
-    let m = c.index-sent-place.result in
-    knows_other c.args.self.now.places c.args.self.now.others c.args.sent.now c.args.place m (read_there c.args.sent.now c.args.place m c.requires.within c.index-sent-place.is) known c.insert-in_default.new.self c.in-Ok-insert.ensures.updates
+    knows_placed c.args.self.now.places c.args.self.now.others.items c.args.sent.now c.args.place m (read_there c.args.sent.now c.args.place m c.requires.within c.index-sent-place.is) known c.insert.new.self c.fingerprint-print.result c.fingerprint-print.ensures (ap is_some (sym (c.copied.ensures ∙ c.get.ensures.value) ∙ c.in-None.is)) c.in-Ok.ensures.updates

@@ -1,12 +1,12 @@
 use Rattle.std.proofs.Common.{◌+◌, ◌≤◌, length}
 use Rattle.std.specs.HashMap.{spare as spare_places}
-use Rattle.std.specs.HashSet.{spare}
+use Rattle.std.specs.Vec.{vec_capacity}
 use Rattle.cluster_core.specs.Known.{KnowsFirst}
 use Rattle.cluster_core.proofs.known.Known.note_from.Given as goal
 
 abbrev pub invariant-loop-place : goal.invariant-loop-place
 invariant-loop-place l = record {
-  knows : KnowsFirst l.fn.self.places l.fn.self.others l.sent l.start → KnowsFirst l.self.places l.self.others l.sent l.place;
+  knows : KnowsFirst l.fn.self.places l.fn.self.others.items l.sent l.start → KnowsFirst l.self.places l.self.others.items l.sent l.place;
   places : length l.sent ≤ l.place + spare_places l.self.places;
-  others : length l.sent ≤ l.place + spare l.self.others;
+  others : length l.sent + length l.self.others.items ≤ l.place + vec_capacity l.self.others;
 }

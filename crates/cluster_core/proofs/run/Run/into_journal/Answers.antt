@@ -8,8 +8,7 @@ use Rattle.cluster_core.specs.Numbers.{LeadsToNumbers}
 use Rattle.cluster_core.specs.Evidence.{DenialsHaveEvidence}
 use Rattle.cluster_core.specs.World.{first_world}
 use Rattle.cluster_core.proofs.common.Lengths.{leads-count}
-use Rattle.cluster_core.proofs.tokens.Apart.{numbers_after}
-use Rattle.cluster_core.proofs.runs.Runs.{every_run, every_plain, safe_run, every_denial}
+use Rattle.cluster_core.proofs.runs.Runs.{every_run, every_plain, safe_run, every_denial, no_number}
 use Rattle.cluster_core.proofs.run.Run.into_journal.Goals as goal
 
 pub of_run-requires-clause-few : goal.of_run-requires-clause-few
@@ -42,7 +41,7 @@ pub returns-clause-numbers : goal.returns-clause-numbers
 returns-clause-numbers c =
     let is : c.of_run.result ≡ journal_of (record { world = c.self.inside.world; entries = c.self.inside.entries.items }) = c.of_run.ensures ∙ (λ i. record { shape = c.shape.ensures i; entries = c.self.inside.entries.items }) in
     let P : JournalFields → Type 0 = λ j. LeadsToNumbers j.shape j.entries in
-    subst P (sym is) (numbers_after c.self.inside.world.shape c.self.inside.entries.items)
+    subst P (sym is) (no_number c.self.inside.world.shape c.self.inside.entries.items c.self.invariant.served)
 
 pub returns-clause-evidence : goal.returns-clause-evidence
 returns-clause-evidence c =

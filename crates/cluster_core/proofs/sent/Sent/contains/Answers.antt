@@ -10,6 +10,6 @@ returns c =
     let k = c.self.inside.known in
     let m = c.args.message.now in
     c.has.ensures
-    ∙ (ap (λ (xs : List Message). has k.places k.others xs m) c.as_slice.ensures.value
-    ∙ (knows_all k.places k.others c.self.inside.messages.items m c.self.invariant
+    ∙ (ap (λ (xs : List Message). has k.places k.others.items xs m) c.as_slice.ensures.value
+    ∙ (knows_all k.places k.others.items c.self.inside.messages.items m c.self.invariant
     ∙ ap (λ (xs : List Message). is_among xs m) c.self.view_is))

@@ -8,7 +8,7 @@ use Rattle.cluster_core.proofs.world.World.is_alive.Goals as goal
 
 pub returns : goal.returns
 returns c =
-    let P : WorldParts → Type 0 = λ q. is_some (live_incarnation (members_state c.self.inside.members) c.args.node) ≡ alive_at q c.args.node in
+    let P : WorldParts → Type 0 = λ q. is_some (live_incarnation (members_state c.self.inside.members.nodes) c.args.node) ≡ alive_at q c.args.node in
     c.is_some.ensures
     ∙ (ap (λ (o : Option ℕ). is_some o) c.alive.ensures.value
     ∙ opened P _ _ c.args.node c.self.view_is c.requires (λ number. alive_there _ c.self.invariant c.args.node number))

@@ -8,5 +8,5 @@ use Rattle.cluster_core.proofs.world.World.was_declared.Goals as goal
 
 pub returns : goal.returns
 returns c =
-    let P : WorldParts → Type 0 = λ q. was_declared_of (members_state c.self.inside.members) c.args.node c.args.incarnation ≡ was_declared (world_state q) c.args.node c.args.incarnation in
+    let P : WorldParts → Type 0 = λ q. was_declared_of (members_state c.self.inside.members.nodes) c.args.node c.args.incarnation ≡ was_declared (world_state q) c.args.node c.args.incarnation in
     c.declared.ensures ∙ opened P _ _ c.args.node c.self.view_is c.requires (λ number. declared_there _ c.self.invariant c.args.node number c.args.incarnation)

@@ -1,14 +1,11 @@
 use Rattle.std.proofs.Common.{subst}
-use Rattle.node_core.specs.declared.event.NodeEvent.TheVariants.{Call, Deliver, Interrupt, Retry}
+use Rattle.node_core.specs.declared.event.NodeEvent.TheVariants.{Call, Interrupt, Retry}
 use Rattle.node_core.specs.Parts.{IsNode}
 use Rattle.node_core.proofs.PlanLaws.{step-fits}
 use Rattle.node_core.proofs.node.Node.plan.Goals as goal
 
 pub returns-in-Call-clause-fits : goal.returns-in-Call-clause-fits
 returns-in-Call-clause-fits c = step-fits c.args.self.now (Call c.in-Call.pid c.in-Call.op) c.plan_call.result (subst IsNode c.self.view_is c.self.invariant) c.plan_call.ensures.ok c.plan_call.ensures.fits
-
-pub returns-in-Deliver-clause-fits : goal.returns-in-Deliver-clause-fits
-returns-in-Deliver-clause-fits c = step-fits c.args.self.now (Deliver c.in-Deliver.message) c.plan_message.result (subst IsNode c.self.view_is c.self.invariant) c.plan_message.ensures.ok c.plan_message.ensures.fits
 
 pub returns-in-Interrupt-clause-fits : goal.returns-in-Interrupt-clause-fits
 returns-in-Interrupt-clause-fits c = step-fits c.args.self.now (Interrupt c.in-Interrupt.pid) c.plan_interrupt.result (subst IsNode c.self.view_is c.self.invariant) c.plan_interrupt.ensures.ok c.plan_interrupt.ensures.fits

@@ -1,10 +1,6 @@
-use Rattle.std.specs.Prelude.{Some}
 use Rattle.std.proofs.Common.{sym, ◌∙◌}
 use Rattle.token_server.proofs.AwaitLaws.{unfreed-waits}
 use Rattle.token_server.proofs.server.Server.at_after.Goals as goal
-
-pub obstacle-requires : goal.obstacle-requires
-obstacle-requires c = (Some c.args.changed.now, c.requires.rows)
 
 pub returns : goal.returns
 returns c =

@@ -3,9 +3,12 @@ use Rattle.std.proofs.Common.{sym, ap, subst, ◌∙◌, take, drop, arith}
 use Rattle.std.proofs.lemmas.List.Elements.{All-drop}
 use Rattle.token_queue.specs.declared.held.Held.{Held}
 use Rattle.token_queue.specs.declared.token_request.TokenRequest.{TokenRequest}
+use Rattle.token_queue.specs.Actives.{waiting_for}
+use Rattle.token_server.specs.State.{Row}
 use Rattle.token_server.specs.declared.sketch.Changed.{Changed}
 use Rattle.token_server.specs.Obstacles.{obstacle}
 use Rattle.token_server.specs.Parts.{ServerParts, server_state, rows_of}
+use Rattle.token_server.specs.Marks.{NoneExclusive}
 use Rattle.token_server.specs.Sketches.{rows_after}
 use Rattle.token_server.specs.Edits.{overlaid, reached}
 use Rattle.token_server.proofs.AwaitLaws.{Await, await-more, await-first, unfreed-all}
@@ -46,3 +49,14 @@ returns c =
     await-first P n held c.loop-place.ats.items
     (subst (λ (k : ℕ). Await P (take k held) c.loop-place.ats.items) end c.loop-place.invariant.1)
     (unfreed-all p edit c.in-Some.changed (drop n held) rows (All-drop (λ h. obstacle (server_state p) h.request ≡ h.at) n held waits) c.freed_up_to-many.ensures.rest)
+
+pub returns-in_default : goal.returns-in_default
+returns-in_default c =
+    let p = c.args.self.now in
+    let rows : rows_of (overlaid p.clients c.args.rows.now) ≡ rows_of p.clients = c.requires.rows ∙ ap (λ (o : Option Changed). rows_after o (rows_of p.clients)) c.in_default.is in
+    let waits = subst (λ (q : ServerParts). All (λ h. obstacle (server_state q) h.request ≡ h.at) q.active.held) c.self.view_is c.self.invariant.ready.waits in
+    subst (λ (ats : List ℕ). All (λ h. obstacle (reached p c.args.rows.now) h.request ≡ h.at) (waiting_for ats p.active.held)) (sym c.new.ensures.items)
+    (subst (λ (f : ℕ → Option Row). All (λ h. obstacle (record (server_state p) { rows = f }) h.request ≡ h.at) p.active.held) (sym rows) waits)
+
+pub at_after-requires-clause-readable : goal.at_after-requires-clause-readable
+at_after-requires-clause-readable c = λ yes. subst (λ (q : ServerParts). NoneExclusive (reached q c.args.rows.now).rows) c.self.view_is (c.excludes_none-readable.ensures yes)

@@ -14,9 +14,9 @@ use Rattle.token_server.proofs.ToldLaws.{Answer}
 use Rattle.token_server.proofs.TurnLaws.{own-unopposed, own-granted, other-within, other-revoked, served-busy}
 use Rattle.token_server.proofs.server.Server.command.Goals as goal
 
-pub grant-requires : goal.grant-requires
-grant-requires c =
-    own-unopposed (with_told c.args.told.now (drafted c.args.self.now c.args.draft.now)) c.args.request.now c.args.at c.requires (sym c.is_of_node.ensures ∙ c.if-is_of_node.true)
+pub grant-requires-clause-unopposed : goal.grant-requires-clause-unopposed
+grant-requires-clause-unopposed c =
+    own-unopposed (with_told c.args.told.now (drafted c.args.self.now c.args.draft.now)) c.args.request.now c.args.at c.requires.waits (sym c.is_of_node.ensures ∙ c.if-is_of_node.true)
 
 pub returns-then-is_of_node-clause-ok : goal.returns-then-is_of_node-clause-ok
 returns-then-is_of_node-clause-ok c =
@@ -25,7 +25,7 @@ returns-then-is_of_node-clause-ok c =
     let r : TokenRequest = c.args.request.now in
     let comes : Option Told → Answer = λ o. Ok (with_told (c.args.told.now ++ option_to_list o) s, commands_told (option_to_list o)) in
     IfOk-weaker c.grant.result (λ o. granted_to now r (now.rows r.call.node) ≡ comes o) (λ o. served now r ≡ comes o)
-    (λ o granted. own-granted now r c.args.at c.requires (sym c.is_of_node.ensures ∙ c.if-is_of_node.true) ∙ granted) c.grant.ensures.ok
+    (λ o granted. own-granted now r c.args.at c.requires.waits (sym c.is_of_node.ensures ∙ c.if-is_of_node.true) ∙ granted) c.grant.ensures.ok
 
 pub returns-then-is_of_node-clause-busy : goal.returns-then-is_of_node-clause-busy
 returns-then-is_of_node-clause-busy c =
@@ -35,12 +35,12 @@ returns-then-is_of_node-clause-busy c =
     let after : Option Told → ServerState = λ o. with_told (c.args.told.now ++ option_to_list o) s in
     let comes : Option Told → Answer = λ o. Ok (after o, commands_told (option_to_list o)) in
     IfOk-weaker c.grant.result (λ o. granted_to now r (now.rows r.call.node) ≡ comes o) (λ o. is_idle ((after o).rows c.args.at) ≡ false)
-    (λ o granted. served-busy now (after o) r c.args.at (commands_told (option_to_list o)) c.requires (own-granted now r c.args.at c.requires (sym c.is_of_node.ensures ∙ c.if-is_of_node.true) ∙ granted)) c.grant.ensures.ok
+    (λ o granted. served-busy now (after o) r c.args.at (commands_told (option_to_list o)) c.requires.waits (own-granted now r c.args.at c.requires.waits (sym c.is_of_node.ensures ∙ c.if-is_of_node.true) ∙ granted)) c.grant.ensures.ok
 
-pub revoke-requires : goal.revoke-requires
-revoke-requires c =
+pub revoke-requires-clause-node_in : goal.revoke-requires-clause-node_in
+revoke-requires-clause-node_in c =
     let nodes : c.nodes.result ≡ c.args.self.now.shape.nodes = c.nodes.ensures.value ∙ ap (λ (p : ServerParts). p.shape.nodes) c.self.view_is in
-    let within = other-within (with_told c.args.told.now (drafted c.args.self.now c.args.draft.now)) c.args.request.now c.args.at c.requires (sym c.is_of_node.ensures ∙ c.if-is_of_node.false) in
+    let within = other-within (with_told c.args.told.now (drafted c.args.self.now c.args.draft.now)) c.args.request.now c.args.at c.requires.waits (sym c.is_of_node.ensures ∙ c.if-is_of_node.false) in
     (within, (within.0, omega (arith, nodes, within.1, c.nodes.ensures.within.1)))
 
 pub returns-clause-busy : goal.returns-clause-busy
@@ -51,4 +51,4 @@ returns-clause-busy c =
     let after : Option Told → ServerState = λ o. with_told (c.args.told.now ++ option_to_list o) s in
     let comes : Option Told → Answer = λ o. Ok (after o, commands_told (option_to_list o)) in
     IfOk-weaker c.revoke.result (λ o. revoked_from now r c.args.at (now.rows c.args.at) ≡ comes o) (λ o. is_idle ((after o).rows c.args.at) ≡ false)
-    (λ o revoked. served-busy now (after o) r c.args.at (commands_told (option_to_list o)) c.requires (other-revoked now r c.args.at c.requires (sym c.is_of_node.ensures ∙ c.if-is_of_node.false) ∙ revoked)) c.revoke.ensures.ok
+    (λ o revoked. served-busy now (after o) r c.args.at (commands_told (option_to_list o)) c.requires.waits (other-revoked now r c.args.at c.requires.waits (sym c.is_of_node.ensures ∙ c.if-is_of_node.false) ∙ revoked)) c.revoke.ensures.ok

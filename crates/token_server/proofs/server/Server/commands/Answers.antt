@@ -14,8 +14,8 @@ use Rattle.token_server.proofs.ToldLaws.{Answer}
 use Rattle.token_server.proofs.TurnLaws.{read-place, waits-here, turn-spent, fresh-split, fresh-turn, served-whole}
 use Rattle.token_server.proofs.server.Server.commands.Goals as goal
 
-pub serve_one-requires : goal.serve_one-requires
-serve_one-requires c =
+pub serve_one-requires-clause-waits : goal.serve_one-requires-clause-waits
+serve_one-requires-clause-waits c =
     let i = c.loop-held.held-index in
     let s : ServerState = drafted c.args.self.now c.args.draft.now in
     let l : Lists = c.args.draft.now.lists in

@@ -17,8 +17,8 @@ use Rattle.token_server.proofs.TurnLaws.{read-place, waits-place, quiet-place, w
 use Rattle.token_server.proofs.server.Server.commands_kept.Goals.{then-keeps+in_ok-serve_one, else-keeps}
 use Rattle.token_server.proofs.server.Server.commands_kept.Goals as goal
 
-pub serve_one-requires : goal.serve_one-requires
-serve_one-requires c =
+pub serve_one-requires-clause-waits : goal.serve_one-requires-clause-waits
+serve_one-requires-clause-waits c =
     let i = c.loop-place.place in
     let s : ServerState = drafted c.args.self.now c.args.draft.now in
     let l : Lists = c.args.draft.now.lists in
@@ -141,3 +141,9 @@ returns-clause-ok c =
     let many : length (waiting_for l.ats.items held) ≡ length c.as_slice-active.result.now = waiting_for-length l.ats.items held ∙ ap (λ (hs : List Held). length hs) (sym read) in
     let past : length (waiting_for l.ats.items held) ≤ c.loop-place.place = omega (arith, many, c.loop-place-test.false) in
     subst (λ (hs : List Held). AreServed s (held_after l held) (kept l hs) c.loop-place.told.items) (take_all c.loop-place.place (waiting_for l.ats.items held) past) c.loop-place.invariant
+
+pub loop-place-init : goal.loop-place-init
+loop-place-init c =
+    let s : ServerState = drafted c.args.self.now c.args.draft.now in
+    let all : List Held = held_after c.args.draft.now.lists c.args.self.now.active.held in
+    subst (λ (ts : List Told). AreServed s all [] ts) (sym c.new-told.ensures.items) (served-start s all c.requires.waits)

@@ -1,8 +1,8 @@
-use Rattle.std.specs.Prelude.{◌≡◌, ◌+◌, ◌≤◌, List, false, ◌&&◌, ◌==◌, All, length, slice_get, Some}
+use Rattle.std.specs.Prelude.{◌≡◌, ◌+◌, ◌≤◌, List, false, All, length, slice_get, Some}
 use Rattle.std.proofs.Common.{ap, subst, ◌∙◌, drop, arith}
 use Rattle.std.proofs.lemmas.List.{take_all}
 use Rattle.token_queue.specs.declared.held.Held.{Held}
-use Rattle.token_server.specs.Obstacles.{frees}
+use Rattle.token_server.specs.Obstacles.{may_turn}
 use Rattle.token_server.specs.Parts.{ServerParts, rows_of}
 use Rattle.token_server.proofs.AwaitLaws.{rest-more, rest-none}
 use Rattle.token_server.proofs.TurnLaws.{read-place}
@@ -14,7 +14,7 @@ loop-place-preserved c =
     let i = c.loop-place.place in
     let held : List Held = c.args.self.now.active.held in
     let item : Held = c.index-active-place.result in
-    let P : Held → Type 0 = λ h. (h.at == c.args.changed.now.node && frees c.args.changed.now.change (rows_of c.args.self.now.clients c.args.changed.now.node) h.request.wanted.required) ≡ false in
+    let P : Held → Type 0 = λ h. may_turn c.args.changed.now (rows_of c.args.self.now.clients c.args.changed.now.node) h ≡ false in
     let read : c.as_slice-active.result.now ≡ held = c.as_slice-active.ensures ∙ ap (λ (p : ServerParts). p.active.held) c.self.view_is in
     let many : length c.as_slice-active.result.now ≡ length held = ap (λ (hs : List Held). length hs) read in
     let there : slice_get held i ≡ Some item = read-place c.as_slice-active.result.now held i item read c.loop-place-test.true c.index-active-place.is in
@@ -27,7 +27,7 @@ loop-place-preserved c =
 pub returns-clause-rest : goal.returns-clause-rest
 returns-clause-rest c =
     let held : List Held = c.args.self.now.active.held in
-    let P : Held → Type 0 = λ h. (h.at == c.args.changed.now.node && frees c.args.changed.now.change (rows_of c.args.self.now.clients c.args.changed.now.node) h.request.wanted.required) ≡ false in
+    let P : Held → Type 0 = λ h. may_turn c.args.changed.now (rows_of c.args.self.now.clients c.args.changed.now.node) h ≡ false in
     let many : length c.as_slice-active.result.now ≡ length held = ap (λ (xs : List Held). length xs) (c.as_slice-active.ensures ∙ ap (λ (p : ServerParts). p.active.held) c.self.view_is) in
     let past : length held ≤ c.loop-place.place = omega (arith, c.loop-place-test.false, many) in
     subst (λ (xs : List Held). All P (drop c.loop-place.many xs)) (take_all c.loop-place.place held past) c.loop-place.invariant.2

@@ -1,9 +1,11 @@
-use Rattle.std.specs.Prelude.{◌≡◌, List}
-use Rattle.std.proofs.Common.{sym, ap, subst, ◌∙◌}
+use Rattle.std.specs.Prelude.{◌≡◌, ℕ, List, [], ◌∷◌, Option}
+use Rattle.std.proofs.Common.{refl, sym, ap, subst, ◌∙◌}
 use Rattle.std.proofs.lemmas.List.Elements.{All-append}
 use Rattle.token_queue.specs.declared.token_request.TokenRequest.{TokenRequest}
 use Rattle.token_queue.specs.declared.held.Held.{Held}
 use Rattle.token_queue.specs.Actives.{requests_of, waiting_for}
+use Rattle.intervals.specs.Search.{some_passes}
+use Rattle.token_server.specs.State.{Row, is_awaited, awaits}
 use Rattle.token_server.specs.Admitting.{IsAdmitted}
 use Rattle.token_server.specs.Obstacles.{obstacle}
 use Rattle.token_server.specs.Ready.{AreDistinct}
@@ -12,14 +14,15 @@ use Rattle.token_server.specs.Edits.{reached}
 use Rattle.token_server.proofs.ReadyLaws.{distinct-queue, kept-all}
 use Rattle.token_server.proofs.server.Server.lists.Goals as goal
 
+none-of : (held : List Held) → requests_of held ≡ [] → held ≡ []
+none-of [] is = refl
+none-of (h ∷ held) is = absurd (cc)
+
 pub admit-requires : goal.admit-requires
 admit-requires c =
     let k = c.args.sketch.now in
     let e = c.newly_dead-dropped.ensures in
     subst AreDistinct (λ i. queue_moved k.moved (sym e.queue i) (sym e.waiting i)) (distinct-queue (sketched c.args.self.now k) c.requires.orderly)
-
-pub hold-requires : goal.hold-requires
-hold-requires c = (c.args.sketch.now.changed, c.requires.rows)
 
 pub returns : goal.returns
 returns c =
@@ -30,11 +33,13 @@ returns c =
     let served : still_active k.ended (without d (requests_of p.active.held)) ≡ (sketched p k).active = ap (still_active k.ended) e.active in
     let queued : queue_moved k.moved (without d p.queue.requests) (without d p.waiting.requests) ≡ (sketched p k).queue = (λ i. queue_moved k.moved (e.queue i) (e.waiting i)) in
     let fresh : requests_of c.in_ok-hold.field-0.items ≡ c.in_ok-fresh.fresh.items = c.in_ok-hold.ensures.requests ∙ c.as_slice.ensures.value in
+    let same : c.args.awaiting ≡ awaits (sketched p k) = c.requires.awaited ∙ ap (λ (f : ℕ → Option Row). some_passes (λ n. is_awaited (f n)) 1 p.shape.nodes) c.requires.rows in
     let W : Held → Type 0 = λ h. obstacle (reached p c.args.rows.now) h.request ≡ h.at in
     record {
       served = served;
       queued = queued;
       put_off = ap (waiting_moved k.moved) e.waiting;
-      comes = subst (λ (xs : List TokenRequest). IsAdmitted (sketched p k).active (sketched p k).queue xs) (sym fresh) (subst (λ (xs : List TokenRequest). IsAdmitted xs (sketched p k).queue c.in_ok-fresh.fresh.items) served (subst (λ (xs : List TokenRequest). IsAdmitted (still_active k.ended (without d (requests_of p.active.held))) xs c.in_ok-fresh.fresh.items) queued c.in_ok-fresh.ensures));
+      comes = λ told. subst (λ (xs : List TokenRequest). IsAdmitted (sketched p k).active (sketched p k).queue xs) (sym fresh) (subst (λ (xs : List TokenRequest). IsAdmitted xs (sketched p k).queue c.in_ok-fresh.fresh.items) served (subst (λ (xs : List TokenRequest). IsAdmitted (still_active k.ended (without d (requests_of p.active.held))) xs c.in_ok-fresh.fresh.items) queued (c.in_ok-fresh.ensures.comes (same ∙ told))));
+      rests = λ awaited. none-of c.in_ok-hold.field-0.items (fresh ∙ c.in_ok-fresh.ensures.rests (same ∙ awaited));
       waits = All-append W _ c.in_ok-hold.field-0.items (kept-all W k.ended d (waiting_for c.in_ok-awaited.field-0.items p.active.held) c.in_ok-awaited.ensures) c.in_ok-hold.ensures.waits;
     }

@@ -1,29 +1,26 @@
-use Rattle.std.specs.Prelude.{◌≡◌, ℕ, ◌≤◌, false, Option}
+use Rattle.std.specs.Prelude.{◌≡◌, ℕ, ◌≤◌, false}
 use Rattle.std.proofs.Common.{sym, ap, subst, ◌∙◌}
 use Rattle.intervals.specs.Bytes.{Range, greatest}
 use Rattle.model.specs.declared.mode.Mode.{Mode}
 use Rattle.model.specs.declared.mode.Mode.TheVariants.{Read}
 use Rattle.token_queue.specs.declared.token_request.TokenRequest.{TokenRequest}
-use Rattle.token_server.specs.State.{Row}
 use Rattle.token_server.specs.Serve.{row_conflicts}
-use Rattle.token_server.specs.Parts.{ServerParts, rows_of}
 use Rattle.token_server.specs.Marks.{NoneExclusive}
 use Rattle.token_server.specs.Edits.{reached}
 use Rattle.token_server.proofs.MarkLaws.{exclusive-readable}
 use Rattle.token_server.proofs.AwaitLaws.{unopposed-own}
 use Rattle.token_server.proofs.server.Server.obstacle.Goals as goal
 
-pub returns-then-excludes_none : goal.returns-then-excludes_none
-returns-then-excludes_none c =
+pub returns-then-reads : goal.returns-then-reads
+returns-then-reads c =
     let r = c.args.request.now in
     let p = c.args.self.now in
     let span : Range = r.wanted.required in
     let within : span.hi ≤ greatest =
     subst (λ (s : Range). s.hi ≤ greatest) (c.required.view_is ∙ c.required-required.ensures.value) c.required.invariant.1 in
-    let none : NoneExclusive (rows_of p.clients) = subst (λ (q : ServerParts). NoneExclusive (rows_of q.clients)) c.self.view_is (c.excludes_none.ensures c.if-excludes_none.true) in
+    let none : NoneExclusive (reached p c.args.rows.now).rows = c.requires c.if-readable.true in
     let reads : r.mode ≡ Read = ap (λ (x : TokenRequest). x.mode) (sym c.request.view_is) ∙ c.reads.ensures c.if-reads.true in
     let free : (node : ℕ) → row_conflicts ((reached p c.args.rows.now).rows node) span r.mode ≡ false =
     λ node. ap (λ (m : Mode). row_conflicts ((reached p c.args.rows.now).rows node) span m) reads
-    ∙ ap (λ (f : ℕ → Option Row). row_conflicts (f node) span Read) c.requires.1
-    ∙ exclusive-readable c.requires.0 (rows_of p.clients) span none within node in
+    ∙ exclusive-readable (reached p c.args.rows.now).rows span none within node in
     ap (λ (x : TokenRequest). x.call.node) c.request.view_is ∙ unopposed-own (reached p c.args.rows.now) r free

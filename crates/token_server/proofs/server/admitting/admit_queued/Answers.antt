@@ -35,7 +35,7 @@ returns-in_default c =
     let active = requests_of c.args.active.now.held in
     let queue = c.args.queue.now.requests in
     let none : g.dropped ≡ None = none-is g.dropped (sym c.is_some.ensures ∙ c.if-is_some.false) in
-    settled g.dropped g.ended active queue c.args.fresh.now.items none (ap (λ (o : Option CallId). still_active o active) c.in_default.is) c.requires.empty (admitted-settled active queue (stays-all active [] queue c.requires.settled))
+    settled g.dropped g.ended active queue c.args.fresh.now.items none (ap (λ (o : Option CallId). still_active o active) c.in_default.is) c.requires.empty (admitted-settled active queue (stays-all active [] queue (c.requires.settled c.if-not-settled.false)))
 
 pub returns-in_default-find : goal.returns-in_default-find
 returns-in_default-find c =
@@ -44,7 +44,7 @@ returns-in_default-find c =
     let queue = c.args.queue.now.requests in
     let none : g.dropped ≡ None = none-is g.dropped (sym c.is_some.ensures ∙ c.if-is_some.false) in
     let same : filter (λ r. not (is_of_call c.in-Some.call r)) active ≡ active = filter-none c.in-Some.call active (sym c.find.ensures ∙ c.in_default-find.is) in
-    settled g.dropped g.ended active queue c.args.fresh.now.items none (ap (λ (o : Option CallId). still_active o active) c.in-Some.is ∙ same) c.requires.empty (admitted-settled active queue (stays-all active [] queue c.requires.settled))
+    settled g.dropped g.ended active queue c.args.fresh.now.items none (ap (λ (o : Option CallId). still_active o active) c.in-Some.is ∙ same) c.requires.empty (admitted-settled active queue (stays-all active [] queue (c.requires.settled c.if-not-settled.false)))
 
 pub admit_freed-requires-clause-ended : goal.admit_freed-requires-clause-ended
 admit_freed-requires-clause-ended c =
@@ -55,6 +55,6 @@ admit_freed-requires-clause-ended c =
     let ended : TokenRequest = c.in-Some-find.ended in
     let none : g.dropped ≡ None = none-is g.dropped (sym c.is_some.ensures ∙ c.if-is_some.false) in
     let distinct : AreDistinct queue = subst (λ (d : Option (ℕ × ℕ)). AreDistinct (without d queue)) none c.requires.queued in
-    let has : HasEnded active queue call ended = record { few = c.requires.served call; found = sym c.find.ensures ∙ c.in-Some-find.is; settled = c.requires.settled; distinct = distinct } in
+    let has : HasEnded active queue call ended = record { few = c.requires.served call; found = sym c.find.ensures ∙ c.in-Some-find.is; settled = c.requires.settled c.if-not-settled.false; distinct = distinct } in
     subst (λ (held : List Held). HasEnded (requests_of held) (requests_in c.slots-2.result.now) call ended) (sym c.as_slice-2.ensures)
     (subst (λ (rs : List TokenRequest). HasEnded active rs call ended) (sym c.slots-2.ensures) has)

@@ -1,4 +1,4 @@
-use Rattle.std.proofs.Common.{◌≡◌, ap}
+use Rattle.std.proofs.Common.{◌≡◌, ap, arith}
 use Rattle.intervals.specs.Bytes.{Range}
 use Rattle.token_set.proofs.RunLaws.{listed_more}
 use Rattle.token_set.proofs.set.TokenSet.runs.Goals as goal
@@ -6,4 +6,7 @@ use Rattle.token_set.proofs.set.TokenSet.runs.Goals as goal
 pub loop-next-preserved : goal.loop-next-preserved
 loop-next-preserved c =
     let hi : c.span.inside.hi ≡ c.in-Some.next.0.hi = ap (λ (s : Range). s.hi) c.span.view_is in
-    rw (c.in_ok-push.ensures.items, hi) (listed_more _ _ _ c.loop-next.invariant c.in-Some.next.0 c.in-Some.next.1 (rw (← c.self.view_is) c.in-Some.ensures))
+    record {
+      listed = rw (c.in_ok-push.ensures.items, hi) (listed_more _ _ _ c.loop-next.invariant.listed c.in-Some.next.0 c.in-Some.next.1 (rw (← c.self.view_is) c.in-Some.ensures));
+      within = omega arith;
+    }

@@ -1,0 +1,19 @@
+use Rattle.std.proofs.Common.{◌≡◌, ◌<◌, true, sym, subst, Ok}
+use Rattle.messages.specs.Messages.{is_within}
+use Rattle.cluster_core.specs.World.{journal_limit}
+use Rattle.cluster_core.specs.Next.{fail_rule}
+use Rattle.cluster_core.specs.Parts.{WorldParts, world_state}
+use Rattle.cluster_core.proofs.steps.EpochSteps.{failed_parts, failed_world, failed_done, opened}
+use Rattle.cluster_core.proofs.world.World.fail.Goals as goal
+
+pub invariant_of-self : goal.invariant_of-self
+invariant_of-self c =
+    let number = subst (λ (q : WorldParts). is_within q.shape.files c.args.file ≡ true) (sym c.self.view_is) c.requires.file in
+    failed_world _ c.self.invariant c.args.file number _ c.fail_server.ensures.others _ c.in-Ok.ensures.ok (subst (λ (q : WorldParts). q.length < journal_limit) (sym c.self.view_is) c.requires.room)
+
+pub returns : goal.returns
+returns c =
+    let here : WorldParts = record { shape = c.self.inside.shape; nodes = c.self.inside.nodes.items; members = c.self.inside.members; servers = c.self.inside.servers.items; sent = c.self.inside.sent; length = c.self.inside.length } in
+    let P : WorldParts → Type 0 = λ q. fail_rule (world_state q) c.args.file ≡ Ok (world_state (failed_parts here c.fail_server.new.self), c.at_node.result) in
+    opened P _ _ c.args.file c.self.view_is c.requires.file
+    (λ number. failed_done _ c.self.invariant c.args.file number _ c.fail_server.ensures.others _ c.in-Ok.ensures.ok c.sending-outcome.result _ c.at_node.result c.sending-outcome.ensures c.new.ensures c.at_node.ensures)

@@ -1,0 +1,15 @@
+use Rattle.std.proofs.Common.{◌∙◌, ap, sym, Err}
+use Rattle.std.proofs.lemmas.Result.{err_from_is_err_and}
+use Rattle.messages.specs.Refusals.{refused_by}
+use Rattle.messages.specs.declared.refusal.Refused.{Refused}
+use Rattle.messages.specs.declared.event.Event.TheVariants.{Deliver}
+use Rattle.cluster_core.specs.Parts.{world_state}
+use Rattle.cluster_core.proofs.steps.CertainRefusals.{err_is, server_refused}
+use Rattle.cluster_core.proofs.world.World.plan_server_delivery.Goals as goal
+
+pub returns-in_err-change-clause-refused : goal.returns-in_err-change-clause-refused
+returns-in_err-change-clause-refused c = λ e unspent refused.
+    let own = server_refused (world_state c.args.self.now) (Deliver c.args.message.now) c.args.file _ e refused in
+    let made = err_from_is_err_and c.from_residual.result c.from_residual.ensures.1 in
+    let same = sym c.in_err-change.was ∙ c.server_delivery.ensures.refused own.0 (λ spent. unspent (sym own.2 ∙ ap refused_by spent)) own.1 in
+    made.1 ∙ ap (λ (r : Refused). Err r) (made.2 ∙ ap refused_by (err_is _ _ same) ∙ own.2)

@@ -1,0 +1,187 @@
+//! Actors of one kind, which fail and begin again.
+ghost use Rattle.std.specs.Prelude.{◌≡◌, ◌≤◌, true, Some, None, IfSome, IfOk, IfErr, OnErr, length, ◌-◌, slice_index_or};
+ghost use Rattle.messages.specs.Messages.{is_within};
+ghost use Rattle.model.specs.Limits.{IsNumber};
+ghost use Rattle.members.specs.Members.{most_incarnations, first_members, live_incarnation, was_declared, with_restarted, declared_failed, restarted};
+ghost use Rattle.members.specs.Parts.{members_state};
+
+use intervals::span_map::NoMemory;
+use messages::refusal::Refused;
+use std::alloc::Global;
+use std::marker::Model;
+
+/// The most incarnations of a node; they are numbered from 1.
+pub const MOST_INCARNATIONS: u16 = 65_535;
+
+// Whether a node is alive, and the last incarnation that it began.
+#[derive(Clone, Copy)]
+struct Member {
+    alive: bool,
+    last: u16,
+}
+
+impl Model for Member {
+    ghost use Rattle.members.specs.Parts.{MemberParts, IsMember};
+
+    ghost Value = { MemberParts };
+
+    ghost view = { λ m. record { alive = m.alive; last = m.last } };
+
+    ghost invariant = { λ m. IsMember (record { alive = m.alive; last = m.last }) };
+
+    ghost inverse = { λ m. record { alive = m.alive; last = m.last } };
+}
+
+/// Which actors of a kind are alive, and in which incarnation. One that was declared failed is at once
+/// in its next incarnation, and is not alive until it restarts.
+#[derive(Drop)]
+pub struct Crowd {
+    nodes: Vec<Member>,
+}
+
+impl Model for Crowd {
+    ghost use Rattle.std.specs.Prelude.{List};
+    ghost use Rattle.members.specs.Parts.{MemberParts};
+
+    ghost Value = { List MemberParts };
+
+    ghost view = { λ m. m.nodes.items };
+}
+
+impl Crowd {
+    /// The members of a cluster that begins: every node is alive, in its first incarnation.
+    ///
+    /// # Errors
+    /// `NoMemory` where a request for memory was refused.
+    pub fn new(alloc: Global, count: u16) -> Result<Crowd, NoMemory>
+        ensures { IfOk result (λ members. members_state members ≡ first_members count) }
+    {
+        let mut nodes = Vec::new(alloc);
+        for index in 0..count {
+            nodes.push(Member {
+                alive: true,
+                last: 1,
+            })?;
+        }
+        Ok(Crowd { nodes })
+    }
+
+    // Whether the cluster has a node with the number.
+    fn has(&self, node: u16) -> bool
+        ensures { result ≡ is_within (members_state self.now).nodes node }
+    {
+        1 <= node && node as usize <= self.nodes.len()
+    }
+
+    /// The incarnation of the node that is alive, or none.
+    pub fn alive(&self, node: u16) -> Option<u16>
+        ensures value { result ≡ live_incarnation (members_state self.now) node }
+        ensures within { IfSome result (λ incarnation. IsNumber most_incarnations incarnation) }
+    {
+        if !self.has(node) {
+            return None;
+        }
+        let member = self.nodes[node as usize - 1];
+        if member.alive {
+            Some(member.last)
+        } else {
+            None
+        }
+    }
+
+    /// Whether this incarnation of the node was declared failed.
+    pub fn declared(&self, node: u16, incarnation: u16) -> bool
+        ensures { result ≡ was_declared (members_state self.now) node incarnation }
+    {
+        if !self.has(node) {
+            return false;
+        }
+        let member = self.nodes[node as usize - 1];
+        if member.alive {
+            1 <= incarnation && incarnation < member.last
+        } else {
+            1 <= incarnation && incarnation <= member.last
+        }
+    }
+
+    /// The greatest incarnation of the node that was declared failed, 0 where none was.
+    pub fn dead(&self, node: u16) -> u16
+        ensures { result ≡ (members_state self.now).incarnation node - 1 }
+    {
+        if !self.has(node) {
+            return 0;
+        }
+        let member = self.nodes[node as usize - 1];
+        if member.alive {
+            member.last - 1
+        } else {
+            member.last
+        }
+    }
+
+    /// The node is declared failed. Which incarnation of it was alive.
+    ///
+    /// # Errors
+    /// `Stranger` where the cluster has no such node, `NotAlive` where it is not alive. Nothing changes then.
+    pub fn declare(&mut self, node: u16) -> Result<u16, Refused>
+        ensures ok { IfOk result (λ incarnation. declared_failed (members_state self.old) node ≡ Ok (members_state self.new, incarnation)) }
+        ensures within { IfOk result (λ incarnation. IsNumber most_incarnations incarnation) }
+        ensures err { IfErr result (λ e. declared_failed (members_state self.old) node ≡ Err e) }
+        ensures unchanged { OnErr result (self.new ≡ self.old) }
+    {
+        if !self.has(node) {
+            return Err(Refused::Stranger);
+        }
+        let member = self.nodes[node as usize - 1];
+        if !member.alive {
+            return Err(Refused::NotAlive);
+        }
+        self.nodes[node as usize - 1] = Member {
+            alive: false,
+            last: member.last,
+        };
+        Ok(member.last)
+    }
+
+    /// The incarnation in which the node would restart now.
+    ///
+    /// # Errors
+    /// Those of `restart`.
+    pub fn next(&self, node: u16) -> Result<u16, Refused>
+        ensures ok { IfOk result (λ incarnation. restarted (members_state self.now) node ≡ Ok (with_restarted (members_state self.now) node, incarnation)) }
+        ensures later { IfOk result (λ incarnation. 2 ≤ incarnation) }
+        ensures within { IfOk result (λ incarnation. IsNumber most_incarnations incarnation) }
+        ensures err { IfErr result (λ e. restarted (members_state self.now) node ≡ Err e) }
+    {
+        if !self.has(node) {
+            return Err(Refused::Stranger);
+        }
+        let member = self.nodes[node as usize - 1];
+        if member.alive {
+            return Err(Refused::NotDead);
+        }
+        if member.last == MOST_INCARNATIONS {
+            return Err(Refused::TooManyRestarts);
+        }
+        Ok(member.last + 1)
+    }
+
+    /// The node restarts. In which incarnation it does.
+    ///
+    /// # Errors
+    /// `Stranger` where the cluster has no such node, `NotDead` where it is alive, `TooManyRestarts`
+    /// where it had 65,535 incarnations. Nothing changes then.
+    pub fn restart(&mut self, node: u16) -> Result<u16, Refused>
+        ensures ok { IfOk result (λ incarnation. restarted (members_state self.old) node ≡ Ok (members_state self.new, incarnation)) }
+        ensures within { IfOk result (λ incarnation. IsNumber most_incarnations incarnation) }
+        ensures err { IfErr result (λ e. restarted (members_state self.old) node ≡ Err e) }
+        ensures unchanged { OnErr result (self.new ≡ self.old) }
+    {
+        let incarnation = self.next(node)?;
+        self.nodes[node as usize - 1] = Member {
+            alive: true,
+            last: incarnation,
+        };
+        Ok(incarnation)
+    }
+}

@@ -1,0 +1,71 @@
+-- What a node knows in the epoch of a command.
+use Rattle.std.specs.Prelude.{◌≡◌, ℕ, ◌+◌, ◌==◌, ◌||◌, Bool, true, false, nat_lt, if◌then◌else◌, Some, None, Result, IfOk, refl}
+use Rattle.std.specs.declared.alloc.AllocError.{AllocError}
+use Rattle.std.proofs.Common.{ap, sym, subst, ◌∙◌}
+use Rattle.std.proofs.lemmas.Bool.{eq-eqb}
+use Rattle.intervals.specs.Bytes.{Range}
+use Rattle.model.specs.declared.mode.Mode.{Mode}
+use Rattle.model.specs.declared.call.CallId.{CallId}
+use Rattle.token_set.specs.Tokens.{Token, raised}
+use Rattle.token_set.specs.Releases.{gave_up, after_giving_up}
+use Rattle.messages.specs.declared.message.Message.{Message}
+use Rattle.messages.specs.declared.message.Message.TheVariants.{Taken}
+use Rattle.messages.specs.Epochs.{begin_of}
+use Rattle.messages.specs.Wants.{Wants}
+use Rattle.node_core.specs.State.{FileState, NodeState, Effect, sent, host, open_call}
+use Rattle.node_core.specs.Try.{tried_if}
+use Rattle.node_core.specs.Commands.{renewed, in_epoch, in_order, before, after_command, answer_to, is_conflict, granted, revoked}
+use Rattle.node_core.specs.declared.effect.Effect.{Effect as EffectFields}
+use Rattle.node_core.specs.Parts.{NodeParts, out_of_order}
+use Rattle.node_core.specs.Plans.{effect_of}
+use Rattle.node_core.proofs.PlanLaws.{on, if-if}
+
+-- of the file itself that is what its rules say
+pub in_epoch-file : (s : NodeState) (file number : ℕ) → (in_epoch s file number).files file ≡ renewed (s.files file) number
+in_epoch-file s file number = ap (λ (b : Bool). if b then renewed (s.files file) number else s.files file) (eq-eqb file file refl)
+
+-- the token and what was asked stay
+renewed-token : (f : FileState) (number : ℕ) → (renewed f number).token ≡ f.token
+renewed-token f number = by (nat_lt f.last (begin_of number))
+  where
+    by : (b : Bool) → (if b then record f { last = begin_of number; answer = None } else f).token ≡ f.token
+    by true = refl
+    by false = refl
+
+renewed-asked : (f : FileState) (number : ℕ) → (renewed f number).asked ≡ f.asked
+renewed-asked f number = by (nat_lt f.last (begin_of number))
+  where
+    by : (b : Bool) → (if b then record f { last = begin_of number; answer = None } else f).asked ≡ f.asked
+    by true = refl
+    by false = refl
+
+token-in : (s : NodeState) (file number : ℕ) → ((in_epoch s file number).files file).token ≡ (s.files file).token
+token-in s file number = ap (λ (f : FileState). f.token) (in_epoch-file s file number) ∙ renewed-token (s.files file) number
+
+asked-in : (s : NodeState) (file number : ℕ) → ((in_epoch s file number).files file).asked ≡ (s.files file).asked
+asked-in s file number = ap (λ (f : FileState). f.asked) (in_epoch-file s file number) ∙ renewed-asked (s.files file) number
+
+-- what a command that is done makes of the node does not hang on what came before
+done-in : (s : NodeState) (file number : ℕ) (token : Token) (answer : Message) (asked : Bool) → after_command (in_epoch s file number) file token number answer asked ≡ after_command s file token number answer asked
+done-in s file number token answer asked =
+    let done : FileState = record { token = token; last = number; answer = Some answer; asked = asked } in
+    λ i. record s { files = λ f. if-if (f == file) done (renewed (s.files file) number) (s.files f) i }
+
+pub granted-in : (s : NodeState) (file number : ℕ) (call : CallId) (mode : Mode) (span : Range) → granted (in_epoch s file number) file number call mode span ≡ granted s file number call mode span
+granted-in s file number call mode span =
+    let answer = Taken file number call in
+    let tries : NodeState → Effect = λ next. before answer (tried_if next (open_call next call.number)) in
+    (λ i. tries (after_command (in_epoch s file number) file (raised (token-in s file number i) span mode) number answer (asked-in s file number i)))
+    ∙ ap tries (done-in s file number (raised (s.files file).token span mode) answer (s.files file).asked)
+
+pub revoked-in : (s : NodeState) (file number : ℕ) (call : CallId) (mode : Mode) (wanted : Wants) → revoked (in_epoch s file number) file number call mode wanted ≡ revoked s file number call mode wanted
+revoked-in s file number call mode wanted =
+    let gives = gave_up (s.table.locks file) s.node s.incarnation mode wanted.required wanted.desired in
+    let answer = answer_to file number (host s) call gives in
+    (λ i. sent (after_command (in_epoch s file number) file (after_giving_up (token-in s file number i) mode gives) number answer (is_conflict gives || asked-in s file number i)) answer)
+    ∙ ap (λ (next : NodeState). sent next answer) (done-in s file number (after_giving_up (s.files file).token mode gives) answer (is_conflict gives || (s.files file).asked))
+
+-- a command that is next in its epoch is done
+pub in_order-next : (s : NodeState) (p : NodeParts) (file number : ℕ) (done same : Effect) (r : Result EffectFields AllocError) → (number == (s.files file).last + 1) ≡ true → done ≡ same → IfOk r (λ e. same ≡ effect_of p e) → IfOk r (λ e. in_order s file number done ≡ effect_of p e)
+in_order-next s p file number done same r next is made =
+    subst (λ (x : Effect). IfOk r (λ e. x ≡ effect_of p e)) (sym (on (number == (s.files file).last + 1) done (out_of_order s file number) next ∙ is)) made

@@ -1,0 +1,19 @@
+//! What a node reports of its tokens.
+ghost use Rattle.std.specs.Prelude.{◌≡◌, IfOk};
+ghost use Rattle.messages.specs.Reports.{runs_of};
+ghost use Rattle.token_set.specs.Sets.{token_of};
+
+use messages::token_run::TokenRuns;
+use std::alloc::{AllocError, Global};
+use token_set::set::TokenSet;
+
+/// The longest runs of the token, as a message has them.
+///
+/// # Errors
+/// `AllocError` where a request for memory was refused.
+pub fn runs_of(alloc: Global, token: &TokenSet) -> Result<TokenRuns, AllocError>
+    ensures { IfOk result (λ runs. runs ≡ runs_of (token_of token.now)) }
+{
+    let runs = token.runs(alloc)?;
+    TokenRuns::of(alloc, &runs)
+}

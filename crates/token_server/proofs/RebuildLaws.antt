@@ -1,0 +1,114 @@
+-- What a server knows of each node once it was rebuilt.
+use Rattle.std.specs.Prelude.{◌≡◌, ℕ, zero, suc, ◌+◌, ◌-◌, ◌<◌, ◌≤◌, Bool, true, false, cond, ◌&&◌, nat_le, List, [], length, IfSome, Option, Some, None}
+use Rattle.std.proofs.Common.{refl, sym, ap, subst, ◌∙◌, inl, inr, arith}
+use Rattle.std.proofs.lemmas.Bool.{cases_lt, and_from, le-leb, lt-leb}
+use Rattle.std.proofs.lemmas.Option.{slice_get_past}
+use Rattle.std.proofs.lemmas.List.Elements.{All-nil}
+use Rattle.intervals.specs.Search.{some_passes}
+use Rattle.model.specs.Limits.{IsNumber}
+use Rattle.model.specs.declared.mode.Mode.TheVariants.{Read}
+use Rattle.messages.specs.Shapes.{ShapeFields}
+use Rattle.messages.specs.Epochs.{IsEpoch, before_epoch}
+use Rattle.messages.specs.Messages.{is_within}
+use Rattle.members.specs.Parts.{MembersParts, incarnation_of, members_state}
+use Rattle.members.proofs.Numbered.{numbered-outside}
+use Rattle.token_queue.specs.Requests.{LineParts}
+use Rattle.token_queue.specs.Actives.{ActiveParts}
+use Rattle.token_server.specs.declared.client.Client.{Client}
+use Rattle.token_server.specs.State.{Row, ServerState, is_awaited, awaited_row}
+use Rattle.token_server.specs.Serve.{row_conflicts_at}
+use Rattle.token_server.specs.Obstacles.{obstacle, is_idle}
+use Rattle.token_server.specs.Parts.{server_state, row_of, dead_of, client_at, rows_of, deaths_of}
+use Rattle.token_server.specs.Ready.{IsServer}
+use Rattle.token_server.specs.Marks.{NoneExclusive}
+use Rattle.token_server.specs.Rebuilds.{rebuilt_row, rebuilt_dead, AreRebuilt, rebuilt_by}
+
+within-cluster : (nodes k : ℕ) → k < nodes → is_within nodes (suc k) ≡ true
+within-cluster nodes k below = and_from (nat_le 1 (suc k)) (nat_le (suc k) nodes) (le-leb 1 (suc k) (omega arith)) (le-leb (suc k) nodes (omega arith))
+
+past-cluster : (nodes k : ℕ) → nodes ≤ k → is_within nodes (suc k) ≡ false
+past-cluster nodes k past = ap (λ (b : Bool). nat_le 1 (suc k) && b) (lt-leb (suc k) nodes (omega arith)) ∙ none (nat_le 1 (suc k))
+  where
+    none : (b : Bool) → (b && false) ≡ false
+    none true = refl
+    none false = refl
+
+module _ (shape : ShapeFields) (file epoch : ℕ) (members : MembersParts) (clients : List Client) (many : length clients ≡ shape.nodes) (of_shape : (members_state members.nodes).nodes ≡ shape.nodes) (each : AreRebuilt file (before_epoch epoch) members shape.nodes clients) where
+  -- the rows of the nodes that are alive
+  pub rebuilt-rows : rows_of clients ≡ (rebuilt_by shape file epoch members).rows
+  unfolding rows_of
+  rebuilt-rows = λ i node. at node i
+    where
+      row : ℕ → Option Row
+      row node = Some (awaited_row file (before_epoch epoch) node ((members_state members.nodes).incarnation node))
+
+      alive : ℕ → Bool
+      alive node = (members_state members.nodes).alive node
+
+      at : (node : ℕ) → row_of (client_at clients node) ≡ cond (is_within shape.nodes node && alive node) (row node) None
+      at zero = refl
+      at (suc k) = elim (cases_lt k shape.nodes) [
+        | inl below ↦ (each k below).0 ∙ ap (rebuilt_row file (before_epoch epoch) members) next ∙ sym (ap (λ (b : Bool). cond (b && alive (suc k)) (row (suc k)) None) (within-cluster shape.nodes k below))
+        | inr past ↦ ap row_of (slice_get_past clients k (omega arith)) ∙ sym (ap (λ (b : Bool). cond (b && alive (suc k)) (row (suc k)) None) (past-cluster shape.nodes k past))
+      ]
+        where
+          next : k + 1 ≡ suc k
+          next = omega arith
+
+  -- and the incarnations that were declared failed
+  pub rebuilt-deaths : deaths_of clients ≡ (rebuilt_by shape file epoch members).dead
+  unfolding deaths_of
+  rebuilt-deaths = λ i node. at node i
+    where
+      outside : (node : ℕ) → (1 ≤ node → 1 + (members_state members.nodes).nodes ≤ node) → 0 ≡ rebuilt_dead members node
+      outside node out = sym (ap (λ (k : ℕ). k - 1) (numbered-outside (λ y. incarnation_of y.alive y.last) (λ k. 1) 1 members.nodes node out))
+
+      at : (node : ℕ) → dead_of (client_at clients node) ≡ rebuilt_dead members node
+      at zero = outside zero (λ least. absurd (omega arith))
+      at (suc k) = elim (cases_lt k shape.nodes) [
+        | inl below ↦ (each k below).1 ∙ ap (rebuilt_dead members) next
+        | inr past ↦ ap dead_of (slice_get_past clients k (omega arith)) ∙ outside (suc k) (λ least. omega arith)
+      ]
+        where
+          next : k + 1 ≡ suc k
+          next = omega arith
+
+  -- no row has an exclusive byte
+  pub rebuilt-free : NoneExclusive (rows_of clients)
+  rebuilt-free node b within = ap (λ (rows : ℕ → Option Row). row_conflicts_at (rows node) b Read) rebuilt-rows ∙ free (is_within shape.nodes node && (members_state members.nodes).alive node)
+    where
+      free : (t : Bool) → row_conflicts_at (cond t (Some (awaited_row file (before_epoch epoch) node ((members_state members.nodes).incarnation node))) None) b Read ≡ false
+      free true = refl
+      free false = refl
+
+-- a server that has no request holds all that a server has to
+pub idle-server : (shape : ShapeFields) (file epoch : ℕ) (clients : List Client) (awaiting : Bool) (active : ActiveParts) (queue waiting : LineParts) → length clients ≡ shape.nodes → IsNumber shape.files file → IsEpoch epoch → awaiting ≡ some_passes (λ n. is_awaited (rows_of clients n)) 1 shape.nodes → ((n : ℕ) → IfSome (rows_of clients n) (λ row. before_epoch epoch ≤ row.number)) → active ≡ record { held = []; room = 0 } → queue ≡ record { requests = []; room = 0 } → waiting ≡ record { requests = []; room = 0 } → IsServer (record { shape = shape; file = file; epoch = epoch; clients = clients; active = active; queue = queue; waiting = waiting }) awaiting
+idle-server shape file epoch clients awaiting active queue waiting many file_in epoch_in awaited counted no_active no_queue no_waiting =
+    subst (λ (x : ActiveParts × LineParts × LineParts). IsServer (record { shape = shape; file = file; epoch = epoch; clients = clients; active = x.0; queue = x.1; waiting = x.2 }) awaiting)
+    (λ i. (sym no_active i, sym no_queue i, sym no_waiting i))
+    (record {
+      each_node = many;
+      file_in = file_in;
+      epoch_in = epoch_in;
+      awaited = awaited;
+      ready = record {
+        waits = All-nil (λ h. obstacle s h.request ≡ h.at);
+        quiet = All-nil (λ h. is_idle (s.rows h.at) ≡ false);
+        apart = refl;
+        resting = λ is. refl;
+        settled = λ is. refl;
+        orderly = record { distinct = λ call. omega arith; living = All-nil (λ r. s.dead r.call.node < r.call.incarnation); counted = counted };
+      };
+    })
+  where
+    s : ServerState
+    s = server_state (record { shape = shape; file = file; epoch = epoch; clients = clients; active = record { held = []; room = 0 }; queue = record { requests = []; room = 0 }; waiting = record { requests = []; room = 0 } })
+
+-- and no number of an earlier epoch
+pub rebuilt-counted : (shape : ShapeFields) (file epoch : ℕ) (members : MembersParts) (clients : List Client) → rows_of clients ≡ (rebuilt_by shape file epoch members).rows → (n : ℕ) → IfSome (rows_of clients n) (λ row. before_epoch epoch ≤ row.number)
+rebuilt-counted shape file epoch members clients rows n =
+    subst (λ (f : ℕ → Option Row). IfSome (f n) (λ row. before_epoch epoch ≤ row.number)) (sym rows) (by (is_within shape.nodes n && (members_state members.nodes).alive n))
+  where
+    by : (b : Bool) → IfSome (cond b (Some (awaited_row file (before_epoch epoch) n ((members_state members.nodes).incarnation n))) None) (λ row. before_epoch epoch ≤ row.number)
+    by true = omega arith
+    by false = tt

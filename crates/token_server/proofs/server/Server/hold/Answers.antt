@@ -1,0 +1,8 @@
+use Rattle.std.proofs.Common.{subst}
+use Rattle.token_server.specs.Parts.{ServerParts}
+use Rattle.token_server.specs.Marks.{NoneExclusive}
+use Rattle.token_server.specs.Edits.{reached}
+use Rattle.token_server.proofs.server.Server.hold.Goals as goal
+
+pub obstacle-at-requires : goal.obstacle-at-requires
+obstacle-at-requires c = λ yes. subst (λ (q : ServerParts). NoneExclusive (reached q c.args.rows.now).rows) c.self.view_is (c.excludes_none-readable.ensures yes)

@@ -1,0 +1,14 @@
+use Rattle.std.proofs.Common.{ap, ◌∙◌, arith}
+use Rattle.intervals.specs.Search.{some_passes}
+use Rattle.token_server.specs.State.{is_awaited}
+use Rattle.token_server.specs.Parts.{rows_of}
+use Rattle.token_server.proofs.RebuildLaws.{rebuilt-counted, idle-server}
+use Rattle.token_server.proofs.server.Server.rebuild.Goals as goal
+
+pub invariant_of-server : goal.invariant_of-server
+invariant_of-server c =
+    idle-server c.args.shape c.args.file c.args.epoch c.in_ok-clients.clients c.awaits-awaits.result c.new.result c.new-2.result c.new-3.result
+    c.in_ok-clients.ensures.len c.requires.file_in (omega arith, omega arith)
+    (c.awaits-awaits.ensures ∙ ap (some_passes (λ n. is_awaited (rows_of c.in_ok-clients.clients n)) 1) c.nodes.ensures.value)
+    (rebuilt-counted c.args.shape c.of.result c.args.epoch c.args.members.now c.in_ok-clients.clients c.in_ok-clients.ensures.rows)
+    c.new.ensures c.new-2.ensures c.new-3.ensures
