@@ -12,7 +12,7 @@ use Rattle.replay.specs.Faults.{fault_line}
 use Rattle.replay.specs.Outputs.{AppendsPart, WritesOrFails}
 use Rattle.replay.specs.Refusals.{IsHelp, refusal_status, refusal_text}
 use Rattle.replay.proofs.Faults.{fault-weaker, short-memory}
-use Rattle.replay.proofs.Refused.{refused-short, refused-unshown, short-leaves}
+use Rattle.replay.proofs.Refused.{refused-short, refused-told, refused-unshown, short-leaves}
 use Rattle.replay.proofs.Stores.{same, same-unless}
 use Rattle.replay.proofs.respond.respond.Goals as goal
 
@@ -77,3 +77,10 @@ returns-in-Err-clause-short g c = λ four.
     let T : List ℕ → Type 0 = λ t. WritesOrFails (g.E.Output.taken c.args.err.now) (g.E.Output.taken c.refuse.new.err) (g.E.Output.has_failed c.refuse.new.err) t in
     let told = refused-short words c.in-Err.refusal c.refuse.result (Appends (taken c.args.out.now) (taken c.refuse.new.out) text) (g.O.Output.is_flushed c.refuse.new.out) (c.refuse.new.err ≡ c.args.err.now) (AppendsPart (taken c.args.out.now) (taken c.refuse.new.out) text) (g.O.Output.has_failed c.refuse.new.out) (T (fault_line CannotWriteOutput)) (c.refuse.new.out ≡ c.args.out.now) T c.in-Err.ensures.refused c.refuse.ensures.help c.refuse.ensures.refused four in
     (told.0, inr told.1)
+
+pub returns-in-Err-clause-told : goal.returns-in-Err-clause-told
+returns-in-Err-clause-told g c = λ more.
+    let taken = g.O.Output.taken in
+    let text = refusal_text c.in-Err.refusal in
+    let T : List ℕ → Type 0 = λ t. WritesOrFails (g.E.Output.taken c.args.err.now) (g.E.Output.taken c.refuse.new.err) (g.E.Output.has_failed c.refuse.new.err) t in
+    refused-told c.in-Err.refusal c.refuse.result (Appends (taken c.args.out.now) (taken c.refuse.new.out) text) (g.O.Output.is_flushed c.refuse.new.out) (c.refuse.new.err ≡ c.args.err.now) (AppendsPart (taken c.args.out.now) (taken c.refuse.new.out) text) (g.O.Output.has_failed c.refuse.new.out) (c.refuse.new.out ≡ c.args.out.now) T c.refuse.ensures.help c.refuse.ensures.refused more
