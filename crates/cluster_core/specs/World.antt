@@ -1,5 +1,5 @@
 -- The state of the cluster.
-use Rattle.std.specs.Prelude.{ℕ, Bool, true, ◌&&◌, ◌==◌, nat_le, nat_lt, List, []}
+use Rattle.std.specs.Prelude.{ℕ, Bool, true, ◌&&◌, ◌==◌, if◌then◌else◌, nat_le, nat_lt, List, []}
 use Rattle.messages.specs.Shapes.{ShapeFields}
 use Rattle.messages.specs.declared.message.Message.{Message}
 use Rattle.messages.specs.Messages.{is_within}
@@ -49,3 +49,7 @@ is_alive w node = has_node w node && w.alive node
 -- this incarnation of the node was declared failed
 abbrev pub was_declared : WorldState → ℕ → ℕ → Bool
 was_declared w node incarnation = nat_le 1 incarnation && nat_lt incarnation (w.nodes node).incarnation
+
+-- this epoch of the file's token server was declared failed: one before that in which it works, or up to that in which it failed
+abbrev pub has_failed : WorldState → ℕ → ℕ → Bool
+has_failed w file epoch = nat_le 1 epoch && (if w.working file then nat_lt epoch (w.servers file).epoch else nat_le epoch (w.servers file).epoch)

@@ -458,6 +458,23 @@ impl World {
         Ok(Change::Failed { file })
     }
 
+    // The file's token server as it would begin again now, and what it asks first.
+    fn next_server(
+        &self,
+        alloc: Global,
+        file: u16,
+    ) -> Result<(Box<Server>, Items<Message>), Refused>
+        requires { is_within self.now.shape.files file ≡ true }
+        ensures ok { IfOk result (λ r. IsStart self.now file r.0.value r.1) }
+        ensures err { IfErr result (λ e. e ≢ NoMemory → start_rule (world_state self.now) file ≡ Err e) }
+        ensures refused { (e : Refused) → start_rule (world_state self.now) file ≡ Err e → result ≡ Err e }
+    {
+        let epoch = self.members.next_epoch(file)?;
+        let (begun, outcome) = Server::rebuild(alloc, self.shape, file, epoch, &self.members)?;
+        let begun = Box::new(alloc, begun)?;
+        Ok((begun, outcome.sends))
+    }
+
     // What comes of a start of the file's token server.
     fn plan_start(&self, alloc: Global, file: u16) -> Result<Change, Refused>
         requires { is_within self.now.shape.files file ≡ true }
@@ -465,10 +482,7 @@ impl World {
         ensures err { IfErr result (λ e. e ≢ NoMemory → start_rule (world_state self.now) file ≡ Err e) }
         ensures refused { (e : Refused) → start_rule (world_state self.now) file ≡ Err e → result ≡ Err e }
     {
-        let epoch = self.members.next_epoch(file)?;
-        let (begun, outcome) = Server::rebuild(alloc, self.shape, file, epoch, &self.members)?;
-        let begun = Box::new(alloc, begun)?;
-        let sends = outcome.sends;
+        let (begun, sends) = self.next_server(alloc, file)?;
         Ok(Change::Started { file, begun, sends })
     }
 

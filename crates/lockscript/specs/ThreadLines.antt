@@ -19,8 +19,8 @@ is_for_threads (Resend file) = false
 is_for_threads (Declare node) = true
 is_for_threads (Restart node) = true
 is_for_threads (Learn file node incarnation) = false
-is_for_threads (FailServer file) = false
-is_for_threads (StartServer file) = false
+is_for_threads (FailServer file) = true
+is_for_threads (StartServer file) = true
 
 -- the number of the first line that threads don't take
 abbrev pub bad_line : List LineFields → Option ℕ

@@ -63,8 +63,9 @@ impl Command {
     ghost use Rattle.std.specs.Prelude.{◌≡◌};
     ghost use Rattle.lockscript.specs.ThreadLines.{is_for_threads};
 
-    /// Whether a script that runs on threads may have a line that asks for this: a call, `settle`, `declare`
-    /// or `restart`. On threads it is no line that says which message is delivered or lost, and when.
+    /// Whether a script that runs on threads may have a line that asks for this: a call, `settle`, `declare`,
+    /// `restart`, `fail-server` or `start-server`. On threads it is no line that says which message is
+    /// delivered or lost, and when.
     pub fn is_for_threads(&self) -> bool
         ensures { result ≡ is_for_threads self.now }
     {
@@ -79,8 +80,8 @@ impl Command {
             Command::Retry { .. } => false,
             Command::Resend { .. } => false,
             Command::Learn { .. } => false,
-            Command::FailServer { .. } => false,
-            Command::StartServer { .. } => false,
+            Command::FailServer { .. } => true,
+            Command::StartServer { .. } => true,
         }
     }
 }

@@ -113,6 +113,13 @@ impl Members {
         self.servers.alive(file)
     }
 
+    /// Whether this epoch of the file's token server was declared failed.
+    pub fn failed(&self, file: u16, epoch: u16) -> bool
+        ensures { result ≡ was_declared (members_state self.now.servers) file epoch }
+    {
+        self.servers.declared(file, epoch)
+    }
+
     /// The token server of the file is declared failed. Which epoch of it was alive.
     ///
     /// # Errors

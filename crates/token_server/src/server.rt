@@ -172,6 +172,14 @@ impl Server {
         self.waiting.same(&other.waiting) && self.clients.same(&other.clients)
     }
 
+    /// The epoch in which the server is: 1 until it was rebuilt.
+    pub fn epoch(&self) -> u16
+        ensures value { result ≡ (server_state self.now).epoch }
+        ensures from_one { 1 ≤ result }
+    {
+        self.epoch
+    }
+
     // The incarnations of a node up to this one are known to be dead, and what waits is asked for again.
     fn forgotten(&self, node: u8, incarnation: u16) -> Sketch
         requires { IsNumber self.now.shape.nodes node }

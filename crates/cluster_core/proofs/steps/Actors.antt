@@ -1,5 +1,5 @@
 -- What an actor's own step at an event makes of a world.
-use Rattle.std.proofs.Common.{◌≡◌, ℕ, Bool, true, false, not, if◌then◌else◌, refl, sym, ◌∙◌, ap, Option, Some, None, Result, Ok, Err}
+use Rattle.std.proofs.Common.{◌≡◌, ℕ, Bool, true, false, not, if◌then◌else◌, refl, sym, ◌∙◌, ap, eq-eqb, Option, Some, None, Result, Ok, Err}
 use Rattle.std.proofs.lemmas.Bool.{eqb-true}
 use Rattle.std.specs.Prelude.{◌==◌}
 use Rattle.messages.specs.Messages.{addressee}
@@ -22,9 +22,9 @@ use Rattle.token_server.specs.declared.event.ServerEvent.TheVariants as server
 use Rattle.token_server.specs.State.{ServerState}
 use Rattle.token_server.specs.Server.{server_rule, is_server}
 use Rattle.cluster_core.specs.World.{WorldState}
-use Rattle.cluster_core.specs.Next.{is_known, is_stopped, is_fenced, after_node, after_server, delivered, taken, next, kept_next}
+use Rattle.cluster_core.specs.Next.{is_known, is_stopped, is_fenced, after_node, after_server, delivered, taken, next, next_server, kept_next}
 use Rattle.cluster_core.specs.Parts.{IsStepOf, IsServerStepOf}
-use Rattle.cluster_core.proofs.steps.Steps.{next_taken, kept_taken, restart_step}
+use Rattle.cluster_core.proofs.steps.Steps.{next_taken, kept_taken, restart_step, start_step}
 use Rattle.cluster_core.specs.Actors.{node_event, server_event, node_at, server_at, NodeSteps, ServerSteps, made_by_node, made_by_server}
 
 -- one event, or none
@@ -129,3 +129,10 @@ server_next w event f s o known steps =
 -- a node that begins again is as it was
 pub restart_keeps : (w : WorldState) (n : ℕ) (q : WorldState × Entry) → kept_next w (Restart n) ≡ Ok q → q.0.nodes n ≡ w.nodes n
 restart_keeps w n q h = restart_step w (λ p. p.0.nodes n ≡ w.nodes n) n q (λ m is dead few. refl) (next_taken w (Restart n) q (kept_taken w (Restart n) q h).1).1
+
+-- a server that begins again is the one that was to be
+pub start_gives : (w : WorldState) (f : ℕ) (q : WorldState × Entry) → kept_next w (StartServer f) ≡ Ok q → q.0.servers f ≡ next_server w f
+start_gives w f q h =
+    start_step w (λ p. p.0.servers f ≡ next_server w f) f q (λ g is stopped few.
+    let same : f ≡ g = cc in
+    ap (λ (b : Bool). if b then next_server w g else w.servers f) (eq-eqb f g same) ∙ ap (next_server w) (sym same)) (next_taken w (StartServer f) q (kept_taken w (StartServer f) q h).1).1

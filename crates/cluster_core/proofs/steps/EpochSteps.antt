@@ -19,7 +19,7 @@ use Rattle.node_core.specs.State.{NodeState}
 use Rattle.token_server.specs.Parts.{ServerParts, server_state}
 use Rattle.token_server.specs.State.{ServerState, first_server, rebuilt}
 use Rattle.token_server.specs.Resends.{outstanding}
-use Rattle.cluster_core.specs.World.{WorldState, journal_limit, most_incarnations}
+use Rattle.cluster_core.specs.World.{WorldState, journal_limit, most_incarnations, has_failed}
 use Rattle.cluster_core.specs.Next.{entry, recorded, silent, failed, started, next_server, fail_rule, start_rule}
 use Rattle.cluster_core.specs.Parts.{WorldParts, IsWorld, seated, listed, alive_at, works_at, world_state}
 use Rattle.cluster_core.specs.Changes.{IsStart}
@@ -53,6 +53,13 @@ working_case w f e k false is =
     more : (n : ℕ) → nat_lt n most_incarnations ≡ nat_le (n + 1) most_incarnations
     more n = grind (arith, nat_tests)
 
+up_to : (i e : ℕ) → nat_lt i (e + 1) ≡ nat_le i e
+up_to i e = grind (arith, nat_tests)
+
+failed_case : (i e k : ℕ) (b : Bool) → k ≡ incarnation_of b e → nat_lt i k ≡ (if b then nat_lt i e else nat_le i e)
+failed_case i e k true is = ap (nat_lt i) is
+failed_case i e k false is = ap (nat_lt i) is ∙ up_to i e
+
 told : (b : Bool) (k : ℕ) → is_some (if b then Some k else None) ≡ b
 told true k = refl
 told false k = refl
@@ -75,6 +82,12 @@ module _ (p : WorldParts) (world : IsWorld p) (f : ℕ) (number : is_within p.sh
   works_there =
       ap (λ (b : Bool). is_some (if b && works_at p f then Some (incarnation_in p.members.servers f) else None)) is_one
       ∙ told (works_at p f) (incarnation_in p.members.servers f)
+
+  -- and of its epochs
+  pub failed_there : (i : ℕ) → member.was_declared (members_state p.members.servers) f i ≡ has_failed (world_state p) f i
+  failed_there i =
+      ap (λ (b : Bool). b && (nat_le 1 i && nat_lt i (incarnation_in p.members.servers f))) is_one
+      ∙ ap (λ (b : Bool). nat_le 1 i && b) (failed_case i epoch (incarnation_in p.members.servers f) (works_at p f) (world.own_epoch f))
 
   pub starts : start_rule (world_state p) f ≡ after_start (world_state p) f (member.restarted (members_state p.members.servers) f)
   starts =

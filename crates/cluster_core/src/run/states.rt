@@ -1,12 +1,14 @@
 //! Runs that go on by steps that were computed from states of their actors.
 ghost use Rattle.std.specs.Prelude.{◌≡◌, ◌≢◌, ◌<◌, ◌≤◌, true, Ok, Err, IfOk, IfErr, OnOk, OnErr, length};
-ghost use Rattle.messages.specs.declared.event.Event.TheVariants.{Restart};
+ghost use Rattle.messages.specs.declared.event.Event.TheVariants.{Restart, StartServer};
+ghost use Rattle.messages.specs.Messages.{sending};
 ghost use Rattle.messages.specs.declared.refusal.Refused.{Refused};
 ghost use Rattle.messages.specs.declared.refusal.Refused.TheVariants.{NoMemory};
 ghost use Rattle.node_core.specs.Parts.{node_state};
 ghost use Rattle.token_server.specs.Parts.{server_state};
+ghost use Rattle.token_server.specs.Resends.{outstanding};
 ghost use Rattle.cluster_core.specs.World.{journal_limit};
-ghost use Rattle.cluster_core.specs.Next.{is_known, kept_next};
+ghost use Rattle.cluster_core.specs.Next.{is_known, kept_next, next_server};
 ghost use Rattle.cluster_core.specs.Parts.{world_state};
 ghost use Rattle.cluster_core.specs.Journals.{GoesOn};
 ghost use Rattle.cluster_core.specs.Actors.{NodeSteps, ServerSteps, made_by_node, made_by_server, Records};
@@ -96,5 +98,24 @@ impl Run {
         let begun = self.world.begun(alloc, node)?;
         self.take(alloc, Event::Restart { node })?;
         Ok(begun)
+    }
+
+    /// The token server of the file, which was declared failed, begins again, as `take` does it. It is
+    /// handed out as it begins, with what it asks the nodes.
+    ///
+    /// # Errors
+    /// Those of `World::step` at a start of a server: in this order `JournalFull`, `Stranger`, `NotDead`,
+    /// `TooManyRestarts`, `NoMemory`. The run is then as it was.
+    pub fn start(&mut self, alloc: Global, file: u16) -> Result<(Box<Server>, Outcome), Refused>
+        ensures ok { OnOk result (GoesOn self.old (StartServer file) self.new) }
+        ensures begun { IfOk result (λ r. server_state r.0.value ≡ (world_state self.new.world).servers file) }
+        ensures asks { IfOk result (λ r. r.1 ≡ sending (outstanding (next_server (world_state self.old.world) file))) }
+        ensures err { IfErr result (λ e. e ≢ NoMemory → kept_next (world_state self.old.world) (StartServer file) ≡ Err e) }
+        ensures refused { (e : Refused) → kept_next (world_state self.old.world) (StartServer file) ≡ Err e → result ≡ Err e }
+        ensures unchanged { OnErr result (self.new ≡ self.old) }
+    {
+        let (begun, sends) = self.world.begun_server(alloc, file)?;
+        self.take(alloc, Event::StartServer { file })?;
+        Ok((begun, Outcome::sending(sends)))
     }
 }

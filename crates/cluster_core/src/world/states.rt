@@ -1,13 +1,15 @@
 //! The states of a world's actors: compared with others, and followed by their next.
 ghost use Rattle.std.specs.Prelude.{◌≡◌, ◌≢◌, ◌↔◌, ◌<◌, true, Ok, Err, ◌++◌, ◌&&◌, IsTrue, IfOk, IfErr, OnOk, OnErr, length, slice_set};
-ghost use Rattle.messages.specs.declared.event.Event.TheVariants.{Restart};
+ghost use Rattle.messages.specs.declared.event.Event.TheVariants.{Restart, StartServer};
 ghost use Rattle.messages.specs.declared.entry.Entry.{Entry};
 ghost use Rattle.messages.specs.declared.refusal.Refused.{Refused};
+ghost use Rattle.messages.specs.declared.refusal.Refused.TheVariants.{NoMemory};
 ghost use Rattle.messages.specs.Messages.{is_within};
 ghost use Rattle.node_core.specs.Parts.{node_state};
 ghost use Rattle.token_server.specs.Parts.{server_state};
-ghost use Rattle.cluster_core.specs.World.{WorldState, journal_limit, has_node, was_declared};
-ghost use Rattle.cluster_core.specs.Next.{is_known, next, restart_rule, kept_next};
+ghost use Rattle.token_server.specs.Resends.{outstanding};
+ghost use Rattle.cluster_core.specs.World.{WorldState, journal_limit, has_node, has_file, was_declared, has_failed};
+ghost use Rattle.cluster_core.specs.Next.{is_known, next, next_server, restart_rule, kept_next};
 ghost use Rattle.cluster_core.specs.Parts.{world_state};
 ghost use Rattle.cluster_core.specs.Actors.{HasNode, HasServer, NodeSteps, ServerSteps, made_by_node, made_by_server};
 
@@ -16,6 +18,7 @@ use crate::sent::Sent;
 use intervals::span_map::NoMemory as NoRoom;
 use messages::entry::Entry;
 use messages::event::Event;
+use messages::items::Items;
 use messages::message::Message;
 use messages::outcome::Outcome;
 use messages::refusal::Refused;
@@ -38,6 +41,21 @@ impl World {
     {
         is_number(u16::from(self.shape.nodes()), u16::from(node))
             && self.was_declared(node, incarnation)
+    }
+
+    /// Whether the file is one of the shape, and that epoch of its token server was declared failed.
+    pub fn has_failed(&self, file: u16, epoch: u16) -> bool
+        ensures { result ≡ (has_file (world_state self.now) file && has_failed (world_state self.now) file epoch) }
+    {
+        is_number(self.shape.files(), file) && self.failed_in(file, epoch)
+    }
+
+    // Whether that epoch of the file's token server was declared failed.
+    fn failed_in(&self, file: u16, epoch: u16) -> bool
+        requires { is_within self.now.shape.files file ≡ true }
+        ensures { result ≡ has_failed (world_state self.now) file epoch }
+    {
+        self.members.failed(file, epoch)
     }
 
     /// Whether the node with the number is alive, and in the same state as that one.
@@ -170,6 +188,29 @@ impl World {
         };
         let first = Node::new(alloc, self.shape, node, incarnation)?;
         Ok(Box::new(alloc, first)?)
+    }
+
+    /// The token server of the file as it would begin again now, and what it asks first.
+    ///
+    /// # Errors
+    /// Those of `step` at a start of the server.
+    pub(crate) fn begun_server(
+        &self,
+        alloc: Global,
+        file: u16,
+    ) -> Result<(Box<Server>, Items<Message>), Refused>
+        ensures begins { IfOk result (λ r. server_state r.0.value ≡ next_server (world_state self.now) file) }
+        ensures asks { IfOk result (λ r. r.1 ≡ outstanding (next_server (world_state self.now) file)) }
+        ensures err { IfErr result (λ e. e ≢ NoMemory → kept_next (world_state self.now) (StartServer file) ≡ Err e) }
+        ensures refused { (e : Refused) → kept_next (world_state self.now) (StartServer file) ≡ Err e → result ≡ Err e }
+    {
+        if self.length >= JOURNAL_LIMIT {
+            return Err(Refused::JournalFull);
+        }
+        if !self.is_known(&Event::StartServer { file }) {
+            return Err(Refused::Stranger);
+        }
+        self.next_server(alloc, file)
     }
 }
 
