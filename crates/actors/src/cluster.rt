@@ -2,7 +2,7 @@
 ghost use Rattle.std.specs.Prelude.{◌≡◌, ◌+◌, ◌≤◌, ◌↔◌, IfOk, IsErrOf, length};
 ghost use Rattle.actors.specs.declared.call_error.CallError.TheVariants.{Stranger};
 ghost use Rattle.model.specs.Limits.{IsNumber, most_nodes, most_processes};
-ghost use Rattle.messages.specs.declared.event.Event.TheVariants.{Declare};
+ghost use Rattle.messages.specs.declared.event.Event.TheVariants.{Declare, FailServer};
 ghost use Rattle.cluster_core.specs.Histories.{HasOneHistory};
 
 use crate::call_error::CallError;
@@ -11,7 +11,8 @@ use crate::gate::Gate;
 use crate::letter::Letter;
 use crate::pacer::pace;
 use crate::place::Place;
-use crate::shared::{Mailbox, Shared};
+use crate::rebuilt::Rebuilt;
+use crate::shared::{Mailbox, Shared, index_of};
 use crate::weather::Weather;
 use crate::worker::Worker;
 use book::book::Book;
@@ -19,6 +20,7 @@ use book::seat::Seat;
 use book::stamp::Stamp;
 use cluster_core::journal::Journal;
 use crossbeam_channel::{Receiver, unbounded};
+use messages::actor::Actor;
 use messages::refusal::Refused;
 use messages::shape::Shape;
 use model::limits::MOST_PROCESSES;
@@ -38,6 +40,7 @@ pub struct Cluster<'a> {
     book: &'a Mutex<Book>,
     mailboxes: &'a [Mailbox],
     places: &'a [Mutex<Place>],
+    rebuilt: &'a [Mutex<Option<Rebuilt>>],
     ghost within: { IsNumber most_nodes nodes },
     ghost has_mailboxes: { nodes ≤ length mailboxes.now },
     ghost has_places: { length places.now ≡ nodes },
@@ -47,6 +50,17 @@ impl<'a> Cluster<'a> {
     // The place of the node.
     fn place(&self, node: u8) -> Option<&'a Mutex<Place>> {
         self.places.get(usize::from(node).checked_sub(1)?)
+    }
+
+    // Where the token server of the file stands as it begins again.
+    fn server_place(&self, file: u16) -> Option<&'a Mutex<Option<Rebuilt>>> {
+        self.rebuilt.get(usize::from(file).checked_sub(1)?)
+    }
+
+    // The mailbox of the token server of the file.
+    fn server_mailbox(&self, file: u16) -> Option<&'a Mailbox> {
+        self.mailboxes
+            .get(index_of(self.nodes, Actor::Server(file))?)
     }
 
     /// A client of a process of the node's live incarnation, which has seen nothing.
@@ -108,6 +122,35 @@ impl<'a> Cluster<'a> {
         place.begin(seat);
         Ok(())
     }
+
+    /// Declares the token server of the file failed.
+    ///
+    /// # Errors
+    /// Those of `Book::fail_server`.
+    pub fn fail_server<R: Wait>(&self, rt: &R, file: u16) -> Result<Stamp, Refused>
+        ensures { IfOk result (λ stamp. stamp.event ≡ FailServer file) }
+    {
+        self.book.lock(rt).fail_server(self.alloc, file)
+    }
+
+    /// The token server of the file, which was declared failed, begins again. Its worker takes the new
+    /// seat before its next letter, and sends what it asks the nodes.
+    ///
+    /// # Errors
+    /// Those of `Book::start_server`.
+    pub fn start_server<R: Wait>(&self, rt: &R, file: u16) -> Result<(), Refused> {
+        let Some(place) = self.server_place(file) else {
+            self.book.lock(rt).start_server(self.alloc, file)?;
+            return Ok(());
+        };
+        let mut place = place.lock(rt);
+        let (seat, stamp) = self.book.lock(rt).start_server(self.alloc, file)?;
+        *place = Some(Rebuilt { seat, stamp });
+        if let Some(mailbox) = self.server_mailbox(file) {
+            mailbox.send_surely(rt, Letter::Begin);
+        }
+        Ok(())
+    }
 }
 
 /// Runs a cluster of the shape on threads for as long as the body does, which is lent it. Each actor
@@ -145,13 +188,14 @@ pub fn with_cluster<
 }
 
 // What a cluster begins with beside its book: a mailbox and a worker for each actor, nodes
-// first, and a place for each node.
+// first, a place for each node, and one for each server as it begins again.
 #[derive(Drop)]
 struct Begun<W: Weather> {
     alloc: Global,
     mailboxes: Vec<Mailbox>,
     workers: Vec<Worker<W>>,
     places: Vec<Mutex<Place>>,
+    rebuilt: Vec<Mutex<Option<Rebuilt>>>,
 }
 
 // What a cluster of the shape begins with on these seats.
@@ -170,6 +214,7 @@ fn begin<W: Weather>(
         mailboxes,
         workers,
         places: places_of(alloc, shape.nodes())?,
+        rebuilt: server_places_of(alloc, shape.files())?,
     })
 }
 
@@ -203,6 +248,7 @@ fn run_begun<
         mailboxes,
         workers,
         places,
+        rebuilt,
     } = begun;
     let stop = AtomicU64::new(0);
     let working = AtomicU64::new(0);
@@ -213,6 +259,7 @@ fn run_begun<
         nodes: shape.nodes(),
         mailboxes: mailboxes.as_slice(),
         places: places.as_slice(),
+        rebuilt: rebuilt.as_slice(),
         stop: &stop,
         working: &working,
     };
@@ -222,6 +269,7 @@ fn run_begun<
         book,
         mailboxes: mailboxes.as_slice(),
         places: places.as_slice(),
+        rebuilt: rebuilt.as_slice(),
     };
     run_scope(rt, &shared, workers, &cluster, body)
 }
@@ -324,6 +372,15 @@ fn places_of(alloc: Global, nodes: u8) -> Result<Vec<Mutex<Place>>, AllocError>
     let mut places = Vec::new(alloc);
     for _ in 0..nodes {
         places.push(Mutex::new(Place::new(alloc)))?;
+    }
+    Ok(places)
+}
+
+// For each of so many token servers a place for it as it begins again.
+fn server_places_of(alloc: Global, files: u16) -> Result<Vec<Mutex<Option<Rebuilt>>>, AllocError> {
+    let mut places = Vec::new(alloc);
+    for _ in 0..files {
+        places.push(Mutex::new(None))?;
     }
     Ok(places)
 }

@@ -18,6 +18,8 @@ pub(crate) enum Letter {
     Learn { node: u8, incarnation: u16 },
     /// A turn has passed.
     Tick,
+    /// The token server begins again, on the seat that waits for its worker.
+    Begin,
 }
 
 /// A call, with what its client has seen of the journal, and where the answer goes.

@@ -15,6 +15,7 @@ mod part;
 mod patience;
 mod phases;
 mod place;
+mod rebuilt;
 mod resends;
 pub mod run_error;
 mod shared;

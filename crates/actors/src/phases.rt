@@ -46,27 +46,33 @@ impl<'a, 'b> Phases<'a, 'b> {
         line: &ScriptLine,
     ) -> Result<(), Stop> {
         let number = line.number();
-        match line.command() {
-            Command::Call { node, pid, op } => self.add(rt, number, node, pid, op),
+        if let Command::Call { node, pid, op } = line.command() {
+            return self.add(rt, number, node, pid, op);
+        }
+        self.join(rt)?;
+        match self.change(rt, line.command()) {
+            Ok(()) => Ok(()),
+            Err(refusal) => self.refuse(number, refusal),
+        }
+    }
+
+    // Does what a line between two phases asks for.
+    fn change<R: Wait>(&mut self, rt: &R, command: Command) -> Result<(), Refused> {
+        match command {
             Command::Declare { node } => {
-                self.join(rt)?;
-                match self.cluster.declare(rt, node) {
-                    Ok(_) => Ok(()),
-                    Err(refusal) => self.refuse(number, refusal),
-                }
+                self.cluster.declare(rt, node)?;
             }
             Command::Restart { node } => {
-                self.join(rt)?;
-                match self.cluster.restart(rt, node) {
-                    Ok(()) => {
-                        self.idle.retain(|client| client.process().node != node);
-                        Ok(())
-                    }
-                    Err(refusal) => self.refuse(number, refusal),
-                }
+                self.cluster.restart(rt, node)?;
+                self.idle.retain(|client| client.process().node != node);
             }
-            _ => self.join(rt),
+            Command::FailServer { file } => {
+                self.cluster.fail_server(rt, file)?;
+            }
+            Command::StartServer { file } => self.cluster.start_server(rt, file)?,
+            _ => {}
         }
+        Ok(())
     }
 
     // Lists a line with its refusal, unless the refusal ends the run.

@@ -58,16 +58,11 @@ impl Place {
         self.incarnation
     }
 
-    /// The node begins again, on this seat, and no process has a client. A server's seat, which has no
-    /// incarnation, begins no node.
+    /// The node begins again, on this seat, and no process has a client.
     pub(crate) fn begin(&mut self, seat: Seat)
-        ensures { 1 ≤ incarnation_of seat.state → (self.new.incarnation ≡ incarnation_of seat.state) × (self.new.alive ≡ true) × (self.new.clients.items ≡ []) × (self.new.seat ≡ Some seat) }
+        ensures { (self.new.incarnation ≡ incarnation_of seat.state) × (self.new.alive ≡ true) × (self.new.clients.items ≡ []) × (self.new.seat ≡ Some seat) }
     {
-        let incarnation = seat.incarnation();
-        if incarnation < 1 {
-            return;
-        }
-        self.incarnation = incarnation;
+        self.incarnation = seat.incarnation();
         self.alive = true;
         self.clients.clear();
         self.seat = Some(seat);

@@ -1,6 +1,7 @@
 //! What the threads of a cluster share.
 use crate::letter::Letter;
 use crate::place::Place;
+use crate::rebuilt::Rebuilt;
 use book::book::Book;
 use book::seat::Seat;
 use crossbeam_channel::{SendError, Sender};
@@ -58,7 +59,8 @@ impl Mailbox {
 }
 
 /// What the threads of a cluster share: the book under its lock, the gate, and for each actor, nodes
-/// first, its mailbox; for each node its place; whether the workers are to stop; and how many work.
+/// first, its mailbox; for each node its place; for each file its server that begins again, until its
+/// worker takes that; whether the workers are to stop; and how many work.
 #[derive(Drop)]
 pub(crate) struct Shared<'a, G> {
     pub(crate) alloc: Global,
@@ -67,6 +69,7 @@ pub(crate) struct Shared<'a, G> {
     pub(crate) nodes: u8,
     pub(crate) mailboxes: &'a [Mailbox],
     pub(crate) places: &'a [Mutex<Place>],
+    pub(crate) rebuilt: &'a [Mutex<Option<Rebuilt>>],
     pub(crate) stop: &'a AtomicU64,
     pub(crate) working: &'a AtomicU64,
 }
@@ -91,15 +94,16 @@ impl<G> Shared<'_, G> {
         }
     }
 
-    /// The seat of a new incarnation of the actor, which no worker has taken.
-    pub(crate) fn new_seat<R: Wait>(&self, rt: &R, actor: Actor) -> Option<Seat> {
-        match actor {
-            Actor::Node(node) => {
-                let index = usize::from(node).checked_sub(1)?;
-                self.places.get(index)?.lock(rt).take_seat()
-            }
-            Actor::Server(_) => None,
-        }
+    /// The seat of a new incarnation of the node, which no worker has taken.
+    pub(crate) fn new_seat<R: Wait>(&self, rt: &R, node: u8) -> Option<Seat> {
+        let index = usize::from(node).checked_sub(1)?;
+        self.places.get(index)?.lock(rt).take_seat()
+    }
+
+    /// The token server of the file as it begins again, which no worker has taken.
+    pub(crate) fn new_server<R: Wait>(&self, rt: &R, file: u16) -> Option<Rebuilt> {
+        let index = usize::from(file).checked_sub(1)?;
+        self.rebuilt.get(index)?.lock(rt).take()
     }
 }
 

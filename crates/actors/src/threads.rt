@@ -24,11 +24,11 @@ use std::sync::Wait;
 use std::thread::Threads;
 use std::time::Clock;
 
-/// Runs a script on threads. Its lines are `call`, `settle`, `declare` and `restart`; the calls between
-/// two of the other lines form a phase. In a phase each process has a client of its own, which makes
-/// its calls in order and waits for each reply. `settle` joins the clients; `declare` and `restart` join
-/// them first, and so does the end. A line that is refused, but for want of memory or of room in the
-/// journal, is listed and the run goes on.
+/// Runs a script on threads. Its lines are `call`, `settle`, `declare`, `restart`, `fail-server` and
+/// `start-server`; the calls between two of the other lines form a phase. In a phase each process has a
+/// client of its own, which makes its calls in order and waits for each reply. `settle` joins the
+/// clients; the lines of failures and starts join them first, and so does the end. A line that is
+/// refused, but for want of memory or of room in the journal, is listed and the run goes on.
 ///
 /// # Errors
 /// `BadLine` with the number of the first line that is another, before anything runs; `NoMemory` where

@@ -8,6 +8,7 @@ use crate::gate::{Gate, Point};
 use crate::letter::{Answer, Letter, Question};
 use crate::open_calls::{OpenCall, OpenCalls};
 use crate::outgoing::Outgoing;
+use crate::rebuilt::Rebuilt;
 use crate::resends::Resends;
 use crate::shared::Shared;
 use crate::weather::Weather;
@@ -86,13 +87,31 @@ impl<W: Weather> Worker<W> {
         Some(letter)
     }
 
-    // Takes the seat of a new incarnation, if there is one.
+    // Takes the seat of a new incarnation or epoch, if there is one.
     fn change_seats<G: Gate, R: Wait>(&mut self, rt: &R, shared: &Shared<'_, G>) {
-        if let Some(seat) = shared.new_seat(rt, self.seat.actor()) {
-            self.end_all(rt, shared.alloc, CallError::Killed);
-            self.seat = seat;
-            self.over = None;
+        match self.seat.actor() {
+            Actor::Node(node) => {
+                if let Some(seat) = shared.new_seat(rt, node) {
+                    self.end_all(rt, shared.alloc, CallError::Killed);
+                    self.seat = seat;
+                    self.over = None;
+                }
+            }
+            Actor::Server(file) => {
+                if let Some(rebuilt) = shared.new_server(rt, file) {
+                    self.begin_again(rt, shared, rebuilt);
+                }
+            }
         }
+    }
+
+    // The server begins again, and asks the nodes for their tokens.
+    fn begin_again<G, R: Wait>(&mut self, rt: &R, shared: &Shared<'_, G>, rebuilt: Rebuilt) {
+        let Rebuilt { seat, stamp } = rebuilt;
+        self.seat = seat;
+        self.resends = Resends::new();
+        self.resends.note(stamp.event());
+        self.outgoing.send_all(rt, shared, &stamp);
     }
 
     // Does what the letter asks for.
@@ -104,6 +123,7 @@ impl<W: Weather> Worker<W> {
             }
             Letter::Learn { node, incarnation } => self.learn(rt, shared, node, incarnation),
             Letter::Tick => self.take_tick(rt, shared),
+            Letter::Begin => {}
         }
     }
 
@@ -279,8 +299,12 @@ impl<W: Weather> Worker<W> {
     {
         if prepared.outcome().sends.is_empty() {
             self.resends.end();
-        } else if let Ok(stamp) = commit(rt, shared, &mut self.seat, prepared, None) {
-            self.outgoing.send_all(rt, shared, &stamp);
+            return;
+        }
+        match commit(rt, shared, &mut self.seat, prepared, None) {
+            Ok(stamp) => self.outgoing.send_all(rt, shared, &stamp),
+            Err(CallError::Fenced) => self.resends.end(),
+            Err(_) => {}
         }
     }
 

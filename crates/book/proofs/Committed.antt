@@ -1,13 +1,14 @@
--- What a commit, a declaration and a restart do, put together.
+-- What a commit, declarations, failures and restarts do, put together.
 use Rattle.std.proofs.Common.{◌≡◌, ◌≢◌, ℕ, ◌+◌, List, [], ◌∷◌, ◌++◌, length, refl, sym, ap, ◌∙◌, subst, Ok}
 use Rattle.messages.specs.Messages.{sending}
-use Rattle.messages.specs.declared.actor.Actor.TheVariants.{Node as ANode}
+use Rattle.messages.specs.declared.actor.Actor.TheVariants.{Node as ANode, Server as AServer}
 use Rattle.messages.specs.declared.event.Event.{Event}
-use Rattle.messages.specs.declared.event.Event.TheVariants.{Declare, Restart}
+use Rattle.messages.specs.declared.event.Event.TheVariants.{Declare, Restart, FailServer, StartServer}
 use Rattle.messages.specs.declared.entry.Entry.{Entry}
 use Rattle.messages.specs.declared.outcome.Outcome.{Outcome}
+use Rattle.token_server.specs.Resends.{outstanding}
 use Rattle.cluster_core.specs.World.{WorldState}
-use Rattle.cluster_core.specs.Next.{entry}
+use Rattle.cluster_core.specs.Next.{entry, next_server}
 use Rattle.cluster_core.specs.Parts.{world_state}
 use Rattle.cluster_core.specs.Journals.{RunFields, GoesOn}
 use Rattle.cluster_core.proofs.steps.Steps.{kept_taken}
@@ -16,10 +17,10 @@ use Rattle.book.specs.declared.state.State.{State}
 use Rattle.book.specs.States.{actor_of, SameState, StepsTo, HasState, made_by}
 use Rattle.book.specs.Fields.{SeatFields, PreparedFields, StampFields}
 use Rattle.book.specs.Commits.{IsStepFrom, IsSeatOf, Accepts, Commits}
-use Rattle.book.specs.Turns.{Declared, Restarted}
+use Rattle.book.specs.Turns.{Declared, Restarted, Failed, Started}
 use Rattle.book.proofs.Stamps.{stays, new_stamp}
 use Rattle.book.proofs.Steps.{actor_kept, made_same, made_entry, may_step, mine, others}
-use Rattle.book.proofs.Turns.{declared_entry, declared_others, declared_fences, restarted_others}
+use Rattle.book.proofs.Turns.{declared_entry, declared_others, declared_fences, restarted_others, failed_entry, failed_others, failed_fences, started_entry, started_others}
 
 pub committed : (b d : RunFields) (s r : SeatFields) (p : PreparedFields) (seen : ℕ) (t : StampFields) (copy : State) (event : Event) (o : Outcome)
     → event ≡ p.event → o ≡ p.outcome → Accepts b s p seen → IsStepFrom s p → SameState p.state copy
@@ -79,4 +80,40 @@ restarted b d n s went actor commits stands =
       mine = stands;
       stamps = λ x h. stays b.entries d.entries went.0 x went.2 h;
       others = λ x ne has. restarted_others w n q x.state step ne has;
+    }
+
+pub failed : (b d : RunFields) (f : ℕ) (t : StampFields) → GoesOn b (FailServer f) d → t.position ≡ length d.entries → t.event ≡ FailServer f → t.outcome ≡ sending [] → t.seen ≡ 0 → Failed b f d t
+failed b d f t went position said gave seen_is =
+    let w = world_state b.world in
+    let q : WorldState × Entry = (world_state d.world, went.0) in
+    let step = (kept_taken w (FailServer f) q went.1).1 in
+    let k = failed_entry w f q step in
+    record {
+      goes = went;
+      position = position;
+      event = said;
+      seen_is = seen_is;
+      stamped = new_stamp b.entries d.entries went.0 k.0 t went.2 (k.1 ∙ (λ i. entry (sym said i) k.0 (sym gave i))) position;
+      stamps = λ x h. stays b.entries d.entries went.0 x went.2 h;
+      fenced = λ s has is least. failed_fences w f q s.state step has is least;
+      others = λ x ne has. failed_others w f q x.state step ne has;
+    }
+
+pub started : (b d : RunFields) (f : ℕ) (s : SeatFields) (t : StampFields) → GoesOn b (StartServer f) d → actor_of s.state ≡ AServer f → s.commits ≡ 0 → IsSeatOf d s → t.position ≡ length d.entries → t.event ≡ StartServer f → t.outcome ≡ sending (outstanding (next_server (world_state b.world) f)) → t.seen ≡ 0 → Started b f d s t
+started b d f s t went actor commits stands position said gave seen_is =
+    let w = world_state b.world in
+    let q : WorldState × Entry = (world_state d.world, went.0) in
+    let step = (kept_taken w (StartServer f) q went.1).1 in
+    let k = started_entry w f q step in
+    record {
+      goes = went;
+      actor = actor;
+      commits = commits;
+      mine = stands;
+      position = position;
+      event = said;
+      seen_is = seen_is;
+      stamped = new_stamp b.entries d.entries went.0 k.0 t went.2 (k.1 ∙ (λ i. entry (sym said i) k.0 (sym gave i))) position;
+      stamps = λ x h. stays b.entries d.entries went.0 x went.2 h;
+      others = λ x ne has. started_others w f q x.state step ne has;
     }

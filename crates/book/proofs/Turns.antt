@@ -1,20 +1,25 @@
--- What a declaration and a restart leave of the actors.
+-- What declarations, failures and restarts leave of the actors.
 use Rattle.std.proofs.Common.{◌≡◌, ◌≢◌, ℕ, ◌+◌, ◌<◌, ◌≤◌, Bool, true, false, if◌then◌else◌, ◌&&◌, nat_le, nat_lt, [], refl, sym, ap, ◌∙◌, subst, arith, Ok}
 use Rattle.std.specs.Prelude.{◌==◌}
+use Rattle.std.proofs.lemmas.Bool.{and_parts}
 use Rattle.std.proofs.lemmas.Bool.Decides.{nat_tests}
+use Rattle.messages.specs.Versions.{may_rebuild}
 use Rattle.messages.specs.Messages.{sending}
 use Rattle.messages.specs.declared.actor.Actor.TheVariants.{Node as ANode, Server as AServer}
 use Rattle.messages.specs.declared.event.Event.{Event}
-use Rattle.messages.specs.declared.event.Event.TheVariants.{Declare, Restart}
+use Rattle.messages.specs.declared.event.Event.TheVariants.{Declare, Restart, FailServer, StartServer}
 use Rattle.messages.specs.declared.entry.Entry.{Entry}
 use Rattle.node_core.specs.State.{NodeState, first_node}
 use Rattle.node_core.specs.Parts.{node_state}
-use Rattle.cluster_core.specs.World.{WorldState, has_node, was_declared}
+use Rattle.token_server.specs.State.{ServerState}
+use Rattle.token_server.specs.Parts.{server_state}
+use Rattle.token_server.specs.Resends.{outstanding}
+use Rattle.cluster_core.specs.World.{WorldState, has_node, has_file, was_declared, has_failed}
 use Rattle.messages.specs.declared.refusal.Refused.{Refused}
-use Rattle.cluster_core.specs.Next.{entry, next}
-use Rattle.cluster_core.specs.Actors.{HasNode}
+use Rattle.cluster_core.specs.Next.{entry, next, next_server}
+use Rattle.cluster_core.specs.Actors.{HasNode, HasServer}
 use Rattle.cluster_core.proofs.common.Choices.{at_number}
-use Rattle.cluster_core.proofs.steps.Steps.{next_taken, declare_step, restart_step}
+use Rattle.cluster_core.proofs.steps.Steps.{next_taken, declare_step, restart_step, fail_step, start_step}
 use Rattle.book.specs.declared.state.State.{State}
 use Rattle.book.specs.declared.state.State.TheVariants.{OfNode, OfServer}
 use Rattle.book.specs.States.{actor_of, incarnation_of, HasState, is_declared}
@@ -81,3 +86,73 @@ restarted_mine w n q s h stands =
       state = sym here;
     })
     (next_taken w (Restart n) q h).1 stands
+
+same_failed : (f g : ℕ) → ◌≡◌ {A = Event} (FailServer f) (FailServer g) → f ≡ g
+same_failed f g e = cc
+
+same_started : (f g : ℕ) → ◌≡◌ {A = Event} (StartServer f) (StartServer g) → f ≡ g
+same_started f g e = cc
+
+-- the entry of a failure
+pub failed_entry : (w : WorldState) (f : ℕ) (q : WorldState × Entry) → next w (FailServer f) ≡ Ok q → (k : ℕ) × (q.1 ≡ entry (FailServer f) k (sending []))
+failed_entry w f q h = fail_step w (λ p. (k : ℕ) × (p.1 ≡ entry (FailServer f) k (sending []))) f q (λ g is works. ((w.servers g).epoch, refl)) (next_taken w (FailServer f) q h).1
+
+-- other actors stay as they are
+pub failed_others : (w : WorldState) (f : ℕ) (q : WorldState × Entry) (x : State) → next w (FailServer f) ≡ Ok q → actor_of x ≢ AServer f → HasState w x → HasState q.0 x
+failed_others w f q (OfNode n x) h ne has = fail_step w (λ p. HasState p.0 (OfNode n x)) f q (λ g is works. record { number = has.number; alive = has.alive; state = has.state }) (next_taken w (FailServer f) q h).1
+failed_others w f q (OfServer k x) h ne has =
+    fail_step w (λ p. HasState p.0 (OfServer k x)) f q (λ g is works.
+    let other : k ≡ g → ⊥ = λ e. ne (ap AServer (e ∙ sym (same_failed f g is))) in
+    record {
+      number = has.number;
+      working = at_number k g (λ b. (if b then false else w.working k) ≡ true) (λ same. absurd (other same)) (λ _. has.working);
+      state = has.state;
+    })
+    (next_taken w (FailServer f) q h).1
+
+up_to_itself : (e : ℕ) → 1 ≤ e → (nat_le 1 e && nat_le e e) ≡ true
+up_to_itself e h = grind (arith, nat_tests, h)
+
+-- the epoch that worked is fenced
+pub failed_fences : (w : WorldState) (f : ℕ) (q : WorldState × Entry) (x : State) → next w (FailServer f) ≡ Ok q → HasState w x → actor_of x ≡ AServer f → 1 ≤ incarnation_of x → is_declared q.0 x ≡ true
+failed_fences w f q (OfNode n x) h has is least = absurd (cc)
+failed_fences w f q (OfServer k x) h has is least =
+    let here : k ≡ f = cc in
+    let e = (server_state x.value).epoch in
+    fail_step w (λ p. is_declared p.0 (OfServer k x) ≡ true) f q (λ g same works.
+    let at : k ≡ g = here ∙ same_failed f g same in
+    let stopped : (if k == g then false else w.working k) ≡ false = at_number k g (λ b. (if b then false else w.working k) ≡ false) (λ _. refl) (λ other. absurd (other at)) in
+    (λ j. has.number j && (nat_le 1 e && (if stopped j then nat_lt e (w.servers k).epoch else nat_le e (has.state j).epoch)))
+    ∙ up_to_itself e least)
+    (next_taken w (FailServer f) q h).1
+
+-- the entry of a start
+pub started_entry : (w : WorldState) (f : ℕ) (q : WorldState × Entry) → next w (StartServer f) ≡ Ok q → (k : ℕ) × (q.1 ≡ entry (StartServer f) k (sending (outstanding (next_server w f))))
+started_entry w f q h =
+    start_step w (λ p. (k : ℕ) × (p.1 ≡ entry (StartServer f) k (sending (outstanding (next_server w f))))) f q (λ g is stopped few.
+    ((w.servers g).epoch + 1, ap (λ (i : ℕ). entry (StartServer f) ((w.servers g).epoch + 1) (sending (outstanding (next_server w i)))) (sym (same_started f g is))))
+    (next_taken w (StartServer f) q h).1
+
+-- a start leaves other actors as they are
+pub started_others : (w : WorldState) (f : ℕ) (q : WorldState × Entry) (x : State) → next w (StartServer f) ≡ Ok q → actor_of x ≢ AServer f → HasState w x → HasState q.0 x
+started_others w f q (OfNode n x) h ne has = start_step w (λ p. HasState p.0 (OfNode n x)) f q (λ g is stopped few. record { number = has.number; alive = has.alive; state = has.state }) (next_taken w (StartServer f) q h).1
+started_others w f q (OfServer k x) h ne has =
+    start_step w (λ p. HasState p.0 (OfServer k x)) f q (λ g is stopped few.
+    let other : k ≡ g → ⊥ = λ e. ne (ap AServer (e ∙ sym (same_started f g is))) in
+    record {
+      number = has.number;
+      working = at_number k g (λ b. (if b then true else w.working k) ≡ true) (λ same. refl) (λ _. has.working);
+      state = at_number k g (λ b. (if b then next_server w g else w.servers k) ≡ server_state x.value) (λ same. absurd (other same)) (λ _. has.state);
+    })
+    (next_taken w (StartServer f) q h).1
+
+-- and the server that begins again stands there
+pub started_mine : (w : WorldState) (f : ℕ) (q : WorldState × Entry) (s : ServerState) → next w (StartServer f) ≡ Ok q → s ≡ q.0.servers f → HasServer q.0 f s
+started_mine w f q s h stands =
+    let known = (next_taken w (StartServer f) q h).0 in
+    start_step w (λ p. s ≡ p.0.servers f → HasServer p.0 f s) f q (λ g is stopped few here. record {
+      number = (and_parts (may_rebuild w.shape.version) (has_file w f) known).1;
+      working = at_number f g (λ b. (if b then true else w.working f) ≡ true) (λ same. refl) (λ other. absurd (other (same_started f g is)));
+      state = sym here;
+    })
+    (next_taken w (StartServer f) q h).1 stands

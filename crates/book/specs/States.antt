@@ -1,5 +1,5 @@
 -- The state of one actor, a node by its number or the server of a file.
-use Rattle.std.specs.Prelude.{◌≡◌, ℕ, Bool, false, ◌&&◌, Ok, Err}
+use Rattle.std.specs.Prelude.{◌≡◌, ℕ, Bool, ◌&&◌, Ok, Err}
 use Rattle.messages.specs.declared.actor.Actor.{Actor}
 use Rattle.messages.specs.declared.actor.Actor.TheVariants.{Node as ANode, Server as AServer}
 use Rattle.messages.specs.declared.event.Event.{Event}
@@ -8,7 +8,7 @@ use Rattle.messages.specs.declared.outcome.Outcome.{Outcome}
 use Rattle.messages.specs.declared.refusal.StepError.{StepError}
 use Rattle.node_core.specs.Parts.{node_state}
 use Rattle.token_server.specs.Parts.{server_state}
-use Rattle.cluster_core.specs.World.{WorldState, has_node, was_declared}
+use Rattle.cluster_core.specs.World.{WorldState, has_node, has_file, was_declared, has_failed}
 use Rattle.cluster_core.specs.Actors.{HasNode, HasServer, node_step, server_step, NodeSteps, ServerSteps, made_by_node, made_by_server}
 use Rattle.book.specs.declared.state.State.{State}
 use Rattle.book.specs.declared.state.State.TheVariants.{OfNode, OfServer}
@@ -17,10 +17,10 @@ abbrev pub actor_of : State → Actor
 actor_of (OfNode n s) = ANode n
 actor_of (OfServer f s) = AServer f
 
--- the incarnation of a node, 0 of a server
+-- the incarnation of a node, the epoch of a server
 abbrev pub incarnation_of : State → ℕ
 incarnation_of (OfNode n s) = (node_state s.value).incarnation
-incarnation_of (OfServer f s) = 0
+incarnation_of (OfServer f s) = (server_state s.value).epoch
 
 -- both are the same state of the same actor
 abbrev pub SameState : State → State → Type 0
@@ -44,10 +44,10 @@ abbrev pub HasState : WorldState → State → Type 0
 HasState w (OfNode n s) = HasNode w n (node_state s.value)
 HasState w (OfServer f s) = HasServer w f (server_state s.value)
 
--- the actor is a node, and the incarnation was declared failed
+-- the incarnation of the node, or the epoch of the server, was declared failed
 abbrev pub is_declared : WorldState → State → Bool
 is_declared w (OfNode n s) = has_node w n && was_declared w n (node_state s.value).incarnation
-is_declared w (OfServer f s) = false
+is_declared w (OfServer f s) = has_file w f && has_failed w f (server_state s.value).epoch
 
 -- the actor, which is alive, makes this state and outcome of the event
 abbrev pub MayStep : WorldState → Event → State → Outcome → Type 0

@@ -1,7 +1,7 @@
--- What a declaration and a restart do.
+-- What declarations and restarts of nodes do, and failures and starts of token servers.
 use Rattle.std.specs.Prelude.{◌≡◌, ◌≢◌, ℕ, ◌<◌, ◌≤◌, true, List, length}
-use Rattle.messages.specs.declared.actor.Actor.TheVariants.{Node as ANode}
-use Rattle.messages.specs.declared.event.Event.TheVariants.{Declare, Restart}
+use Rattle.messages.specs.declared.actor.Actor.TheVariants.{Node as ANode, Server as AServer}
+use Rattle.messages.specs.declared.event.Event.TheVariants.{Declare, Restart, FailServer, StartServer}
 use Rattle.cluster_core.specs.Parts.{world_state}
 use Rattle.cluster_core.specs.Journals.{RunFields, GoesOn}
 use Rattle.book.specs.States.{actor_of, incarnation_of, is_declared}
@@ -28,3 +28,27 @@ pub record Restarted (b : RunFields) (n : ℕ) (b' : RunFields) (s : SeatFields)
   pub mine : IsSeatOf b' s
   pub stamps : (o : StampFields) → IsStampOf b.entries o → IsStampOf b'.entries o
   pub others : (o : SeatFields) → actor_of o.state ≢ ANode n → IsSeatOf b o → IsSeatOf b' o
+
+-- the server of the file worked in this epoch, of which each seat is fenced from here on; seats of other actors stay seats of the book
+pub record Failed (b : RunFields) (f : ℕ) (b' : RunFields) (t : StampFields) : Type 0 where
+  pub goes : GoesOn b (FailServer f) b'
+  pub position : t.position ≡ length b'.entries
+  pub event : t.event ≡ FailServer f
+  pub seen_is : t.seen ≡ 0
+  pub stamped : IsStampOf b'.entries t
+  pub stamps : (o : StampFields) → IsStampOf b.entries o → IsStampOf b'.entries o
+  pub fenced : (s : SeatFields) → IsSeatOf b s → actor_of s.state ≡ AServer f → 1 ≤ incarnation_of s.state → is_declared (world_state b'.world) s.state ≡ true
+  pub others : (o : SeatFields) → actor_of o.state ≢ AServer f → IsSeatOf b o → IsSeatOf b' o
+
+-- the seat is of the server of the file as it begins again, and the stamp of what it asks the nodes; seats of other actors stay seats of the book
+pub record Started (b : RunFields) (f : ℕ) (b' : RunFields) (s : SeatFields) (t : StampFields) : Type 0 where
+  pub goes : GoesOn b (StartServer f) b'
+  pub actor : actor_of s.state ≡ AServer f
+  pub commits : s.commits ≡ 0
+  pub mine : IsSeatOf b' s
+  pub position : t.position ≡ length b'.entries
+  pub event : t.event ≡ StartServer f
+  pub seen_is : t.seen ≡ 0
+  pub stamped : IsStampOf b'.entries t
+  pub stamps : (o : StampFields) → IsStampOf b.entries o → IsStampOf b'.entries o
+  pub others : (o : SeatFields) → actor_of o.state ≢ AServer f → IsSeatOf b o → IsSeatOf b' o

@@ -1,6 +1,6 @@
 //! The book.
 ghost use Rattle.std.specs.Prelude.{◌≡◌, ◌≢◌, ◌+◌, ◌-◌, ◌<◌, ◌≤◌, ◌++◌, ◌∷◌, [], ℕ, Ok, Err, Some, true, length, slice_get, IfOk, IfErr, OnOk, OnErr, MatchResult, MatchBool, option_copied};
-ghost use Rattle.messages.specs.declared.event.Event.TheVariants.{Declare, Restart};
+ghost use Rattle.messages.specs.declared.event.Event.TheVariants.{Declare, Restart, FailServer, StartServer};
 ghost use Rattle.messages.specs.declared.refusal.Refused.{Refused};
 ghost use Rattle.messages.specs.Shapes.{ShapeFields};
 ghost use Rattle.cluster_core.specs.World.{first_world, journal_limit};
@@ -14,7 +14,7 @@ ghost use Rattle.book.specs.Fields.{SeatFields, StampFields};
 ghost use Rattle.book.specs.States.{actor_of, MayStep, made_by, HasState};
 ghost use Rattle.book.specs.Receipts.{Holds, IsStampOf, IsReceiptOf};
 ghost use Rattle.book.specs.Commits.{Names, IsStepFrom, IsSeatOf, Accepts, Refuses, Commits, seen_at};
-ghost use Rattle.book.specs.Turns.{Declared, Restarted};
+ghost use Rattle.book.specs.Turns.{Declared, Restarted, Failed, Started};
 ghost use Rattle.book.specs.Seats.{IsFirstSeat, AreFirst};
 ghost use Rattle.model.specs.Limits.{IsNumber};
 ghost use Rattle.messages.specs.declared.actor.Actor.TheVariants.{Node as ANode, Server as AServer};
@@ -160,7 +160,7 @@ impl Book {
     /// In this order: `JournalFull` where the journal has 1,048,576 entries; `Stale` where the step names
     /// another actor, incarnation or number of commits than the seat has; `Stranger` where the event names
     /// what the cluster doesn't have, a message that was never sent, or an incarnation that wasn't
-    /// declared; `Fenced` where the seat's incarnation was declared failed; `Stale` where the seat's state
+    /// declared; `Fenced` where the seat's incarnation, or epoch, was declared failed; `Stale` where the seat's state
     /// isn't the book's copy, or `seen` is past the last entry; `NoMemory` where a request for memory was
     /// refused. The book and the seat are then as they were.
     pub fn commit(
@@ -216,6 +216,45 @@ impl Book {
             number: node,
             node: begun,
         }))
+    }
+
+    /// The token server of the file is declared failed: from here on each commit of its epoch is refused.
+    ///
+    /// # Errors
+    /// In this order: `JournalFull`; `Stranger` where there is no such file, or servers of a cluster of
+    /// that version don't fail; `NotAlive` where it was declared; `NoMemory`. The book is then as it was.
+    pub fn fail_server(&mut self, alloc: Global, file: u16) -> Result<Stamp, Refused>
+        ensures ok { IfOk result (λ t. Failed self.old file self.new t) }
+        ensures err { IfErr result (λ e. e ≢ Refused.NoMemory → kept_next (world_state self.old.world) (FailServer file) ≡ Err e) }
+        ensures refused { (e : Refused) → kept_next (world_state self.old.world) (FailServer file) ≡ Err e → result ≡ Err e }
+        ensures unchanged { OnErr result (self.new ≡ self.old) }
+    {
+        self.run.take(alloc, Event::FailServer { file })?;
+        let outcome = Outcome::sending(Items::new(alloc));
+        let position = self.run.len();
+        Ok(Stamp::new(position, Event::FailServer { file }, outcome, 0))
+    }
+
+    /// The token server of the file, which was declared failed, is rebuilt in its next epoch, whose seat
+    /// this is. The stamp has what it asks the nodes.
+    ///
+    /// # Errors
+    /// In this order: `JournalFull`; `Stranger` as at `fail_server`; `NotDead` where it works;
+    /// `TooManyRestarts` where it had 65,535 epochs; `NoMemory`. The book is then as it was.
+    pub fn start_server(&mut self, alloc: Global, file: u16) -> Result<(Seat, Stamp), Refused>
+        ensures ok { IfOk result (λ r. Started self.old file self.new r.0 r.1) }
+        ensures err { IfErr result (λ e. e ≢ Refused.NoMemory → kept_next (world_state self.old.world) (StartServer file) ≡ Err e) }
+        ensures refused { (e : Refused) → kept_next (world_state self.old.world) (StartServer file) ≡ Err e → result ≡ Err e }
+        ensures unchanged { OnErr result (self.new ≡ self.old) }
+    {
+        let (begun, asks) = self.run.start(alloc, file)?;
+        let position = self.run.len();
+        let stamp = Stamp::new(position, Event::StartServer { file }, asks, 0);
+        let state = State::OfServer {
+            file,
+            server: begun,
+        };
+        Ok((Seat::new(state), stamp))
     }
 
     /// Whether the journal holds the receipt, as it does each that was made of two stamps of this book.

@@ -1,6 +1,5 @@
 //! Seats.
-ghost use Rattle.std.specs.Prelude.{◌≡◌, ◌≢◌, ◌<◌, ◌≤◌, ◌+◌, ℕ, IfOk, IfErr, Err};
-ghost use Rattle.messages.specs.declared.actor.Actor.TheVariants.{Node as ANode};
+ghost use Rattle.std.specs.Prelude.{◌≡◌, ◌≢◌, ◌<◌, ◌≤◌, ◌+◌, IfOk, IfErr, Err};
 ghost use Rattle.book.specs.Commits.{Names, IsStepFrom};
 ghost use Rattle.book.specs.States.{actor_of, incarnation_of, Rejects};
 
@@ -54,10 +53,10 @@ impl Seat {
         self.state.actor()
     }
 
-    /// The incarnation of a node, from 1; 0 of a server.
+    /// The incarnation of a node, or the epoch of a server; from 1.
     pub fn incarnation(&self) -> u16
         ensures value { result ≡ incarnation_of self.now.state }
-        ensures from_one { (n : ℕ) → actor_of self.now.state ≡ ANode n → 1 ≤ result }
+        ensures from_one { 1 ≤ result }
     {
         self.state.incarnation()
     }

@@ -1,6 +1,5 @@
 //! States of actors.
-ghost use Rattle.std.specs.Prelude.{◌≡◌, ◌≢◌, ◌≤◌, ◌↔◌, ℕ, if◌then◌else◌, Some, None, Ok, Err, IfOk, IfErr, IsTrue};
-ghost use Rattle.messages.specs.declared.actor.Actor.TheVariants.{Node as ANode};
+ghost use Rattle.std.specs.Prelude.{◌≡◌, ◌≢◌, ◌≤◌, ◌↔◌, if◌then◌else◌, Some, None, Ok, Err, IfOk, IfErr, IsTrue};
 ghost use Rattle.node_core.specs.Parts.{node_state};
 ghost use Rattle.token_server.specs.Parts.{server_state};
 ghost use Rattle.cluster_core.specs.Parts.{world_state};
@@ -277,14 +276,14 @@ impl State {
         }
     }
 
-    /// The incarnation of a node, from 1; 0 of a server.
+    /// The incarnation of a node, or the epoch of a server; from 1.
     pub(crate) fn incarnation(&self) -> u16
         ensures value { result ≡ incarnation_of self.now }
-        ensures from_one { (n : ℕ) → actor_of self.now ≡ ANode n → 1 ≤ result }
+        ensures from_one { 1 ≤ result }
     {
         match self {
             State::OfNode { node, .. } => node.incarnation(),
-            State::OfServer { .. } => 0,
+            State::OfServer { server, .. } => server.epoch(),
         }
     }
 
@@ -342,13 +341,13 @@ impl State {
         }
     }
 
-    /// Whether the actor is a node, and its incarnation was declared failed there.
+    /// Whether the node's incarnation, or the server's epoch, was declared failed there.
     pub(crate) fn is_declared_in(&self, world: &World) -> bool
         ensures { result ≡ is_declared (world_state world.now) self.now }
     {
         match self {
             State::OfNode { number, node } => world.has_declared(*number, node.incarnation()),
-            State::OfServer { .. } => false,
+            State::OfServer { file, server } => world.has_failed(*file, server.epoch()),
         }
     }
 }

@@ -1,9 +1,10 @@
 -- What an actor's own step refuses, the world refuses.
-use Rattle.std.specs.Prelude.{◌≢◌, Bool, true, false, cond, not, nat_le}
+use Rattle.std.specs.Prelude.{◌≢◌, Bool, true, false, cond, not, ◌&&◌, nat_le}
 use Rattle.std.proofs.Common.{◌≡◌, ℕ, refl, sym, ◌∙◌, ap, Result, Ok, Err}
 use Rattle.messages.specs.Refusals.{refused_by}
+use Rattle.messages.specs.Versions.{may_rebuild}
 use Rattle.messages.specs.declared.event.Event.{Event}
-use Rattle.messages.specs.declared.event.Event.TheVariants.{Declare}
+use Rattle.messages.specs.declared.event.Event.TheVariants.{Declare, FailServer}
 use Rattle.messages.specs.declared.entry.Entry.{Entry}
 use Rattle.messages.specs.declared.outcome.Outcome.{Outcome}
 use Rattle.messages.specs.declared.refusal.Refused.{Refused}
@@ -11,7 +12,7 @@ use Rattle.messages.specs.declared.refusal.Refused.TheVariants.{JournalFull, Str
 use Rattle.messages.specs.declared.refusal.StepError.{StepError}
 use Rattle.node_core.specs.State.{NodeState}
 use Rattle.token_server.specs.State.{ServerState}
-use Rattle.cluster_core.specs.World.{WorldState, journal_limit, has_node}
+use Rattle.cluster_core.specs.World.{WorldState, journal_limit, has_node, has_file}
 use Rattle.cluster_core.specs.Next.{after_node, after_server, kept_next}
 
 pub err_is : {A E : Type 0} (a b : E) → ◌≡◌ {A = Result A E} (Err a) (Err b) → a ≡ b
@@ -38,12 +39,16 @@ server_goes w event file x done q r is gives refused =
     let both = sym refused ∙ (gives ∙ ap (after_server w event file) is) in
     absurd (cc)
 
+unspent : (e : Refused) (full known works : Bool) (made : WorldState × Entry) → cond full (Err JournalFull) (cond (not known) (Err Stranger) (cond works (Ok made) (Err NotAlive))) ≡ Err e → e ≢ Spent
+unspent e true known works made h = λ spent. absurd (cc)
+unspent e false false works made h = λ spent. absurd (cc)
+unspent e false true true made h = λ spent. absurd (cc)
+unspent e false true false made h = λ spent. absurd (cc)
+
 -- a declaration is not refused for want of a number
 pub declare-unspent : (w : WorldState) (n : ℕ) (e : Refused) → kept_next w (Declare n) ≡ Err e → e ≢ Spent
-declare-unspent w n e h = by (nat_le journal_limit w.length) (has_node w n) (w.alive n) _ h
-  where
-    by : (full known alive : Bool) (made : WorldState × Entry) → cond full (Err JournalFull) (cond (not known) (Err Stranger) (cond alive (Ok made) (Err NotAlive))) ≡ Err e → e ≢ Spent
-    by true known alive made h = λ spent. absurd (cc)
-    by false false alive made h = λ spent. absurd (cc)
-    by false true true made h = λ spent. absurd (cc)
-    by false true false made h = λ spent. absurd (cc)
+declare-unspent w n e h = unspent e (nat_le journal_limit w.length) (has_node w n) (w.alive n) _ h
+
+-- nor is a failure
+pub fail-unspent : (w : WorldState) (file : ℕ) (e : Refused) → kept_next w (FailServer file) ≡ Err e → e ≢ Spent
+fail-unspent w file e h = unspent e (nat_le journal_limit w.length) (may_rebuild w.shape.version && has_file w file) (w.working file) _ h

@@ -1,0 +1,32 @@
+use Rattle.std.proofs.Common.{◌≡◌, sym, ap, ◌∙◌, subst, Err}
+use Rattle.std.proofs.lemmas.Result.{err_from_is_err_and}
+use Rattle.messages.specs.declared.event.Event.TheVariants.{FailServer}
+use Rattle.messages.specs.declared.refusal.Refused.{Refused}
+use Rattle.cluster_core.specs.Next.{kept_next}
+use Rattle.cluster_core.specs.Parts.{world_state}
+use Rattle.cluster_core.proofs.steps.CertainRefusals.{err_is, fail-unspent}
+use Rattle.messages.specs.Messages.{sending}
+use Rattle.cluster_core.specs.Journals.{RunFields}
+use Rattle.book.specs.Fields.{StampFields}
+use Rattle.book.specs.Turns.{Failed}
+use Rattle.book.proofs.Committed.{failed}
+use Rattle.book.proofs.book.Book.fail_server.Goals as goal
+
+pub returns-clause-ok : goal.returns-clause-ok
+returns-clause-ok c =
+    let b = c.self.inside.run in
+    let d = c.take.new.self in
+    let f = c.args.file in
+    let t = c.new-2.result in
+    let is = c.new-2.ensures in
+    let position = ap (λ (x : StampFields). x.position) is ∙ c.len-position.ensures.value in
+    let gave = ap (λ (x : StampFields). x.outcome) is ∙ c.sending-outcome.ensures ∙ ap sending c.new.ensures in
+    let made : Failed b f d t = failed b d f t c.in_ok-take.ensures.ok position (ap (λ (x : StampFields). x.event) is) gave (ap (λ (x : StampFields). x.seen) is) in
+    subst (λ (x : RunFields). Failed x f d t) c.self.view_is made
+
+pub returns-in_err-take-clause-refused : goal.returns-in_err-take-clause-refused
+returns-in_err-take-clause-refused c = λ e refused.
+    let before : kept_next (world_state c.self.inside.run.world) (FailServer c.args.file) ≡ Err e = subst (λ (r : RunFields). kept_next (world_state r.world) (FailServer c.args.file) ≡ Err e) (sym c.self.view_is) refused in
+    let told = err_from_is_err_and c.from_residual.result c.from_residual.ensures.1 in
+    let same = c.in_err-take.ensures.refused e (fail-unspent (world_state c.self.inside.run.world) c.args.file e before) before in
+    told.1 ∙ ap (λ (r : Refused). Err r) (told.2 ∙ err_is _ _ same)
