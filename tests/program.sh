@@ -522,6 +522,46 @@ printf 'refused\nline 4 code 14\nline 5 code 11\nline 7 code 15\nline 8 code 10\
 printf '1.1.1 done\n1.2.1 done\n2.1.1 done\nreceipts 3\naudit yes\n' >>wanted
 judge 'lines that threads refuse, in their order' 0 "$came" wanted came.out none came.err
 
+# A token server fails and is rebuilt between two phases: node 1 keeps its lock, and what it doesn't need of its token goes to node 2.
+cat >rebuilt.lock <<'END'
+cluster nodes 2 files 1 policy wide
+call 1 1 spawn
+call 1 1 open 1 rw
+call 1 1 set 0 proc write 0 100
+settle
+start-server 1
+fail-server 2
+fail-server 1
+fail-server 1
+start-server 1
+call 2 1 spawn
+call 2 1 open 1 rw
+call 2 1 set 0 proc write 200 100
+settle
+END
+timeout 120 "$program" threads rebuilt.lock --journal threads.journal >threads.out 2>came.err </dev/null
+came=$?
+{
+    sed -n '/^refused$/,/^replies$/p' threads.out
+    sed -n '/^locks$/,/^history$/p' threads.out
+    tail -n 2 threads.out
+} >came.out
+printf 'refused\nline 6 code 11\nline 7 code 14\nline 9 code 10\nreplies\nlocks\n' >wanted
+printf 'p1@1.1             1                   0                  99 write\n' >>wanted
+printf 'p1@2.1             1                 200                 299 write\nhistory\nreceipts 6\naudit yes\n' >>wanted
+judge 'a token server that is rebuilt on threads' 0 "$came" wanted came.out none came.err
+sed -n 's/^entry [0-9]* \(fail-server\|start-server\|deliver hello\|deliver report\) /\1 /p' threads.journal | sort -u >came.out
+cat >wanted <<'END'
+deliver hello 1 2 1.1
+deliver hello 1 2 2.1
+deliver report 1 2 1.1 1 exclusive 0 9223372036854775807
+deliver report 1 2 2.1 0
+fail-server 1.1
+start-server 1.2
+END
+judge 'what a rebuilt server asked on threads' 0 0 wanted came.out none none
+try 'an audit of that journal' 0 yes none audit threads.journal
+
 # Calls one after the other, none of which sends a message, come to the same on each run.
 {
     cat empty.lock

@@ -703,11 +703,11 @@ impl World {
     ///
     /// # Errors
     /// In this order: `JournalFull` where the world has 1,048,576 entries; `Stranger` where the event
-    /// names a number outside the shape or a message that was never sent; `Fenced` where it would be a
-    /// step of a node that was declared failed; what the actor's step refuses, `Busy`, `Stranger` or
-    /// `Spent`, and of a declaration or a restart `NotAlive`, `NotDead` or `TooManyRestarts`;
-    /// `NoMemory` where a request for memory was refused, which may come before `Spent`. The world is
-    /// then as it was.
+    /// names a number outside the shape or a message that was never sent, or a failure or start of a
+    /// server in a cluster of version 1; `Fenced` where it would be a step of a node or a server that was
+    /// declared failed; what the actor's step refuses, `Busy`, `Stranger` or `Spent`, and of a failure
+    /// or a start `NotAlive`, `NotDead` or `TooManyRestarts`; `NoMemory` where a request for memory was
+    /// refused, which may come before `Spent`. The world is then as it was.
     pub fn step(&mut self, alloc: Global, event: Event) -> Result<Entry, Refused>
         ensures ok { IfOk result (λ entry. next (world_state self.old) event ≡ Ok (world_state self.new, entry)) }
         ensures room { OnOk result (self.old.length < journal_limit) }

@@ -92,11 +92,12 @@ the exit status is 1. One of version 1 is refused as an 'old journal' (exit stat
 /// What stands under the options of `threads`.
 pub(crate) const THREADS_NOTES: &str = "\
 The script is written as for 'lockreplay run', but of the lines 'cluster', 'call',
-'settle', 'declare' and 'restart' alone; another is a bad line. Each node and each server
-has a thread, and messages go from one to the other by themselves. The calls between two
-other lines happen side by side: each process makes its own in their order, and waits for
-each reply. 'settle', 'declare', 'restart' and the end wait until all are answered. A
-'wait' for a lock that nobody gives up keeps the run going until its journal is full.
+'settle', 'declare', 'restart', 'fail-server' and 'start-server' alone; another is a bad
+line. Each node and each server has a thread, and messages go from one to the other by
+themselves. The calls between two other lines happen side by side: each process makes its
+own in their order, and waits for each reply. Any other line, and the end, waits until all
+are answered. A 'wait' for a lock that nobody gives up keeps the run going until its
+journal is full; so does a call that needs a token of a server that does not start again.
 
 The listing is that of the journal of this run, which depends on the schedule. The codes
 of refused lines are those of 'lockreplay run'. Two lines stand behind it:
