@@ -16,12 +16,16 @@ use model::reply::Reply;
 use std::alloc::Global;
 use std::test::Fail;
 
-// A cluster of two nodes and one file, with its seats. (In boxes, since what a test keeps in a box is
+// A cluster of so many nodes and one file, with its seats. (In boxes, since what a test keeps in a box is
 // dropped in fewer steps.)
-fn begins(alloc: Global) -> Result<(Box<Book>, Box<Vec<Seat>>), Fail> {
-    let shape = Shape::new(2, 1, Policy::Exact)?;
+fn begins_with(alloc: Global, nodes: u8) -> Result<(Box<Book>, Box<Vec<Seat>>), Fail> {
+    let shape = Shape::new(nodes, 1, Policy::Exact)?;
     let (book, seats) = Book::new(alloc, shape)?;
     Ok((Box::new(alloc, book)?, Box::new(alloc, seats)?))
+}
+
+fn begins(alloc: Global) -> Result<(Box<Book>, Box<Vec<Seat>>), Fail> {
+    begins_with(alloc, 2)
 }
 
 fn spawn(node: u8) -> Event {
@@ -203,5 +207,49 @@ fn keeps_strangers_out(
 fn an_actor_takes_its_own_events(rt: HostRuntime) -> Result<(), Fail> {
     let (mut book, mut seats) = begins(rt.alloc())?;
     assert!(rt; keeps_strangers_out(&mut book, rt.alloc(), &mut seats)?);
+    Ok(())
+}
+
+// Whether the server, once it was declared failed, is not again, and takes no step that was prepared before.
+fn fails(book: &mut Book, alloc: Global, seat: &mut Seat) -> Result<bool, Fail> {
+    let prepared = seat.prepare(alloc, Event::Resend { file: 1 })?;
+    let position = book.fail_server(alloc, 1)?.position();
+    let again = book.fail_server(alloc, 1).err();
+    let refused = book.commit(alloc, seat, prepared, None).err();
+    Ok(position == 1 && again == Some(Refused::NotAlive) && refused == Some(CommitError::Fenced))
+}
+
+// The delivery of the first message that the step sent.
+fn delivery(alloc: Global, stamp: &Stamp) -> Result<Event, Fail> {
+    let sends = stamp.outcome().sends.as_slice();
+    let message = sends.first().ok_or("a step that sends")?;
+    Ok(Event::Deliver(message.copy(alloc)?))
+}
+
+// The server as it begins again, and the delivery of what it asks.
+fn begun(book: &mut Book, alloc: Global) -> Result<(Box<Seat>, Box<Event>), Fail> {
+    let (seat, stamp) = book.start_server(alloc, 1)?;
+    let hello = delivery(alloc, &stamp)?;
+    Ok((Box::new(alloc, seat)?, Box::new(alloc, hello)?))
+}
+
+// Whether the node tells its token to the server that begins again, which sends nothing more then.
+fn hears(book: &mut Book, alloc: Global, node: &mut Seat) -> Result<bool, Fail> {
+    let (mut server, hello) = begun(book, alloc)?;
+    let again = book.start_server(alloc, 1).err();
+    let told = commit(book, alloc, node, Box::into_inner(hello), None)?;
+    let report = delivery(alloc, &told)?;
+    let heard = commit(book, alloc, &mut server, report, None)?;
+    let resent = commit(book, alloc, &mut server, Event::Resend { file: 1 }, None)?;
+    let quiet = heard.outcome().sends.is_empty() && resent.outcome().sends.is_empty();
+    let told_at = (told.position(), server.incarnation(), resent.position());
+    Ok(again == Some(Refused::NotDead) && quiet && told_at == (3, 2, 5))
+}
+
+#[test]
+fn a_failed_server_is_fenced_and_asks_anew(rt: HostRuntime) -> Result<(), Fail> {
+    let (mut book, mut seats) = begins_with(rt.alloc(), 1)?;
+    assert!(rt; fails(&mut book, rt.alloc(), at(&mut seats, 1)?)?);
+    assert!(rt; hears(&mut book, rt.alloc(), at(&mut seats, 0)?)?);
     Ok(())
 }
