@@ -27,5 +27,5 @@ returns-clause-ok c =
     let position = ap (λ (x : StampFields). x.position) is ∙ c.len-position.ensures.value in
     let gave = ap (λ (x : StampFields). x.outcome) is ∙ c.in_ok-begun.ensures.asks in
     let made : Started b f d seat t = started b d f seat t went refl refl stands position (ap (λ (x : StampFields). x.event) is) gave (ap (λ (x : StampFields). x.seen) is) in
-    let same : Started b f d c.new-2.result t = subst (λ (x : SeatFields). Started b f d x t) (sym c.new-2.ensures) made in
-    subst (λ (x : RunFields). Started x f d c.new-2.result t) c.self.view_is same
+    let same : Started b f d c.new.result t = subst (λ (x : SeatFields). Started b f d x t) (sym c.new.ensures) made in
+    subst (λ (x : RunFields). Started x f d c.new.result t) c.self.view_is same
