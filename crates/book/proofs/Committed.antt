@@ -1,5 +1,5 @@
 -- What a commit, declarations, failures and restarts do, put together.
-use Rattle.std.proofs.Common.{◌≡◌, ◌≢◌, ℕ, ◌+◌, List, [], ◌∷◌, ◌++◌, length, refl, sym, ap, ◌∙◌, subst, Ok}
+use Rattle.std.proofs.Common.{◌≡◌, ◌≢◌, ℕ, ◌+◌, true, List, [], ◌∷◌, ◌++◌, length, refl, sym, ap, ◌∙◌, subst, Ok}
 use Rattle.messages.specs.Messages.{sending}
 use Rattle.messages.specs.declared.actor.Actor.TheVariants.{Node as ANode, Server as AServer}
 use Rattle.messages.specs.declared.event.Event.{Event}
@@ -14,10 +14,11 @@ use Rattle.cluster_core.specs.Journals.{RunFields, GoesOn}
 use Rattle.cluster_core.proofs.steps.Steps.{kept_taken}
 use Rattle.cluster_core.specs.Actors.{Records}
 use Rattle.book.specs.declared.state.State.{State}
-use Rattle.book.specs.States.{actor_of, SameState, StepsTo, HasState, made_by}
+use Rattle.book.specs.States.{actor_of, SameState, StepsTo, HasState, is_declared, made_by}
 use Rattle.book.specs.Fields.{SeatFields, PreparedFields, StampFields}
 use Rattle.book.specs.Commits.{IsStepFrom, IsSeatOf, Accepts, Commits}
 use Rattle.book.specs.Turns.{Declared, Restarted, Failed, Started}
+use Rattle.book.proofs.Fences.{stays_declared}
 use Rattle.book.proofs.Stamps.{stays, new_stamp}
 use Rattle.book.proofs.Steps.{actor_kept, made_same, made_entry, may_step, mine, others}
 use Rattle.book.proofs.Turns.{declared_entry, declared_others, declared_fences, restarted_others, failed_entry, failed_others, failed_fences, started_entry, started_others}
@@ -47,6 +48,7 @@ committed b d s r p seen t copy event o event_is o_is accepted step same put sta
       seen_is = seen_is;
       mine = subst (λ (x : State). HasState v x) (sym state) stands;
       others = λ x ne has. others w v p.event p.state p.outcome x.state goes.world (λ e. ne (e ∙ actor_kept s.state p.event p.state p.outcome step)) has;
+      fences = λ x was. subst (λ (u : WorldState). is_declared u x.state ≡ true) (sym goes.world) (stays_declared w p.event (made_by w p.event p.state p.outcome) x.state goes.step was);
       stamped = new_stamp b.entries d.entries (made_by w p.event p.state p.outcome).1 k.0 t goes.entries (k.1 ∙ (λ i. entry (sym said i) k.0 (sym gave i))) position;
       stamps = λ x h. stays b.entries d.entries (made_by w p.event p.state p.outcome).1 x goes.entries h;
     }
@@ -63,6 +65,7 @@ declared b d n t went position said gave seen_is =
       event = said;
       seen_is = seen_is;
       stamped = new_stamp b.entries d.entries went.0 k.0 t went.2 (k.1 ∙ (λ i. entry (sym said i) k.0 (sym gave i))) position;
+      fences = λ x was. stays_declared w (Declare n) q x.state step was;
       stamps = λ x h. stays b.entries d.entries went.0 x went.2 h;
       fenced = λ s has is least. declared_fences w n q s.state step has is least;
       others = λ x ne has. declared_others w n q x.state step ne has;
@@ -78,6 +81,7 @@ restarted b d n s went actor commits stands =
       actor = actor;
       commits = commits;
       mine = stands;
+      fences = λ x was. stays_declared w (Restart n) q x.state step was;
       stamps = λ x h. stays b.entries d.entries went.0 x went.2 h;
       others = λ x ne has. restarted_others w n q x.state step ne has;
     }
@@ -94,6 +98,7 @@ failed b d f t went position said gave seen_is =
       event = said;
       seen_is = seen_is;
       stamped = new_stamp b.entries d.entries went.0 k.0 t went.2 (k.1 ∙ (λ i. entry (sym said i) k.0 (sym gave i))) position;
+      fences = λ x was. stays_declared w (FailServer f) q x.state step was;
       stamps = λ x h. stays b.entries d.entries went.0 x went.2 h;
       fenced = λ s has is least. failed_fences w f q s.state step has is least;
       others = λ x ne has. failed_others w f q x.state step ne has;
@@ -114,6 +119,7 @@ started b d f s t went actor commits stands position said gave seen_is =
       event = said;
       seen_is = seen_is;
       stamped = new_stamp b.entries d.entries went.0 k.0 t went.2 (k.1 ∙ (λ i. entry (sym said i) k.0 (sym gave i))) position;
+      fences = λ x was. stays_declared w (StartServer f) q x.state step was;
       stamps = λ x h. stays b.entries d.entries went.0 x went.2 h;
       others = λ x ne has. started_others w f q x.state step ne has;
     }

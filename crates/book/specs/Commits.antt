@@ -47,7 +47,7 @@ Refuses b s p seen Stranger = (length b.entries < journal_limit) × Names p s ×
 Refuses b s p seen Fenced = (length b.entries < journal_limit) × Names p s × (is_known (world_state b.world) p.event ≡ true) × (is_declared (world_state b.world) s.state ≡ true)
 Refuses b s p seen NoMemory = Accepts b s p seen
 
--- the step is the next of the run and its entry the last; seats of other actors stay seats of the book, and older stamps stamps of it
+-- the step is the next of the run and its entry the last; seats of other actors stay seats of the book, those that are fenced stay so, and older stamps stay stamps of it
 pub record Commits (b : RunFields) (s : SeatFields) (p : PreparedFields) (seen : ℕ) (b' : RunFields) (s' : SeatFields) (t : StampFields) : Type 0 where
   pub accepted : Accepts b s p seen
   pub goes : Records b p.event (made_by (world_state b.world) p.event p.state p.outcome) b'
@@ -59,5 +59,6 @@ pub record Commits (b : RunFields) (s : SeatFields) (p : PreparedFields) (seen :
   pub seen_is : t.seen ≡ seen
   pub mine : IsSeatOf b' s'
   pub others : (o : SeatFields) → actor_of o.state ≢ actor_of s.state → IsSeatOf b o → IsSeatOf b' o
+  pub fences : (o : SeatFields) → is_declared (world_state b.world) o.state ≡ true → is_declared (world_state b'.world) o.state ≡ true
   pub stamped : IsStampOf b'.entries t
   pub stamps : (o : StampFields) → IsStampOf b.entries o → IsStampOf b'.entries o
