@@ -562,6 +562,67 @@ END
 judge 'what a rebuilt server asked on threads' 0 0 wanted came.out none none
 try 'an audit of that journal' 0 yes none audit threads.journal
 
+# Whatever the weather, two nodes that want bytes of one file come to the locks that they come to without one.
+{
+    sed -n '/^locks$/,/^history$/p' "$tests/../examples/revoked-token.listing"
+    printf 'receipts 6\naudit yes\n'
+} >wanted
+for seed in {1..32}; do
+    timeout 120 "$program" threads "$tests/../examples/revoked-token.lock" --seed "$seed" >threads.out 2>came.err </dev/null
+    came=$?
+    {
+        sed -n '/^locks$/,/^history$/p' threads.out
+        tail -n 2 threads.out
+    } >came.out
+    judge "the weather of seed $seed" 0 "$came" wanted came.out none came.err
+done
+
+# Waits, denials, nodes and servers that fail and begin again, under a hundred weathers: each call is answered, and the journal is one of a run.
+cat >weather.lock <<'END'
+cluster nodes 3 files 2 policy wide
+call 1 1 spawn
+call 1 1 open 1 rw
+call 1 1 set 0 proc write 0 10
+call 2 1 spawn
+call 2 1 open 1 rw
+call 2 1 open 2 rw
+call 2 1 set 1 proc read 0 0
+call 3 1 spawn
+call 3 1 open 2 rw
+settle
+call 1 1 unlock 0 proc 0 10
+call 2 1 wait 0 proc write 0 20
+call 3 1 set 0 proc read 5 5
+call 3 1 query 0 proc write 0 0
+settle
+declare 1
+fail-server 1
+start-server 1
+call 3 1 open 1 rw
+call 3 1 set 1 proc write 30 10
+call 2 1 unlock 0 proc 0 0
+restart 1
+call 1 1 spawn
+call 1 1 open 1 rw
+call 1 1 wait 0 proc write 0 20
+fail-server 2
+declare 2
+start-server 2
+call 3 1 set 0 proc write 0 0
+call 1 1 open 2 rw
+call 1 1 set 1 proc read 0 10
+settle
+END
+printf 'receipts 22\naudit yes\n' >wanted
+held=0
+for seed in {101..200}; do
+    timeout 120 "$program" threads weather.lock --seed "$seed" --journal threads.journal 2>came.err </dev/null | tail -n 2 >came.out
+    [ "${PIPESTATUS[0]}" -eq 0 ] && cmp -s wanted came.out && [ ! -s came.err ] &&
+        [ "$("$program" audit threads.journal)" = 'audit yes' ] && held=$((held + 1))
+done
+[ "$held" -eq 100 ]
+judge "failures under the weathers of 100 seeds: $held" 0 $? none none none none
+
 # Calls one after the other, none of which sends a message, come to the same on each run.
 {
     cat empty.lock

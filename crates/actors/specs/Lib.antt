@@ -1,3 +1,4 @@
 pub mod Numbers
 pub mod Clients
 pub mod Runs
+pub mod Weathers

@@ -18,6 +18,7 @@ mod place;
 mod rebuilt;
 mod resends;
 pub mod run_error;
+pub mod seeded;
 mod shared;
 mod stop;
 pub mod thread_run;

@@ -11,9 +11,9 @@ use crate::gate::Gate;
 use crate::outcomes::Outcomes;
 use crate::phases::Phases;
 use crate::run_error::RunError;
+use crate::seeded::Seeded;
 use crate::stop::Stop;
 use crate::thread_run::ThreadRun;
-use crate::weather::Fair;
 use cluster_core::journal::Journal;
 use cluster_core::world::JOURNAL_LIMIT;
 use lockscript::script::Script;
@@ -28,7 +28,8 @@ use std::time::Clock;
 /// `start-server`; the calls between two of the other lines form a phase. In a phase each process has a
 /// client of its own, which makes its calls in order and waits for each reply. `settle` joins the
 /// clients; the lines of failures and starts join them first, and so does the end. A line that is
-/// refused, but for want of memory or of room in the journal, is listed and the run goes on.
+/// refused, but for want of memory or of room in the journal, is listed and the run goes on. Messages
+/// meet the weather of the seed.
 ///
 /// # Errors
 /// `BadLine` with the number of the first line that is another, before anything runs; `NoMemory` where
@@ -39,7 +40,7 @@ pub fn run_threads<G: Gate + Sync, R: Threads + Wait + Clock + Sync>(
     alloc: Global,
     script: &Script,
     gate: &G,
-    _seed: u32,
+    seed: u32,
 ) -> Result<ThreadRun, RunError>
     ensures shape { IfOk result (λ run. run.journal.shape ≡ script.now.shape) }
 
@@ -53,7 +54,7 @@ pub fn run_threads<G: Gate + Sync, R: Threads + Wait + Clock + Sync>(
     if let Some(number) = script.bad_line_on_threads() {
         return Err(RunError::BadLine(number));
     }
-    let Ok((outcomes, journal)) = run_script(rt, alloc, script, gate) else {
+    let Ok((outcomes, journal)) = run_script(rt, alloc, script, gate, seed) else {
         return Err(RunError::NoMemory);
     };
     match outcomes {
@@ -72,13 +73,14 @@ fn run_script<G: Gate + Sync, R: Threads + Wait + Clock + Sync>(
     alloc: Global,
     script: &Script,
     gate: &G,
+    seed: u32,
 ) -> Result<(Result<Outcomes, Stop>, Journal), AllocError>
     ensures shape { IfOk result (λ run. run.1.shape ≡ script.now.shape) }
     ensures one_table { IfOk result (λ run. HasOneHistory run.1.shape run.1.entries) }
 {
     let shape = script.shape();
-    let actors = usize::from(shape.nodes()) + usize::from(shape.files());
-    let weathers = fair_weathers(alloc, actors)?;
+    let actors = u32::from(shape.nodes()) + u32::from(shape.files());
+    let weathers = weathers_of(alloc, seed, actors)?;
     let run = with_cluster(rt, alloc, shape, gate, weathers, |cluster| {
         run_lines(rt, alloc, cluster, script.lines())
     });
@@ -96,11 +98,15 @@ fn same_shape(one: &Shape, other: &Shape) -> bool
     one == other
 }
 
-// So many weathers under which each message goes at once.
-fn fair_weathers(alloc: Global, count: usize) -> Result<Vec<Fair>, AllocError>
+// The weathers of the seed for so many actors.
+fn weathers_of(alloc: Global, seed: u32, count: u32) -> Result<Vec<Seeded>, AllocError>
     ensures { IfOk result (λ weathers. length weathers.items ≡ count) }
 {
-    vec![in alloc; Fair; count]
+    let mut weathers = Vec::new(alloc);
+    for index in 0..count {
+        weathers.push(Seeded::new(seed, index + 1))?;
+    }
+    Ok(weathers)
 }
 
 // Runs the lines in order on a cluster that runs.

@@ -105,8 +105,9 @@ of refused lines are those of 'lockreplay run'. Two lines stand behind it:
                  process was told that they stand; where it lacks another that was
                  answered, the exit status is 1
   audit yes      the journal is one of a run
-The seed is for messages that are lost or repeated by chance. None are so far, and it
-changes nothing.
+Messages meet a weather: of sixteen, one is lost by chance, one comes twice, and two come
+some milliseconds late. What becomes of the first, second, third .. message of a node or a
+server depends on the seed alone.
 
 With --journal FILE the journal of the run is written to FILE, in the place of what was
 there, before the listing is printed. A run that fails before that leaves FILE as it was.";
