@@ -1,0 +1,6 @@
+-- So many weathers were made.
+use Rattle.std.proofs.Common.{◌≡◌, length}
+use Rattle.actors.proofs.threads.weathers_of.Given as goal
+
+abbrev pub invariant-loop-index : goal.invariant-loop-index
+invariant-loop-index l = length l.weathers.items ≡ l.index
