@@ -5,9 +5,8 @@ use Rattle.std.proofs.lemmas.Bool.{and_parts, and_from}
 use Rattle.std.proofs.lemmas.Bool.Decides.{nat_tests}
 use Rattle.messages.specs.declared.event.Event.{Event}
 use Rattle.messages.specs.declared.entry.Entry.{Entry}
-use Rattle.node_core.specs.State.{NodeState, first_node}
+use Rattle.node_core.specs.State.{first_node}
 use Rattle.node_core.specs.Parts.{node_state}
-use Rattle.token_server.specs.State.{ServerState}
 use Rattle.token_server.specs.Parts.{server_state}
 use Rattle.cluster_core.specs.World.{WorldState, has_node, has_file}
 use Rattle.cluster_core.specs.Next.{next, next_server}

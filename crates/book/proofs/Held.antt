@@ -1,5 +1,5 @@
 -- A receipt of two stamps of a journal is in the journal.
-use Rattle.std.proofs.Common.{◌≡◌, ℕ, ◌<◌, ◌≤◌, ◌-◌, Bool, true, false, List, Some, slice_get, MatchBool, refl, ap, ◌∙◌}
+use Rattle.std.proofs.Common.{◌≡◌, ℕ, ◌<◌, ◌≤◌, ◌-◌, Bool, true, false, List, slice_get, MatchBool, refl, ap, ◌∙◌}
 use Rattle.messages.specs.declared.entry.Entry.{Entry}
 use Rattle.cluster_core.specs.Next.{entry}
 use Rattle.book.specs.Fields.{StampFields, ReceiptFields}

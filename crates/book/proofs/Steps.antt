@@ -1,17 +1,15 @@
 -- What a step of one actor leaves of the others.
-use Rattle.std.proofs.Common.{◌≡◌, ◌≢◌, ℕ, ◌+◌, Bool, true, false, if◌then◌else◌, refl, sym, ap, ◌∙◌, subst, Ok}
-use Rattle.std.specs.Prelude.{◌==◌}
+use Rattle.std.proofs.Common.{◌≡◌, ◌≢◌, ℕ, if◌then◌else◌, refl, sym, ap, ◌∙◌, subst, Ok}
 use Rattle.messages.specs.declared.actor.Actor.TheVariants.{Node as ANode, Server as AServer}
 use Rattle.messages.specs.declared.event.Event.{Event}
-use Rattle.messages.specs.declared.entry.Entry.{Entry}
 use Rattle.messages.specs.declared.outcome.Outcome.{Outcome}
 use Rattle.node_core.specs.State.{NodeState}
 use Rattle.node_core.specs.Parts.{node_state}
 use Rattle.token_server.specs.State.{ServerState}
 use Rattle.token_server.specs.Parts.{server_state}
-use Rattle.cluster_core.specs.World.{WorldState, has_node, has_file}
+use Rattle.cluster_core.specs.World.{WorldState}
 use Rattle.cluster_core.specs.Next.{entry, named_incarnation}
-use Rattle.cluster_core.specs.Actors.{HasNode, HasServer, node_step, server_step, NodeSteps, ServerSteps, made_by_node, made_by_server}
+use Rattle.cluster_core.specs.Actors.{node_step, server_step, NodeSteps, ServerSteps, made_by_node, made_by_server}
 use Rattle.cluster_core.proofs.common.Choices.{at_number}
 use Rattle.book.specs.declared.state.State.{State}
 use Rattle.book.specs.declared.state.State.TheVariants.{OfNode, OfServer}

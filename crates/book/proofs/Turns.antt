@@ -1,5 +1,5 @@
 -- What declarations, failures and restarts leave of the actors.
-use Rattle.std.proofs.Common.{◌≡◌, ◌≢◌, ℕ, ◌+◌, ◌<◌, ◌≤◌, Bool, true, false, if◌then◌else◌, ◌&&◌, nat_le, nat_lt, [], refl, sym, ap, ◌∙◌, subst, arith, Ok}
+use Rattle.std.proofs.Common.{◌≡◌, ◌≢◌, ℕ, ◌+◌, ◌≤◌, true, false, if◌then◌else◌, ◌&&◌, nat_le, nat_lt, [], refl, sym, ap, ◌∙◌, arith, Ok}
 use Rattle.std.specs.Prelude.{◌==◌}
 use Rattle.std.proofs.lemmas.Bool.{and_parts}
 use Rattle.std.proofs.lemmas.Bool.Decides.{nat_tests}
@@ -14,8 +14,7 @@ use Rattle.node_core.specs.Parts.{node_state}
 use Rattle.token_server.specs.State.{ServerState}
 use Rattle.token_server.specs.Parts.{server_state}
 use Rattle.token_server.specs.Resends.{outstanding}
-use Rattle.cluster_core.specs.World.{WorldState, has_node, has_file, was_declared, has_failed}
-use Rattle.messages.specs.declared.refusal.Refused.{Refused}
+use Rattle.cluster_core.specs.World.{WorldState, has_file}
 use Rattle.cluster_core.specs.Next.{entry, next, next_server}
 use Rattle.cluster_core.specs.Actors.{HasNode, HasServer}
 use Rattle.cluster_core.proofs.common.Choices.{at_number}

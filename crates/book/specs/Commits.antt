@@ -1,5 +1,5 @@
 -- When a step is taken, when it is refused, and what it does.
-use Rattle.std.specs.Prelude.{◌≡◌, ◌≢◌, ◌⊎◌, ℕ, ◌+◌, ◌<◌, ◌≤◌, true, false, List, length, Option, Some, None}
+use Rattle.std.specs.Prelude.{◌≡◌, ◌≢◌, ◌⊎◌, ℕ, ◌+◌, ◌<◌, ◌≤◌, true, false, length, Option, Some, None}
 use Rattle.cluster_core.specs.World.{journal_limit}
 use Rattle.cluster_core.specs.Next.{is_known}
 use Rattle.cluster_core.specs.Parts.{world_state}

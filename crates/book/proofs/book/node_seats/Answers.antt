@@ -1,4 +1,4 @@
-use Rattle.std.proofs.Common.{◌≡◌, ◌<◌, rules, arith}
+use Rattle.std.proofs.Common.{◌<◌, arith}
 use Rattle.book.proofs.Seats.{node_more}
 use Rattle.book.proofs.book.node_seats.Goals as goal
 

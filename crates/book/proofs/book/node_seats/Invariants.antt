@@ -1,4 +1,4 @@
-use Rattle.std.proofs.Common.{◌≡◌, ◌+◌, length}
+use Rattle.std.proofs.Common.{◌≡◌, length}
 use Rattle.book.specs.Seats.{AreFirst}
 use Rattle.book.proofs.book.node_seats.Given as goal
 

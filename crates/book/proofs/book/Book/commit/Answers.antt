@@ -1,4 +1,4 @@
-use Rattle.std.proofs.Common.{◌≡◌, ℕ, ap, ◌∙◌, subst, option_copied}
+use Rattle.std.proofs.Common.{ℕ, ap, ◌∙◌, subst, option_copied}
 use Rattle.cluster_core.specs.Journals.{RunFields}
 use Rattle.book.specs.Fields.{SeatFields, StampFields}
 use Rattle.book.specs.Commits.{IsStepFrom, Commits, seen_at}

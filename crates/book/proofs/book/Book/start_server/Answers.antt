@@ -1,4 +1,4 @@
-use Rattle.std.proofs.Common.{◌≡◌, refl, sym, ap, ◌∙◌, subst}
+use Rattle.std.proofs.Common.{refl, sym, ap, ◌∙◌, subst}
 use Rattle.messages.specs.declared.event.Event.TheVariants.{StartServer}
 use Rattle.messages.specs.declared.entry.Entry.{Entry}
 use Rattle.token_server.specs.Parts.{server_state}
