@@ -1,5 +1,5 @@
 -- Lemmas on what stores hold.
-use Rattle.std.proofs.Common.{◌≡◌, ◌≢◌, ℕ, List, Option, Some, None, sym, ap, inl, inr}
+use Rattle.std.proofs.Common.{◌≢◌, ℕ, List, Option, Some, None, sym, ap, inl, inr}
 use Rattle.std.specs.Prelude.{◌↔◌}
 use Rattle.command_line.specs.Tasks.{Task, run, threads, audit, history, journal_path}
 use Rattle.replay.specs.Commands.{SameButJournal}

@@ -1,5 +1,5 @@
 -- What stores hold.
-use Rattle.std.specs.Prelude.{◌≡◌, ◌≢◌, ℕ, ◌⊎◌, ◌↔◌, List, IsUtf8, Option, Some, None}
+use Rattle.std.specs.Prelude.{◌≢◌, ℕ, ◌⊎◌, ◌↔◌, List, IsUtf8, Option, Some, None}
 
 -- what a store tells of the file of each path: its bytes, or that it can't be read
 abbrev pub Files : Type 1

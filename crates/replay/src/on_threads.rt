@@ -15,8 +15,8 @@ use std::sync::Wait;
 use std::thread::Threads;
 use std::time::Clock;
 
-// Runs the script, all of whose lines threads take, on threads that the runtime starts. The seed is for
-// what happens by chance.
+// Runs the script, all of whose lines threads take, on threads that the runtime starts. Messages meet the
+// weather of the seed.
 pub(crate) fn run_on_threads<R: Threads + Wait + Clock + Sync>(
     rt: &R,
     alloc: Global,

@@ -1,5 +1,4 @@
-use Rattle.std.proofs.Common.{refl, sym, subst, ◌∙◌}
-use Rattle.std.proofs.lemmas.Result.{IfErr-weaker, IfOk-weaker}
+use Rattle.std.proofs.Common.{refl, sym, subst}
 use Rattle.cluster_core.specs.Runs.{Leads}
 use Rattle.cluster_core.specs.World.{first_world}
 use Rattle.replay.specs.Progress.{Progress}

@@ -1,4 +1,4 @@
-use Rattle.std.proofs.Common.{◌≡◌, subst}
+use Rattle.std.proofs.Common.{subst}
 use Rattle.cluster_core.specs.Journals.{JournalFields}
 use Rattle.journal_text.specs.Journals.{journal_text}
 use Rattle.journal_text.specs.Readings.{WritesJournal}
