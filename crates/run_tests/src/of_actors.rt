@@ -4,13 +4,14 @@ use actors::call_error::CallError;
 use actors::client::Client;
 use actors::cluster::with_cluster;
 use actors::gate::OpenGate;
-use actors::weather::Fair;
+use actors::weather::{Fair, Fate, Weather};
 use book::confirms::Confirms;
 use book::receipt::Receipt;
 use cluster_core::journal::Journal;
 use messages::actor::Actor;
 use messages::entry::Entry;
 use messages::event::Event;
+use messages::message::Message;
 use messages::shape::Shape;
 use model::access::Access;
 use model::mode::Mode;
@@ -159,6 +160,38 @@ fn a_wait_ends_as_its_node_is_declared(rt: HostRuntime) -> Result<(), Fail> {
     assert!(rt; journal.holds(&receipt));
     assert_eq!(rt; receipt.call().incarnation, 2);
     assert_eq!(rt; receipt.call().number, 1);
+    Ok(())
+}
+
+// Loses the first messages of its actor, so many.
+#[derive(Clone, Copy)]
+struct LosesFirst(u8);
+
+impl Weather for LosesFirst {
+    fn fate(&mut self, _message: &Message) -> Fate {
+        if self.0 == 0 {
+            return Fate::Pass;
+        }
+        self.0 -= 1;
+        Fate::Drop
+    }
+}
+
+#[test]
+fn a_call_is_denied_although_eight_messages_of_each_are_lost(rt: HostRuntime) -> Result<(), Fail> {
+    let alloc = rt.alloc();
+    let shape = Shape::new(2, 1, Policy::Wide)?;
+    let weathers = vec![in alloc; LosesFirst(8); 3]?;
+    let (made, journal) = with_cluster(&rt, alloc, shape, &OpenGate, weathers, |cluster| {
+        let mut one = cluster.client(&rt, 1, 1).ok()?;
+        let mut two = cluster.client(&rt, 2, 1).ok()?;
+        let held = begin(&rt, &mut one, set(0, 100))?;
+        two.told(&held);
+        begin(&rt, &mut two, set(50, 10))
+    })?;
+    let receipt = made.ok_or("a receipt")?;
+    let denied = matches!(receipt.reply(), Reply::Again(_));
+    assert!(rt; denied && journal.holds(&receipt));
     Ok(())
 }
 
