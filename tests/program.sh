@@ -748,7 +748,9 @@ try_journal 'a journal of version 1 that calls itself version 2' 3 none bad-9
 sed '1s/^journal 2 /journal 1 /' first.journal >changed.journal
 try_journal 'a journal of version 2 that calls itself version 1' 3 none bad-9
 sed 's/^send grant 1 1 /send grant 1 2 /' first.journal >changed.journal
-try_journal 'a journal with another epoch' 3 none bad-9
+try_journal 'a journal with another epoch' 1 no-4 none
+sed 's/^send grant 1 1 /send grant 1 65536 /' first.journal >changed.journal
+try_journal 'a journal with an epoch that there is not' 3 none bad-9
 sed '1s/^journal 2 /journal 3 /' first.journal >changed.journal
 try_journal 'a journal of a version that there is not' 3 none first-bad
 printf 'journal 2 nodes 1 files 1 policy wide\n# \xff\n' >changed.journal
@@ -860,8 +862,10 @@ no conflict 1 2 1.1 2.1.3 write 0 99 d16384@1.1
 3 conflict 1 2 1.1 2.1.3 write 0 99 p257@1.1
 3 grant 1 1 1 1.1.3 write 0 99
 3 deny 1 2.1.3 1.1 1 2 write 0 99 p1@1.1
+3 hello 1 2 1.1
+3 report 1 2 1.1 0
 END
-# The same in version 2, where commands have an epoch.
+# The same in version 2, where commands have an epoch, and servers that were rebuilt ask for tokens.
 head='journal 2 nodes 2 files 1 policy wide\n'
 while read -r number message; do
     try_lines "$number" "${head}entry 1 resend 1\nsend $message\nend 1\n"
@@ -871,12 +875,51 @@ no deny 1 2.1.3 1.1 1 2 write 0 99 p1@1.1
 no request 256 64.65535.4294967295 now read 5 9 0 9
 no conflict 1 1 2 1.1 2.1.3 write 0 99 d16384@1.1
 3 grant 1 1 1.1.3 write 0 99
-3 grant 1 2 1 1.1.3 write 0 99
+no grant 1 2 1 1.1.3 write 0 99
+no grant 1 65535 4294967295 1.1.3 write 0 99
+no hello 1 2 1.1
+no hello 256 65535 64.65535
+no report 1 2 1.1 0
+no report 1 2 1.1 3 shared 0 9 exclusive 10 10 shared 12 9223372036854775807
+3 grant 1 65536 1 1.1.3 write 0 99
 3 grant 1 01 1 1.1.3 write 0 99
 3 grant 1 0 1 1.1.3 write 0 99
 3 grant 1 1 0 1.1.3 write 0 99
 3 deny 1 2.1.3 1.1 2 write 0 99 p1@1.1
+3 hello 1 1 1.1
+3 hello 1 65536 1.1
+3 hello 1 2 1.0
+3 report 1 1 1.1 0
+3 report 1 2 1.1
+3 report 1 2 1.1 1
+3 report 1 2 1.1 0 shared 0 9
+3 report 1 2 1.1 01 shared 0 9
+3 report 1 2 1.1 1 none 0 9
+3 report 1 2 1.1 1 shared 9 0
+3 report 1 2 1.1 1 shared 0 9223372036854775808
+3 report 1 2 1.1 2 shared 0 9 shared 10 19
+3 report 1 2 1.1 2 shared 0 9 exclusive 9 19
+3 report 1 2 1.1 2 shared 10 19 exclusive 0 8
 END
+# Servers are declared failed and begin again in version 2 alone.
+try_lines yes "${head}entry 1 fail-server 1.1\nend 1\n"
+try_lines yes "${head}entry 1 fail-server 1.1\nentry 2 start-server 1.2\nsend hello 1 2 1.1\nsend hello 1 2 2.1\nend 2\n"
+while read -r number event; do
+    try_lines "$number" "${head}entry 1 $event\nend 1\n"
+done <<'END'
+no fail-server 1.2
+no fail-server 2.1
+no fail-server 256.65535
+no start-server 1.2
+2 fail-server 1
+2 fail-server 1.0
+2 fail-server 1.65536
+2 fail-server 257.1
+2 fail-server 1.1.1
+2 start-server 1.02
+END
+try_lines 2 'journal 1 nodes 2 files 1 policy wide\nentry 1 fail-server 1.1\nend 1\n'
+try_lines 2 'journal 1 nodes 2 files 1 policy wide\nentry 1 start-server 1.2\nend 1\n'
 
 # A journal that is cut anywhere is bad at the first line that is not whole.
 wrong=
