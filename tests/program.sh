@@ -606,6 +606,7 @@ call 1 1 spawn
 call 1 1 open 1 rw
 call 1 1 wait 0 proc write 0 20
 fail-server 2
+call 2 1 query 1 proc read 5 5
 declare 2
 start-server 2
 call 3 1 set 0 proc write 0 0
@@ -613,7 +614,7 @@ call 1 1 open 2 rw
 call 1 1 set 1 proc read 0 10
 settle
 END
-printf 'receipts 22\naudit yes\n' >wanted
+printf 'receipts 23\naudit yes\n' >wanted
 held=0
 for seed in {101..200}; do
     timeout 120 "$program" threads weather.lock --seed "$seed" --journal threads.journal 2>came.err </dev/null | tail -n 2 >came.out
