@@ -139,6 +139,15 @@ impl<'a> Cluster<'a> {
     /// # Errors
     /// Those of `Book::start_server`.
     pub fn start_server<R: Wait>(&self, rt: &R, file: u16) -> Result<(), Refused> {
+        self.rebuild(rt, file)?;
+        if let Some(mailbox) = self.server_mailbox(file) {
+            mailbox.send_surely(rt, Letter::Begin);
+        }
+        Ok(())
+    }
+
+    // The token server of the file begins again, and stands where its worker finds it.
+    fn rebuild<R: Wait>(&self, rt: &R, file: u16) -> Result<(), Refused> {
         let Some(place) = self.server_place(file) else {
             self.book.lock(rt).start_server(self.alloc, file)?;
             return Ok(());
@@ -146,9 +155,6 @@ impl<'a> Cluster<'a> {
         let mut place = place.lock(rt);
         let (seat, stamp) = self.book.lock(rt).start_server(self.alloc, file)?;
         *place = Some(Rebuilt { seat, stamp });
-        if let Some(mailbox) = self.server_mailbox(file) {
-            mailbox.send_surely(rt, Letter::Begin);
-        }
         Ok(())
     }
 }

@@ -67,7 +67,7 @@ declared b d n t went position said gave seen_is =
       stamped = new_stamp b.entries d.entries went.0 k.0 t went.2 (k.1 ∙ (λ i. entry (sym said i) k.0 (sym gave i))) position;
       fences = λ x was. stays_declared w (Declare n) q x.state step was;
       stamps = λ x h. stays b.entries d.entries went.0 x went.2 h;
-      fenced = λ s has is least. declared_fences w n q s.state step has is least;
+      fenced = λ s is same least. declared_fences w n q s.state step is same least;
       others = λ x ne has. declared_others w n q x.state step ne has;
     }
 
@@ -100,7 +100,7 @@ failed b d f t went position said gave seen_is =
       stamped = new_stamp b.entries d.entries went.0 k.0 t went.2 (k.1 ∙ (λ i. entry (sym said i) k.0 (sym gave i))) position;
       fences = λ x was. stays_declared w (FailServer f) q x.state step was;
       stamps = λ x h. stays b.entries d.entries went.0 x went.2 h;
-      fenced = λ s has is least. failed_fences w f q s.state step has is least;
+      fenced = λ s is same least. failed_fences w f q s.state step is same least;
       others = λ x ne has. failed_others w f q x.state step ne has;
     }
 

@@ -14,7 +14,7 @@ use Rattle.node_core.specs.Parts.{node_state}
 use Rattle.token_server.specs.State.{ServerState}
 use Rattle.token_server.specs.Parts.{server_state}
 use Rattle.token_server.specs.Resends.{outstanding}
-use Rattle.cluster_core.specs.World.{WorldState, has_file}
+use Rattle.cluster_core.specs.World.{WorldState, has_node, has_file}
 use Rattle.cluster_core.specs.Next.{entry, next, next_server}
 use Rattle.cluster_core.specs.Actors.{HasNode, HasServer}
 use Rattle.cluster_core.proofs.common.Choices.{at_number}
@@ -50,19 +50,21 @@ below_next : (i : ℕ) → 1 ≤ i → (nat_le 1 i && nat_lt i (i + 1)) ≡ true
 below_next i h = grind (arith, nat_tests, h)
 
 -- the incarnation that was alive is fenced
-pub declared_fences : (w : WorldState) (n : ℕ) (q : WorldState × Entry) (x : State) → next w (Declare n) ≡ Ok q → HasState w x → actor_of x ≡ ANode n → 1 ≤ incarnation_of x → is_declared q.0 x ≡ true
-declared_fences w n q (OfServer f x) h has is least = absurd (cc)
-declared_fences w n q (OfNode k x) h has is least =
+pub declared_fences : (w : WorldState) (n : ℕ) (q : WorldState × Entry) (x : State) → next w (Declare n) ≡ Ok q → actor_of x ≡ ANode n → incarnation_of x ≡ (w.nodes n).incarnation → 1 ≤ incarnation_of x → is_declared q.0 x ≡ true
+declared_fences w n q (OfServer f x) h is same least = absurd (cc)
+declared_fences w n q (OfNode k x) h is same least =
     let here : k ≡ n = cc in
     let i = (node_state x.value).incarnation in
-    declare_step w (λ p. is_declared p.0 (OfNode k x) ≡ true) n q (λ m same alive.
-    let at : k ≡ m = here ∙ same_node n m same in
+    let taken = next_taken w (Declare n) q h in
+    let known : has_node w k ≡ true = ap (has_node w) here ∙ taken.0 in
+    declare_step w (λ p. is_declared p.0 (OfNode k x) ≡ true) n q (λ m at_m alive.
+    let at : n ≡ m = same_node n m at_m in
     let grows : (if k == m then first_node w.shape m ((w.nodes m).incarnation + 1) else w.nodes k).incarnation ≡ i + 1 =
     at_number k m (λ b. (if b then first_node w.shape m ((w.nodes m).incarnation + 1) else w.nodes k).incarnation ≡ i + 1)
-    (λ _. ap (λ (j : ℕ). (w.nodes j).incarnation + 1) (sym at) ∙ ap (λ (s : NodeState). s.incarnation + 1) has.state)
-    (λ other. absurd (other at)) in
-    (λ j. has.number j && (nat_le 1 i && nat_lt i (grows j))) ∙ below_next i least)
-    (next_taken w (Declare n) q h).1
+    (λ _. ap (λ (j : ℕ). (w.nodes j).incarnation + 1) (sym at) ∙ ap (λ (j : ℕ). j + 1) (sym same))
+    (λ other. absurd (other (here ∙ at))) in
+    (λ j. known j && (nat_le 1 i && nat_lt i (grows j))) ∙ below_next i least)
+    taken.1
 
 -- a restart leaves other actors as they are
 pub restarted_others : (w : WorldState) (n : ℕ) (q : WorldState × Entry) (x : State) → next w (Restart n) ≡ Ok q → actor_of x ≢ ANode n → HasState w x → HasState q.0 x
@@ -113,17 +115,19 @@ up_to_itself : (e : ℕ) → 1 ≤ e → (nat_le 1 e && nat_le e e) ≡ true
 up_to_itself e h = grind (arith, nat_tests, h)
 
 -- the epoch that worked is fenced
-pub failed_fences : (w : WorldState) (f : ℕ) (q : WorldState × Entry) (x : State) → next w (FailServer f) ≡ Ok q → HasState w x → actor_of x ≡ AServer f → 1 ≤ incarnation_of x → is_declared q.0 x ≡ true
-failed_fences w f q (OfNode n x) h has is least = absurd (cc)
-failed_fences w f q (OfServer k x) h has is least =
+pub failed_fences : (w : WorldState) (f : ℕ) (q : WorldState × Entry) (x : State) → next w (FailServer f) ≡ Ok q → actor_of x ≡ AServer f → incarnation_of x ≡ (w.servers f).epoch → 1 ≤ incarnation_of x → is_declared q.0 x ≡ true
+failed_fences w f q (OfNode n x) h is same least = absurd (cc)
+failed_fences w f q (OfServer k x) h is same least =
     let here : k ≡ f = cc in
     let e = (server_state x.value).epoch in
-    fail_step w (λ p. is_declared p.0 (OfServer k x) ≡ true) f q (λ g same works.
-    let at : k ≡ g = here ∙ same_failed f g same in
+    let taken = next_taken w (FailServer f) q h in
+    let known : has_file w k ≡ true = ap (has_file w) here ∙ (and_parts (may_rebuild w.shape.version) (has_file w f) taken.0).1 in
+    let now : (w.servers k).epoch ≡ e = ap (λ (j : ℕ). (w.servers j).epoch) here ∙ sym same in
+    fail_step w (λ p. is_declared p.0 (OfServer k x) ≡ true) f q (λ g at_g works.
+    let at : k ≡ g = here ∙ same_failed f g at_g in
     let stopped : (if k == g then false else w.working k) ≡ false = at_number k g (λ b. (if b then false else w.working k) ≡ false) (λ _. refl) (λ other. absurd (other at)) in
-    (λ j. has.number j && (nat_le 1 e && (if stopped j then nat_lt e (w.servers k).epoch else nat_le e (has.state j).epoch)))
-    ∙ up_to_itself e least)
-    (next_taken w (FailServer f) q h).1
+    (λ j. known j && (nat_le 1 e && (if stopped j then nat_lt e (w.servers k).epoch else nat_le e (now j)))) ∙ up_to_itself e least)
+    taken.1
 
 -- the entry of a start
 pub started_entry : (w : WorldState) (f : ℕ) (q : WorldState × Entry) → next w (StartServer f) ≡ Ok q → (k : ℕ) × (q.1 ≡ entry (StartServer f) k (sending (outstanding (next_server w f))))

@@ -18,7 +18,7 @@ pub record Declared (b : RunFields) (n : ℕ) (b' : RunFields) (t : StampFields)
   pub stamped : IsStampOf b'.entries t
   pub fences : (o : SeatFields) → is_declared (world_state b.world) o.state ≡ true → is_declared (world_state b'.world) o.state ≡ true
   pub stamps : (o : StampFields) → IsStampOf b.entries o → IsStampOf b'.entries o
-  pub fenced : (s : SeatFields) → IsSeatOf b s → actor_of s.state ≡ ANode n → 1 ≤ incarnation_of s.state → is_declared (world_state b'.world) s.state ≡ true
+  pub fenced : (s : SeatFields) → actor_of s.state ≡ ANode n → incarnation_of s.state ≡ ((world_state b.world).nodes n).incarnation → 1 ≤ incarnation_of s.state → is_declared (world_state b'.world) s.state ≡ true
   pub others : (o : SeatFields) → actor_of o.state ≢ ANode n → IsSeatOf b o → IsSeatOf b' o
 
 -- the seat is of the node as it begins again; seats that were fenced stay so, and seats of other actors stay seats of the book
@@ -40,7 +40,7 @@ pub record Failed (b : RunFields) (f : ℕ) (b' : RunFields) (t : StampFields) :
   pub stamped : IsStampOf b'.entries t
   pub fences : (o : SeatFields) → is_declared (world_state b.world) o.state ≡ true → is_declared (world_state b'.world) o.state ≡ true
   pub stamps : (o : StampFields) → IsStampOf b.entries o → IsStampOf b'.entries o
-  pub fenced : (s : SeatFields) → IsSeatOf b s → actor_of s.state ≡ AServer f → 1 ≤ incarnation_of s.state → is_declared (world_state b'.world) s.state ≡ true
+  pub fenced : (s : SeatFields) → actor_of s.state ≡ AServer f → incarnation_of s.state ≡ ((world_state b.world).servers f).epoch → 1 ≤ incarnation_of s.state → is_declared (world_state b'.world) s.state ≡ true
   pub others : (o : SeatFields) → actor_of o.state ≢ AServer f → IsSeatOf b o → IsSeatOf b' o
 
 -- the seat is of the server of the file as it begins again, and the stamp of what it asks the nodes; seats that were fenced stay so, and seats of other actors stay seats of the book

@@ -1,12 +1,12 @@
 //! The cluster.
-ghost use Rattle.std.specs.Prelude.{◌≡◌, ◌≢◌, ◌≤◌, ◌<◌, true, false, Ok, Err, ◌++◌, ◌∷◌, [], IfOk, IfErr, OnOk, OnErr, length, ◌-◌, slice_set, slice_index_or};
+ghost use Rattle.std.specs.Prelude.{◌≡◌, ◌≢◌, ◌<◌, true, false, Ok, Err, ◌++◌, ◌∷◌, [], IfOk, IfErr, OnOk, OnErr, length, ◌-◌, slice_set, slice_index_or};
 ghost use Rattle.messages.specs.declared.refusal.Refused.TheVariants.{NoMemory};
 ghost use Rattle.messages.specs.declared.refusal.StepError.TheVariants.{NoMemory as OutOfMemory};
 ghost use Rattle.messages.specs.Messages.{is_within};
 ghost use Rattle.messages.specs.Entries.{NamesItsIncarnation};
 ghost use Rattle.messages.specs.Shapes.{IsShape, most_files};
 ghost use Rattle.model.specs.Limits.{IsNumber, most_nodes};
-ghost use Rattle.node_core.specs.Calls.{is_pid, is_in_shape};
+ghost use Rattle.node_core.specs.Calls.{is_in_shape};
 ghost use Rattle.node_core.specs.Node.{node_rule};
 ghost use Rattle.node_core.specs.Parts.{NodeParts, node_state};
 ghost use Rattle.node_core.specs.Plans.{Fits, planned as reached};
@@ -14,9 +14,9 @@ ghost use Rattle.token_server.specs.Server.{server_rule};
 ghost use Rattle.token_server.specs.Parts.{ServerParts, server_state};
 ghost use Rattle.token_server.specs.Edits.{planned, Fits as ServerFits};
 ghost use Rattle.cluster_core.specs.World.{WorldState, journal_limit, was_declared, first_world};
-ghost use Rattle.cluster_core.specs.Next.{is_known, is_fenced, has_actor, declare_rule, restart_rule, fail_rule, start_rule, named_incarnation, after_node, after_server, taken, next, kept_next};
+ghost use Rattle.cluster_core.specs.Next.{is_known, is_fenced, has_actor, declare_rule, restart_rule, named_incarnation, after_node, after_server, taken, next, kept_next};
 ghost use Rattle.cluster_core.specs.Parts.{world_state, IsStepOf, IsServerStepOf, IsTakenByNode, IsRest};
-ghost use Rattle.cluster_core.specs.Changes.{IsNodeChange, IsServerChange, IsRestart, IsStart, Makes, Plans};
+ghost use Rattle.cluster_core.specs.Changes.{IsNodeChange, IsServerChange, IsRestart, Makes, Plans};
 ghost use Rattle.messages.specs.declared.event.Event.TheVariants as event;
 ghost use Rattle.messages.specs.declared.event.Event.TheVariants.{Deliver};
 ghost use Rattle.node_core.specs.declared.event.NodeEvent.TheVariants as own;
@@ -53,6 +53,7 @@ use token_server::server::Server;
 
 pub(crate) mod change;
 mod listings;
+mod servers;
 mod states;
 
 /// The most entries of a journal.
@@ -213,14 +214,6 @@ impl World {
         ensures { result ≡ (world_state self.now).alive node }
     {
         self.members.alive(node).is_some()
-    }
-
-    // Whether the token server of the file works.
-    fn works(&self, file: u16) -> bool
-        requires { is_within self.now.shape.files file ≡ true }
-        ensures { result ≡ (world_state self.now).working file }
-    {
-        self.members.epoch(file).is_some()
     }
 
     // Whether the incarnation of the node was declared failed.
@@ -446,46 +439,6 @@ impl World {
         Ok(Change::Restarted { node, begun })
     }
 
-    // What comes of a failure of the file's token server.
-    fn plan_failure(&self, file: u16) -> Result<Change, Refused>
-        requires { is_within self.now.shape.files file ≡ true }
-        ensures ok { IfOk result (λ change. Makes self.now (event.FailServer file) change (fail_rule (world_state self.now) file)) }
-        ensures err { IfErr result (λ e. fail_rule (world_state self.now) file ≡ Err e) }
-    {
-        if !self.works(file) {
-            return Err(Refused::NotAlive);
-        }
-        Ok(Change::Failed { file })
-    }
-
-    // The file's token server as it would begin again now, and what it asks first.
-    fn next_server(
-        &self,
-        alloc: Global,
-        file: u16,
-    ) -> Result<(Box<Server>, Items<Message>), Refused>
-        requires { is_within self.now.shape.files file ≡ true }
-        ensures ok { IfOk result (λ r. IsStart self.now file r.0.value r.1) }
-        ensures err { IfErr result (λ e. e ≢ NoMemory → start_rule (world_state self.now) file ≡ Err e) }
-        ensures refused { (e : Refused) → start_rule (world_state self.now) file ≡ Err e → result ≡ Err e }
-    {
-        let epoch = self.members.next_epoch(file)?;
-        let (begun, outcome) = Server::rebuild(alloc, self.shape, file, epoch, &self.members)?;
-        let begun = Box::new(alloc, begun)?;
-        Ok((begun, outcome.sends))
-    }
-
-    // What comes of a start of the file's token server.
-    fn plan_start(&self, alloc: Global, file: u16) -> Result<Change, Refused>
-        requires { is_within self.now.shape.files file ≡ true }
-        ensures ok { IfOk result (λ change. Makes self.now (event.StartServer file) change (start_rule (world_state self.now) file)) }
-        ensures err { IfErr result (λ e. e ≢ NoMemory → start_rule (world_state self.now) file ≡ Err e) }
-        ensures refused { (e : Refused) → start_rule (world_state self.now) file ≡ Err e → result ≡ Err e }
-    {
-        let (begun, sends) = self.next_server(alloc, file)?;
-        Ok(Change::Started { file, begun, sends })
-    }
-
     // What the actor that takes the event will do.
     fn plan_taken(&self, alloc: Global, event: &Event) -> Result<Change, Refused>
         requires known { is_known (world_state self.now) event.now ≡ true }
@@ -598,45 +551,6 @@ impl World {
         )?;
         self.length += 1;
         Ok(Entry::new(event, outcome))
-    }
-
-    // The token server of the file is declared failed.
-    fn fail(&mut self, alloc: Global, file: u16) -> Entry
-        requires room { self.old.length < journal_limit }
-        requires file { is_within self.old.shape.files file ≡ true }
-        requires works { (world_state self.old).working file ≡ true }
-        ensures { fail_rule (world_state self.old) file ≡ Ok (world_state self.new, result) }
-    {
-        let Ok(epoch) = self.members.fail_server(file) else {
-            unreachable!()
-        };
-        self.length += 1;
-        let outcome = Outcome::sending(Items::new(alloc));
-        Entry::at_node(Event::FailServer { file }, epoch, outcome)
-    }
-
-    // The token server of the file begins again, as this one, and asks the nodes for their tokens.
-    fn start(
-        &mut self,
-        alloc: Global,
-        file: u16,
-        begun: Box<Server>,
-        sends: Items<Message>,
-    ) -> Result<Entry, NoRoom>
-        requires room { self.old.length < journal_limit }
-        requires made { IsStart self.old file begun.value sends }
-        ensures ok { IfOk result (λ entry. start_rule (world_state self.old) file ≡ Ok (world_state self.new, entry)) }
-        ensures err { OnErr result ((e : Refused) → start_rule (world_state self.old) file ≢ Err e) }
-        ensures unchanged { OnErr result (self.new ≡ self.old) }
-    {
-        self.sent.extend(alloc, sends.as_slice())?;
-        let Ok(epoch) = self.members.start_server(file) else {
-            unreachable!()
-        };
-        self.servers[file as usize - 1] = Box::into_inner(begun);
-        self.length += 1;
-        let outcome = Outcome::sending(sends);
-        Ok(Entry::at_node(Event::StartServer { file }, epoch, outcome))
     }
 
     // The node is declared failed.

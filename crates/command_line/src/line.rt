@@ -159,7 +159,7 @@ fn threads_command<'a>(alloc: Global) -> Result<Command<'a>, AllocError>
         .long("seed")
         .default_value("1")
         .value_parser(value_parser!(u32))
-        .help("The seed of the run, up to 4294967295");
+        .help("The seed of the weather that messages meet, up to 4294967295");
     Command::new(alloc, "threads")
         .about("Run a script on threads and print the listing")
         .after_long_help(THREADS_NOTES)

@@ -97,7 +97,7 @@ line. Each node and each server has a thread, and messages go from one to the ot
 themselves. The calls between two other lines happen side by side: each process makes its
 own in their order, and waits for each reply. Any other line, and the end, waits until all
 are answered. A 'wait' for a lock that nobody gives up keeps the run going until its
-journal is full; so does a call that needs a token of a server that does not start again.
+journal is full; so does a call that needs a token of a server that is declared failed.
 
 The listing is that of the journal of this run, which depends on the schedule. The codes
 of refused lines are those of 'lockreplay run'. Two lines stand behind it:
@@ -107,7 +107,7 @@ of refused lines are those of 'lockreplay run'. Two lines stand behind it:
   audit yes      the journal is one of a run
 Messages meet a weather: of sixteen, one is lost by chance, one comes twice, and two come
 some milliseconds late. What becomes of the first, second, third .. message of a node or a
-server depends on the seed alone.
+server depends on the seed and on its place alone, nodes first.
 
 With --journal FILE the journal of the run is written to FILE, in the place of what was
 there, before the listing is printed. A run that fails before that leaves FILE as it was.";

@@ -4,6 +4,7 @@ use actors::call_error::CallError;
 use actors::client::Client;
 use actors::cluster::with_cluster;
 use actors::gate::OpenGate;
+use actors::seeded::Seeded;
 use actors::weather::{Fair, Fate, Weather};
 use book::confirms::Confirms;
 use book::receipt::Receipt;
@@ -11,9 +12,11 @@ use cluster_core::journal::Journal;
 use messages::actor::Actor;
 use messages::entry::Entry;
 use messages::event::Event;
+use messages::file_number::FileNumber;
 use messages::message::Message;
 use messages::shape::Shape;
 use model::access::Access;
+use model::host::Host;
 use model::mode::Mode;
 use model::op::Op;
 use model::owner::Kind;
@@ -161,6 +164,33 @@ fn a_wait_ends_as_its_node_is_declared(rt: HostRuntime) -> Result<(), Fail> {
     assert_eq!(rt; receipt.call().incarnation, 2);
     assert_eq!(rt; receipt.call().number, 1);
     Ok(())
+}
+
+// Whether this becomes of the message at that place, from 0, of the fourth actor, where the seed is 3: as the generator's words were
+// worked out apart from the program.
+fn is_wanted(place: u8, fate: Fate) -> bool {
+    let wanted = match place {
+        7 | 12 | 17 => Fate::Drop,
+        8 | 11 => Fate::Hold(4),
+        18 => Fate::Twice,
+        _ => Fate::Pass,
+    };
+    fate == wanted
+}
+
+#[test]
+fn a_seed_says_what_becomes_of_each_message(rt: HostRuntime) {
+    let mut weather = Seeded::new(3, 4);
+    let message = Message::Freed {
+        file: FileNumber::of(1),
+        holder: Host {
+            node: 1,
+            incarnation: 1,
+        },
+    };
+    for place in 0..19 {
+        assert!(rt; is_wanted(place, weather.fate(&message)));
+    }
 }
 
 // Loses the first messages of its actor, so many.

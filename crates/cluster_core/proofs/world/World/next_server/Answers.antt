@@ -1,4 +1,4 @@
-use Rattle.std.proofs.Common.{◌≡◌, ◌∙◌, ap}
+use Rattle.std.proofs.Common.{◌∙◌, ap}
 use Rattle.messages.specs.declared.outcome.Outcome.{Outcome}
 use Rattle.token_server.specs.Parts.{server_state}
 use Rattle.cluster_core.specs.Parts.{WorldParts}

@@ -1,5 +1,5 @@
 use Rattle.std.specs.Result.{OnErr}
-use Rattle.std.proofs.Common.{◌≡◌, ◌≢◌, sym, subst, Result, Err}
+use Rattle.std.proofs.Common.{◌≢◌, sym, subst, Result, Err}
 use Rattle.messages.specs.declared.entry.Entry.{Entry}
 use Rattle.messages.specs.declared.refusal.Refused.{Refused}
 use Rattle.cluster_core.specs.declared.world.change.Change.{Change}

@@ -1,0 +1,111 @@
+//! Token servers of a world that are declared failed, and begin again.
+ghost use Rattle.std.specs.Prelude.{◌≡◌, ◌≢◌, ◌<◌, true, Ok, Err, IfOk, IfErr, OnErr};
+ghost use Rattle.messages.specs.declared.refusal.Refused.{Refused};
+ghost use Rattle.messages.specs.declared.refusal.Refused.TheVariants.{NoMemory};
+ghost use Rattle.messages.specs.declared.event.Event.TheVariants as event;
+ghost use Rattle.messages.specs.Messages.{is_within};
+ghost use Rattle.cluster_core.specs.World.{journal_limit};
+ghost use Rattle.cluster_core.specs.Next.{fail_rule, start_rule};
+ghost use Rattle.cluster_core.specs.Parts.{world_state};
+ghost use Rattle.cluster_core.specs.Changes.{IsStart, Makes};
+
+use super::World;
+use super::change::Change;
+use intervals::span_map::NoMemory as NoRoom;
+use messages::entry::Entry;
+use messages::event::Event;
+use messages::items::Items;
+use messages::message::Message;
+use messages::outcome::Outcome;
+use messages::refusal::Refused;
+use std::alloc::Global;
+use token_server::server::Server;
+
+impl World {
+    /// Whether the token server of the file works.
+    pub(super) fn works(&self, file: u16) -> bool
+        requires { is_within self.now.shape.files file ≡ true }
+        ensures { result ≡ (world_state self.now).working file }
+    {
+        self.members.epoch(file).is_some()
+    }
+
+    /// What comes of a failure of the file's token server.
+    pub(super) fn plan_failure(&self, file: u16) -> Result<Change, Refused>
+        requires { is_within self.now.shape.files file ≡ true }
+        ensures ok { IfOk result (λ change. Makes self.now (event.FailServer file) change (fail_rule (world_state self.now) file)) }
+        ensures err { IfErr result (λ e. fail_rule (world_state self.now) file ≡ Err e) }
+    {
+        if !self.works(file) {
+            return Err(Refused::NotAlive);
+        }
+        Ok(Change::Failed { file })
+    }
+
+    /// The file's token server as it would begin again now, and what it asks first.
+    pub(super) fn next_server(
+        &self,
+        alloc: Global,
+        file: u16,
+    ) -> Result<(Box<Server>, Items<Message>), Refused>
+        requires { is_within self.now.shape.files file ≡ true }
+        ensures ok { IfOk result (λ r. IsStart self.now file r.0.value r.1) }
+        ensures err { IfErr result (λ e. e ≢ NoMemory → start_rule (world_state self.now) file ≡ Err e) }
+        ensures refused { (e : Refused) → start_rule (world_state self.now) file ≡ Err e → result ≡ Err e }
+    {
+        let epoch = self.members.next_epoch(file)?;
+        let (begun, outcome) = Server::rebuild(alloc, self.shape, file, epoch, &self.members)?;
+        let begun = Box::new(alloc, begun)?;
+        Ok((begun, outcome.sends))
+    }
+
+    /// What comes of a start of the file's token server.
+    pub(super) fn plan_start(&self, alloc: Global, file: u16) -> Result<Change, Refused>
+        requires { is_within self.now.shape.files file ≡ true }
+        ensures ok { IfOk result (λ change. Makes self.now (event.StartServer file) change (start_rule (world_state self.now) file)) }
+        ensures err { IfErr result (λ e. e ≢ NoMemory → start_rule (world_state self.now) file ≡ Err e) }
+        ensures refused { (e : Refused) → start_rule (world_state self.now) file ≡ Err e → result ≡ Err e }
+    {
+        let (begun, sends) = self.next_server(alloc, file)?;
+        Ok(Change::Started { file, begun, sends })
+    }
+
+    /// The token server of the file is declared failed.
+    pub(super) fn fail(&mut self, alloc: Global, file: u16) -> Entry
+        requires room { self.old.length < journal_limit }
+        requires file { is_within self.old.shape.files file ≡ true }
+        requires works { (world_state self.old).working file ≡ true }
+        ensures { fail_rule (world_state self.old) file ≡ Ok (world_state self.new, result) }
+    {
+        let Ok(epoch) = self.members.fail_server(file) else {
+            unreachable!()
+        };
+        self.length += 1;
+        let outcome = Outcome::sending(Items::new(alloc));
+        Entry::at_node(Event::FailServer { file }, epoch, outcome)
+    }
+
+    /// The token server of the file begins again, as this one, and asks the nodes for their tokens.
+    pub(super) fn start(
+        &mut self,
+        alloc: Global,
+        file: u16,
+        begun: Box<Server>,
+        sends: Items<Message>,
+    ) -> Result<Entry, NoRoom>
+        requires room { self.old.length < journal_limit }
+        requires made { IsStart self.old file begun.value sends }
+        ensures ok { IfOk result (λ entry. start_rule (world_state self.old) file ≡ Ok (world_state self.new, entry)) }
+        ensures err { OnErr result ((e : Refused) → start_rule (world_state self.old) file ≢ Err e) }
+        ensures unchanged { OnErr result (self.new ≡ self.old) }
+    {
+        self.sent.extend(alloc, sends.as_slice())?;
+        let Ok(epoch) = self.members.start_server(file) else {
+            unreachable!()
+        };
+        self.servers[file as usize - 1] = Box::into_inner(begun);
+        self.length += 1;
+        let outcome = Outcome::sending(sends);
+        Ok(Entry::at_node(Event::StartServer { file }, epoch, outcome))
+    }
+}
