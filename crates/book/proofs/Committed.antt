@@ -1,56 +1,67 @@
 -- What a commit, declarations, failures and restarts do, put together.
-use Rattle.std.proofs.Common.{◌≡◌, ℕ, ◌+◌, true, [], length, sym, ◌∙◌, subst}
+use Rattle.std.proofs.Common.{◌≡◌, ℕ, ◌+◌, ◌<◌, true, [], ◌∷◌, ◌++◌, length, sym, ap, ◌∙◌, subst, Result, Ok, Err}
 use Rattle.messages.specs.Messages.{sending}
 use Rattle.messages.specs.declared.actor.Actor.TheVariants.{Node as ANode, Server as AServer}
 use Rattle.messages.specs.declared.event.Event.{Event}
 use Rattle.messages.specs.declared.event.Event.TheVariants.{Declare, Restart, FailServer, StartServer}
 use Rattle.messages.specs.declared.entry.Entry.{Entry}
-use Rattle.messages.specs.declared.outcome.Outcome.{Outcome}
+use Rattle.messages.specs.declared.refusal.Refused.{Refused}
 use Rattle.token_server.specs.Resends.{outstanding}
-use Rattle.cluster_core.specs.World.{WorldState}
-use Rattle.cluster_core.specs.Next.{entry, next_server}
+use Rattle.cluster_core.specs.World.{WorldState, journal_limit}
+use Rattle.cluster_core.specs.Next.{entry, next_server, next, kept_next}
 use Rattle.cluster_core.specs.Parts.{world_state}
 use Rattle.cluster_core.specs.Journals.{RunFields, GoesOn}
-use Rattle.cluster_core.proofs.steps.Steps.{kept_taken}
+use Rattle.cluster_core.proofs.common.Refusals.{ok_is}
+use Rattle.cluster_core.proofs.steps.Steps.{kept_taken, kept_of}
 use Rattle.cluster_core.specs.Actors.{Records}
-use Rattle.book.specs.declared.state.State.{State}
-use Rattle.book.specs.States.{actor_of, SameState, StepsTo, HasState, is_declared, made_by}
+use Rattle.book.specs.States.{actor_of, Becomes, StepsTo, is_declared, made_by}
 use Rattle.book.specs.Fields.{SeatFields, PreparedFields, StampFields}
 use Rattle.book.specs.Commits.{IsStepFrom, IsSeatOf, Accepts, Commits}
 use Rattle.book.specs.Turns.{Declared, Restarted, Failed, Started}
 use Rattle.book.proofs.Fences.{stays_declared}
 use Rattle.book.proofs.Stamps.{stays, new_stamp}
-use Rattle.book.proofs.Steps.{actor_kept, made_same, made_entry, may_step, mine, others}
+use Rattle.book.proofs.Steps.{actor_kept, leads, comes_next, made_entry, may_step, mine, others}
 use Rattle.book.proofs.Turns.{declared_entry, declared_others, declared_fences, restarted_others, failed_entry, failed_others, failed_fences, started_entry, started_others}
 
-pub committed : (b d : RunFields) (s r : SeatFields) (p : PreparedFields) (seen : ℕ) (t : StampFields) (copy : State) (event : Event) (o : Outcome)
-    → event ≡ p.event → o ≡ p.outcome → Accepts b s p seen → IsStepFrom s p → SameState p.state copy
-    → Records b event (made_by (world_state b.world) event copy o) d
-    → r.state ≡ p.state → r.commits ≡ s.commits + 1
+-- a run that took the event recorded what it leads to
+records : (b d : RunFields) (event : Event) (made : WorldState × Entry) → GoesOn b event d → next (world_state b.world) event ≡ Ok made → Records b event made d
+records b d event made went is =
+    let q : WorldState × Entry = (world_state d.world, went.0) in
+    let same : q ≡ made = ok_is q made (sym (kept_taken (world_state b.world) event q went.1).1 ∙ is) in
+    record { step = is; world = ap (λ (m : WorldState × Entry). m.0) same; entries = went.2 ∙ ap (λ (m : WorldState × Entry). b.entries ++ m.1 ∷ []) same }
+
+-- and is not refused, where there is room
+pub unrefused : (w : WorldState) (event : Event) (made : WorldState × Entry) (e : Refused) → w.length < journal_limit → next w event ≡ Ok made → kept_next w event ≡ Err e → ⊥
+unrefused w event made e room is refused =
+    let both : ◌≡◌ {A = Result (WorldState × Entry) Refused} (Ok made) (Err e) = sym (kept_of w event (Ok made) room is) ∙ refused in
+    absurd (cc)
+
+pub committed : (b d : RunFields) (s r : SeatFields) (p : PreparedFields) (seen : ℕ) (t : StampFields)
+    → Accepts b s p seen → IsStepFrom s p → GoesOn b p.event d
+    → Becomes s.state p.edit r.state → r.commits ≡ s.commits + 1
     → t.position ≡ length d.entries → t.event ≡ p.event → t.outcome ≡ p.outcome → t.seen ≡ seen
     → Commits b s p seen d r t
-committed b d s r p seen t copy event o event_is o_is accepted step same put state commits position said gave seen_is =
+committed b d s r p seen t accepted is went becomes commits position said gave seen_is =
     let w = world_state b.world in
     let v = world_state d.world in
-    let M : Event → Outcome → Type 0 = λ e x. Records b e (made_by w e copy x) d in
-    let there : M p.event p.outcome = subst (λ (x : Outcome). M p.event x) o_is (subst (λ (e : Event). M e o) event_is put) in
-    let goes : Records b p.event (made_by w p.event p.state p.outcome) d = subst (λ (m : WorldState × Entry). Records b p.event m d) (made_same w p.event p.state copy p.outcome same) there in
-    let k = made_entry w p.event p.state p.outcome in
-    let stands : HasState v p.state = mine w v p.event p.state p.outcome goes.world (may_step w s.state p.event p.state p.outcome accepted.1 step) in
+    let step : StepsTo s.state p.event r.state p.outcome = leads s.state p.event p.edit r.state p.outcome is.1 becomes in
+    let may = may_step w s.state p.event r.state p.outcome accepted.1 step in
+    let goes : Records b p.event (made_by w p.event r.state p.outcome) d = records b d p.event (made_by w p.event r.state p.outcome) went (comes_next w p.event r.state p.outcome accepted.0.known may) in
+    let k = made_entry w p.event r.state p.outcome in
     record {
       accepted = accepted;
       goes = goes;
-      step = subst (λ (x : State). StepsTo s.state p.event x p.outcome) (sym state) step;
+      step = step;
       commits = commits;
       position = position;
       event = said;
       outcome = gave;
       seen_is = seen_is;
-      mine = subst (λ (x : State). HasState v x) (sym state) stands;
-      others = λ x ne has. others w v p.event p.state p.outcome x.state goes.world (λ e. ne (e ∙ actor_kept s.state p.event p.state p.outcome step)) has;
-      fences = λ x was. subst (λ (u : WorldState). is_declared u x.state ≡ true) (sym goes.world) (stays_declared w p.event (made_by w p.event p.state p.outcome) x.state goes.step was);
-      stamped = new_stamp b.entries d.entries (made_by w p.event p.state p.outcome).1 k.0 t goes.entries (k.1 ∙ (λ i. entry (sym said i) k.0 (sym gave i))) position;
-      stamps = λ x h. stays b.entries d.entries (made_by w p.event p.state p.outcome).1 x goes.entries h;
+      mine = mine w v p.event r.state p.outcome goes.world may;
+      others = λ x ne has. others w v p.event r.state p.outcome x.state goes.world (λ e. ne (e ∙ actor_kept s.state p.event r.state p.outcome step)) has;
+      fences = λ x was. subst (λ (u : WorldState). is_declared u x.state ≡ true) (sym goes.world) (stays_declared w p.event (made_by w p.event r.state p.outcome) x.state goes.step was);
+      stamped = new_stamp b.entries d.entries (made_by w p.event r.state p.outcome).1 k.0 t goes.entries (k.1 ∙ (λ i. entry (sym said i) k.0 (sym gave i))) position;
+      stamps = λ x h. stays b.entries d.entries (made_by w p.event r.state p.outcome).1 x goes.entries h;
     }
 
 pub declared : (b d : RunFields) (n : ℕ) (t : StampFields) → GoesOn b (Declare n) d → t.position ≡ length d.entries → t.event ≡ Declare n → t.outcome ≡ sending [] → t.seen ≡ 0 → Declared b n d t

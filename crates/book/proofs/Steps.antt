@@ -1,19 +1,25 @@
--- What a step of one actor leaves of the others.
-use Rattle.std.proofs.Common.{◌≡◌, ◌≢◌, ℕ, if◌then◌else◌, refl, sym, ap, ◌∙◌, subst, Ok}
+-- What a planned step of an actor leads to, and what it leaves of the others.
+use Rattle.std.proofs.Common.{◌≡◌, ◌≢◌, ℕ, true, if◌then◌else◌, refl, sym, ap, ◌∙◌, subst, Ok}
 use Rattle.messages.specs.declared.actor.Actor.TheVariants.{Node as ANode, Server as AServer}
 use Rattle.messages.specs.declared.event.Event.{Event}
+use Rattle.messages.specs.declared.entry.Entry.{Entry}
 use Rattle.messages.specs.declared.outcome.Outcome.{Outcome}
 use Rattle.node_core.specs.State.{NodeState}
 use Rattle.node_core.specs.Parts.{node_state}
+use Rattle.node_core.specs.Plans.{planned as reached}
 use Rattle.token_server.specs.State.{ServerState}
 use Rattle.token_server.specs.Parts.{server_state}
+use Rattle.token_server.specs.Edits.{planned}
 use Rattle.cluster_core.specs.World.{WorldState}
-use Rattle.cluster_core.specs.Next.{entry, named_incarnation}
+use Rattle.cluster_core.specs.Next.{entry, named_incarnation, is_known, next}
 use Rattle.cluster_core.specs.Actors.{node_step, server_step, NodeSteps, ServerSteps, made_by_node, made_by_server}
 use Rattle.cluster_core.proofs.common.Choices.{at_number}
+use Rattle.cluster_core.proofs.steps.Actors.{node_next, server_next}
+use Rattle.book.specs.declared.edit.Edit.{Edit}
+use Rattle.book.specs.declared.edit.Edit.TheVariants.{Node as OnNode, Server as OnServer}
 use Rattle.book.specs.declared.state.State.{State}
 use Rattle.book.specs.declared.state.State.TheVariants.{OfNode, OfServer}
-use Rattle.book.specs.States.{actor_of, SameState, StepsTo, HasState, MayStep, made_by}
+use Rattle.book.specs.States.{actor_of, Becomes, Plans, StepsTo, HasState, made_by}
 
 -- a step keeps its actor
 pub actor_kept : (s : State) (event : Event) (t : State) (o : Outcome) → StepsTo s event t o → actor_of t ≡ actor_of s
@@ -22,20 +28,32 @@ actor_kept (OfServer f s) event (OfServer g t) o h = ap AServer h.0
 actor_kept (OfNode n s) event (OfServer g t) o h = absurd h
 actor_kept (OfServer f s) event (OfNode m t) o h = absurd h
 
--- it leads to any equal state
-pub steps_copy : (s : State) (event : Event) (t c : State) (o : Outcome) → StepsTo s event t o → SameState t c → StepsTo s event c o
-steps_copy (OfNode n s) event (OfNode m t) (OfNode k c) o h same = (same.0 ∙ h.0, h.1 ∙ ap (λ (x : NodeState). Ok (x, o)) (sym same.1))
-steps_copy (OfServer f s) event (OfServer g t) (OfServer k c) o h same = (same.0 ∙ h.0, h.1 ∙ ap (λ (x : ServerState). Ok (x, o)) (sym same.1))
-steps_copy (OfNode n s) event (OfServer g t) c o h same = absurd h
-steps_copy (OfServer f s) event (OfNode m t) c o h same = absurd h
-steps_copy (OfNode n s) event (OfNode m t) (OfServer k c) o h same = absurd same
-steps_copy (OfServer f s) event (OfServer g t) (OfNode k c) o h same = absurd same
+-- a planned step leads to what its edit makes
+pub leads : (s : State) (event : Event) (e : Edit) (t : State) (o : Outcome) → Plans s event e o → Becomes s e t → StepsTo s event t o
+leads (OfNode n s) event (OnNode e) (OfNode m t) o h is = (is.0, h ∙ ap (λ (x : NodeState). Ok (x, o)) (sym is.1))
+leads (OfServer f s) event (OnServer e) (OfServer g t) o h is = (is.0, h ∙ ap (λ (x : ServerState). Ok (x, o)) (sym is.1))
+leads (OfNode n s) event (OnNode e) (OfServer g t) o h is = absurd is
+leads (OfServer f s) event (OnServer e) (OfNode m t) o h is = absurd is
+leads (OfNode n s) event (OnServer e) t o h is = absurd h
+leads (OfServer f s) event (OnNode e) t o h is = absurd h
 
-pub made_same : (w : WorldState) (event : Event) (t c : State) (o : Outcome) → SameState t c → made_by w event c o ≡ made_by w event t o
-made_same w event (OfNode m t) (OfNode k c) o same = λ i. made_by_node w event (same.0 i) (same.1 i) o
-made_same w event (OfServer g t) (OfServer k c) o same = λ i. made_by_server w event (same.0 i) (same.1 i) o
-made_same w event (OfNode m t) (OfServer k c) o same = absurd same
-made_same w event (OfServer g t) (OfNode k c) o same = absurd same
+-- where its state stands, the world goes on by it
+pub leads_on : (w : WorldState) (s : State) (event : Event) (e : Edit) (o : Outcome) → is_known w event ≡ true → HasState w s → Plans s event e o → (made : WorldState × Entry) × (next w event ≡ Ok made)
+leads_on w (OfNode n s) event (OnNode e) o known has h =
+    let t : NodeState = reached s.value e.value in
+    let steps : NodeSteps w event n t o = record { number = has.number; alive = has.alive; done = ap (λ (x : NodeState). node_step n x event) has.state ∙ h } in
+    (made_by_node w event n t o, node_next w event n t o known steps)
+leads_on w (OfServer f s) event (OnServer e) o known has h =
+    let t : ServerState = planned s.value e in
+    let steps : ServerSteps w event f t o = record { number = has.number; working = has.working; done = ap (λ (x : ServerState). server_step f x event) has.state ∙ h } in
+    (made_by_server w event f t o, server_next w event f t o known steps)
+leads_on w (OfNode n s) event (OnServer e) o known has h = absurd h
+leads_on w (OfServer f s) event (OnNode e) o known has h = absurd h
+
+-- the actor, which is alive, makes this state and outcome of the event
+abbrev pub MayStep : WorldState → Event → State → Outcome → Type 0
+MayStep w event (OfNode n s) o = NodeSteps w event n (node_state s.value) o
+MayStep w event (OfServer f s) o = ServerSteps w event f (server_state s.value) o
 
 -- where its state stands, it may be taken
 pub may_step : (w : WorldState) (s : State) (event : Event) (t : State) (o : Outcome) → HasState w s → StepsTo s event t o → MayStep w event t o
@@ -49,6 +67,11 @@ may_step w (OfServer f s) event (OfServer g t) o has h =
     subst F (sym h.0) here
 may_step w (OfNode n s) event (OfServer g t) o has h = absurd h
 may_step w (OfServer f s) event (OfNode m t) o has h = absurd h
+
+-- and then comes next
+pub comes_next : (w : WorldState) (event : Event) (t : State) (o : Outcome) → is_known w event ≡ true → MayStep w event t o → next w event ≡ Ok (made_by w event t o)
+comes_next w event (OfNode n t) o known may = node_next w event n (node_state t.value) o known may
+comes_next w event (OfServer f t) o known may = server_next w event f (server_state t.value) o known may
 
 -- its entry is of its event and outcome
 pub made_entry : (w : WorldState) (event : Event) (t : State) (o : Outcome) → (k : ℕ) × ((made_by w event t o).1 ≡ entry event k o)

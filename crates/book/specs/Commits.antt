@@ -7,7 +7,7 @@ use Rattle.cluster_core.specs.Journals.{RunFields}
 use Rattle.cluster_core.specs.Actors.{Records}
 use Rattle.book.specs.declared.commit_error.CommitError.{CommitError}
 use Rattle.book.specs.declared.commit_error.CommitError.TheVariants.{JournalFull, Stale, Stranger, Fenced, NoMemory}
-use Rattle.book.specs.States.{actor_of, incarnation_of, StepsTo, HasState, is_declared, made_by}
+use Rattle.book.specs.States.{actor_of, incarnation_of, Fits, Plans, StepsTo, HasState, is_declared, made_by}
 use Rattle.book.specs.Fields.{SeatFields, PreparedFields, StampFields}
 use Rattle.book.specs.Receipts.{IsStampOf}
 
@@ -15,9 +15,9 @@ use Rattle.book.specs.Receipts.{IsStampOf}
 abbrev pub Names : PreparedFields → SeatFields → Type 0
 Names p s = (p.actor ≡ actor_of s.state) × (p.incarnation ≡ incarnation_of s.state) × (p.commits ≡ s.commits)
 
--- the step was prepared from the seat's state
+-- the step was planned from the seat's state
 abbrev pub IsStepFrom : SeatFields → PreparedFields → Type 0
-IsStepFrom s p = StepsTo s.state p.event p.state p.outcome
+IsStepFrom s p = Fits s.state p.edit × Plans s.state p.event p.edit p.outcome
 
 -- the seat is of the book: its actor is alive, and in that state
 abbrev pub IsSeatOf : RunFields → SeatFields → Type 0
@@ -50,7 +50,7 @@ Refuses b s p seen NoMemory = Accepts b s p seen
 -- the step is the next of the run and its entry the last; seats of other actors stay seats of the book, those that are fenced stay so, and older stamps stay stamps of it
 pub record Commits (b : RunFields) (s : SeatFields) (p : PreparedFields) (seen : ℕ) (b' : RunFields) (s' : SeatFields) (t : StampFields) : Type 0 where
   pub accepted : Accepts b s p seen
-  pub goes : Records b p.event (made_by (world_state b.world) p.event p.state p.outcome) b'
+  pub goes : Records b p.event (made_by (world_state b.world) p.event s'.state p.outcome) b'
   pub step : StepsTo s.state p.event s'.state p.outcome
   pub commits : s'.commits ≡ s.commits + 1
   pub position : t.position ≡ length b'.entries

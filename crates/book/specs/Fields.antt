@@ -6,6 +6,7 @@ use Rattle.model.specs.declared.reply.Reply.{Reply}
 use Rattle.messages.specs.declared.actor.Actor.{Actor}
 use Rattle.messages.specs.declared.event.Event.{Event}
 use Rattle.messages.specs.declared.outcome.Outcome.{Outcome}
+use Rattle.book.specs.declared.edit.Edit.{Edit}
 use Rattle.book.specs.declared.state.State.{State}
 
 -- an actor's state, and how many commits it made from this seat
@@ -13,13 +14,13 @@ pub record SeatFields : Type 0 where
   pub state : State
   pub commits : ℕ
 
--- whose step it is, after how many commits; its event, the next state, and what it gave
+-- whose step it is, after how many commits; its event, what it changes, and what it gives
 pub record PreparedFields : Type 0 where
   pub actor : Actor
   pub incarnation : ℕ
   pub commits : ℕ
   pub event : Event
-  pub state : State
+  pub edit : Edit
   pub outcome : Outcome
 
 -- where an entry stands, from 1; what it says; up to where its actor had seen the journal

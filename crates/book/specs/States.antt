@@ -7,9 +7,13 @@ use Rattle.messages.specs.declared.entry.Entry.{Entry}
 use Rattle.messages.specs.declared.outcome.Outcome.{Outcome}
 use Rattle.messages.specs.declared.refusal.StepError.{StepError}
 use Rattle.node_core.specs.Parts.{node_state}
+use Rattle.node_core.specs.Plans.{planned as reached, Fits as NodeFits}
 use Rattle.token_server.specs.Parts.{server_state}
+use Rattle.token_server.specs.Edits.{planned, Fits as ServerFits}
 use Rattle.cluster_core.specs.World.{WorldState, has_node, has_file, was_declared, has_failed}
-use Rattle.cluster_core.specs.Actors.{HasNode, HasServer, node_step, server_step, NodeSteps, ServerSteps, made_by_node, made_by_server}
+use Rattle.cluster_core.specs.Actors.{HasNode, HasServer, node_step, server_step, made_by_node, made_by_server}
+use Rattle.book.specs.declared.edit.Edit.{Edit}
+use Rattle.book.specs.declared.edit.Edit.TheVariants.{Node as OnNode, Server as OnServer}
 use Rattle.book.specs.declared.state.State.{State}
 use Rattle.book.specs.declared.state.State.TheVariants.{OfNode, OfServer}
 
@@ -22,17 +26,29 @@ abbrev pub incarnation_of : State → ℕ
 incarnation_of (OfNode n s) = (node_state s.value).incarnation
 incarnation_of (OfServer f s) = (server_state s.value).epoch
 
--- both are the same state of the same actor
-abbrev pub SameState : State → State → Type 0
-SameState (OfNode n s) (OfNode m t) = (m ≡ n) × (node_state t.value ≡ node_state s.value)
-SameState (OfServer f s) (OfServer g t) = (g ≡ f) × (server_state t.value ≡ server_state s.value)
-SameState _ _ = ⊥
-
 -- the event leads from the one state to the other, with this outcome
 abbrev pub StepsTo : State → Event → State → Outcome → Type 0
 StepsTo (OfNode n s) event (OfNode m t) o = (m ≡ n) × (node_step n (node_state s.value) event ≡ Ok (node_state t.value, o))
 StepsTo (OfServer f s) event (OfServer g t) o = (g ≡ f) × (server_step f (server_state s.value) event ≡ Ok (server_state t.value, o))
 StepsTo _ event _ o = ⊥
+
+-- the state can be changed so: the edit was planned from it
+abbrev pub Fits : State → Edit → Type 0
+Fits (OfNode n s) (OnNode e) = NodeFits s.value e.value
+Fits (OfServer f s) (OnServer e) = ServerFits s.value e
+Fits _ _ = ⊥
+
+-- the edit makes the other of the one state
+abbrev pub Becomes : State → Edit → State → Type 0
+Becomes (OfNode n s) (OnNode e) (OfNode m t) = (m ≡ n) × (node_state t.value ≡ reached s.value e.value)
+Becomes (OfServer f s) (OnServer e) (OfServer g t) = (g ≡ f) × (server_state t.value ≡ planned s.value e)
+Becomes _ _ _ = ⊥
+
+-- the event leads from the state to what the edit makes of it, with this outcome
+abbrev pub Plans : State → Event → Edit → Outcome → Type 0
+Plans (OfNode n s) event (OnNode e) o = node_step n (node_state s.value) event ≡ Ok (reached s.value e.value, o)
+Plans (OfServer f s) event (OnServer e) o = server_step f (server_state s.value) event ≡ Ok (planned s.value e, o)
+Plans _ event _ o = ⊥
 
 -- the actor refuses the event so
 abbrev pub Rejects : State → Event → StepError → Type 0
@@ -49,12 +65,7 @@ abbrev pub is_declared : WorldState → State → Bool
 is_declared w (OfNode n s) = has_node w n && was_declared w n (node_state s.value).incarnation
 is_declared w (OfServer f s) = has_file w f && has_failed w f (server_state s.value).epoch
 
--- the actor, which is alive, makes this state and outcome of the event
-abbrev pub MayStep : WorldState → Event → State → Outcome → Type 0
-MayStep w event (OfNode n s) o = NodeSteps w event n (node_state s.value) o
-MayStep w event (OfServer f s) o = ServerSteps w event f (server_state s.value) o
-
--- the world and the entry that come of that
+-- the world and the entry that come of the event, where the actor makes this state and outcome of it
 abbrev pub made_by : WorldState → Event → State → Outcome → WorldState × Entry
 made_by w event (OfNode n s) o = made_by_node w event n (node_state s.value) o
 made_by w event (OfServer f s) o = made_by_server w event f (server_state s.value) o

@@ -2,16 +2,16 @@
 ghost use Rattle.std.specs.Prelude.{◌≡◌, ◌≢◌, ◌+◌, ◌-◌, ◌<◌, ◌≤◌, ◌++◌, ◌∷◌, [], ℕ, Ok, Err, Some, true, length, slice_get, IfOk, IfErr, OnOk, OnErr, MatchResult, MatchBool, option_copied};
 ghost use Rattle.messages.specs.declared.event.Event.TheVariants.{Declare, Restart, FailServer, StartServer};
 ghost use Rattle.messages.specs.declared.refusal.Refused.{Refused};
+ghost use Rattle.messages.specs.declared.entry.Entry.{Entry};
 ghost use Rattle.messages.specs.Shapes.{ShapeFields};
-ghost use Rattle.cluster_core.specs.World.{first_world, journal_limit};
-ghost use Rattle.cluster_core.specs.Next.{is_known, next, kept_next};
+ghost use Rattle.cluster_core.specs.World.{WorldState, first_world, journal_limit};
+ghost use Rattle.cluster_core.specs.Next.{next, kept_next};
 ghost use Rattle.cluster_core.specs.Parts.{world_state};
 ghost use Rattle.cluster_core.specs.Runs.{Leads};
-ghost use Rattle.cluster_core.specs.Journals.{RunFields, journal_of};
-ghost use Rattle.cluster_core.specs.Actors.{Records};
+ghost use Rattle.cluster_core.specs.Journals.{RunFields, GoesOn, journal_of};
 ghost use Rattle.cluster_core.specs.Histories.{HasOneHistory};
 ghost use Rattle.book.specs.Fields.{SeatFields, StampFields};
-ghost use Rattle.book.specs.States.{actor_of, MayStep, made_by, HasState};
+ghost use Rattle.book.specs.States.{actor_of, HasState};
 ghost use Rattle.book.specs.Receipts.{Holds, IsStampOf, IsReceiptOf};
 ghost use Rattle.book.specs.Commits.{Names, IsStepFrom, IsSeatOf, Accepts, Refuses, Commits, seen_at};
 ghost use Rattle.book.specs.Turns.{Declared, Restarted, Failed, Started};
@@ -56,24 +56,20 @@ impl Model for Book {
     ghost view = { λ b. b.run };
 }
 
-// The run goes on by a step that was computed from its actor's state.
-fn put(
-    run: &mut Run,
-    alloc: Global,
-    event: Event,
-    state: State,
-    outcome: Outcome,
-) -> Result<(), NoMemory>
+// The run goes on by an event that is known to lead on: only memory can be refused.
+fn take_next(run: &mut Run, alloc: Global, event: Event) -> Result<(), NoMemory>
     requires room { length run.old.entries < journal_limit }
-    requires known { is_known (world_state run.old.world) event ≡ true }
-    requires step { MayStep (world_state run.old.world) event state outcome }
-    ensures ok { OnOk result (Records run.old event (made_by (world_state run.old.world) event state outcome) run.new) }
+    requires leads_on { (made : WorldState × Entry) × (next (world_state run.old.world) event ≡ Ok made) }
+    ensures ok { OnOk result (GoesOn run.old event run.new) }
     ensures unchanged { OnErr result (run.new ≡ run.old) }
 {
     let _ = run.len(); // tells the proof that the world counts the entries
-    match state {
-        State::OfNode { number, node } => run.put_node(alloc, event, number, node, outcome),
-        State::OfServer { file, server } => run.put_server(alloc, event, file, server, outcome),
+    let Err(refusal) = run.take(alloc, event) else {
+        return Ok(());
+    };
+    match refusal {
+        Refused::NoMemory => Err(AllocError),
+        _ => unreachable!(),
     }
 }
 
@@ -177,9 +173,9 @@ impl Book {
         let seen = seen_of(seen);
         accepts(&self.run, seat, &prepared, seen)?;
         let parts = prepared.into_parts();
-        put(&mut self.run, alloc, parts.event, parts.copy, parts.outcome)?;
-        seat.advance(parts.state);
-        Ok(Stamp::new(self.run.len(), parts.told, parts.said, seen))
+        take_next(&mut self.run, alloc, parts.event)?;
+        let outcome = seat.advance(parts.edit, parts.outcome);
+        Ok(Stamp::new(self.run.len(), parts.told, outcome, seen))
     }
 
     /// The node is declared failed: from here on each commit of its incarnation is refused.

@@ -4,6 +4,7 @@
 pub mod book;
 pub mod commit_error;
 pub mod confirms;
+mod edit;
 mod holds;
 pub mod mark;
 pub mod prepared;

@@ -1,15 +1,16 @@
 //! Seats.
 ghost use Rattle.std.specs.Prelude.{◌≡◌, ◌≢◌, ◌<◌, ◌≤◌, ◌+◌, IfOk, IfErr, Err};
 ghost use Rattle.book.specs.Commits.{Names, IsStepFrom};
-ghost use Rattle.book.specs.States.{actor_of, incarnation_of, Rejects};
+ghost use Rattle.book.specs.States.{actor_of, incarnation_of, Fits, Becomes, Rejects};
 
+use crate::edit::Edit;
 use crate::prepared::Prepared;
 use crate::state::State;
 use messages::actor::Actor;
 use messages::event::Event;
 use messages::outcome::Outcome;
 use messages::refusal::StepError;
-use std::alloc::{AllocError, Global};
+use std::alloc::Global;
 use std::marker::Model;
 
 /// The right to commit the steps of one actor, with its state, and how many it committed.
@@ -25,17 +26,6 @@ impl Model for Seat {
     ghost Value = { SeatFields };
 
     ghost view = { λ s. record { state = s.state; commits = s.commits } };
-}
-
-// An equal outcome.
-fn copied(alloc: Global, outcome: &Outcome) -> Result<Outcome, AllocError>
-    ensures { IfOk result (λ copy. copy ≡ outcome.now) }
-{
-    Ok(Outcome {
-        call: outcome.call,
-        reply: outcome.reply,
-        sends: outcome.sends.copy(alloc)?,
-    })
 }
 
 impl Seat {
@@ -75,7 +65,8 @@ impl Seat {
         &self.state
     }
 
-    /// The step of the seat's state at an event. It takes no lock, and the seat stays as it is.
+    /// The step of the seat's state at an event, planned. It takes no lock, costs what the step changes, and
+    /// the seat stays as it is.
     ///
     /// # Errors
     /// In this order: `Spent` where 18,446,744,073,709,551,615 steps were committed from the seat;
@@ -94,19 +85,20 @@ impl Seat {
         if self.commits == u64::MAX {
             return Err(StepError::Spent);
         }
-        let (state, outcome) = self.state.step(alloc, &event)?;
-        let copy = state.copy(alloc)?;
-        let said = copied(alloc, &outcome)?;
+        let (edit, outcome) = self.state.plan(alloc, &event)?;
         let told = event.copy(alloc)?;
-        Ok(Prepared::new(self, (event, told), (state, copy), (outcome, said)))
+        Ok(Prepared::new(self, (event, told), edit, outcome))
     }
 
-    /// The actor is in its next state.
-    pub(crate) fn advance(&mut self, state: State)
-        requires { self.old.commits < 18446744073709551615 }
-        ensures { self.new ≡ record { state = state; commits = self.old.commits + 1 } }
+    /// The actor makes a planned change, which gives this. Takes no memory.
+    pub(crate) fn advance(&mut self, edit: Edit, outcome: Outcome) -> Outcome
+        requires unspent { self.old.commits < 18446744073709551615 }
+        requires fits { Fits self.old.state edit }
+        ensures state { Becomes self.old.state edit self.new.state }
+        ensures commits { self.new.commits ≡ self.old.commits + 1 }
+        ensures outcome { result ≡ outcome }
     {
-        self.state = state;
         self.commits += 1;
+        self.state.apply(edit, outcome)
     }
 }

@@ -11,6 +11,7 @@ ghost use Rattle.node_core.specs.declared.event.NodeEvent.TheVariants as own;
 ghost use Rattle.token_server.specs.Edits.{planned, Fits as ServerFits};
 ghost use Rattle.token_server.specs.declared.event.ServerEvent.TheVariants as served;
 
+use crate::edit::Edit;
 use cluster_core::world::World;
 use messages::actor::Actor;
 use messages::event::Event;
@@ -20,7 +21,7 @@ use messages::refusal::StepError;
 use node_core::change::Change as NodeChange;
 use node_core::event::NodeEvent;
 use node_core::node::Node;
-use std::alloc::{AllocError, Global};
+use std::alloc::Global;
 use token_server::change::Change as ServerChange;
 use token_server::event::ServerEvent;
 use token_server::server::Server;
@@ -130,23 +131,6 @@ fn planned_node(
     }
 }
 
-// The step of the node with the number at an event: its next state, and what it gives.
-fn stepped_node(
-    alloc: Global,
-    number: u8,
-    node: &Node,
-    event: &Event,
-) -> Result<(Box<Node>, Outcome), StepError>
-    ensures ok { IfOk result (λ r. node_step number (node_state node.now) event.now ≡ Ok (node_state r.0.value, r.1)) }
-    ensures err { IfErr result (λ e. e ≢ StepError.NoMemory → node_step number (node_state node.now) event.now ≡ Err e) }
-    ensures refused { (r : StepError) → node_step number (node_state node.now) event.now ≡ Err r → result ≡ Err r }
-{
-    let change = planned_node(alloc, number, node, event)?;
-    let mut next = node.copy(alloc)?;
-    let outcome = next.apply(change);
-    Ok((Box::new(alloc, next)?, outcome))
-}
-
 // What the server will do at an event, if that is its own.
 fn server_plan(
     alloc: Global,
@@ -230,41 +214,8 @@ fn planned_server(
     }
 }
 
-// The step of the server of the file at an event.
-fn stepped_server(
-    alloc: Global,
-    number: u16,
-    server: &Server,
-    event: &Event,
-) -> Result<(Box<Server>, Outcome), StepError>
-    ensures ok { IfOk result (λ r. server_step number (server_state server.now) event.now ≡ Ok (server_state r.0.value, r.1)) }
-    ensures err { IfErr result (λ e. e ≢ StepError.NoMemory → server_step number (server_state server.now) event.now ≡ Err e) }
-    ensures refused { (r : StepError) → r ≢ StepError.Spent → server_step number (server_state server.now) event.now ≡ Err r → result ≡ Err r }
-{
-    let change = planned_server(alloc, number, server, event)?;
-    let mut next = server.copy()?;
-    let outcome = next.apply(change);
-    Ok((Box::new(alloc, next)?, outcome))
-}
-
-// An equal node, in a box of its own.
-fn copied_node(alloc: Global, node: &Node) -> Result<Box<Node>, AllocError>
-    ensures { IfOk result (λ copy. node_state copy.value ≡ node_state node.now) }
-{
-    let copy = node.copy(alloc)?;
-    Ok(Box::new(alloc, copy)?)
-}
-
-// An equal server.
-fn copied_server(alloc: Global, server: &Server) -> Result<Box<Server>, AllocError>
-    ensures { IfOk result (λ copy. server_state copy.value ≡ server_state server.now) }
-{
-    let copy = server.copy()?;
-    Ok(Box::new(alloc, copy)?)
-}
-
 impl State {
-    ghost use Rattle.book.specs.States.{actor_of, incarnation_of, SameState, StepsTo, Rejects, HasState, is_declared};
+    ghost use Rattle.book.specs.States.{actor_of, incarnation_of, Fits, Plans, Becomes, Rejects, HasState, is_declared};
 
     /// The actor.
     pub(crate) fn actor(&self) -> Actor
@@ -287,47 +238,47 @@ impl State {
         }
     }
 
-    /// What the actor does at an event: its next state, and what that gives.
+    /// What the actor will do at an event: what that changes of its state, and what it gives.
     ///
     /// # Errors
-    /// `Stranger` where the actor takes no such event; then those of the actor's step.
-    pub(crate) fn step(&self, alloc: Global, event: &Event) -> Result<(State, Outcome), StepError>
-        ensures ok { IfOk result (λ r. StepsTo self.now event.now r.0 r.1) }
+    /// `Stranger` where the actor takes no such event; then those of the actor's plan.
+    pub(crate) fn plan(&self, alloc: Global, event: &Event) -> Result<(Edit, Outcome), StepError>
+        ensures fits { IfOk result (λ r. Fits self.now r.0) }
+        ensures ok { IfOk result (λ r. Plans self.now event.now r.0 r.1) }
         ensures err { IfErr result (λ e. e ≢ StepError.NoMemory → Rejects self.now event.now e) }
         ensures refused { (r : StepError) → r ≢ StepError.Spent → Rejects self.now event.now r → result ≡ Err r }
     {
         match self {
             State::OfNode { number, node } => {
-                let (node, outcome) = stepped_node(alloc, *number, node, event)?;
-                let number = *number;
-                Ok((State::OfNode { number, node }, outcome))
+                let change = planned_node(alloc, *number, node, event)?;
+                let edit = Box::new(alloc, change.edit)?;
+                Ok((Edit::Node(edit), change.outcome))
             }
             State::OfServer { file, server } => {
-                let (server, outcome) = stepped_server(alloc, *file, server, event)?;
-                let file = *file;
-                Ok((State::OfServer { file, server }, outcome))
+                let change = planned_server(alloc, *file, server, event)?;
+                Ok((Edit::Server(change.edit), change.outcome))
             }
         }
     }
 
-    /// An equal state.
-    ///
-    /// # Errors
-    /// `AllocError` where a request for memory was refused.
-    pub(crate) fn copy(&self, alloc: Global) -> Result<State, AllocError>
-        ensures { IfOk result (λ copy. SameState self.now copy) }
+    /// Makes a planned change, which gives this. Takes no memory.
+    pub(crate) fn apply(&mut self, edit: Edit, outcome: Outcome) -> Outcome
+        requires { Fits self.old edit }
+        ensures state { Becomes self.old edit self.new }
+        ensures outcome { result ≡ outcome }
     {
         match self {
-            State::OfNode { number, node } => {
-                let node = copied_node(alloc, node)?;
-                let number = *number;
-                Ok(State::OfNode { number, node })
-            }
-            State::OfServer { file, server } => {
-                let server = copied_server(alloc, server)?;
-                let file = *file;
-                Ok(State::OfServer { file, server })
-            }
+            State::OfNode { node, .. } => match edit {
+                Edit::Node(edit) => {
+                    let edit = Box::into_inner(edit);
+                    node.apply(NodeChange { edit, outcome })
+                }
+                Edit::Server(_) => unreachable!(),
+            },
+            State::OfServer { server, .. } => match edit {
+                Edit::Server(edit) => server.apply(ServerChange { edit, outcome }),
+                Edit::Node(_) => unreachable!(),
+            },
         }
     }
 

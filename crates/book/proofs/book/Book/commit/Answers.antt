@@ -1,16 +1,40 @@
-use Rattle.std.proofs.Common.{ℕ, ap, ◌∙◌, subst, option_copied}
-use Rattle.cluster_core.specs.Journals.{RunFields}
-use Rattle.book.specs.Fields.{SeatFields, StampFields}
-use Rattle.book.specs.Commits.{IsStepFrom, Commits, seen_at}
+use Rattle.std.proofs.Common.{◌≡◌, ℕ, sym, ap, ◌∙◌, subst, option_copied, Ok}
+use Rattle.std.proofs.lemmas.Result.{err_from_is_err_and}
+use Rattle.messages.specs.declared.event.Event.{Event}
+use Rattle.messages.specs.declared.entry.Entry.{Entry}
+use Rattle.cluster_core.specs.World.{WorldState}
+use Rattle.cluster_core.specs.Next.{next}
+use Rattle.cluster_core.specs.Parts.{world_state}
+use Rattle.cluster_core.specs.Journals.{RunFields, GoesOn}
+use Rattle.book.specs.declared.edit.Edit.{Edit}
+use Rattle.book.specs.Fields.{StampFields}
+use Rattle.book.specs.States.{Fits, Becomes}
+use Rattle.book.specs.Commits.{IsStepFrom, Refuses, Commits, seen_at}
 use Rattle.book.proofs.Committed.{committed}
+use Rattle.book.proofs.Steps.{leads_on}
 use Rattle.book.proofs.book.Book.commit.Goals as goal
+
+pub take_next-requires-clause-leads_on : goal.take_next-requires-clause-leads_on
+take_next-requires-clause-leads_on c =
+    let b = c.self.inside.run in
+    let s = c.args.seat.now in
+    let p = c.args.prepared in
+    let accepted = c.in_ok-accepts.ensures.tests in
+    let step : IsStepFrom s p = c.requires accepted.0.named in
+    let F : Event → Type 0 = λ e. (made : WorldState × Entry) × (next (world_state b.world) e ≡ Ok made) in
+    subst F (sym c.into_parts-parts.ensures.event) (leads_on (world_state b.world) s.state p.event p.edit p.outcome accepted.0.known accepted.1 step.1)
+
+pub advance-outcome-requires-clause-fits : goal.advance-outcome-requires-clause-fits
+advance-outcome-requires-clause-fits c =
+    let step : IsStepFrom c.args.seat.now c.args.prepared = c.requires c.in_ok-accepts.ensures.tests.0.named in
+    subst (λ (e : Edit). Fits c.args.seat.now.state e) (sym c.into_parts-parts.ensures.edit) step.0
 
 pub returns-clause-outcome : goal.returns-clause-outcome
 returns-clause-outcome c =
     let b = c.self.inside.run in
-    let d = c.put.new.run in
+    let d = c.take_next.new.run in
     let s = c.args.seat.now in
-    let r = c.advance.new.self in
+    let r = c.advance-outcome.new.self in
     let p = c.args.prepared in
     let t = c.new.result in
     let parts = c.into_parts-parts in
@@ -19,11 +43,19 @@ returns-clause-outcome c =
     let is = c.new.ensures in
     let position = ap (λ (x : StampFields). x.position) is ∙ c.len.ensures.value in
     let said = ap (λ (x : StampFields). x.event) is ∙ parts.ensures.told in
-    let gave = ap (λ (x : StampFields). x.outcome) is ∙ parts.ensures.said in
+    let gave = ap (λ (x : StampFields). x.outcome) is ∙ c.advance-outcome.ensures.outcome ∙ parts.ensures.outcome in
     let seen_is = ap (λ (x : StampFields). x.seen) is in
-    let state = ap (λ (x : SeatFields). x.state) c.advance.ensures ∙ parts.ensures.state in
-    let commits = ap (λ (x : SeatFields). x.commits) c.advance.ensures in
-    let made : Commits b s p c.seen_of-seen.result d r t =
-    committed b d s r p c.seen_of-seen.result t parts.result.copy parts.result.event parts.result.outcome parts.ensures.event parts.ensures.outcome accepted step parts.ensures.copy c.in_ok-put.ensures.ok state commits position said gave seen_is in
+    let went = subst (λ (e : Event). GoesOn b e d) parts.ensures.event c.in_ok-take_next.ensures.ok in
+    let becomes = subst (λ (e : Edit). Becomes s.state e r.state) parts.ensures.edit c.advance-outcome.ensures.state in
+    let made : Commits b s p c.seen_of-seen.result d r t = committed b d s r p c.seen_of-seen.result t accepted step went becomes c.advance-outcome.ensures.commits position said gave seen_is in
     let seen : Commits b s p (seen_at (option_copied c.args.seen)) d r t = subst (λ (n : ℕ). Commits b s p n d r t) c.seen_of-seen.ensures made in
     subst (λ (x : RunFields). Commits x s p (seen_at (option_copied c.args.seen)) d r t) c.self.view_is seen
+
+pub returns-in_err-accepts-clause-outcome : goal.returns-in_err-accepts-clause-outcome
+returns-in_err-accepts-clause-outcome c =
+    let s = c.args.seat.now in
+    let p = c.args.prepared in
+    let e = c.in_err-accepts.field-0.0 in
+    let told = err_from_is_err_and c.from_residual.result c.from_residual.ensures.1 in
+    let here : Refuses c.self.inside.run s p (seen_at (option_copied c.args.seen)) e = subst (λ (n : ℕ). Refuses c.self.inside.run s p n e) c.seen_of-seen.ensures c.in_err-accepts.ensures.tests in
+    rw (told.1, told.2) (subst (λ (x : RunFields). Refuses x s p (seen_at (option_copied c.args.seen)) e) c.self.view_is here)
