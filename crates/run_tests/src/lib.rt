@@ -21,4 +21,6 @@ mod of_node_core;
 #[cfg(test)]
 mod of_placement;
 #[cfg(test)]
+mod of_refused_memory;
+#[cfg(test)]
 mod of_token_server;

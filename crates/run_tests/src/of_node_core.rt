@@ -1,5 +1,6 @@
 //! Nodes, by messages that no server sends and calls that no script has.
-ghost use Rattle.std.specs.Prelude.{◌≤◌};
+ghost use Rattle.std.specs.Prelude.{◌≤◌, IfOk};
+ghost use Rattle.node_core.specs.Plans.{Fits};
 
 use intervals::span::Span;
 use intervals::span_map::NoMemory;
@@ -22,6 +23,7 @@ use model::op::Op;
 use model::owner::{Kind, Owner};
 use model::policy::Policy;
 use model::reply::Reply;
+use node_core::change::Change;
 use node_core::event::NodeEvent;
 use node_core::locks::change_locks;
 use node_core::node::Node;
@@ -63,12 +65,12 @@ fn call(pid: u16, op: Op) -> NodeEvent {
     NodeEvent::Call { pid, op }
 }
 
-const OPEN: Op = Op::Open {
+pub(crate) const OPEN: Op = Op::Open {
     file: 1,
     access: Access::ReadWrite,
 };
 
-const SET: Op = Op::Set {
+pub(crate) const SET: Op = Op::Set {
     fd: 0,
     kind: Kind::OfProcess,
     mode: Mode::Write,
@@ -114,6 +116,13 @@ fn taken() -> Message {
     }
 }
 
+// The reply to the node's call with that number.
+fn answered(number: u32, reply: Reply) -> Option<(CallId, Reply)>
+    requires { 1 ≤ number }
+{
+    Some((CallId { number, ..THIRD }, reply))
+}
+
 fn host(incarnation: u16) -> Host {
     Host {
         node: 1,
@@ -133,6 +142,35 @@ fn revoke(command: u32, incarnation: u16) -> NodeEvent
         mode: Mode::Write,
         wanted: Wanted::new(HUNDRED, HUNDRED),
     })
+}
+
+// The node's answers to the second and third command, where its lock is in the way and where it is gone, and what tells
+// that it may be gone.
+fn conflict() -> Message {
+    Message::Conflict {
+        file: FileNumber::of(1),
+        number: CommandNumber::of(1, 2),
+        holder: host(1),
+        call: CallId { node: 2, ..THIRD },
+        lock: LOCK,
+    }
+}
+
+fn freed() -> Message {
+    Message::Freed {
+        file: FileNumber::of(1),
+        holder: host(1),
+    }
+}
+
+fn released() -> Message {
+    Message::Released {
+        file: FileNumber::of(1),
+        number: CommandNumber::of(1, 3),
+        holder: host(1),
+        call: CallId { node: 2, ..THIRD },
+        span: HUNDRED,
+    }
 }
 
 fn deny(call: CallId) -> NodeEvent {
@@ -173,9 +211,17 @@ fn boxed(alloc: Global, node: Node) -> Result<Box<Node>, StepError> {
     Ok(Box::new(alloc, node)?)
 }
 
+fn begun(alloc: Global, shape: Shape) -> Result<Box<Node>, StepError> {
+    let _ = shape.nodes(); // tells the proof that there is one
+    boxed(alloc, Node::new(alloc, shape, 1, 1)?)
+}
+
 fn begins(alloc: Global) -> Result<Box<Node>, Fail> {
     let shape = Shape::new(1, 2, Policy::Exact)?;
-    Ok(boxed(alloc, Node::new(alloc, shape, 1, 1)?)?)
+    match begun(alloc, shape) {
+        Ok(node) => Ok(node),
+        Err(_) => Ok(begun(alloc, shape)?),
+    }
 }
 
 // What the event gives.
@@ -188,16 +234,45 @@ fn stepped(
     Ok((boxed(alloc, next)?, outcome))
 }
 
-// Goes on from what the event gives; whether this is what it must be.
-fn takes(alloc: Global, node: &mut Box<Node>, expected: &Move) -> Result<bool, StepError> {
-    let (next, outcome) = stepped(alloc, node, &expected.0)?;
+// The same, asked again where a request for memory is refused.
+fn stepped_again(
+    alloc: Global,
+    node: &Node,
+    event: &NodeEvent,
+) -> Result<(Box<Node>, Outcome), StepError> {
+    match stepped(alloc, node, event) {
+        Ok(next) => Ok(next),
+        Err(_) => stepped(alloc, node, event),
+    }
+}
+
+// What the event will do, planned again where a request for memory is refused.
+fn planned_again(alloc: Global, node: &Node, event: &NodeEvent) -> Result<Change, StepError>
+    ensures { IfOk result (λ change. Fits node.now change.edit) }
+{
+    match node.plan(alloc, event) {
+        Ok(change) => Ok(change),
+        Err(_) => node.plan(alloc, event),
+    }
+}
+
+// Goes on by what was planned; whether this is what it must be.
+fn goes_on(alloc: Global, node: &mut Node, expected: &Move) -> Result<bool, StepError> {
+    let change = planned_again(alloc, node, &expected.0)?;
+    let outcome = node.apply(change);
+    Ok(is_right(expected, &outcome))
+}
+
+// Goes on from what the event gives; whether this is what it must be, planned or not.
+fn takes(alloc: Global, node: &mut Node, expected: &Move) -> Result<bool, StepError> {
+    let (next, outcome) = stepped_again(alloc, node, &expected.0)?;
     let changes = !next.same(node);
-    *node = next;
-    Ok(changes == expected.3 && is_right(expected, &outcome))
+    let is_planned = goes_on(alloc, node, expected)? && next.same(node);
+    Ok(is_planned && changes == expected.3 && is_right(expected, &outcome))
 }
 
 // Whether each event comes to what it must.
-fn take(alloc: Global, node: &mut Box<Node>, moves: &[Move]) -> Result<bool, StepError> {
+fn take(alloc: Global, node: &mut Node, moves: &[Move]) -> Result<bool, StepError> {
     for expected in moves {
         if !takes(alloc, node, expected)? {
             return Ok(false);
@@ -207,7 +282,7 @@ fn take(alloc: Global, node: &mut Box<Node>, moves: &[Move]) -> Result<bool, Ste
 }
 
 // Whether the node begins, opens file 1 and asks for a token of 100 bytes.
-fn asks(alloc: Global, node: &mut Box<Node>) -> Result<bool, StepError> {
+fn asks(alloc: Global, node: &mut Node) -> Result<bool, StepError> {
     let first = CallId { number: 1, ..THIRD };
     let second = CallId { number: 2, ..THIRD };
     let asked = request(THIRD, Urgency::Now, HUNDRED);
@@ -220,7 +295,7 @@ fn asks(alloc: Global, node: &mut Box<Node>) -> Result<bool, StepError> {
 }
 
 // Whether commands with other numbers or for another incarnation do nothing, and a wait is not denied.
-fn takes_its_own(alloc: Global, node: &mut Box<Node>) -> Result<bool, StepError> {
+fn takes_its_own(alloc: Global, node: &mut Node) -> Result<bool, StepError> {
     let later = CallId {
         incarnation: 2,
         ..THIRD
@@ -270,6 +345,46 @@ fn does_each_command_once_and_in_order(rt: HostRuntime) -> Result<(), Fail> {
     assert!(rt; asks(alloc, &mut node)? && takes_its_own(alloc, &mut node)?);
     assert!(rt; has_its_token(&node, alloc)? && has_its_lock(&node)?);
     assert!(rt; is_copied(alloc, &node)? && node.incarnation() == 1);
+    Ok(())
+}
+
+// Whether the node names its lock where another node needs its bytes, and gives them up once the lock is gone.
+fn shuts(alloc: Global, node: &mut Node) -> Result<bool, StepError> {
+    let moves = [
+        (
+            call(1, Op::Dup { fd: 0 }),
+            answered(5, Reply::Fd(1)),
+            None,
+            true,
+        ),
+        (
+            call(1, Op::Fork { child: 2 }),
+            answered(6, Reply::Done),
+            None,
+            true,
+        ),
+        (revoke(2, 1), None, Some(conflict()), true),
+        (
+            call(1, Op::Close { fd: 0 }),
+            answered(7, Reply::Done),
+            Some(freed()),
+            true,
+        ),
+        (revoke(3, 1), None, Some(released()), true),
+        (call(2, Op::Exit), answered(8, Reply::Done), None, true),
+    ];
+    take(alloc, node, &moves)
+}
+
+// Where one request for memory is refused, `plan` and `step` leave the node as it is, each then gives what it would have
+// given, and `apply` needs none. `scripts/refused-memory` refuses the requests of the tests named so, one after the other.
+#[test]
+fn keeps_what_it_had(rt: HostRuntime) -> Result<(), Fail> {
+    let alloc = rt.alloc();
+    let mut node = begins(alloc)?;
+    assert!(rt;
+        asks(alloc, &mut node)? && takes_its_own(alloc, &mut node)? && shuts(alloc, &mut node)?
+    );
     Ok(())
 }
 

@@ -1,7 +1,8 @@
 //! Servers, by messages that no node sends.
-ghost use Rattle.std.specs.Prelude.{◌≤◌};
+ghost use Rattle.std.specs.Prelude.{◌≤◌, IfOk};
 ghost use Rattle.model.specs.Limits.{IsNumber};
 ghost use Rattle.messages.specs.Shapes.{most_files};
+ghost use Rattle.token_server.specs.Edits.{Fits};
 
 use intervals::span::{GREATEST, Span};
 use messages::command_number::CommandNumber;
@@ -19,6 +20,7 @@ use model::owner::{Kind, Owner};
 use model::policy::Policy;
 use std::alloc::Global;
 use std::test::Fail;
+use token_server::change::Change;
 use token_server::event::ServerEvent;
 use token_server::server::Server;
 
@@ -186,9 +188,18 @@ fn boxed(alloc: Global, server: Server) -> Result<Box<Server>, StepError> {
     Ok(Box::new(alloc, server)?)
 }
 
+fn begun(alloc: Global, shape: Shape) -> Result<Box<Server>, StepError>
+    requires { 2 ≤ shape.files }
+{
+    boxed(alloc, Server::new(alloc, shape, 2)?)
+}
+
 fn begins(alloc: Global) -> Result<Box<Server>, Fail> {
     let shape = Shape::new(2, 4, Policy::Wide)?;
-    Ok(boxed(alloc, Server::new(alloc, shape, 2)?)?)
+    match begun(alloc, shape) {
+        Ok(server) => Ok(server),
+        Err(_) => Ok(begun(alloc, shape)?),
+    }
 }
 
 // What the event gives.
@@ -201,16 +212,45 @@ fn stepped(
     Ok((boxed(alloc, next)?, outcome))
 }
 
-// Goes on from what the event gives; whether this is what it must be.
-fn takes(alloc: Global, server: &mut Box<Server>, expected: &Move) -> Result<bool, StepError> {
-    let (next, outcome) = stepped(alloc, server, &expected.0)?;
+// The same, asked again where a request for memory is refused.
+fn stepped_again(
+    alloc: Global,
+    server: &Server,
+    event: &ServerEvent,
+) -> Result<(Box<Server>, Outcome), StepError> {
+    match stepped(alloc, server, event) {
+        Ok(next) => Ok(next),
+        Err(_) => stepped(alloc, server, event),
+    }
+}
+
+// What the event will do, planned again where a request for memory is refused.
+fn planned_again(alloc: Global, server: &Server, event: &ServerEvent) -> Result<Change, StepError>
+    ensures { IfOk result (λ change. Fits server.now change.edit) }
+{
+    match server.plan(alloc, event) {
+        Ok(change) => Ok(change),
+        Err(_) => server.plan(alloc, event),
+    }
+}
+
+// Goes on by what was planned; whether this is what it must be.
+fn goes_on(alloc: Global, server: &mut Server, expected: &Move) -> Result<bool, StepError> {
+    let change = planned_again(alloc, server, &expected.0)?;
+    let outcome = server.apply(change);
+    Ok(has_sent(&outcome, &expected.1))
+}
+
+// Goes on from what the event gives; whether this is what it must be, planned or not.
+fn takes(alloc: Global, server: &mut Server, expected: &Move) -> Result<bool, StepError> {
+    let (next, outcome) = stepped_again(alloc, server, &expected.0)?;
     let changes = !next.same(server);
-    *server = next;
-    Ok(changes == expected.2 && has_sent(&outcome, &expected.1))
+    let is_planned = goes_on(alloc, server, expected)? && next.same(server);
+    Ok(is_planned && changes == expected.2 && has_sent(&outcome, &expected.1))
 }
 
 // Whether each event comes to what it must.
-fn take(alloc: Global, server: &mut Box<Server>, moves: &[Move]) -> Result<bool, StepError> {
+fn take(alloc: Global, server: &mut Server, moves: &[Move]) -> Result<bool, StepError> {
     for expected in moves {
         if !takes(alloc, server, expected)? {
             return Ok(false);
@@ -220,7 +260,7 @@ fn take(alloc: Global, server: &mut Box<Server>, moves: &[Move]) -> Result<bool,
 }
 
 // Whether an answer with another number, or of another kind, ends nothing, and a request goes on once its turn comes.
-fn grants(alloc: Global, server: &mut Box<Server>) -> Result<bool, StepError> {
+fn grants(alloc: Global, server: &mut Server) -> Result<bool, StepError> {
     let moves = [
         (ServerEvent::Resend, None, false),
         (request(2, HELD), Some(grant(1, HELD)), true),
@@ -235,7 +275,7 @@ fn grants(alloc: Global, server: &mut Box<Server>) -> Result<bool, StepError> {
 }
 
 // Whether an answer that names another call ends none, and the holder is then asked again.
-fn denies(alloc: Global, server: &mut Box<Server>) -> Result<bool, StepError> {
+fn denies(alloc: Global, server: &mut Server) -> Result<bool, StepError> {
     let moves = [
         (request(2, ASKS), Some(revoke(3)), true),
         (freed(1), None, false),
@@ -250,7 +290,7 @@ fn denies(alloc: Global, server: &mut Box<Server>) -> Result<bool, StepError> {
 }
 
 // Whether a call that waits is asked for as it was first, when it asks again, when locks may be gone and at a resend.
-fn puts_off(alloc: Global, server: &mut Box<Server>) -> Result<bool, StepError> {
+fn puts_off(alloc: Global, server: &mut Server) -> Result<bool, StepError> {
     let moves = [
         (asks(2, ASKS, Urgency::Waits, LOW), Some(revoke(5)), true),
         (conflict(5, ASKS), None, true),
@@ -274,6 +314,34 @@ fn an_answer_ends_what_it_names(rt: HostRuntime) -> Result<(), Fail> {
     let mut server = begins(alloc)?;
     assert!(rt; grants(alloc, &mut server)? && denies(alloc, &mut server)?);
     assert!(rt; puts_off(alloc, &mut server)? && is_copied(&server)?);
+    Ok(())
+}
+
+// Whether a call that waits is forgotten with its node, and a request that stands there is not taken again.
+fn learns(alloc: Global, server: &mut Server) -> Result<bool, StepError> {
+    let learn = ServerEvent::Learn {
+        node: 2,
+        incarnation: 1,
+    };
+    let moves = [
+        (request(2, ASKS), None, false),
+        (learn, None, true),
+        (ServerEvent::Resend, Some(revoke(8)), false),
+        (request(2, ASKS), None, false),
+        (released(8), None, true),
+        (ServerEvent::Resend, None, false),
+    ];
+    take(alloc, server, &moves)
+}
+
+// Where one request for memory is refused, `plan` and `step` leave the server as it is, each then gives what it would have
+// given, and `apply` needs none. `scripts/refused-memory` refuses the requests of the tests named so, one after the other.
+#[test]
+fn keeps_what_it_had(rt: HostRuntime) -> Result<(), Fail> {
+    let alloc = rt.alloc();
+    let mut server = begins(alloc)?;
+    assert!(rt; grants(alloc, &mut server)? && denies(alloc, &mut server)?);
+    assert!(rt; puts_off(alloc, &mut server)? && learns(alloc, &mut server)?);
     Ok(())
 }
 
