@@ -1,0 +1,3 @@
+mod Askers
+mod InPhases
+mod SameCommands

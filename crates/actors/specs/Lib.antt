@@ -1,4 +1,5 @@
 pub mod Numbers
 pub mod Clients
+pub mod Lines
 pub mod Runs
 pub mod Weathers

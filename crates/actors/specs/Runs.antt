@@ -1,33 +1,34 @@
 -- What came of a script on threads.
-use Rattle.std.specs.Prelude.{◌≡◌, ℕ, ◌≤◌, List, length, map}
-use Rattle.std.specs.List.Sorted.{IsNonDecreasingBy, IsPermutation}
+use Rattle.std.specs.Prelude.{◌≡◌, ◌≤◌, List, All, filter_map, length}
 use Rattle.book.specs.Fields.{ReceiptFields}
 use Rattle.cluster_core.specs.Histories.{HasOneHistory}
 use Rattle.cluster_core.specs.Journals.{JournalFields}
 use Rattle.cluster_core.specs.World.{journal_limit}
 use Rattle.lockscript.specs.declared.refused_line.RefusedLine.{RefusedLine}
-use Rattle.messages.specs.Shapes.{ShapeFields}
+use Rattle.lockscript.specs.Scripts.{ScriptFields}
+use Rattle.actors.specs.declared.played_line.PlayedLine.{PlayedLine}
+use Rattle.actors.specs.Lines.{AreLinesOf, ArePhases, Fits, receipt_in, refused_in}
 
--- the journal of the run, the receipts of the calls that were answered, and the refused lines
+-- the journal of the run, the script's lines with what each came to, the receipts of the calls that were answered, and the refused lines
 pub record ThreadRunFields : Type 0 where
   pub journal : JournalFields
+  pub lines : List PlayedLine
   pub receipts : List ReceiptFields
   pub refused : List RefusedLine
 
--- the receipts of lines, each with the number of its line, in order of these
-pub record AreOfLines (by_line : List (ℕ × ReceiptFields)) (receipts : List ReceiptFields) : Type 0 where
-  pub sorted : List (ℕ × ReceiptFields)
-  pub same : IsPermutation by_line sorted
-  pub rising : IsNonDecreasingBy (λ one. one.0) sorted
-  pub values : receipts ≡ map (λ one. one.1) sorted
+-- the run is of the script: its cluster is the script's, each line came to what it may, the lines made the entries that were asked for, each phase stands after the one before, and the receipts and the refused lines are theirs, in order of the lines
+pub record IsOfScript (script : ScriptFields) (run : ThreadRunFields) : Type 0 where
+  pub shape : run.journal.shape ≡ script.shape
+  pub lines : AreLinesOf script.lines run.journal.entries run.lines
+  pub fit : All (λ l. Fits l.line.command l.outcome) run.lines
+  pub phases : ArePhases run.lines
+  pub receipts : run.receipts ≡ filter_map receipt_in run.lines
+  pub refused : run.refused ≡ filter_map refused_in run.lines
 
--- the same refused lines, in order of their numbers
-pub record AreInOrder (refused lines : List RefusedLine) : Type 0 where
-  pub same : IsPermutation refused lines
-  pub rising : IsNonDecreasingBy (λ one. one.line) lines
-
--- the journal of a run of a cluster of this shape, with one history, which has no room for another entry
-pub record IsFullJournal (shape : ShapeFields) (journal : JournalFields) : Type 0 where
-  pub of_shape : journal.shape ≡ shape
+-- the journal of a run of the script's cluster, with one history, which has no room for another entry: what it was asked for is of lines of the script, of each who asks in their order
+pub record IsFullJournal (script : ScriptFields) (journal : JournalFields) : Type 0 where
+  pub of_shape : journal.shape ≡ script.shape
   pub one_table : HasOneHistory journal.shape journal.entries
   pub full : journal_limit ≤ length journal.entries
+  pub lines : List PlayedLine
+  pub are_of : AreLinesOf script.lines journal.entries lines

@@ -24,10 +24,11 @@ pub enum CallError {
     /// The journal has as many entries as it may.
     #[error("the journal is full")]
     JournalFull,
-    /// The node was declared failed or the process ended while the call was open.
+    /// The node took the call, which is the entry at this position, from 1, and was declared failed or its
+    /// process ended while the call was open.
     #[error("the call ended without a reply")]
-    Killed,
-    /// The worker ended before it took the call.
+    Killed { call_at: u32 },
+    /// The worker ended before it answered the call.
     #[error("the worker has ended")]
     Closed,
     /// The node has no number left.
@@ -76,7 +77,7 @@ impl CallError {
             CallError::Stranger => 14,
             CallError::Fenced => 15,
             CallError::JournalFull => 16,
-            CallError::Killed => 17,
+            CallError::Killed { .. } => 17,
             CallError::Closed => 18,
             CallError::Spent => 19,
             CallError::Stale => 20,

@@ -41,6 +41,7 @@ pub struct Cluster<'a> {
     mailboxes: &'a [Mailbox],
     places: &'a [Mutex<Place>],
     rebuilt: &'a [Mutex<Option<Rebuilt>>],
+    stop: &'a AtomicU64,
     ghost within: { IsNumber most_nodes nodes },
     ghost has_mailboxes: { nodes ≤ length mailboxes.now },
     ghost has_places: { length places.now ≡ nodes },
@@ -55,6 +56,12 @@ impl<'a> Cluster<'a> {
     // Where the token server of the file stands as it begins again.
     fn server_place(&self, file: u16) -> Option<&'a Mutex<Option<Rebuilt>>> {
         self.rebuilt.get(usize::from(file).checked_sub(1)?)
+    }
+
+    /// The workers end, before they take another letter. Calls that are open then, or made later, are answered
+    /// `Closed`.
+    pub(crate) fn stop(&self) {
+        self.stop.store(1, Ordering::SeqCst);
     }
 
     // The mailbox of the token server of the file.
@@ -108,19 +115,26 @@ impl<'a> Cluster<'a> {
     }
 
     /// The node that was declared failed begins again. Its worker takes the new seat before its next
-    /// letter.
+    /// letter. The position of the entry is answered, from 1.
     ///
     /// # Errors
     /// Those of `Book::restart`.
-    pub fn restart<R: Wait>(&self, rt: &R, node: u8) -> Result<(), Refused> {
+    pub fn restart<R: Wait>(&self, rt: &R, node: u8) -> Result<u32, Refused> {
         let Some(place) = self.place(node) else {
-            self.book.lock(rt).restart(self.alloc, node)?;
-            return Ok(());
+            let (_, position) = self.restart_in_book(rt, node)?;
+            return Ok(position);
         };
         let mut place = place.lock(rt);
-        let seat = self.book.lock(rt).restart(self.alloc, node)?;
+        let (seat, position) = self.restart_in_book(rt, node)?;
         place.begin(seat);
-        Ok(())
+        Ok(position)
+    }
+
+    // The node's new seat, and the position of the entry.
+    fn restart_in_book<R: Wait>(&self, rt: &R, node: u8) -> Result<(Seat, u32), Refused> {
+        let mut book = self.book.lock(rt);
+        let seat = book.restart(self.alloc, node)?;
+        Ok((seat, book.len()))
     }
 
     /// Declares the token server of the file failed.
@@ -134,28 +148,31 @@ impl<'a> Cluster<'a> {
     }
 
     /// The token server of the file, which was declared failed, begins again. Its worker takes the new
-    /// seat before its next letter, and sends what it asks the nodes.
+    /// seat before its next letter, and sends what it asks the nodes. The position of the entry is
+    /// answered, from 1.
     ///
     /// # Errors
     /// Those of `Book::start_server`.
-    pub fn start_server<R: Wait>(&self, rt: &R, file: u16) -> Result<(), Refused> {
-        self.rebuild(rt, file)?;
+    pub fn start_server<R: Wait>(&self, rt: &R, file: u16) -> Result<u32, Refused> {
+        let position = self.rebuild(rt, file)?;
         if let Some(mailbox) = self.server_mailbox(file) {
             mailbox.send_surely(rt, Letter::Begin);
         }
-        Ok(())
+        Ok(position)
     }
 
-    // The token server of the file begins again, and stands where its worker finds it.
-    fn rebuild<R: Wait>(&self, rt: &R, file: u16) -> Result<(), Refused> {
+    // The token server of the file begins again, and stands where its worker finds it: the position of the
+    // entry.
+    fn rebuild<R: Wait>(&self, rt: &R, file: u16) -> Result<u32, Refused> {
         let Some(place) = self.server_place(file) else {
-            self.book.lock(rt).start_server(self.alloc, file)?;
-            return Ok(());
+            let (_, stamp) = self.book.lock(rt).start_server(self.alloc, file)?;
+            return Ok(stamp.position());
         };
         let mut place = place.lock(rt);
         let (seat, stamp) = self.book.lock(rt).start_server(self.alloc, file)?;
+        let position = stamp.position();
         *place = Some(Rebuilt { seat, stamp });
-        Ok(())
+        Ok(position)
     }
 }
 
@@ -276,6 +293,7 @@ fn run_begun<
         mailboxes: mailboxes.as_slice(),
         places: places.as_slice(),
         rebuilt: rebuilt.as_slice(),
+        stop: &stop,
     };
     run_scope(rt, &shared, workers, &cluster, body)
 }
@@ -299,7 +317,7 @@ fn run_scope<
     thread::scope(thread::scope_env(), rt, |scope| {
         let all = start_all(scope, rt, shared, workers);
         let made = if all { Some(body(cluster)) } else { None };
-        shared.stop.store(1, Ordering::SeqCst);
+        cluster.stop();
         made
     })
 }

@@ -1,20 +1,24 @@
 //! The actors of a cluster on threads, each with a mailbox, and the clients that call them.
 #![tactic(auto)]
 
+pub mod asked;
 pub mod call_error;
 pub mod client;
 pub mod cluster;
+mod full;
 pub mod gate;
 mod held_back;
+mod known;
 mod letter;
+pub mod line_outcome;
 mod open_calls;
-mod outcomes;
 mod outgoing;
 mod pacer;
 mod part;
 mod patience;
 mod phases;
 mod place;
+pub mod played_line;
 mod rebuilt;
 mod resends;
 pub mod run_error;

@@ -2,6 +2,7 @@
 ghost use Rattle.std.specs.Prelude.{◌≡◌, ◌<◌, ◌≤◌, vec_len, OnOk};
 ghost use Rattle.std.specs.Vec.{vec_capacity};
 
+use crate::call_error::CallError;
 use crate::letter::Answer;
 use crate::patience::Patience;
 use book::receipt::Receipt;
@@ -33,6 +34,13 @@ impl OpenCall {
             back,
             patience: Patience::new(),
             blocked_here,
+        }
+    }
+
+    /// That the call ended without a reply.
+    pub(crate) fn killed(&self) -> CallError {
+        CallError::Killed {
+            call_at: self.stamp.position(),
         }
     }
 

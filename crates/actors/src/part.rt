@@ -1,19 +1,20 @@
 //! The part of a process in a phase.
 use crate::call_error::CallError;
 use crate::client::Client;
-use crate::outcomes::Outcomes;
+use crate::line_outcome::LineOutcome;
 use crate::stop::Stop;
 use model::op::Op;
 use std::alloc::Global;
 use std::sync::Wait;
 
-/// The calls of a process in a phase, with the numbers of their lines, its client, and what came of
-/// the calls so far.
+/// The calls of a process in a phase, each with the index of its line in the script, its client, what the
+/// calls so far came to, and why no more are made, if that was met.
 #[derive(Drop)]
 pub(crate) struct Part<'a> {
     pub(crate) client: Client<'a>,
-    pub(crate) calls: Vec<(u32, Op)>,
-    pub(crate) outcomes: Outcomes,
+    pub(crate) calls: Vec<(usize, Op)>,
+    pub(crate) outcomes: Vec<(usize, LineOutcome)>,
+    pub(crate) stopped: Option<Stop>,
 }
 
 impl<'a> Part<'a> {
@@ -22,40 +23,43 @@ impl<'a> Part<'a> {
         Part {
             client,
             calls: Vec::new(alloc),
-            outcomes: Outcomes::new(alloc),
+            outcomes: Vec::new(alloc),
+            stopped: None,
         }
     }
 
-    /// Makes the calls in order, each after the reply to the one before.
-    pub(crate) fn play<R: Wait>(self, rt: &R) -> Result<Part<'a>, Stop> {
+    /// Makes the calls in order, each after the reply to the one before. Whether all were made.
+    pub(crate) fn play<R: Wait>(&mut self, rt: &R) -> bool {
         let Part {
-            mut client,
-            calls,
-            mut outcomes,
-        } = self;
-        for (line, op) in calls.iter() {
-            make(rt, &mut client, *line, *op, &mut outcomes)?;
-        }
-        Ok(Part {
             client,
             calls,
             outcomes,
-        })
+            stopped,
+        } = self;
+        for (index, op) in calls.iter() {
+            if let Err(why) = make(rt, client, *index, *op, outcomes) {
+                *stopped = Some(why);
+                return false;
+            }
+        }
+        true
     }
 }
 
-// Makes the call of a line, and keeps what came of it, unless that ends the run.
+// Makes the call of the line at the index, and keeps what it came to, unless that ends the run.
 fn make<R: Wait>(
     rt: &R,
     client: &mut Client<'_>,
-    line: u32,
+    index: usize,
     op: Op,
-    outcomes: &mut Outcomes,
+    outcomes: &mut Vec<(usize, LineOutcome)>,
 ) -> Result<(), Stop> {
-    match client.call(rt, op) {
-        Ok(receipt) => outcomes.receive(line, receipt),
-        Err(CallError::NoMemory) => Err(Stop::NoMemory),
-        Err(CallError::JournalFull) => Err(Stop::JournalFull),
-        Err(why) => outcomes.refuse(line, why.number()),
-    }
+    let outcome = match client.call(rt, op) {
+        Ok(receipt) => LineOutcome::Answered(receipt),
+        Err(CallError::NoMemory) => return Err(Stop::NoMemory),
+        Err(CallError::JournalFull) => return Err(Stop::JournalFull),
+        Err(why) => LineOutcome::Denied(why),
+    };
+    outcomes.push((index, outcome))?;
+    Ok(())
 }

@@ -1,19 +1,27 @@
 //! What came of a script on threads.
-ghost use Rattle.std.specs.Prelude.{◌≡◌, IfOk, map};
-ghost use Rattle.actors.specs.Runs.{AreInOrder, AreOfLines};
+ghost use Rattle.std.specs.Prelude.{◌≡◌, ◌↔◌, true, All, IfOk, IsTrue, filter_map, map};
+ghost use Rattle.lockscript.specs.Scripts.{LineFields};
+ghost use Rattle.actors.specs.Lines.{AreLinesOf, Fits, receipt_in, refused_in};
+ghost use Rattle.actors.specs.Runs.{IsOfScript};
 
-use crate::outcomes::Outcomes;
+use crate::asked::are_made;
+use crate::known::are_phases;
+use crate::played_line::PlayedLine;
 use book::receipt::Receipt;
 use cluster_core::journal::Journal;
 use lockscript::refused_line::RefusedLine;
+use lockscript::script::Script;
+use lockscript::script_line::ScriptLine;
+use messages::entry::Entry;
 use std::alloc::{AllocError, Global};
 use std::marker::Model;
 
-/// What came of a script on threads: the journal, the receipts of the calls that were answered, and the
-/// lines that were refused.
+/// What came of a script on threads: the journal, the script's lines with what each came to, the receipts
+/// of the calls that were answered, and the lines that were refused.
 #[derive(Drop)]
 pub struct ThreadRun {
     journal: Journal,
+    lines: Vec<PlayedLine>,
     receipts: Vec<Receipt>,
     refused: Vec<RefusedLine>,
 }
@@ -23,25 +31,37 @@ impl Model for ThreadRun {
 
     ghost Value = { ThreadRunFields };
 
-    ghost view = { λ r. record { journal = r.journal; receipts = r.receipts.items; refused = r.refused.items } };
+    ghost view = { λ r. record { journal = r.journal; lines = r.lines.items; receipts = r.receipts.items; refused = r.refused.items } };
 }
 
 impl ThreadRun {
-    /// Puts receipts and refusals in order of their lines.
+    /// What came of the script by these lines.
+    ///
+    /// # Errors
+    /// `AllocError` where a request for memory was refused, or the lines are not those of the script and the
+    /// journal, in phases: a lock says nothing of what it gives back, so all is looked at here.
     pub(crate) fn new(
         alloc: Global,
-        outcomes: Outcomes,
+        script: &Script,
+        lines: Vec<PlayedLine>,
         journal: Journal,
     ) -> Result<ThreadRun, AllocError>
+        requires { journal.shape ≡ script.now.shape }
         ensures journal { IfOk result (λ run. run.journal ≡ journal) }
-        ensures receipts { IfOk result (λ run. AreOfLines outcomes.receipts.items run.receipts) }
-        ensures refused { IfOk result (λ run. AreInOrder outcomes.refused.items run.refused) }
+        ensures of_script { IfOk result (IsOfScript script.now) }
     {
-        let Outcomes { receipts, refused } = outcomes;
+        let (told, entries) = (lines.as_slice(), journal.entries());
+        let are_of = are_lines_of(alloc, script.lines(), entries, told)?;
+        if !are_of || !all_fit(told) || !are_phases(told) {
+            return Err(AllocError);
+        }
+        let receipts = receipts_in(alloc, told)?;
+        let refused = refused_in(alloc, told)?;
         Ok(ThreadRun {
             journal,
-            receipts: without_lines(alloc, receipts)?,
-            refused: in_order(refused)?,
+            lines,
+            receipts,
+            refused,
         })
     }
 
@@ -50,6 +70,13 @@ impl ThreadRun {
         ensures { result.now ≡ self.now.journal }
     {
         &self.journal
+    }
+
+    /// The lines of the script with what each came to, in order.
+    pub fn lines(&self) -> &[PlayedLine]
+        ensures { result.now ≡ self.now.lines }
+    {
+        self.lines.as_slice()
     }
 
     /// The receipts of the calls that were answered, in order of their lines.
@@ -67,27 +94,59 @@ impl ThreadRun {
     }
 }
 
-// The receipts in order of their lines, without these.
-fn without_lines(alloc: Global, by_line: Vec<(u32, Receipt)>) -> Result<Vec<Receipt>, AllocError>
-    ensures { IfOk result (λ receipts. AreOfLines by_line.items receipts.items) }
+// Whether each line may have come to what it says.
+fn all_fit(lines: &[PlayedLine]) -> bool
+    ensures { IsTrue result → All (λ l. Fits l.line.command l.outcome) lines.now }
 {
-    let mut by_line = by_line;
-    by_line.sort_by_key(|one| one.0)?;
-    receipts_in(alloc, by_line.as_slice())
+    lines.iter().all(|line| line.fits())
 }
 
-// The receipts, without the lines.
-fn receipts_in(alloc: Global, by_line: &[(u32, Receipt)]) -> Result<Vec<Receipt>, AllocError>
-    ensures { IfOk result (λ receipts. receipts.items ≡ map (λ one. one.1) by_line.now) }
+/// Whether the lines are those of the script, and made the entries that were asked for.
+pub(crate) fn are_lines_of(
+    alloc: Global,
+    script: &[ScriptLine],
+    entries: &[Entry],
+    lines: &[PlayedLine],
+) -> Result<bool, AllocError>
+    ensures { IfOk result (λ are. are ≡ true → AreLinesOf script.now entries.now lines.now) }
 {
-    by_line.iter().map(|one| one.1).collect(alloc)
+    let bare = bare_lines(alloc, lines)?;
+    if !same_lines(bare.as_slice(), script) {
+        return Ok(false);
+    }
+    are_made(alloc, entries, lines)
 }
 
-// The refused lines in order of their numbers.
-fn in_order(refused: Vec<RefusedLine>) -> Result<Vec<RefusedLine>, AllocError>
-    ensures { IfOk result (λ lines. AreInOrder refused.items lines.items) }
+// The lines, without what they came to.
+fn bare_lines(alloc: Global, lines: &[PlayedLine]) -> Result<Vec<ScriptLine>, AllocError>
+    ensures { IfOk result (λ bare. bare.items ≡ map (λ l. l.line) lines.now) }
 {
-    let mut lines = refused;
-    lines.sort_by_key(|refused| refused.line)?;
-    Ok(lines)
+    lines.iter().map(|played| played.line).collect(alloc)
+}
+
+// Whether both are the same lines.
+fn same_lines(one: &[ScriptLine], other: &[ScriptLine]) -> bool
+    ensures { IsTrue result ↔ (one.now ≡ other.now) }
+{
+    one == other
+}
+
+// The receipts of the lines that have one.
+fn receipts_in(alloc: Global, lines: &[PlayedLine]) -> Result<Vec<Receipt>, AllocError>
+    ensures { IfOk result (λ receipts. receipts.items ≡ filter_map receipt_in lines.now) }
+{
+    lines
+        .iter()
+        .filter_map(|line| line.receipt())
+        .collect(alloc)
+}
+
+// The lines that were refused.
+fn refused_in(alloc: Global, lines: &[PlayedLine]) -> Result<Vec<RefusedLine>, AllocError>
+    ensures { IfOk result (λ refused. refused.items ≡ filter_map refused_in lines.now) }
+{
+    lines
+        .iter()
+        .filter_map(|line| line.refused())
+        .collect(alloc)
 }

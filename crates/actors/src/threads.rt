@@ -1,21 +1,21 @@
 //! Scripts on threads.
 ghost use Rattle.std.specs.Prelude.{◌≡◌, ◌↔◌, Some, IsErrOf, IsTrue, IfOk, length};
-ghost use Rattle.actors.specs.Runs.{IsFullJournal};
+ghost use Rattle.actors.specs.Runs.{IsFullJournal, IsOfScript};
 ghost use Rattle.actors.specs.declared.run_error.RunError.{RunError};
 ghost use Rattle.cluster_core.specs.Histories.{HasOneHistory};
 ghost use Rattle.cluster_core.specs.Journals.{JournalFields};
 ghost use Rattle.lockscript.specs.ThreadLines.{bad_line};
 
 use crate::cluster::{Cluster, with_cluster};
+use crate::full::is_full;
 use crate::gate::Gate;
-use crate::outcomes::Outcomes;
 use crate::phases::Phases;
+use crate::played_line::PlayedLine;
 use crate::run_error::RunError;
 use crate::seeded::Seeded;
 use crate::stop::Stop;
 use crate::thread_run::ThreadRun;
 use cluster_core::journal::Journal;
-use cluster_core::world::JOURNAL_LIMIT;
 use lockscript::script::Script;
 use lockscript::script_line::ScriptLine;
 use messages::shape::Shape;
@@ -42,39 +42,41 @@ pub fn run_threads<G: Gate + Sync, R: Threads + Wait + Clock + Sync>(
     gate: &G,
     seed: u32,
 ) -> Result<ThreadRun, RunError>
-    ensures shape { IfOk result (λ run. run.journal.shape ≡ script.now.shape) }
+    // The run is of the script: each line has just one outcome, which is of what it asks, and the calls,
+    // failures and starts in the journal are those of its lines.
+    ensures of_script { IfOk result (IsOfScript script.now) }
 
     // One table explains every reply, and ends as what the nodes hold.
     ensures one_table { IfOk result (λ run. HasOneHistory run.journal.shape run.journal.entries) }
 
-    // Where it needs more entries, the journal of a run of the script's cluster has no room for another.
-    ensures full { (journal : JournalFields) → IsErrOf result (RunError.JournalFull journal) → IsFullJournal script.now.shape journal }
+    // Where it needs more entries, the journal of a run of the script's cluster has no room for another,
+    // and the calls, failures and starts in it are of lines of the script.
+    ensures full { (journal : JournalFields) → IsErrOf result (RunError.JournalFull journal) → IsFullJournal script.now journal }
     ensures bad_line { (number : _) → IsErrOf result (RunError.BadLine number) ↔ (bad_line script.now.lines ≡ Some number) }
 {
     if let Some(number) = script.bad_line_on_threads() {
         return Err(RunError::BadLine(number));
     }
-    let Ok((outcomes, journal)) = run_script(rt, alloc, script, gate, seed) else {
+    let Ok((lines, journal)) = run_script(rt, alloc, script, gate, seed) else {
         return Err(RunError::NoMemory);
     };
-    match outcomes {
-        Ok(outcomes) => Ok(ThreadRun::new(alloc, outcomes, journal)?),
-        // A lock says nothing of the book that it gives back, so the entries are counted.
-        Err(Stop::JournalFull) if journal.entries().len() >= JOURNAL_LIMIT as usize => {
+    match lines {
+        Ok(lines) => Ok(ThreadRun::new(alloc, script, lines, journal)?),
+        Err(Stop::JournalFull) if is_full(alloc, script, &journal) => {
             Err(RunError::JournalFull(journal))
         }
         Err(_) => Err(RunError::NoMemory),
     }
 }
 
-// What came of the lines of a script that has none of another kind, with the journal.
+// The lines of a script that has none of another kind, with what they came to, and the journal.
 fn run_script<G: Gate + Sync, R: Threads + Wait + Clock + Sync>(
     rt: &R,
     alloc: Global,
     script: &Script,
     gate: &G,
     seed: u32,
-) -> Result<(Result<Outcomes, Stop>, Journal), AllocError>
+) -> Result<(Result<Vec<PlayedLine>, Stop>, Journal), AllocError>
     ensures shape { IfOk result (λ run. run.1.shape ≡ script.now.shape) }
     ensures one_table { IfOk result (λ run. HasOneHistory run.1.shape run.1.entries) }
 {
@@ -86,7 +88,7 @@ fn run_script<G: Gate + Sync, R: Threads + Wait + Clock + Sync>(
     });
     match run {
         // A lock says nothing of the book that it gives back, so the shape is looked at.
-        Ok((outcomes, journal)) if same_shape(&journal.shape(), &shape) => Ok((outcomes, journal)),
+        Ok((lines, journal)) if same_shape(&journal.shape(), &shape) => Ok((lines, journal)),
         _ => Err(AllocError),
     }
 }
@@ -115,11 +117,11 @@ fn run_lines<R: Threads + Wait + Sync>(
     alloc: Global,
     cluster: &Cluster<'_>,
     lines: &[ScriptLine],
-) -> Result<Outcomes, Stop> {
+) -> Result<Vec<PlayedLine>, Stop> {
     let mut phases = Phases::new(alloc, cluster);
     for line in lines {
         phases.take(rt, line)?;
     }
     phases.join(rt)?;
-    Ok(phases.into_outcomes())
+    Ok(phases.into_lines())
 }

@@ -92,7 +92,7 @@ impl<W: Weather> Worker<W> {
         match self.seat.actor() {
             Actor::Node(node) => {
                 if let Some(seat) = shared.new_seat(rt, node) {
-                    self.end_all(rt, shared.alloc, CallError::Killed);
+                    self.kill_all(rt, shared.alloc);
                     self.seat = seat;
                     self.over = None;
                 }
@@ -207,7 +207,7 @@ impl<W: Weather> Worker<W> {
     {
         // A process that has an open call only exits, which ends the call without a reply.
         if let Some(ended) = self.waiting.take_of(pid) {
-            answer(rt, &ended.back, Err(CallError::Killed));
+            answer(rt, &ended.back, Err(ended.killed()));
         }
         match Receipt::of(&stamp, &stamp) {
             Some(receipt) => answer(rt, &back, Ok(receipt)),
@@ -334,13 +334,19 @@ impl<W: Weather> Worker<W> {
 
     // Each open call ends where the refusal says that no step of the seat is taken any more.
     fn end_at<R: Wait>(&mut self, rt: &R, alloc: Global, refusal: CallError) {
-        let why = match refusal {
-            CallError::Fenced => CallError::Killed,
-            CallError::JournalFull => CallError::JournalFull,
+        match refusal {
+            CallError::Fenced => self.kill_all(rt, alloc),
+            CallError::JournalFull => self.end_all(rt, alloc, refusal),
             _ => return,
-        };
+        }
         self.over = Some(refusal);
-        self.end_all(rt, alloc, why);
+    }
+
+    // Each open call ends without a reply, as its node was declared failed.
+    fn kill_all<R: Wait>(&mut self, rt: &R, alloc: Global) {
+        for call in self.waiting.take_all(alloc) {
+            answer(rt, &call.back, Err(call.killed()));
+        }
     }
 
     // Each open call ends without a reply.

@@ -1,6 +1,6 @@
 -- Scripts on threads: which lines they may have, and what is shown of their runs.
 use Rattle.std.specs.Prelude.{◌≡◌, ◌≢◌, ℕ, List, ◌++◌, length, codes, decimal, string_bytes, Option}
-use Rattle.actors.specs.Runs.{IsFullJournal, ThreadRunFields}
+use Rattle.actors.specs.Runs.{IsFullJournal, IsOfScript, ThreadRunFields}
 use Rattle.book.specs.Receipts as receipts
 use Rattle.cluster_core.specs.Journals.{JournalFields}
 use Rattle.cluster_core.specs.Runs.{Leads}
@@ -19,15 +19,15 @@ use Rattle.replay.specs.Stores.{HasText}
 abbrev pub HasThreadScript : (Option (List ℕ) → Type 0) → ScriptFields → Type 0
 HasThreadScript Holds s = HasText Holds (λ text. IsForThreads text s)
 
--- a run of a cluster of the script's shape leaves its journal no room for another entry
+-- there is a run of the script's cluster, its calls, failures and starts by lines of the script, that leaves its journal no room for another entry; resends alone make one
 abbrev pub HasFullJournal : ScriptFields → Type 0
-HasFullJournal s = (j : JournalFields) × IsFullJournal s.shape j
+HasFullJournal s = (j : JournalFields) × IsFullJournal s j
 
 -- the file writes such a script
 abbrev pub IsTaken : (Option (List ℕ) → Type 0) → Type 0
 IsTaken Holds = (s : ScriptFields) × HasThreadScript Holds s
 
--- and a run of a cluster of its shape fills the journal
+-- and a run of it fills the journal
 abbrev pub FillsOnThreads : (Option (List ℕ) → Type 0) → Type 0
 FillsOnThreads Holds = (s : ScriptFields) × HasThreadScript Holds s × HasFullJournal s
 
@@ -52,9 +52,9 @@ pub record Tells (run : ThreadRunFields) (t : ThreadedFields) : Type 0 where
 abbrev pub IsThreaded : ThreadedFields → Type 0
 IsThreaded t = (run : ThreadRunFields) × Tells run t
 
--- of a run of a cluster of the script's shape
+-- of a run of the script
 abbrev pub IsToldOf : ScriptFields → ThreadedFields → Type 0
-IsToldOf s t = (run : ThreadRunFields) × (run.journal.shape ≡ s.shape) × Tells run t
+IsToldOf s t = (run : ThreadRunFields) × IsOfScript s run × Tells run t
 
 -- the file writes the script of that run, and threads take its lines
 abbrev pub IsTold : (Option (List ℕ) → Type 0) → ThreadedFields → Type 0

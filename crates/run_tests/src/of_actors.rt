@@ -131,6 +131,51 @@ fn a_step_of_a_declared_node_is_not_taken(rt: HostRuntime) -> Result<(), Fail> {
 }
 
 #[test]
+fn a_call_waits_for_its_server_to_be_rebuilt(rt: HostRuntime) -> Result<(), Fail> {
+    let alloc = rt.alloc();
+    let shape = Shape::new(2, 1, Policy::Exact)?;
+    let weathers = vec![in alloc; Fair, Fair, Fair]?;
+    let (made, journal) = with_cluster(&rt, alloc, shape, &OpenGate, weathers, |cluster| {
+        let mut one = cluster.client(&rt, 1, 1).ok()?;
+        let mut two = cluster.client(&rt, 2, 1).ok()?;
+        let held = begin(&rt, &mut one, set(0, 10))?;
+        cluster.fail_server(&rt, 1).ok()?;
+        two.told(&held);
+        let (answered, begun) = thread::join(
+            &rt,
+            || begin(&rt, &mut two, set(20, 10)),
+            || {
+                thread::sleep(&rt, std::time::Duration::from_millis(50));
+                cluster.start_server(&rt, 1).ok()
+            },
+        );
+        Some((answered?, begun?))
+    })?;
+    let (receipt, begun) = made.ok_or("a receipt")?;
+    assert!(rt; journal.holds(&receipt));
+    assert!(rt; receipt.reply() == Reply::Done && receipt.reply_at() > begun);
+    Ok(())
+}
+
+// Whether the call ended without a reply, and is the wait of process 1 of node 2 where it says that it stands.
+fn is_wait_at(journal: &Journal, why: Option<CallError>) -> bool {
+    let Some(CallError::Killed { call_at }) = why else {
+        return false;
+    };
+    match journal.entries().get(call_at.saturating_sub(1) as usize) {
+        Some(entry) => matches!(
+            entry.event(),
+            Event::Call {
+                node: 2,
+                pid: 1,
+                op: Op::Wait { .. }
+            }
+        ),
+        None => false,
+    }
+}
+
+#[test]
 fn a_wait_ends_as_its_node_is_declared(rt: HostRuntime) -> Result<(), Fail> {
     let alloc = rt.alloc();
     let shape = Shape::new(2, 1, Policy::Wide)?;
@@ -155,11 +200,11 @@ fn a_wait_ends_as_its_node_is_declared(rt: HostRuntime) -> Result<(), Fail> {
         let mut again = cluster.client(&rt, 2, 1).ok()?;
         let receipt = again.call(&rt, Op::Spawn).ok()?;
         let old = two.call(&rt, Op::Spawn).err();
-        Some(([killed, fenced, refused, old], receipt))
+        Some((killed, [fenced, refused, old], receipt))
     })?;
-    let (errors, receipt) = made.ok_or("a receipt")?;
-    let fenced = Some(CallError::Fenced);
-    assert_eq!(rt; errors, [Some(CallError::Killed), fenced, fenced, fenced]);
+    let (killed, errors, receipt) = made.ok_or("a receipt")?;
+    assert_eq!(rt; errors, [Some(CallError::Fenced); 3]);
+    assert!(rt; is_wait_at(&journal, killed));
     assert!(rt; journal.holds(&receipt));
     assert_eq!(rt; receipt.call().incarnation, 2);
     assert_eq!(rt; receipt.call().number, 1);

@@ -1,0 +1,140 @@
+-- What the lines of a script come to on threads, and which entries of the journal they made.
+use Rattle.std.specs.Prelude.{◌≡◌, ℕ, ◌+◌, ◌-◌, ◌<◌, ◌≤◌, ◌==◌, ◌&&◌, nat_lt, Bool, true, false, List, Option, Some, None, filter, filter_map, map, slice_get}
+use Rattle.std.specs.Option.{option_map}
+use Rattle.std.specs.List.{enumerate_from}
+use Rattle.book.specs.Fields.{ReceiptFields}
+use Rattle.lockscript.specs.declared.refused_line.RefusedLine.{RefusedLine}
+use Rattle.lockscript.specs.declared.script_line.Command.{Command}
+use Rattle.lockscript.specs.declared.script_line.Command.TheVariants.{Call, Settle, Declare, Restart, FailServer, StartServer}
+use Rattle.lockscript.specs.Scripts.{LineFields}
+use Rattle.messages.specs.declared.entry.Entry.{Entry}
+use Rattle.messages.specs.declared.event.Event.{Event}
+use Rattle.messages.specs.declared.event.Event.TheVariants as event
+use Rattle.messages.specs.Refusals as refusals
+use Rattle.messages.specs.declared.refusal.Refused.{Refused as Refusal}
+use Rattle.messages.specs.declared.refusal.Refused.TheVariants as refusal
+use Rattle.actors.specs.declared.asked.Asked.{Asked}
+use Rattle.actors.specs.declared.call_error.CallError.{CallError}
+use Rattle.actors.specs.declared.call_error.CallError.TheVariants.{Busy, Stranger, Fenced, Killed, Spent}
+use Rattle.actors.specs.declared.line_outcome.LineOutcome.{LineOutcome}
+use Rattle.actors.specs.declared.line_outcome.LineOutcome.TheVariants.{Answered, Denied, Made, Refused, Settled}
+use Rattle.actors.specs.declared.played_line.PlayedLine.{PlayedLine}
+use Rattle.actors.specs.Numbers.{number_of}
+
+abbrev pub is_call : Command → Bool
+is_call (Call n pid op) = true
+is_call _ = false
+
+-- a failure or a start, of a node or of a token server
+abbrev pub is_change : Command → Bool
+is_change (Declare n) = true
+is_change (Restart n) = true
+is_change (FailServer f) = true
+is_change (StartServer f) = true
+is_change _ = false
+
+-- how a call is denied while the run goes on; one that ended without a reply is the entry at a position, from 1
+abbrev pub may_be_denied : CallError → Bool
+may_be_denied Busy = true
+may_be_denied Stranger = true
+may_be_denied Fenced = true
+may_be_denied Spent = true
+may_be_denied (Killed at) = nat_lt 0 at
+may_be_denied _ = false
+
+-- how a failure or a start is refused while the run goes on
+abbrev pub may_be_refused : Refusal → Bool
+may_be_refused refusal.NotAlive = true
+may_be_refused refusal.NotDead = true
+may_be_refused refusal.TooManyRestarts = true
+may_be_refused refusal.Stranger = true
+may_be_refused _ = false
+
+-- the line may come to this: a call has a receipt, of its process and of what it asks, or was denied; a failure or a start is an entry, by its position from 1, or was refused; `settle` is done
+abbrev pub Fits : Command → LineOutcome → Type 0
+Fits command (Answered r) = command ≡ Call r.call.node r.pid r.op
+Fits command (Denied why) = (is_call command ≡ true) × (may_be_denied why ≡ true)
+Fits command (Made at) = (is_change command ≡ true) × (0 < at)
+Fits command (Refused why) = (is_change command ≡ true) × (may_be_refused why ≡ true)
+Fits command Settled = command ≡ Settle
+
+abbrev pub receipt_of : LineOutcome → Option ReceiptFields
+receipt_of (Answered r) = Some r
+receipt_of _ = None
+
+abbrev pub code_of : LineOutcome → Option ℕ
+code_of (Denied why) = Some (number_of why)
+code_of (Refused why) = Some (refusals.number_of why)
+code_of _ = None
+
+abbrev pub receipt_in : PlayedLine → Option ReceiptFields
+receipt_in l = receipt_of l.outcome
+
+abbrev pub refused_in : PlayedLine → Option RefusedLine
+refused_in l = option_map (λ code. record { line = l.line.number; code = code }) (code_of l.outcome)
+
+-- where the call stands that ended without a reply
+abbrev pub killed_at : CallError → Option ℕ
+killed_at (Killed at) = Some at
+killed_at _ = None
+
+-- the position of the entry that the line made, from 1, if it made one
+abbrev pub begins : LineOutcome → Option ℕ
+begins (Answered r) = Some r.call_at
+begins (Denied why) = killed_at why
+begins (Made at) = Some at
+begins _ = None
+
+-- the position of the last entry of what the line came to: of a call that of its reply, or its own where it has none
+abbrev pub ends : LineOutcome → Option ℕ
+ends (Answered r) = Some r.reply_at
+ends (Denied why) = killed_at why
+ends (Made at) = Some at
+ends _ = None
+
+-- what the one came to stands before the entry that the other made
+abbrev pub Precedes : PlayedLine → PlayedLine → Type 0
+Precedes l m = (p q : ℕ) → ends l.outcome ≡ Some p → begins m.outcome ≡ Some q → p < q
+
+-- a line that is no call parts the lines into phases: what stands before it precedes it, and that and itself precede what stands behind it
+abbrev pub ArePhases : List PlayedLine → Type 0
+ArePhases lines = (i j k : ℕ) (l m n : PlayedLine) → i ≤ j → j ≤ k → i < k → slice_get lines i ≡ Some l → slice_get lines j ≡ Some m → slice_get lines k ≡ Some n → is_call m.line.command ≡ false → Precedes l n
+
+-- what the line asked for, with the index of the entry that it made, from 0
+abbrev pub made_by : PlayedLine → Option Asked
+made_by l = option_map (λ at. record { index = at - 1; command = l.line.command }) (begins l.outcome)
+
+-- what a line asked for that made this event, if such a line can
+abbrev pub asked_by : Event → Option Command
+asked_by (event.Call n pid op) = Some (Call n pid op)
+asked_by (event.Declare n) = Some (Declare n)
+asked_by (event.Restart n) = Some (Restart n)
+asked_by (event.FailServer f) = Some (FailServer f)
+asked_by (event.StartServer f) = Some (StartServer f)
+asked_by _ = None
+
+-- the same of an entry with its index
+abbrev pub asked_at : ℕ × Entry → Option Asked
+asked_at at = option_map (λ command. record { index = at.0; command = command }) (asked_by at.1.event)
+
+-- what the entries were asked for by, each with its index, in their order
+abbrev pub asked_in : List Entry → List Asked
+asked_in entries = filter_map asked_at (enumerate_from 0 entries)
+
+-- who asks: a process, by its node and its number, both from 1; for failures and starts 0 and 0
+abbrev pub asker : Command → ℕ × ℕ
+asker (Call n pid op) = (n, pid)
+asker _ = (0, 0)
+
+-- whether the same one asks
+abbrev pub has_asker : Command → Asked → Bool
+has_asker c a = (asker c).0 == (asker a.command).0 && (asker c).1 == (asker a.command).1
+
+-- the entries that were asked for are those that the lines made, of each who asks in the order of the lines
+abbrev pub AreMade : List Entry → List PlayedLine → Type 0
+AreMade entries lines = (c : Command) → filter (has_asker c) (asked_in entries) ≡ filter (has_asker c) (filter_map made_by lines)
+
+-- the lines of the script with what they came to, by which the entries that were asked for were made
+pub record AreLinesOf (script : List LineFields) (entries : List Entry) (lines : List PlayedLine) : Type 0 where
+  pub same : map (λ l. l.line) lines ≡ script
+  pub made : AreMade entries lines

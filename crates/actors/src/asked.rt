@@ -1,0 +1,103 @@
+//! What entries of a journal were asked for by.
+ghost use Rattle.std.specs.Prelude.{◌≡◌, ◌↔◌, true, IfOk, IsTrue, filter, filter_map};
+ghost use Rattle.lockscript.specs.declared.script_line.Command.{Command};
+ghost use Rattle.actors.specs.Lines.{AreMade, asked_at, asked_by, asked_in, asker, has_asker, made_by};
+
+use crate::played_line::PlayedLine;
+use lockscript::script_line::Command;
+use messages::entry::Entry;
+use messages::event::Event;
+use std::alloc::{AllocError, Global};
+
+/// What a line of a script asks for, and the index of an entry that it made, from 0.
+#[derive(Clone, Copy, Debug, PartialEq, Eq)]
+pub struct Asked {
+    pub index: usize,
+    pub command: Command,
+}
+
+impl Asked {
+    // Who asks: a process, by its node and its number; for failures and starts 0 and 0.
+    fn asker(&self) -> (u8, u16)
+        ensures { result ≡ asker self.now.command }
+    {
+        match self.command {
+            Command::Call { node, pid, .. } => (node, pid),
+            _ => (0, 0),
+        }
+    }
+}
+
+// What a line asked for that made this event, if such a line can.
+fn asked_by(event: &Event) -> Option<Command>
+    ensures { result ≡ asked_by event.now }
+{
+    match event {
+        Event::Call { node, pid, op } => Some(Command::Call {
+            node: *node,
+            pid: *pid,
+            op: *op,
+        }),
+        Event::Declare { node } => Some(Command::Declare { node: *node }),
+        Event::Restart { node } => Some(Command::Restart { node: *node }),
+        Event::FailServer { file } => Some(Command::FailServer { file: *file }),
+        Event::StartServer { file } => Some(Command::StartServer { file: *file }),
+        _ => None,
+    }
+}
+
+// The same of an entry with its index.
+fn asked_at(index: usize, entry: &Entry) -> Option<Asked>
+    ensures { result ≡ asked_at (index, entry.now) }
+{
+    let command = asked_by(entry.event())?;
+    Some(Asked { index, command })
+}
+
+/// What the entries were asked for by, each with its index, in their order.
+pub(crate) fn asked_in(alloc: Global, entries: &[Entry]) -> Result<Vec<Asked>, AllocError>
+    ensures { IfOk result (λ asked. asked.items ≡ asked_in entries.now) }
+{
+    entries
+        .iter()
+        .enumerate()
+        .filter_map(|(index, entry)| asked_at(index, entry))
+        .collect(alloc)
+}
+
+// What the lines asked for that made an entry, each with the entry's index, in their order.
+fn made_in(alloc: Global, lines: &[PlayedLine]) -> Result<Vec<Asked>, AllocError>
+    ensures { IfOk result (λ made. made.items ≡ filter_map made_by lines.now) }
+{
+    lines.iter().filter_map(|line| line.made()).collect(alloc)
+}
+
+/// The same, by who asks, and of each in the order that they had.
+pub(crate) fn by_asker(asked: Vec<Asked>) -> Result<Vec<Asked>, AllocError>
+    ensures { IfOk result (λ sorted. (c : Command) → filter (has_asker c) sorted.items ≡ filter (has_asker c) asked.items) }
+{
+    let mut sorted = asked;
+    sorted.sort_by_key(|one| one.asker())?;
+    Ok(sorted)
+}
+
+// Whether both are the same.
+fn same(one: &[Asked], other: &[Asked]) -> bool
+    ensures { IsTrue result ↔ (one.now ≡ other.now) }
+{
+    one == other
+}
+
+/// Whether the entries that were asked for are those that the lines made, of each who asks in the order
+/// of the lines.
+pub(crate) fn are_made(
+    alloc: Global,
+    entries: &[Entry],
+    lines: &[PlayedLine],
+) -> Result<bool, AllocError>
+    ensures { IfOk result (λ are. are ≡ true → AreMade entries.now lines.now) }
+{
+    let asked = by_asker(asked_in(alloc, entries)?)?;
+    let made = by_asker(made_in(alloc, lines)?)?;
+    Ok(same(asked.as_slice(), made.as_slice()))
+}

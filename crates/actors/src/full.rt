@@ -1,0 +1,87 @@
+//! Journals that have no room.
+ghost use Rattle.std.specs.Prelude.{◌≡◌, true, List, IfOk};
+ghost use Rattle.actors.specs.declared.played_line.PlayedLine.{PlayedLine};
+ghost use Rattle.actors.specs.Lines.{AreLinesOf};
+ghost use Rattle.actors.specs.Runs.{IsFullJournal};
+ghost use Rattle.cluster_core.specs.Histories.{HasOneHistory};
+
+use crate::asked::{Asked, asked_in, by_asker};
+use crate::call_error::CallError;
+use crate::line_outcome::LineOutcome;
+use crate::played_line::PlayedLine;
+use crate::thread_run::are_lines_of;
+use cluster_core::journal::Journal;
+use cluster_core::world::JOURNAL_LIMIT;
+use lockscript::script::Script;
+use lockscript::script_line::{Command, ScriptLine};
+use messages::entry::Entry;
+use std::alloc::{AllocError, Global};
+
+/// Whether the journal of a run of the script has no room, and is by lines of the script: a lock says
+/// nothing of the book that it gives back, so that is looked at. False where memory is short for it.
+pub(crate) fn is_full(alloc: Global, script: &Script, journal: &Journal) -> bool
+    requires shape { journal.now.shape ≡ script.now.shape }
+    requires one_table { HasOneHistory journal.now.shape journal.now.entries }
+    ensures { result ≡ true → IsFullJournal script.now journal.now }
+{
+    if journal.entries().len() < JOURNAL_LIMIT as usize {
+        return false;
+    }
+    matches!(
+        is_by_lines(alloc, script.lines(), journal.entries()),
+        Ok(true)
+    )
+}
+
+// Whether the entries that were asked for are by lines of the script.
+fn is_by_lines(alloc: Global, script: &[ScriptLine], entries: &[Entry]) -> Result<bool, AllocError>
+    ensures { IfOk result (λ is. is ≡ true → (lines : List PlayedLine) × AreLinesOf script.now entries.now lines) }
+{
+    let lines = lines_behind(alloc, script, entries)?;
+    are_lines_of(alloc, script, entries, lines.as_slice())
+}
+
+// The lines of a script, of which some made the entries: for each that was asked for the next line of who
+// asked that asks for it.
+fn lines_behind(
+    alloc: Global,
+    script: &[ScriptLine],
+    entries: &[Entry],
+) -> Result<Vec<PlayedLine>, AllocError> {
+    let mut lines: Vec<PlayedLine> = script
+        .iter()
+        .map(|line| PlayedLine::new(*line))
+        .collect(alloc)?;
+    let asked = by_asker(asked_in(alloc, entries)?)?;
+    let mut next = 0;
+    for told in by_asker(commands_of(alloc, script)?)? {
+        let (Some(one), Some(line)) = (asked.get(next), lines.get_mut(told.index)) else {
+            continue;
+        };
+        if one.command == told.command {
+            line.outcome = made_at(one);
+            next += 1;
+        }
+    }
+    Ok(lines)
+}
+
+// What the lines ask for, each with its index in the place of an entry's.
+fn commands_of(alloc: Global, script: &[ScriptLine]) -> Result<Vec<Asked>, AllocError> {
+    let asked = |(index, line): (usize, &ScriptLine)| Asked {
+        index,
+        command: line.command(),
+    };
+    script.iter().enumerate().map(asked).collect(alloc)
+}
+
+// What a line came to that made this entry, of which nothing else is known.
+fn made_at(one: &Asked) -> LineOutcome {
+    let position = u32::try_from(one.index)
+        .unwrap_or(u32::MAX)
+        .saturating_add(1);
+    match one.command {
+        Command::Call { .. } => LineOutcome::Denied(CallError::Killed { call_at: position }),
+        _ => LineOutcome::Made(position),
+    }
+}

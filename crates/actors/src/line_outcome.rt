@@ -1,0 +1,70 @@
+//! What lines of a script come to.
+ghost use Rattle.std.specs.Prelude.{◌≡◌};
+ghost use Rattle.actors.specs.Lines.{begins, code_of, ends, receipt_of};
+
+use crate::call_error::CallError;
+use book::receipt::Receipt;
+use messages::refusal::Refused;
+
+/// What a line of a script comes to on threads.
+#[derive(Clone, Copy, Debug)]
+pub enum LineOutcome {
+    /// The call was answered.
+    Answered(Receipt),
+    /// The call has no receipt. Where it is `Killed`, its node took it.
+    Denied(CallError),
+    /// The failure or the start is the entry at this position, from 1.
+    Made(u32),
+    /// The failure or the start was refused.
+    Refused(Refused),
+    /// Nothing came of the line itself: `settle` only waits for the calls of its phase.
+    Settled,
+}
+
+impl LineOutcome {
+    /// The receipt of a call that was answered.
+    pub fn receipt(&self) -> Option<Receipt>
+        ensures { result ≡ receipt_of self.now }
+    {
+        match self {
+            LineOutcome::Answered(receipt) => Some(*receipt),
+            _ => None,
+        }
+    }
+
+    /// The number by which listings know the refusal, if the line was refused.
+    pub fn code(&self) -> Option<u16>
+        ensures { result ≡ code_of self.now }
+    {
+        match self {
+            LineOutcome::Denied(why) => Some(why.number()),
+            LineOutcome::Refused(why) => Some(why.number()),
+            _ => None,
+        }
+    }
+
+    /// The position of the entry that the line made, from 1, if it made one.
+    pub fn begins(&self) -> Option<u32>
+        ensures { result ≡ begins self.now }
+    {
+        match self {
+            LineOutcome::Answered(receipt) => Some(receipt.call_at()),
+            LineOutcome::Denied(CallError::Killed { call_at }) => Some(*call_at),
+            LineOutcome::Made(at) => Some(*at),
+            _ => None,
+        }
+    }
+
+    /// The position, from 1, of the last entry of what the line came to, if it made one: of a call that of
+    /// its reply, or its own where it has none.
+    pub fn ends(&self) -> Option<u32>
+        ensures { result ≡ ends self.now }
+    {
+        match self {
+            LineOutcome::Answered(receipt) => Some(receipt.reply_at()),
+            LineOutcome::Denied(CallError::Killed { call_at }) => Some(*call_at),
+            LineOutcome::Made(at) => Some(*at),
+            _ => None,
+        }
+    }
+}

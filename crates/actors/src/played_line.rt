@@ -1,0 +1,147 @@
+//! Lines of a script with what they came to.
+ghost use Rattle.std.specs.Prelude.{◌≡◌, ◌↔◌, IsTrue};
+ghost use Rattle.actors.specs.declared.line_outcome.LineOutcome.TheVariants.{Settled};
+ghost use Rattle.actors.specs.Lines.{Fits, is_call, is_change, made_by, may_be_denied, may_be_refused, receipt_in, refused_in};
+ghost use Rattle.lockscript.specs.declared.script_line.Command.TheVariants.{Call, Settle};
+
+use crate::asked::Asked;
+use crate::call_error::CallError;
+use crate::line_outcome::LineOutcome;
+use book::receipt::Receipt;
+use lockscript::refused_line::RefusedLine;
+use lockscript::script_line::{Command, ScriptLine};
+use messages::refusal::Refused;
+
+/// A line of a script, and what it came to on threads.
+#[derive(Clone, Copy, Debug)]
+pub struct PlayedLine {
+    pub line: ScriptLine,
+    pub outcome: LineOutcome,
+}
+
+impl PlayedLine {
+    /// A line of which nothing came yet.
+    pub(crate) fn new(line: ScriptLine) -> PlayedLine
+        ensures { (result.line ≡ line) × (result.outcome ≡ Settled) }
+    {
+        PlayedLine {
+            line,
+            outcome: LineOutcome::Settled,
+        }
+    }
+
+    /// The receipt of a call that was answered.
+    pub(crate) fn receipt(&self) -> Option<Receipt>
+        ensures { result ≡ receipt_in self.now }
+    {
+        self.outcome.receipt()
+    }
+
+    /// The line with the number of its refusal, if it was refused.
+    pub(crate) fn refused(&self) -> Option<RefusedLine>
+        ensures { result ≡ refused_in self.now }
+    {
+        let code = self.outcome.code()?;
+        Some(RefusedLine {
+            line: self.line.number(),
+            code,
+        })
+    }
+
+    /// What the line asked for, with the index of the entry that it made, if it made one.
+    pub(crate) fn made(&self) -> Option<Asked>
+        ensures { result ≡ made_by self.now }
+    {
+        let position = self.outcome.begins()?;
+        Some(Asked {
+            index: position.saturating_sub(1) as usize,
+            command: self.line.command(),
+        })
+    }
+
+    /// Whether the line asks for a call.
+    pub(crate) fn is_call(&self) -> bool
+        ensures { result ≡ is_call self.now.line.command }
+    {
+        is_call(&self.line.command())
+    }
+
+    /// Whether the line may come to this.
+    pub(crate) fn fits(&self) -> bool
+        ensures { IsTrue result ↔ Fits self.now.line.command self.now.outcome }
+    {
+        let command = self.line.command();
+        match self.outcome {
+            LineOutcome::Answered(receipt) => is_call_of(&command, &receipt),
+            LineOutcome::Denied(why) => is_call(&command) && may_be_denied(why),
+            LineOutcome::Made(at) => is_change(&command) && at > 0,
+            LineOutcome::Refused(why) => is_change(&command) && may_be_refused(why),
+            LineOutcome::Settled => is_settle(&command),
+        }
+    }
+}
+
+// Whether the line asks for the receipt's call.
+fn is_call_of(command: &Command, receipt: &Receipt) -> bool
+    ensures { IsTrue result ↔ (command.now ≡ Call receipt.now.call.node receipt.now.pid receipt.now.op) }
+{
+    let call = Command::Call {
+        node: receipt.call().node,
+        pid: receipt.pid(),
+        op: receipt.op(),
+    };
+    same_command(command, &call)
+}
+
+// Whether both ask for the same.
+fn same_command(one: &Command, other: &Command) -> bool
+    ensures { IsTrue result ↔ (one.now ≡ other.now) }
+{
+    one == other
+}
+
+fn is_call(command: &Command) -> bool
+    ensures { result ≡ is_call command.now }
+{
+    matches!(command, Command::Call { .. })
+}
+
+// Whether it is a failure or a start.
+fn is_change(command: &Command) -> bool
+    ensures { result ≡ is_change command.now }
+{
+    matches!(
+        command,
+        Command::Declare { .. }
+            | Command::Restart { .. }
+            | Command::FailServer { .. }
+            | Command::StartServer { .. }
+    )
+}
+
+fn is_settle(command: &Command) -> bool
+    ensures { IsTrue result ↔ (command.now ≡ Settle) }
+{
+    same_command(command, &Command::Settle)
+}
+
+// Whether a call may be denied so while the run goes on.
+fn may_be_denied(why: CallError) -> bool
+    ensures { result ≡ may_be_denied why }
+{
+    match why {
+        CallError::Busy | CallError::Stranger | CallError::Fenced | CallError::Spent => true,
+        CallError::Killed { call_at } => call_at > 0,
+        _ => false,
+    }
+}
+
+// Whether a failure or a start may be refused so while the run goes on.
+fn may_be_refused(why: Refused) -> bool
+    ensures { result ≡ may_be_refused why }
+{
+    matches!(
+        why,
+        Refused::NotAlive | Refused::NotDead | Refused::TooManyRestarts | Refused::Stranger
+    )
+}
