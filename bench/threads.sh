@@ -1,6 +1,7 @@
 #!/bin/sh
 # Times `threads`: a client on each of 1, 2, 4 and 8 nodes locks and unlocks ten bytes of a file of its own, which its node's
-# token covers from the first lock on. Prints calls per second of the whole command (the run, its listing and its audit) by
+# token covers from the first lock on; alone, and where 100 other processes of its node have 100 regions each in that file.
+# Prints calls per second of the whole command (the run, its listing and its audit) by
 # elapsed time, the fastest of three, beside those of fcntl(F_SETLK) on a file of this machine by one process, in the
 # same minute, and their ratio. Another run of each script with a tenth of the calls is taken off, so that what the start
 # and the end cost has no part in it.
@@ -13,12 +14,19 @@ trap 'rm -rf "$folder"' EXIT
 program=$here/../crates/lockreplay/out/lockreplay
 cc -O2 -o "$folder/fcntl" "$here/fcntl.c" || exit 1
 
-# A script in which a client on each of so many nodes makes so many calls, by turns a lock and an unlock.
+# A script in which a client on each of so many nodes makes so many calls, by turns a lock and an unlock, beside so many
+# other owners of its node.
 script() {
-    awk -v nodes="$1" -v calls="$2" 'BEGIN {
+    awk -v nodes="$1" -v calls="$2" -v owners="$3" 'BEGIN {
         print "cluster nodes " nodes " files " nodes " policy wide"
         for (node = 1; node <= nodes; node++)
             print "call " node " 1 spawn\ncall " node " 1 open " node " rw\ncall " node " 1 set 0 proc write 0 1"
+        for (node = 1; node <= nodes; node++)
+            for (pid = 2; pid < owners + 2; pid++) {
+                print "call " node " " pid " spawn\ncall " node " " pid " open " node " rw"
+                for (region = 0; region < 100; region++)
+                    print "call " node " " pid " set 0 proc write " 1000000 + pid * 10000 + region * 20 " 10"
+            }
         print "settle"
         for (call = 0; call < calls; call++)
             for (node = 1; node <= nodes; node++)
@@ -40,16 +48,18 @@ seconds() {
     echo "$best"
 }
 
-echo "nodes  calls    calls/s   fcntl calls/s  ratio"
-for nodes in 1 2 4 8; do
-    script "$nodes" "$calls" >"$folder/whole.lock"
-    script "$nodes" "$((calls / 10))" >"$folder/part.lock"
-    whole=$(seconds "$folder/whole.lock") || exit 1
-    part=$(seconds "$folder/part.lock") || exit 1
-    machine=$("$folder/fcntl" "$folder/file" 2000000) || exit 1
-    echo "$nodes $calls $whole $part $machine" | awk '{
-        made = $1 * ($2 - int($2 / 10))
-        rate = made / (($3 - $4) / 1e9)
-        printf "%-6d %-8d %-9.0f %-14.0f %.4f\n", $1, $1 * $2, rate, $5, rate / $5
-    }'
+echo "nodes  owners  calls    calls/s   fcntl calls/s  ratio"
+for owners in 0 100; do
+    for nodes in 1 2 4 8; do
+        script "$nodes" "$calls" "$owners" >"$folder/whole.lock"
+        script "$nodes" "$((calls / 10))" "$owners" >"$folder/part.lock"
+        whole=$(seconds "$folder/whole.lock") || exit 1
+        part=$(seconds "$folder/part.lock") || exit 1
+        machine=$("$folder/fcntl" "$folder/file" 2000000) || exit 1
+        echo "$nodes $calls $whole $part $machine $owners" | awk '{
+            made = $1 * ($2 - int($2 / 10))
+            rate = made / (($3 - $4) / 1e9)
+            printf "%-6d %-7d %-8d %-9.0f %-14.0f %.4f\n", $1, $6, $1 * $2, rate, $5, rate / $5
+        }'
+    done
 done
