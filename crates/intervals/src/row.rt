@@ -1,5 +1,5 @@
 //! Rows of parts.
-ghost use Rattle.std.specs.Prelude.{◌≡◌, ◌≤◌, ◌<◌, ◌+◌, ◌-◌, ◌++◌, [], ◌∷◌, take, drop, length, ℕ, IfOk, IfSome, MatchOption};
+ghost use Rattle.std.specs.Prelude.{◌≡◌, ◌≤◌, ◌<◌, ◌+◌, ◌-◌, ◌++◌, ◌↔◌, [], ◌∷◌, take, drop, length, ℕ, IfOk, IfSome, IsTrue, MatchOption};
 ghost use Rattle.std.specs.Vec.{vec_len, vec_capacity};
 ghost use Rattle.intervals.specs.Bytes.{greatest, put, starts_below};
 ghost use Rattle.intervals.specs.Runs.{value_at, AreRuns, EndsBelow};
@@ -121,6 +121,30 @@ impl<V: Exact> Row<V> {
             first: self.first.copy(alloc, MOST + 2)?,
             rest,
         })
+    }
+
+    // Whether both have the same runs.
+    pub(crate) fn same(&self, other: &Row<V>) -> bool
+        requires some { AreSome self.now.rest.items }
+        requires other { AreSome other.now.rest.items }
+        ensures { IsTrue result ↔ (row_runs self.now ≡ row_runs other.now) }
+    {
+        let (mut runs, mut parts) = (self.first.runs(), self.rest.as_slice());
+        let (mut others, mut behind) = (other.first.runs(), other.rest.as_slice());
+        while let Some((run, more, later)) = next_of(runs, parts) {
+            let Some((twin, rest, last)) = next_of(others, behind) else {
+                return false;
+            };
+            if twin != run {
+                return false;
+            }
+            (runs, parts) = (more, later);
+            (others, behind) = (rest, last);
+        }
+        match next_of(others, behind) {
+            Some(_) => false,
+            None => true,
+        }
     }
 
     // The place of the last part that begins at the byte or below, or of the first.

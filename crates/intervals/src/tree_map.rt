@@ -291,13 +291,6 @@ impl<V: Exact> SpanMap<V> for TreeMap<V> {
     }
 
     fn same(&self, other: &Self) -> bool {
-        let mut from = 0;
-        while let Some(run) = self.next(from) {
-            match other.next(from) {
-                Some(twin) if twin == run => from = run.hi + 1,
-                _ => return false,
-            }
-        }
-        other.next(from).is_none()
+        self.row.same(&other.row)
     }
 }

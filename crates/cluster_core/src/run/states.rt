@@ -1,5 +1,5 @@
-//! Runs that go on by steps that were computed from states of their actors.
-ghost use Rattle.std.specs.Prelude.{◌≡◌, ◌≢◌, ◌<◌, ◌≤◌, true, Ok, Err, IfOk, IfErr, OnOk, OnErr, length};
+//! How long runs are, and nodes and servers that begin again and are handed out.
+ghost use Rattle.std.specs.Prelude.{◌≡◌, ◌≢◌, ◌≤◌, Ok, Err, IfOk, IfErr, OnOk, OnErr, length};
 ghost use Rattle.messages.specs.declared.event.Event.TheVariants.{Restart, StartServer};
 ghost use Rattle.messages.specs.Messages.{sending};
 ghost use Rattle.messages.specs.declared.refusal.Refused.{Refused};
@@ -8,18 +8,16 @@ ghost use Rattle.node_core.specs.Parts.{node_state};
 ghost use Rattle.token_server.specs.Parts.{server_state};
 ghost use Rattle.token_server.specs.Resends.{outstanding};
 ghost use Rattle.cluster_core.specs.World.{journal_limit};
-ghost use Rattle.cluster_core.specs.Next.{is_known, kept_next, next_server};
+ghost use Rattle.cluster_core.specs.Next.{kept_next, next_server};
 ghost use Rattle.cluster_core.specs.Parts.{world_state};
 ghost use Rattle.cluster_core.specs.Journals.{GoesOn};
-ghost use Rattle.cluster_core.specs.Actors.{NodeSteps, ServerSteps, made_by_node, made_by_server, Records};
 
 use super::Run;
-use intervals::span_map::NoMemory as NoRoom;
 use messages::event::Event;
 use messages::outcome::Outcome;
 use messages::refusal::Refused;
 use node_core::node::Node;
-use std::alloc::{AllocError, Global};
+use std::alloc::Global;
 use token_server::server::Server;
 
 impl Run {
@@ -30,56 +28,6 @@ impl Run {
         ensures within { result ≤ journal_limit }
     {
         self.entries.len() as u32
-    }
-
-    /// The node with the number does a step that was computed from its state: this is its next state,
-    /// with what the step gave. The entry comes last.
-    ///
-    /// # Errors
-    /// `NoMemory` where a request for memory was refused. The run is then as it was.
-    pub fn put_node(
-        &mut self,
-        alloc: Global,
-        event: Event,
-        node: u8,
-        state: Box<Node>,
-        outcome: Outcome,
-    ) -> Result<(), NoRoom>
-        requires room { self.old.world.length < journal_limit }
-        requires known { is_known (world_state self.old.world) event ≡ true }
-        requires step { NodeSteps (world_state self.old.world) event node (node_state state.value) outcome }
-        ensures ok { OnOk result (Records self.old event (made_by_node (world_state self.old.world) event node (node_state state.value) outcome) self.new) }
-        ensures unchanged { OnErr result (self.new ≡ self.old) }
-    {
-        self.entries.reserve(1)?;
-        let entry = self.world.put_node(alloc, event, node, state, outcome)?;
-        self.entries.push_reserved(entry);
-        Ok(())
-    }
-
-    /// The server of the file does a step that was computed from its state, as `put_node` says of a
-    /// node.
-    ///
-    /// # Errors
-    /// `NoMemory` where a request for memory was refused. The run is then as it was.
-    pub fn put_server(
-        &mut self,
-        alloc: Global,
-        event: Event,
-        file: u16,
-        state: Box<Server>,
-        outcome: Outcome,
-    ) -> Result<(), NoRoom>
-        requires room { self.old.world.length < journal_limit }
-        requires known { is_known (world_state self.old.world) event ≡ true }
-        requires step { ServerSteps (world_state self.old.world) event file (server_state state.value) outcome }
-        ensures ok { OnOk result (Records self.old event (made_by_server (world_state self.old.world) event file (server_state state.value) outcome) self.new) }
-        ensures unchanged { OnErr result (self.new ≡ self.old) }
-    {
-        self.entries.reserve(1)?;
-        let entry = self.world.put_server(alloc, event, file, state, outcome)?;
-        self.entries.push_reserved(entry);
-        Ok(())
     }
 
     /// The node begins again, as `take` does it, and is handed out as it begins.

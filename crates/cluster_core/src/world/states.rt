@@ -1,5 +1,5 @@
-//! The states of a world's actors: compared with others, and followed by their next.
-ghost use Rattle.std.specs.Prelude.{◌≡◌, ◌≢◌, ◌↔◌, ◌<◌, true, Ok, Err, ◌++◌, ◌&&◌, IsTrue, IfOk, IfErr, OnOk, OnErr, length, slice_set};
+//! The states of a world's actors: compared with others, and begun again.
+ghost use Rattle.std.specs.Prelude.{◌≡◌, ◌≢◌, ◌↔◌, true, Ok, Err, ◌&&◌, IsTrue, IfOk, IfErr, OnOk};
 ghost use Rattle.messages.specs.declared.event.Event.TheVariants.{Restart, StartServer};
 ghost use Rattle.messages.specs.declared.entry.Entry.{Entry};
 ghost use Rattle.messages.specs.declared.refusal.Refused.{Refused};
@@ -8,19 +8,17 @@ ghost use Rattle.messages.specs.Messages.{is_within};
 ghost use Rattle.node_core.specs.Parts.{node_state};
 ghost use Rattle.token_server.specs.Parts.{server_state};
 ghost use Rattle.token_server.specs.Resends.{outstanding};
-ghost use Rattle.cluster_core.specs.World.{WorldState, journal_limit, has_node, has_file, was_declared, has_failed};
-ghost use Rattle.cluster_core.specs.Next.{is_known, next, next_server, restart_rule, kept_next};
+ghost use Rattle.cluster_core.specs.World.{WorldState, has_node, has_file, was_declared, has_failed};
+ghost use Rattle.cluster_core.specs.Next.{is_known, next_server, restart_rule, kept_next};
 ghost use Rattle.cluster_core.specs.Parts.{world_state};
-ghost use Rattle.cluster_core.specs.Actors.{HasNode, HasServer, NodeSteps, ServerSteps, made_by_node, made_by_server};
+ghost use Rattle.cluster_core.specs.Actors.{HasNode, HasServer};
 
 use super::{JOURNAL_LIMIT, World, is_number};
-use crate::sent::Sent;
 use intervals::span_map::NoMemory as NoRoom;
 use messages::entry::Entry;
 use messages::event::Event;
 use messages::items::Items;
 use messages::message::Message;
-use messages::outcome::Outcome;
 use messages::refusal::Refused;
 use node_core::node::Node;
 use std::alloc::Global;
@@ -89,72 +87,6 @@ impl World {
         self.works(file) && self.server(file).same(server)
     }
 
-    /// The node does a step that was computed from its state: this is its next state, with what the
-    /// step gave. The messages are put among those that were sent, which is all that may take memory.
-    ///
-    /// # Errors
-    /// `NoMemory` where a request for memory was refused. The world is then as it was.
-    pub(crate) fn put_node(
-        &mut self,
-        alloc: Global,
-        event: Event,
-        node: u8,
-        state: Box<Node>,
-        outcome: Outcome,
-    ) -> Result<Entry, NoRoom>
-        requires room { self.old.length < journal_limit }
-        requires known { is_known (world_state self.old) event ≡ true }
-        requires step { NodeSteps (world_state self.old) event node (node_state state.value) outcome }
-        ensures next { next (world_state self.old) event ≡ Ok (made_by_node (world_state self.old) event node (node_state state.value) outcome) }
-        ensures ok { IfOk result (λ entry. (world_state self.new, entry) ≡ made_by_node (world_state self.old) event node (node_state state.value) outcome) }
-        ensures unchanged { OnErr result (self.new ≡ self.old) }
-    {
-        let incarnation = self.named_incarnation(&event, node);
-        let sends = outcome.sends.as_slice();
-        put_in(
-            alloc,
-            &mut self.nodes,
-            node as usize - 1,
-            state,
-            &mut self.sent,
-            sends,
-        )?;
-        self.length += 1;
-        Ok(Entry::at_node(event, incarnation, outcome))
-    }
-
-    /// The server does a step that was computed from its state, as `put_node` says of a node.
-    ///
-    /// # Errors
-    /// `NoMemory` where a request for memory was refused. The world is then as it was.
-    pub(crate) fn put_server(
-        &mut self,
-        alloc: Global,
-        event: Event,
-        file: u16,
-        state: Box<Server>,
-        outcome: Outcome,
-    ) -> Result<Entry, NoRoom>
-        requires room { self.old.length < journal_limit }
-        requires known { is_known (world_state self.old) event ≡ true }
-        requires step { ServerSteps (world_state self.old) event file (server_state state.value) outcome }
-        ensures next { next (world_state self.old) event ≡ Ok (made_by_server (world_state self.old) event file (server_state state.value) outcome) }
-        ensures ok { IfOk result (λ entry. (world_state self.new, entry) ≡ made_by_server (world_state self.old) event file (server_state state.value) outcome) }
-        ensures unchanged { OnErr result (self.new ≡ self.old) }
-    {
-        let sends = outcome.sends.as_slice();
-        put_in(
-            alloc,
-            &mut self.servers,
-            file as usize - 1,
-            state,
-            &mut self.sent,
-            sends,
-        )?;
-        self.length += 1;
-        Ok(Entry::new(event, outcome))
-    }
-
     /// Whether the node may begin again now.
     ///
     /// # Errors
@@ -212,23 +144,4 @@ impl World {
         }
         self.next_server(alloc, file)
     }
-}
-
-// Puts another item at an index, once the messages are sent.
-fn put_in<T: Drop>(
-    alloc: Global,
-    items: &mut Vec<T>,
-    index: usize,
-    next: Box<T>,
-    sent: &mut Sent,
-    messages: &[Message],
-) -> Result<(), NoRoom>
-    requires { index < length items.old.items }
-    ensures items { OnOk result (items.new.items ≡ slice_set items.old.items index next.value) }
-    ensures sent { OnOk result (sent.new ≡ sent.old ++ messages.now) }
-    ensures unchanged { OnErr result ((items.new.items ≡ items.old.items) × (sent.new ≡ sent.old)) }
-{
-    sent.extend(alloc, messages)?;
-    items[index] = Box::into_inner(next);
-    Ok(())
 }

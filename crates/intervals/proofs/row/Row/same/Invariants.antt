@@ -1,0 +1,10 @@
+use Rattle.std.proofs.Common.{◌++◌, length}
+use Rattle.intervals.specs.Parts.{all_runs, row_runs}
+use Rattle.intervals.proofs.SameRows.{AreLeft}
+use Rattle.intervals.proofs.row.Row.same.Given as goal
+
+abbrev pub invariant-loop-run : goal.invariant-loop-run
+invariant-loop-run g l = AreLeft (row_runs l.self) (row_runs l.other) l.runs l.parts l.others l.behind
+
+abbrev pub decreases-loop-run : goal.decreases-loop-run
+decreases-loop-run g l = length (l.runs ++ all_runs l.parts)
