@@ -31,6 +31,7 @@ use crate::tests_of::{accepts, seen_of};
 use cluster_core::journal::Journal;
 use cluster_core::run::Run;
 use intervals::span_map::NoMemory;
+use messages::entry::Entry;
 use messages::event::Event;
 use messages::items::Items;
 use messages::outcome::Outcome;
@@ -146,6 +147,13 @@ impl Book {
     {
         let _ = self.run.world(); // tells the proof that the entries lead to the world
         self.run.len()
+    }
+
+    /// The entries of the journal, which are a run.
+    pub fn entries(&self) -> &[Entry]
+        ensures { result.now ≡ self.now.entries }
+    {
+        self.run.entries()
     }
 
     /// The step that was prepared from the seat is the next of the journal: its entry comes last, and

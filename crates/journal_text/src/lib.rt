@@ -16,7 +16,7 @@ pub mod named_entry;
 pub mod named_event;
 mod operands;
 pub mod parse;
-mod parts;
+pub mod parts;
 pub mod place;
 mod reader;
 pub mod replies;

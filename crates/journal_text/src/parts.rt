@@ -77,7 +77,7 @@ pub(crate) fn server_of(word: &str) -> Option<(u16, u16)>
 }
 
 /// The call of `N.I.C`.
-pub(crate) fn call_of(word: &str) -> Option<CallId>
+pub fn call_of(word: &str) -> Option<CallId>
     ensures { Reads call_text IsCall word.now result }
 {
     let (node, (incarnation, number)) = call_parts(word)?;

@@ -132,7 +132,10 @@ fn push_message_in<V: Edition>(out: &mut String, message: &Message) -> Result<()
 
 /// Writes an event as journals of this version do, with the incarnation and the call that its entry
 /// names.
-pub(crate) fn push_event(
+///
+/// # Errors
+/// `AllocError` where a request for memory was refused.
+pub fn push_event(
     out: &mut String,
     version: Version,
     event: &Event,

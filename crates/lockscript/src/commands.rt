@@ -12,7 +12,7 @@ use texts::text::{Text, split_field};
 /// What the line asks for, if it is one that is served: so far `call N PID OP`, `deliver K`, `lose K`,
 /// `settle`, `interrupt N PID`, `retry N PID`, `resend F`, `declare N`, `restart N`, `learn F N I`,
 /// `fail-server F` and `start-server F`.
-pub(crate) fn command_of(line: &str) -> Option<Command>
+pub fn command_of(line: &str) -> Option<Command>
     ensures { Reads command_text IsCommand line.now result }
 {
     match split_field(line) {

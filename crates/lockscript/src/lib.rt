@@ -3,7 +3,7 @@
 
 pub mod cluster_line;
 mod columns;
-mod commands;
+pub mod commands;
 pub mod error;
 pub mod fields;
 pub mod laws;

@@ -104,8 +104,9 @@ fn begin_both(book: &mut Book, alloc: Global, seats: &mut Vec<Seat>) -> Result<R
 
 // Whether the journal that the book becomes has so many entries, and holds the receipt.
 fn holds(book: Box<Book>, count: usize, receipt: &Receipt) -> bool {
+    let before = book.entries().len();
     let journal = Box::into_inner(book).into_journal();
-    journal.entries().len() == count && journal.holds(receipt)
+    before == count && journal.entries().len() == count && journal.holds(receipt)
 }
 
 // Whether the receipt is of the second call, and in the book.
