@@ -1,8 +1,8 @@
 -- Lines that were passed one after the other are phases.
 use Rattle.std.specs.Prelude.{◌≡◌, ℕ, ◌+◌, ◌<◌, ◌≤◌, Bool, true, false, List, Some, max, slice_get, if◌then◌else◌}
 use Rattle.std.specs.Option.{unwrap_or}
-use Rattle.std.proofs.Common.{ap, sym, subst, ◌∙◌, ◌⊎◌, arith, ⊎_elim, inl, inr, refl}
-use Rattle.std.proofs.lemmas.Bool.{cases_order, cases_Bool, true≢false}
+use Rattle.std.proofs.Common.{ap, sym, ◌∙◌, ◌⊎◌, arith, ⊎_elim, inl, inr}
+use Rattle.std.proofs.lemmas.Bool.{cases_order, cases_Bool}
 use Rattle.actors.specs.declared.played_line.PlayedLine.{PlayedLine}
 use Rattle.actors.specs.Lines.{begins, ends, is_call, Precedes}
 

@@ -1,3 +1,4 @@
 mod Askers
+mod InCuts
 mod InPhases
 mod SameCommands

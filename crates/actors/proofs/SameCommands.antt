@@ -1,5 +1,5 @@
 -- When two commands of a script are one, and two lines, and two that were asked for.
-use Rattle.std.specs.Prelude.{true, ℕ, ◌&&◌, ◌==◌}
+use Rattle.std.specs.Prelude.{ℕ, ◌&&◌, ◌==◌}
 use Rattle.std.proofs.Common.{◌≡◌, Bool, Decides, rules, arith, refl, ap, eq-eqb}
 use Rattle.std.proofs.lemmas.Bool.{and_parts, and_from, eqb-true, false≢true}
 use Rattle.std.proofs.lemmas.Bool.Decides.{Decides-at}

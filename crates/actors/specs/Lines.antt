@@ -1,5 +1,5 @@
 -- What the lines of a script come to on threads, and which entries of the journal they made.
-use Rattle.std.specs.Prelude.{◌≡◌, ℕ, ◌+◌, ◌-◌, ◌<◌, ◌≤◌, ◌==◌, ◌&&◌, nat_lt, Bool, true, false, List, Option, Some, None, filter, filter_map, map, slice_get}
+use Rattle.std.specs.Prelude.{◌≡◌, ⊤, ℕ, ◌-◌, ◌<◌, ◌≤◌, ◌==◌, ◌&&◌, nat_lt, Bool, true, false, List, Option, Some, None, filter, filter_map, map, slice_get}
 use Rattle.std.specs.Option.{option_map}
 use Rattle.std.specs.List.{enumerate_from}
 use Rattle.book.specs.Fields.{ReceiptFields}
@@ -17,7 +17,7 @@ use Rattle.actors.specs.declared.asked.Asked.{Asked}
 use Rattle.actors.specs.declared.call_error.CallError.{CallError}
 use Rattle.actors.specs.declared.call_error.CallError.TheVariants.{Busy, Stranger, Fenced, Killed, Spent}
 use Rattle.actors.specs.declared.line_outcome.LineOutcome.{LineOutcome}
-use Rattle.actors.specs.declared.line_outcome.LineOutcome.TheVariants.{Answered, Denied, Made, Refused, Settled}
+use Rattle.actors.specs.declared.line_outcome.LineOutcome.TheVariants.{Answered, Denied, Made, Refused, Settled, Open, Left}
 use Rattle.actors.specs.declared.played_line.PlayedLine.{PlayedLine}
 use Rattle.actors.specs.Numbers.{number_of}
 
@@ -50,13 +50,15 @@ may_be_refused refusal.TooManyRestarts = true
 may_be_refused refusal.Stranger = true
 may_be_refused _ = false
 
--- the line may come to this: a call has a receipt, of its process and of what it asks, or was denied; a failure or a start is an entry, by its position from 1, or was refused; `settle` is done
+-- the line may come to this: a call has a receipt, of its process and of what it asks, or was denied, or is open, an entry by its position from 1; a failure or a start is an entry, likewise, or was refused; `settle` is done; and any may be left, where the run was ended before its turn
 abbrev pub Fits : Command → LineOutcome → Type 0
 Fits command (Answered r) = command ≡ Call r.call.node r.pid r.op
 Fits command (Denied why) = (is_call command ≡ true) × (may_be_denied why ≡ true)
 Fits command (Made at) = (is_change command ≡ true) × (0 < at)
 Fits command (Refused why) = (is_change command ≡ true) × (may_be_refused why ≡ true)
 Fits command Settled = command ≡ Settle
+Fits command (Open at) = (is_call command ≡ true) × (0 < at)
+Fits command Left = ⊤
 
 abbrev pub receipt_of : LineOutcome → Option ReceiptFields
 receipt_of (Answered r) = Some r
@@ -83,6 +85,7 @@ abbrev pub begins : LineOutcome → Option ℕ
 begins (Answered r) = Some r.call_at
 begins (Denied why) = killed_at why
 begins (Made at) = Some at
+begins (Open at) = Some at
 begins _ = None
 
 -- the position of the last entry of what the line came to: of a call that of its reply, or its own where it has none
@@ -90,6 +93,7 @@ abbrev pub ends : LineOutcome → Option ℕ
 ends (Answered r) = Some r.reply_at
 ends (Denied why) = killed_at why
 ends (Made at) = Some at
+ends (Open at) = Some at
 ends _ = None
 
 -- what the one came to stands before the entry that the other made

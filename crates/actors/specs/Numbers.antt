@@ -5,7 +5,7 @@ use Rattle.messages.specs.declared.refusal.StepError.TheVariants as step
 use Rattle.book.specs.declared.commit_error.CommitError.{CommitError}
 use Rattle.book.specs.declared.commit_error.CommitError.TheVariants as commit
 use Rattle.actors.specs.declared.call_error.CallError.{CallError}
-use Rattle.actors.specs.declared.call_error.CallError.TheVariants.{NoMemory, Busy, Stranger, Fenced, JournalFull, Killed, Closed, Spent, Stale}
+use Rattle.actors.specs.declared.call_error.CallError.TheVariants.{NoMemory, Busy, Stranger, Fenced, JournalFull, Killed, Closed, Unanswered, Spent, Stale}
 
 -- the number by which listings know it
 abbrev pub number_of : CallError → ℕ
@@ -16,6 +16,7 @@ number_of Fenced = 15
 number_of JournalFull = 16
 number_of (Killed at) = 17
 number_of Closed = 18
+number_of (Unanswered at) = 18
 number_of Spent = 19
 number_of Stale = 20
 

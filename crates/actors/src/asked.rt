@@ -1,5 +1,7 @@
 //! What entries of a journal were asked for by.
 ghost use Rattle.std.specs.Prelude.{◌≡◌, ◌↔◌, true, IfOk, IsTrue, filter, filter_map};
+ghost use Rattle.std.specs.List.Sorted.{IsSortedByKey};
+ghost use Rattle.std.specs.Ordering.{nat_cmp, ordering_then};
 ghost use Rattle.lockscript.specs.declared.script_line.Command.{Command};
 ghost use Rattle.actors.specs.Lines.{AreMade, asked_at, asked_by, asked_in, asker, has_asker, made_by};
 
@@ -17,14 +19,21 @@ pub struct Asked {
 }
 
 impl Asked {
-    // Who asks: a process, by its node and its number; for failures and starts 0 and 0.
+    // Who asks.
     fn asker(&self) -> (u8, u16)
         ensures { result ≡ asker self.now.command }
     {
-        match self.command {
-            Command::Call { node, pid, .. } => (node, pid),
-            _ => (0, 0),
-        }
+        asker_of(&self.command)
+    }
+}
+
+/// Who asks: a process, by its node and its number; for other lines 0 and 0.
+pub(crate) fn asker_of(command: &Command) -> (u8, u16)
+    ensures { result ≡ asker command.now }
+{
+    match command {
+        Command::Call { node, pid, .. } => (*node, *pid),
+        _ => (0, 0),
     }
 }
 
@@ -74,7 +83,8 @@ fn made_in(alloc: Global, lines: &[PlayedLine]) -> Result<Vec<Asked>, AllocError
 
 /// The same, by who asks, and of each in the order that they had.
 pub(crate) fn by_asker(asked: Vec<Asked>) -> Result<Vec<Asked>, AllocError>
-    ensures { IfOk result (λ sorted. (c : Command) → filter (has_asker c) sorted.items ≡ filter (has_asker c) asked.items) }
+    ensures same { IfOk result (λ sorted. (c : Command) → filter (has_asker c) sorted.items ≡ filter (has_asker c) asked.items) }
+    ensures sorted { IfOk result (λ sorted. IsSortedByKey (λ one. asker one.command) (λ x y. ordering_then (nat_cmp x.0 y.0) (nat_cmp x.1 y.1)) sorted.items) }
 {
     let mut sorted = asked;
     sorted.sort_by_key(|one| one.asker())?;

@@ -28,9 +28,13 @@ pub enum CallError {
     /// process ended while the call was open.
     #[error("the call ended without a reply")]
     Killed { call_at: u32 },
-    /// The worker ended before it answered the call.
+    /// The worker ended before it took the call.
     #[error("the worker has ended")]
     Closed,
+    /// The node took the call, which is the entry at this position, from 1, and its worker ended while the
+    /// call was open.
+    #[error("the worker has ended while the call was open")]
+    Unanswered { call_at: u32 },
     /// The node has no number left.
     #[error("no number is left")]
     Spent,
@@ -78,7 +82,7 @@ impl CallError {
             CallError::Fenced => 15,
             CallError::JournalFull => 16,
             CallError::Killed { .. } => 17,
-            CallError::Closed => 18,
+            CallError::Closed | CallError::Unanswered { .. } => 18,
             CallError::Spent => 19,
             CallError::Stale => 20,
         }

@@ -100,8 +100,9 @@ impl<'a> Client<'a> {
     /// 256; `Fenced` where the incarnation of the process was declared failed before its node took the
     /// call; `Busy` where the process has an open call; `Spent` where the node has no number left;
     /// `Stale` where the client was told of another cluster's receipt; `Killed`, with where the call
-    /// stands, where the node was declared failed or the process ended while the call was open; `Closed`
-    /// where the worker ended before it answered the call. The client has then seen no more than before.
+    /// stands, where the node was declared failed or the process ended while the call was open; `Unanswered`,
+    /// likewise, where the worker ended while it was open, and `Closed` where it ended before. The client has
+    /// then seen no more than before.
     pub fn call<R: Wait>(&mut self, rt: &R, op: Op) -> Result<Receipt, CallError>
         ensures made { IfOk result (IsMadeBy self.old op) }
         ensures seen { IfOk result (λ receipt. self.new ≡ record self.old { last = receipt.reply_at }) }

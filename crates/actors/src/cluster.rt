@@ -8,11 +8,13 @@ ghost use Rattle.cluster_core.specs.Histories.{HasOneHistory};
 use crate::call_error::CallError;
 use crate::client::Client;
 use crate::gate::Gate;
+use crate::halt::Halt;
 use crate::letter::Letter;
 use crate::pacer::pace;
 use crate::place::Place;
 use crate::rebuilt::Rebuilt;
 use crate::shared::{Mailbox, Shared, index_of};
+use crate::stuck::is_stuck;
 use crate::weather::Weather;
 use crate::worker::Worker;
 use book::book::Book;
@@ -41,7 +43,7 @@ pub struct Cluster<'a> {
     mailboxes: &'a [Mailbox],
     places: &'a [Mutex<Place>],
     rebuilt: &'a [Mutex<Option<Rebuilt>>],
-    stop: &'a AtomicU64,
+    halt: &'a Halt,
     ghost within: { IsNumber most_nodes nodes },
     ghost has_mailboxes: { nodes ≤ length mailboxes.now },
     ghost has_places: { length places.now ≡ nodes },
@@ -58,10 +60,21 @@ impl<'a> Cluster<'a> {
         self.rebuilt.get(usize::from(file).checked_sub(1)?)
     }
 
-    /// The workers end, before they take another letter. Calls that are open then, or made later, are answered
-    /// `Closed`.
+    /// The workers end, before they take another letter. Calls that are open then are answered `Unanswered`,
+    /// and those that are made later `Closed`.
     pub(crate) fn stop(&self) {
-        self.stop.store(1, Ordering::SeqCst);
+        self.halt.set();
+    }
+
+    /// Whether the workers end, or have ended, as too many requests for memory were refused.
+    pub(crate) fn is_short(&self) -> bool {
+        self.halt.is_short()
+    }
+
+    /// Whether the calls that so many processes have open can't be answered any more, the token servers of
+    /// these files being declared failed.
+    pub(crate) fn is_stuck<R: Wait>(&self, rt: &R, processes: usize, failed: &[u16]) -> bool {
+        is_stuck(self.alloc, self.book.lock(rt).entries(), processes, failed)
     }
 
     // The mailbox of the token server of the file.
@@ -109,7 +122,7 @@ impl<'a> Cluster<'a> {
         let stamp = self.book.lock(rt).declare(self.alloc, node)?;
         let incarnation = place.end();
         for mailbox in self.mailboxes.iter().skip(usize::from(self.nodes)) {
-            mailbox.send_surely(rt, Letter::Learn { node, incarnation });
+            mailbox.send_surely(rt, Letter::Learn { node, incarnation }, self.halt);
         }
         Ok(stamp)
     }
@@ -156,7 +169,7 @@ impl<'a> Cluster<'a> {
     pub fn start_server<R: Wait>(&self, rt: &R, file: u16) -> Result<u32, Refused> {
         let position = self.rebuild(rt, file)?;
         if let Some(mailbox) = self.server_mailbox(file) {
-            mailbox.send_surely(rt, Letter::Begin);
+            mailbox.send_surely(rt, Letter::Begin, self.halt);
         }
         Ok(position)
     }
@@ -178,6 +191,9 @@ impl<'a> Cluster<'a> {
 
 /// Runs a cluster of the shape on threads for as long as the body does, which is lent it. Each actor
 /// has a thread, a mailbox and a weather, nodes first. The body's result comes with the journal.
+///
+/// Where a hundred requests for memory are refused one after the other, with no step between them, the
+/// threads of the actors end: calls that are open then are answered `Unanswered`, and later ones `Closed`.
 ///
 /// # Errors
 /// `AllocError` where a request for memory or for a thread was refused.
@@ -273,7 +289,7 @@ fn run_begun<
         places,
         rebuilt,
     } = begun;
-    let stop = AtomicU64::new(0);
+    let halt = Halt::new();
     let working = AtomicU64::new(0);
     let shared = Shared {
         alloc,
@@ -283,7 +299,7 @@ fn run_begun<
         mailboxes: mailboxes.as_slice(),
         places: places.as_slice(),
         rebuilt: rebuilt.as_slice(),
-        stop: &stop,
+        halt: &halt,
         working: &working,
     };
     let cluster = Cluster {
@@ -293,7 +309,7 @@ fn run_begun<
         mailboxes: mailboxes.as_slice(),
         places: places.as_slice(),
         rebuilt: rebuilt.as_slice(),
-        stop: &stop,
+        halt: &halt,
     };
     run_scope(rt, &shared, workers, &cluster, body)
 }

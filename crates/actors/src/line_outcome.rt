@@ -1,10 +1,14 @@
 //! What lines of a script come to.
 ghost use Rattle.std.specs.Prelude.{◌≡◌};
+ghost use Rattle.actors.specs.Cuts.{is_cut, is_open, open_by};
 ghost use Rattle.actors.specs.Lines.{begins, code_of, ends, receipt_of};
 
 use crate::call_error::CallError;
+use crate::cut::name_at;
 use book::receipt::Receipt;
+use messages::entry::Entry;
 use messages::refusal::Refused;
+use model::call::CallId;
 
 /// What a line of a script comes to on threads.
 #[derive(Clone, Copy, Debug)]
@@ -19,6 +23,10 @@ pub enum LineOutcome {
     Refused(Refused),
     /// Nothing came of the line itself: `settle` only waits for the calls of its phase.
     Settled,
+    /// The call, which is the entry at this position, from 1, was open when the run was ended as stuck.
+    Open(u32),
+    /// The run was ended before the line's turn came.
+    Left,
 }
 
 impl LineOutcome {
@@ -50,7 +58,7 @@ impl LineOutcome {
         match self {
             LineOutcome::Answered(receipt) => Some(receipt.call_at()),
             LineOutcome::Denied(CallError::Killed { call_at }) => Some(*call_at),
-            LineOutcome::Made(at) => Some(*at),
+            LineOutcome::Made(at) | LineOutcome::Open(at) => Some(*at),
             _ => None,
         }
     }
@@ -63,8 +71,32 @@ impl LineOutcome {
         match self {
             LineOutcome::Answered(receipt) => Some(receipt.reply_at()),
             LineOutcome::Denied(CallError::Killed { call_at }) => Some(*call_at),
-            LineOutcome::Made(at) => Some(*at),
+            LineOutcome::Made(at) | LineOutcome::Open(at) => Some(*at),
             _ => None,
         }
+    }
+
+    /// Whether the call was open when the run was ended.
+    pub(crate) fn is_open(&self) -> bool
+        ensures { result ≡ is_open self.now }
+    {
+        matches!(self, LineOutcome::Open(_))
+    }
+
+    /// The name of the call that was open when the run of these entries was ended.
+    pub(crate) fn open_call(&self, entries: &[Entry]) -> Option<CallId>
+        ensures { result ≡ open_by entries.now self.now }
+    {
+        match self {
+            LineOutcome::Open(at) => name_at(entries, *at),
+            _ => None,
+        }
+    }
+
+    /// Whether it is that of a run which was ended as stuck.
+    pub fn is_cut(&self) -> bool
+        ensures { result ≡ is_cut self.now }
+    {
+        matches!(self, LineOutcome::Open(_) | LineOutcome::Left)
     }
 }

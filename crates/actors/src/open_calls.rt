@@ -44,6 +44,13 @@ impl OpenCall {
         }
     }
 
+    /// That the worker ended while the call was open.
+    pub(crate) fn unanswered(&self) -> CallError {
+        CallError::Unanswered {
+            call_at: self.stamp.position(),
+        }
+    }
+
     // Whether this is the number of the call.
     fn has_number(&self, number: u32) -> bool {
         match self.stamp.outcome().call {
@@ -160,6 +167,13 @@ impl OpenCalls {
         match self.calls.get_mut(index) {
             Some(call) => call.patience.pass_tick(),
             None => false,
+        }
+    }
+
+    /// The open call of the process was refused memory, and waits as if for the first time.
+    pub(crate) fn wait_anew(&mut self, pid: u16) {
+        if let Some(call) = self.calls.iter_mut().find(|call| call.pid == pid) {
+            call.patience = Patience::new();
         }
     }
 

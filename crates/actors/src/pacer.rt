@@ -6,16 +6,15 @@ use std::thread;
 use std::time::{Clock, Duration};
 
 /// Sends each mailbox whose worker waits for it a tick a millisecond at most, the next only when the
-/// last one came back. As the workers are to stop, it sends each one that they wake at, until none works.
+/// last one came back. As the workers are to end, it sends each one that they wake at, until none works.
 pub(crate) fn pace<G, R: Wait + Clock>(rt: &R, shared: &Shared<'_, G>) {
     for _ in rt.forever() {
         thread::sleep(rt, Duration::from_millis(1));
-        let stops = shared.stop.load(Ordering::SeqCst) != 0;
-        if stops && shared.working.load(Ordering::SeqCst) == 0 {
+        if shared.halt.is_set() && shared.working.load(Ordering::SeqCst) == 0 {
             break;
         }
         for mailbox in shared.mailboxes {
-            mailbox.tick(rt, stops);
+            mailbox.tick(rt, shared.halt);
         }
     }
 }

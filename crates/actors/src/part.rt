@@ -28,7 +28,8 @@ impl<'a> Part<'a> {
         }
     }
 
-    /// Makes the calls in order, each after the reply to the one before. Whether all were made.
+    /// Makes the calls in order, each after the reply to the one before, up to one that has no answer since the
+    /// run was ended. False where no more are made for another reason.
     pub(crate) fn play<R: Wait>(&mut self, rt: &R) -> bool {
         let Part {
             client,
@@ -37,29 +38,35 @@ impl<'a> Part<'a> {
             stopped,
         } = self;
         for (index, op) in calls.iter() {
-            if let Err(why) = make(rt, client, *index, *op, outcomes) {
-                *stopped = Some(why);
-                return false;
+            match make(rt, client, *index, *op, outcomes) {
+                Ok(goes_on) if goes_on => {}
+                Ok(_) => break,
+                Err(why) => {
+                    *stopped = Some(why);
+                    return false;
+                }
             }
         }
         true
     }
 }
 
-// Makes the call of the line at the index, and keeps what it came to, unless that ends the run.
+// Makes the call of the line at the index, and keeps what it came to, unless that ends the run. Whether the
+// next may be made.
 fn make<R: Wait>(
     rt: &R,
     client: &mut Client<'_>,
     index: usize,
     op: Op,
     outcomes: &mut Vec<(usize, LineOutcome)>,
-) -> Result<(), Stop> {
+) -> Result<bool, Stop> {
     let outcome = match client.call(rt, op) {
         Ok(receipt) => LineOutcome::Answered(receipt),
         Err(CallError::NoMemory) => return Err(Stop::NoMemory),
         Err(CallError::JournalFull) => return Err(Stop::JournalFull),
+        Err(CallError::Unanswered { call_at }) => LineOutcome::Open(call_at),
         Err(why) => LineOutcome::Denied(why),
     };
     outcomes.push((index, outcome))?;
-    Ok(())
+    Ok(!outcome.is_open())
 }

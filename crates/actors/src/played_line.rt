@@ -1,10 +1,10 @@
 //! Lines of a script with what they came to.
 ghost use Rattle.std.specs.Prelude.{◌≡◌, ◌↔◌, IsTrue};
-ghost use Rattle.actors.specs.declared.line_outcome.LineOutcome.TheVariants.{Settled};
-ghost use Rattle.actors.specs.Lines.{Fits, is_call, is_change, made_by, may_be_denied, may_be_refused, receipt_in, refused_in};
+ghost use Rattle.actors.specs.declared.line_outcome.LineOutcome.TheVariants.{Left};
+ghost use Rattle.actors.specs.Lines.{Fits, asker, is_call, is_change, made_by, may_be_denied, may_be_refused, receipt_in, refused_in};
 ghost use Rattle.lockscript.specs.declared.script_line.Command.TheVariants.{Call, Settle};
 
-use crate::asked::Asked;
+use crate::asked::{Asked, asker_of};
 use crate::call_error::CallError;
 use crate::line_outcome::LineOutcome;
 use book::receipt::Receipt;
@@ -20,13 +20,13 @@ pub struct PlayedLine {
 }
 
 impl PlayedLine {
-    /// A line of which nothing came yet.
+    /// A line whose turn has not come.
     pub(crate) fn new(line: ScriptLine) -> PlayedLine
-        ensures { (result.line ≡ line) × (result.outcome ≡ Settled) }
+        ensures { (result.line ≡ line) × (result.outcome ≡ Left) }
     {
         PlayedLine {
             line,
-            outcome: LineOutcome::Settled,
+            outcome: LineOutcome::Left,
         }
     }
 
@@ -59,6 +59,20 @@ impl PlayedLine {
         })
     }
 
+    /// Who asks: a process, by its node and its number; for other lines 0 and 0.
+    pub(crate) fn asker(&self) -> (u8, u16)
+        ensures { result ≡ asker self.now.line.command }
+    {
+        asker_of(&self.line.command())
+    }
+
+    /// Whether the run was ended before the line's turn came.
+    pub(crate) fn is_left(&self) -> bool
+        ensures { IsTrue result ↔ (self.now.outcome ≡ Left) }
+    {
+        matches!(self.outcome, LineOutcome::Left)
+    }
+
     /// Whether the line asks for a call.
     pub(crate) fn is_call(&self) -> bool
         ensures { result ≡ is_call self.now.line.command }
@@ -77,6 +91,8 @@ impl PlayedLine {
             LineOutcome::Made(at) => is_change(&command) && at > 0,
             LineOutcome::Refused(why) => is_change(&command) && may_be_refused(why),
             LineOutcome::Settled => is_settle(&command),
+            LineOutcome::Open(at) => is_call(&command) && at > 0,
+            LineOutcome::Left => true,
         }
     }
 }

@@ -38,6 +38,11 @@ impl Resends {
         self.needed && self.patience.pass_tick()
     }
 
+    /// It was refused memory, and waits as if for the first time.
+    pub(crate) fn wait_anew(&mut self) {
+        self.patience = Patience::new();
+    }
+
     /// There is nothing to send again before the next step.
     pub(crate) fn end(&mut self) {
         self.needed = false;

@@ -1,4 +1,5 @@
 //! What the threads of a cluster share.
+use crate::halt::Halt;
 use crate::letter::Letter;
 use crate::place::Place;
 use crate::rebuilt::Rebuilt;
@@ -29,13 +30,14 @@ impl Mailbox {
         }
     }
 
-    /// Sends a tick if the worker waits for one, or if all workers are to stop. One whose sending is
+    /// Sends a tick if the worker waits for one, or if all workers are to end. One whose sending is
     /// refused is sent at the next call.
-    pub(crate) fn tick<R: Wait>(&self, rt: &R, stops: bool) {
-        if self.ticks.swap(1, Ordering::SeqCst) == 1 && !stops {
+    pub(crate) fn tick<R: Wait>(&self, rt: &R, halt: &Halt) {
+        if self.ticks.swap(1, Ordering::SeqCst) == 1 && !halt.is_set() {
             return;
         }
-        if self.letters.send(rt, Letter::Tick).is_err() {
+        if let Err(SendError::OutOfMemory(_)) = self.letters.send(rt, Letter::Tick) {
+            halt.note_refused();
             self.ticks.store(0, Ordering::SeqCst);
         }
     }
@@ -45,13 +47,17 @@ impl Mailbox {
         self.ticks.store(0, Ordering::SeqCst);
     }
 
-    /// Sends a letter, again for as long as memory for it is refused.
-    pub(crate) fn send_surely<R: Wait>(&self, rt: &R, letter: Letter) {
+    /// Sends a letter, again for as long as memory for it is refused, or up to the end of the workers.
+    pub(crate) fn send_surely<R: Wait>(&self, rt: &R, letter: Letter, halt: &Halt) {
         let mut letter = letter;
         for _ in rt.forever() {
             match self.letters.send(rt, letter) {
                 Err(SendError::OutOfMemory(back)) => letter = back,
                 _ => return,
+            }
+            halt.note_refused();
+            if halt.is_set() {
+                return;
             }
             thread::yield_now();
         }
@@ -60,7 +66,7 @@ impl Mailbox {
 
 /// What the threads of a cluster share: the book under its lock, the gate, and for each actor, nodes
 /// first, its mailbox; for each node its place; for each file its server that begins again, until its
-/// worker takes that; whether the workers are to stop; and how many work.
+/// worker takes that; whether the workers are to end; and how many work.
 #[derive(Drop)]
 pub(crate) struct Shared<'a, G> {
     pub(crate) alloc: Global,
@@ -70,7 +76,7 @@ pub(crate) struct Shared<'a, G> {
     pub(crate) mailboxes: &'a [Mailbox],
     pub(crate) places: &'a [Mutex<Place>],
     pub(crate) rebuilt: &'a [Mutex<Option<Rebuilt>>],
-    pub(crate) stop: &'a AtomicU64,
+    pub(crate) halt: &'a Halt,
     pub(crate) working: &'a AtomicU64,
 }
 
@@ -82,15 +88,19 @@ impl<G> Shared<'_, G> {
 
     /// Puts a copy of the message into the mailbox of its addressee, as `deliver` does.
     pub(crate) fn send<R: Wait>(&self, rt: &R, message: &Message) {
-        if let Ok(copy) = message.copy(self.alloc) {
-            self.deliver(rt, copy);
+        match message.copy(self.alloc) {
+            Ok(copy) => self.deliver(rt, copy),
+            Err(_) => self.halt.note_refused(),
         }
     }
 
     /// Puts the message into the mailbox of its addressee. One for which there is no memory is lost.
     pub(crate) fn deliver<R: Wait>(&self, rt: &R, message: Message) {
-        if let Some(mailbox) = self.mailbox(message.addressee()) {
-            let _ = mailbox.letters.send(rt, Letter::Deliver(message));
+        let Some(mailbox) = self.mailbox(message.addressee()) else {
+            return;
+        };
+        if let Err(SendError::OutOfMemory(_)) = mailbox.letters.send(rt, Letter::Deliver(message)) {
+            self.halt.note_refused();
         }
     }
 

@@ -1,11 +1,13 @@
 //! What came of a script on threads.
-ghost use Rattle.std.specs.Prelude.{◌≡◌, ◌↔◌, true, All, IfOk, IsTrue, filter_map, map};
+ghost use Rattle.std.specs.Prelude.{◌≡◌, ◌↔◌, true, false, All, IfOk, IsTrue, filter_map, map};
 ghost use Rattle.lockscript.specs.Scripts.{LineFields};
-ghost use Rattle.actors.specs.Lines.{AreLinesOf, Fits, receipt_in, refused_in};
+ghost use Rattle.actors.specs.Cuts.{AreBarred, IsUnanswered, is_cut, open_by};
+ghost use Rattle.actors.specs.Lines.{AreLinesOf, ArePhases, Fits, receipt_in, refused_in};
 ghost use Rattle.actors.specs.Runs.{IsOfScript};
 
 use crate::asked::are_made;
-use crate::known::are_phases;
+use crate::cut::{are_barred, are_unanswered};
+use crate::phase_order::are_phases;
 use crate::played_line::PlayedLine;
 use book::receipt::Receipt;
 use cluster_core::journal::Journal;
@@ -13,17 +15,20 @@ use lockscript::refused_line::RefusedLine;
 use lockscript::script::Script;
 use lockscript::script_line::ScriptLine;
 use messages::entry::Entry;
+use model::call::CallId;
 use std::alloc::{AllocError, Global};
 use std::marker::Model;
 
 /// What came of a script on threads: the journal, the script's lines with what each came to, the receipts
-/// of the calls that were answered, and the lines that were refused.
+/// of the calls that were answered, the lines that were refused, and the calls that are open where the run
+/// was ended as stuck.
 #[derive(Drop)]
 pub struct ThreadRun {
     journal: Journal,
     lines: Vec<PlayedLine>,
     receipts: Vec<Receipt>,
     refused: Vec<RefusedLine>,
+    open_calls: Vec<CallId>,
 }
 
 impl Model for ThreadRun {
@@ -31,7 +36,7 @@ impl Model for ThreadRun {
 
     ghost Value = { ThreadRunFields };
 
-    ghost view = { λ r. record { journal = r.journal; lines = r.lines.items; receipts = r.receipts.items; refused = r.refused.items } };
+    ghost view = { λ r. record { journal = r.journal; lines = r.lines.items; receipts = r.receipts.items; refused = r.refused.items; open_calls = r.open_calls.items } };
 }
 
 impl ThreadRun {
@@ -43,16 +48,18 @@ impl ThreadRun {
     pub(crate) fn new(
         alloc: Global,
         script: &Script,
+        may_stop: bool,
         lines: Vec<PlayedLine>,
         journal: Journal,
     ) -> Result<ThreadRun, AllocError>
         requires { journal.shape ≡ script.now.shape }
         ensures journal { IfOk result (λ run. run.journal ≡ journal) }
-        ensures of_script { IfOk result (IsOfScript script.now) }
+        ensures of_script { IfOk result (IsOfScript script.now may_stop) }
     {
         let (told, entries) = (lines.as_slice(), journal.entries());
-        let are_of = are_lines_of(alloc, script.lines(), entries, told)?;
-        if !are_of || !all_fit(told) || !are_phases(told) {
+        let open_calls = open_in(alloc, entries, told)?;
+        let calls = open_calls.as_slice();
+        if !are_of_script(alloc, script.lines(), may_stop, entries, told, calls)? {
             return Err(AllocError);
         }
         let receipts = receipts_in(alloc, told)?;
@@ -62,6 +69,7 @@ impl ThreadRun {
             lines,
             receipts,
             refused,
+            open_calls,
         })
     }
 
@@ -86,12 +94,81 @@ impl ThreadRun {
         self.receipts.as_slice()
     }
 
+    /// The calls that are open, in order of their lines: some only where the run was ended as stuck.
+    pub fn open_calls(&self) -> &[CallId]
+        ensures { result.now ≡ self.now.open_calls }
+    {
+        self.open_calls.as_slice()
+    }
+
     /// The lines that were refused with the numbers of their refusals, in order of lines.
     pub fn refused(&self) -> &[RefusedLine]
         ensures { result.now ≡ self.now.refused }
     {
         self.refused.as_slice()
     }
+}
+
+// Whether the lines are those of the script in a run of these entries, which may have been ended with these
+// open calls.
+fn are_of_script(
+    alloc: Global,
+    script: &[ScriptLine],
+    may_stop: bool,
+    entries: &[Entry],
+    lines: &[PlayedLine],
+    open_calls: &[CallId],
+) -> Result<bool, AllocError>
+    ensures lines { IfOk result (λ are. are ≡ true → AreLinesOf script.now entries.now lines.now) }
+    ensures fit { IfOk result (λ are. are ≡ true → All (λ l. Fits l.line.command l.outcome) lines.now) }
+    ensures phases { IfOk result (λ are. are ≡ true → ArePhases lines.now) }
+    ensures unanswered { IfOk result (λ are. are ≡ true → All (IsUnanswered entries.now) open_calls.now) }
+    ensures barred { IfOk result (λ are. are ≡ true → AreBarred lines.now) }
+    ensures whole { IfOk result (λ are. are ≡ true → may_stop ≡ false → All (λ l. is_cut l.outcome ≡ false) lines.now) }
+{
+    if !are_lines_of(alloc, script, entries, lines)? || !all_fit(lines) || !are_phases(lines) {
+        return Ok(false);
+    }
+    are_cut_so(alloc, may_stop, entries, lines, open_calls)
+}
+
+// Whether the run of these lines may have been ended with these open calls.
+fn are_cut_so(
+    alloc: Global,
+    may_stop: bool,
+    entries: &[Entry],
+    lines: &[PlayedLine],
+    open_calls: &[CallId],
+) -> Result<bool, AllocError>
+    ensures unanswered { IfOk result (λ are. are ≡ true → All (IsUnanswered entries.now) open_calls.now) }
+    ensures barred { IfOk result (λ are. are ≡ true → AreBarred lines.now) }
+    ensures whole { IfOk result (λ are. are ≡ true → may_stop ≡ false → All (λ l. is_cut l.outcome ≡ false) lines.now) }
+{
+    if !are_unanswered(entries, open_calls) || !are_barred(alloc, lines)? {
+        return Ok(false);
+    }
+    Ok(may_stop || are_whole(lines))
+}
+
+// Whether no line is that of a run which was ended as stuck.
+fn are_whole(lines: &[PlayedLine]) -> bool
+    ensures { IsTrue result → All (λ l. is_cut l.outcome ≡ false) lines.now }
+{
+    lines.iter().all(|line| !line.outcome.is_cut())
+}
+
+// The names of the calls that are open.
+fn open_in(
+    alloc: Global,
+    entries: &[Entry],
+    lines: &[PlayedLine],
+) -> Result<Vec<CallId>, AllocError>
+    ensures { IfOk result (λ calls. calls.items ≡ filter_map (λ l. open_by entries.now l.outcome) lines.now) }
+{
+    lines
+        .iter()
+        .filter_map(|line| line.outcome.open_call(entries))
+        .collect(alloc)
 }
 
 // Whether each line may have come to what it says.

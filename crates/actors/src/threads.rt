@@ -31,6 +31,10 @@ use std::time::Clock;
 /// refused, but for want of memory or of room in the journal, is listed and the run goes on. Messages
 /// meet the weather of the seed.
 ///
+/// A run that may stop where it is stuck is ended where the calls that are open can't be answered any more:
+/// each waits for a lock that somebody holds, or for a server that is declared failed, and no process is left
+/// to make a call. They stay open, and the lines behind them, of their processes and of later phases, are left.
+///
 /// # Errors
 /// `BadLine` with the number of the first line that is another, before anything runs; `NoMemory` where
 /// a request for memory or for a thread was refused; `JournalFull` with the journal where the run needs
@@ -41,10 +45,11 @@ pub fn run_threads<G: Gate + Sync, R: Threads + Wait + Clock + Sync>(
     script: &Script,
     gate: &G,
     seed: u32,
+    may_stop: bool,
 ) -> Result<ThreadRun, RunError>
     // The run is of the script: each line has just one outcome, which is of what it asks, and the calls,
     // failures and starts in the journal are those of its lines.
-    ensures of_script { IfOk result (IsOfScript script.now) }
+    ensures of_script { IfOk result (IsOfScript script.now may_stop) }
 
     // One table explains every reply, and ends as what the nodes hold.
     ensures one_table { IfOk result (λ run. HasOneHistory run.journal.shape run.journal.entries) }
@@ -57,11 +62,11 @@ pub fn run_threads<G: Gate + Sync, R: Threads + Wait + Clock + Sync>(
     if let Some(number) = script.bad_line_on_threads() {
         return Err(RunError::BadLine(number));
     }
-    let Ok((lines, journal)) = run_script(rt, alloc, script, gate, seed) else {
+    let Ok((lines, journal)) = run_script(rt, alloc, script, gate, seed, may_stop) else {
         return Err(RunError::NoMemory);
     };
     match lines {
-        Ok(lines) => Ok(ThreadRun::new(alloc, script, lines, journal)?),
+        Ok(lines) => Ok(ThreadRun::new(alloc, script, may_stop, lines, journal)?),
         Err(Stop::JournalFull) if is_full(alloc, script, &journal) => {
             Err(RunError::JournalFull(journal))
         }
@@ -76,6 +81,7 @@ fn run_script<G: Gate + Sync, R: Threads + Wait + Clock + Sync>(
     script: &Script,
     gate: &G,
     seed: u32,
+    may_stop: bool,
 ) -> Result<(Result<Vec<PlayedLine>, Stop>, Journal), AllocError>
     ensures shape { IfOk result (λ run. run.1.shape ≡ script.now.shape) }
     ensures one_table { IfOk result (λ run. HasOneHistory run.1.shape run.1.entries) }
@@ -84,7 +90,7 @@ fn run_script<G: Gate + Sync, R: Threads + Wait + Clock + Sync>(
     let actors = u32::from(shape.nodes()) + u32::from(shape.files());
     let weathers = weathers_of(alloc, seed, actors)?;
     let run = with_cluster(rt, alloc, shape, gate, weathers, |cluster| {
-        run_lines(rt, alloc, cluster, script.lines())
+        run_lines(rt, alloc, cluster, script.lines(), may_stop)
     });
     match run {
         // A lock says nothing of the book that it gives back, so the shape is looked at.
@@ -112,13 +118,14 @@ fn weathers_of(alloc: Global, seed: u32, count: u32) -> Result<Vec<Seeded>, Allo
 }
 
 // Runs the lines in order on a cluster that runs.
-fn run_lines<R: Threads + Wait + Sync>(
+fn run_lines<R: Threads + Wait + Clock + Sync>(
     rt: &R,
     alloc: Global,
     cluster: &Cluster<'_>,
     lines: &[ScriptLine],
+    may_stop: bool,
 ) -> Result<Vec<PlayedLine>, Stop> {
-    let mut phases = Phases::new(alloc, cluster);
+    let mut phases = Phases::new(alloc, cluster, may_stop);
     for line in lines {
         phases.take(rt, line)?;
     }

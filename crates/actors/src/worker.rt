@@ -17,15 +17,21 @@ use book::prepared::Prepared;
 use book::receipt::Receipt;
 use book::seat::Seat;
 use book::stamp::Stamp;
-use crossbeam_channel::{Receiver, Sender};
+use crossbeam_channel::{Receiver, RecvTimeoutError, Sender};
 use messages::actor::Actor;
 use messages::event::Event;
+use messages::refusal::StepError;
 use model::mode::Mode;
 use model::op::Op;
 use model::process::Process;
 use std::alloc::Global;
 use std::sync::Wait;
 use std::sync::atomic::Ordering;
+use std::time::{Clock, Duration};
+
+// The longest sleep of a worker, in milliseconds. A letter wakes it, but where memory is refused there may be
+// none that tells it to end.
+const LONGEST_SLEEP: u64 = 250;
 
 /// An actor at work: its seat, and why no step of it is taken any more, if that was met; its messages on
 /// their way; its mailbox, and whether the last tick has not been given back; of a node the open calls of
@@ -64,8 +70,8 @@ impl<W: Weather> Worker<W> {
         }
     }
 
-    /// Takes letters until the workers are to stop.
-    pub(crate) fn work<G: Gate, R: Wait>(self, rt: &R, shared: &Shared<'_, G>) {
+    /// Takes letters until the workers are to end.
+    pub(crate) fn work<G: Gate, R: Wait + Clock>(self, rt: &R, shared: &Shared<'_, G>) {
         let mut worker = self;
         for _ in rt.forever() {
             let Some(letter) = worker.next_letter(rt, shared) else {
@@ -75,16 +81,29 @@ impl<W: Weather> Worker<W> {
             worker.take(rt, shared, letter);
             worker.ask_for_tick(shared);
         }
+        worker.leave_all(rt, shared.alloc);
         shared.working.fetch_sub(1, Ordering::SeqCst);
     }
 
-    // The next letter; none where there will be no more, or the workers are to stop.
-    fn next_letter<G: Gate, R: Wait>(&self, rt: &R, shared: &Shared<'_, G>) -> Option<Letter> {
-        let letter = self.inbox.recv(rt).ok()?;
-        if shared.stop.load(Ordering::SeqCst) != 0 {
-            return None;
+    // The next letter; none where there will be no more, or the workers are to end.
+    fn next_letter<G: Gate, R: Wait + Clock>(
+        &self,
+        rt: &R,
+        shared: &Shared<'_, G>,
+    ) -> Option<Letter> {
+        let longest = Duration::from_millis(LONGEST_SLEEP);
+        for _ in rt.forever() {
+            let next = self.inbox.recv_timeout(rt, longest);
+            if shared.halt.is_set() {
+                break;
+            }
+            match next {
+                Ok(letter) => return Some(letter),
+                Err(RecvTimeoutError::Timeout) => {}
+                Err(RecvTimeoutError::Disconnected) => break,
+            }
         }
-        Some(letter)
+        None
     }
 
     // Takes the seat of a new incarnation or epoch, if there is one.
@@ -234,7 +253,7 @@ impl<W: Weather> Worker<W> {
         let learned = self.step(rt, shared, event);
         if learned == Err(CallError::NoMemory) {
             if let Some(mailbox) = shared.mailbox(self.seat.actor()) {
-                mailbox.send_surely(rt, Letter::Learn { node, incarnation });
+                mailbox.send_surely(rt, Letter::Learn { node, incarnation }, shared.halt);
             }
         }
     }
@@ -278,8 +297,10 @@ impl<W: Weather> Worker<W> {
 
     // The node tries an open call again. Where no step of this incarnation is taken any more, all end.
     fn retry<G: Gate, R: Wait>(&mut self, rt: &R, shared: &Shared<'_, G>, node: u8, pid: u16) {
-        if let Err(why) = self.step(rt, shared, Event::Retry { node, pid }) {
-            self.end_at(rt, shared.alloc, why);
+        match self.step(rt, shared, Event::Retry { node, pid }) {
+            Ok(()) => {}
+            Err(CallError::NoMemory) => self.waiting.wait_anew(pid),
+            Err(why) => self.end_at(rt, shared.alloc, why),
         }
     }
 
@@ -288,8 +309,10 @@ impl<W: Weather> Worker<W> {
         if !self.resends.pass_tick() {
             return;
         }
-        if let Ok(prepared) = self.seat.prepare(shared.alloc, Event::Resend { file }) {
-            self.send_again(rt, shared, prepared);
+        match self.seat.prepare(shared.alloc, Event::Resend { file }) {
+            Ok(prepared) => self.send_again(rt, shared, prepared),
+            Err(StepError::NoMemory) => self.lack_memory(shared),
+            Err(_) => {}
         }
     }
 
@@ -304,8 +327,15 @@ impl<W: Weather> Worker<W> {
         match commit(rt, shared, &mut self.seat, prepared, None) {
             Ok(stamp) => self.outgoing.send_all(rt, shared, &stamp),
             Err(CallError::Fenced) => self.resends.end(),
+            Err(CallError::NoMemory) => self.lack_memory(shared),
             Err(_) => {}
         }
+    }
+
+    // The server was refused memory as it would have sent again.
+    fn lack_memory<G>(&mut self, shared: &Shared<'_, G>) {
+        shared.halt.note_refused();
+        self.resends.wait_anew();
     }
 
     // The actor does a step; its messages are sent, and the call that it answers gets its receipt.
@@ -349,6 +379,13 @@ impl<W: Weather> Worker<W> {
         }
     }
 
+    // The worker ends, and leaves each open call without an answer.
+    fn leave_all<R: Wait>(&mut self, rt: &R, alloc: Global) {
+        for call in self.waiting.take_all(alloc) {
+            answer(rt, &call.back, Err(call.unanswered()));
+        }
+    }
+
     // Each open call ends without a reply.
     fn end_all<R: Wait>(&mut self, rt: &R, alloc: Global, why: CallError) {
         for call in self.waiting.take_all(alloc) {
@@ -371,8 +408,23 @@ fn answer<R: Wait>(rt: &R, back: &Sender<Answer>, answer: Answer) {
     let _ = back.send(rt, answer);
 }
 
-// Prepares a step of the seat with no lock, and commits it.
+// Prepares a step of the seat with no lock, and commits it. That memory is refused for it is noted.
 fn commit_step<G: Gate, R: Wait>(
+    rt: &R,
+    shared: &Shared<'_, G>,
+    seat: &mut Seat,
+    event: Event,
+    seen: Option<&Mark>,
+) -> Result<Stamp, CallError> {
+    let made = try_step(rt, shared, seat, event, seen);
+    if let Err(CallError::NoMemory) = made {
+        shared.halt.note_refused();
+    }
+    made
+}
+
+// Prepares a step of the seat with no lock, and commits it.
+fn try_step<G: Gate, R: Wait>(
     rt: &R,
     shared: &Shared<'_, G>,
     seat: &mut Seat,
@@ -400,6 +452,7 @@ fn commit<G: Gate, R: Wait>(
         .lock(rt)
         .commit(shared.alloc, seat, prepared, seen);
     let stamp = committed?;
+    shared.halt.note_step();
     shared.gate.at(Point::Committed(actor, stamp.position()));
     Ok(stamp)
 }

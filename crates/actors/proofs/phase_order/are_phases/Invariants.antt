@@ -1,5 +1,5 @@
 use Rattle.actors.proofs.InPhases.{Passed}
-use Rattle.actors.proofs.known.are_phases.Given as goal
+use Rattle.actors.proofs.phase_order.are_phases.Given as goal
 
 abbrev pub invariant-loop-line : goal.invariant-loop-line
 invariant-loop-line l = Passed l.fn.lines l.line-index l.known.all l.known.earlier

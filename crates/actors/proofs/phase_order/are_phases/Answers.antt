@@ -1,7 +1,7 @@
-use Rattle.std.proofs.Common.{rules, arith, refl}
+use Rattle.std.proofs.Common.{arith, refl}
 use Rattle.std.proofs.lemmas.Option.{slice_get_read, slice_get_within}
 use Rattle.actors.proofs.InPhases.{none_passed, passed}
-use Rattle.actors.proofs.known.are_phases.Goals as goal
+use Rattle.actors.proofs.phase_order.are_phases.Goals as goal
 
 pub loop-line-init : goal.loop-line-init
 loop-line-init c = none_passed c.args.lines.now

@@ -1,0 +1,49 @@
+-- Runs that were ended as stuck: which calls are open, and which lines were left.
+use Rattle.std.specs.Prelude.{◌≡◌, ◌≢◌, ◌⊎◌, ℕ, ◌-◌, ◌<◌, ◌≤◌, Bool, true, false, List, All, Option, Some, None, slice_get}
+use Rattle.model.specs.declared.call.CallId.{CallId}
+use Rattle.model.specs.declared.reply.Reply.{Reply}
+use Rattle.messages.specs.declared.entry.Entry.{Entry}
+use Rattle.actors.specs.declared.line_outcome.LineOutcome.{LineOutcome}
+use Rattle.actors.specs.declared.line_outcome.LineOutcome.TheVariants.{Open, Left}
+use Rattle.actors.specs.declared.played_line.PlayedLine.{PlayedLine}
+use Rattle.actors.specs.Lines.{asker, is_call}
+
+-- the line is an open call
+abbrev pub is_open : LineOutcome → Bool
+is_open (Open at) = true
+is_open _ = false
+
+-- only a run that was ended as stuck has such a line
+abbrev pub is_cut : LineOutcome → Bool
+is_cut (Open at) = true
+is_cut Left = true
+is_cut _ = false
+
+abbrev pub name_of : Option Entry → Option CallId
+name_of (Some e) = e.call
+name_of None = None
+
+-- the name of the call that is the entry at this position, from 1
+abbrev pub name_at : List Entry → ℕ → Option CallId
+name_at entries at = name_of (slice_get entries (at - 1))
+
+-- the name of the line's call, if that is open
+abbrev pub open_by : List Entry → LineOutcome → Option CallId
+open_by entries (Open at) = name_at entries at
+open_by entries _ = None
+
+-- no entry replies to the call
+abbrev pub IsUnanswered : List Entry → CallId → Type 0
+IsUnanswered entries call = All (λ e. (reply : Reply) → e.reply ≢ Some (call, reply)) entries
+
+-- a line that is no call stands behind the one and not behind the other
+abbrev pub IsParted : List PlayedLine → ℕ → ℕ → Type 0
+IsParted lines i j = (k : ℕ) × (n : PlayedLine) × (i < k) × (k ≤ j) × (slice_get lines k ≡ Some n) × (is_call n.line.command ≡ false)
+
+-- a call of an earlier line is open: of the same process, or in an earlier phase
+abbrev pub IsBarred : List PlayedLine → ℕ → PlayedLine → Type 0
+IsBarred lines j m = (i : ℕ) × (l : PlayedLine) × (i < j) × (slice_get lines i ≡ Some l) × (is_open l.outcome ≡ true) × ((asker l.line.command ≡ asker m.line.command) ⊎ IsParted lines i j)
+
+-- each line that was left is barred so
+abbrev pub AreBarred : List PlayedLine → Type 0
+AreBarred lines = (j : ℕ) (m : PlayedLine) → slice_get lines j ≡ Some m → m.outcome ≡ Left → IsBarred lines j m

@@ -1,0 +1,100 @@
+//! Runs that were ended as stuck.
+ghost use Rattle.std.specs.Prelude.{◌≡◌, ◌≢◌, ◌⊎◌, ◌↔◌, ◌++◌, ◌∷◌, [], true, false, All, IfOk, IsTrue, Some};
+ghost use Rattle.std.specs.List.{Contains};
+ghost use Rattle.model.specs.declared.reply.Reply.{Reply};
+ghost use Rattle.actors.specs.declared.line_outcome.LineOutcome.TheVariants.{Left};
+ghost use Rattle.actors.specs.Cuts.{AreBarred, IsUnanswered, is_open, name_at};
+ghost use Rattle.actors.specs.Lines.{asker, is_call};
+
+use crate::played_line::PlayedLine;
+use messages::entry::Entry;
+use model::call::CallId;
+use std::alloc::{AllocError, Global};
+
+/// The name of the call that is the entry at the position, from 1.
+pub(crate) fn name_at(entries: &[Entry], position: u32) -> Option<CallId>
+    ensures { result ≡ name_at entries.now position }
+{
+    entries.get(position.saturating_sub(1) as usize)?.call()
+}
+
+/// Whether no entry replies to any of the calls.
+pub(crate) fn are_unanswered(entries: &[Entry], calls: &[CallId]) -> bool
+    ensures { IsTrue result → All (IsUnanswered entries.now) calls.now }
+{
+    calls.iter().all(|call| is_unanswered(entries, call))
+}
+
+// Whether no entry replies to the call.
+fn is_unanswered(entries: &[Entry], call: &CallId) -> bool
+    ensures { IsTrue result ↔ IsUnanswered entries.now call.now }
+{
+    entries.iter().all(|entry| !replies_to(entry, call))
+}
+
+// Whether the entry replies to the call.
+fn replies_to(entry: &Entry, call: &CallId) -> bool
+    ensures { IsTrue result ↔ ((reply : Reply) × (entry.now.reply ≡ Some (call.now, reply))) }
+{
+    match entry.reply() {
+        Some((answered, _)) => same_call(&answered, call),
+        None => false,
+    }
+}
+
+// Whether both are one call.
+fn same_call(one: &CallId, other: &CallId) -> bool
+    ensures { IsTrue result ↔ (one.now ≡ other.now) }
+{
+    one == other
+}
+
+// What of the lines so far bars others: who has an open call, and whether one was open before a line that is
+// no call.
+#[derive(Drop)]
+struct Bars {
+    askers: Vec<(u8, u16)>,
+    is_over: bool,
+}
+
+impl Bars {
+    // Passes the next line. False where it was left, and nothing bars it.
+    fn pass(&mut self, line: &PlayedLine) -> Result<bool, AllocError>
+        ensures over { IfOk result (λ may. may ≡ true → self.new.is_over ≡ true → (self.old.is_over ≡ true) ⊎ ((is_call line.now.line.command ≡ false) × (self.old.askers.items ≢ []))) }
+        ensures left { IfOk result (λ may. may ≡ true → line.now.outcome ≡ Left → (self.new.is_over ≡ true) ⊎ Contains self.old.askers.items (asker line.now.line.command)) }
+        ensures opened { IfOk result (λ may. may ≡ true → (self.new.askers.items ≡ self.old.askers.items) ⊎ ((is_open line.now.outcome ≡ true) × (self.new.askers.items ≡ self.old.askers.items ++ asker line.now.line.command ∷ []))) }
+    {
+        let has_open = !self.askers.is_empty();
+        self.is_over = self.is_over || (!line.is_call() && has_open);
+        if line.is_left() && !self.is_over && !has(self.askers.as_slice(), line.asker()) {
+            return Ok(false);
+        }
+        if line.outcome.is_open() {
+            self.askers.push(line.asker())?;
+        }
+        Ok(true)
+    }
+}
+
+// Whether the one is among those.
+fn has(askers: &[(u8, u16)], asker: (u8, u16)) -> bool
+    ensures { IsTrue result → Contains askers.now asker }
+{
+    askers.contains(&asker)
+}
+
+/// Whether each line that was left stands behind an open call, of its process or of an earlier phase.
+pub(crate) fn are_barred(alloc: Global, lines: &[PlayedLine]) -> Result<bool, AllocError>
+    ensures { IfOk result (λ are. are ≡ true → AreBarred lines.now) }
+{
+    let mut bars = Bars {
+        askers: Vec::new(alloc),
+        is_over: false,
+    };
+    for line in lines {
+        if !bars.pass(line)? {
+            return Ok(false);
+        }
+    }
+    Ok(true)
+}

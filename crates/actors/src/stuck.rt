@@ -1,0 +1,158 @@
+//! When no open call can be answered any more.
+use messages::command_number::CommandNumber;
+use messages::entry::Entry;
+use messages::event::Event;
+use messages::message::{Message, Urgency};
+use model::call::CallId;
+use model::host::Host;
+use std::alloc::{AllocError, Global};
+
+/// An open call as its node tried it again: of which process, and what was asked for, if a lock of its own
+/// node was not in its way.
+#[derive(Clone, Copy)]
+struct Try {
+    node: u8,
+    pid: u16,
+    asked: Option<Request>,
+}
+
+/// A request for a token: at the server of which file, for which call, and whether that waits where a lock
+/// is in its way.
+#[derive(Clone, Copy)]
+struct Request {
+    file: u16,
+    call: CallId,
+    waits: bool,
+}
+
+/// Whether the calls that so many processes have open can't be answered any more: since the last entry by
+/// which a lock may have come or gone each was tried again, and met a lock of its own node, or, as it waits
+/// for locks to go, twice one of another, or a server that is declared failed, which those of these files are.
+/// Only a call or a failure could then free one of them, and nobody makes a call. A call that does not wait
+/// is denied where it meets a lock, once it is told of it. False where memory is short for a look.
+pub(crate) fn is_stuck(alloc: Global, entries: &[Entry], processes: usize, failed: &[u16]) -> bool {
+    let since = since_news(entries);
+    match tries_in(alloc, since) {
+        Ok(tries) => {
+            tries.len() >= processes && tries.iter().all(|one| is_blocked(since, one, failed))
+        }
+        Err(_) => false,
+    }
+}
+
+// The entries behind the last by which a lock may have come or gone.
+fn since_news(entries: &[Entry]) -> &[Entry] {
+    let mut start = entries.len();
+    for entry in entries.iter().rev() {
+        if is_news(entry) {
+            break;
+        }
+        start = start.saturating_sub(1);
+    }
+    entries.get(start..).unwrap_or(&[])
+}
+
+// Whether a lock may have come or gone by the entry, or a call have begun.
+fn is_news(entry: &Entry) -> bool {
+    if entry.reply().is_some() {
+        return true;
+    }
+    !matches!(
+        entry.event(),
+        Event::Retry { .. } | Event::Resend { .. } | Event::Deliver(_)
+    )
+}
+
+// The last try of each process that tried.
+fn tries_in(alloc: Global, entries: &[Entry]) -> Result<Vec<Try>, AllocError> {
+    let mut tries: Vec<Try> = Vec::new(alloc);
+    for entry in entries {
+        let Some(next) = try_of(entry) else {
+            continue;
+        };
+        match tries.iter_mut().find(|one| is_of(one, &next)) {
+            Some(one) => *one = next,
+            None => tries.push(next)?,
+        }
+    }
+    Ok(tries)
+}
+
+// Whether both are of one process.
+fn is_of(one: &Try, other: &Try) -> bool {
+    one.node == other.node && one.pid == other.pid
+}
+
+// The try that the entry is, if it is one.
+fn try_of(entry: &Entry) -> Option<Try> {
+    match entry.event() {
+        Event::Retry { node, pid } => Some(Try {
+            node: *node,
+            pid: *pid,
+            asked: entry.sends().iter().find_map(request_of),
+        }),
+        _ => None,
+    }
+}
+
+fn request_of(message: &Message) -> Option<Request> {
+    match message {
+        Message::Request {
+            file,
+            call,
+            urgency,
+            ..
+        } => Some(Request {
+            file: file.get(),
+            call: *call,
+            waits: *urgency == Urgency::Waits,
+        }),
+        _ => None,
+    }
+}
+
+// Whether the call that was tried is blocked for as long as no lock goes.
+fn is_blocked(entries: &[Entry], one: &Try, failed: &[u16]) -> bool {
+    match &one.asked {
+        None => true,
+        Some(request) => {
+            let has_met = request.waits && has_met_locks(entries, &request.call);
+            has_met || failed.contains(&request.file)
+        }
+    }
+}
+
+// Whether the call has met a lock at two commands to one node. The first of them may have been an answer
+// that was sent again.
+fn has_met_locks(entries: &[Entry], call: &CallId) -> bool {
+    let mut last: Option<(Host, CommandNumber)> = None;
+    for (holder, number) in entries.iter().filter_map(|entry| conflict_of(entry, call)) {
+        if let Some((host, earlier)) = last {
+            if host == holder && earlier != number {
+                return true;
+            }
+        }
+        last = Some((holder, number));
+    }
+    false
+}
+
+// The node that tells by the entry that a lock of it is in the call's way, and at which command.
+fn conflict_of(entry: &Entry, call: &CallId) -> Option<(Host, CommandNumber)> {
+    entry
+        .sends()
+        .iter()
+        .find_map(|message| conflict_about(message, call))
+}
+
+fn conflict_about(message: &Message, about: &CallId) -> Option<(Host, CommandNumber)> {
+    match message {
+        Message::Conflict {
+            holder,
+            number,
+            call,
+            ..
+        } if call == about => Some((*holder, *number)),
+        _ => None,
+    }
+}
