@@ -1,18 +1,17 @@
 -- What clap makes of plain words.
-use Rattle.std.proofs.Common.{arith, refl, sym, subst, ap, codes, true, false, ℕ, ◌≤◌, List, Option, Some, None, [], ◌∷◌, ◌≡◌, ◌≢◌}
-use Rattle.std.specs.Prelude.{decimal, pos, slice_get}
+use Rattle.std.proofs.Common.{arith, refl, sym, subst, ap, codes, true, false, ℕ, List, Some, None, [], ◌∷◌, ◌≡◌, ◌≢◌}
+use Rattle.std.specs.Prelude.{decimal, slice_get}
 use Rattle.std.specs.Str.{bytes_eq}
 use Rattle.std.specs.List.{All}
 use Rattle.std.proofs.lemmas.Bool.{ne_eqb}
 use Rattle.clap.specs.Lexer.{strip_byte}
-use Rattle.clap.specs.ValueTests.{accepts}
-use Rattle.clap.specs.declared.builder.value_parser.ValueParser.TheVariants.{Signed}
 use Rattle.clap.specs.Words.{Text, fault_of, is_simple, is_simple_and_free, subcommand_of}
 use Rattle.clap.proofs.OnLiterals.{clap_on_literals}
-use Rattle.command_line.specs.Program.{program_app, IsMet, IsSeed}
-use Rattle.command_line.specs.Tasks.{Task, run, threads, audit, history, greatest_seed, HasPlainWords, paths_of, plain_words_of}
+use Rattle.command_line.specs.Program.{program_app, IsMet}
+use Rattle.command_line.specs.Tasks.{Task, run, threads, audit, history, explain, open_calls, check, picture, HasPlainWords, paths_of, plain_words_of}
 use Rattle.command_line.specs.Words.{AsksFor, IsPlain}
 use Rattle.command_line.proofs.Seeds.{one_writes, seed_text}
+use Rattle.command_line.proofs.ThreadsWords.{seeded_asks, seeded_to_asks, stopping_asks, stopping_to_asks}
 
 pub is_simple_program : is_simple program_app ≡ true
 unfolding clap_on_literals
@@ -60,6 +59,49 @@ history_taken : (program journal : Text) → strip_byte 45 journal ≡ None → 
 unfolding clap_on_literals
 history_taken program journal no_minus no_dashes = rw (no_dashes, no_minus, no_minus) refl
 
+open_met : (program journal : Text) → strip_byte 45 journal ≡ None → bytes_eq journal (45 ∷ 45 ∷ []) ≡ false → IsMet (subcommand_of program_app (words_of program (open_calls journal))) (open_calls journal)
+unfolding clap_on_literals
+open_met program journal no_minus no_dashes = rw (no_dashes, no_minus, no_minus) refl
+
+open_taken : (program journal : Text) → strip_byte 45 journal ≡ None → bytes_eq journal (45 ∷ 45 ∷ []) ≡ false → fault_of program_app (words_of program (open_calls journal)) ≡ []
+unfolding clap_on_literals
+open_taken program journal no_minus no_dashes = rw (no_dashes, no_minus, no_minus) refl
+
+check_met : (program script : Text) → strip_byte 45 script ≡ None → bytes_eq script (45 ∷ 45 ∷ []) ≡ false → IsMet (subcommand_of program_app (words_of program (check script))) (check script)
+unfolding clap_on_literals
+check_met program script no_minus no_dashes = rw (no_dashes, no_minus, no_minus) refl
+
+check_taken : (program script : Text) → strip_byte 45 script ≡ None → bytes_eq script (45 ∷ 45 ∷ []) ≡ false → fault_of program_app (words_of program (check script)) ≡ []
+unfolding clap_on_literals
+check_taken program script no_minus no_dashes = rw (no_dashes, no_minus, no_minus) refl
+
+picture_met : (program journal : Text) → strip_byte 45 journal ≡ None → bytes_eq journal (45 ∷ 45 ∷ []) ≡ false → IsMet (subcommand_of program_app (words_of program (picture journal None))) (picture journal None)
+unfolding clap_on_literals
+picture_met program journal no_minus no_dashes = rw (no_dashes, no_minus, no_minus) refl
+
+picture_taken : (program journal : Text) → strip_byte 45 journal ≡ None → bytes_eq journal (45 ∷ 45 ∷ []) ≡ false → fault_of program_app (words_of program (picture journal None)) ≡ []
+unfolding clap_on_literals
+picture_taken program journal no_minus no_dashes = rw (no_dashes, no_minus, no_minus) refl
+
+-- `explain JOURNAL CALL`, and `picture JOURNAL --around CALL`
+module _ (program journal call : Text) (journal_minus : strip_byte 45 journal ≡ None) (journal_dashes : bytes_eq journal (45 ∷ 45 ∷ []) ≡ false)
+    (call_minus : strip_byte 45 call ≡ None) (call_dashes : bytes_eq call (45 ∷ 45 ∷ []) ≡ false) where
+  explain_met : IsMet (subcommand_of program_app (words_of program (explain journal call))) (explain journal call)
+  unfolding clap_on_literals
+  explain_met = rw (journal_dashes, journal_minus, journal_minus, call_dashes, call_minus, call_minus) refl
+
+  explain_taken : fault_of program_app (words_of program (explain journal call)) ≡ []
+  unfolding clap_on_literals
+  explain_taken = rw (journal_dashes, journal_minus, journal_minus, call_dashes, call_minus, call_minus) refl
+
+  picture_around_met : IsMet (subcommand_of program_app (words_of program (picture journal (Some call)))) (picture journal (Some call))
+  unfolding clap_on_literals
+  picture_around_met = rw (journal_dashes, journal_minus, journal_minus, call_dashes, call_minus, call_minus) refl
+
+  picture_around_taken : fault_of program_app (words_of program (picture journal (Some call))) ≡ []
+  unfolding clap_on_literals
+  picture_around_taken = rw (journal_dashes, journal_minus, journal_minus, call_dashes, call_minus, call_minus) refl
+
 module _ (program script file : Text) (script_minus : strip_byte 45 script ≡ None) (script_dashes : bytes_eq script (45 ∷ 45 ∷ []) ≡ false)
     (file_minus : strip_byte 45 file ≡ None) (file_dashes : bytes_eq file (45 ∷ 45 ∷ []) ≡ false) where
   run_to_met : IsMet (subcommand_of program_app (words_of program (run script None (Some file)))) (run script None (Some file))
@@ -93,7 +135,7 @@ module _ (program script after file : Text) (script_minus : strip_byte 45 script
 
 -- `threads SCRIPT`, of which the seed is 1
 module _ (program script : Text) (no_minus : strip_byte 45 script ≡ None) (no_dashes : bytes_eq script (45 ∷ 45 ∷ []) ≡ false) where
-  bare_met : IsMet (subcommand_of program_app (program ∷ codes "threads" ∷ script ∷ [])) (threads script 1 None)
+  bare_met : IsMet (subcommand_of program_app (program ∷ codes "threads" ∷ script ∷ [])) (threads script 1 false None)
   unfolding clap_on_literals
   bare_met = (codes "1", rw (no_dashes, no_minus, no_minus) refl, one_writes)
 
@@ -101,22 +143,10 @@ module _ (program script : Text) (no_minus : strip_byte 45 script ≡ None) (no_
   unfolding clap_on_literals
   bare_taken = rw (no_dashes, no_minus, no_minus) refl
 
-pub bare_asks : (program script : Text) → slice_get script 0 ≢ Some 45 → AsksFor (program ∷ codes "threads" ∷ script ∷ []) (threads script 1 None)
+pub bare_asks : (program script : Text) → slice_get script 0 ≢ Some 45 → AsksFor (program ∷ codes "threads" ∷ script ∷ []) (threads script 1 false None)
 bare_asks program script plain =
     let p = is_path script plain in
     record { taken = bare_taken program script p.no_minus p.no_dashes; met = bare_met program script p.no_minus p.no_dashes }
-
--- `threads SCRIPT --seed N`
-module _ (program script number : Text) (seed : ℕ) (script_minus : strip_byte 45 script ≡ None) (script_dashes : bytes_eq script (45 ∷ 45 ∷ []) ≡ false)
-    (number_minus : strip_byte 45 number ≡ None) (number_dashes : bytes_eq number (45 ∷ 45 ∷ []) ≡ false)
-    (fits : accepts false (Signed (pos 0) (pos greatest_seed)) number ≡ true) (writes : IsSeed number seed) where
-  seeded_met : IsMet (subcommand_of program_app (program ∷ codes "threads" ∷ script ∷ codes "--seed" ∷ number ∷ [])) (threads script seed None)
-  unfolding clap_on_literals
-  seeded_met = (number, rw (script_dashes, script_minus, script_minus, number_dashes, number_minus, number_minus, number_minus) refl, writes)
-
-  seeded_taken : fault_of program_app (program ∷ codes "threads" ∷ script ∷ codes "--seed" ∷ number ∷ []) ≡ []
-  unfolding clap_on_literals
-  seeded_taken = rw (script_dashes, script_minus, script_minus, number_dashes, number_minus, number_minus, fits) refl
 
 plain_task : (program : Text) (task : Task) → All (λ path. slice_get path 0 ≢ Some 45) (paths_of task) → HasPlainWords task → AsksFor (words_of program task) task
 plain_task program (run script None None) plain within =
@@ -138,21 +168,54 @@ plain_task program (run script (Some after) (Some file)) plain within =
       taken = run_after_to_taken program script after file p.no_minus p.no_dashes q.no_minus q.no_dashes r.no_minus r.no_dashes;
       met = run_after_to_met program script after file p.no_minus p.no_dashes q.no_minus q.no_dashes r.no_minus r.no_dashes;
     }
-plain_task program (threads script seed None) plain within =
+plain_task program (threads script seed false None) plain within =
     let p = is_path script (plain 0 [] (omega arith)) in
     let n = seed_text seed within in
     let q = is_path (decimal seed) n.no_option in
-    record {
-      taken = seeded_taken program script (decimal seed) seed p.no_minus p.no_dashes q.no_minus q.no_dashes n.fits n.writes;
-      met = seeded_met program script (decimal seed) seed p.no_minus p.no_dashes q.no_minus q.no_dashes n.fits n.writes;
-    }
-plain_task program (threads script seed (Some file)) plain within = absurd within
+    seeded_asks program script (decimal seed) seed p.no_minus p.no_dashes q.no_minus q.no_dashes n.fits n.writes
+plain_task program (threads script seed false (Some file)) plain within =
+    let p = is_path script (plain 0 [] (omega arith)) in
+    let r = is_path file (plain 1 [] (omega arith)) in
+    let n = seed_text seed within in
+    let q = is_path (decimal seed) n.no_option in
+    seeded_to_asks program script (decimal seed) seed p.no_minus p.no_dashes q.no_minus q.no_dashes n.fits n.writes file r.no_minus r.no_dashes
+plain_task program (threads script seed true None) plain within =
+    let p = is_path script (plain 0 [] (omega arith)) in
+    let n = seed_text seed within in
+    let q = is_path (decimal seed) n.no_option in
+    stopping_asks program script (decimal seed) seed p.no_minus p.no_dashes q.no_minus q.no_dashes n.fits n.writes
+plain_task program (threads script seed true (Some file)) plain within =
+    let p = is_path script (plain 0 [] (omega arith)) in
+    let r = is_path file (plain 1 [] (omega arith)) in
+    let n = seed_text seed within in
+    let q = is_path (decimal seed) n.no_option in
+    stopping_to_asks program script (decimal seed) seed p.no_minus p.no_dashes q.no_minus q.no_dashes n.fits n.writes file r.no_minus r.no_dashes
 plain_task program (audit journal) plain within =
     let p = is_path journal (plain 0 [] (omega arith)) in
     record { taken = audit_taken program journal p.no_minus p.no_dashes; met = audit_met program journal p.no_minus p.no_dashes }
 plain_task program (history journal) plain within =
     let p = is_path journal (plain 0 [] (omega arith)) in
     record { taken = history_taken program journal p.no_minus p.no_dashes; met = history_met program journal p.no_minus p.no_dashes }
+plain_task program (explain journal call) plain within =
+    let p = is_path journal (plain 0 [] (omega arith)) in
+    let q = is_path call (plain 1 [] (omega arith)) in
+    record { taken = explain_taken program journal call p.no_minus p.no_dashes q.no_minus q.no_dashes; met = explain_met program journal call p.no_minus p.no_dashes q.no_minus q.no_dashes }
+plain_task program (open_calls journal) plain within =
+    let p = is_path journal (plain 0 [] (omega arith)) in
+    record { taken = open_taken program journal p.no_minus p.no_dashes; met = open_met program journal p.no_minus p.no_dashes }
+plain_task program (check script) plain within =
+    let p = is_path script (plain 0 [] (omega arith)) in
+    record { taken = check_taken program script p.no_minus p.no_dashes; met = check_met program script p.no_minus p.no_dashes }
+plain_task program (picture journal None) plain within =
+    let p = is_path journal (plain 0 [] (omega arith)) in
+    record { taken = picture_taken program journal p.no_minus p.no_dashes; met = picture_met program journal p.no_minus p.no_dashes }
+plain_task program (picture journal (Some call)) plain within =
+    let p = is_path journal (plain 0 [] (omega arith)) in
+    let q = is_path call (plain 1 [] (omega arith)) in
+    record {
+      taken = picture_around_taken program journal call p.no_minus p.no_dashes q.no_minus q.no_dashes;
+      met = picture_around_met program journal call p.no_minus p.no_dashes q.no_minus q.no_dashes;
+    }
 
 pub plain_asks : (words : List Text) (task : Task) → IsPlain words task → AsksFor words task
 plain_asks words task plain =

@@ -2,18 +2,21 @@
 ghost use Rattle.std.specs.Prelude.{◌≡◌, codes, List, map, IfErr, IfOk, Some};
 ghost use Rattle.clap.specs.Words.{app_of, found_of, kind_of, rows_of, rule_of, subcommand_rows_of};
 ghost use Rattle.command_line.specs.Kinds.{IsKindOf, IsLineOf};
-ghost use Rattle.command_line.specs.Program.{after_rule, audit_app, file_rule, history_app, path_rule, program_app, run_app, threads_app};
+ghost use Rattle.command_line.specs.Program.{after_rule, around_rule, audit_app, check_app, explain_app, file_rule, history_app, open_app, path_rule, picture_app, program_app, run_app, stop_rule, threads_app};
 ghost use Rattle.command_line.specs.Tasks.{task_of};
 ghost use Rattle.command_line.specs.Words.{AsksFor, IsRefusal};
 
-use crate::notes::{AUDIT_NOTES, HISTORY_NOTES, PROGRAM_NOTES, RUN_NOTES, THREADS_NOTES, VERSION};
+use crate::notes::{
+    AUDIT_NOTES, CHECK_NOTES, EXPLAIN_NOTES, HISTORY_NOTES, OPEN_NOTES, PICTURE_NOTES,
+    PROGRAM_NOTES, RUN_NOTES, THREADS_NOTES, VERSION,
+};
 use crate::refusal::Refusal;
 use clap::error::ErrorKind;
-use clap::{Arg, ArgMatches, Command, Error, value_parser};
+use clap::{Arg, ArgAction, ArgMatches, Command, Error, value_parser};
 use std::alloc::{AllocError, Global};
 use std::convert::AsStr;
 
-/// What the words of a command line ask for. Each text is a path.
+/// What the words of a command line ask for. Each text is a path, or the name of a call.
 #[derive(Clone, Copy, Debug, PartialEq, Eq)]
 pub enum Line<'a> {
     /// `run SCRIPT [--after JOURNAL] [--journal FILE]`: to run each line of the script in order, in a
@@ -24,12 +27,14 @@ pub enum Line<'a> {
         after: Option<&'a str>,
         journal: Option<&'a str>,
     },
-    /// `threads SCRIPT [--seed N] [--journal FILE]`: to run the script on threads, with this seed or 1, to
-    /// print the listing, how many receipts its journal holds and whether that is one of a run, and first
-    /// to write it to the file, if there is one.
+    /// `threads SCRIPT [--seed N] [--stop-when-stuck] [--journal FILE]`: to run the script on threads, with
+    /// this seed or 1, until its end or, if that is asked for, until no open call can be answered any more,
+    /// to print the listing, how many receipts its journal holds and whether that is one of a run, and
+    /// first to write it to the file, if there is one.
     Threads {
         script: &'a str,
         seed: u32,
+        stop_when_stuck: bool,
         journal: Option<&'a str>,
     },
     /// `audit JOURNAL`: to say whether the journal is one of a run.
@@ -39,6 +44,25 @@ pub enum Line<'a> {
     /// `history JOURNAL`: to print the history of the journal.
     History {
         journal: &'a str,
+    },
+    /// `explain JOURNAL CALL`: to tell the story of the call of this name in the journal.
+    Explain {
+        journal: &'a str,
+        call: &'a str,
+    },
+    /// `open JOURNAL`: to list the calls of the journal that have no reply.
+    Open {
+        journal: &'a str,
+    },
+    /// `check SCRIPT`: to say what is wrong in the script, and whether it can be run on threads.
+    Check {
+        script: &'a str,
+    },
+    /// `picture JOURNAL [--around CALL]`: to draw the first entries of the journal, or those around the call
+    /// of this name.
+    Picture {
+        journal: &'a str,
+        around: Option<&'a str>,
     },
 }
 
@@ -82,6 +106,10 @@ fn line_of<'a>(matches: &ArgMatches<'a>) -> Option<Line<'a>>
         "threads" => threads_in(values),
         "audit" => audit_in(values),
         "history" => history_in(values),
+        "explain" => explain_in(values),
+        "open" => open_in(values),
+        "check" => check_in(values),
+        "picture" => picture_in(values),
         _ => None,
     }
 }
@@ -104,10 +132,12 @@ fn threads_in<'a>(values: &ArgMatches<'a>) -> Option<Line<'a>>
 {
     let script = values.get_str("SCRIPT")?;
     let seed = values.get_one::<u32>("N")?;
+    let stop_when_stuck = values.get_one::<bool>("stop-when-stuck")?;
     let file = values.get_str("FILE");
     Some(Line::Threads {
         script,
         seed,
+        stop_when_stuck,
         journal: file,
     })
 }
@@ -126,6 +156,36 @@ fn history_in<'a>(values: &ArgMatches<'a>) -> Option<Line<'a>>
     Some(Line::History { journal })
 }
 
+fn explain_in<'a>(values: &ArgMatches<'a>) -> Option<Line<'a>>
+    ensures { IsLineOf (Some (codes "explain", rows_of (found_of values.now))) result }
+{
+    let journal = values.get_str("JOURNAL")?;
+    let call = values.get_str("CALL")?;
+    Some(Line::Explain { journal, call })
+}
+
+fn open_in<'a>(values: &ArgMatches<'a>) -> Option<Line<'a>>
+    ensures { IsLineOf (Some (codes "open", rows_of (found_of values.now))) result }
+{
+    let journal = values.get_str("JOURNAL")?;
+    Some(Line::Open { journal })
+}
+
+fn check_in<'a>(values: &ArgMatches<'a>) -> Option<Line<'a>>
+    ensures { IsLineOf (Some (codes "check", rows_of (found_of values.now))) result }
+{
+    let script = values.get_str("SCRIPT")?;
+    Some(Line::Check { script })
+}
+
+fn picture_in<'a>(values: &ArgMatches<'a>) -> Option<Line<'a>>
+    ensures { IsLineOf (Some (codes "picture", rows_of (found_of values.now))) result }
+{
+    let journal = values.get_str("JOURNAL")?;
+    let around = values.get_str("CALL");
+    Some(Line::Picture { journal, around })
+}
+
 fn program<'a>(alloc: Global) -> Result<Command<'a>, AllocError>
     ensures { IfOk result (λ command. app_of command ≡ program_app) }
 {
@@ -138,7 +198,11 @@ fn program<'a>(alloc: Global) -> Result<Command<'a>, AllocError>
         .subcommand(run_command(alloc)?)?
         .subcommand(threads_command(alloc)?)?
         .subcommand(audit_command(alloc)?)?
-        .subcommand(history_command(alloc)?)
+        .subcommand(history_command(alloc)?)?
+        .subcommand(explain_command(alloc)?)?
+        .subcommand(open_command(alloc)?)?
+        .subcommand(check_command(alloc)?)?
+        .subcommand(picture_command(alloc)?)
 }
 
 fn run_command<'a>(alloc: Global) -> Result<Command<'a>, AllocError>
@@ -165,6 +229,7 @@ fn threads_command<'a>(alloc: Global) -> Result<Command<'a>, AllocError>
         .after_long_help(THREADS_NOTES)
         .arg(script_argument(alloc))?
         .arg(seed)?
+        .arg(stop_argument(alloc))?
         .arg(file_argument(alloc))
 }
 
@@ -186,6 +251,44 @@ fn history_command<'a>(alloc: Global) -> Result<Command<'a>, AllocError>
         .arg(journal_argument(alloc))
 }
 
+fn explain_command<'a>(alloc: Global) -> Result<Command<'a>, AllocError>
+    ensures { IfOk result (λ command. app_of command ≡ explain_app) }
+{
+    Command::new(alloc, "explain")
+        .about("Tell the story of a call of a journal")
+        .after_long_help(EXPLAIN_NOTES)
+        .arg(journal_argument(alloc))?
+        .arg(call_argument(alloc))
+}
+
+fn open_command<'a>(alloc: Global) -> Result<Command<'a>, AllocError>
+    ensures { IfOk result (λ command. app_of command ≡ open_app) }
+{
+    Command::new(alloc, "open")
+        .about("List the calls of a journal that have no reply")
+        .after_long_help(OPEN_NOTES)
+        .arg(journal_argument(alloc))
+}
+
+fn check_command<'a>(alloc: Global) -> Result<Command<'a>, AllocError>
+    ensures { IfOk result (λ command. app_of command ≡ check_app) }
+{
+    Command::new(alloc, "check")
+        .about("Say what is wrong in a script")
+        .after_long_help(CHECK_NOTES)
+        .arg(script_argument(alloc))
+}
+
+fn picture_command<'a>(alloc: Global) -> Result<Command<'a>, AllocError>
+    ensures { IfOk result (λ command. app_of command ≡ picture_app) }
+{
+    Command::new(alloc, "picture")
+        .about("Draw a journal, as SVG")
+        .after_long_help(PICTURE_NOTES)
+        .arg(journal_argument(alloc))?
+        .arg(around_argument(alloc))
+}
+
 // The path of a script, which must be there.
 fn script_argument<'a>(alloc: Global) -> Arg<'a>
     ensures { rule_of result ≡ path_rule (codes "SCRIPT") }
@@ -204,6 +307,25 @@ fn after_argument<'a>(alloc: Global) -> Arg<'a>
         .help("Go on behind the run of JOURNAL")
 }
 
+// Whether a run on threads ends where it is stuck.
+fn stop_argument<'a>(alloc: Global) -> Arg<'a>
+    ensures { rule_of result ≡ stop_rule }
+{
+    Arg::new(alloc, "stop-when-stuck")
+        .long("stop-when-stuck")
+        .action(ArgAction::SetTrue)
+        .help("End the run where no open call can be answered any more")
+}
+
+// The name of the call around which a journal is drawn.
+fn around_argument<'a>(alloc: Global) -> Arg<'a>
+    ensures { rule_of result ≡ around_rule }
+{
+    Arg::new(alloc, "CALL")
+        .long("around")
+        .help("Draw the entries around the call, by its name, as 2.1.3")
+}
+
 // The path of the file for the journal of a run.
 fn file_argument<'a>(alloc: Global) -> Arg<'a>
     ensures { rule_of result ≡ file_rule }
@@ -220,4 +342,13 @@ fn journal_argument<'a>(alloc: Global) -> Arg<'a>
     Arg::new(alloc, "JOURNAL")
         .required(true)
         .help("The journal: a file of lines, or /dev/stdin")
+}
+
+// The name of a call, which must be there.
+fn call_argument<'a>(alloc: Global) -> Arg<'a>
+    ensures { rule_of result ≡ path_rule (codes "CALL") }
+{
+    Arg::new(alloc, "CALL")
+        .required(true)
+        .help("The call, by its name in replies and history, as 2.1.3")
 }

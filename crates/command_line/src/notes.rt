@@ -6,12 +6,13 @@ pub(crate) const VERSION: &str = "0.1.0";
 /// What stands under the options of the program.
 pub(crate) const PROGRAM_NOTES: &str = "\
 Exit status:
-  0  done; of audit and history: the journal is one of a run
-  1  audit, history or --after: the journal is not one of a run; threads: it lacks a
-     receipt
+  0  done; of audit, history, explain, open and picture: the journal is one of a run
+  1  audit, history, explain, open, picture or --after: the journal is not one of a run;
+     explain, picture: it has no such call; threads: it lacks a receipt, or the run was
+     stopped as stuck
   2  the words of the command line are refused
   3  SCRIPT or JOURNAL has a bad line or can't be read, JOURNAL is too old to go on
-     from, or FILE or the text can't be written
+     from, or FILE or the text can't be written; check: SCRIPT has bad lines
   4  no memory, or more entries than a journal may have (1048576)
 A line on standard error says which, of 2 to 4.
 
@@ -23,6 +24,11 @@ entries are a run, and to print their history:
   lockreplay history FILE
 To go on behind it:
   lockreplay run SCRIPT --after FILE
+To see which of its calls have no reply, and what became of a call, by its name:
+  lockreplay open FILE
+  lockreplay explain FILE 2.1.3
+To see it as a picture:
+  lockreplay picture FILE > run.svg
 
 'lockreplay help run' tells how a script is written and what the listing shows.";
 
@@ -98,6 +104,10 @@ themselves. The calls between two other lines happen side by side: each process 
 own in their order, and waits for each reply. Any other line, and the end, waits until all
 are answered. A 'wait' for a lock that nobody gives up keeps the run going until its
 journal is full; so does a call that needs a token of a server that is declared failed.
+With --stop-when-stuck the run ends where no open call can be answered any more: nothing
+is interrupted, and lines that were not yet made are left out. The listing and the two
+lines behind it are printed, a line 'open CALL' for each call without a reply goes to
+standard error, and the exit status is 1.
 
 The listing is that of the journal of this run, which depends on the schedule. The codes
 of refused lines are those of 'lockreplay run'. Two lines stand behind it:
@@ -127,3 +137,48 @@ pub(crate) const HISTORY_NOTES: &str = "\
 The journal is audited first. Where its entries are a run, the section 'history' of the
 listing of the run is printed (exit status 0): every call at its place in one table of
 locks. Else the text is 'audit no K', as of 'lockreplay audit' (exit status 1).";
+
+/// What stands under the options of `explain`.
+pub(crate) const EXPLAIN_NOTES: &str = "\
+The journal is audited first. Where its entries are no run, the text is 'audit no K', as
+of 'lockreplay audit' (exit status 1).
+
+CALL is the name of a call as replies and history show it: its node, the incarnation of
+the node and the number of the call there, as 2.1.3. The text tells each entry that has
+to do with the call: who made it; each message about it with its number, as 'deliver K'
+of a script counts, from whom it goes to whom; which lock was in the way; its reply; and
+where the history places it (exit status 0). Where the journal has no call of that name,
+the text is 'no call CALL' (exit status 1).";
+
+/// What stands under the options of `open`.
+pub(crate) const OPEN_NOTES: &str = "\
+The journal is audited first. Where its entries are no run, the text is 'audit no K', as
+of 'lockreplay audit' (exit status 1).
+
+The text has a part for each call that has no reply: since which entry it is open, of
+which process it is and what it asks, which messages about it are under way, and what it
+waits for. Where every call has a reply, nothing is printed. The exit status is 0 in
+both cases. 'lockreplay explain' tells more of one call.";
+
+/// What stands under the options of `picture`.
+pub(crate) const PICTURE_NOTES: &str = "\
+The journal is audited first. Where its entries are no run, the text is 'audit no K', as
+of 'lockreplay audit' (exit status 1).
+
+The text is a picture in SVG, which browsers show: time is entries, from left to right.
+It has a row for each node, server and process that takes part, a bar for each call from
+its entry to its reply, an arrow for each message that comes, a short line for each that
+is lost, a diamond where the history places a call, and a line across where a node or a
+server fails or begins again (exit status 0). It shows the first 400 entries. With
+--around CALL it shows those from ten before the first that has to do with the call to
+ten behind the last, and 400 at most; where the journal has no call of that name, the
+text is 'no call CALL' (exit status 1).";
+
+/// What stands under the options of `check`.
+pub(crate) const CHECK_NOTES: &str = "\
+The script is read and not run. Each bad line is told in a line on standard error, with
+the place in it where it goes wrong (exit status 3):
+  SCRIPT:LINE:COLUMN: expected .., found \"..\"
+Where all lines are good, the text is 'script yes' and one of these (exit status 0):
+  threads yes     'lockreplay threads' takes every line
+  threads no L    line L, counted from 1, is the first that it doesn't take";

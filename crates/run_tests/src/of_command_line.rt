@@ -2,13 +2,22 @@
 use command_line::line::Line;
 use std::alloc::Global;
 
-// Whether the words, behind the program's name, are taken for a run of the script on threads.
+// Whether the words are taken for a run of the script on threads.
 fn is_on_threads(alloc: Global, words: &[&str], seed: u32, journal: Option<&str>) -> bool {
-    let line = Line::Threads {
-        script: "a.lock",
-        seed,
-        journal,
-    };
+    is_line(
+        alloc,
+        words,
+        Line::Threads {
+            script: "a.lock",
+            seed,
+            stop_when_stuck: false,
+            journal,
+        },
+    )
+}
+
+// Whether the words are taken for the line.
+fn is_line(alloc: Global, words: &[&str], line: Line<'_>) -> bool {
     match Line::read(alloc, words) {
         Ok(read) => read == line,
         Err(_) => false,
@@ -34,4 +43,23 @@ fn reads_a_seed(rt: HostRuntime) {
         "a.lock",
     ];
     assert!(rt; is_on_threads(alloc, &greatest, 4294967295, Some("a.journal")));
+}
+
+#[test]
+fn reads_a_stop(rt: HostRuntime) {
+    let alloc = rt.alloc();
+    let words = [
+        "lockreplay",
+        "threads",
+        "--stop-when-stuck",
+        "a.lock",
+        "--journal=a.journal",
+    ];
+    let line = Line::Threads {
+        script: "a.lock",
+        seed: 1,
+        stop_when_stuck: true,
+        journal: Some("a.journal"),
+    };
+    assert!(rt; is_line(alloc, &words, line));
 }

@@ -2,8 +2,7 @@ use Rattle.std.proofs.Common.{ap, ap₂, codes, refl, true, ◌≡◌, ◌∙◌
 use Rattle.std.proofs.lemmas.Result.{IfOk-weaker}
 use Rattle.clap.specs.Words.{App, app_of, new_app, with_subcommand}
 use Rattle.clap.specs.Simple.{app_of_fields, on_top}
-use Rattle.clap.specs.declared.builder.command.Command.{Command}
-use Rattle.command_line.specs.Program.{audit_app, bare_app, history_app, run_app, threads_app}
+use Rattle.command_line.specs.Program.{audit_app, bare_app, check_app, explain_app, history_app, open_app, picture_app, run_app, threads_app}
 use Rattle.command_line.proofs.Tables.{no_globals}
 use Rattle.command_line.proofs.line.program.Goals as goal
 
@@ -21,7 +20,15 @@ returns c =
     let threaded = c.in_ok-threads_command.ensures in
     let audits = c.in_ok-audit_command.ensures in
     let histories = c.in_ok-history_command.ensures in
+    let explains = c.in_ok-explain_command.ensures in
+    let opens = c.in_ok-open_command.ensures in
+    let checks = c.in_ok-check_command.ensures in
+    let pictures = c.in_ok-picture_command.ensures in
     let first = c.in_ok-subcommand.ensures.shape (no_globals c.in_ok-run_command.field-0 run_app runs refl) ∙ ap₂ with_subcommand bare_is (ap (λ (a : App). a.top) runs) in
     let second = c.in_ok-subcommand-2.ensures.shape (no_globals c.in_ok-threads_command.field-0 threads_app threaded refl) ∙ ap₂ with_subcommand first (ap (λ (a : App). a.top) threaded) in
     let third = c.in_ok-subcommand-3.ensures.shape (no_globals c.in_ok-audit_command.field-0 audit_app audits refl) ∙ ap₂ with_subcommand second (ap (λ (a : App). a.top) audits) in
-    IfOk-weaker c.subcommand-4.result _ _ (λ r adds. adds.shape (no_globals c.in_ok-history_command.field-0 history_app histories refl) ∙ ap₂ with_subcommand third (ap (λ (a : App). a.top) histories)) c.subcommand-4.ensures
+    let fourth = c.in_ok-subcommand-4.ensures.shape (no_globals c.in_ok-history_command.field-0 history_app histories refl) ∙ ap₂ with_subcommand third (ap (λ (a : App). a.top) histories) in
+    let fifth = c.in_ok-subcommand-5.ensures.shape (no_globals c.in_ok-explain_command.field-0 explain_app explains refl) ∙ ap₂ with_subcommand fourth (ap (λ (a : App). a.top) explains) in
+    let sixth = c.in_ok-subcommand-6.ensures.shape (no_globals c.in_ok-open_command.field-0 open_app opens refl) ∙ ap₂ with_subcommand fifth (ap (λ (a : App). a.top) opens) in
+    let seventh = c.in_ok-subcommand-7.ensures.shape (no_globals c.in_ok-check_command.field-0 check_app checks refl) ∙ ap₂ with_subcommand sixth (ap (λ (a : App). a.top) checks) in
+    IfOk-weaker c.subcommand-8.result _ _ (λ r adds. adds.shape (no_globals c.in_ok-picture_command.field-0 picture_app pictures refl) ∙ ap₂ with_subcommand seventh (ap (λ (a : App). a.top) pictures)) c.subcommand-8.ensures
