@@ -1,0 +1,4 @@
+pub mod Asking
+pub mod Counts
+pub mod Endings
+pub mod Reading

@@ -1,0 +1,4 @@
+pub mod BadLines
+pub mod Places
+pub mod Reports
+pub mod Verdicts

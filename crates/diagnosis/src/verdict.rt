@@ -1,0 +1,17 @@
+//! What is said of a script.
+ghost use Rattle.std.specs.Prelude.{◌≡◌, string_bytes, IfOk};
+ghost use Rattle.diagnosis.specs.Verdicts.{verdict_text};
+
+use lockscript::script::Script;
+use std::alloc::{AllocError, Global};
+
+/// `script yes`, and then `threads yes` where threads take the script, or `threads no L` with the number of the
+/// first line that they don't take; each in a line of its own.
+pub fn verdict(alloc: Global, script: &Script) -> Result<String, AllocError>
+    ensures { IfOk result (λ text. string_bytes text ≡ verdict_text script.now.lines) }
+{
+    match script.bad_line_on_threads() {
+        None => String::from_str(alloc, "script yes\nthreads yes\n"),
+        Some(number) => format!(in alloc; "script yes\nthreads no {number}\n"),
+    }
+}
