@@ -1,0 +1,11 @@
+use Rattle.std.proofs.Common.{◌≡◌, ◌+◌, ◌&&◌, ℕ, drop, find, nat_lt}
+use Rattle.std.specs.List.{enumerate_from}
+use Rattle.messages.specs.Entries.{EntryFields}
+use Rattle.stories.specs.OpenCalls.{end_of, ends}
+use Rattle.stories.proofs.open_calls.end_of.Given as goal
+
+abbrev pub invariant-loop-entry : goal.invariant-loop-entry
+invariant-loop-entry l = record {
+  standing : l.position ≡ l.entry-index;
+  found : find (λ (p : ℕ × EntryFields). nat_lt l.made.position p.0 && ends l.made p.1 p.1.event) (enumerate_from (l.position + 1) (drop l.entry-index l.entries)) ≡ end_of l.made l.entries;
+}

@@ -1,0 +1,5 @@
+pub mod About
+pub mod Index
+pub mod Stories
+pub mod Pending
+pub mod OpenCalls

@@ -1,0 +1,90 @@
+//! What is about a call.
+ghost use Rattle.std.specs.Prelude.{◌≡◌};
+ghost use Rattle.std.specs.List.{list_any};
+ghost use Rattle.messages.specs.Messages.{same_message};
+ghost use Rattle.stories.specs.About.{answers, belongs, delivers, is_about, makes};
+
+use messages::entry::Entry;
+use messages::event::Event;
+use messages::message::Message;
+use model::call::CallId;
+
+/// Whether the message names the call.
+pub(crate) fn is_about(message: &Message, call: &CallId) -> bool
+    ensures { result ≡ is_about call.now message.now }
+{
+    match message {
+        Message::Request { call: named, .. }
+        | Message::Grant { call: named, .. }
+        | Message::Revoke { call: named, .. }
+        | Message::Taken { call: named, .. }
+        | Message::Released { call: named, .. }
+        | Message::Conflict { call: named, .. }
+        | Message::Deny { call: named, .. } => named == call,
+        Message::Freed { .. } | Message::Hello { .. } | Message::Report { .. } => false,
+    }
+}
+
+/// Whether a message that names the call is among these.
+pub(crate) fn is_any_about(messages: &[Message], call: &CallId) -> bool
+    ensures { result ≡ list_any (is_about call.now) messages.now }
+{
+    messages.iter().any(|message| is_about(message, call))
+}
+
+// Whether a message comes that names the call.
+fn brings_word(event: &Event, call: &CallId) -> bool
+    ensures { result ≡ delivers (is_about call.now) event.now }
+{
+    match event {
+        Event::Deliver(message) => is_about(message, call),
+        _ => false,
+    }
+}
+
+/// Whether both are one and the same message.
+pub(crate) fn is_same(message: &Message, other: &Message) -> bool
+    ensures { result ≡ same_message message.now other.now }
+{
+    message == other
+}
+
+/// Whether this message comes.
+pub(crate) fn brings(event: &Event, message: &Message) -> bool
+    ensures { result ≡ delivers (same_message message.now) event.now }
+{
+    match event {
+        Event::Deliver(coming) => is_same(message, coming),
+        _ => false,
+    }
+}
+
+/// Whether the entry makes the call.
+pub(crate) fn makes(entry: &Entry, call: &CallId) -> bool
+    ensures { result ≡ makes call.now entry.now }
+{
+    match entry.call() {
+        Some(made) => made == *call,
+        None => false,
+    }
+}
+
+/// Whether the entry replies to the call.
+pub(crate) fn answers(entry: &Entry, call: &CallId) -> bool
+    ensures { result ≡ answers call.now entry.now }
+{
+    match entry.reply() {
+        Some((answered, _)) => answered == *call,
+        None => false,
+    }
+}
+
+/// Whether the entry makes the call or replies to it, a message comes that names it, or one is sent.
+pub fn belongs(entry: &Entry, call: &CallId) -> bool
+    ensures { result ≡ belongs call.now entry.now }
+{
+    makes(entry, call)
+        || answers(entry, call)
+        || brings_word(entry.event(), call)
+        || is_any_about(entry.sends(), call)
+}

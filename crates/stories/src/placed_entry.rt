@@ -1,0 +1,98 @@
+//! Entries with their places.
+ghost use Rattle.std.specs.Prelude.{◌≡◌, IfOk};
+ghost use Rattle.stories.specs.About.{part_of, sent_by};
+
+use crate::about::{belongs, is_about};
+use crate::numbered_message::NumberedMessage;
+use messages::entry::Entry;
+use model::call::CallId;
+use std::alloc::{AllocError, Global};
+use std::marker::Model;
+
+/// An entry with its position in the journal, from 1, and with the number of the first message that it
+/// sends: messages have numbers from 1 in the order of sending, over all entries.
+#[derive(Drop)]
+pub(crate) struct PlacedEntry<'a> {
+    position: u64,
+    // 64 bits are too few for the messages of all the entries that memory could hold.
+    number: u128,
+    entry: &'a Entry,
+}
+
+impl<'a> Model for PlacedEntry<'a> {
+    ghost use Rattle.std.specs.Prelude.{◌+◌, ◌<◌, ◌^◌, length};
+    ghost use Rattle.stories.specs.About.{PlacedFields};
+
+    ghost Value = { PlacedFields };
+
+    ghost view = { λ p. record { position = p.position; number = p.number; entry = p.entry.now } };
+
+    ghost invariant = { λ p. p.number + length p.entry.now.sends < 2 ^ 128 };
+}
+
+impl<'a> PlacedEntry<'a> {
+    /// The position.
+    pub(crate) fn position(&self) -> u64
+        ensures { result ≡ self.now.position }
+    {
+        self.position
+    }
+
+    /// The entry.
+    pub(crate) fn entry(&self) -> &'a Entry
+        ensures { result.now ≡ self.now.entry }
+    {
+        self.entry
+    }
+
+    /// The messages about the call that the entry sends.
+    ///
+    /// # Errors
+    /// `AllocError` where a request for memory was refused.
+    pub(crate) fn sent_by(
+        &self,
+        alloc: Global,
+        call: &CallId,
+    ) -> Result<Vec<NumberedMessage<'a>>, AllocError>
+        ensures { IfOk result (λ sent. sent.items ≡ sent_by call.now self.now) }
+    {
+        let mut sent = Vec::new(alloc);
+        let mut number = self.number;
+        for message in self.entry.sends() {
+            if is_about(message, call) {
+                sent.push(NumberedMessage::new(number, message))?;
+            }
+            number += 1;
+        }
+        Ok(sent)
+    }
+}
+
+/// The entries that belong to the call, of a journal's.
+///
+/// # Errors
+/// `AllocError` where a request for memory was refused.
+pub(crate) fn part_of<'a>(
+    alloc: Global,
+    entries: &'a [Entry],
+    call: &CallId,
+) -> Result<Vec<PlacedEntry<'a>>, AllocError>
+    ensures { IfOk result (λ part. part.items ≡ part_of call.now entries.entry.now) }
+{
+    let mut part = Vec::new(alloc);
+    let mut position = 0u64;
+    let mut number = 1u128;
+    for entry in entries {
+        position += 1;
+        let count = entry.sends().len();
+        if belongs(entry, call) {
+            part.push(PlacedEntry {
+                position,
+                number,
+                entry,
+            })?;
+        }
+        number += count as u128;
+    }
+    Ok(part)
+}

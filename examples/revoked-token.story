@@ -1,0 +1,14 @@
+call 2.1.3
+entry 9: process 1 of node 2 calls: set 0 proc write 200 100
+  sends message 4 to server 1: request 1 2.1.3 now write 200 299 0 9223372036854775807
+entry 10: message 4 comes to server 1
+  sends message 5 to node 1: revoke 1 1 2 1.1 2.1.3 write 200 299 0 9223372036854775807
+entry 11: message 5 comes to node 1
+  sends message 6 to server 1: released 1 1 2 1.1 2.1.3 100 9223372036854775807
+entry 12: message 6 comes to server 1
+  sends message 7 to node 2: grant 1 1 1 2.1.3 write 100 9223372036854775807
+entry 13: message 7 comes to node 2
+  reply: done
+  sends message 8 to server 1: taken 1 1 1 2.1.3
+entry 14: message 8 comes to server 1
+history: at entry 13 (its reply)
