@@ -1,0 +1,26 @@
+use Rattle.std.proofs.Common.{◌∙◌, ap, sym, Bool, Some, cond}
+use Rattle.std.specs.Option.{option_or}
+use Rattle.messages.specs.declared.event.Event.{Event}
+use Rattle.messages.specs.Messages.{same_message}
+use Rattle.stories.specs.About.{delivers}
+use Rattle.pictures.specs.Indexes.{place_in}
+use Rattle.pictures.specs.Places.{position_if}
+use Rattle.pictures.proofs.Lasts.{come_next, delivers-nothing, eq-same, put}
+use Rattle.pictures.proofs.deliveries.note_delivery.Goals as goal
+
+pub returns-in_default : goal.returns-in_default
+returns-in_default c before at knows m =
+    let old = place_in c.args.places.now m in
+    let nothing = ap (delivers (same_message m.now)) (sym c.event.ensures) ∙ delivers-nothing (same_message m.now) c.event.result.now c.in_default.not-Deliver in
+    ap (λ (b : Bool). option_or (position_if b c.args.position) old) (sym nothing)
+    ∙ come_next before c.args.entry.now c.args.position m.now old at (knows m)
+
+pub returns-in_ok-insert : goal.returns-in_ok-insert
+returns-in_ok-insert c before at knows m =
+    let old = place_in c.args.places.now m in
+    let come = c.in-Deliver.message in
+    c.in_ok-insert.ensures.updates.0 m
+    ∙ ap (λ (b : Bool). cond b (Some c.args.position) old) (eq-same come m.now)
+    ∙ put (same_message m.now come) c.args.position old
+    ∙ ap (λ (e : Event). option_or (position_if (delivers (same_message m.now) e) c.args.position) old) (sym c.in-Deliver.is ∙ c.event.ensures)
+    ∙ come_next before c.args.entry.now c.args.position m.now old at (knows m)

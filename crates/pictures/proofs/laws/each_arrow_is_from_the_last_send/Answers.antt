@@ -1,0 +1,7 @@
+use Rattle.messages.specs.Entries.{EntryFields}
+use Rattle.messages.specs.Messages.{is_among}
+use Rattle.pictures.proofs.LastToPass.{last_to_pass}
+use Rattle.pictures.proofs.laws.each_arrow_is_from_the_last_send.Goals as goal
+
+pub returns : goal.returns
+returns c before m = last_to_pass (λ (e : EntryFields). is_among e.sends m) before

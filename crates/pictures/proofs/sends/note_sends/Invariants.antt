@@ -1,0 +1,11 @@
+use Rattle.std.proofs.Common.{◌≡◌, drop}
+use Rattle.std.specs.Borrow.{Bor}
+use Rattle.std.specs.Option.{option_or}
+use Rattle.messages.specs.declared.message.Message.{Message}
+use Rattle.messages.specs.Messages.{is_among}
+use Rattle.pictures.specs.Indexes.{place_in}
+use Rattle.pictures.specs.Places.{position_if}
+use Rattle.pictures.proofs.sends.note_sends.Given as goal
+
+abbrev pub invariant-loop-message : goal.invariant-loop-message
+invariant-loop-message l = (m : Bor Message) → option_or (position_if (is_among (drop l.message-index l.message-items) m.now) l.position) (place_in l.sends m) ≡ option_or (position_if (is_among l.entry.sends m.now) l.position) (place_in l.fn.sends m)

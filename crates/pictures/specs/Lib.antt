@@ -1,0 +1,13 @@
+pub mod Points
+pub mod Places
+pub mod Indexes
+pub mod Actors
+pub mod Stretches
+pub mod Bars
+pub mod Rows
+pub mod Sheets
+pub mod Svg
+pub mod Style
+pub mod Pictures
+pub mod Around
+pub mod Laws

@@ -1,0 +1,92 @@
+//! Who takes part in an entry.
+ghost use Rattle.std.specs.Prelude.{◌≡◌};
+ghost use Rattle.std.specs.List.{list_any};
+ghost use Rattle.messages.specs.Messages.{addressee};
+ghost use Rattle.stories.specs.About.{delivers};
+ghost use Rattle.pictures.specs.Actors.{actor_of, message_word, same_actor, sender_of, takes_part};
+
+use messages::actor::Actor;
+use messages::entry::Entry;
+use messages::event::Event;
+use messages::message::Message;
+
+/// Who takes the event.
+pub(crate) fn actor_of(event: &Event) -> Actor
+    ensures { result ≡ actor_of event.now }
+{
+    match event {
+        Event::Deliver(message) => message.addressee(),
+        Event::Call { node, .. }
+        | Event::Interrupt { node, .. }
+        | Event::Retry { node, .. }
+        | Event::Declare { node }
+        | Event::Restart { node } => Actor::Node(*node),
+        Event::Resend { file }
+        | Event::Learn { file, .. }
+        | Event::FailServer { file }
+        | Event::StartServer { file } => Actor::Server(*file),
+    }
+}
+
+/// Who sends the message.
+pub(crate) fn sender_of(message: &Message) -> Actor
+    ensures { result ≡ sender_of message.now }
+{
+    match message.addressee() {
+        Actor::Node(_) => Actor::Server(message.file()),
+        Actor::Server(_) => Actor::Node(message.host().node),
+    }
+}
+
+/// Whether both are one and the same actor.
+pub(crate) fn is_same_actor(actor: &Actor, other: &Actor) -> bool
+    ensures { result ≡ same_actor actor.now other.now }
+{
+    actor == other
+}
+
+/// Whether the actor takes the event, sends what comes there, or is sent to.
+pub(crate) fn takes_part(actor: &Actor, entry: &Entry) -> bool
+    ensures { result ≡ takes_part actor.now entry.now }
+{
+    is_same_actor(&actor_of(entry.event()), actor)
+        || is_sender(actor, entry.event())
+        || is_any_addressee(actor, entry.sends())
+}
+
+// Whether a message comes that the actor sends.
+fn is_sender(actor: &Actor, event: &Event) -> bool
+    ensures { result ≡ delivers (λ m. same_actor (sender_of m) actor.now) event.now }
+{
+    match event {
+        Event::Deliver(message) => is_same_actor(&sender_of(message), actor),
+        _ => false,
+    }
+}
+
+// Whether the actor takes one of these messages.
+fn is_any_addressee(actor: &Actor, messages: &[Message]) -> bool
+    ensures { result ≡ list_any (λ m. same_actor (addressee m) actor.now) messages.now }
+{
+    messages
+        .iter()
+        .any(|message| is_same_actor(&message.addressee(), actor))
+}
+
+/// The word for a message.
+pub(crate) fn message_word(message: &Message) -> &'static str
+    ensures { result.now ≡ message_word message.now }
+{
+    match message {
+        Message::Request { .. } => "request",
+        Message::Grant { .. } => "grant",
+        Message::Revoke { .. } => "revoke",
+        Message::Taken { .. } => "taken",
+        Message::Released { .. } => "released",
+        Message::Conflict { .. } => "conflict",
+        Message::Deny { .. } => "deny",
+        Message::Freed { .. } => "freed",
+        Message::Hello { .. } => "hello",
+        Message::Report { .. } => "report",
+    }
+}

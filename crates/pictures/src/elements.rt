@@ -1,0 +1,104 @@
+//! Elements of SVG.
+ghost use Rattle.std.specs.Prelude.{◌≡◌, ◌++◌, string_bytes, OnOk};
+ghost use Rattle.pictures.specs.Svg.{box_text, diamond_text, dot_text, label_start, label_text, line_text};
+
+use crate::point::Point;
+use std::alloc::AllocError;
+use std::fmt::Write;
+
+/// Writes a line of this class.
+///
+/// # Errors
+/// `AllocError` where a request for memory was refused.
+pub(crate) fn push_line(
+    out: &mut String,
+    class: &str,
+    from: &Point,
+    to: &Point,
+) -> Result<(), AllocError>
+    ensures { OnOk result (string_bytes out.new ≡ string_bytes out.old ++ line_text class.now from.now to.now) }
+{
+    let x1 = from.x();
+    let y1 = from.y();
+    let x2 = to.x();
+    let y2 = to.y();
+    write!(
+        out,
+        "<line class='{class}' x1='{x1}' y1='{y1}' x2='{x2}' y2='{y2}'/>"
+    )
+}
+
+/// Writes a dot.
+///
+/// # Errors
+/// `AllocError` where a request for memory was refused.
+pub(crate) fn push_dot(out: &mut String, at: &Point) -> Result<(), AllocError>
+    ensures { OnOk result (string_bytes out.new ≡ string_bytes out.old ++ dot_text at.now) }
+{
+    let x = at.x();
+    let y = at.y();
+    write!(out, "<circle class='dot' cx='{x}' cy='{y}' r='3'/>")
+}
+
+/// Writes a diamond.
+///
+/// # Errors
+/// `AllocError` where a request for memory was refused.
+pub(crate) fn push_diamond(out: &mut String, at: &Point) -> Result<(), AllocError>
+    ensures { OnOk result (string_bytes out.new ≡ string_bytes out.old ++ diamond_text at.now) }
+{
+    let x = at.x();
+    let y = at.y();
+    write!(out, "<use class='place' href='#place' x='{x}' y='{y}'/>")
+}
+
+/// Writes a box of this class and width.
+///
+/// # Errors
+/// `AllocError` where a request for memory was refused.
+pub(crate) fn push_box(
+    out: &mut String,
+    class: &str,
+    corner: &Point,
+    width: u128,
+) -> Result<(), AllocError>
+    ensures { OnOk result (string_bytes out.new ≡ string_bytes out.old ++ box_text class.now corner.now width) }
+{
+    let x = corner.x();
+    let y = corner.y();
+    write!(
+        out,
+        "<rect class='{class}' x='{x}' y='{y}' width='{width}' height='18' rx='3'/>"
+    )
+}
+
+/// Writes what a label of this class begins with.
+///
+/// # Errors
+/// `AllocError` where a request for memory was refused.
+#[tactic(auto, unfolding(crate::specs::Svg::label_start))]
+pub(crate) fn push_label_start(out: &mut String, class: &str, at: &Point) -> Result<(), AllocError>
+    ensures { OnOk result (string_bytes out.new ≡ string_bytes out.old ++ label_start class.now at.now) }
+{
+    let x = at.x();
+    let y = at.y();
+    write!(out, "<text class='{class}' x='{x}' y='{y}'>")
+}
+
+/// Writes a label of this class.
+///
+/// # Errors
+/// `AllocError` where a request for memory was refused.
+#[tactic(auto, unfolding(crate::specs::Svg::label_text))]
+pub(crate) fn push_label(
+    out: &mut String,
+    class: &str,
+    at: &Point,
+    text: &str,
+) -> Result<(), AllocError>
+    ensures { OnOk result (string_bytes out.new ≡ string_bytes out.old ++ label_text class.now at.now text.now) }
+{
+    push_label_start(out, class, at)?;
+    out.push_str(text)?;
+    out.push_str("</text>")
+}

@@ -1,0 +1,41 @@
+//! Where messages are sent.
+ghost use Rattle.std.specs.Prelude.{◌≡◌, ◌+◌, ◌++◌, ◌∷◌, [], List, length, OnOk};
+ghost use Rattle.messages.specs.Entries.{EntryFields};
+ghost use Rattle.pictures.specs.Indexes.{KnowsSent};
+ghost use Rattle.pictures.specs.Stretches.{origin_of};
+
+use messages::entry::Entry;
+use messages::event::Event;
+use messages::message::Message;
+use std::alloc::AllocError;
+use std::collections::HashMap;
+
+/// By a message: the position of the last entry that sends it.
+pub(crate) type Sends<'a> = HashMap<&'a Message, u64>;
+
+/// Takes the messages that the entry at this position sends into the index of those before it.
+///
+/// # Errors
+/// `AllocError` where a request for memory was refused.
+pub(crate) fn note_sends<'a>(
+    sends: &mut Sends<'a>,
+    position: u64,
+    entry: &'a Entry,
+) -> Result<(), AllocError>
+    ensures { OnOk result ((before : List EntryFields) → length before + 1 ≡ position → KnowsSent sends.old before → KnowsSent sends.new (before ++ entry.entry.now ∷ [])) }
+{
+    for message in entry.sends() {
+        sends.insert(message, position)?;
+    }
+    Ok(())
+}
+
+/// The last of the entries before that sends the message that comes by the event.
+pub(crate) fn origin_of<'a>(sends: &Sends<'a>, event: &'a Event) -> Option<u64>
+    ensures { (before : List EntryFields) → KnowsSent sends.now before → result ≡ origin_of before event.entry.now }
+{
+    match event {
+        Event::Deliver(message) => sends.get(&message).copied(),
+        _ => None,
+    }
+}

@@ -1,0 +1,122 @@
+//! How the elements look, and what that means.
+ghost use Rattle.std.specs.Prelude.{◌≡◌, ◌++◌, string_bytes, OnOk};
+ghost use Rattle.pictures.specs.Style.{dark, defs, legend, light, style};
+
+use std::alloc::AllocError;
+
+/// Writes how the elements look, in the light and in the dark.
+///
+/// # Errors
+/// `AllocError` where a request for memory was refused.
+#[tactic(auto, unfolding(crate::specs::Style::style))]
+pub(crate) fn push_style(out: &mut String) -> Result<(), AllocError>
+    ensures { OnOk result (string_bytes out.new ≡ string_bytes out.old ++ style) }
+{
+    out.push_str("<style>\n")?;
+    push_light(out)?;
+    out.push_str("@media (prefers-color-scheme: dark) {\n")?;
+    push_dark(out)?;
+    out.push_str("}\n</style>\n")
+}
+
+#[tactic(auto, unfolding(crate::specs::Style::light))]
+fn push_light(out: &mut String) -> Result<(), AllocError>
+    ensures { OnOk result (string_bytes out.new ≡ string_bytes out.old ++ light) }
+{
+    out.push_str(
+        "\
+svg { background: #ffffff; font-family: Helvetica, Arial, sans-serif; font-size: 10px; }
+text { fill: #1f2430; }
+.number { fill: #7a8194; text-anchor: middle; }
+.lane { font-size: 12px; font-weight: bold; }
+.again { fill: #7a8194; font-size: 9px; }
+.node { stroke: #1f2430; stroke-width: 1.5; }
+.server { stroke: #1f2430; stroke-width: 1.5; stroke-dasharray: 2 3; }
+.process { stroke: #c9cdd8; }
+.column { stroke: #e6e8ee; }
+.dot { fill: #1f2430; }
+.word { fill: #4a5163; font-size: 9px; stroke: #ffffff; stroke-width: 3; paint-order: stroke; }
+.arrow { stroke: #7a8194; marker-end: url(#head); }
+.head { fill: #7a8194; }
+.lost { stroke: #c43d3d; }
+.gone { fill: #c43d3d; font-size: 9px; stroke: #ffffff; stroke-width: 3; paint-order: stroke; dominant-baseline: middle; }
+.rule { stroke: #c43d3d; stroke-width: 1.5; stroke-dasharray: 6 3; }
+.rule-name { fill: #c43d3d; font-weight: bold; }
+.done { fill: #c5e8d8; stroke: #2f9e6e; }
+.denied { fill: #fbe3b5; stroke: #b87503; }
+.refused { fill: #f6cccc; stroke: #c43d3d; }
+.open { fill: #eceef3; stroke: #7a8194; stroke-dasharray: 4 2; }
+.place { fill: #ffffff; stroke: #1f2430; }
+.link { stroke: #1f2430; stroke-dasharray: 1 3; }
+",
+    )
+}
+
+// Writes what differs in the dark.
+#[tactic(auto, unfolding(crate::specs::Style::dark))]
+fn push_dark(out: &mut String) -> Result<(), AllocError>
+    ensures { OnOk result (string_bytes out.new ≡ string_bytes out.old ++ dark) }
+{
+    out.push_str(
+        "\
+svg { background: #14171f; }
+text { fill: #e6e8ee; }
+.number, .again { fill: #8f97aa; }
+.node, .server { stroke: #c9cdd8; }
+.process { stroke: #3a4152; }
+.column { stroke: #262b38; }
+.dot { fill: #e6e8ee; }
+.word { fill: #b8bfcf; stroke: #14171f; }
+.arrow { stroke: #8f97aa; }
+.head { fill: #8f97aa; }
+.lost { stroke: #ff7b7b; }
+.gone { fill: #ff7b7b; stroke: #14171f; }
+.rule-name { fill: #ff7b7b; }
+.rule { stroke: #ff7b7b; }
+.done { fill: #1d4d39; stroke: #4fc796; }
+.denied { fill: #5a4210; stroke: #e8aa3a; }
+.refused { fill: #5e2626; stroke: #ff7b7b; }
+.open { fill: #2a3040; stroke: #8f97aa; }
+.place { fill: #14171f; stroke: #e6e8ee; }
+.link { stroke: #e6e8ee; }
+",
+    )
+}
+
+/// Writes the head of an arrow, and a diamond.
+///
+/// # Errors
+/// `AllocError` where a request for memory was refused.
+#[tactic(auto, unfolding(crate::specs::Style::defs))]
+pub(crate) fn push_defs(out: &mut String) -> Result<(), AllocError>
+    ensures { OnOk result (string_bytes out.new ≡ string_bytes out.old ++ defs) }
+{
+    out.push_str(
+        "\
+<defs>
+<marker id='head' viewBox='0 0 8 8' refX='8' refY='4' markerWidth='7' markerHeight='7' orient='auto'><path class='head' d='M0 0L8 4L0 8Z'/></marker>
+<path id='place' d='M0 -5L5 0L0 5L-5 0Z'/>
+</defs>
+",
+    )
+}
+
+/// Writes what the colours and the diamond mean.
+///
+/// # Errors
+/// `AllocError` where a request for memory was refused.
+#[tactic(auto, unfolding(crate::specs::Style::legend))]
+pub(crate) fn push_legend(out: &mut String) -> Result<(), AllocError>
+    ensures { OnOk result (string_bytes out.new ≡ string_bytes out.old ++ legend) }
+{
+    out.push_str(
+        "\
+<rect class='done' x='12' y='8' width='10' height='10' rx='2'/><text x='26' y='17'>done</text>
+<rect class='denied' x='68' y='8' width='10' height='10' rx='2'/><text x='82' y='17'>denied</text>
+<rect class='refused' x='12' y='24' width='10' height='10' rx='2'/><text x='26' y='33'>refused</text>
+<rect class='open' x='68' y='24' width='10' height='10' rx='2'/><text x='82' y='33'>open</text>
+<use class='place' href='#place' x='17' y='45'/><text x='26' y='49'>in history</text>
+<line class='lost' x1='82' y1='45' x2='94' y2='45'/><text class='gone' x='98' y='45'>lost</text>
+",
+    )
+}
