@@ -27,6 +27,7 @@ text-fault Holds RanShort path bytes fault.CannotWriteOutput holds text is = abs
 text-fault Holds RanShort path bytes fault.NoMemory holds text is = inr (is.0, has-journal Holds bytes is.0 holds text is.1)
 text-fault Holds RanShort path bytes fault.JournalFull holds text is = (is.0, (bytes, holds, text, is.1), is.2)
 text-fault Holds RanShort path bytes fault.OldJournal holds text is = absurd is
+text-fault Holds RanShort path bytes (fault.Faulty report) holds text is = absurd is
 
 -- a bad line is a fault of the text
 pub bad-fault : (bytes : List ℕ) (error : JournalError) → IsBadLine bytes error → IsTextFault bytes (fault_of_journal error)

@@ -13,7 +13,7 @@ use Rattle.lockscript.specs.declared.error.ParseError.TheVariants as parse
 use Rattle.replay.specs.declared.play.PlayError.{PlayError}
 use Rattle.replay.specs.declared.play.PlayError.TheVariants as play
 use Rattle.replay.specs.declared.fault.Fault.{Fault}
-use Rattle.replay.specs.declared.fault.Fault.TheVariants.{BadLine, CannotRead, CannotWrite, CannotWriteOutput, NoMemory, JournalFull, OldJournal}
+use Rattle.replay.specs.declared.fault.Fault.TheVariants.{BadLine, CannotRead, CannotWrite, CannotWriteOutput, NoMemory, JournalFull, OldJournal, Faulty}
 use Rattle.cluster_core.specs.Runs.{IsRun}
 use Rattle.replay.specs.Audits.{HasNewJournal}
 use Rattle.replay.specs.Commands.{IsGoingFault}
@@ -45,6 +45,7 @@ new-fault text CannotWriteOutput not_old is = absurd is
 new-fault text NoMemory not_old is = (is.0, is.1, is_new text is.0 not_old is.1.0)
 new-fault text JournalFull not_old is = (is.0, is.1, is_new text is.0 not_old is.1, is.2)
 new-fault text OldJournal not_old is = absurd is
+new-fault text (Faulty report) not_old is = absurd is
 
 -- a fault of the text is one of the file
 pub old-text-fault : (Holds : Option (List ℕ) → Type 0) (RanShort : Type 0) (path bytes : List ℕ) (f : Fault) → Holds (Some bytes) → IsUtf8 bytes → IsOldTextFault bytes f → IsOldFault Holds RanShort path f
@@ -55,6 +56,7 @@ old-text-fault Holds RanShort path bytes CannotWriteOutput holds text is = absur
 old-text-fault Holds RanShort path bytes NoMemory holds text is = inr (is.0, (has-journal Holds bytes is.0 holds text is.1, is.2))
 old-text-fault Holds RanShort path bytes JournalFull holds text is = (is.0, (bytes, holds, text, is.1), is.2, is.3)
 old-text-fault Holds RanShort path bytes OldJournal holds text is = (bytes, holds, text, is)
+old-text-fault Holds RanShort path bytes (Faulty report) holds text is = absurd is
 
 -- why the text of the file is no script of the journal's cluster
 pub parse-fault : (j : JournalFields) (Holds : Option (List ℕ) → Type 0) (RanShort : Type 0) (path bytes : List ℕ) (error : ParseError) → Holds (Some bytes) → IsUtf8 bytes → IsRefusedForShape j.shape bytes error
@@ -81,6 +83,7 @@ had-fault old new RanShort path j NoMemory same (inl short) = inl short
 had-fault old new RanShort path j NoMemory same (inr is) = inr (is.0, had-text old new path (λ text. IsForShape j.shape text is.0) same is.1)
 had-fault old new RanShort path j JournalFull same is = (is.0, had-text old new path (λ text. IsForShape j.shape text is.0) same is.1, is.2)
 had-fault old new RanShort path j OldJournal same is = absurd is
+had-fault old new RanShort path j (Faulty report) same is = absurd is
 
 -- behind the run of the journal
 pub going-fault : (old new : Files) (RanShort : Type 0) (script after : List ℕ) (journal j : JournalFields) (fault : Fault) → HasNewJournal (old after) j → journal ≡ j → IsRun j.shape j.entries → SameFiles old new

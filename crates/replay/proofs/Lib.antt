@@ -11,3 +11,4 @@ pub mod OneOutcome
 pub mod Outputs
 pub mod Progresses
 pub mod Refused
+pub mod Tellings

@@ -5,7 +5,7 @@ use Rattle.command_line.specs.Words.{AsksForHelp, IsRefusal}
 use Rattle.command_line.specs.declared.refusal.Refusal.{Refusal}
 use Rattle.command_line.specs.declared.refusal.Refusal.TheVariants.{Help, Wrong, NotText, NoMemory}
 use Rattle.replay.specs.declared.fault.Fault.{Fault}
-use Rattle.replay.specs.declared.fault.Fault.TheVariants.{BadLine, CannotRead, CannotWrite, CannotWriteOutput, JournalFull, OldJournal}
+use Rattle.replay.specs.declared.fault.Fault.TheVariants.{BadLine, CannotRead, CannotWrite, CannotWriteOutput, JournalFull, OldJournal, Faulty}
 use Rattle.replay.specs.declared.fault.Fault.TheVariants as fault
 use Rattle.replay.specs.declared.shown.Shown.{Shown}
 use Rattle.replay.specs.Commands.{Leaves}
@@ -52,3 +52,4 @@ short-leaves IsDone taken has_failed old new CannotWriteOutput four leaves = abs
 short-leaves IsDone taken has_failed old new fault.NoMemory four leaves = leaves
 short-leaves IsDone taken has_failed old new JournalFull four leaves = leaves
 short-leaves IsDone taken has_failed old new OldJournal four leaves = absurd (let three : 3 ≡ 4 = four in cc (three))
+short-leaves IsDone taken has_failed old new (Faulty report) four leaves = absurd (let three : 3 ≡ 4 = four in cc (three))

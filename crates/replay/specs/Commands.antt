@@ -3,21 +3,23 @@ use Rattle.std.specs.Prelude.{◌≡◌, ℕ, ⊤, ◌⊎◌, List, string_bytes
 use Rattle.std.specs.Io.KnownBytes.{Appends}
 use Rattle.cluster_core.specs.Journals.{JournalFields, IsFirstWrong}
 use Rattle.cluster_core.specs.Runs.{IsRun}
-use Rattle.command_line.specs.Tasks.{Task, run, threads, audit, history}
+use Rattle.command_line.specs.Tasks.{Task, run, threads, audit, history, explain, open_calls, check, picture}
 use Rattle.journal_text.specs.Journals.{journal_text}
 use Rattle.journal_text.specs.Readings.{WritesJournal}
 use Rattle.replay.specs.declared.fault.Fault.{Fault}
 use Rattle.replay.specs.declared.fault.Fault.TheVariants.{CannotWrite, CannotWriteOutput}
 use Rattle.replay.specs.declared.shown.Shown.{Shown}
-use Rattle.replay.specs.declared.shown.Shown.TheVariants.{Text, Lacking, Yes, No}
+use Rattle.replay.specs.declared.shown.Shown.TheVariants.{Text, Lacking, Stuck, Missing, Yes, No}
+use Rattle.lockscript.specs.Scripts.{ScriptFields}
 use Rattle.replay.specs.Audits.{HasJournal, HasNewJournal, IsAudit, IsHistory}
-use Rattle.replay.specs.Faults.{IsBehindFault, IsJournalFault, IsOldFault, IsScriptFault, IsThreadsFault}
+use Rattle.replay.specs.Faults.{IsBehindFault, IsCheckFault, IsJournalFault, IsOldFault, IsScriptFault, IsThreadsFault}
 use Rattle.replay.specs.Outputs.{AppendsPart}
 use Rattle.replay.specs.Played.{PlayedState}
-use Rattle.replay.specs.Scripts.{HasRun, HasRunBehind, IsListing}
+use Rattle.replay.specs.Scripts.{HasRun, HasRunBehind, HasScript, IsListing}
 use Rattle.replay.specs.Showing.{shown_status, shown_text}
 use Rattle.replay.specs.Statuses.{status_of}
 use Rattle.replay.specs.Threads.{IsTaken, IsTold, ShowsThreads, ThreadedFields}
+use Rattle.replay.specs.Tellings.{IsDrawn, IsExplained, IsOpenTold, IsScriptTold}
 use Rattle.replay.specs.Stores.{Files, SameFiles, SameOthers}
 
 -- the text of a journal is in the file of this path, and no other file changed; with no path none did
@@ -33,6 +35,8 @@ IsReadFrom (Some path) j = WritesJournal (journal_text j.shape j.entries) j.shap
 -- what is shown of a run is its listing
 abbrev pub ShowsRun : PlayedState → Shown → Type 0
 ShowsRun played (Lacking text) = ⊥
+ShowsRun played (Stuck text told) = ⊥
+ShowsRun played (Missing text) = ⊥
 ShowsRun played Yes = ⊥
 ShowsRun played (No position) = ⊥
 ShowsRun played (Text text) = IsListing played (string_bytes text)
@@ -51,18 +55,22 @@ GoesOn old script j to new shown = IsRun j.shape j.entries × WentOn old script 
 abbrev pub Does : Files → Task → Files → Shown → Type 0
 Does old (run script None to) new shown = (played : PlayedState) × HasRun (old script) played × ShowsRun played shown × KeepsJournal old to (journal_text played.journal.shape played.journal.entries) new × IsReadFrom to played.journal
 Does old (run script (Some after) to) new shown = (j : JournalFields) × HasNewJournal (old after) j × GoesOn old script j to new shown
-Does old (threads script seed to) new shown = (t : ThreadedFields) × IsTold (old script) t × ShowsThreads t shown × KeepsJournal old to t.journal new
+Does old (threads script seed may_stop to) new shown = (t : ThreadedFields) × IsTold (old script) may_stop t × ShowsThreads t shown × KeepsJournal old to t.journal new
 Does old (audit path) new shown = (j : JournalFields) × HasJournal (old path) j × IsAudit j shown × SameFiles old new
 Does old (history path) new shown = (j : JournalFields) × HasJournal (old path) j × IsHistory j shown × SameFiles old new
+Does old (explain path name) new shown = (j : JournalFields) × HasJournal (old path) j × IsExplained j name shown × SameFiles old new
+Does old (open_calls path) new shown = (j : JournalFields) × HasJournal (old path) j × IsOpenTold j shown × SameFiles old new
+Does old (check path) new shown = (script : ScriptFields) × HasScript (old path) script × IsScriptTold script shown × SameFiles old new
+Does old (picture path name) new shown = (j : JournalFields) × HasJournal (old path) j × IsDrawn j name shown × SameFiles old new
 
--- it is shown behind what a writer took, with its status
-abbrev pub Shows : (Shown → Type 0) → Option (List ℕ) → Option (List ℕ) → ℕ → Type 0
-Shows IsDone old new status = (shown : Shown) × IsDone shown × (status ≡ shown_status shown) × Appends old new (shown_text shown)
+-- it is shown behind what a writer took, with its status, and told so beside
+abbrev pub Shows : (Shown → Type 0) → Option (List ℕ) → Option (List ℕ) → (Shown → Type 0) → ℕ → Type 0
+Shows IsDone old new IsToldBeside status = (shown : Shown) × IsDone shown × (status ≡ shown_status shown) × Appends old new (shown_text shown) × IsToldBeside shown
 
 -- no file but the one of the journal that is asked for changed
 abbrev pub SameButJournal : Task → Files → Files → Type 0
 SameButJournal (run script after (Some path)) old new = SameOthers old new path
-SameButJournal (threads script seed (Some path)) old new = SameOthers old new path
+SameButJournal (threads script seed may_stop (Some path)) old new = SameOthers old new path
 SameButJournal task old new = SameFiles old new
 
 -- the fault is in the journal behind which the script is to run, or that is a run and the fault is in the script
@@ -74,15 +82,19 @@ IsGoingFault old RanShort script after fault =
 abbrev pub IsInputFault : Files → Type 0 → Task → Fault → Type 0
 IsInputFault old RanShort (run script None to) fault = IsScriptFault (old script) RanShort script fault
 IsInputFault old RanShort (run script (Some after) to) fault = IsGoingFault old RanShort script after fault
-IsInputFault old RanShort (threads script seed to) fault = IsThreadsFault (old script) RanShort script fault
+IsInputFault old RanShort (threads script seed may_stop to) fault = IsThreadsFault (old script) RanShort script fault
 IsInputFault old RanShort (audit path) fault = IsJournalFault (old path) RanShort path fault
 IsInputFault old RanShort (history path) fault = IsJournalFault (old path) RanShort path fault
+IsInputFault old RanShort (explain path name) fault = IsJournalFault (old path) RanShort path fault
+IsInputFault old RanShort (open_calls path) fault = IsJournalFault (old path) RanShort path fault
+IsInputFault old RanShort (check path) fault = IsCheckFault (old path) RanShort path fault
+IsInputFault old RanShort (picture path name) fault = IsJournalFault (old path) RanShort path fault
 
 -- a run has a journal for the file of this path
 abbrev pub HasJournalFor : Files → Task → List ℕ → Type 0
 HasJournalFor old (run script None (Some path)) named = (named ≡ path) × ((played : PlayedState) × HasRun (old script) played)
 HasJournalFor old (run script (Some after) (Some path)) named = (named ≡ path) × ((j : JournalFields) × HasNewJournal (old after) j × ((played : PlayedState) × HasRunBehind (old script) j played))
-HasJournalFor old (threads script seed (Some path)) named = (named ≡ path) × IsTaken (old script)
+HasJournalFor old (threads script seed may_stop (Some path)) named = (named ≡ path) × IsTaken (old script)
 HasJournalFor old task named = ⊥
 
 -- the fault is there, and none that is looked for before it, with the files that it leaves: those that were there, but for the journal of a run, which is written before standard output

@@ -1,7 +1,8 @@
 -- What a fault of a part is to the command, what it says of a file, and the line that tells of it.
-use Rattle.std.specs.Prelude.{◌≡◌, ℕ, ◌<◌, ◌⊎◌, List, ◌++◌, codes, decimal, length, Option, None}
+use Rattle.std.specs.Prelude.{◌≡◌, ℕ, ◌<◌, ◌⊎◌, ⊤, List, ◌++◌, codes, decimal, length, string_bytes, Option, None, Some}
 use Rattle.cluster_core.specs.Journals.{JournalFields}
 use Rattle.cluster_core.specs.World.{journal_limit}
+use Rattle.diagnosis.specs.Reports.{IsReport}
 use Rattle.journal_text.specs.declared.error.JournalError.{JournalError}
 use Rattle.journal_text.specs.declared.error.JournalError.TheVariants as journal
 use Rattle.journal_text.specs.Readings as readings
@@ -14,7 +15,7 @@ use Rattle.messages.specs.declared.version.Version.TheVariants.{Second}
 use Rattle.replay.specs.declared.play.PlayError.{PlayError}
 use Rattle.replay.specs.declared.play.PlayError.TheVariants as play
 use Rattle.replay.specs.declared.fault.Fault.{Fault}
-use Rattle.replay.specs.declared.fault.Fault.TheVariants.{BadLine, CannotRead, CannotWrite, CannotWriteOutput, NoMemory, JournalFull, OldJournal}
+use Rattle.replay.specs.declared.fault.Fault.TheVariants.{BadLine, CannotRead, CannotWrite, CannotWriteOutput, NoMemory, JournalFull, OldJournal, Faulty}
 use Rattle.replay.specs.Audits.{HasEntries, HasJournal, HasNewJournal, WritesFew}
 use Rattle.replay.specs.Played.{FillsBehind, FillsJournal}
 use Rattle.replay.specs.Scripts.{HasScript, HasScriptFor}
@@ -54,6 +55,19 @@ IsThreadsFault Holds RanShort path (CannotRead named) = (named.now ≡ path) × 
 IsThreadsFault Holds RanShort path NoMemory = RanShort ⊎ IsTaken Holds
 IsThreadsFault Holds RanShort path JournalFull = FillsOnThreads Holds
 IsThreadsFault Holds RanShort path fault = ⊥
+
+-- why the text is not said to be a script: its bad lines, which are reported, or memory is short for it
+abbrev pub IsCheckTextFault : List ℕ → List ℕ → Fault → Type 0
+IsCheckTextFault path text (Faulty report) = ¬ (scripts.HasScript text) × IsReport path text (Some report)
+IsCheckTextFault path text NoMemory = ⊤
+IsCheckTextFault path text fault = ⊥
+
+-- why the file is not said to be a script: no text, or one with bad lines, which are reported; memory is short where `RanShort` says it, or for a text
+abbrev pub IsCheckFault : (Option (List ℕ) → Type 0) → Type 0 → List ℕ → Fault → Type 0
+IsCheckFault Holds RanShort path (Faulty report) = HasText Holds (λ text. ¬ (scripts.HasScript text) × IsReport path text (Some report))
+IsCheckFault Holds RanShort path (CannotRead named) = (named.now ≡ path) × HasNoText Holds
+IsCheckFault Holds RanShort path NoMemory = RanShort ⊎ HasText Holds (λ text. ⊤)
+IsCheckFault Holds RanShort path fault = ⊥
 
 -- why the journal that the text writes is not audited: a bad line, or too many entries; memory is short for the audit of one that has not too many
 abbrev pub IsTextFault : List ℕ → Fault → Type 0
@@ -104,3 +118,4 @@ fault_line CannotWriteOutput = codes "cannot write standard output\n"
 fault_line NoMemory = codes "no memory\n"
 fault_line JournalFull = codes "journal full\n"
 fault_line OldJournal = codes "old journal\n"
+fault_line (Faulty report) = string_bytes report

@@ -13,5 +13,6 @@ pub mod Scripts
 pub mod Threads
 pub mod Audits
 pub mod Faults
+pub mod Tellings
 pub mod LaterRuns
 pub mod Commands

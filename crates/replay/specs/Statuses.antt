@@ -1,7 +1,7 @@
 -- Exit statuses.
 use Rattle.std.specs.Prelude.{◌≡◌, ℕ, ◌⊎◌}
 use Rattle.replay.specs.declared.fault.Fault.{Fault}
-use Rattle.replay.specs.declared.fault.Fault.TheVariants.{BadLine, CannotRead, CannotWrite, CannotWriteOutput, NoMemory, JournalFull, OldJournal}
+use Rattle.replay.specs.declared.fault.Fault.TheVariants.{BadLine, CannotRead, CannotWrite, CannotWriteOutput, NoMemory, JournalFull, OldJournal, Faulty}
 
 -- 3: the input or the output is at fault; 4: the run needs more than there is
 abbrev pub status_of : Fault → ℕ
@@ -10,6 +10,7 @@ status_of (CannotRead path) = 3
 status_of (CannotWrite path) = 3
 status_of CannotWriteOutput = 3
 status_of OldJournal = 3
+status_of (Faulty report) = 3
 status_of NoMemory = 4
 status_of JournalFull = 4
 

@@ -1,5 +1,6 @@
 -- Scripts on threads: which lines they may have, and what is shown of their runs.
-use Rattle.std.specs.Prelude.{◌≡◌, ◌≢◌, ℕ, List, ◌++◌, length, codes, decimal, string_bytes, Option}
+use Rattle.std.specs.Prelude.{◌≡◌, ◌≢◌, ℕ, Bool, List, [], ◌++◌, length, codes, decimal, flat_map, string_bytes, Option}
+use Rattle.model.specs.declared.call.CallId.{CallId}
 use Rattle.actors.specs.Runs.{IsFullJournal, IsOfScript, ThreadRunFields}
 use Rattle.book.specs.Receipts as receipts
 use Rattle.cluster_core.specs.Journals.{JournalFields}
@@ -8,9 +9,10 @@ use Rattle.cluster_core.specs.World.{WorldState, first_world}
 use Rattle.journal_text.specs.Journals.{journal_text}
 use Rattle.journal_text.specs.Readings.{WritesJournal}
 use Rattle.lockscript.specs.Scripts.{ScriptFields}
+use Rattle.lockscript.specs.Texts.{call_text}
 use Rattle.lockscript.specs.ThreadLines.{IsForThreads}
 use Rattle.replay.specs.declared.shown.Shown.{Shown}
-use Rattle.replay.specs.declared.shown.Shown.TheVariants.{Text, Lacking, Yes, No}
+use Rattle.replay.specs.declared.shown.Shown.TheVariants.{Text, Lacking, Stuck, Missing, Yes, No}
 use Rattle.replay.specs.Counts.{IsCount}
 use Rattle.replay.specs.Scripts.{IsListing}
 use Rattle.replay.specs.Stores.{HasText}
@@ -31,14 +33,19 @@ IsTaken Holds = (s : ScriptFields) × HasThreadScript Holds s
 abbrev pub FillsOnThreads : (Option (List ℕ) → Type 0) → Type 0
 FillsOnThreads Holds = (s : ScriptFields) × HasThreadScript Holds s × HasFullJournal s
 
--- what is told of a run on threads: its listing, its journal as text, how many of its calls were answered, and of how many of these the journal holds the receipts
+-- the line of a call that is open where a run was ended as stuck
+abbrev pub open_line : CallId → List ℕ
+open_line call = codes "open " ++ call_text call ++ codes "\n"
+
+-- what is told of a run on threads: its listing, its journal as text, how many of its calls were answered, of how many of these the journal holds the receipts, and a line for each call that is open where it was ended as stuck
 pub record ThreadedFields : Type 0 where
   pub listing : List ℕ
   pub journal : List ℕ
   pub answered : ℕ
   pub held : ℕ
+  pub stuck : List ℕ
 
--- it tells of the run: its listing, its journal as text, which an audit reads as this very journal, how many of its calls were answered, and of how many of these the journal holds the receipts
+-- it tells of the run: its listing, its journal as text, which an audit reads as this very journal, how many of its calls were answered, of how many of these the journal holds the receipts, and which calls are open
 pub record Tells (run : ThreadRunFields) (t : ThreadedFields) : Type 0 where
   pub world : WorldState
   pub leads : Leads (first_world run.journal.shape) run.journal.entries world
@@ -47,26 +54,29 @@ pub record Tells (run : ThreadRunFields) (t : ThreadedFields) : Type 0 where
   pub read : WritesJournal t.journal run.journal.shape run.journal.entries
   pub answered : t.answered ≡ length run.receipts
   pub held : IsCount (receipts.Holds run.journal.entries) run.receipts t.held
+  pub stuck : t.stuck ≡ flat_map open_line run.open_calls
 
 -- it tells of some run
 abbrev pub IsThreaded : ThreadedFields → Type 0
 IsThreaded t = (run : ThreadRunFields) × Tells run t
 
--- of a run of the script
-abbrev pub IsToldOf : ScriptFields → ThreadedFields → Type 0
-IsToldOf s t = (run : ThreadRunFields) × IsOfScript s run × Tells run t
+-- of a run of the script, which may have been ended where it was stuck
+abbrev pub IsToldOf : ScriptFields → Bool → ThreadedFields → Type 0
+IsToldOf s may_stop t = (run : ThreadRunFields) × IsOfScript s may_stop run × Tells run t
 
 -- the file writes the script of that run, and threads take its lines
-abbrev pub IsTold : (Option (List ℕ) → Type 0) → ThreadedFields → Type 0
-IsTold Holds t = (s : ScriptFields) × HasThreadScript Holds s × IsToldOf s t
+abbrev pub IsTold : (Option (List ℕ) → Type 0) → Bool → ThreadedFields → Type 0
+IsTold Holds may_stop t = (s : ScriptFields) × HasThreadScript Holds s × IsToldOf s may_stop t
 
 -- behind the listing stands how many receipts the journal holds, and that it is one of a run
 abbrev pub threads_text : ThreadedFields → List ℕ
 threads_text t = t.listing ++ codes "receipts " ++ decimal t.held ++ codes "\naudit yes\n"
 
--- what is shown of a run on threads, whether its journal holds each receipt or lacks one
+-- what is shown of a run on threads, whether its journal holds each receipt or lacks one, or it was ended as stuck
 abbrev pub ShowsThreads : ThreadedFields → Shown → Type 0
-ShowsThreads t (Text text) = (t.held ≡ t.answered) × (string_bytes text ≡ threads_text t)
-ShowsThreads t (Lacking text) = (t.held ≢ t.answered) × (string_bytes text ≡ threads_text t)
+ShowsThreads t (Text text) = (t.stuck ≡ []) × (t.held ≡ t.answered) × (string_bytes text ≡ threads_text t)
+ShowsThreads t (Lacking text) = (t.stuck ≡ []) × (t.held ≢ t.answered) × (string_bytes text ≡ threads_text t)
+ShowsThreads t (Stuck text told) = (t.stuck ≢ []) × (string_bytes text ≡ threads_text t) × (string_bytes told ≡ t.stuck)
+ShowsThreads t (Missing text) = ⊥
 ShowsThreads t Yes = ⊥
 ShowsThreads t (No position) = ⊥

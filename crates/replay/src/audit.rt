@@ -113,7 +113,11 @@ fn measured<'a>(text: &str) -> Result<(Shape, u32), Fault<'a>>
 }
 
 // What an audit of the journal of a file comes to.
-fn checked<'a, S: Store>(alloc: Global, store: &mut S, path: &'a str) -> Result<Audited, Fault<'a>>
+pub(crate) fn checked<'a, S: Store>(
+    alloc: Global,
+    store: &mut S,
+    path: &'a str,
+) -> Result<Audited, Fault<'a>>
     ensures audited { IfOk result (λ audited. (j : JournalFields) × HasJournal (S.holds store.old path.now) j × IsAudited j audited) }
     ensures fault { IfErr result (IsJournalFault (S.holds store.old path.now) (S.ran_short store.new) path.now) }
     ensures files { SameFiles (S.holds store.old) (S.holds store.new) }

@@ -13,7 +13,7 @@ use lockscript::error::ParseError;
 use std::alloc::{AllocError, AllocFailed};
 
 /// Why a command was not done.
-#[derive(Clone, Copy, Debug, PartialEq, Eq)]
+#[derive(Debug, PartialEq, Eq, Drop)]
 pub enum Fault<'a> {
     /// The first line of the script or the journal that may not stand there, by its number, from 1.
     BadLine(u64),
@@ -29,6 +29,8 @@ pub enum Fault<'a> {
     JournalFull,
     /// A run can't go on behind a journal of version 1.
     OldJournal,
+    /// What is wrong in a script that was to be checked, a line for each of its bad lines.
+    Faulty(String),
 }
 
 impl Fault<'_> {
@@ -42,7 +44,8 @@ impl Fault<'_> {
             | Fault::CannotRead(_)
             | Fault::CannotWrite(_)
             | Fault::CannotWriteOutput
-            | Fault::OldJournal => 3,
+            | Fault::OldJournal
+            | Fault::Faulty(_) => 3,
             Fault::NoMemory | Fault::JournalFull => 4,
         }
     }
@@ -63,6 +66,7 @@ impl Fault<'_> {
             Fault::NoMemory => put_line(err, "no memory", ""),
             Fault::JournalFull => put_line(err, "journal full", ""),
             Fault::OldJournal => put_line(err, "old journal", ""),
+            Fault::Faulty(report) => err.put(report.as_bytes()),
         }
     }
 }

@@ -4,8 +4,11 @@
 mod audit;
 mod auditor;
 mod behind;
+mod check;
 mod counts;
 pub mod disk;
+mod draw;
+mod explain;
 pub mod fault;
 mod input;
 pub mod laws;

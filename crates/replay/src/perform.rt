@@ -1,15 +1,20 @@
 //! Doing what a command line asks for.
 ghost use Rattle.std.specs.Prelude.{◌≡◌, ◌≢◌, ◌≤◌, ◌<◌, None, Some, IfErr, IfOk, OnErr, OnOk};
 ghost use Rattle.std.specs.Option.{option_map};
+ghost use Rattle.std.specs.Io.KnownBytes.{Appends};
 ghost use Rattle.command_line.specs.Tasks.{run, task_of};
 ghost use Rattle.replay.specs.declared.fault.Fault.TheVariants.{CannotWriteOutput};
 ghost use Rattle.replay.specs.Commands.{Does, IsFault, Leaves, SameButJournal, Shows, TellsFault};
 ghost use Rattle.replay.specs.Faults.{fault_line};
 ghost use Rattle.replay.specs.Outputs.{WritesOrFails};
+ghost use Rattle.replay.specs.Showing.{TellsBeside, shown_text};
 ghost use Rattle.replay.specs.Statuses.{status_of, IsStatus};
 
 use crate::audit::{audit, history};
 use crate::behind::{run_behind, run_behind_with_journal};
+use crate::check::check;
+use crate::draw::draw;
+use crate::explain::{explain, open_calls};
 use crate::fault::Fault;
 use crate::output::Output;
 use crate::run::{run_script, run_with_journal};
@@ -23,9 +28,10 @@ use std::thread::Threads;
 use std::time::Clock;
 
 /// Does what the line asks for, and answers the exit status: 0 where it was done; 1 where the journal
-/// that it names is none of a run, or that of a run on threads lacks a receipt, which it then shows; 3 where the input or the output is at fault; 4
-/// where memory or the journal was too small. At 3 and 4 one line on the second writer says why, and the
-/// first has got nothing, but for a beginning of what is shown where it failed. Faults are looked for in
+/// that it names is none of a run, or has no call of the name, or that of a run on threads lacks a receipt, or
+/// the run was ended as stuck, of which the second writer is told the open calls; 3 where the input or the output is at fault; 4
+/// where memory or the journal was too small. At 3 and 4 one line on the second writer says why (of a script that is
+/// checked, a line for each bad one), and the first has got nothing, but for a beginning of what is shown where it failed. Faults are looked for in
 /// this order: the file is read, its bytes are UTF-8, its lines are good, the run or the audit has room,
 /// the journal is written, what is shown is written. No file is changed but that of the journal that a
 /// run is asked for, once it comes to that.
@@ -40,10 +46,11 @@ pub fn perform<R: Threads + Wait + Clock + Sync, S: Store, O: Output, E: Output>
     ensures status { IsStatus result }
 
     // Done: what the file comes to is written and has gone on, the journal that a run is asked for is in
-    // its file, and the second writer got nothing.
-    ensures done { result ≤ 1 → Shows (Does (S.holds store.old) (task_of line.now) (S.holds store.new)) (O.taken out.old) (O.taken out.new) result }
+    // its file, and the second writer got nothing, but of a run that was ended as stuck its open calls.
+    ensures done { result ≤ 1 → Shows (Does (S.holds store.old) (task_of line.now) (S.holds store.new)) (O.taken out.old) (O.taken out.new)
+        (TellsBeside E.taken E.has_failed err.old err.new) result }
     ensures flushed { result ≤ 1 → O.is_flushed out.new }
-    ensures quiet { result ≤ 1 → err.new ≡ err.old }
+    ensures quiet { result ≡ 0 → err.new ≡ err.old }
 
     // Else the status and a line on the second writer tell of the first fault.
     ensures fault { 1 < result → TellsFault (IsFault (S.holds store.old) (S.ran_short store.new) (S.refuses store.new) (task_of line.now) (S.holds store.new))
@@ -53,7 +60,10 @@ pub fn perform<R: Threads + Wait + Clock + Sync, S: Store, O: Output, E: Output>
     ensures files { SameButJournal (task_of line.now) (S.holds store.old) (S.holds store.new) }
 {
     match done(rt, alloc, line, store, out) {
-        Ok(status) => status,
+        Ok(shown) => {
+            shown.tell(err);
+            shown.status()
+        }
         Err(fault) => report(&fault, err),
     }
 }
@@ -67,28 +77,48 @@ pub(crate) fn report<E: Output>(fault: &Fault<'_>, err: &mut E) -> u8
     fault.status()
 }
 
-// Does what the line asks for, and answers the status.
+// Does what the line asks for: what is shown of it.
 fn done<'a, R: Threads + Wait + Clock + Sync, S: Store, O: Output>(
     rt: &R,
     alloc: Global,
     line: &Line<'a>,
     store: &mut S,
     out: &mut O,
-) -> Result<u8, Fault<'a>>
-    ensures done { IfOk result (Shows (Does (S.holds store.old) (task_of line.now) (S.holds store.new)) (O.taken out.old) (O.taken out.new)) }
+) -> Result<Shown, Fault<'a>>
+    ensures done { IfOk result (Does (S.holds store.old) (task_of line.now) (S.holds store.new)) }
+    ensures shown { IfOk result (λ shown. Appends (O.taken out.old) (O.taken out.new) (shown_text shown)) }
     ensures flushed { OnOk result (O.is_flushed out.new) }
     ensures fault { IfErr result (λ fault. IsFault (S.holds store.old) (S.ran_short store.new) (S.refuses store.new) (task_of line.now) (S.holds store.new) fault
         × Leaves (Does (S.holds store.old) (task_of line.now) (S.holds store.new)) O.taken O.has_failed out.old out.new fault) }
 {
     let shown = shown_of(rt, alloc, line, store)?;
     match shown.show(out) {
-        Ok(()) => Ok(shown.status()),
+        Ok(()) => Ok(shown),
         Err(_) => Err(Fault::CannotWriteOutput),
     }
 }
 
-// What is shown of a script that is run, once its journal is written, if a file for it is named.
+// What is shown of a script that is run, once its journal is written, if a file for it is named, behind the
+// journal of another file, if one is named.
 fn run_shown<'a, S: Store>(
+    alloc: Global,
+    store: &mut S,
+    script: &'a str,
+    after: Option<&'a str>,
+    journal: Option<&'a str>,
+) -> Result<Shown, Fault<'a>>
+    ensures done { IfOk result (Does (S.holds store.old) (run script.now (option_map (λ file. file.now) after.entry) (option_map (λ file. file.now) journal.entry)) (S.holds store.new)) }
+    ensures fault { IfErr result (λ fault. (fault ≢ CannotWriteOutput)
+        × IsFault (S.holds store.old) (S.ran_short store.new) (S.refuses store.new) (run script.now (option_map (λ file. file.now) after.entry) (option_map (λ file. file.now) journal.entry)) (S.holds store.new) fault) }
+{
+    match after {
+        None => run_alone_shown(alloc, store, script, journal),
+        Some(after) => run_behind_shown(alloc, store, script, after, journal),
+    }
+}
+
+// The same of a script that goes on behind no journal.
+fn run_alone_shown<'a, S: Store>(
     alloc: Global,
     store: &mut S,
     script: &'a str,
@@ -138,16 +168,18 @@ fn shown_of<'a, R: Threads + Wait + Clock + Sync, S: Store>(
             script,
             after,
             journal,
-        } => match after {
-            None => run_shown(alloc, store, script, journal),
-            Some(after) => run_behind_shown(alloc, store, script, after, journal),
-        },
+        } => run_shown(alloc, store, script, after, journal),
         Line::Threads {
             script,
             seed,
+            stop_when_stuck,
             journal,
-        } => play_on_threads(rt, alloc, store, script, seed, journal),
+        } => play_on_threads(rt, alloc, store, script, seed, stop_when_stuck, journal),
         Line::Audit { journal } => audit(alloc, store, journal),
         Line::History { journal } => history(alloc, store, journal),
+        Line::Explain { journal, call } => explain(alloc, store, journal, call),
+        Line::Open { journal } => open_calls(alloc, store, journal),
+        Line::Check { script } => check(alloc, store, script),
+        Line::Picture { journal, around } => draw(alloc, store, journal, around),
     }
 }

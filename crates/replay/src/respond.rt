@@ -8,6 +8,7 @@ ghost use Rattle.replay.specs.declared.fault.Fault.TheVariants.{CannotWriteOutpu
 ghost use Rattle.replay.specs.Commands.{Does, IsFault, Leaves, Shows, TellsFault};
 ghost use Rattle.replay.specs.Faults.{fault_line};
 ghost use Rattle.replay.specs.Outputs.{AppendsPart, WritesOrFails};
+ghost use Rattle.replay.specs.Showing.{TellsBeside};
 ghost use Rattle.replay.specs.Refusals.{IsHelp, refusal_status, refusal_text};
 ghost use Rattle.replay.specs.Statuses.{status_of, IsStatus};
 
@@ -39,7 +40,8 @@ pub fn respond<R: Threads + Wait + Clock + Sync, W: AsStr, S: Store, O: Output, 
     // Words that ask for something, by the program's table, are done as `perform` does it, unless memory
     // is short before.
     ensures done { (task : Task) → AsksFor (map W.text words.now) task
-        → result ≤ 1 → Shows (Does (S.holds store.old) task (S.holds store.new)) (O.taken out.old) (O.taken out.new) result }
+        → result ≤ 1 → Shows (Does (S.holds store.old) task (S.holds store.new)) (O.taken out.old) (O.taken out.new)
+        (TellsBeside E.taken E.has_failed err.old err.new) result }
     ensures fault { (task : Task) → AsksFor (map W.text words.now) task
         → 2 < result → TellsFault (IsFault (S.holds store.old) ⊤ (S.refuses store.new) task (S.holds store.new))
         (Leaves (Does (S.holds store.old) task (S.holds store.new)) O.taken O.has_failed out.old out.new)
@@ -48,7 +50,8 @@ pub fn respond<R: Threads + Wait + Clock + Sync, W: AsStr, S: Store, O: Output, 
     // The status tells what the words are, and a fault is told by its line.
     ensures zero { result ≡ 0 → AsksForHelp (map W.text words.now) ⊎ ((task : Task) × AsksFor (map W.text words.now) task) }
     ensures one { result ≡ 1 → (task : Task) × AsksFor (map W.text words.now) task }
-    ensures shown { result ≤ 1 → O.is_flushed out.new × (err.new ≡ err.old) }
+    ensures shown { result ≤ 1 → O.is_flushed out.new }
+    ensures quiet { result ≡ 0 → err.new ≡ err.old }
     ensures wrong { result ≡ 2 → AreWrong (map W.text words.now) × (out.new ≡ out.old) }
     ensures told { 2 < result → (fault : Fault) × (result ≡ status_of fault)
         × WritesOrFails (E.taken err.old) (E.taken err.new) (E.has_failed err.new) (fault_line fault) }

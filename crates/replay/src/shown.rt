@@ -2,7 +2,7 @@
 ghost use Rattle.std.specs.Prelude.{◌≡◌, OnErr, OnOk};
 ghost use Rattle.std.specs.Io.KnownBytes.{Appends};
 ghost use Rattle.replay.specs.Outputs.{AppendsPart, Writes};
-ghost use Rattle.replay.specs.Showing.{shown_status, shown_text};
+ghost use Rattle.replay.specs.Showing.{TellsBeside, shown_status, shown_text};
 
 use crate::output::{Output, WriteFailed, put_line};
 use itoa::Buffer;
@@ -14,6 +14,10 @@ pub enum Shown {
     Text(String),
     /// The same of a run on threads, whose journal lacks a receipt.
     Lacking(String),
+    /// The same of a run on threads that was ended as stuck, and a line for each call that is open then.
+    Stuck { text: String, told: String },
+    /// That the journal has no call of the name.
+    Missing(String),
     /// `audit yes`: the entries of the journal are a run.
     Yes,
     /// `audit no K`: the entry at this position, from 1, is the first that is not the next step.
@@ -21,13 +25,14 @@ pub enum Shown {
 }
 
 impl Shown {
-    /// The exit status: 1 where a journal is none of a run or lacks a receipt, else 0.
+    /// The exit status: 1 where a journal is none of a run or lacks a receipt or what was asked for, or a run was
+    /// ended as stuck; else 0.
     pub fn status(&self) -> u8
         ensures { result ≡ shown_status self.now }
     {
         match self {
             Shown::Text(_) | Shown::Yes => 0,
-            Shown::Lacking(_) | Shown::No(_) => 1,
+            Shown::Lacking(_) | Shown::Stuck { .. } | Shown::Missing(_) | Shown::No(_) => 1,
         }
     }
 
@@ -44,11 +49,23 @@ impl Shown {
         out.finish()
     }
 
+    /// Tells of open calls, where a run was ended as stuck. What can't be written is lost.
+    pub(crate) fn tell<E: Output>(&self, err: &mut E)
+        ensures { TellsBeside E.taken E.has_failed err.old err.new self.now }
+    {
+        if let Shown::Stuck { told, .. } = self {
+            let _ = err.put(told.as_bytes());
+        }
+    }
+
     fn write<O: Output>(&self, out: &mut O) -> Result<(), WriteFailed>
         ensures { Writes (O.taken out.old) (O.taken out.new) (O.has_failed out.new) (shown_text self.now) result }
     {
         match self {
-            Shown::Text(text) | Shown::Lacking(text) => out.put(text.as_bytes()),
+            Shown::Text(text) | Shown::Lacking(text) | Shown::Missing(text) => {
+                out.put(text.as_bytes())
+            }
+            Shown::Stuck { text, .. } => out.put(text.as_bytes()),
             Shown::Yes => put_line(out, "audit yes", ""),
             Shown::No(position) => put_line(out, "audit no ", Buffer::new().format(*position)),
         }

@@ -1,6 +1,6 @@
 //! What came of a script on threads.
-ghost use Rattle.std.specs.Prelude.{◌≡◌, ◌++◌, codes, decimal, string_bytes, IfOk};
-ghost use Rattle.replay.specs.Threads.{ShowsThreads, Tells, ThreadedFields};
+ghost use Rattle.std.specs.Prelude.{◌≡◌, ◌++◌, codes, decimal, flat_map, string_bytes, IfOk, OnOk};
+ghost use Rattle.replay.specs.Threads.{ShowsThreads, Tells, ThreadedFields, open_line};
 
 use crate::counts::held_in;
 use crate::listing::listing_of_journal;
@@ -9,18 +9,22 @@ use actors::thread_run::ThreadRun;
 use intervals::span_map::NoMemory;
 use journal_text::journal::print;
 use journal_text::laws::each_journal_is_read;
+use lockscript::names::push_call;
+use model::call::CallId;
 use std::alloc::{AllocError, Global};
 use std::fmt::Write;
 use std::marker::Model;
 
 /// What is told of a run on threads: the listing and the text of its journal, which is one of a run, how
-/// many of its calls were answered, and of how many of these the journal holds the receipts.
+/// many of its calls were answered, of how many of these the journal holds the receipts, and a line for each
+/// call that is open where it was ended as stuck.
 #[derive(Drop)]
 pub struct Threaded {
     listing: String,
     journal: String,
     answered: u64,
     held: u64,
+    stuck: String,
 }
 
 impl Model for Threaded {
@@ -29,9 +33,9 @@ impl Model for Threaded {
 
     ghost Value = { ThreadedFields };
 
-    ghost view = { λ t. record { listing = string_bytes t.listing; journal = string_bytes t.journal; answered = t.answered; held = t.held } };
+    ghost view = { λ t. record { listing = string_bytes t.listing; journal = string_bytes t.journal; answered = t.answered; held = t.held; stuck = string_bytes t.stuck } };
 
-    ghost invariant = { λ t. IsThreaded (record { listing = string_bytes t.listing; journal = string_bytes t.journal; answered = t.answered; held = t.held }) };
+    ghost invariant = { λ t. IsThreaded (record { listing = string_bytes t.listing; journal = string_bytes t.journal; answered = t.answered; held = t.held; stuck = string_bytes t.stuck }) };
 }
 
 impl Threaded {
@@ -53,6 +57,7 @@ impl Threaded {
             journal: printed,
             answered: receipts.len() as u64,
             held,
+            stuck: open_lines(alloc, run.open_calls())?,
         })
     }
 
@@ -69,8 +74,12 @@ impl Threaded {
             journal,
             answered,
             held,
+            stuck,
         } = self;
         let text = with_counts(listing, held)?;
+        if !stuck.is_empty() {
+            return Ok((Shown::Stuck { text, told: stuck }, journal));
+        }
         if held == answered {
             Ok((Shown::Text(text), journal))
         } else {
@@ -86,4 +95,23 @@ fn with_counts(listing: String, held: u64) -> Result<String, AllocError>
     let mut text = listing;
     writeln!(text, "receipts {held}\naudit yes")?;
     Ok(text)
+}
+
+// A line for each of the open calls.
+fn open_lines(alloc: Global, calls: &[CallId]) -> Result<String, AllocError>
+    ensures { IfOk result (λ text. string_bytes text ≡ flat_map open_line calls.now) }
+{
+    let mut text = String::new(alloc);
+    for call in calls {
+        push_open(&mut text, call)?;
+    }
+    Ok(text)
+}
+
+fn push_open(text: &mut String, call: &CallId) -> Result<(), AllocError>
+    ensures { OnOk result (string_bytes text.new ≡ string_bytes text.old ++ open_line call.now) }
+{
+    text.push_str("open ")?;
+    push_call(text, call)?;
+    text.push_str("\n")
 }

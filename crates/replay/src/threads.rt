@@ -27,15 +27,16 @@ pub(crate) fn play_on_threads<'a, R: Threads + Wait + Clock + Sync, S: Store>(
     store: &mut S,
     path: &'a str,
     seed: u32,
+    may_stop: bool,
     journal: Option<&'a str>,
 ) -> Result<Shown, Fault<'a>>
-    ensures done { IfOk result (Does (S.holds store.old) (threads path.now seed (option_map (λ file. file.now) journal.entry)) (S.holds store.new)) }
+    ensures done { IfOk result (Does (S.holds store.old) (threads path.now seed may_stop (option_map (λ file. file.now) journal.entry)) (S.holds store.new)) }
     ensures fault { IfErr result (λ fault. (fault ≢ CannotWriteOutput)
-        × IsFault (S.holds store.old) (S.ran_short store.new) (S.refuses store.new) (threads path.now seed (option_map (λ file. file.now) journal.entry)) (S.holds store.new) fault) }
+        × IsFault (S.holds store.old) (S.ran_short store.new) (S.refuses store.new) (threads path.now seed may_stop (option_map (λ file. file.now) journal.entry)) (S.holds store.new) fault) }
 {
     match journal {
-        None => run_threads(rt, alloc, store, path, seed),
-        Some(file) => run_threads_with_journal(rt, alloc, store, path, seed, file),
+        None => run_threads(rt, alloc, store, path, seed, may_stop),
+        Some(file) => run_threads_with_journal(rt, alloc, store, path, seed, may_stop, file),
     }
 }
 
@@ -46,12 +47,13 @@ fn run_threads<'a, R: Threads + Wait + Clock + Sync, S: Store>(
     store: &mut S,
     path: &'a str,
     seed: u32,
+    may_stop: bool,
 ) -> Result<Shown, Fault<'a>>
-    ensures done { IfOk result (Does (S.holds store.old) (threads path.now seed None) (S.holds store.new)) }
+    ensures done { IfOk result (Does (S.holds store.old) (threads path.now seed may_stop None) (S.holds store.new)) }
     ensures fault { IfErr result (λ fault. (fault ≢ CannotWriteOutput)
-        × IsFault (S.holds store.old) (S.ran_short store.new) (S.refuses store.new) (threads path.now seed None) (S.holds store.new) fault) }
+        × IsFault (S.holds store.old) (S.ran_short store.new) (S.refuses store.new) (threads path.now seed may_stop None) (S.holds store.new) fault) }
 {
-    let threaded = threaded_of(rt, alloc, store, path, seed)?;
+    let threaded = threaded_of(rt, alloc, store, path, seed, may_stop)?;
     let (shown, _) = threaded.into_texts()?;
     Ok(shown)
 }
@@ -63,13 +65,14 @@ fn run_threads_with_journal<'a, R: Threads + Wait + Clock + Sync, S: Store>(
     store: &mut S,
     path: &'a str,
     seed: u32,
+    may_stop: bool,
     file: &'a str,
 ) -> Result<Shown, Fault<'a>>
-    ensures done { IfOk result (Does (S.holds store.old) (threads path.now seed (Some file.now)) (S.holds store.new)) }
+    ensures done { IfOk result (Does (S.holds store.old) (threads path.now seed may_stop (Some file.now)) (S.holds store.new)) }
     ensures fault { IfErr result (λ fault. (fault ≢ CannotWriteOutput)
-        × IsFault (S.holds store.old) (S.ran_short store.new) (S.refuses store.new) (threads path.now seed (Some file.now)) (S.holds store.new) fault) }
+        × IsFault (S.holds store.old) (S.ran_short store.new) (S.refuses store.new) (threads path.now seed may_stop (Some file.now)) (S.holds store.new) fault) }
 {
-    let threaded = threaded_of(rt, alloc, store, path, seed)?;
+    let threaded = threaded_of(rt, alloc, store, path, seed, may_stop)?;
     let (shown, journal) = threaded.into_texts()?;
     match store.write(file, journal.as_bytes()) {
         Ok(()) => Ok(shown),
@@ -84,14 +87,15 @@ fn threaded_of<'a, R: Threads + Wait + Clock + Sync, S: Store>(
     store: &mut S,
     path: &'a str,
     seed: u32,
+    may_stop: bool,
 ) -> Result<Threaded, Fault<'a>>
-    ensures told { IfOk result (IsTold (S.holds store.old path.now)) }
+    ensures told { IfOk result (IsTold (S.holds store.old path.now) may_stop) }
     ensures taken { IfOk result (λ threaded. IsTaken (S.holds store.old path.now)) }
     ensures fault { IfErr result (IsThreadsFault (S.holds store.old path.now) (S.ran_short store.new) path.now) }
     ensures files { SameFiles (S.holds store.old) (S.holds store.new) }
 {
     let script = script_of(alloc, store, path)?;
-    Ok(run_on_threads(rt, alloc, &script, seed)?)
+    Ok(run_on_threads(rt, alloc, &script, seed, may_stop)?)
 }
 
 // The script that a file writes, all of whose lines threads take.

@@ -9,6 +9,7 @@ use Rattle.replay.specs.declared.fault.Fault.TheVariants.{CannotWriteOutput, NoM
 use Rattle.replay.specs.Commands.{Does, IsFault, Leaves, Shows, TellsFault}
 use Rattle.replay.specs.Faults.{fault_line}
 use Rattle.replay.specs.Outputs.{AppendsPart, WritesOrFails}
+use Rattle.replay.specs.Showing.{TellsBeside}
 use Rattle.replay.specs.Refusals.{IsHelp, refusal_status, refusal_text}
 use Rattle.replay.proofs.Faults.{fault-weaker, short-memory}
 use Rattle.replay.proofs.Refused.{refused-short, refused-told, refused-unshown, short-leaves}
@@ -18,7 +19,7 @@ use Rattle.replay.proofs.respond.respond.Goals as goal
 pub returns-in-Ok-clause-done : goal.returns-in-Ok-clause-done
 returns-in-Ok-clause-done g c = λ task asks done.
     let words = map g.W.AsStr.text c.args.words.now in
-    let P : Task → Type 0 = λ t. Shows (Does (g.S.Store.holds c.args.store.now) t (g.S.Store.holds c.perform.new.store)) (g.O.Output.taken c.args.out.now) (g.O.Output.taken c.perform.new.out) c.perform.result in
+    let P : Task → Type 0 = λ t. Shows (Does (g.S.Store.holds c.args.store.now) t (g.S.Store.holds c.perform.new.store)) (g.O.Output.taken c.args.out.now) (g.O.Output.taken c.perform.new.out) (TellsBeside g.E.Output.taken g.E.Output.has_failed c.args.err.now c.perform.new.err) c.perform.result in
     subst P (asks_one words (task_of c.in-Ok.line) task c.in-Ok.ensures.asked asks) (c.perform.ensures.done done)
 
 pub returns-in-Ok-clause-fault : goal.returns-in-Ok-clause-fault
