@@ -116,6 +116,21 @@ try_text 'help on threads' 0 out 'receipts K' help threads
 try_text 'the usage in the help on run' 0 out 'Usage: lockreplay ' help run
 try_text 'the usage in the help on threads' 0 out 'Usage: lockreplay ' help threads
 try_text 'no script for threads' 2 err 'Usage: lockreplay threads' threads
+try_text 'a stop with a value' 2 err '--stop-when-stuck' threads first.lock --stop-when-stuck=yes
+try_text 'no call for explain' 2 err 'Usage: lockreplay explain' explain new.journal
+try_text 'two calls for explain' 2 err 'Usage: lockreplay explain' explain new.journal 1.1.1 1.1.2
+try_text 'a journal for explain left out' 2 err 'Usage: lockreplay explain' explain
+for command in open check picture; do
+    try_text "no file for $command" 2 err "Usage: lockreplay $command" "$command"
+    try_text "two files for $command" 2 err "Usage: lockreplay $command" "$command" first.lock first.lock
+    try_text "an option for $command" 2 err "Usage: lockreplay $command" "$command" first.lock --journal=new.journal
+done
+try_text 'the help on explain' 0 out 'no call CALL' help explain
+try_text 'the help on open' 0 out 'JOURNAL' help open
+try_text 'the help on check' 0 out 'threads no L' help check
+try_text 'the help on picture' 0 out 'first 400 entries' help picture
+try_text 'a call to draw left out' 2 err "a value is required for '--around <CALL>'" picture new.journal --around
+try_text 'two calls to draw' 2 err "'--around <CALL>' cannot be used multiple times" picture new.journal --around 1.1.1 --around 1.1.2
 try_text 'two scripts for threads' 2 err 'Usage: lockreplay threads' threads first.lock first.lock
 try_text 'a seed below 0' 2 err "'-1'" threads first.lock --seed -1
 try_text 'a seed that is too great' 2 err "for '--seed <N>'" threads first.lock --seed 4294967296
@@ -373,6 +388,31 @@ judge 'the journal that it writes with = behind the script' 0 $? none none none 
 try 'an audit of it' 0 yes none audit written.journal
 try 'an audit of it behind --' 0 yes none audit -- written.journal
 try 'its history' 0 first.history none history written.journal
+printf 'call 1.1.1\nentry 1: process 1 of node 1 calls: spawn\n  reply: done\nhistory: at entry 1 (its call and reply)\n' >first.story
+try 'the story of its first call' 0 first.story none explain written.journal 1.1.1
+try 'the story of its first call behind --' 0 first.story none explain -- written.journal 1.1.1
+try 'its open calls' 0 none none open written.journal
+for call in 1.1.9 2.1.1 1.2.1 1.1 1.1.1.1 1.1.01 '' x '1.1.1 '; do
+    printf 'no call %s\n' "$call" >no-call
+    try "no story: $call" 1 no-call none explain written.journal "$call"
+    try "no picture: $call" 1 no-call none picture written.journal --around "$call"
+done
+"$program" picture written.journal >first.svg
+try 'the picture around its first call, behind --' 0 first.svg none picture --around=1.1.1 -- written.journal
+sed 's/^reply 1.1.1 done$/reply 1.1.1 exists/' first.journal >wrong.journal
+echo 'audit no 1' >no-first
+try 'a story by a journal that is none of a run' 1 no-first none explain wrong.journal 1.1.1
+try 'a picture of a journal that is none of a run' 1 no-first none picture wrong.journal
+try 'open calls by a journal that is none of a run' 1 no-first none open wrong.journal
+head -n 4 first.journal >cut.journal
+echo 'bad line 5' >no-end
+try 'a story by a journal that was cut' 3 none no-end explain cut.journal 1.1.1
+try 'a picture of a journal that was cut' 3 none no-end picture cut.journal
+try 'open calls by a journal that was cut' 3 none no-end open cut.journal
+echo 'cannot read missing.journal' >no-journal
+try 'a story by a missing journal' 3 none no-journal explain missing.journal 1.1.1
+try 'a picture of a missing journal' 3 none no-journal picture missing.journal
+try 'open calls by a missing journal' 3 none no-journal open missing.journal
 cat first.journal first.journal >written.journal
 try 'a run with its journal in the place of a longer file' 0 first.listing none run first.lock --journal written.journal
 cmp -s first.journal written.journal
@@ -398,6 +438,39 @@ if [ ! -w closed.journal ]; then
     echo 'cannot write closed.journal' >no-leave
     try 'a journal that may not be written' 3 none no-leave run first.lock --journal closed.journal
 fi
+
+# A journal that can't be written whole leaves the file that was there, and nothing beside it; its permissions stay.
+{ cat empty.lock; for _ in $(seq 200); do printf 'call 1 1 spawn\n'; done; } >spawns.lock
+echo 'the only copy' >whole.journal
+cp whole.journal kept
+chmod 640 whole.journal
+echo 'cannot write whole.journal' >no-room-there
+: >left.files
+ls >came.files
+(
+    trap '' XFSZ
+    ulimit -f 4
+    exec timeout 120 "$program" run spawns.lock --journal whole.journal >came.out 2>came.err
+)
+judge 'a journal that is too long for its file system' 3 $? none came.out no-room-there came.err
+judge 'the file that was there then' 0 0 kept whole.journal none none
+ls >left.files
+judge 'the files beside it' 0 0 came.files left.files none none
+timeout 120 "$program" run first.lock --journal whole.journal >came.out 2>came.err
+judge 'a journal in the place of that file' 0 $? first.listing came.out none came.err
+cmp -s first.journal whole.journal && [ "$(stat -c %a whole.journal)" = 640 ]
+judge 'the journal, with the permissions of the file' 0 $? none none none none
+ln -s whole.journal link.journal
+: >whole.journal
+try 'a journal by a link' 0 first.listing none run first.lock --journal link.journal
+[ -L link.journal ] && cmp -s first.journal whole.journal
+judge 'the file behind the link' 0 $? none none none none
+for number in $(seq 16); do : >"whole.journal.new$number"; done
+: >whole.journal
+try 'a journal where no name beside it is free' 0 first.listing none run first.lock --journal whole.journal
+cmp -s first.journal whole.journal
+judge 'that journal, which is written in place' 0 $? none none none none
+rm -f whole.journal* link.journal
 
 # A file is as it was where the run fails before its journal is written.
 echo 'the only copy' >kept.journal
@@ -655,6 +728,90 @@ try 'calls in turn on threads' 0 in-turn.listing none threads in-turn.lock
 try 'calls in turn on threads, with their journal' 0 in-turn.listing none threads in-turn.lock --journal threads.journal
 cmp -s in-turn.journal threads.journal
 judge 'the journal of calls in turn' 0 $? none none none none
+
+# A run that is stuck is ended where that is asked for. What was answered, which calls are open and the locks don't depend on the
+# schedule: the name of the case, its script, its journal, then the lines that are wanted of replies, of locks and of open calls.
+try_stuck() {
+    local name=$1 script=$2 replies=$3 locks=$4 open=$5
+    timeout 120 "$program" threads "$script" --stop-when-stuck --journal stuck.journal >threads.out 2>came.err </dev/null
+    local came=$?
+    {
+        replies_of threads.out | sed '1d;$d' | sed 's/  */ /g' | sort
+        sed -n '/^locks$/,/^history$/p' threads.out | sed '1d;$d;s/  */ /g'
+        tail -n 1 threads.out
+    } >came.out
+    printf '%b%baudit yes\n' "$replies" "$locks" >wanted
+    printf '%b' "$open" >wanted.err
+    judge "$name" 1 "$came" wanted came.out wanted.err came.err
+    try "an audit of the journal of: $name" 0 yes none audit stuck.journal
+    "$program" open stuck.journal | sed -n 's/^\(open [0-9.]*\) since .*/\1/p' | sort >came.open
+    sort wanted.err >wanted.open
+    judge "its open calls: $name" 0 0 wanted.open came.open none none
+}
+last=9223372036854775807
+cp "$tests/../examples/mailbox.lock" mailbox.lock
+try_stuck 'waits whose lock is freed only behind their phase' mailbox.lock \
+    '1.1.1 done\n1.1.2 fd 0\n1.1.3 done\n2.1.1 done\n2.1.2 fd 0\n3.1.1 done\n3.1.2 fd 0\n' \
+    "p1@1.1 1 0 $last write\n" 'open 2.1.3\nopen 3.1.3\n'
+cat >cycle.lock <<'END'
+cluster nodes 2 files 1 policy exact
+call 1 1 spawn
+call 1 1 open 1 rw
+call 2 1 spawn
+call 2 1 open 1 rw
+call 1 1 set 0 proc write 0 100
+call 2 1 set 0 proc write 200 100
+settle
+call 1 1 wait 0 proc write 200 100
+call 2 1 wait 0 proc write 0 100
+call 2 1 exit
+settle
+call 1 1 query 0 proc read 0 0
+END
+try_stuck 'waits in a cycle' cycle.lock \
+    '1.1.1 done\n1.1.2 fd 0\n1.1.3 done\n2.1.1 done\n2.1.2 fd 0\n2.1.3 done\n' \
+    'p1@1.1 1 0 99 write\np1@2.1 1 200 299 write\n' 'open 1.1.4\nopen 2.1.4\n'
+cat >own.lock <<'END'
+cluster nodes 1 files 1 policy wide
+call 1 1 spawn
+call 1 1 open 1 rw
+call 1 1 set 0 proc write 0 100
+settle
+call 1 2 spawn
+call 1 2 open 1 rw
+call 1 2 wait 0 proc write 50 100
+call 1 2 unlock 0 proc 50 100
+settle
+call 1 1 unlock 0 proc 0 0
+END
+try_stuck 'a wait for a lock of its own node' own.lock \
+    '1.1.1 done\n1.1.2 fd 0\n1.1.3 done\n1.1.4 done\n1.1.5 fd 0\n' 'p1@1.1 1 0 99 write\n' 'open 1.1.6\n'
+cat >waits-for-failed.lock <<'END'
+cluster nodes 1 files 2 policy wide
+call 1 1 spawn
+call 1 1 open 1 rw
+call 1 1 open 2 rw
+fail-server 1
+call 1 1 set 1 proc write 0 100
+call 1 1 set 0 proc write 0 100
+settle
+start-server 1
+call 1 1 set 0 proc write 0 100
+END
+try_stuck 'a call that needs a server that failed' waits-for-failed.lock \
+    '1.1.1 done\n1.1.2 fd 0\n1.1.3 fd 1\n1.1.4 done\n' 'p1@1.1 2 0 99 write\n' 'open 1.1.5\n'
+sed '/^call 1 1 set 0/d' waits-for-failed.lock >not-stuck.lock
+for script in waits.lock failures.lock rebuilt.lock not-stuck.lock two.lock; do
+    timeout 120 "$program" threads "$script" --stop-when-stuck >threads.out 2>came.err </dev/null
+    came=$?
+    tail -n 1 threads.out >came.out
+    judge "$script, which is not stuck" 0 "$came" yes came.out none came.err
+done
+held=0
+for seed in $(seq 20); do
+    timeout 120 "$program" threads weather.lock --seed "$seed" --stop-when-stuck >threads.out 2>came.err </dev/null && held=$((held + 1))
+done
+judge 'contended scripts under weathers, which are not stuck' 20 "$held" none none none none
 
 # The first line that is no line of a script, or that threads do not take, is told.
 try_bad_line threads 4 "${shape}settle\n# 3\nresend 1\n"
