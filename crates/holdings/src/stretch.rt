@@ -1,0 +1,61 @@
+//! What the live nodes hold behind a stretch of a journal.
+ghost use Rattle.std.specs.Prelude.{◌≡◌, ◌<◌, All, Ok, map, take, IfOk, OnOk};
+ghost use Rattle.cluster_core.specs.Next.{next};
+ghost use Rattle.cluster_core.specs.Parts.{world_state};
+ghost use Rattle.cluster_core.specs.World.{WorldState, journal_limit};
+ghost use Rattle.holdings.specs.Holdings.{AreHeldBehind, positions_within};
+
+use crate::holdings::Holdings;
+use cluster_core::journal::{Journal, comes_next};
+use cluster_core::world::World;
+use intervals::span_map::NoMemory;
+use messages::entry::Entry;
+use std::alloc::Global;
+
+/// What the live nodes hold behind each entry of the journal from one position to another, with both of
+/// them, in the order of the entries; positions count from 1, and there is nothing for those at which the
+/// journal has no entry. The events happen once more, up to the last of these entries.
+///
+/// # Errors
+/// `NoMemory` where a request for memory was refused.
+pub fn holdings(
+    alloc: Global,
+    journal: &Journal,
+    from: u64,
+    to: u64,
+) -> Result<Vec<Holdings>, NoMemory>
+    ensures positions { IfOk result (λ held. map (λ h. h.position) held.items ≡ positions_within from to journal.now.entries) }
+    ensures held { IfOk result (λ held. All (AreHeldBehind journal.now) held.items) }
+{
+    let mut held = Vec::new(alloc);
+    let mut world = World::new(alloc, journal.shape())?;
+    let mut position = 0u64;
+    for entry in up_to(journal.entries(), to) {
+        position += 1;
+        repeat(&mut world, alloc, entry)?;
+        if from <= position {
+            held.push(Holdings::of(alloc, position, &world)?)?;
+        }
+    }
+    Ok(held)
+}
+
+// The entries up to this position.
+fn up_to(entries: &[Entry], to: u64) -> &[Entry]
+    ensures { result.now ≡ take to entries.now }
+{
+    let count = to.min(entries.len() as u64) as usize;
+    &entries[..count]
+}
+
+// The entry of a run happens again: only memory can be refused.
+fn repeat(world: &mut World, alloc: Global, entry: &Entry) -> Result<(), NoMemory>
+    requires room { world.old.length < journal_limit }
+    requires made { (v : WorldState) × (next (world_state world.old) entry.now.event ≡ Ok (v, entry.now)) }
+    ensures { OnOk result (next (world_state world.old) entry.now.event ≡ Ok (world_state world.new, entry.now)) }
+{
+    if !comes_next(world, alloc, entry)? {
+        unreachable!()
+    }
+    Ok(())
+}
