@@ -1,2 +1,5 @@
 pub mod Passes
 pub mod Firsts
+pub mod CallParts
+pub mod OpenEnds
+pub mod OpenTold

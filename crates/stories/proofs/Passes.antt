@@ -1,5 +1,5 @@
 -- One more step of a pass over a list.
-use Rattle.std.proofs.Common.{◌≡◌, ℕ, suc, ◌+◌, ◌<◌, Bool, true, false, not, cond, ◌||◌, List, [], ◌∷◌, ◌++◌, length, get_or, drop, fold, filter, refl, sym, ◌∙◌, ap, subst, drop-cons, add-one, append_assoc, arith, Option, Some, None}
+use Rattle.std.proofs.Common.{◌≡◌, ℕ, suc, ◌+◌, ◌<◌, Bool, true, false, not, cond, List, [], ◌∷◌, ◌++◌, length, get_or, drop, fold, filter, refl, sym, ◌∙◌, ap, drop-cons, add-one, append_assoc, Option, Some, None}
 use Rattle.std.specs.Prelude.{filter_map, flat_map, option_to_list}
 use Rattle.std.specs.List.{cons_option, enumerate_from, last_or, list_any}
 use Rattle.std.proofs.lemmas.List.Elements.{filter-append}

@@ -1,6 +1,6 @@
 -- What of a journal is about a call.
 use Rattle.std.specs.Prelude.{ℕ, ◌+◌, Bool, false, ◌||◌, List, [], ◌∷◌, filter, find, flat_map, length, Option, option_map}
-use Rattle.std.specs.List.{enumerate_from, list_any}
+use Rattle.std.specs.List.{list_any}
 use Rattle.std.specs.Option.{option_map_or}
 use Rattle.model.specs.declared.call.CallId.{CallId}
 use Rattle.messages.specs.declared.event.Event.{Event}

@@ -3,3 +3,4 @@ pub mod Index
 pub mod Stories
 pub mod Pending
 pub mod OpenCalls
+pub mod OpenIndexes

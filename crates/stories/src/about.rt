@@ -3,25 +3,36 @@ ghost use Rattle.std.specs.Prelude.{◌≡◌};
 ghost use Rattle.std.specs.List.{list_any};
 ghost use Rattle.messages.specs.Messages.{same_message};
 ghost use Rattle.stories.specs.About.{answers, belongs, delivers, is_about, makes};
+ghost use Rattle.stories.specs.OpenIndexes.{call_named};
 
 use messages::entry::Entry;
 use messages::event::Event;
 use messages::message::Message;
 use model::call::CallId;
 
+/// The call that the message names.
+pub(crate) fn call_named(message: &Message) -> Option<CallId>
+    ensures { result ≡ call_named message.now }
+{
+    match message {
+        Message::Request { call, .. }
+        | Message::Grant { call, .. }
+        | Message::Revoke { call, .. }
+        | Message::Taken { call, .. }
+        | Message::Released { call, .. }
+        | Message::Conflict { call, .. }
+        | Message::Deny { call, .. } => Some(*call),
+        Message::Freed { .. } | Message::Hello { .. } | Message::Report { .. } => None,
+    }
+}
+
 /// Whether the message names the call.
 pub(crate) fn is_about(message: &Message, call: &CallId) -> bool
     ensures { result ≡ is_about call.now message.now }
 {
-    match message {
-        Message::Request { call: named, .. }
-        | Message::Grant { call: named, .. }
-        | Message::Revoke { call: named, .. }
-        | Message::Taken { call: named, .. }
-        | Message::Released { call: named, .. }
-        | Message::Conflict { call: named, .. }
-        | Message::Deny { call: named, .. } => named == call,
-        Message::Freed { .. } | Message::Hello { .. } | Message::Report { .. } => false,
+    match call_named(message) {
+        Some(named) => named == *call,
+        None => false,
     }
 }
 
@@ -70,7 +81,7 @@ pub(crate) fn makes(entry: &Entry, call: &CallId) -> bool
 }
 
 /// Whether the entry replies to the call.
-pub(crate) fn answers(entry: &Entry, call: &CallId) -> bool
+pub fn answers(entry: &Entry, call: &CallId) -> bool
     ensures { result ≡ answers call.now entry.now }
 {
     match entry.reply() {

@@ -2,11 +2,17 @@
 #![tactic(auto)]
 
 pub mod about;
+mod answered_calls;
+mod end;
+mod ending;
+mod ends;
 pub mod lines;
 pub mod made_call;
 pub mod names;
 mod numbered_message;
+mod open_call;
 pub mod open_calls;
+mod parts;
 mod pending;
 mod placed_entry;
 mod sent_messages;

@@ -1,14 +1,15 @@
 //! The calls without a reply.
-ghost use Rattle.std.specs.Prelude.{◌≡◌, ◌++◌, filter, not, option_map, option_to_list, string_bytes, IfOk, OnOk};
-ghost use Rattle.std.specs.List.{list_any};
-ghost use Rattle.stories.specs.About.{answers};
-ghost use Rattle.stories.specs.OpenCalls.{end_of, ended_told, is_open, made_by, made_told, open_calls, open_text, open_told, since_text, state_told};
+ghost use Rattle.std.specs.Prelude.{◌≡◌, ◌++◌, All, map, option_to_list, string_bytes, IfOk, OnOk};
+ghost use Rattle.stories.specs.OpenCalls.{end_of, ended_told, made_told, open_calls, open_text, open_told, since_text, state_told};
+ghost use Rattle.stories.specs.OpenIndexes.{IsOpenCall, open_with};
 
-use crate::about::answers;
+use crate::answered_calls::AnsweredCalls;
+use crate::ends::{Ends, first_end, note_end};
 use crate::lines::push_calling;
 use crate::made_call::MadeCall;
+use crate::open_call::OpenCall;
+use crate::parts::Parts;
 use crate::pending::push_pending;
-use crate::placed_entry::part_of;
 use intervals::span_map::NoMemory;
 use lockscript::names::push_call;
 use messages::entry::Entry;
@@ -16,6 +17,7 @@ use messages::event::Event;
 use messages::version::Version;
 use model::call::CallId;
 use std::alloc::{AllocError, Global};
+use std::collections::HashMap;
 use std::fmt::Write;
 
 /// The calls of the entries of a journal of this version, the first at position 1, to which no entry
@@ -32,52 +34,54 @@ use std::fmt::Write;
 pub fn open_calls(alloc: Global, version: Version, entries: &[Entry]) -> Result<String, NoMemory>
     ensures { IfOk result (λ text. string_bytes text ≡ open_text version entries.now) }
 {
-    let calls = candidates(alloc, entries)?;
+    let answered = AnsweredCalls::of(alloc, entries)?;
+    let calls = unanswered(alloc, entries, &answered)?;
+    let parts = Parts::of(alloc, entries, &answered)?;
     let mut out = String::new(alloc);
-    for made in &calls {
-        if !is_answered(entries, &made.call) {
-            push_open(&mut out, alloc, version, entries, made)?;
-        }
+    for call in &calls {
+        push_open(&mut out, alloc, version, &parts, call)?;
     }
     Ok(out)
 }
 
-// The calls to which no entry replies, and maybe such to which only earlier entries reply.
-fn candidates(alloc: Global, entries: &[Entry]) -> Result<Vec<MadeCall>, AllocError>
-    ensures { IfOk result (λ calls. filter (is_open entries.now) calls.items ≡ open_calls entries.now) }
+// The calls to which no entry replies, each with the first entry behind it that ends it.
+fn unanswered<'a>(
+    alloc: Global,
+    entries: &'a [Entry],
+    answered: &AnsweredCalls<'_>,
+) -> Result<Vec<OpenCall<'a>>, AllocError>
+    requires { answered.now ≡ entries.now }
+    ensures made { IfOk result (λ calls. map (λ call. call.made) calls.items ≡ open_calls entries.entry.now) }
+    ensures open { IfOk result (λ calls. All (IsOpenCall entries.entry.now) calls.items) }
 {
     let mut calls = Vec::new(alloc);
-    let mut position = 0u64;
-    for entry in entries {
-        position += 1;
-        add_made(&mut calls, position, entry)?;
-        remove_answered(&mut calls, entry);
+    let mut ends = HashMap::new(alloc);
+    for index in (0..entries.len()).rev() {
+        let entry = &entries[index];
+        let position = index as u64 + 1;
+        add_open(&mut calls, answered, &ends, MadeCall::of(position, entry))?;
+        note_end(&mut ends, position, entry)?;
     }
+    calls.reverse();
     Ok(calls)
 }
 
-// The call that the entry at this position makes comes last, if it makes one.
-fn add_made(calls: &mut Vec<MadeCall>, position: u64, entry: &Entry) -> Result<(), AllocError>
-    ensures { OnOk result (calls.new.items ≡ calls.old.items ++ option_to_list (made_by position entry.now.event entry.now.call)) }
+// The call, if it is one to which no entry replies, comes last, with the first entry of the index that
+// ends it.
+fn add_open<'a>(
+    calls: &mut Vec<OpenCall<'a>>,
+    answered: &AnsweredCalls<'_>,
+    ends: &Ends<'a>,
+    made: Option<MadeCall>,
+) -> Result<(), AllocError>
+    ensures { OnOk result (calls.new.items ≡ calls.old.items ++ option_to_list (open_with answered.now ends.now made)) }
 {
-    if let Some(made) = MadeCall::of(position, entry) {
-        calls.push(made)?;
+    if let Some(made) = made
+        && !answered.has(&made.call)
+    {
+        calls.push(OpenCall::new(made, first_end(ends, &made)))?;
     }
     Ok(())
-}
-
-// The calls to which the entry replies go.
-fn remove_answered(calls: &mut Vec<MadeCall>, entry: &Entry)
-    ensures { calls.new.items ≡ filter (λ made. not (answers made.call entry.now)) calls.old.items }
-{
-    calls.retain(|made| !answers(entry, &made.call));
-}
-
-// Whether an entry replies to the call.
-fn is_answered(entries: &[Entry], call: &CallId) -> bool
-    ensures { result ≡ list_any (answers call.now) entries.now }
-{
-    entries.iter().any(|entry| answers(entry, call))
 }
 
 // Writes the lines of a call without a reply.
@@ -85,13 +89,32 @@ fn push_open(
     out: &mut String,
     alloc: Global,
     version: Version,
-    entries: &[Entry],
-    made: &MadeCall,
+    parts: &Parts<'_>,
+    call: &OpenCall<'_>,
 ) -> Result<(), AllocError>
-    ensures { OnOk result (string_bytes out.new ≡ string_bytes out.old ++ open_told version entries.now made.now) }
+    requires { IsOpenCall parts.now call.now }
+    ensures { OnOk result (string_bytes out.new ≡ string_bytes out.old ++ open_told version parts.now call.now.made) }
 {
-    push_made(out, made)?;
-    push_state(out, alloc, version, entries, made)
+    push_made(out, call.made())?;
+    push_state(out, alloc, version, parts, call)
+}
+
+// Writes how the call ended, or what it waits for.
+fn push_state(
+    out: &mut String,
+    alloc: Global,
+    version: Version,
+    parts: &Parts<'_>,
+    call: &OpenCall<'_>,
+) -> Result<(), AllocError>
+    requires { IsOpenCall parts.now call.now }
+    ensures { OnOk result (string_bytes out.new ≡ string_bytes out.old ++ state_told version call.now.made parts.now (end_of call.now.made parts.now)) }
+{
+    let made = call.made();
+    match call.end() {
+        Some(end) => push_ended(out, end.position(), end.event()),
+        None => push_pending(out, alloc, version, &made.call, parts.of_call(&made.call)),
+    }
 }
 
 // Writes the first line of a call without a reply.
@@ -111,37 +134,6 @@ fn push_since(out: &mut String, call: &CallId, position: u64) -> Result<(), Allo
     push_call(out, call)?;
     out.push_str(" since entry ")?;
     write!(out, "{position}: ")
-}
-
-// Writes how the call ended, or what it waits for.
-fn push_state(
-    out: &mut String,
-    alloc: Global,
-    version: Version,
-    entries: &[Entry],
-    made: &MadeCall,
-) -> Result<(), AllocError>
-    ensures { OnOk result (string_bytes out.new ≡ string_bytes out.old ++ state_told version made.now entries.now (end_of made.now entries.now)) }
-{
-    if let Some((position, entry)) = end_of(entries, made) {
-        return push_ended(out, position, entry.event());
-    }
-    let part = part_of(alloc, entries, &made.call)?;
-    push_pending(out, alloc, version, &made.call, part.as_slice())
-}
-
-// The first entry behind the call that ends it, with its position.
-fn end_of<'a>(entries: &'a [Entry], made: &MadeCall) -> Option<(u64, &'a Entry)>
-    ensures { option_map (λ end. (end.0, end.1.now)) result ≡ end_of made.now entries.entry.now }
-{
-    let mut position = 0u64;
-    for entry in entries {
-        position += 1;
-        if made.position < position && made.is_ended_by(entry) {
-            return Some((position, entry));
-        }
-    }
-    None
 }
 
 // Writes how a call ended that this event, of the entry at this position, ended.

@@ -1,5 +1,5 @@
 //! Entries with their places.
-ghost use Rattle.std.specs.Prelude.{◌≡◌, IfOk};
+ghost use Rattle.std.specs.Prelude.{◌≡◌, ◌+◌, ◌<◌, ◌^◌, length, IfOk};
 ghost use Rattle.stories.specs.About.{part_of, sent_by};
 
 use crate::about::{belongs, is_about};
@@ -31,6 +31,29 @@ impl<'a> Model for PlacedEntry<'a> {
 }
 
 impl<'a> PlacedEntry<'a> {
+    /// The entry at this position, whose first message has this number.
+    pub(crate) fn new(position: u64, number: u128, entry: &'a Entry) -> PlacedEntry<'a>
+        requires { number + length entry.now.sends < 2 ^ 128 }
+        ensures { result ≡ record { position = position; number = number; entry = entry.entry.now } }
+    {
+        PlacedEntry {
+            position,
+            number,
+            entry,
+        }
+    }
+
+    /// The same once more.
+    pub(crate) fn copy(&self) -> PlacedEntry<'a>
+        ensures { result ≡ self.now }
+    {
+        PlacedEntry {
+            position: self.position,
+            number: self.number,
+            entry: self.entry,
+        }
+    }
+
     /// The position.
     pub(crate) fn position(&self) -> u64
         ensures { result ≡ self.now.position }
@@ -86,11 +109,7 @@ pub(crate) fn part_of<'a>(
         position += 1;
         let count = entry.sends().len();
         if belongs(entry, call) {
-            part.push(PlacedEntry {
-                position,
-                number,
-                entry,
-            })?;
+            part.push(PlacedEntry::new(position, number, entry))?;
         }
         number += count as u128;
     }

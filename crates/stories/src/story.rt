@@ -144,8 +144,11 @@ fn push_happening<'a>(
     }
 }
 
-// Writes the event of an entry as journals do.
-fn push_plain(out: &mut String, version: Version, entry: &Entry) -> Result<(), AllocError>
+/// Writes the event of an entry as journals of this version do.
+///
+/// # Errors
+/// `AllocError` where a request for memory was refused.
+pub fn push_plain(out: &mut String, version: Version, entry: &Entry) -> Result<(), AllocError>
     ensures { OnOk result (string_bytes out.new ≡ string_bytes out.old ++ plain_text version entry.now) }
 {
     push_event(

@@ -1,6 +1,8 @@
-use Rattle.std.proofs.Common.{◌≡◌, ◌++◌, filter, flat_map, string_bytes, drop}
-use Rattle.stories.specs.OpenCalls.{is_open, open_told, open_text}
+use Rattle.std.proofs.Common.{◌≡◌, ◌++◌, drop}
+use Rattle.std.specs.Prelude.{flat_map, string_bytes}
+use Rattle.stories.specs.OpenCalls.{open_text, open_told}
+use Rattle.stories.specs.OpenIndexes.{OpenFields}
 use Rattle.stories.proofs.open_calls.open_calls.Given as goal
 
-abbrev pub invariant-loop-made : goal.invariant-loop-made
-invariant-loop-made l = string_bytes l.out ++ flat_map (open_told l.version l.entries) (filter (is_open l.entries) (drop l.made-index l.made-items)) ≡ open_text l.version l.entries
+abbrev pub invariant-loop-call : goal.invariant-loop-call
+invariant-loop-call l = string_bytes l.out ++ flat_map (λ (call : OpenFields). open_told l.version l.entries call.made) (drop l.call-index l.call-items) ≡ open_text l.version l.entries

@@ -1,5 +1,5 @@
 use Rattle.std.specs.Prelude.{codes, decimal, string_bytes, OnOk, Ok, Err}
-use Rattle.std.proofs.Common.{◌≡◌, ◌++◌, List, ℕ}
+use Rattle.std.proofs.Common.{◌≡◌, ◌++◌}
 use Rattle.lockscript.specs.Texts.{call_text}
 use Rattle.stories.proofs.Passes.{written}
 use Rattle.stories.specs.OpenCalls.{since_text}

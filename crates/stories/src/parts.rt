@@ -1,0 +1,186 @@
+//! The entries that belong to calls.
+use crate::about::call_named;
+use crate::answered_calls::AnsweredCalls;
+use crate::placed_entry::PlacedEntry;
+use messages::entry::Entry;
+use messages::event::Event;
+use model::call::CallId;
+use std::alloc::{AllocError, Global};
+use std::collections::HashMap;
+use std::marker::Model;
+
+/// The entries, of all, that belong to each call to which no entry replies.
+#[derive(Drop)]
+pub(crate) struct Parts<'a> {
+    entries: &'a [Entry],
+    parts: HashMap<CallId, Vec<PlacedEntry<'a>>>,
+    // Of a call to which none belongs.
+    none: Vec<PlacedEntry<'a>>,
+}
+
+impl<'a> Model for Parts<'a> {
+    ghost use Rattle.std.specs.Prelude.{◌≡◌, [], List};
+    ghost use Rattle.messages.specs.Entries.{EntryFields};
+    ghost use Rattle.stories.specs.OpenIndexes.{KnowsParts};
+
+    ghost Value = { List EntryFields };
+
+    ghost view = { λ p. p.entries.now };
+
+    ghost invariant = { λ p. KnowsParts p.parts p.entries.now × (p.none.items ≡ []) };
+}
+
+impl<'a> Parts<'a> {
+    ghost use Rattle.std.specs.Prelude.{◌≡◌, false, IfOk};
+    ghost use Rattle.std.specs.List.{list_any};
+    ghost use Rattle.stories.specs.About.{answers, part_of};
+
+    /// Those of these entries, which reply to the calls that have a reply.
+    ///
+    /// # Errors
+    /// `AllocError` where a request for memory was refused.
+    pub(crate) fn of(
+        alloc: Global,
+        entries: &'a [Entry],
+        answered: &AnsweredCalls<'_>,
+    ) -> Result<Parts<'a>, AllocError>
+        requires { answered.now ≡ entries.now }
+        ensures { IfOk result (λ parts. parts ≡ entries.entry.now) }
+    {
+        let mut parts = HashMap::new(alloc);
+        let mut position = 0u64;
+        let mut number = 1u128;
+        for entry in entries {
+            position += 1;
+            let count = entry.sends().len();
+            let placed = PlacedEntry::new(position, number, entry);
+            note_entry(&mut parts, alloc, answered, &placed)?;
+            number += count as u128;
+        }
+        let none = Vec::new(alloc);
+        Ok(Parts {
+            entries,
+            parts,
+            none,
+        })
+    }
+
+    /// The entries that belong to the call, to which no entry replies.
+    pub(crate) fn of_call(&self, call: &CallId) -> &[PlacedEntry<'a>]
+        ensures { list_any (answers call.now) self.now ≡ false → result.now ≡ part_of call.now self.now }
+    {
+        let Some(part) = self.parts.get(call) else {
+            return self.none.as_slice();
+        };
+        part.as_slice()
+    }
+}
+
+ghost use Rattle.std.specs.Prelude.{◌≡◌, false, if◌then◌else◌, OnOk};
+ghost use Rattle.std.specs.List.{list_any};
+ghost use Rattle.model.specs.declared.call.CallId.{CallId};
+ghost use Rattle.messages.specs.Messages.{same_call};
+ghost use Rattle.stories.specs.About.{answers, belongs};
+ghost use Rattle.stories.specs.OpenIndexes.{call_come, ends_at, is_call, part_in, with_last, with_one};
+
+// The entry comes last in the part of each call that it belongs to, but for those that have a reply. It
+// stands behind all entries of the parts.
+fn note_entry<'a>(
+    parts: &mut HashMap<CallId, Vec<PlacedEntry<'a>>>,
+    alloc: Global,
+    answered: &AnsweredCalls<'_>,
+    placed: &PlacedEntry<'a>,
+) -> Result<(), AllocError>
+    ensures { OnOk result ((call : CallId) → list_any (answers call) answered.now ≡ false → answers call placed.now.entry ≡ false → ends_at placed.now.position (part_in parts.old call) ≡ false
+        → part_in parts.new call ≡ with_one (belongs call placed.now.entry) (part_in parts.old call) placed.now) }
+{
+    let entry = placed.entry();
+    note(parts, alloc, answered, entry.call(), placed)?;
+    note(parts, alloc, answered, call_come(entry.event()), placed)?;
+    for message in entry.sends() {
+        note(parts, alloc, answered, call_named(message), placed)?;
+    }
+    Ok(())
+}
+
+// The call that the message names which comes.
+fn call_come(event: &Event) -> Option<CallId>
+    ensures { result ≡ call_come event.now }
+{
+    match event {
+        Event::Deliver(message) => call_named(message),
+        _ => None,
+    }
+}
+
+// The entry comes last in the part of the call, if there is one without a reply, unless it does already.
+fn note<'a>(
+    parts: &mut HashMap<CallId, Vec<PlacedEntry<'a>>>,
+    alloc: Global,
+    answered: &AnsweredCalls<'_>,
+    call: Option<CallId>,
+    placed: &PlacedEntry<'a>,
+) -> Result<(), AllocError>
+    ensures { OnOk result ((other : CallId) → list_any (answers other) answered.now ≡ false
+        → part_in parts.new other ≡ (if is_call other call then with_last (part_in parts.old other) placed.now else part_in parts.old other)) }
+{
+    match call {
+        Some(call) => note_call(parts, alloc, answered, &call, placed),
+        None => Ok(()),
+    }
+}
+
+// The entry comes last in the part of the call, if it has no reply, unless it does already.
+fn note_call<'a>(
+    parts: &mut HashMap<CallId, Vec<PlacedEntry<'a>>>,
+    alloc: Global,
+    answered: &AnsweredCalls<'_>,
+    call: &CallId,
+    placed: &PlacedEntry<'a>,
+) -> Result<(), AllocError>
+    ensures { OnOk result ((other : CallId) → list_any (answers other) answered.now ≡ false
+        → part_in parts.new other ≡ (if same_call call.now other then with_last (part_in parts.old other) placed.now else part_in parts.old other)) }
+{
+    if answered.has(call) {
+        return Ok(());
+    }
+    add_entry(parts, alloc, call, placed)
+}
+
+// The entry comes last in the part of the call, unless it does already.
+fn add_entry<'a>(
+    parts: &mut HashMap<CallId, Vec<PlacedEntry<'a>>>,
+    alloc: Global,
+    call: &CallId,
+    placed: &PlacedEntry<'a>,
+) -> Result<(), AllocError>
+    ensures { OnOk result ((other : CallId) → part_in parts.new other ≡ (if same_call call.now other then with_last (part_in parts.old other) placed.now else part_in parts.old other)) }
+{
+    if let Some(part) = parts.get_mut(call) {
+        return add_last(part, placed);
+    }
+    let mut part = Vec::new(alloc);
+    add_last(&mut part, placed)?;
+    parts.insert(*call, part)?;
+    Ok(())
+}
+
+// The entry comes last, unless it does already.
+fn add_last<'a>(part: &mut Vec<PlacedEntry<'a>>, placed: &PlacedEntry<'a>) -> Result<(), AllocError>
+    ensures { OnOk result (part.new.items ≡ with_last part.old.items placed.now) }
+{
+    if !ends_at(part, placed.position()) {
+        part.push(placed.copy())?;
+    }
+    Ok(())
+}
+
+// Whether the last entry has this position.
+fn ends_at(part: &[PlacedEntry<'_>], position: u64) -> bool
+    ensures { result ≡ ends_at position part.now }
+{
+    match part.last() {
+        Some(last) => last.position() == position,
+        None => false,
+    }
+}
