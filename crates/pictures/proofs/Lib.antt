@@ -1,3 +1,5 @@
 pub mod Lasts
 pub mod RowLaws
 pub mod LastToPass
+pub mod Grows
+pub mod Glue

@@ -5,9 +5,13 @@ pub mod Actors
 pub mod Stretches
 pub mod Bars
 pub mod Rows
+pub mod Pieces
+pub mod Shares
+pub mod Tracks
 pub mod Sheets
 pub mod Svg
 pub mod Style
+pub mod TrackTexts
 pub mod Pictures
 pub mod Around
 pub mod Laws

@@ -1,5 +1,5 @@
 -- The picture of a run.
-use Rattle.std.specs.Prelude.{ℕ, ◌+◌, ◌-◌, ◌*◌, ◌%◌, ◌==◌, Bool, true, false, nat_le, if◌then◌else◌, List, [], ◌∷◌, ◌++◌, codes, decimal, flat_map, length, slice_get, Option, Some, None}
+use Rattle.std.specs.Prelude.{ℕ, ◌+◌, ◌-◌, ◌*◌, ◌%◌, ◌==◌, Bool, true, false, nat_le, if◌then◌else◌, List, [], ◌∷◌, ◌++◌, codes, decimal, flat_map, length, slice_get, take, Option, Some, None}
 use Rattle.std.specs.List.{enumerate_from}
 use Rattle.model.specs.declared.call.CallId.{CallId}
 use Rattle.model.specs.declared.op.Op.{Op}
@@ -14,6 +14,7 @@ use Rattle.messages.specs.Messages.{addressee}
 use Rattle.messages.specs.Shapes.{ShapeFields}
 use Rattle.cluster_core.specs.declared.item.Item.{Item}
 use Rattle.cluster_core.specs.declared.item.Item.TheVariants.{Answered, Gone}
+use Rattle.holdings.specs.Holdings.{HoldingsFields}
 use Rattle.lockscript.specs.Texts.{call_text, host_text, op_text, reply_text}
 use Rattle.journal_text.specs.Texts.{event_text, message_text}
 use Rattle.stories.specs.Stories.{actor_text}
@@ -25,12 +26,14 @@ use Rattle.pictures.specs.declared.row.Row.TheVariants.{Lane, Process}
 use Rattle.pictures.specs.declared.window.Window.{Window}
 use Rattle.pictures.specs.Actors.{actor_of, message_word, same_actor, sender_of}
 use Rattle.pictures.specs.Bars.{answer_class, bars, end_of, op_word}
+use Rattle.pictures.specs.Pieces.{pieces}
 use Rattle.pictures.specs.Places.{is_lost}
 use Rattle.pictures.specs.Rows.{row_of}
-use Rattle.pictures.specs.Sheets.{SheetFields, bottom, left_edge, point_on, right_edge, sheet_of, spot, top_of, x_of}
+use Rattle.pictures.specs.Sheets.{SheetFields, foot, left_edge, point_on, right_edge, sheet_of, spot, top_of, x_of}
 use Rattle.pictures.specs.Stretches.{PlacedFields, cut, has, stretch}
 use Rattle.pictures.specs.Style.{defs, legend, style}
 use Rattle.pictures.specs.Svg.{box_text, diamond_text, dot_text, label_text, line_text, together}
+use Rattle.pictures.specs.TrackTexts.{tracks_text}
 
 -- how wide and how high a picture is
 unfoldable pub size_text : ℕ → ℕ → List ℕ
@@ -88,7 +91,7 @@ width_of s b = x_of s (end_of s.window b.answer) - x_of s b.made.position
 -- the box of a call, and its name
 unfoldable pub boxed : SheetFields → Bar → List ℕ
 boxed s b =
-    box_text (answer_class b.answer) (point_on s b.made.position (row_of b) 0 8) (width_of s b + 8)
+    box_text (answer_class b.answer) (point_on s b.made.position (row_of b) 0 8) (width_of s b + 8) 18
     ++ label_text (codes "op") (point_on s b.made.position (row_of b) 11 20) (op_name (width_of s b) b.made.op)
 
 unfoldable pub bar_text : SheetFields → Bar → List ℕ
@@ -107,9 +110,9 @@ is_rule _ = false
 unfoldable pub happening : SheetFields → EntryFields → List ℕ
 happening s e = event_text s.version e.event e.incarnation e.call
 
--- the line of an entry from the first row to the last; a failure or a start has its name above, in one of two heights
+-- the line of an entry from the first row to the last track; a failure or a start has its name above, in one of two heights
 unfoldable pub column_text : SheetFields → ℕ → Event → List ℕ
-column_text s x event = line_text (if is_rule event then codes "rule" else codes "column") (record { x = x; y = top_of 0 }) (record { x = x; y = bottom s })
+column_text s x event = line_text (if is_rule event then codes "rule" else codes "column") (record { x = x; y = top_of 0 }) (record { x = x; y = foot s })
 
 unfoldable pub rule_name : SheetFields → PointFields → EntryFields → List ℕ
 rule_name s at e = if is_rule e.event then label_text (codes "rule-name") at (happening s e) else []
@@ -163,24 +166,36 @@ lost_text s p m =
     (codes "<g><title>lost: " ∷ message_text s.version m ∷ codes "</title>" ∷
     stub_text s p.position (spot s p.position (actor_of p.entry.event)) m ∷ codes "</g>\n" ∷ [])
 
+-- a message that is sent from this point and comes only behind the window: a line to who takes it, on the right edge
+unfoldable pub late_line : SheetFields → PointFields → Message → List ℕ
+late_line s from m = line_text (codes "late") from (spot s (s.window.to + 1) (addressee m))
+
+unfoldable pub late_title : SheetFields → Message → List ℕ
+late_title s m = together (codes "<g><title>comes later: " ∷ message_text s.version m ∷ codes "</title>" ∷ [])
+
+unfoldable pub late_text : SheetFields → PlacedFields → Message → List ℕ
+late_text s p m = together (late_title s m ∷ late_line s (spot s p.position (actor_of p.entry.event)) m ∷ codes "</g>\n" ∷ [])
+
 -- what the entry is, in words
 unfoldable pub title_text : SheetFields → PlacedFields → List ℕ
 title_text s p = together (codes "<g><title>entry " ∷ decimal p.position ∷ codes ": " ∷ happening s p.entry ∷ codes "</title>" ∷ [])
 
--- what happens at an entry, without the messages that are lost
+-- what happens at an entry, without the messages that do not come in the window
 unfoldable pub entry_text : SheetFields → PlacedFields → List ℕ
 entry_text s p =
     together
     (title_text s p ∷ arrow_text s p.position p.entry.event p.origin ∷
     step_text s p.position (actor_of p.entry.event) p.entry.event ∷ codes "</g>\n" ∷ [])
 
--- a message that an entry of these sends, where it is lost
-unfoldable pub if_lost : SheetFields → List EntryFields → PlacedFields → Message → List ℕ
-if_lost s entries p m = if is_lost entries p.position m then lost_text s p m else []
+-- a message that an entry of these sends, where it comes at none behind it, or at none in the window
+unfoldable pub unseen_text : SheetFields → List EntryFields → PlacedFields → Message → List ℕ
+unseen_text s entries p m =
+    if is_lost entries p.position m then lost_text s p m
+    else (if is_lost (take s.window.to entries) p.position m then late_text s p m else [])
 
 -- an entry of these
 unfoldable pub drawn : SheetFields → List EntryFields → PlacedFields → List ℕ
-drawn s entries p = entry_text s p ++ flat_map (if_lost s entries p) p.entry.sends
+drawn s entries p = entry_text s p ++ flat_map (unseen_text s entries p) p.entry.sends
 
 -- a line from a call to the entry where the history has it, where another actor takes that
 unfoldable pub link_text : SheetFields → ℕ → CallId → PointFields → Option EntryFields → List ℕ
@@ -200,7 +215,7 @@ place_text s entries (Gone at node incarnation) = []
 
 -- the head and the rows
 unfoldable pub outline_text : SheetFields → List ℕ
-outline_text s = head_text (right_edge s + 16) (bottom s + 16) ++ rows_text s
+outline_text s = head_text (right_edge s + 16) (foot s + 16) ++ rows_text s
 
 -- where the history has the calls, and the end of the picture
 unfoldable pub end_text : SheetFields → List EntryFields → List Item → List ℕ
@@ -210,10 +225,11 @@ end_text s entries history = flat_map (place_text s entries) history ++ codes "<
 abbrev pub sheet_text : SheetFields → List Bar → List PlacedFields → List EntryFields → List Item → List ℕ
 sheet_text s calls part entries history =
     together
-    (outline_text s ∷ flat_map (frame_text s) part ∷ flat_map (bar_text s) calls ∷ flat_map (drawn s entries) part ∷ end_text s entries history ∷ [])
+    (outline_text s ∷ flat_map (frame_text s) part ∷ flat_map (bar_text s) calls ∷ flat_map (drawn s entries) part ∷ tracks_text s ∷
+    end_text s entries history ∷ [])
 
--- the picture of the entries and their history, of a cluster of this shape, as far as the window shows it
-unfoldable pub picture_text : ShapeFields → List EntryFields → List Item → Window → List ℕ
-picture_text shape entries history window =
+-- the picture of the entries and their history, of a cluster of this shape, and of what nodes hold behind entries, as far as the window shows it
+unfoldable pub picture_text : ShapeFields → List EntryFields → List Item → List HoldingsFields → Window → List ℕ
+picture_text shape entries history holdings window =
     let w = cut (length entries) window in
-    sheet_text (sheet_of shape w (stretch w entries) (bars w entries)) (bars w entries) (stretch w entries) entries history
+    sheet_text (sheet_of shape w (stretch w entries) (bars w entries) (pieces holdings)) (bars w entries) (stretch w entries) entries history

@@ -11,15 +11,19 @@ use Rattle.pictures.specs.declared.row.Row.TheVariants.{Lane}
 use Rattle.pictures.specs.declared.window.Window.{Window}
 use Rattle.pictures.specs.Rows.{rows, same_row}
 use Rattle.pictures.specs.Stretches.{PlacedFields}
+use Rattle.pictures.specs.declared.piece.Piece.{Piece}
+use Rattle.pictures.specs.declared.track.Track.{Track}
+use Rattle.pictures.specs.Tracks.{tracks}
 
--- how a journal of this version is drawn: which of its entries, and on which rows
+-- how a journal of this version is drawn: which of its entries, on which rows, and what stands below these
 pub record SheetFields : Type 0 where
   pub version : Version
   pub window : Window
   pub rows : List Row
+  pub tracks : List Track
 
-abbrev pub sheet_of : ShapeFields → Window → List PlacedFields → List Bar → SheetFields
-sheet_of shape w part bars = record { version = shape.version; window = w; rows = rows shape part bars }
+abbrev pub sheet_of : ShapeFields → Window → List PlacedFields → List Bar → List Piece → SheetFields
+sheet_of shape w part bars pieces = record { version = shape.version; window = w; rows = rows shape part bars; tracks = tracks pieces }
 
 -- where an entry at this position stands: 60 units each, from the left edge at 130 units on; those before the window on that edge, those behind it on the right edge
 unfoldable pub x_of : SheetFields → ℕ → ℕ
@@ -38,6 +42,14 @@ top_of count = 56 + 34 * count
 -- where the rows end
 abbrev pub bottom : SheetFields → ℕ
 bottom s = top_of (length s.rows)
+
+-- the top of the first tracks below the rows, so many of them: 16 units each
+unfoldable pub track_top : SheetFields → ℕ → ℕ
+track_top s count = bottom s + 16 * count
+
+-- where the tracks end
+abbrev pub foot : SheetFields → ℕ
+foot s = track_top s (length s.tracks)
 
 -- how many rows stand above this one
 unfoldable pub row_number : List Row → Row → ℕ

@@ -27,6 +27,21 @@ light =
     ++ codes ".open { fill: #eceef3; stroke: #7a8194; stroke-dasharray: 4 2; }\n"
     ++ codes ".place { fill: #ffffff; stroke: #1f2430; }\n"
     ++ codes ".link { stroke: #1f2430; stroke-dasharray: 1 3; }\n"
+    ++ codes ".late { stroke: #7a8194; stroke-dasharray: 8 4; }\n"
+    ++ codes ".edge { stroke: #c9cdd8; }\n"
+    ++ codes ".bytes { font-size: 8px; }\n"
+    ++ codes ".holder { fill: #7a8194; font-size: 8px; text-anchor: end; }\n"
+    ++ codes ".n1 { fill: #3d74b8; }\n"
+    ++ codes ".n2 { fill: #d9822b; }\n"
+    ++ codes ".n3 { fill: #3f9c56; }\n"
+    ++ codes ".n4 { fill: #8d5fc2; }\n"
+    ++ codes ".n5 { fill: #c2487f; }\n"
+    ++ codes ".n6 { fill: #2f9aa0; }\n"
+    ++ codes ".n7 { fill: #8f7a1f; }\n"
+    ++ codes ".n8 { fill: #7c5a46; }\n"
+    ++ codes ".shared { fill-opacity: 0.4; }\n"
+    ++ codes ".lock { fill: none; stroke: #1f2430; stroke-width: 1.5; }\n"
+    ++ codes ".read { stroke-dasharray: 3 2; }\n"
 
 -- what differs in the dark
 unfoldable pub dark : List ℕ
@@ -51,16 +66,34 @@ dark =
     ++ codes ".open { fill: #2a3040; stroke: #8f97aa; }\n"
     ++ codes ".place { fill: #14171f; stroke: #e6e8ee; }\n"
     ++ codes ".link { stroke: #e6e8ee; }\n"
+    ++ codes ".late { stroke: #8f97aa; }\n"
+    ++ codes ".edge { stroke: #3a4152; }\n"
+    ++ codes ".holder { fill: #8f97aa; }\n"
+    ++ codes ".n1 { fill: #5c97e0; }\n"
+    ++ codes ".n2 { fill: #e69a4c; }\n"
+    ++ codes ".n3 { fill: #5cbb75; }\n"
+    ++ codes ".n4 { fill: #a983dc; }\n"
+    ++ codes ".n5 { fill: #dd6d9f; }\n"
+    ++ codes ".n6 { fill: #4db9bf; }\n"
+    ++ codes ".n7 { fill: #b8a23f; }\n"
+    ++ codes ".n8 { fill: #a8816b; }\n"
+    ++ codes ".lock { stroke: #ffffff; }\n"
 
 unfoldable pub style : List ℕ
 style = codes "<style>\n" ++ light ++ codes "@media (prefers-color-scheme: dark) {\n" ++ dark ++ codes "}\n</style>\n"
 
--- the head of an arrow, and a diamond
+-- the head of an arrow, a diamond, and what the boxes of tokens and locks mean
 unfoldable pub defs : List ℕ
 defs =
     codes "<defs>\n"
     ++ codes "<marker id='head' viewBox='0 0 8 8' refX='8' refY='4' markerWidth='7' markerHeight='7' orient='auto'><path class='head' d='M0 0L8 4L0 8Z'/></marker>\n"
     ++ codes "<path id='place' d='M0 -5L5 0L0 5L-5 0Z'/>\n"
+    ++ codes "<g id='key'>\n"
+    ++ codes "<rect class='n1 shared' x='0' y='2' width='14' height='12' rx='3'/><text x='18' y='12'>shared</text>\n"
+    ++ codes "<rect class='n1 exclusive' x='56' y='2' width='14' height='12' rx='3'/><text x='74' y='12'>exclusive</text>\n"
+    ++ codes "<rect class='lock read' x='126' y='5' width='14' height='6' rx='3'/><text x='144' y='12'>read lock</text>\n"
+    ++ codes "<rect class='lock write' x='196' y='5' width='14' height='6' rx='3'/><text x='214' y='12'>write lock</text>\n"
+    ++ codes "</g>\n"
     ++ codes "</defs>\n"
 
 -- what the colours and the diamond mean

@@ -24,11 +24,18 @@ dot_text a = together (codes "<circle class='dot' cx='" ∷ decimal a.x ∷ code
 unfoldable pub diamond_text : PointFields → List ℕ
 diamond_text a = together (codes "<use class='place' href='#place' x='" ∷ decimal a.x ∷ codes "' y='" ∷ decimal a.y ∷ codes "'/>" ∷ [])
 
-unfoldable pub box_text : List ℕ → PointFields → ℕ → List ℕ
-box_text kind a width =
+unfoldable pub key_text : PointFields → List ℕ
+key_text a = together (codes "<use href='#key' x='" ∷ decimal a.x ∷ codes "' y='" ∷ decimal a.y ∷ codes "'/>" ∷ [])
+
+-- what a box ends with, behind its class
+unfoldable pub box_end : PointFields → ℕ → ℕ → List ℕ
+box_end a width height =
     together
-    (codes "<rect class='" ∷ kind ∷ codes "' x='" ∷ decimal a.x ∷ codes "' y='" ∷ decimal a.y ∷ codes "' width='" ∷ decimal width ∷
-    codes "' height='18' rx='3'/>" ∷ [])
+    (codes "' x='" ∷ decimal a.x ∷ codes "' y='" ∷ decimal a.y ∷ codes "' width='" ∷ decimal width ∷ codes "' height='" ∷ decimal height ∷
+    codes "' rx='3'/>" ∷ [])
+
+unfoldable pub box_text : List ℕ → PointFields → ℕ → ℕ → List ℕ
+box_text kind a width height = together (codes "<rect class='" ∷ kind ∷ box_end a width height ∷ [])
 
 -- what a label begins with
 unfoldable pub label_start : List ℕ → PointFields → List ℕ

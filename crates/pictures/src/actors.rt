@@ -11,7 +11,7 @@ use messages::event::Event;
 use messages::message::Message;
 
 /// Who takes the event.
-pub(crate) fn actor_of(event: &Event) -> Actor
+pub fn actor_of(event: &Event) -> Actor
     ensures { result ≡ actor_of event.now }
 {
     match event {
@@ -29,7 +29,7 @@ pub(crate) fn actor_of(event: &Event) -> Actor
 }
 
 /// Who sends the message.
-pub(crate) fn sender_of(message: &Message) -> Actor
+pub fn sender_of(message: &Message) -> Actor
     ensures { result ≡ sender_of message.now }
 {
     match message.addressee() {
@@ -74,7 +74,7 @@ fn is_any_addressee(actor: &Actor, messages: &[Message]) -> bool
 }
 
 /// The word for a message.
-pub(crate) fn message_word(message: &Message) -> &'static str
+pub fn message_word(message: &Message) -> &'static str
     ensures { result.now ≡ message_word message.now }
 {
     match message {

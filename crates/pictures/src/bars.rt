@@ -18,15 +18,12 @@ use std::alloc::{AllocError, Global};
 use stories::made_call::MadeCall;
 use texts::text::Text;
 
-/// The calls of the entries that are drawn.
+/// The calls of the entries that are drawn in this window: those that are made in it, or before it and answered at its begin
+/// or later, in the order of their entries.
 ///
 /// # Errors
 /// `AllocError` where a request for memory was refused.
-pub(crate) fn bars(
-    alloc: Global,
-    window: &Window,
-    entries: &[Entry],
-) -> Result<Vec<Bar>, AllocError>
+pub fn bars(alloc: Global, window: &Window, entries: &[Entry]) -> Result<Vec<Bar>, AllocError>
     ensures { IfOk result (λ made. made.items ≡ bars window.now entries.now) }
 {
     let answers = Answers::of(alloc, entries)?;
@@ -92,9 +89,12 @@ fn push_title(out: &mut String, bar: &Bar) -> Result<(), AllocError>
     push_outcome(out, &bar.answer)
 }
 
-// Writes what became of a call.
+/// Writes what became of a call: its reply, or `open`.
+///
+/// # Errors
+/// `AllocError` where a request for memory was refused.
 #[tactic(auto, unfolding(crate::specs::Pictures::outcome_text))]
-fn push_outcome(out: &mut String, answer: &Option<Answer>) -> Result<(), AllocError>
+pub fn push_outcome(out: &mut String, answer: &Option<Answer>) -> Result<(), AllocError>
     ensures { OnOk result (string_bytes out.new ≡ string_bytes out.old ++ outcome_text answer.now) }
 {
     match answer {
@@ -122,7 +122,7 @@ fn push_box_of(out: &mut String, alloc: Global, sheet: &Sheet, bar: &Bar) -> Res
     let row = Row::of(bar);
     let corner = sheet.point_on(position, &row, 0, 8);
     let width = width_of(sheet, bar);
-    push_box(out, answer_class(&bar.answer), &corner, width + 8)?;
+    push_box(out, answer_class(&bar.answer), &corner, width + 8, 18)?;
     let name = op_name(alloc, width, &bar.made.op)?;
     push_label(
         out,

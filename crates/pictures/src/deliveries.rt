@@ -8,7 +8,7 @@ use std::marker::Model;
 
 /// Where, of entries, each message comes last.
 #[derive(Drop)]
-pub(crate) struct Deliveries<'a> {
+pub struct Deliveries<'a> {
     entries: &'a [Entry],
     places: HashMap<&'a Message, u64>,
 }
@@ -33,7 +33,7 @@ impl<'a> Deliveries<'a> {
     ///
     /// # Errors
     /// `AllocError` where a request for memory was refused.
-    pub(crate) fn of(alloc: Global, entries: &'a [Entry]) -> Result<Deliveries<'a>, AllocError>
+    pub fn of(alloc: Global, entries: &'a [Entry]) -> Result<Deliveries<'a>, AllocError>
         ensures { IfOk result (λ deliveries. deliveries ≡ entries.entry.now) }
     {
         let mut places = HashMap::new(alloc);
@@ -46,7 +46,7 @@ impl<'a> Deliveries<'a> {
     }
 
     /// Whether a message that the entry at this position sends comes at none behind it.
-    pub(crate) fn is_lost(&self, position: u64, message: &'a Message) -> bool
+    pub fn is_lost(&self, position: u64, message: &'a Message) -> bool
         ensures { result ≡ is_lost self.now position message.entry.now }
     {
         is_past(position, self.places.get(&message).copied())

@@ -1,6 +1,6 @@
 //! Elements of SVG.
 ghost use Rattle.std.specs.Prelude.{◌≡◌, ◌++◌, string_bytes, OnOk};
-ghost use Rattle.pictures.specs.Svg.{box_text, diamond_text, dot_text, label_start, label_text, line_text};
+ghost use Rattle.pictures.specs.Svg.{box_end, box_text, diamond_text, dot_text, key_text, label_start, label_text, line_text};
 
 use crate::point::Point;
 use std::alloc::AllocError;
@@ -52,23 +52,53 @@ pub(crate) fn push_diamond(out: &mut String, at: &Point) -> Result<(), AllocErro
     write!(out, "<use class='place' href='#place' x='{x}' y='{y}'/>")
 }
 
-/// Writes a box of this class and width.
+/// Writes what the boxes of tokens and locks mean.
 ///
 /// # Errors
 /// `AllocError` where a request for memory was refused.
+pub(crate) fn push_key(out: &mut String, at: &Point) -> Result<(), AllocError>
+    ensures { OnOk result (string_bytes out.new ≡ string_bytes out.old ++ key_text at.now) }
+{
+    let x = at.x();
+    let y = at.y();
+    write!(out, "<use href='#key' x='{x}' y='{y}'/>")
+}
+
+/// Writes a box of this class, width and height.
+///
+/// # Errors
+/// `AllocError` where a request for memory was refused.
+#[tactic(auto, unfolding(crate::specs::Svg::box_text))]
 pub(crate) fn push_box(
     out: &mut String,
     class: &str,
     corner: &Point,
     width: u128,
+    height: u128,
 ) -> Result<(), AllocError>
-    ensures { OnOk result (string_bytes out.new ≡ string_bytes out.old ++ box_text class.now corner.now width) }
+    ensures { OnOk result (string_bytes out.new ≡ string_bytes out.old ++ box_text class.now corner.now width height) }
+{
+    write!(out, "<rect class='{class}")?;
+    push_box_end(out, corner, width, height)
+}
+
+/// Writes what a box of this width and height ends with, behind its class.
+///
+/// # Errors
+/// `AllocError` where a request for memory was refused.
+pub(crate) fn push_box_end(
+    out: &mut String,
+    corner: &Point,
+    width: u128,
+    height: u128,
+) -> Result<(), AllocError>
+    ensures { OnOk result (string_bytes out.new ≡ string_bytes out.old ++ box_end corner.now width height) }
 {
     let x = corner.x();
     let y = corner.y();
     write!(
         out,
-        "<rect class='{class}' x='{x}' y='{y}' width='{width}' height='18' rx='3'/>"
+        "' x='{x}' y='{y}' width='{width}' height='{height}' rx='3'/>"
     )
 }
 

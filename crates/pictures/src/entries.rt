@@ -1,6 +1,6 @@
 //! What happens at entries.
-ghost use Rattle.std.specs.Prelude.{◌≡◌, ◌++◌, flat_map, string_bytes, OnOk};
-ghost use Rattle.pictures.specs.Pictures.{arrow_text, drawn, entry_text, happening, if_lost, lost_text, step_text, stub_text, title_text, word_text};
+ghost use Rattle.std.specs.Prelude.{◌≡◌, ◌++◌, flat_map, string_bytes, take, OnOk};
+ghost use Rattle.pictures.specs.Pictures.{arrow_text, drawn, entry_text, happening, late_line, late_text, late_title, lost_text, step_text, stub_text, title_text, unseen_text, word_text};
 
 use crate::actors::{actor_of, message_word, sender_of};
 use crate::deliveries::Deliveries;
@@ -25,12 +25,14 @@ pub(crate) fn push_entries<'a>(
     out: &mut String,
     sheet: &Sheet,
     deliveries: &Deliveries<'a>,
+    in_time: &Deliveries<'a>,
     part: &[PlacedEntry<'a>],
 ) -> Result<(), AllocError>
+    requires { in_time.now ≡ take sheet.now.window.to deliveries.now }
     ensures { OnOk result (string_bytes out.new ≡ string_bytes out.old ++ flat_map (drawn sheet.now deliveries.now) part.now) }
 {
     for placed in part {
-        push_drawn(out, sheet, deliveries, placed)?;
+        push_drawn(out, sheet, deliveries, in_time, placed)?;
     }
     Ok(())
 }
@@ -41,15 +43,24 @@ fn push_drawn<'a>(
     out: &mut String,
     sheet: &Sheet,
     deliveries: &Deliveries<'a>,
+    in_time: &Deliveries<'a>,
     placed: &PlacedEntry<'a>,
 ) -> Result<(), AllocError>
+    requires { in_time.now ≡ take sheet.now.window.to deliveries.now }
     ensures { OnOk result (string_bytes out.new ≡ string_bytes out.old ++ drawn sheet.now deliveries.now placed.now) }
 {
     push_entry(out, sheet, placed)?;
-    push_lost_ones(out, sheet, deliveries, placed, placed.entry().sends())
+    push_all_unseen(
+        out,
+        sheet,
+        deliveries,
+        in_time,
+        placed,
+        placed.entry().sends(),
+    )
 }
 
-// Draws an entry, without the messages that are lost.
+// Draws an entry, without the messages that do not come in the window.
 #[tactic(auto, unfolding(crate::specs::Pictures::entry_text))]
 fn push_entry(out: &mut String, sheet: &Sheet, placed: &PlacedEntry<'_>) -> Result<(), AllocError>
     ensures { OnOk result (string_bytes out.new ≡ string_bytes out.old ++ entry_text sheet.now placed.now) }
@@ -143,37 +154,85 @@ fn push_word(out: &mut String, at: &Point, event: &Event) -> Result<(), AllocErr
     }
 }
 
-// Draws those of the messages of an entry that are lost.
-fn push_lost_ones<'a>(
+// Draws those of the messages of an entry that do not come in the window.
+fn push_all_unseen<'a>(
     out: &mut String,
     sheet: &Sheet,
     deliveries: &Deliveries<'a>,
+    in_time: &Deliveries<'a>,
     placed: &PlacedEntry<'a>,
     sends: &'a [Message],
 ) -> Result<(), AllocError>
-    ensures { OnOk result (string_bytes out.new ≡ string_bytes out.old ++ flat_map (if_lost sheet.now deliveries.now placed.now) sends.entry.now) }
+    requires { in_time.now ≡ take sheet.now.window.to deliveries.now }
+    ensures { OnOk result (string_bytes out.new ≡ string_bytes out.old ++ flat_map (unseen_text sheet.now deliveries.now placed.now) sends.entry.now) }
 {
     for message in sends {
-        push_if_lost(out, sheet, deliveries, placed, message)?;
+        push_unseen(out, sheet, deliveries, in_time, placed, message)?;
     }
     Ok(())
 }
 
-// Draws a message of an entry, if it is lost.
-#[tactic(auto, unfolding(crate::specs::Pictures::if_lost))]
-fn push_if_lost<'a>(
+// Draws a message of an entry, if it comes at none behind it, or at none in the window.
+#[tactic(auto, unfolding(crate::specs::Pictures::unseen_text))]
+fn push_unseen<'a>(
     out: &mut String,
     sheet: &Sheet,
     deliveries: &Deliveries<'a>,
+    in_time: &Deliveries<'a>,
     placed: &PlacedEntry<'a>,
     message: &'a Message,
 ) -> Result<(), AllocError>
-    ensures { OnOk result (string_bytes out.new ≡ string_bytes out.old ++ if_lost sheet.now deliveries.now placed.now message.entry.now) }
+    requires { in_time.now ≡ take sheet.now.window.to deliveries.now }
+    ensures { OnOk result (string_bytes out.new ≡ string_bytes out.old ++ unseen_text sheet.now deliveries.now placed.now message.entry.now) }
 {
     if deliveries.is_lost(placed.position(), message) {
-        push_lost(out, sheet, placed, message)?;
+        return push_lost(out, sheet, placed, message);
+    }
+    if in_time.is_lost(placed.position(), message) {
+        push_late(out, sheet, placed, message)?;
     }
     Ok(())
+}
+
+// Draws a message of an entry that comes only behind the window.
+#[tactic(auto, unfolding(crate::specs::Pictures::late_text))]
+fn push_late(
+    out: &mut String,
+    sheet: &Sheet,
+    placed: &PlacedEntry<'_>,
+    message: &Message,
+) -> Result<(), AllocError>
+    ensures { OnOk result (string_bytes out.new ≡ string_bytes out.old ++ late_text sheet.now placed.now message.now) }
+{
+    let position = u128::from(placed.position());
+    let from = sheet.spot(position, actor_of(placed.entry().event()));
+    push_late_title(out, sheet, message)?;
+    push_late_line(out, sheet, &from, message)?;
+    out.push_str("</g>\n")
+}
+
+// Writes which message comes later.
+#[tactic(auto, unfolding(crate::specs::Pictures::late_title))]
+fn push_late_title(out: &mut String, sheet: &Sheet, message: &Message) -> Result<(), AllocError>
+    ensures { OnOk result (string_bytes out.new ≡ string_bytes out.old ++ late_title sheet.now message.now) }
+{
+    out.push_str("<g><title>comes later: ")?;
+    push_message(out, sheet.version(), message)?;
+    write!(out, "</title>")
+}
+
+// Draws the line from a point to who takes the message, on the right edge.
+#[tactic(auto, unfolding(crate::specs::Pictures::late_line))]
+fn push_late_line(
+    out: &mut String,
+    sheet: &Sheet,
+    from: &Point,
+    message: &Message,
+) -> Result<(), AllocError>
+    ensures { OnOk result (string_bytes out.new ≡ string_bytes out.old ++ late_line sheet.now from.now message.now) }
+{
+    let edge = u128::from(sheet.window().to) + 1;
+    push_line(out, "late", from, &sheet.spot(edge, message.addressee()))
 }
 
 // Draws a message of an entry that is lost.

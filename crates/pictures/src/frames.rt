@@ -45,7 +45,7 @@ fn push_frame(out: &mut String, sheet: &Sheet, placed: &PlacedEntry<'_>) -> Resu
     out.push_str("\n")
 }
 
-// Draws the line of an entry from the first row to the last.
+// Draws the line of an entry from the first row to the last track.
 #[tactic(auto, unfolding(crate::specs::Pictures::column_text))]
 fn push_column(out: &mut String, sheet: &Sheet, x: u128, event: &Event) -> Result<(), AllocError>
     requires { x < 2 ^ 80 }
@@ -56,7 +56,7 @@ fn push_column(out: &mut String, sheet: &Sheet, x: u128, event: &Event) -> Resul
         out,
         class,
         &Point::new(x, top_of(0)),
-        &Point::new(x, sheet.bottom()),
+        &Point::new(x, sheet.foot()),
     )
 }
 
@@ -85,8 +85,8 @@ fn push_names(out: &mut String, sheet: &Sheet, x: u128) -> Result<(), AllocError
     Ok(())
 }
 
-// Whether the event tells of a failure or of a start.
-fn is_rule(event: &Event) -> bool
+/// Whether the event tells of a failure or of a start.
+pub fn is_rule(event: &Event) -> bool
     ensures { result ≡ is_rule event.now }
 {
     matches!(

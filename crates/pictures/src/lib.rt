@@ -1,24 +1,32 @@
 //! The picture of a run, as SVG.
 #![tactic(auto)]
 
-mod actors;
-mod answer;
+pub mod actors;
+pub mod answer;
 mod answers;
 pub mod around;
-mod bar;
-mod bars;
-mod deliveries;
+pub mod bar;
+pub mod bars;
+mod below;
+pub mod deliveries;
 mod elements;
 mod entries;
-mod frames;
+pub mod frames;
+mod held;
 pub mod laws;
 mod outline;
 pub mod picture;
-mod placed_entry;
+mod piece;
+mod pieces;
+pub mod placed_entry;
 mod point;
-mod row;
-mod rows;
+pub mod row;
+pub mod rows;
 mod sends;
+mod share;
 mod sheet;
+mod stay;
 mod style;
+mod track;
+mod tracks;
 pub mod window;

@@ -1,22 +1,26 @@
 //! The picture of a run.
-ghost use Rattle.std.specs.Prelude.{◌≡◌, ◌-◌, ◌++◌, flat_map, slice_get, string_bytes, IfOk, OnOk};
+ghost use Rattle.std.specs.Prelude.{◌≡◌, ◌-◌, ◌++◌, flat_map, slice_get, string_bytes, take, IfOk, OnOk};
 ghost use Rattle.std.specs.Option.{option_copied};
-ghost use Rattle.pictures.specs.Pictures.{end_text, link_text, mark_text, outline_text, picture_text, place_text, sheet_text};
+ghost use Rattle.pictures.specs.Pictures.{drawn, end_text, link_text, mark_text, outline_text, picture_text, place_text, sheet_text};
 
 use crate::actors::{actor_of, is_same_actor};
 use crate::bars::{bars, push_bars};
+use crate::below::push_tracks;
 use crate::deliveries::Deliveries;
 use crate::elements::{push_diamond, push_line};
 use crate::entries::push_entries;
 use crate::frames::push_frames;
 use crate::outline::{push_head, push_rows};
-use crate::placed_entry::stretch;
+use crate::pieces::pieces;
+use crate::placed_entry::{PlacedEntry, stretch};
 use crate::point::Point;
 use crate::row::Row;
 use crate::rows::rows;
 use crate::sheet::Sheet;
+use crate::tracks::tracks;
 use crate::window::Window;
 use cluster_core::item::Item;
+use holdings::holdings::Holdings;
 use intervals::span_map::NoMemory;
 use messages::actor::Actor;
 use messages::entry::Entry;
@@ -25,13 +29,20 @@ use model::call::CallId;
 use std::alloc::{AllocError, Global};
 
 /// The picture, as SVG, of the entries of a journal of a cluster of this shape, the first at position 1,
-/// and their history, as far as the window shows them.
+/// and their history, as far as the window shows them, and below of what the live nodes hold behind each
+/// entry of the window, where it is given.
 ///
 /// Time is entries, from left to right. There is a row for each node and each server that takes part in
 /// an entry of the window, and for each process whose calls are drawn; a bar for each call from its entry
 /// to its answer or to the right edge; an arrow for each message that comes, from the last entry before
-/// that sends it; a stub for each message that is sent and comes at no later entry; a diamond where the
-/// history has a call; and a line across where a node or a server fails or starts.
+/// that sends it; a stub for each message that is sent and comes at no later entry; a line to the right
+/// edge for each that is sent and comes only behind the window; a diamond where the history has a call;
+/// and a line across where a node or a server fails or starts.
+///
+/// Below, for each file of which something is held: the stretches between the first bytes and the last
+/// ones of all that is held, and for each stretch the nodes that hold it, with a box for each token of the
+/// node and each lock of its owners, from the first entry behind which it is held to the entry behind the
+/// last one. `holdings` has one element for each entry of the window, in order, or none at all.
 ///
 /// # Errors
 /// `NoMemory` where a request for memory was refused.
@@ -41,23 +52,49 @@ pub fn picture(
     shape: &Shape,
     entries: &[Entry],
     history: &[Item],
+    holdings: &[Holdings],
     window: &Window,
 ) -> Result<String, NoMemory>
-    ensures { IfOk result (λ text. string_bytes text ≡ picture_text shape.now entries.now history.now window.now) }
+    ensures { IfOk result (λ text. string_bytes text ≡ picture_text shape.now entries.now history.now holdings.now window.now) }
 {
     let window = window.cut(entries.len() as u64);
     let part = stretch(alloc, &window, entries)?;
     let bars = bars(alloc, &window, entries)?;
     let rows = rows(alloc, shape, part.as_slice(), bars.as_slice())?;
-    let sheet = Sheet::new(shape.version(), window, rows);
-    let deliveries = Deliveries::of(alloc, entries)?;
+    let below = pieces(alloc, holdings)?;
+    let tracks = tracks(alloc, below.as_slice())?;
+    let sheet = Sheet::new(shape.version(), window, rows, tracks);
     let mut out = String::new(alloc);
     push_outline(&mut out, &sheet)?;
     push_frames(&mut out, &sheet, part.as_slice())?;
     push_bars(&mut out, alloc, &sheet, bars.as_slice())?;
-    push_entries(&mut out, &sheet, &deliveries, part.as_slice())?;
+    push_part(&mut out, alloc, &sheet, entries, part.as_slice())?;
+    push_tracks(&mut out, &sheet)?;
     push_end(&mut out, &sheet, entries, history)?;
     Ok(out)
+}
+
+// Draws these of the entries.
+fn push_part<'a>(
+    out: &mut String,
+    alloc: Global,
+    sheet: &Sheet,
+    entries: &'a [Entry],
+    part: &[PlacedEntry<'a>],
+) -> Result<(), AllocError>
+    ensures { OnOk result (string_bytes out.new ≡ string_bytes out.old ++ flat_map (drawn sheet.now entries.entry.now) part.now) }
+{
+    let deliveries = Deliveries::of(alloc, entries)?;
+    let in_time = Deliveries::of(alloc, up_to(entries, sheet.window().to))?;
+    push_entries(out, sheet, &deliveries, &in_time, part)
+}
+
+// The first so many entries.
+fn up_to(entries: &[Entry], count: u64) -> &[Entry]
+    ensures { result.now ≡ take count entries.now }
+{
+    let count = count.min(entries.len() as u64) as usize;
+    &entries[..count]
 }
 
 // Draws where the history has the calls, and ends the picture.
@@ -79,7 +116,7 @@ fn push_end(
 fn push_outline(out: &mut String, sheet: &Sheet) -> Result<(), AllocError>
     ensures { OnOk result (string_bytes out.new ≡ string_bytes out.old ++ outline_text sheet.now) }
 {
-    push_head(out, sheet.right_edge() + 16, sheet.bottom() + 16)?;
+    push_head(out, sheet.right_edge() + 16, sheet.foot() + 16)?;
     push_rows(out, sheet)
 }
 

@@ -14,7 +14,7 @@ use std::marker::Model;
 /// An entry with its position, from 1, and with that of the last entry before it that sends the message
 /// that comes there.
 #[derive(Drop)]
-pub(crate) struct PlacedEntry<'a> {
+pub struct PlacedEntry<'a> {
     position: u64,
     origin: Option<u64>,
     entry: &'a Entry,
@@ -30,21 +30,21 @@ impl<'a> Model for PlacedEntry<'a> {
 
 impl<'a> PlacedEntry<'a> {
     /// The position.
-    pub(crate) fn position(&self) -> u64
+    pub fn position(&self) -> u64
         ensures { result ≡ self.now.position }
     {
         self.position
     }
 
     /// The position of the last entry before that sends the message that comes.
-    pub(crate) fn origin(&self) -> Option<u64>
+    pub fn origin(&self) -> Option<u64>
         ensures { result ≡ self.now.origin }
     {
         self.origin
     }
 
     /// The entry.
-    pub(crate) fn entry(&self) -> &'a Entry
+    pub fn entry(&self) -> &'a Entry
         ensures { result.now ≡ self.now.entry }
     {
         self.entry
@@ -55,7 +55,7 @@ impl<'a> PlacedEntry<'a> {
 ///
 /// # Errors
 /// `AllocError` where a request for memory was refused.
-pub(crate) fn stretch<'a>(
+pub fn stretch<'a>(
     alloc: Global,
     window: &Window,
     entries: &'a [Entry],

@@ -20,7 +20,7 @@ use std::alloc::{AllocError, Global};
 ///
 /// # Errors
 /// `AllocError` where a request for memory was refused.
-pub(crate) fn rows(
+pub fn rows(
     alloc: Global,
     shape: &Shape,
     part: &[PlacedEntry<'_>],

@@ -4,6 +4,7 @@ ghost use Rattle.pictures.specs.Sheets.{row_number, top_of};
 
 use crate::point::Point;
 use crate::row::Row;
+use crate::track::Track;
 use crate::window::Window;
 use messages::actor::Actor;
 use messages::version::Version;
@@ -18,12 +19,16 @@ const TOP: u128 = 56;
 
 const ROW: u128 = 34;
 
-/// How a journal of this version is drawn: which of its entries, and on which rows.
+// The height of a track.
+const TRACK: u128 = 16;
+
+/// How a journal of this version is drawn: which of its entries, on which rows, and what stands below these.
 #[derive(Drop)]
 pub(crate) struct Sheet {
     version: Version,
     window: Window,
     rows: Vec<Row>,
+    tracks: Vec<Track>,
 }
 
 impl Model for Sheet {
@@ -31,14 +36,14 @@ impl Model for Sheet {
 
     ghost Value = { SheetFields };
 
-    ghost view = { λ s. record { version = s.version; window = s.window; rows = s.rows.items } };
+    ghost view = { λ s. record { version = s.version; window = s.window; rows = s.rows.items; tracks = s.tracks.items } };
 }
 
 /// The top of the first rows, so many of them, counted from the top.
 #[tactic(auto, unfolding(crate::specs::Sheets::top_of))]
 pub(crate) fn top_of(count: usize) -> u128
     ensures value { result ≡ top_of count }
-    ensures within { result < 2 ^ 72 }
+    ensures within { result < 2 ^ 71 }
 {
     TOP + ROW * count as u128
 }
@@ -60,16 +65,17 @@ fn row_number(rows: &[Row], row: &Row) -> usize
 
 impl Sheet {
     ghost use Rattle.std.specs.Prelude.{◌≡◌, ◌<◌, ◌^◌};
-    ghost use Rattle.pictures.specs.Sheets.{bottom, point_on, right_edge, spot, x_of};
+    ghost use Rattle.pictures.specs.Sheets.{bottom, foot, point_on, right_edge, spot, track_top, x_of};
 
     /// The sheet of a journal of this version.
-    pub(crate) fn new(version: Version, window: Window, rows: Vec<Row>) -> Sheet
-        ensures { result ≡ record { version = version; window = window; rows = rows.items } }
+    pub(crate) fn new(version: Version, window: Window, rows: Vec<Row>, tracks: Vec<Track>) -> Sheet
+        ensures { result ≡ record { version = version; window = window; rows = rows.items; tracks = tracks.items } }
     {
         Sheet {
             version,
             window,
             rows,
+            tracks,
         }
     }
 
@@ -92,6 +98,13 @@ impl Sheet {
         ensures { result.now ≡ self.now.rows }
     {
         self.rows.as_slice()
+    }
+
+    /// What stands below the rows.
+    pub(crate) fn tracks(&self) -> &[Track]
+        ensures { result.now ≡ self.now.tracks }
+    {
+        self.tracks.as_slice()
     }
 
     /// How far from the left edge an entry at this position stands: those before the window on the left
@@ -117,9 +130,26 @@ impl Sheet {
     /// Where the rows end.
     pub(crate) fn bottom(&self) -> u128
         ensures value { result ≡ bottom self.now }
-        ensures within { result < 2 ^ 72 }
+        ensures within { result < 2 ^ 71 }
     {
         top_of(self.rows.len())
+    }
+
+    /// The top of the first tracks below the rows, so many of them.
+    #[tactic(auto, unfolding(crate::specs::Sheets::track_top))]
+    pub(crate) fn track_top(&self, count: usize) -> u128
+        ensures value { result ≡ track_top self.now count }
+        ensures within { result < 2 ^ 72 }
+    {
+        self.bottom() + TRACK * count as u128
+    }
+
+    /// Where the tracks end.
+    pub(crate) fn foot(&self) -> u128
+        ensures value { result ≡ foot self.now }
+        ensures within { result < 2 ^ 72 }
+    {
+        self.track_top(self.tracks.len())
     }
 
     /// The point so far to the right of an entry at this position, and so far below the top of a row.

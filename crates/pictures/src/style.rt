@@ -48,6 +48,21 @@ text { fill: #1f2430; }
 .open { fill: #eceef3; stroke: #7a8194; stroke-dasharray: 4 2; }
 .place { fill: #ffffff; stroke: #1f2430; }
 .link { stroke: #1f2430; stroke-dasharray: 1 3; }
+.late { stroke: #7a8194; stroke-dasharray: 8 4; }
+.edge { stroke: #c9cdd8; }
+.bytes { font-size: 8px; }
+.holder { fill: #7a8194; font-size: 8px; text-anchor: end; }
+.n1 { fill: #3d74b8; }
+.n2 { fill: #d9822b; }
+.n3 { fill: #3f9c56; }
+.n4 { fill: #8d5fc2; }
+.n5 { fill: #c2487f; }
+.n6 { fill: #2f9aa0; }
+.n7 { fill: #8f7a1f; }
+.n8 { fill: #7c5a46; }
+.shared { fill-opacity: 0.4; }
+.lock { fill: none; stroke: #1f2430; stroke-width: 1.5; }
+.read { stroke-dasharray: 3 2; }
 ",
     )
 }
@@ -79,11 +94,23 @@ text { fill: #e6e8ee; }
 .open { fill: #2a3040; stroke: #8f97aa; }
 .place { fill: #14171f; stroke: #e6e8ee; }
 .link { stroke: #e6e8ee; }
+.late { stroke: #8f97aa; }
+.edge { stroke: #3a4152; }
+.holder { fill: #8f97aa; }
+.n1 { fill: #5c97e0; }
+.n2 { fill: #e69a4c; }
+.n3 { fill: #5cbb75; }
+.n4 { fill: #a983dc; }
+.n5 { fill: #dd6d9f; }
+.n6 { fill: #4db9bf; }
+.n7 { fill: #b8a23f; }
+.n8 { fill: #a8816b; }
+.lock { stroke: #ffffff; }
 ",
     )
 }
 
-/// Writes the head of an arrow, and a diamond.
+/// Writes the head of an arrow, a diamond, and what the boxes of tokens and locks mean.
 ///
 /// # Errors
 /// `AllocError` where a request for memory was refused.
@@ -96,6 +123,12 @@ pub(crate) fn push_defs(out: &mut String) -> Result<(), AllocError>
 <defs>
 <marker id='head' viewBox='0 0 8 8' refX='8' refY='4' markerWidth='7' markerHeight='7' orient='auto'><path class='head' d='M0 0L8 4L0 8Z'/></marker>
 <path id='place' d='M0 -5L5 0L0 5L-5 0Z'/>
+<g id='key'>
+<rect class='n1 shared' x='0' y='2' width='14' height='12' rx='3'/><text x='18' y='12'>shared</text>
+<rect class='n1 exclusive' x='56' y='2' width='14' height='12' rx='3'/><text x='74' y='12'>exclusive</text>
+<rect class='lock read' x='126' y='5' width='14' height='6' rx='3'/><text x='144' y='12'>read lock</text>
+<rect class='lock write' x='196' y='5' width='14' height='6' rx='3'/><text x='214' y='12'>write lock</text>
+</g>
 </defs>
 ",
     )

@@ -11,7 +11,7 @@ pub struct Window {
 
 impl Window {
     /// The window without what lies outside of so many entries.
-    pub(crate) fn cut(&self, count: u64) -> Window
+    pub fn cut(&self, count: u64) -> Window
         ensures { result ≡ cut count self.now }
     {
         Window {
@@ -21,7 +21,7 @@ impl Window {
     }
 
     /// Whether the position is in the window.
-    pub(crate) fn has(&self, position: u64) -> bool
+    pub fn has(&self, position: u64) -> bool
         ensures { result ≡ has self.now position }
     {
         self.from <= position && position <= self.to

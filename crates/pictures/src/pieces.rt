@@ -1,0 +1,141 @@
+//! What nodes hold behind the entries of the window, piece by piece.
+ghost use Rattle.std.specs.Prelude.{◌≡◌, ◌++◌, flat_map, filter, map, IfOk, OnOk};
+ghost use Rattle.pictures.specs.Pieces.{covers, is_of_file, lock_piece, pieces, token_piece};
+
+use crate::held::Held;
+use crate::piece::Piece;
+use cluster_core::held_lock::HeldLock;
+use cluster_core::token_run::TokenRun;
+use holdings::holdings::Holdings;
+use std::alloc::{AllocError, Global};
+
+/// All tokens, entry by entry, and then all locks.
+///
+/// # Errors
+/// `AllocError` where a request for memory was refused.
+pub(crate) fn pieces(alloc: Global, holdings: &[Holdings]) -> Result<Vec<Piece>, AllocError>
+    ensures { IfOk result (λ made. made.items ≡ pieces holdings.now) }
+{
+    let mut pieces = Vec::new(alloc);
+    for held in holdings {
+        add_tokens(&mut pieces, alloc, held.position, held.tokens.as_slice())?;
+    }
+    for held in holdings {
+        add_locks(&mut pieces, alloc, held.position, held.locks.as_slice())?;
+    }
+    Ok(pieces)
+}
+
+// These tokens, behind the entry at this position, come last.
+fn add_tokens(
+    pieces: &mut Vec<Piece>,
+    alloc: Global,
+    position: u64,
+    tokens: &[TokenRun],
+) -> Result<(), AllocError>
+    ensures { OnOk result (pieces.new.items ≡ pieces.old.items ++ map (token_piece position) tokens.now) }
+{
+    let own = token_pieces(alloc, position, tokens)?;
+    pieces.extend_from_slice(own.as_slice())
+}
+
+// These locks, behind the entry at this position, come last.
+fn add_locks(
+    pieces: &mut Vec<Piece>,
+    alloc: Global,
+    position: u64,
+    locks: &[HeldLock],
+) -> Result<(), AllocError>
+    ensures { OnOk result (pieces.new.items ≡ pieces.old.items ++ map (lock_piece position) locks.now) }
+{
+    let own = lock_pieces(alloc, position, locks)?;
+    pieces.extend_from_slice(own.as_slice())
+}
+
+// These tokens, behind the entry at this position.
+fn token_pieces(alloc: Global, position: u64, tokens: &[TokenRun]) -> Result<Vec<Piece>, AllocError>
+    ensures { IfOk result (λ made. made.items ≡ map (token_piece position) tokens.now) }
+{
+    tokens
+        .iter()
+        .map(|token| piece_of_token(position, token))
+        .collect(alloc)
+}
+
+// These locks, behind the entry at this position.
+fn lock_pieces(alloc: Global, position: u64, locks: &[HeldLock]) -> Result<Vec<Piece>, AllocError>
+    ensures { IfOk result (λ made. made.items ≡ map (lock_piece position) locks.now) }
+{
+    locks
+        .iter()
+        .map(|lock| piece_of_lock(position, lock))
+        .collect(alloc)
+}
+
+// A run of a token.
+fn piece_of_token(position: u64, token: &TokenRun) -> Piece
+    ensures { result ≡ token_piece position token.now }
+{
+    Piece {
+        position,
+        file: u64::from(token.file),
+        span: token.span,
+        held: Held::Token {
+            node: token.node,
+            incarnation: token.incarnation,
+            level: token.level,
+        },
+    }
+}
+
+// A region of a lock.
+fn piece_of_lock(position: u64, held: &HeldLock) -> Piece
+    ensures { result ≡ lock_piece position held.now }
+{
+    Piece {
+        position,
+        file: u64::from(held.file),
+        span: held.lock.span,
+        held: Held::Lock {
+            owner: held.lock.owner,
+            mode: held.lock.mode,
+        },
+    }
+}
+
+/// Those of the pieces that are of the file.
+///
+/// # Errors
+/// `AllocError` where a request for memory was refused.
+pub(crate) fn pieces_of_file(
+    alloc: Global,
+    pieces: &[Piece],
+    file: u64,
+) -> Result<Vec<Piece>, AllocError>
+    ensures { IfOk result (λ made. made.items ≡ filter (is_of_file file) pieces.now) }
+{
+    pieces
+        .iter()
+        .copied()
+        .filter(|piece| piece.is_of_file(file))
+        .collect(alloc)
+}
+
+/// Those of the pieces that have all bytes from one to another.
+///
+/// # Errors
+/// `AllocError` where a request for memory was refused.
+pub(crate) fn pieces_over(
+    alloc: Global,
+    pieces: &[Piece],
+    lo: u64,
+    hi: u64,
+) -> Result<Vec<Piece>, AllocError>
+    ensures { IfOk result (λ made. made.items ≡ filter (covers lo hi) pieces.now) }
+{
+    pieces
+        .iter()
+        .copied()
+        .filter(|piece| piece.covers(lo, hi))
+        .collect(alloc)
+}
