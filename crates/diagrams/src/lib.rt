@@ -1,0 +1,11 @@
+//! Two other texts of a run, beside its picture: a sequence diagram for Mermaid, and a trace for Chrome and Perfetto.
+#![tactic(auto)]
+
+pub mod laws;
+pub mod mermaid;
+mod notes;
+mod places;
+mod slices;
+pub mod trace;
+mod track;
+mod tracks;
