@@ -1,0 +1,17 @@
+use Rattle.std.proofs.Common.{arith, sym, ap, ◌∙◌, Some}
+use Rattle.std.specs.Prelude.{not}
+use Rattle.std.specs.List.{list_any}
+use Rattle.model.proofs.SearchLaws.{first-found, first-none}
+use Rattle.recordings.specs.Known.{place_up_to, runs_at}
+use Rattle.recordings.specs.Places.{PlaceFields}
+use Rattle.recordings.proofs.Searches.{up_to}
+use Rattle.recordings.proofs.lists.free_place.Goals as goal
+
+pub returns-then-not-is_running : goal.returns-then-not-is_running
+returns-then-not-is_running c =
+    let runs = c.is_running.ensures ∙ ap (λ (p : PlaceFields). list_any (runs_at p) c.args.running.now) c.new-place.ensures in
+    let found = first-found _ 1 256 c.loop-number.number c.loop-number.invariant c.loop-number.auto.number (omega arith) (ap not (sym runs ∙ c.if-not-is_running.true)) in
+    sym (ap (place_up_to c.args.node) found ∙ up_to c.args.node c.loop-number.number (omega arith) ∙ ap Some (sym c.new-place.ensures))
+
+pub returns : goal.returns
+returns c = sym (ap (place_up_to c.args.node) (first-none _ 1 256 c.loop-number.number c.loop-number.invariant (omega arith)))

@@ -1,0 +1,4 @@
+pub mod Places
+pub mod Known
+pub mod Steps
+pub mod Texts

@@ -1,0 +1,12 @@
+//! Lines of a script that is made.
+use crate::place::Place;
+use crate::said::Said;
+
+/// A line of a script behind the files.
+#[derive(Clone, Copy, Debug, PartialEq, Eq)]
+pub enum Line {
+    /// A comment: which recorded process this one of the script is.
+    Begins { place: Place, pid: u32 },
+    /// What the script asks for.
+    Says(Said),
+}

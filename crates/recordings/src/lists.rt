@@ -1,0 +1,194 @@
+//! What lists of processes, descriptors and files have.
+ghost use Rattle.std.specs.Prelude.{◌≡◌, filter, not, IfOk, OnOk, map, ◌++◌};
+ghost use Rattle.std.specs.List.{list_any};
+ghost use Rattle.std.specs.Option.{option_map};
+ghost use Rattle.model.specs.Limits.{IsNumber, most_nodes};
+ghost use Rattle.recordings.specs.Known.{file_of, free_place, free_slot, has_pid, has_slot, held_by, is_file, is_held, is_of, is_slot, place_of, running_of, runs_at};
+ghost use Rattle.recordings.specs.Steps.{has_room, in_child};
+
+use crate::held::Held;
+use crate::numbered_file::NumberedFile;
+use crate::place::Place;
+use crate::running::Running;
+use std::alloc::AllocError;
+
+/// The process or thread of this PID.
+pub(crate) fn running_of(running: &[Running], pid: u32) -> Option<Running>
+    ensures { result ≡ running_of running.now pid }
+{
+    for one in running {
+        if has_pid(one, pid) {
+            return Some(*one);
+        }
+    }
+    None
+}
+
+/// The descriptor of the process.
+pub(crate) fn held_by(held: &[Held], place: Place, fd: u32) -> Option<Held>
+    ensures { result ≡ held_by held.now place fd }
+{
+    for one in held {
+        if is_held(one, place, fd) {
+            return Some(*one);
+        }
+    }
+    None
+}
+
+/// The file of this path.
+pub(crate) fn file_of(files: &[NumberedFile], path: u32) -> Option<NumberedFile>
+    ensures { result ≡ file_of files.now path }
+{
+    for file in files {
+        if is_file(file, path) {
+            return Some(*file);
+        }
+    }
+    None
+}
+
+// Whether it is the process or thread of this PID.
+fn has_pid(one: &Running, pid: u32) -> bool
+    ensures { result ≡ has_pid pid one.now }
+{
+    one.pid == pid
+}
+
+// Whether it is the file of this path.
+fn is_file(file: &NumberedFile, path: u32) -> bool
+    ensures { result ≡ is_file path file.now }
+{
+    file.path == path
+}
+
+/// Whether it is that descriptor of that process.
+pub(crate) fn is_held(held: &Held, place: Place, fd: u32) -> bool
+    ensures { result ≡ is_held place fd held.now }
+{
+    held.place.is_at(place) && held.fd == fd
+}
+
+// Whether it is that descriptor of that process in the script.
+fn has_slot(held: &Held, place: Place, slot: u8) -> bool
+    ensures { result ≡ has_slot place slot held.now }
+{
+    held.place.is_at(place) && is_slot(held.slot, slot)
+}
+
+// Whether it is that descriptor of the script.
+fn is_slot(held: Option<u8>, slot: u8) -> bool
+    ensures { result ≡ is_slot slot held }
+{
+    match held {
+        Some(known) => known == slot,
+        None => false,
+    }
+}
+
+// Whether that process runs.
+fn is_running(running: &[Running], place: Place) -> bool
+    ensures { result ≡ list_any (runs_at place) running.now }
+{
+    running.iter().any(|one| one.place.is_at(place))
+}
+
+// Whether the process has that descriptor in the script.
+fn is_used(held: &[Held], place: Place, slot: u8) -> bool
+    ensures { result ≡ list_any (has_slot place slot) held.now }
+{
+    held.iter().any(|one| has_slot(one, place, slot))
+}
+
+/// The process of the node with the lowest number that none that runs has, if there is one.
+pub(crate) fn free_place(running: &[Running], node: u8) -> Option<Place>
+    requires { IsNumber most_nodes node }
+    ensures { result ≡ free_place running.now node }
+{
+    for number in 1..=256 {
+        let place = Place::new(node, number);
+        if !is_running(running, place) {
+            return Some(place);
+        }
+    }
+    None
+}
+
+/// The lowest descriptor of the process in the script that is free, if there is one.
+pub(crate) fn free_slot(held: &[Held], place: Place) -> Option<u8>
+    ensures { result ≡ free_slot held.now place }
+{
+    for slot in 0..64 {
+        if !is_used(held, place, slot) {
+            return Some(slot);
+        }
+    }
+    None
+}
+
+/// The descriptor goes.
+pub(crate) fn remove_held(held: &mut Vec<Held>, place: Place, fd: u32)
+    ensures { held.new.items ≡ filter (λ h. not (is_held place fd h)) held.old.items }
+{
+    held.retain(|one| !is_held(one, place, fd));
+}
+
+/// All descriptors of the process go.
+pub(crate) fn remove_all_held(held: &mut Vec<Held>, place: Place)
+    ensures { held.new.items ≡ filter (λ h. not (is_of place h)) held.old.items }
+{
+    held.retain(|one| !one.place.is_at(place));
+}
+
+/// The process goes, with its threads.
+pub(crate) fn remove_process(running: &mut Vec<Running>, place: Place)
+    ensures { running.new.items ≡ filter (λ r. not (runs_at place r)) running.old.items }
+{
+    running.retain(|one| !one.place.is_at(place));
+}
+
+/// The process or thread of this PID goes.
+pub(crate) fn remove_pid(running: &mut Vec<Running>, pid: u32)
+    ensures { running.new.items ≡ filter (λ t. not (has_pid pid t)) running.old.items }
+{
+    running.retain(|one| one.pid != pid);
+}
+
+/// The child gets the descriptors that its parent has.
+pub(crate) fn inherit(held: &mut Vec<Held>, parent: Place, child: Place) -> Result<(), AllocError>
+    ensures { OnOk result (held.new.items ≡ held.old.items ++ map (in_child child) (filter (is_of parent) held.old.items)) }
+{
+    let mut inherited = Vec::new(*held.allocator());
+    for one in held.as_slice() {
+        if one.place.is_at(parent) {
+            inherited.push(in_child(*one, child))?;
+        }
+    }
+    held.append(&mut inherited)
+}
+
+// The same descriptor of the child.
+fn in_child(held: Held, child: Place) -> Held
+    ensures { result ≡ in_child child held }
+{
+    Held {
+        place: child,
+        fd: held.fd,
+        path: held.path,
+        slot: held.slot,
+    }
+}
+
+/// Whether there is no lock call on the file yet, and the script can have it.
+pub(crate) fn has_room(locked: &[NumberedFile], path: u32) -> bool
+    ensures { result ≡ has_room locked.now path }
+{
+    !is_locked(locked, path) && locked.len() < 256
+}
+
+// Whether the file is one of these.
+fn is_locked(locked: &[NumberedFile], path: u32) -> bool
+    ensures { result ≡ list_any (is_file path) locked.now }
+{
+    locked.iter().any(|file| is_file(file, path))
+}

@@ -1,0 +1,9 @@
+//! Files of a script.
+use messages::file_number::FileNumber;
+
+/// A file of a script, 1 to 256, with its path, by the number of the path in the recording.
+#[derive(Clone, Copy, Debug, PartialEq, Eq)]
+pub struct NumberedFile {
+    pub number: FileNumber,
+    pub path: u32,
+}

@@ -1,0 +1,59 @@
+//! Places of processes in a script.
+use std::marker::Model;
+
+/// A process of a script: its node, 1 to 64, and its number there, 1 to 256.
+#[derive(Clone, Copy, Debug, PartialEq, Eq)]
+pub struct Place {
+    node: u8,
+    number: u16,
+}
+
+impl Model for Place {
+    ghost use Rattle.recordings.specs.Places.{PlaceFields, IsPlace};
+
+    ghost Value = { PlaceFields };
+
+    ghost view = { λ p. record { node = p.node; number = p.number } };
+
+    ghost invariant = { λ p. IsPlace (record { node = p.node; number = p.number }) };
+
+    ghost inverse = { λ p. record { node = p.node; number = p.number } };
+}
+
+impl Place {
+    ghost use Rattle.std.specs.Prelude.{◌≡◌};
+    ghost use Rattle.model.specs.Limits.{IsNumber, most_nodes, most_processes};
+    ghost use Rattle.recordings.specs.Places.{is_at};
+
+    /// The process of this number on the node.
+    pub(crate) fn new(node: u8, number: u16) -> Place
+        requires node { IsNumber most_nodes node }
+        requires number { IsNumber most_processes number }
+        ensures { result ≡ record { node = node; number = number } }
+    {
+        Place { node, number }
+    }
+
+    /// Its node, 1 to 64.
+    pub fn node(&self) -> u8
+        ensures value { result ≡ self.now.node }
+        ensures within { IsNumber most_nodes result }
+    {
+        self.node
+    }
+
+    /// Its number on the node, 1 to 256.
+    pub fn number(&self) -> u16
+        ensures value { result ≡ self.now.number }
+        ensures within { IsNumber most_processes result }
+    {
+        self.number
+    }
+
+    /// Whether both are one process.
+    pub fn is_at(&self, other: Place) -> bool
+        ensures { result ≡ is_at other self.now }
+    {
+        self.node == other.node && self.number == other.number
+    }
+}

@@ -1,0 +1,49 @@
+//! Why something is left out.
+ghost use Rattle.std.specs.Prelude.{◌≡◌};
+ghost use Rattle.recordings.specs.Texts.{reason_text};
+
+/// Why something that is recorded isn't in the script.
+#[derive(Clone, Copy, Debug, PartialEq, Eq)]
+pub enum Reason {
+    /// The line is none that is understood.
+    NotUnderstood,
+    /// No process stands before the call.
+    NoProcess,
+    /// The start of a call that is resumed isn't recorded.
+    NotBegun,
+    /// A segment is not counted from the beginning of its file.
+    Whence,
+    /// A path is relative to a descriptor.
+    Relative,
+    /// A process runs another program.
+    Executes,
+    /// No open of the descriptor is recorded.
+    NotOpen,
+    /// There are locks on 256 other files.
+    TooManyFiles,
+    /// The node has 256 other processes.
+    TooManyProcesses,
+    /// The process had 64 other descriptors when it got this one.
+    TooManyDescriptors,
+}
+
+impl Reason {
+    /// What notes say of it.
+    pub fn text(self) -> &'static str
+        ensures { result.now ≡ reason_text self }
+    {
+        match self {
+            Reason::NotUnderstood => "the line is not understood",
+            Reason::NoProcess => "no PID stands before the call; strace -f -o FILE writes one",
+            Reason::NotBegun => "the start of the resumed call is not recorded",
+            Reason::Whence => "l_whence is not SEEK_SET",
+            Reason::Relative => "the path is relative to a descriptor",
+            Reason::Executes => "descriptors that close where a program is executed stay open here",
+            Reason::NotOpen => "no open of the descriptor is recorded",
+            Reason::TooManyFiles => "256 other files have locks",
+            Reason::TooManyProcesses => "the node has 256 other processes",
+            Reason::TooManyDescriptors =>
+                "the process had 64 other descriptors when it got this one",
+        }
+    }
+}

@@ -1,0 +1,40 @@
+//! Recorded events.
+use crate::asked::Asked;
+use crate::reason::Reason;
+use model::access::Access;
+
+/// What is recorded of a process or thread. Descriptors and PIDs are those of the recording; paths have
+/// numbers, from 0.
+#[derive(Clone, Copy, Debug, PartialEq, Eq)]
+pub enum Happening {
+    /// Nothing that matters.
+    Nothing,
+    /// It opens a file, and gets a descriptor.
+    Opens { fd: u32, path: u32, access: Access },
+    /// One descriptor gets to refer to what another refers to.
+    Duplicates { fd: u32, to: u32 },
+    /// A descriptor goes.
+    Closes { fd: u32 },
+    /// It makes a process.
+    Forks { child: u32 },
+    /// It makes a thread, which shares its descriptors and its locks.
+    StartsThread { thread: u32 },
+    /// It exits; `whole` where its process does, with all threads.
+    Exits { whole: bool },
+    /// It makes a lock call.
+    Asks { fd: u32, asked: Asked },
+    /// A lock call that it made through the descriptor returned.
+    Returns { fd: u32 },
+    /// A wait that it made through the descriptor ended without the lock.
+    GivesUp { fd: u32 },
+    /// Something that isn't served.
+    Unserved(Reason),
+}
+
+/// An event of a recording: its line, from 1, the PID before it, and what happens.
+#[derive(Clone, Copy, Debug, PartialEq, Eq)]
+pub struct Recorded {
+    pub line: u64,
+    pub pid: u32,
+    pub happening: Happening,
+}

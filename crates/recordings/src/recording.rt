@@ -1,0 +1,110 @@
+//! Scripts of recordings.
+ghost use Rattle.std.specs.Prelude.{◌≡◌, ◌++◌, string_bytes, IfOk, OnOk};
+ghost use Rattle.model.specs.Limits.{IsNumber, most_nodes};
+ghost use Rattle.lockscript.specs.Scripts.{HasScript};
+ghost use Rattle.recordings.specs.Texts.{IsOfEvents, notes_made, script_made, script_text};
+ghost use Rattle.recordings.specs.Steps.{known, known_at_end};
+
+use crate::error::RecordingError;
+use crate::known::Known;
+use crate::numbered_file::NumberedFile;
+use crate::reader::events_of;
+use crate::recorded::Recorded;
+use crate::writing::{push_cluster, push_files, push_lines, push_notes};
+use lockscript::error::ParseError;
+use lockscript::script::Script;
+use model::limits::MOST_NODES;
+use std::alloc::{AllocError, Global};
+
+/// What is made of a recording: the text of a script, and notes on what is left out of it, a line each.
+#[derive(Drop)]
+pub struct Recording {
+    pub script: String,
+    pub notes: String,
+}
+
+/// The script of the lock calls of a recording, as `strace -f -o FILE` writes it, for so many nodes.
+///
+/// # Errors
+/// `Nodes` where a cluster can't have so many nodes; `TooLong` where the text would have more lines
+/// than a script can have; `NoMemory` where a request for memory was refused.
+pub fn script_of(alloc: Global, recorded: &str, nodes: u8) -> Result<Recording, RecordingError>
+    ensures good { IfOk result (λ made. HasScript (string_bytes made.script)) }
+    ensures events { IfOk result (λ made. IsOfEvents nodes (string_bytes made.script) (string_bytes made.notes)) }
+{
+    let trace = events_of(alloc, recorded)?;
+    script_from(alloc, trace.paths(), trace.events(), nodes)
+}
+
+/// The script that the events make, for so many nodes; the paths in them are by their places in `paths`.
+///
+/// # Errors
+/// As at `script_of`.
+pub fn script_from(
+    alloc: Global,
+    paths: &[&str],
+    events: &[Recorded],
+    nodes: u8,
+) -> Result<Recording, RecordingError>
+    ensures script { IfOk result (λ made. string_bytes made.script ≡ script_made paths.now nodes events.now) }
+    ensures good { IfOk result (λ made. HasScript (string_bytes made.script)) }
+    ensures notes { IfOk result (λ made. string_bytes made.notes ≡ notes_made nodes events.now) }
+{
+    if nodes < 1 || nodes > MOST_NODES {
+        return Err(RecordingError::Nodes);
+    }
+    let known = known_at_end(alloc, nodes, events)?;
+    let mut script = String::new(alloc);
+    push_script(&mut script, paths, nodes, &known)?;
+    check_script(alloc, script.as_str())?;
+    let mut notes = String::new(alloc);
+    push_notes(&mut notes, known.notes())?;
+    Ok(Recording { script, notes })
+}
+
+// Whether the text is that of a script, as it is where it has at most so many lines as a script can have.
+fn check_script(alloc: Global, text: &str) -> Result<(), RecordingError>
+    ensures { OnOk result (HasScript text.now) }
+{
+    match Script::parse(alloc, text) {
+        Ok(_) => Ok(()),
+        Err(ParseError::NoMemory) => Err(RecordingError::NoMemory),
+        Err(ParseError::BadLine(_)) => Err(RecordingError::TooLong),
+    }
+}
+
+// What is known behind the events, for a script of the files on which there are lock calls.
+fn known_at_end(alloc: Global, nodes: u8, events: &[Recorded]) -> Result<Known, AllocError>
+    requires { IsNumber most_nodes nodes }
+    ensures { IfOk result (λ made. made ≡ known_at_end nodes events.now) }
+{
+    let files = known_after(alloc, nodes, Vec::new(alloc), events)?.into_locked();
+    known_after(alloc, nodes, files, events)
+}
+
+// What is known behind the events, for a script of these files.
+fn known_after(
+    alloc: Global,
+    nodes: u8,
+    files: Vec<NumberedFile>,
+    events: &[Recorded],
+) -> Result<Known, AllocError>
+    requires { IsNumber most_nodes nodes }
+    ensures { IfOk result (λ made. made ≡ known nodes files.items events.now) }
+{
+    let mut made = Known::new(alloc, nodes, files);
+    for event in events {
+        made.take(event)?;
+    }
+    Ok(made)
+}
+
+// Writes the script.
+#[tactic(auto, unfolding(crate::specs::Texts::script_text))]
+fn push_script(out: &mut String, paths: &[&str], nodes: u8, known: &Known) -> Result<(), AllocError>
+    ensures { OnOk result (string_bytes out.new ≡ string_bytes out.old ++ script_text paths.now nodes known.now.files known.now.lines) }
+{
+    push_cluster(out, nodes, known.files().len())?;
+    push_files(out, paths, known.files())?;
+    push_lines(out, known.lines())
+}

@@ -1,0 +1,71 @@
+//! What lines of a script that is made ask for.
+use crate::place::Place;
+use lockscript::script_line::Command;
+use model::op::Op;
+use std::marker::Model;
+
+/// What a line asks for, within the limits of scripts.
+#[derive(Clone, Copy, Debug, PartialEq, Eq)]
+pub struct Said {
+    command: Command,
+}
+
+impl Model for Said {
+    ghost use Rattle.lockscript.specs.declared.script_line.Command.{Command};
+    ghost use Rattle.lockscript.specs.Scripts.{IsCommand};
+
+    ghost Value = { Command };
+
+    ghost view = { λ s. s.command };
+
+    ghost invariant = { λ s. IsCommand s.command };
+
+    ghost inverse = { λ c. record { command = c } };
+}
+
+impl Said {
+    ghost use Rattle.std.specs.Prelude.{◌≡◌};
+    ghost use Rattle.lockscript.specs.Scripts.{IsCommand};
+    ghost use Rattle.lockscript.specs.Served.{IsServedOp};
+    ghost use Rattle.lockscript.specs.declared.script_line.Command.TheVariants.{Call, Settle, Interrupt};
+
+    /// A process makes a call.
+    pub(crate) fn call(place: Place, op: Op) -> Said
+        requires { IsServedOp op }
+        ensures { result ≡ Call place.node place.number op }
+    {
+        let node = place.node();
+        let pid = place.number();
+        Said {
+            command: Command::Call { node, pid, op },
+        }
+    }
+
+    /// Messages are delivered.
+    pub(crate) fn settle() -> Said
+        ensures { result ≡ Settle }
+    {
+        Said {
+            command: Command::Settle,
+        }
+    }
+
+    /// The wait of a process is interrupted.
+    pub(crate) fn interrupt(place: Place) -> Said
+        ensures { result ≡ Interrupt place.node place.number }
+    {
+        let node = place.node();
+        let pid = place.number();
+        Said {
+            command: Command::Interrupt { node, pid },
+        }
+    }
+
+    /// What it asks for.
+    pub fn command(&self) -> Command
+        ensures value { result ≡ self.now }
+        ensures within { IsCommand result }
+    {
+        self.command
+    }
+}

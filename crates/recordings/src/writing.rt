@@ -1,0 +1,229 @@
+//! The texts of a script that is made, and of notes.
+ghost use Rattle.std.specs.Prelude.{◌≡◌, ◌++◌, codes, decimal, flat_map, slice_get, length, string_bytes, MatchOption, OnOk};
+ghost use Rattle.texts.specs.LineFeeds.{line_feeds, BeginsWithLine};
+ghost use Rattle.lockscript.specs.Scripts.{IsCommand, command_text, shape_text};
+ghost use Rattle.messages.specs.declared.version.Version.TheVariants.{Second};
+ghost use Rattle.recordings.specs.Texts.{at_least_one, file_text, first_line, line_text, note_text, notes_text, others_text, shape_of, shown, told, with_feed};
+
+use crate::line::Line;
+use crate::note::Note;
+use crate::numbered_file::NumberedFile;
+use lockscript::fields::{NodeField, PidField};
+use lockscript::operations::Operation;
+use lockscript::script_line::Command;
+use model::policy::Policy;
+use std::alloc::AllocError;
+use std::fmt::Write;
+use texts::text::Text;
+use texts::words::policy_word;
+
+/// Notes that are told one by one.
+const MOST_NOTES: usize = 100;
+
+/// Writes the line of a cluster of so many nodes, and of so many files, but of one at least.
+///
+/// # Errors
+/// `AllocError` where a request for memory was refused.
+pub(crate) fn push_cluster(out: &mut String, nodes: u8, files: usize) -> Result<(), AllocError>
+    ensures { OnOk result (string_bytes out.new ≡ string_bytes out.old ++ with_feed (shape_text (shape_of nodes files))) }
+{
+    push_shape(out, nodes, at_least_one(files), Policy::Wide)
+}
+
+// Writes the line of a cluster.
+fn push_shape(out: &mut String, nodes: u8, files: usize, policy: Policy) -> Result<(), AllocError>
+    ensures { OnOk result (string_bytes out.new ≡ string_bytes out.old ++ shape_text (record { version = Second; nodes = nodes; files = files; policy = policy }) ++ codes "\n") }
+{
+    let policy = policy_word(policy);
+    out.push_str("cluster nodes ")?;
+    writeln!(out, "{nodes} files {files} policy {policy}")
+}
+
+// As many, but one where there are none.
+fn at_least_one(files: usize) -> usize
+    ensures { result ≡ at_least_one files }
+{
+    if files > 0 { files } else { 1 }
+}
+
+/// Writes which recorded files those of the script are.
+///
+/// # Errors
+/// `AllocError` where a request for memory was refused.
+pub(crate) fn push_files(
+    out: &mut String,
+    paths: &[&str],
+    files: &[NumberedFile],
+) -> Result<(), AllocError>
+    ensures { OnOk result (string_bytes out.new ≡ string_bytes out.old ++ flat_map (λ f. with_feed (file_text paths.now f)) files.now) }
+{
+    for file in files {
+        push_file(out, paths, file)?;
+    }
+    Ok(())
+}
+
+// Writes which recorded file a file of the script is.
+#[tactic(auto, unfolding(crate::specs::Texts::file_text))]
+fn push_file(out: &mut String, paths: &[&str], file: &NumberedFile) -> Result<(), AllocError>
+    ensures { OnOk result (string_bytes out.new ≡ string_bytes out.old ++ with_feed (file_text paths.now file.now)) }
+{
+    push_name(out, file.number.get(), shown(path_at(paths, file.path)))
+}
+
+// Writes which path a file has.
+fn push_name(out: &mut String, number: u16, path: &str) -> Result<(), AllocError>
+    ensures { OnOk result (string_bytes out.new ≡ string_bytes out.old ++ with_feed (codes "# file " ++ decimal number ++ codes " is " ++ path.now)) }
+{
+    write!(out, "# file {number} is ")?;
+    out.push_str(path)?;
+    out.push_str("\n")
+}
+
+// The path of this number.
+fn path_at<'a>(paths: &[&'a str], number: u32) -> Option<&'a str>
+    ensures { result ≡ slice_get paths.now number }
+{
+    match paths.get(number as usize) {
+        Some(path) => Some(*path),
+        None => None,
+    }
+}
+
+// The path, in one line.
+fn shown(path: Option<&str>) -> &str
+    ensures { result.now ≡ shown path.entry }
+{
+    match path {
+        Some(path) => first_line(path),
+        None => "",
+    }
+}
+
+// What stands before the first line feed.
+fn first_line(text: &str) -> &str
+    ensures { result.now ≡ first_line text.now }
+{
+    match split_line(text) {
+        Some((line, _)) => line,
+        None => text,
+    }
+}
+
+// The first line of a text, and what stands after its line feed.
+fn split_line(text: &str) -> Option<(&str, &str)>
+    ensures { MatchOption result (line_feeds text.now ≡ 0) (λ parts. BeginsWithLine text.now parts.0.now parts.1.now) }
+{
+    text.split_once('\n')
+}
+
+/// Writes the lines.
+///
+/// # Errors
+/// `AllocError` where a request for memory was refused.
+pub(crate) fn push_lines(out: &mut String, lines: &[Line]) -> Result<(), AllocError>
+    ensures { OnOk result (string_bytes out.new ≡ string_bytes out.old ++ flat_map (λ l. with_feed (line_text l)) lines.now) }
+{
+    for line in lines {
+        push_line(out, line)?;
+    }
+    Ok(())
+}
+
+// Writes a line.
+#[tactic(auto, unfolding(crate::specs::Texts::line_text))]
+fn push_line(out: &mut String, line: &Line) -> Result<(), AllocError>
+    ensures { OnOk result (string_bytes out.new ≡ string_bytes out.old ++ with_feed (line_text line.now)) }
+{
+    match line {
+        Line::Begins { place, pid } => {
+            let number = place.number();
+            let node = place.node();
+            writeln!(out, "# process {number} of node {node} is PID {pid}")
+        }
+        Line::Says(said) => {
+            push_command(out, &said.command())?;
+            out.push_str("\n")
+        }
+    }
+}
+
+// Writes what a line asks for.
+fn push_command(out: &mut String, command: &Command) -> Result<(), AllocError>
+    ensures { OnOk result (string_bytes out.new ≡ string_bytes out.old ++ command_text command.now) }
+{
+    match command {
+        Command::Call { node, pid, op } => {
+            out.push_str("call ")?;
+            <(NodeField, (PidField, Operation))>::write(&(*node, (*pid, *op)), out)
+        }
+        Command::Settle => out.push_str("settle"),
+        Command::Interrupt { node, pid } => write!(out, "interrupt {node} {pid}"),
+        Command::Retry { node, pid } => write!(out, "retry {node} {pid}"),
+        Command::Deliver { message } => write!(out, "deliver {message}"),
+        Command::Lose { message } => write!(out, "lose {message}"),
+        Command::Resend { file } => write!(out, "resend {file}"),
+        Command::Declare { node } => write!(out, "declare {node}"),
+        Command::Restart { node } => write!(out, "restart {node}"),
+        Command::Learn {
+            file,
+            node,
+            incarnation,
+        } => write!(out, "learn {file} {node} {incarnation}"),
+        Command::FailServer { file } => write!(out, "fail-server {file}"),
+        Command::StartServer { file } => write!(out, "start-server {file}"),
+    }
+}
+
+/// Writes the notes, a hundred of them, and how many others there are.
+///
+/// # Errors
+/// `AllocError` where a request for memory was refused.
+pub(crate) fn push_notes(out: &mut String, notes: &[Note]) -> Result<(), AllocError>
+    ensures { OnOk result (string_bytes out.new ≡ string_bytes out.old ++ notes_text notes.now) }
+{
+    push_told(out, told(notes))?;
+    push_others(out, notes.len())
+}
+
+// The notes that are told one by one.
+fn told(notes: &[Note]) -> &[Note]
+    ensures { result.now ≡ told notes.now }
+{
+    if notes.len() > MOST_NOTES {
+        notes.split_at(MOST_NOTES).0
+    } else {
+        notes
+    }
+}
+
+// Writes these notes.
+fn push_told(out: &mut String, notes: &[Note]) -> Result<(), AllocError>
+    ensures { OnOk result (string_bytes out.new ≡ string_bytes out.old ++ flat_map note_text notes.now) }
+{
+    for note in notes {
+        push_note(out, note)?;
+    }
+    Ok(())
+}
+
+// Writes a note.
+fn push_note(out: &mut String, note: &Note) -> Result<(), AllocError>
+    ensures { OnOk result (string_bytes out.new ≡ string_bytes out.old ++ note_text note.now) }
+{
+    let line = note.line;
+    let reason = note.reason.text();
+    writeln!(out, "line {line}: {reason}")
+}
+
+// Writes how many of so many notes aren't told one by one.
+#[tactic(auto, unfolding(crate::specs::Texts::others_text))]
+fn push_others(out: &mut String, count: usize) -> Result<(), AllocError>
+    ensures { OnOk result (string_bytes out.new ≡ string_bytes out.old ++ others_text count) }
+{
+    if count <= MOST_NOTES {
+        return Ok(());
+    }
+    let others = count - MOST_NOTES;
+    writeln!(out, "more notes: {others}")
+}
