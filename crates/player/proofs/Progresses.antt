@@ -1,0 +1,129 @@
+-- Runs of scripts lead from world to world.
+use Rattle.std.proofs.Common.{◌≡◌, ℕ, ◌+◌, ◌<◌, Bool, true, false, if◌then◌else◌, Option, Some, None, refl, sym, ◌∙◌, ap, subst, List, [], ◌∷◌, ◌++◌, length, take, drop, get_or}
+use Rattle.std.specs.Prelude.{nat_le, nat_lt, slice_get, IfSome}
+use Rattle.std.specs.declared.result.Result.{Result}
+use Rattle.std.specs.declared.result.Result.TheVariants.{Ok, Err}
+use Rattle.std.proofs.lemmas.List.{take_more, drop_more, take-append-drop}
+use Rattle.messages.specs.declared.refusal.Refused.{Refused}
+use Rattle.messages.specs.declared.refusal.Refused.TheVariants.{NoMemory, Stranger, JournalFull, Fenced}
+use Rattle.messages.specs.declared.event.Event.{Event}
+use Rattle.messages.specs.declared.event.Event.TheVariants as event
+use Rattle.messages.specs.declared.message.Message.{Message}
+use Rattle.messages.specs.declared.entry.Entry.{Entry}
+use Rattle.cluster_core.specs.World.{WorldState, journal_limit}
+use Rattle.cluster_core.specs.Next.{next, kept_next}
+use Rattle.cluster_core.specs.Runs.{Leads}
+use Rattle.cluster_core.proofs.runs.JournalRuns.{leads_push, entry_event}
+use Rattle.cluster_core.proofs.steps.Steps.{kept_taken}
+use Rattle.lockscript.specs.declared.script_line.Command.{Command}
+use Rattle.lockscript.specs.declared.script_line.Command.TheVariants.{Call, Deliver, Lose, Settle, Interrupt, Retry, Resend, Declare, Restart, Learn, FailServer, StartServer}
+use Rattle.lockscript.specs.Scripts.{LineFields}
+use Rattle.player.specs.Progress.{Progress, End, after_entry, after_refusal, delivery, index_of, lost, settling, Comes, Ends, Happens, InTurn, Passes, Delivers, Does, RunsTo}
+
+-- the entries so far lead from a world to the world so far
+abbrev pub LeadsFrom : WorldState → Progress → Type 0
+LeadsFrom w p = Leads w p.entries p.world
+
+-- where a script comes to an end that is a progress, its entries lead there
+abbrev pub EndLeads : WorldState → End → Type 0
+EndLeads w end = IfSome end (LeadsFrom w)
+
+end_leads : (w : WorldState) (end its : End) → its ≡ end → EndLeads w end → EndLeads w its
+end_leads w end its is leads = subst (EndLeads w) (sym is) leads
+
+ends_leads : (w : WorldState) (line : ℕ) (ev : Event) (p : Progress) (end : End) (r : Result (WorldState × Entry) Refused) → kept_next p.world ev ≡ r → LeadsFrom w p → Ends line p r end → EndLeads w end
+ends_leads w line ev p end (Ok made) is leads ends =
+    let step = (kept_taken p.world ev made is).1 in
+    let of = entry_event p.world made.0 ev made.1 step in
+    let P : Event → Type 0 = λ x. next p.world x ≡ Ok made in
+    end_leads w (Some (after_entry p made)) end ends (leads_push w p.world made.0 p.entries made.1 leads (subst P (sym of) step))
+ends_leads w line ev p end (Err NoMemory) is leads ends = absurd ends
+ends_leads w line ev p end (Err JournalFull) is leads ends = end_leads w None end ends tt
+ends_leads w line ev p end (Err refusal) is leads ends = end_leads w (Some (after_refusal p line refusal)) end ends leads
+
+happens_leads : (w : WorldState) (line : ℕ) (ev : Event) (p : Progress) (end : End) → LeadsFrom w p → Happens line ev p end → EndLeads w end
+happens_leads w line ev p end leads happens = ends_leads w line ev p end (kept_next p.world ev) refl leads happens
+
+passes_leads : (w : WorldState) (line : ℕ) (ev : Event) (p : Progress) (end : End) (r : Result (WorldState × Entry) Refused) → kept_next p.world ev ≡ r → LeadsFrom w p → Passes line p r end → EndLeads w end
+passes_leads w line ev p end (Err Fenced) is leads passes = end_leads w (Some p) end passes leads
+passes_leads w line ev p end r is leads passes = ends_leads w line ev p end r is leads passes
+
+delivers_leads : (w : WorldState) (line : ℕ) (m : Message) (p : Progress) (end : End) → LeadsFrom w p → Delivers line m p end → EndLeads w end
+delivers_leads w line m p end leads delivers = passes_leads w line (event.Deliver m) (settling delivers.0 p) end (kept_next p.world (event.Deliver m)) refl leads delivers.2
+
+-- what each keeps, all keep, one after the other
+turns_lead : {A : Type 0} (Is : A → Progress → End → Type 0) (w : WorldState) → ((x : A) (p : Progress) (end : End) → LeadsFrom w p → Is x p end → EndLeads w end) → (from : End) (xs : List A) (end : End) → EndLeads w from → InTurn Is from xs end → EndLeads w end
+turns_lead Is w each None xs end leads is = end_leads w None end is leads
+turns_lead Is w each (Some p) [] end leads is = end_leads w (Some p) end is leads
+turns_lead Is w each (Some p) (x ∷ xs) end leads turns = turns_lead Is w each turns.0 xs end (each x p turns.0 leads turns.1) turns.2
+
+deliver_leads : (w : WorldState) (line index : ℕ) (m : Message) (p : Progress) (end : End) (r : Result (WorldState × Entry) Refused) → kept_next p.world (event.Deliver m) ≡ r → LeadsFrom w p → Comes line index p r end → EndLeads w end
+deliver_leads w line index m p end (Ok made) is leads comes = ends_leads w line (event.Deliver m) (settling index p) end (Ok made) is leads comes
+deliver_leads w line index m p end (Err refusal) is leads comes = ends_leads w line (event.Deliver m) p end (Err refusal) is leads comes
+
+unsent_leads : (w : WorldState) (line : ℕ) (p : Progress) (end : End) (full : Bool) → LeadsFrom w p → Ends line p (Err (if full then JournalFull else Stranger)) end → EndLeads w end
+unsent_leads w line p end true leads ends = end_leads w None end ends tt
+unsent_leads w line p end false leads ends = end_leads w (Some (after_refusal p line Stranger)) end ends leads
+
+comes_leads : (w : WorldState) (line index : ℕ) (p : Progress) (end : End) (o : Option Message) → LeadsFrom w p → Comes line index p (delivery p o) end → EndLeads w end
+comes_leads w line index p end (Some m) leads comes = deliver_leads w line index m p end (kept_next p.world (event.Deliver m)) refl leads comes
+comes_leads w line index p end None leads comes = unsent_leads w line p end (nat_le journal_limit (length p.entries)) leads comes
+
+lost_leads : (w : WorldState) (line index : ℕ) (p : Progress) (b : Bool) → LeadsFrom w p → LeadsFrom w (if b then settling index p else after_refusal p line Stranger)
+lost_leads w line index p true leads = leads
+lost_leads w line index p false leads = leads
+
+does_leads : (w : WorldState) (line : ℕ) (c : Command) (p : Progress) (end : End) → LeadsFrom w p → Does line c p end → EndLeads w end
+does_leads w line (Call node pid op) p end leads does = happens_leads w line (event.Call node pid op) p end leads does
+does_leads w line (Deliver number) p end leads does = comes_leads w line (index_of number) p end (slice_get p.world.sent (index_of number)) leads does
+does_leads w line (Lose number) p end leads does = end_leads w (Some (lost line (index_of number) p)) end does (lost_leads w line (index_of number) p (nat_lt (index_of number) (length p.world.sent)) leads)
+does_leads w line (Interrupt node pid) p end leads does = happens_leads w line (event.Interrupt node pid) p end leads does
+does_leads w line (Retry node pid) p end leads does = happens_leads w line (event.Retry node pid) p end leads does
+does_leads w line (Resend file) p end leads does = happens_leads w line (event.Resend file) p end leads does
+does_leads w line (Declare node) p end leads does = happens_leads w line (event.Declare node) p end leads does
+does_leads w line (Restart node) p end leads does = happens_leads w line (event.Restart node) p end leads does
+does_leads w line (Learn file node incarnation) p end leads does = happens_leads w line (event.Learn file node incarnation) p end leads does
+does_leads w line (FailServer file) p end leads does = happens_leads w line (event.FailServer file) p end leads does
+does_leads w line (StartServer file) p end leads does = happens_leads w line (event.StartServer file) p end leads does
+does_leads w line Settle p end leads does = turns_lead (Delivers line) w (delivers_leads w line) (Some p) does.0 end leads does.1
+
+-- the entries that lines make lead on
+pub lines_lead : (w : WorldState) (from : Progress) (ls : List LineFields) (q : Progress) → LeadsFrom w from → RunsTo from ls (Some q) → LeadsFrom w q
+lines_lead w from ls q leads runs = turns_lead (λ (l : LineFields). Does l.number l.command) w (λ l. does_leads w l.number l.command) (Some from) ls (Some q) leads runs
+
+-- what comes in turn after others
+pub turns_append : {A : Type 0} (Is : A → Progress → End → Type 0) (from mid end : End) (xs ys : List A) → InTurn Is from xs mid → InTurn Is mid ys end → InTurn Is from (xs ++ ys) end
+turns_append Is None mid end xs ys is more = let P : End → Type 0 = λ x. InTurn Is x ys end in subst P is more
+turns_append Is (Some p) mid end [] ys is more = let P : End → Type 0 = λ x. InTurn Is x ys end in subst P is more
+turns_append Is (Some p) mid end (x ∷ xs) ys turns more = (turns.0, turns.1, turns_append Is turns.0 mid end xs ys turns.2 more)
+
+-- where nothing more comes, the end stays
+turns_none : {A : Type 0} (Is : A → Progress → End → Type 0) (end : End) → InTurn Is end [] end
+turns_none Is None = refl
+turns_none Is (Some p) = refl
+
+-- one more, at which it may end
+pub turns_push : {A : Type 0} (Is : A → Progress → End → Type 0) (from : End) (mid : Progress) (end : End) (xs : List A) (x : A) → InTurn Is from xs (Some mid) → Is x mid end → InTurn Is from (xs ++ x ∷ []) end
+turns_push Is from mid end xs x turns is = turns_append Is from (Some mid) end xs (x ∷ []) turns (end, is, turns_none Is end)
+
+-- one more message of a line is settled
+pub settles_push : (line : ℕ) (p q s : Progress) (end : End) (ms : List Message) (m : Message) → InTurn (Delivers line) (Some p) ms (Some q) → s ≡ q → Delivers line m s end → InTurn (Delivers line) (Some p) (ms ++ m ∷ []) end
+settles_push line p q s end ms m turns same delivers =
+    let P : Progress → Type 0 = λ x. Delivers line m x end in
+    turns_push (Delivers line) (Some p) q end ms m turns (subst P same delivers)
+
+-- one more of these lines is run
+pub runs_more : (p q r : Progress) (ls : List LineFields) (i : ℕ) (l : LineFields) → i < length ls → l ≡ get_or ls i l → RunsTo p (take i ls) (Some q) → Does l.number l.command q (Some r) → RunsTo p (take (i + 1) ls) (Some r)
+runs_more p q r ls i l lt is runs does =
+    let P : List LineFields → Type 0 = λ ks. RunsTo p ks (Some r) in
+    subst P (ap (λ (k : LineFields). take i ls ++ k ∷ []) is ∙ sym (take_more ls i l lt)) (turns_push (λ (k : LineFields). Does k.number k.command) (Some p) q (Some r) (take i ls) l runs does)
+
+-- a line finds the journal full
+pub fills : (from : Progress) (ls : List LineFields) (i : ℕ) (l : LineFields) (p : Progress) → i < length ls → l ≡ get_or ls i l → RunsTo from (take i ls) (Some p) → Does l.number l.command p None → RunsTo from ls None
+fills from ls i l p lt is runs full =
+    let P : List LineFields → Type 0 = λ ks. RunsTo from ks None in
+    let in_order : take i ls ++ l ∷ drop (i + 1) ls ≡ ls =
+    ap (λ (k : LineFields). take i ls ++ k ∷ drop (i + 1) ls) is
+    ∙ (ap (λ (ks : List LineFields). take i ls ++ ks) (sym (drop_more ls i l lt))
+    ∙ take-append-drop i ls) in
+    subst P in_order (turns_append (λ (k : LineFields). Does k.number k.command) (Some from) (Some p) None (take i ls) (l ∷ drop (i + 1) ls) runs (None, full, refl))

@@ -1,0 +1,24 @@
+-- A run of a script as plain data, and what it stands for.
+use Rattle.std.specs.Prelude.{List}
+use Rattle.cluster_core.specs.Journals.{JournalFields, RunFields}
+use Rattle.cluster_core.specs.Parts.{WorldParts, world_state}
+use Rattle.lockscript.specs.declared.refused_line.RefusedLine.{RefusedLine}
+use Rattle.player.specs.Progress.{Progress}
+use Rattle.player.specs.Played.{PlayedState}
+use Rattle.player.specs.Settled.{SettledParts, settled_in}
+
+pub record PlayerParts : Type 0 where
+  pub run : RunFields
+  pub settled : SettledParts
+  pub refused : List RefusedLine
+
+abbrev pub progress : PlayerParts → Progress
+progress p = record { entries = p.run.entries; world = world_state p.run.world; settled = settled_in p.settled; refused = p.refused }
+
+pub record PlayedParts : Type 0 where
+  pub journal : JournalFields
+  pub world : WorldParts
+  pub refused : List RefusedLine
+
+abbrev pub state_of : PlayedParts → PlayedState
+state_of p = record { journal = p.journal; world = world_state p.world; refused = p.refused }

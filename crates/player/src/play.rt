@@ -1,0 +1,110 @@
+//! Running scripts.
+ghost use Rattle.std.specs.Prelude.{◌≡◌, None, IfErr, IfOk};
+ghost use Rattle.cluster_core.specs.Histories.{HasOneHistory};
+ghost use Rattle.cluster_core.specs.Parts.{world_state};
+ghost use Rattle.cluster_core.specs.Runs.{Leads};
+ghost use Rattle.cluster_core.specs.Safe.{IsSafe};
+ghost use Rattle.cluster_core.specs.World.{first_world};
+ghost use Rattle.messages.specs.declared.version.Version.TheVariants.{Second};
+ghost use Rattle.player.specs.declared.play.PlayError.TheVariants.{NoMemory, JournalFull};
+ghost use Rattle.player.specs.Parts.{progress, state_of};
+ghost use Rattle.player.specs.Played.{ComesFrom, ComesTo, FillsBehind, FillsJournal, GoesOnTo};
+ghost use Rattle.player.specs.Progress.{RunsTo};
+
+use crate::played::Played;
+use crate::player::Player;
+use cluster_core::journal::Journal;
+use lockscript::script::Script;
+use lockscript::script_line::ScriptLine;
+use messages::shape::Shape;
+use std::alloc::{AllocError, AllocFailed, Global};
+use thiserror::Error;
+
+/// Why a script was not run to its end.
+#[derive(Clone, Copy, Debug, PartialEq, Eq, Error)]
+pub enum PlayError {
+    /// A request for memory was refused.
+    #[error("no memory")]
+    NoMemory,
+    /// The run needs more entries than a journal may have.
+    #[error("journal full")]
+    JournalFull,
+}
+
+impl From<AllocError> for PlayError {
+    ghost from_gives = { λ error made. made ≡ NoMemory };
+
+    fn from(_error: AllocError) -> PlayError {
+        PlayError::NoMemory
+    }
+}
+
+impl<T: Drop> From<AllocFailed<T>> for PlayError {
+    ghost from_gives = { λ error made. made ≡ NoMemory };
+
+    fn from(_error: AllocFailed<T>) -> PlayError {
+        PlayError::NoMemory
+    }
+}
+
+/// Runs the lines of a script in order. A line whose event is refused, but for want of memory or of
+/// room in the journal, is listed and the run goes on.
+///
+/// # Errors
+/// `JournalFull` where the run needs more entries than a journal may have; `NoMemory` where a
+/// request for memory was refused.
+pub fn play(alloc: Global, script: &Script) -> Result<Played, PlayError>
+    // It is what the lines come to, one after the other.
+    ensures played { IfOk result (λ played. ComesTo script.now.shape script.now.lines (state_of played)) }
+
+    // One table explains every reply, and ends as what the nodes hold.
+    ensures history { IfOk result (λ played. HasOneHistory script.now.shape played.journal.entries) }
+
+    // Tokens of two nodes don't conflict at the end, and locks are covered by tokens.
+    ensures safe { IfOk result (λ played. IsSafe (world_state played.world)) }
+
+    // Else some line needs an entry for which there is no room.
+    ensures full { IfErr result (λ error. error ≡ JournalFull → FillsJournal script.now.shape script.now.lines) }
+{
+    let shape = script.shape();
+    let player = Player::new(alloc, shape)?;
+    play_lines(alloc, shape, player, script.lines())
+}
+
+/// Runs the lines of a script as `play` does, behind the run of a journal of the same shape, which is of
+/// version 2: messages are counted on, those of the journal are settled, and the whole run comes of it.
+///
+/// # Errors
+/// As at `play`.
+pub fn play_after(alloc: Global, script: &Script, journal: Journal) -> Result<Played, PlayError>
+    requires same_shape { script.now.shape ≡ journal.shape }
+    requires new { journal.shape.version ≡ Second }
+
+    // It is what the lines come to behind the run of the journal, one after the other.
+    ensures played { IfOk result (λ played. GoesOnTo journal script.now.lines (state_of played)) }
+    ensures history { IfOk result (λ played. HasOneHistory journal.shape played.journal.entries) }
+    ensures safe { IfOk result (λ played. IsSafe (world_state played.world)) }
+    ensures full { IfErr result (λ error. error ≡ JournalFull → FillsBehind journal script.now.lines) }
+{
+    let player = Player::after(alloc, journal)?;
+    play_lines(alloc, script.shape(), player, script.lines())
+}
+
+// Runs the lines in order from where the player stands, in a cluster of this shape.
+fn play_lines(
+    alloc: Global,
+    shape: Shape,
+    mut player: Player,
+    lines: &[ScriptLine],
+) -> Result<Played, PlayError>
+    requires { Leads (first_world shape) (progress player).entries (progress player).world }
+    ensures played { IfOk result (λ played. ComesFrom shape (progress player) lines.now (state_of played)) }
+    ensures history { IfOk result (λ played. HasOneHistory shape played.journal.entries) }
+    ensures safe { IfOk result (λ played. IsSafe (world_state played.world)) }
+    ensures full { IfErr result (λ error. error ≡ JournalFull → RunsTo (progress player) lines.now None) }
+{
+    for line in lines {
+        player.take(alloc, line)?;
+    }
+    Ok(player.finish(shape))
+}

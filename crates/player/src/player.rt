@@ -1,0 +1,287 @@
+//! The run of a script, line by line.
+ghost use Rattle.std.specs.Prelude.{◌≡◌, ◌+◌, ◌<◌, ◌≤◌, Err, Some, None, IfErr, IfOk, IfSome, MatchOption, OnOk};
+ghost use Rattle.cluster_core.specs.Histories.{HasOneHistory};
+ghost use Rattle.cluster_core.specs.Parts.{world_state};
+ghost use Rattle.cluster_core.specs.Runs.{Leads};
+ghost use Rattle.cluster_core.specs.Safe.{IsSafe};
+ghost use Rattle.cluster_core.specs.World.{first_world};
+ghost use Rattle.player.specs.declared.play.PlayError.TheVariants.{NoMemory, JournalFull};
+ghost use Rattle.player.specs.Parts.{progress, state_of};
+ghost use Rattle.player.specs.Played.{played_of};
+ghost use Rattle.player.specs.Progress.{delivery, first_progress, progress_after, Comes, Delivers, Does, Ends, Happens, IsNextMessage, IsSettled, Settles};
+
+use crate::play::PlayError;
+use crate::played::Played;
+use crate::settled::Settled;
+use cluster_core::journal::Journal;
+use cluster_core::run::Run;
+use cluster_core::world::JOURNAL_LIMIT;
+use lockscript::refused_line::RefusedLine;
+use lockscript::script_line::{Command, ScriptLine};
+use messages::event::Event;
+use messages::message::Message;
+use messages::refusal::Refused;
+use messages::shape::Shape;
+use std::alloc::Global;
+use std::marker::Model;
+
+/// What came of the lines so far: the world, the entries that led to it, the messages that are
+/// settled, and the lines that were refused.
+#[derive(Drop)]
+pub struct Player {
+    run: Run,
+    settled: Settled,
+    refused: Vec<RefusedLine>,
+}
+
+impl Model for Player {
+    ghost use Rattle.player.specs.Parts.{PlayerParts};
+
+    ghost Value = { PlayerParts };
+
+    ghost view = { λ p. record { run = p.run; settled = p.settled; refused = p.refused.items } };
+}
+
+impl Player {
+    /// A cluster of this shape that begins, before any line.
+    ///
+    /// # Errors
+    /// `NoMemory` where a request for memory was refused.
+    pub fn new(alloc: Global, shape: Shape) -> Result<Player, PlayError>
+        ensures first { IfOk result (λ player. progress player ≡ first_progress shape) }
+        ensures err { IfErr result (λ error. error ≡ NoMemory) }
+    {
+        Ok(Player {
+            run: Run::new(alloc, shape)?,
+            settled: Settled::new(alloc),
+            refused: Vec::new(alloc),
+        })
+    }
+
+    /// The run of a journal, before any line: its messages are all settled.
+    ///
+    /// # Errors
+    /// `NoMemory` where a request for memory was refused.
+    pub fn after(alloc: Global, journal: Journal) -> Result<Player, PlayError>
+        ensures leads { IfOk result (λ player. Leads (first_world journal.shape) journal.entries (world_state player.run.world)) }
+        ensures begins { IfOk result (λ player. progress player ≡ progress_after journal.entries (world_state player.run.world)) }
+        ensures err { IfErr result (λ error. error ≡ NoMemory) }
+    {
+        let run = Run::after(alloc, journal)?;
+        let sent = run.world().sent().len();
+        Ok(Player {
+            run,
+            settled: Settled::first(alloc, sent),
+            refused: Vec::new(alloc),
+        })
+    }
+
+    /// The run so far: its entries, and the world to which they led.
+    pub fn run(&self) -> &Run
+        ensures { result.now ≡ self.now.run }
+    {
+        &self.run
+    }
+
+    /// Does what the line asks for. A line whose event is refused, but for want of memory or of room in
+    /// the journal, is listed.
+    ///
+    /// # Errors
+    /// `JournalFull` where the line needs more entries than a journal may have; `NoMemory` where a request
+    /// for memory was refused.
+    pub fn take(&mut self, alloc: Global, line: &ScriptLine) -> Result<(), PlayError>
+        ensures ok { OnOk result (Does line.now.number line.now.command (progress self.old) (Some (progress self.new))) }
+        ensures full { IfErr result (λ error. error ≡ JournalFull → Does line.now.number line.now.command (progress self.old) None) }
+    {
+        self.carry_out(alloc, line.number(), line.command())
+    }
+
+    /// Does what a line of this number asks for that has this command, as `take` does.
+    ///
+    /// # Errors
+    /// As at `take`.
+    pub fn carry_out(
+        &mut self,
+        alloc: Global,
+        number: u32,
+        command: Command,
+    ) -> Result<(), PlayError>
+        ensures ok { OnOk result (Does number command (progress self.old) (Some (progress self.new))) }
+        ensures full { IfErr result (λ error. error ≡ JournalFull → Does number command (progress self.old) None) }
+    {
+        match command {
+            Command::Call { node, pid, op } => {
+                self.step(alloc, number, Event::Call { node, pid, op })
+            }
+            Command::Deliver { message } => self.deliver(alloc, number, message),
+            Command::Lose { message } => self.lose(number, message),
+            Command::Settle => self.settle(alloc, number),
+            Command::Interrupt { node, pid } => {
+                self.step(alloc, number, Event::Interrupt { node, pid })
+            }
+            Command::Retry { node, pid } => { self.step(alloc, number, Event::Retry { node, pid }) }
+            Command::Resend { file } => self.step(alloc, number, Event::Resend { file }),
+            Command::Declare { node } => { self.step(alloc, number, Event::Declare { node }) }
+            Command::Restart { node } => { self.step(alloc, number, Event::Restart { node }) }
+            Command::Learn {
+                file,
+                node,
+                incarnation,
+            } => {
+                let event = Event::Learn {
+                    file,
+                    node,
+                    incarnation,
+                };
+                self.step(alloc, number, event)
+            }
+            Command::FailServer { file } => { self.step(alloc, number, Event::FailServer { file }) }
+            Command::StartServer { file } => {
+                self.step(alloc, number, Event::StartServer { file })
+            }
+        }
+    }
+
+    // One event of a line. One that is refused leaves the world as it was, and its line is listed.
+    fn step(&mut self, alloc: Global, line: u32, event: Event) -> Result<(), PlayError>
+        ensures ok { OnOk result (Happens line event (progress self.old) (Some (progress self.new))) }
+        ensures full { IfErr result (λ error. error ≡ JournalFull → Happens line event (progress self.old) None) }
+        ensures rests { OnOk result (self.new.settled ≡ self.old.settled) }
+    {
+        match self.run.take(alloc, event) {
+            Ok(()) => Ok(()),
+            Err(refusal) => self.refuse(line, refusal),
+        }
+    }
+
+    // Lists a line with its refusal, unless the refusal ends the run.
+    fn refuse(&mut self, line: u32, refusal: Refused) -> Result<(), PlayError>
+        ensures ok { OnOk result (Ends line (progress self.old) (Err refusal) (Some (progress self.new))) }
+        ensures full { IfErr result (λ error. error ≡ JournalFull → refusal ≡ Refused.JournalFull) }
+        ensures rests { OnOk result (self.new.settled ≡ self.old.settled) }
+    {
+        match refusal {
+            Refused::NoMemory => return Err(PlayError::NoMemory),
+            Refused::JournalFull => return Err(PlayError::JournalFull),
+            listed => self.refused.push(RefusedLine {
+                line,
+                code: listed.number(),
+            })?,
+        }
+        Ok(())
+    }
+
+    // Why a message that was not sent can't be delivered.
+    fn unsent(&self) -> Refused
+        ensures { delivery (progress self.now) None ≡ Err result }
+    {
+        if self.run.entries().len() >= JOURNAL_LIMIT as usize {
+            Refused::JournalFull
+        } else {
+            Refused::Stranger
+        }
+    }
+
+    // Delivers the message of this number, which settles it unless its delivery is refused.
+    fn deliver(&mut self, alloc: Global, line: u32, number: u32) -> Result<(), PlayError>
+        ensures ok { OnOk result (Does line (Command.Deliver number) (progress self.old) (Some (progress self.new))) }
+        ensures full { IfErr result (λ error. error ≡ JournalFull → Does line (Command.Deliver number) (progress self.old) None) }
+    {
+        let index = (number as usize).saturating_sub(1);
+        match self.run.world().sent().get(index) {
+            Some(message) => {
+                let message = message.copy(alloc)?;
+                self.deliver_sent(alloc, line, index, message)
+            }
+            None => self.refuse(line, self.unsent()),
+        }
+    }
+
+    // Delivers the message of this index.
+    fn deliver_sent(
+        &mut self,
+        alloc: Global,
+        line: u32,
+        index: usize,
+        message: Message,
+    ) -> Result<(), PlayError>
+        ensures ok { OnOk result (Comes line index (progress self.old) (delivery (progress self.old) (Some message)) (Some (progress self.new))) }
+        ensures full { IfErr result (λ error. error ≡ JournalFull → Comes line index (progress self.old) (delivery (progress self.old) (Some message)) None) }
+    {
+        match self.run.take(alloc, Event::Deliver(message)) {
+            Ok(()) => self.settled.settle(index)?,
+            Err(refusal) => self.refuse(line, refusal)?,
+        }
+        Ok(())
+    }
+
+    // Loses the message of this number: it is settled, and nothing happens.
+    fn lose(&mut self, line: u32, number: u32) -> Result<(), PlayError>
+        ensures ok { OnOk result (Does line (Command.Lose number) (progress self.old) (Some (progress self.new))) }
+        ensures err { IfErr result (λ error. error ≡ NoMemory) }
+    {
+        let index = (number as usize).saturating_sub(1);
+        if index < self.run.world().sent().len() {
+            self.settled.settle(index)?;
+        } else {
+            self.refuse(line, Refused::Stranger)?;
+        }
+        Ok(())
+    }
+
+    // The earliest message that is not settled, at which the cursor stands from now on.
+    fn next_message(&mut self, alloc: Global) -> Result<Option<Message>, PlayError>
+        ensures same { OnOk result (progress self.new ≡ progress self.old) }
+        ensures message { IfOk result (λ next. MatchOption next (IsSettled (progress self.new)) (λ message. IsNextMessage (progress self.new) self.new.settled.cursor message)) }
+        ensures room { IfOk result (λ next. IfSome next (λ _. self.new.settled.cursor < usize.MAX)) }
+        ensures rises { OnOk result (self.old.settled.cursor ≤ self.new.settled.cursor) }
+        ensures err { IfErr result (λ error. error ≡ NoMemory) }
+    {
+        self.settled.advance();
+        match self.run.world().sent().get(self.settled.cursor()) {
+            Some(message) => Ok(Some(message.copy(alloc)?)),
+            None => Ok(None),
+        }
+    }
+
+    // Delivers the message at the cursor, or passes over it where its delivery is refused: silently
+    // where its node or its server was declared failed.
+    fn deliver_next(&mut self, alloc: Global, line: u32, message: Message) -> Result<(), PlayError>
+        requires next_one { IsNextMessage (progress self.old) self.old.settled.cursor message }
+        requires room { self.old.settled.cursor < usize.MAX }
+        ensures ok { OnOk result (Delivers line message (progress self.old) (Some (progress self.new))) }
+        ensures full { IfErr result (λ error. error ≡ JournalFull → Delivers line message (progress self.old) None) }
+        ensures rises { OnOk result (self.new.settled.cursor ≡ self.old.settled.cursor + 1) }
+    {
+        self.settled.pass();
+        match self.run.take(alloc, Event::Deliver(message)) {
+            Ok(()) => {}
+            Err(Refused::Fenced) => {}
+            Err(refusal) => self.refuse(line, refusal)?,
+        }
+        Ok(())
+    }
+
+    // Delivers messages in the order in which they were sent, also those that are sent meanwhile,
+    // until none is left.
+    fn settle(&mut self, alloc: Global, line: u32) -> Result<(), PlayError>
+        ensures ok { OnOk result (Settles line (progress self.old) (Some (progress self.new))) }
+        ensures full { IfErr result (λ error. error ≡ JournalFull → Settles line (progress self.old) None) }
+    {
+        while let Some(message) = self.next_message(alloc)? {
+            self.deliver_next(alloc, line, message)?;
+        }
+        Ok(())
+    }
+
+    /// What came of all lines, on a cluster of this shape.
+    pub fn finish(self, shape: Shape) -> Played
+        requires { Leads (first_world shape) self.run.entries (progress self).world }
+        ensures value { state_of result ≡ played_of shape (progress self) }
+        ensures history { HasOneHistory shape result.journal.entries }
+        ensures safe { IsSafe (world_state result.world) }
+    {
+        let (journal, world) = self.run.into_journal();
+        Played::new(journal, world, self.refused)
+    }
+}

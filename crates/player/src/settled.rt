@@ -1,0 +1,102 @@
+//! Which messages are settled.
+ghost use Rattle.std.specs.Prelude.{◌≡◌, ◌≤◌, ◌<◌, ◌+◌, false, nat_lt, true, length, slice_index_or, slice_set, OnOk};
+ghost use Rattle.player.specs.Progress.{with_settled, IsLeastUnsettled};
+ghost use Rattle.player.specs.Settled.{settled_in};
+
+use std::alloc::{AllocError, Global};
+use std::marker::Model;
+
+/// The messages that are settled, each by its index in the order of sending: all before the cursor,
+/// and those with a mark.
+#[derive(Drop)]
+pub(crate) struct Settled {
+    cursor: usize,
+    marks: Vec<bool>,
+}
+
+impl Model for Settled {
+    ghost use Rattle.player.specs.Settled.{SettledParts};
+
+    ghost Value = { SettledParts };
+
+    ghost view = { λ s. record { cursor = s.cursor; marks = s.marks.items } };
+}
+
+impl Settled {
+    /// No message is settled.
+    pub(crate) fn new(alloc: Global) -> Settled
+        ensures { settled_in result ≡ (λ index. false) }
+    {
+        Settled {
+            cursor: 0,
+            marks: Vec::new(alloc),
+        }
+    }
+
+    /// So many messages are settled, the first that were sent.
+    pub(crate) fn first(alloc: Global, count: usize) -> Settled
+        ensures { settled_in result ≡ (λ index. nat_lt index count) }
+    {
+        Settled {
+            cursor: count,
+            marks: Vec::new(alloc),
+        }
+    }
+
+    // Whether the message at the cursor has a mark.
+    fn is_marked(&self) -> bool
+        ensures value { result ≡ slice_index_or self.now.marks self.now.cursor false }
+        ensures room { result ≡ true → self.now.cursor < usize.MAX }
+    {
+        match self.marks.get(self.cursor) {
+            Some(mark) => *mark,
+            None => false,
+        }
+    }
+
+    /// Moves the cursor to the least message that is not settled.
+    pub(crate) fn advance(&mut self)
+        ensures same { settled_in self.new ≡ settled_in self.old }
+        ensures least { IsLeastUnsettled (settled_in self.new) self.new.cursor }
+        ensures rises { self.old.cursor ≤ self.new.cursor }
+    {
+        while self.is_marked() {
+            self.cursor += 1;
+        }
+    }
+
+    /// The index of the message at the cursor.
+    pub(crate) fn cursor(&self) -> usize
+        ensures { result ≡ self.now.cursor }
+    {
+        self.cursor
+    }
+
+    /// The message at the cursor is settled from now on.
+    pub(crate) fn pass(&mut self)
+        requires { self.old.cursor < usize.MAX }
+        ensures value { settled_in self.new ≡ with_settled (settled_in self.old) self.old.cursor }
+        ensures rises { self.new.cursor ≡ self.old.cursor + 1 }
+    {
+        self.cursor += 1;
+    }
+
+    /// The message of this index is settled from now on.
+    pub(crate) fn settle(&mut self, index: usize) -> Result<(), AllocError>
+        ensures { OnOk result (settled_in self.new ≡ with_settled (settled_in self.old) index) }
+    {
+        while self.marks.len() <= index {
+            self.marks.push(false)?;
+        }
+        mark(&mut self.marks, index);
+        Ok(())
+    }
+}
+
+// Sets the mark of an index.
+fn mark(marks: &mut Vec<bool>, index: usize)
+    requires { index < length marks.old.items }
+    ensures { marks.new.items ≡ slice_set marks.old.items index true }
+{
+    marks[index] = true;
+}

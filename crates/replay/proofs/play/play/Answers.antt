@@ -1,8 +1,0 @@
-use Rattle.std.proofs.Common.{refl, sym, subst}
-use Rattle.cluster_core.specs.Runs.{Leads}
-use Rattle.cluster_core.specs.World.{first_world}
-use Rattle.replay.specs.Progress.{Progress}
-use Rattle.replay.proofs.play.play.Goals as goal
-
-pub play_lines-requires : goal.play_lines-requires
-play_lines-requires c = subst (λ (p : Progress). Leads (first_world c.shape-shape.result) p.entries p.world) (sym c.in_ok-player.ensures.first) refl

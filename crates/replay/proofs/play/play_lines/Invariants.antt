@@ -1,7 +1,0 @@
-use Rattle.std.proofs.Common.{Some, take}
-use Rattle.replay.specs.Parts.{progress}
-use Rattle.replay.specs.Progress.{RunsTo}
-use Rattle.replay.proofs.play.play_lines.Given as goal
-
-abbrev pub invariant-loop-line : goal.invariant-loop-line
-invariant-loop-line l = RunsTo (progress l.fn.player) (take l.line-index l.lines) (Some (progress l.player))

@@ -1,8 +1,0 @@
-use Rattle.std.proofs.Common.{ap, ◌+◌}
-use Rattle.replay.specs.Settled.{SettledParts}
-use Rattle.replay.proofs.Marks.{settled-pass}
-use Rattle.replay.proofs.settled.Settled.pass.Goals as goal
-
-pub returns-clause-value : goal.returns-clause-value
-returns-clause-value c =
-    settled-pass c.args.self.now _ (ap (λ (s : SettledParts). s.cursor + 1) c.self.view_is) (ap (λ (s : SettledParts). s.marks) c.self.view_is)
