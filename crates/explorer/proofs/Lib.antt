@@ -1,0 +1,4 @@
+mod Orders
+mod Reading
+mod Seeds
+mod Words

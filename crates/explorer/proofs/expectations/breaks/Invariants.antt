@@ -1,0 +1,9 @@
+use Rattle.std.proofs.Common.{◌≡◌, drop}
+use Rattle.explorer.specs.Expectations.{breaks, breaks_from}
+use Rattle.explorer.proofs.expectations.breaks.Given as goal
+
+abbrev pub invariant-loop-line : goal.invariant-loop-line
+invariant-loop-line l = record {
+  counted : l.index ≡ l.line-index;
+  same : breaks_from l.text l.answers l.index (drop l.line-index l.lines) ≡ breaks l.text l.lines l.answers;
+}

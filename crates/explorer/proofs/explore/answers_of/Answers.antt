@@ -1,0 +1,11 @@
+use Rattle.player.specs.Parts.{state_of}
+use Rattle.explorer.proofs.explore.answers_of.Goals as goal
+
+pub returns : goal.returns
+returns c = record {
+  commands = c.in_ok-scheduled.scheduled.commands;
+  played = state_of c.in_ok-scheduled.scheduled.played;
+  of_script = c.in_ok-scheduled.ensures.of_script;
+  comes = c.in_ok-scheduled.ensures.played;
+  answered = c.in_ok-answers.ensures;
+}

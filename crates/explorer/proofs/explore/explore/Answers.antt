@@ -1,0 +1,14 @@
+use Rattle.std.proofs.Common.{◌∙◌, length}
+use Rattle.std.proofs.lemmas.List.Sorted.{All-permutation, sum_by-IsPermutation}
+use Rattle.explorer.specs.Outcomes.{IsOutcomeOf}
+use Rattle.explorer.proofs.explore.explore.Goals as goal
+
+pub returns : goal.returns
+returns c = record {
+  outcomes = c.in_ok-ordered.ordered.items;
+  come = All-permutation (IsOutcomeOf c.args.failures c.args.script.now c.args.text.now) _ _ c.in_ok-ordered.ensures.same c.in_ok-outcomes.ensures.come;
+  counted = sum_by-IsPermutation (λ o. length o.seeds) _ _ c.in_ok-ordered.ensures.same ∙ c.in_ok-outcomes.ensures.counted;
+  ordered = c.in_ok-ordered.ensures.ordered;
+  told = rw (← c.as_slice-outcomes.ensures.value, ← c.lines.ensures) c.in_ok-report.ensures;
+  judged = rw (← c.as_slice-outcomes.ensures.value) c.some_breaks.ensures;
+}

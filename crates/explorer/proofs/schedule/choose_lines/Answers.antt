@@ -1,0 +1,21 @@
+use Rattle.std.proofs.Common.{refl, arith}
+use Rattle.explorer.proofs.Orders.{carried-on, schedule-none, schedule-on}
+use Rattle.explorer.proofs.schedule.choose_lines.Goals as goal
+
+pub loop-number-init : goal.loop-number-init
+loop-number-init c = record {
+  runs = rw c.new-commands.ensures.items refl;
+  scheduled = rw c.new-commands.ensures.items (schedule-none c.args.failures c.args.lines.now);
+  within = rw c.new-commands.ensures.items (omega arith);
+  counted = rw c.new-commands.ensures.items (omega arith);
+}
+
+pub loop-number-preserved : goal.loop-number-preserved
+loop-number-preserved c =
+    let follows = rw (c.in-Some.is, c.as_slice-taken.ensures.value) at c.in_ok-next.ensures in
+    record {
+      runs = rw c.in_ok-add-in-Some.ensures.items (carried-on _ _ _ _ _ _ c.loop-number.invariant.counted c.loop-number.invariant.runs c.in_ok-carry_out-in-Some.ensures.ok);
+      scheduled = rw c.in_ok-add-in-Some.ensures.items (schedule-on _ _ _ _ follows c.loop-number.invariant.scheduled);
+      within = omega (arith, c.loop-number.invariant.counted, c.loop-number-test.true, c.line_limit-number-end.ensures, c.in_ok-add-in-Some.ensures.len);
+      counted = omega (arith, c.loop-number.invariant.counted, c.in_ok-add-in-Some.ensures.len);
+    }

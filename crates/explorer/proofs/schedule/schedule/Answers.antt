@@ -1,0 +1,17 @@
+use Rattle.std.proofs.Common.{refl, sym, subst}
+use Rattle.cluster_core.specs.Runs.{Leads}
+use Rattle.cluster_core.specs.World.{first_world}
+use Rattle.player.specs.Parts.{progress}
+use Rattle.player.specs.Progress.{Progress}
+use Rattle.player.proofs.Progresses.{lines_lead}
+use Rattle.explorer.proofs.schedule.schedule.Goals as goal
+
+pub finished-requires : goal.finished-requires
+finished-requires c =
+    let first = subst (λ (p : Progress). Leads (first_world c.shape-shape.result) p.entries p.world) (sym c.in_ok-player.ensures.first) refl in
+    lines_lead (first_world c.shape-shape.result) (progress c.in_ok-player.player) _ _ first c.in_ok-made.ensures.runs
+
+pub returns-clause-played : goal.returns-clause-played
+returns-clause-played c =
+    let runs = rw c.in_ok-player.ensures.first at c.in_ok-made.ensures.runs in
+    rw (c.finished.ensures.commands, ← c.shape-shape.ensures) (progress c.in_ok-made.made.1, runs, c.finished.ensures.played)

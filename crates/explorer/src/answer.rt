@@ -1,0 +1,33 @@
+//! What calls come to.
+ghost use Rattle.std.specs.Prelude.{◌≡◌, ◌++◌, ◌↔◌, string_bytes, IsTrue, OnOk};
+ghost use Rattle.explorer.specs.Answers.{answer_text};
+
+use lockscript::names::push_reply;
+use model::reply::Reply;
+use std::alloc::AllocError;
+use std::fmt::Write;
+
+/// What a call of a script comes to in a schedule of it.
+#[derive(Clone, Copy, Debug, PartialEq, Eq)]
+pub enum Answer {
+    /// It was not made.
+    NotMade,
+    /// Its line was refused, with the number of the refusal.
+    Refused(u16),
+    /// It was made, and no entry replies to it.
+    Open,
+    /// Its reply.
+    Replied(Reply),
+}
+
+/// Writes `not made`, `refused N`, `open`, or the reply.
+pub(crate) fn push_answer(out: &mut String, answer: &Answer) -> Result<(), AllocError>
+    ensures { OnOk result (string_bytes out.new ≡ string_bytes out.old ++ answer_text answer.now) }
+{
+    match answer {
+        Answer::NotMade => out.push_str("not made"),
+        Answer::Refused(code) => write!(out, "refused {code}"),
+        Answer::Open => out.push_str("open"),
+        Answer::Replied(reply) => push_reply(out, reply),
+    }
+}

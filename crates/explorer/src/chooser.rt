@@ -1,0 +1,348 @@
+//! What comes next in a schedule.
+use crate::chance::Chance;
+use crate::part::Part;
+use cluster_core::run::Run;
+use lockscript::script_line::{Command, ScriptLine};
+use messages::entry::Entry;
+use messages::event::Event;
+use model::op::Op;
+use std::alloc::{AllocError, Global};
+use std::collections::VecDeque;
+
+/// Of so many messages one is lost.
+const LOST: usize = 8;
+
+/// Of so many deliveries one is done again later.
+const REPEATED: usize = 16;
+
+/// Of so many choices one is a failure, until there was one.
+const FAILED: usize = 32;
+
+/// How often, one after the other, what has no answer is asked for again.
+const ROUNDS: u32 = 4;
+
+/// A message that may come.
+#[derive(Clone, Copy)]
+struct Letter {
+    number: u32,
+    is_repeat: bool,
+}
+
+/// What comes next in a schedule of a script, by chance: which lines of the script are still to come, what each
+/// process is to do, which messages are under way, what else is to happen at some time, and what comes at once.
+#[derive(Drop)]
+pub(crate) struct Chooser<'a> {
+    alloc: Global,
+    lines: &'a [ScriptLine],
+    chance: Chance,
+    // How many lines have had their turn, and whether all have.
+    taken: usize,
+    is_over: bool,
+    parts: Vec<Part>,
+    files: Vec<u16>,
+    letters: Vec<Letter>,
+    due: Vec<Command>,
+    queue: VecDeque<Command>,
+    // How many entries were seen, and how many messages were sent then.
+    seen: usize,
+    sent: usize,
+    // Whether the last line settles all messages.
+    is_settling: bool,
+    // How many rounds of asking again there were since the last reply.
+    rounds: u32,
+    may_fail_node: bool,
+    may_fail_server: bool,
+}
+
+impl<'a> Chooser<'a> {
+    /// Before the first line.
+    ///
+    /// # Errors
+    /// `AllocError` where a request for memory was refused.
+    pub(crate) fn new(
+        alloc: Global,
+        lines: &'a [ScriptLine],
+        seed: u32,
+        failures: bool,
+    ) -> Result<Chooser<'a>, AllocError> {
+        let mut chooser = Chooser {
+            alloc,
+            lines,
+            chance: Chance::new(seed),
+            taken: 0,
+            is_over: false,
+            parts: Vec::new(alloc),
+            files: Vec::new(alloc),
+            letters: Vec::new(alloc),
+            due: Vec::new(alloc),
+            queue: VecDeque::new(alloc),
+            seen: 0,
+            sent: 0,
+            is_settling: false,
+            rounds: 0,
+            may_fail_node: failures,
+            may_fail_server: failures,
+        };
+        chooser.begin_phase()?;
+        Ok(chooser)
+    }
+
+    /// What comes next behind this run. None where the schedule is over.
+    ///
+    /// # Errors
+    /// `AllocError` where a request for memory was refused.
+    pub(crate) fn next(&mut self, run: &Run) -> Result<Option<Command>, AllocError> {
+        self.see(run)?;
+        if self.queue.is_empty() {
+            self.fill()?;
+        }
+        let next = self.queue.pop_front();
+        self.is_settling = matches!(next, Some(Command::Settle));
+        Ok(next)
+    }
+
+    // Takes note of what is new in a run.
+    fn see(&mut self, run: &Run) -> Result<(), AllocError> {
+        for entry in run.entries().iter().skip(self.seen) {
+            self.see_entry(entry)?;
+        }
+        self.seen = run.entries().len();
+        let sent = run.world().sent().len();
+        if self.is_settling {
+            self.letters.clear();
+            self.sent = sent;
+        }
+        for index in self.sent..sent {
+            let number = u32::try_from(index).unwrap_or(0).saturating_add(1);
+            self.letters.push(Letter {
+                number,
+                is_repeat: false,
+            })?;
+        }
+        self.sent = sent;
+        Ok(())
+    }
+
+    // Takes note of an entry.
+    fn see_entry(&mut self, entry: &Entry) -> Result<(), AllocError> {
+        for part in self.parts.iter_mut() {
+            if part.see(entry) {
+                self.rounds = 0;
+            }
+        }
+        if let Event::Declare { node } = entry.event() {
+            self.tell(*node, entry.incarnation())?;
+        }
+        Ok(())
+    }
+
+    // The servers of the files are to learn that this incarnation of a node was declared failed.
+    fn tell(&mut self, node: u8, incarnation: u16) -> Result<(), AllocError> {
+        for file in self.files.iter() {
+            self.due.push(Command::Learn {
+                file: *file,
+                node,
+                incarnation,
+            })?;
+        }
+        Ok(())
+    }
+
+    // Puts what comes next into the queue, if anything does.
+    fn fill(&mut self) -> Result<(), AllocError> {
+        let ready = self.parts.iter().filter(|part| part.is_ready()).count();
+        if let Some(command) = self.choose(ready)? {
+            self.queue.push_back(command)?;
+            return Ok(());
+        }
+        if self.rounds < ROUNDS {
+            self.rounds += 1;
+            self.ask_again()?;
+        }
+        if self.queue.is_empty() {
+            self.end_phase()?;
+        }
+        Ok(())
+    }
+
+    // One of all that may come next: a call of a process that is ready, a message, or what is due. None where
+    // there is nothing.
+    fn choose(&mut self, ready: usize) -> Result<Option<Command>, AllocError> {
+        let letters = self.letters.len();
+        let all = ready.saturating_add(letters).saturating_add(self.due.len());
+        if all == 0 {
+            return Ok(None);
+        }
+        if let Some(failure) = self.failure()? {
+            return Ok(Some(failure));
+        }
+        let index = self.chance.below(all);
+        if index < ready {
+            return Ok(self.call(index));
+        }
+        let index = index - ready;
+        if index < letters {
+            return Ok(self.letter(index)?);
+        }
+        Ok(take(&mut self.due, index - letters))
+    }
+
+    // The next call of the process that is ready at this index among those that are.
+    fn call(&mut self, index: usize) -> Option<Command> {
+        let mut left = index;
+        for part in self.parts.iter_mut() {
+            if part.is_ready() {
+                if left == 0 {
+                    return part.next();
+                }
+                left -= 1;
+            }
+        }
+        None
+    }
+
+    // The message at this index is delivered, or lost unless it was asked for again; where it is delivered, it
+    // may come again later.
+    fn letter(&mut self, index: usize) -> Result<Option<Command>, AllocError> {
+        let Some(letter) = take(&mut self.letters, index) else {
+            return Ok(None);
+        };
+        let message = letter.number;
+        if letter.is_repeat {
+            return Ok(Some(Command::Deliver { message }));
+        }
+        if self.rounds == 0 && self.chance.one_in(LOST) {
+            return Ok(Some(Command::Lose { message }));
+        }
+        if self.chance.one_in(REPEATED) {
+            self.letters.push(Letter {
+                number: message,
+                is_repeat: true,
+            })?;
+        }
+        Ok(Some(Command::Deliver { message }))
+    }
+
+    // A failure, if one may come and chance has it: what undoes it is due then.
+    fn failure(&mut self) -> Result<Option<Command>, AllocError> {
+        if self.may_fail_node && self.chance.one_in(FAILED) {
+            self.may_fail_node = false;
+            return self.node_failure();
+        }
+        if self.may_fail_server && self.chance.one_in(FAILED) {
+            self.may_fail_server = false;
+            return self.server_failure();
+        }
+        Ok(None)
+    }
+
+    // The failure of a node that has a process.
+    fn node_failure(&mut self) -> Result<Option<Command>, AllocError> {
+        let index = self.chance.below(self.parts.len());
+        let Some(part) = self.parts.get(index) else {
+            return Ok(None);
+        };
+        let node = part.node();
+        self.due.push(Command::Restart { node })?;
+        Ok(Some(Command::Declare { node }))
+    }
+
+    // The failure of the server of a file that a process opens.
+    fn server_failure(&mut self) -> Result<Option<Command>, AllocError> {
+        let index = self.chance.below(self.files.len());
+        let Some(file) = self.files.get(index).copied() else {
+            return Ok(None);
+        };
+        self.due.push(Command::StartServer { file })?;
+        Ok(Some(Command::FailServer { file }))
+    }
+
+    // What has no answer is asked for again, if a call is open: by the servers of the files and by the nodes.
+    fn ask_again(&mut self) -> Result<(), AllocError> {
+        for part in self.parts.iter() {
+            if let Some(retry) = part.retry() {
+                self.queue.push_back(retry)?;
+            }
+        }
+        if self.queue.is_empty() {
+            return Ok(());
+        }
+        for file in self.files.iter() {
+            self.queue.push_back(Command::Resend { file: *file })?;
+        }
+        Ok(())
+    }
+
+    // The phase ends: all messages are settled, unless they are, and the line behind it has its turn. The next
+    // phase begins.
+    fn end_phase(&mut self) -> Result<(), AllocError> {
+        if self.is_over {
+            return Ok(());
+        }
+        if !self.is_settling {
+            self.queue.push_back(Command::Settle)?;
+        }
+        match self.lines.get(self.taken) {
+            Some(line) => self.change(line.command())?,
+            None => self.is_over = true,
+        }
+        self.begin_phase()
+    }
+
+    // A line of the script that is no call has its turn.
+    fn change(&mut self, command: Command) -> Result<(), AllocError> {
+        self.taken = self.taken.saturating_add(1);
+        if !matches!(command, Command::Settle) {
+            self.queue.push_back(command)?;
+        }
+        Ok(())
+    }
+
+    // The calls up to the next line that is no call are to be made.
+    fn begin_phase(&mut self) -> Result<(), AllocError> {
+        self.rounds = 0;
+        let lines = self.lines;
+        for line in lines.iter().skip(self.taken) {
+            let Command::Call { node, pid, op } = line.command() else {
+                return Ok(());
+            };
+            self.taken = self.taken.saturating_add(1);
+            self.note_file(&op)?;
+            self.add(node, pid, line.command())?;
+        }
+        Ok(())
+    }
+
+    // A file that a process opens.
+    fn note_file(&mut self, op: &Op) -> Result<(), AllocError> {
+        if let Op::Open { file, .. } = op {
+            let known = self.files.iter().any(|other| *other == *file);
+            if !known {
+                self.files.push(*file)?;
+            }
+        }
+        Ok(())
+    }
+
+    // The process is to make one call more.
+    fn add(&mut self, node: u8, pid: u16, call: Command) -> Result<(), AllocError> {
+        for part in self.parts.iter_mut() {
+            if part.is_of(node, pid) {
+                return part.add(call);
+            }
+        }
+        let mut part = Part::new(self.alloc, node, pid);
+        part.add(call)?;
+        self.parts.push(part)?;
+        Ok(())
+    }
+}
+
+// Takes out the value at the index, if there is one; the last comes to its place.
+fn take<T: Drop>(values: &mut Vec<T>, index: usize) -> Option<T> {
+    if index < values.len() {
+        Some(values.swap_remove(index))
+    } else {
+        None
+    }
+}

@@ -1,0 +1,156 @@
+//! What comments of a script expect of its calls.
+ghost use Rattle.std.specs.Prelude.{◌≡◌, option_map, slice_get, string_bytes, Some, None, IfOk, MatchOption};
+ghost use Rattle.explorer.specs.Answers.{answer_text};
+ghost use Rattle.explorer.specs.Expectations.{begins, behind, breaks, expected, is_broken, is_broken_at, split_feed, words_in, words_of};
+
+use crate::answer::{Answer, push_answer};
+use lockscript::script_line::{Command, ScriptLine};
+use std::alloc::{AllocError, Global};
+use texts::text::after;
+
+/// How a line begins that says what is expected.
+const EXPECT: &str = "# expect ";
+
+/// What is expected of a line of a script: the words behind `# expect `, where that begins the next line of the
+/// text behind a call.
+pub(crate) fn expected<'a>(text: &'a str, line: &ScriptLine) -> Option<&'a str>
+    ensures { option_map (λ words. words.now) result ≡ expected text.entry.now line.now }
+{
+    match line.command() {
+        Command::Call { .. } => match behind(text, line.number()) {
+            Some(rest) => words_in(rest),
+            None => None,
+        },
+        _ => None,
+    }
+}
+
+// The words of the first line, where it says what is expected.
+fn words_in<'a>(rest: &'a str) -> Option<&'a str>
+    ensures { option_map (λ words. words.now) result ≡ words_in (Some rest.entry.now) }
+{
+    match split_feed(rest) {
+        Some((line, _)) => words_of(line),
+        None => None,
+    }
+}
+
+// The words of a line that says what is expected.
+fn words_of<'a>(line: &'a str) -> Option<&'a str>
+    ensures { option_map (λ words. words.now) result ≡ words_of line.entry.now }
+{
+    after(line, EXPECT)
+}
+
+// What stands behind so many lines of a text.
+fn behind(text: &str, count: u32) -> Option<&str>
+    ensures { MatchOption result (behind count (Some text.now) ≡ None) (λ rest. behind count (Some text.now) ≡ Some rest.now) }
+{
+    let mut rest = text;
+    let mut left = count;
+    while left > 0 {
+        match split_feed(rest) {
+            Some((_, next)) => rest = next,
+            None => return None,
+        }
+        left -= 1;
+    }
+    Some(rest)
+}
+
+// The first line of a text, and what stands behind its line feed.
+fn split_feed(text: &str) -> Option<(&str, &str)>
+    ensures { MatchOption result (split_feed text.now ≡ None) (λ parts. split_feed text.now ≡ Some (parts.0.now, parts.1.now)) }
+{
+    text.split_once('\n')
+}
+
+/// Whether some answer to the lines of a script begins otherwise than the text expects.
+///
+/// # Errors
+/// `AllocError` where a request for memory was refused.
+pub(crate) fn breaks(
+    alloc: Global,
+    text: &str,
+    lines: &[ScriptLine],
+    answers: &[Answer],
+) -> Result<bool, AllocError>
+    ensures { IfOk result (λ broken. broken ≡ breaks text.now lines.now answers.now) }
+{
+    let mut index = 0usize;
+    for line in lines {
+        if breaks_at(alloc, text, line, answers, index)? {
+            return Ok(true);
+        }
+        index += 1;
+    }
+    Ok(false)
+}
+
+// Whether the answer at the index begins otherwise than is expected of the line.
+fn breaks_at(
+    alloc: Global,
+    text: &str,
+    line: &ScriptLine,
+    answers: &[Answer],
+    index: usize,
+) -> Result<bool, AllocError>
+    ensures { IfOk result (λ broken. broken ≡ is_broken_at (expected text.now line.now) (slice_get answers.now index)) }
+{
+    is_broken_at(alloc, expected(text, line), answers.get(index))
+}
+
+// Whether there is an answer, and its text begins otherwise than is expected.
+fn is_broken_at(
+    alloc: Global,
+    words: Option<&str>,
+    answer: Option<&Answer>,
+) -> Result<bool, AllocError>
+    ensures { IfOk result (λ broken. broken ≡ is_broken_at (option_map (λ w. w.now) words.entry) (option_map (λ a. a.now) answer.entry)) }
+{
+    match answer {
+        Some(answer) => is_broken(alloc, words, answer),
+        None => Ok(false),
+    }
+}
+
+/// Whether the text of the answer begins otherwise than is expected.
+///
+/// # Errors
+/// `AllocError` where a request for memory was refused.
+pub(crate) fn is_broken(
+    alloc: Global,
+    words: Option<&str>,
+    answer: &Answer,
+) -> Result<bool, AllocError>
+    ensures { IfOk result (λ broken. broken ≡ is_broken (option_map (λ w. w.now) words.entry) answer.now) }
+{
+    match words {
+        Some(words) => is_other(alloc, words, answer),
+        None => Ok(false),
+    }
+}
+
+// Whether the text of the answer begins otherwise.
+fn is_other(alloc: Global, words: &str, answer: &Answer) -> Result<bool, AllocError>
+    ensures { IfOk result (λ other. other ≡ is_broken (Some words.now) answer.now) }
+{
+    let told = told(alloc, answer)?;
+    Ok(!begins(words, told.as_str()))
+}
+
+// The text of the answer.
+fn told(alloc: Global, answer: &Answer) -> Result<String, AllocError>
+    ensures { IfOk result (λ told. string_bytes told ≡ answer_text answer.now) }
+{
+    let mut told = String::new(alloc);
+    push_answer(&mut told, answer)?;
+    Ok(told)
+}
+
+// Whether a text begins with these words.
+fn begins(words: &str, text: &str) -> bool
+    ensures { result ≡ begins words.now text.now }
+{
+    text.starts_with(words)
+}

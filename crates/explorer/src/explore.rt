@@ -1,0 +1,172 @@
+//! Exploring a script: its outcomes under many schedules.
+ghost use Rattle.std.specs.Prelude.{◌≡◌, ◌+◌, ◌<◌, All, Bool, length, slice_index_or, slice_set, IfOk, IfSome, OnOk};
+ghost use Rattle.std.specs.List.{list_any};
+ghost use Rattle.std.specs.List.Sorted.{IsPermutation};
+ghost use Rattle.player.specs.Parts.{state_of};
+ghost use Rattle.explorer.specs.Answers.{answers_in};
+ghost use Rattle.explorer.specs.Explores.{Explores};
+ghost use Rattle.explorer.specs.Outcomes.{AreOrdered, ComesIn, IsOutcomeOf, OutcomeParts, seeds_of, with_seed};
+
+use crate::answer::Answer;
+use crate::answers::answers;
+use crate::expectations::breaks;
+use crate::explored::Explored;
+use crate::outcome::Outcome;
+use crate::report::report;
+use crate::schedule::schedule;
+use crate::scheduled::Scheduled;
+use lockscript::script::Script;
+use player::play::PlayError;
+use std::alloc::{AllocError, Global};
+
+/// The distinct outcomes of a script, which the text writes, under the schedules of the seeds from `first` on,
+/// `count` of them; behind 4294967295 comes seed 0. An outcome is what each call of the script comes to: its
+/// reply, the number of a refusal, that it is open, or that it was not made.
+///
+/// Those that break what is expected come before the others, and of each kind the more frequent ones first. Of
+/// each the lines are told in which outcomes differ, and those that break what is expected: a comment line
+/// `# expect WORDS` right behind a call line, where the answer's text has to begin with the words.
+///
+/// # Errors
+/// `JournalFull` where a run needs more entries than a journal may have; `NoMemory` where a request for memory
+/// was refused.
+pub fn explore(
+    alloc: Global,
+    text: &str,
+    script: &Script,
+    first: u32,
+    count: u32,
+    failures: bool,
+) -> Result<Explored, PlayError>
+    ensures { IfOk result (λ explored. Explores failures script.now text.now count explored) }
+{
+    let outcomes = outcomes(alloc, text, script, first, count, failures)?;
+    let ordered = ordered(outcomes)?;
+    let outcomes = ordered.as_slice();
+    Ok(Explored {
+        text: report(alloc, text, script.lines(), outcomes, count)?,
+        breaks: some_breaks(outcomes),
+    })
+}
+
+// Whether some outcome breaks what is expected.
+fn some_breaks(outcomes: &[Outcome]) -> bool
+    ensures { result ≡ list_any (λ o. o.breaks) outcomes.now }
+{
+    for outcome in outcomes {
+        if outcome.breaks() {
+            return true;
+        }
+    }
+    false
+}
+
+// The outcomes by their ranks.
+fn ordered(outcomes: Vec<Outcome>) -> Result<Vec<Outcome>, AllocError>
+    ensures same { IfOk result (λ ordered. IsPermutation outcomes.items ordered.items) }
+    ensures ordered { IfOk result (λ ordered. AreOrdered ordered.items) }
+{
+    let mut sorted = outcomes;
+    sorted.sort_by_key(|outcome| outcome.rank())?;
+    Ok(sorted)
+}
+
+// The distinct outcomes under the schedules of the seeds, in the order of their first ones.
+fn outcomes(
+    alloc: Global,
+    text: &str,
+    script: &Script,
+    first: u32,
+    count: u32,
+    failures: bool,
+) -> Result<Vec<Outcome>, PlayError>
+    ensures come { IfOk result (λ outcomes. All (IsOutcomeOf failures script.now text.now) outcomes.items) }
+    ensures counted { IfOk result (λ outcomes. seeds_of outcomes.items ≡ count) }
+{
+    let mut outcomes = Vec::new(alloc);
+    for step in 0..count {
+        let seed = first.wrapping_add(step);
+        let answers = answers_of(alloc, script, seed, failures)?;
+        add(&mut outcomes, alloc, text, script, answers, seed)?;
+    }
+    Ok(outcomes)
+}
+
+// What the lines of the script come to in the schedule of a seed.
+fn answers_of(
+    alloc: Global,
+    script: &Script,
+    seed: u32,
+    failures: bool,
+) -> Result<Vec<Answer>, PlayError>
+    ensures { IfOk result (λ answers. ComesIn failures script.now answers.items) }
+{
+    let scheduled = schedule(alloc, script, seed, failures)?;
+    let answers = answers_under(alloc, script, &scheduled)?;
+    Ok(answers)
+}
+
+// What the lines of the script come to in this schedule.
+fn answers_under(
+    alloc: Global,
+    script: &Script,
+    scheduled: &Scheduled,
+) -> Result<Vec<Answer>, AllocError>
+    ensures { IfOk result (λ answers. answers.items ≡ answers_in script.now.lines scheduled.now.commands (state_of scheduled.now.played)) }
+{
+    answers(
+        alloc,
+        script.lines(),
+        scheduled.commands(),
+        scheduled.played(),
+    )
+}
+
+// A seed comes to these answers: to the outcome that has them, or to a new one, which comes last.
+fn add(
+    outcomes: &mut Vec<Outcome>,
+    alloc: Global,
+    text: &str,
+    script: &Script,
+    answers: Vec<Answer>,
+    seed: u32,
+) -> Result<(), AllocError>
+    ensures come { OnOk result ((failures : Bool) → ComesIn failures script.now answers.items → All (IsOutcomeOf failures script.now text.now) outcomes.old.items → All (IsOutcomeOf failures script.now text.now) outcomes.new.items) }
+    ensures counted { OnOk result (seeds_of outcomes.new.items ≡ seeds_of outcomes.old.items + 1) }
+{
+    match position_of(outcomes.as_slice(), answers.as_slice()) {
+        Some(index) => {
+            add_to(outcomes, index, seed)?;
+            Ok(())
+        }
+        None => {
+            let broken = breaks(alloc, text, script.lines(), answers.as_slice())?;
+            let mut outcome = Outcome::new(alloc, answers, broken);
+            outcome.add_seed(seed)?;
+            outcomes.push(outcome)?;
+            Ok(())
+        }
+    }
+}
+
+// Where an outcome with these answers stands.
+fn position_of(outcomes: &[Outcome], answers: &[Answer]) -> Option<usize>
+    ensures { IfSome result (λ index. index < length outcomes.now) }
+{
+    let mut index = 0usize;
+    for outcome in outcomes {
+        if outcome.answers() == answers {
+            return Some(index);
+        }
+        index += 1;
+    }
+    None
+}
+
+// A seed comes to the outcome at the index.
+fn add_to(outcomes: &mut Vec<Outcome>, index: usize, seed: u32) -> Result<(), AllocError>
+    requires { index < length outcomes.old.items }
+    ensures { OnOk result ((other : OutcomeParts) → outcomes.new.items ≡ slice_set outcomes.old.items index (with_seed seed (slice_index_or outcomes.old.items index other))) }
+{
+    outcomes[index].add_seed(seed)
+}

@@ -1,0 +1,8 @@
+//! What exploring a script gives.
+
+/// The outcomes of a script as a text, and whether one of them breaks what is expected.
+#[derive(Drop)]
+pub struct Explored {
+    pub text: String,
+    pub breaks: bool,
+}

@@ -1,0 +1,21 @@
+//! Which schedule breaks an assumption: the calls of a script under many schedules, each of a seed, with
+//! messages that are reordered, lost and repeated, and with failures if asked for.
+#![tactic(auto)]
+
+pub mod answer;
+mod answers;
+mod calls;
+mod chance;
+mod chooser;
+mod expectations;
+pub mod explore;
+pub mod explored;
+mod follows;
+pub mod laws;
+mod outcome;
+mod part;
+mod report;
+pub mod schedule;
+pub mod scheduled;
+pub mod text;
+mod tries;

@@ -1,0 +1,83 @@
+//! The calls of a process that are to be made.
+use lockscript::script_line::Command;
+use messages::entry::Entry;
+use messages::event::Event;
+use model::call::CallId;
+use std::alloc::{AllocError, Global};
+use std::collections::VecDeque;
+
+/// A process, the calls that it is still to make, in order, and the one that is open.
+#[derive(Drop)]
+pub(crate) struct Part {
+    node: u8,
+    pid: u16,
+    calls: VecDeque<Command>,
+    open: Option<CallId>,
+}
+
+impl Part {
+    /// A process with nothing to do.
+    pub(crate) fn new(alloc: Global, node: u8, pid: u16) -> Part {
+        Part {
+            node,
+            pid,
+            calls: VecDeque::new(alloc),
+            open: None,
+        }
+    }
+
+    /// Its node.
+    pub(crate) fn node(&self) -> u8 {
+        self.node
+    }
+
+    /// Whether it is this process.
+    pub(crate) fn is_of(&self, node: u8, pid: u16) -> bool {
+        self.node == node && self.pid == pid
+    }
+
+    /// One call more that it is to make.
+    pub(crate) fn add(&mut self, call: Command) -> Result<(), AllocError> {
+        self.calls.push_back(call)?;
+        Ok(())
+    }
+
+    /// Whether it may make its next call: it has one, and none is open.
+    pub(crate) fn is_ready(&self) -> bool {
+        self.open.is_none() && !self.calls.is_empty()
+    }
+
+    /// Its next call, which it makes.
+    pub(crate) fn next(&mut self) -> Option<Command> {
+        self.calls.pop_front()
+    }
+
+    /// The line by which its open call is tried again, if one is open.
+    pub(crate) fn retry(&self) -> Option<Command> {
+        match self.open {
+            Some(_) => Some(Command::Retry {
+                node: self.node,
+                pid: self.pid,
+            }),
+            None => None,
+        }
+    }
+
+    /// Takes note of an entry: its call is open from where it is made to its reply, or to the failure of its
+    /// node. Whether the entry answers it.
+    pub(crate) fn see(&mut self, entry: &Entry) -> bool {
+        match entry.event() {
+            Event::Call { node, pid, .. } if self.is_of(*node, *pid) => self.open = entry.call(),
+            Event::Declare { node } if self.node == *node => self.open = None,
+            _ => {}
+        }
+        let is_answered = match (self.open, entry.reply()) {
+            (Some(open), Some(told)) => told.0 == open,
+            _ => false,
+        };
+        if is_answered {
+            self.open = None;
+        }
+        is_answered
+    }
+}

@@ -1,0 +1,244 @@
+//! The text of outcomes.
+ghost use Rattle.std.specs.Prelude.{◌≡◌, ◌++◌, codes, count_by, option_map, slice_get, string_bytes, IfOk, OnOk};
+ghost use Rattle.explorer.specs.Expectations.{expected};
+ghost use Rattle.explorer.specs.Reports.{answer_part, blocks, call_part, counts, differs, ending, first_of, first_seed, heading, is_other, place, report_text, share, told, told_lines};
+
+use crate::answer::{Answer, push_answer};
+use crate::expectations::{expected, is_broken};
+use crate::outcome::Outcome;
+use lockscript::operations::Operation;
+use lockscript::script_line::{Command, ScriptLine};
+use std::alloc::{AllocError, Global};
+use std::fmt::Write;
+use texts::text::Text;
+
+/// The text of the outcomes of a script, of so many seeds, in the order in which they are given.
+///
+/// # Errors
+/// `AllocError` where a request for memory was refused.
+pub(crate) fn report(
+    alloc: Global,
+    text: &str,
+    lines: &[ScriptLine],
+    outcomes: &[Outcome],
+    seeds: u32,
+) -> Result<String, AllocError>
+    ensures { IfOk result (λ report. string_bytes report ≡ report_text text.now lines.now outcomes.now seeds) }
+{
+    let mut out = String::new(alloc);
+    push_blocks(&mut out, alloc, text, lines, outcomes, seeds)?;
+    push_counts(&mut out, outcomes, seeds)?;
+    Ok(out)
+}
+
+// Writes the outcomes.
+fn push_blocks(
+    out: &mut String,
+    alloc: Global,
+    text: &str,
+    lines: &[ScriptLine],
+    outcomes: &[Outcome],
+    seeds: u32,
+) -> Result<(), AllocError>
+    ensures { OnOk result (string_bytes out.new ≡ string_bytes out.old ++ blocks text.now lines.now outcomes.now seeds 1 outcomes.now) }
+{
+    let mut number = 0u64;
+    for outcome in outcomes {
+        number += 1;
+        let its = outcome.seeds();
+        push_heading(out, number, its.len(), seeds, first_of(its))?;
+        push_lines(out, alloc, text, lines, outcomes, outcome.answers())?;
+    }
+    Ok(())
+}
+
+// Writes the line above an outcome: to it so many of the seeds came, this one first.
+#[tactic(auto, unfolding(crate::specs::Reports::heading))]
+fn push_heading(
+    out: &mut String,
+    number: u64,
+    count: usize,
+    seeds: u32,
+    first: u32,
+) -> Result<(), AllocError>
+    ensures { OnOk result (string_bytes out.new ≡ string_bytes out.old ++ heading number count seeds first) }
+{
+    push_place(out, number)?;
+    push_share(out, count, seeds)?;
+    push_first(out, first)
+}
+
+// Writes the place of an outcome among all.
+#[tactic(auto, unfolding(crate::specs::Reports::place))]
+fn push_place(out: &mut String, number: u64) -> Result<(), AllocError>
+    ensures { OnOk result (string_bytes out.new ≡ string_bytes out.old ++ place number) }
+{
+    write!(out, "outcome {number}: ")
+}
+
+// Writes how many of the seeds came to an outcome.
+#[tactic(auto, unfolding(crate::specs::Reports::share))]
+fn push_share(out: &mut String, count: usize, seeds: u32) -> Result<(), AllocError>
+    ensures { OnOk result (string_bytes out.new ≡ string_bytes out.old ++ share count seeds) }
+{
+    write!(out, "{count} of {seeds} seeds, ")
+}
+
+// Writes the first seed of an outcome.
+#[tactic(auto, unfolding(crate::specs::Reports::first_seed))]
+fn push_first(out: &mut String, first: u32) -> Result<(), AllocError>
+    ensures { OnOk result (string_bytes out.new ≡ string_bytes out.old ++ first_seed first) }
+{
+    writeln!(out, "first {first}")
+}
+
+// The first of the seeds; 0 where there is none.
+fn first_of(seeds: &[u32]) -> u32
+    ensures { result ≡ first_of seeds.now }
+{
+    match seeds.get(0) {
+        Some(seed) => *seed,
+        None => 0,
+    }
+}
+
+// Writes the lines that are told of an outcome.
+fn push_lines(
+    out: &mut String,
+    alloc: Global,
+    text: &str,
+    lines: &[ScriptLine],
+    outcomes: &[Outcome],
+    answers: &[Answer],
+) -> Result<(), AllocError>
+    ensures { OnOk result (string_bytes out.new ≡ string_bytes out.old ++ told_lines text.now outcomes.now answers.now 0 lines.now) }
+{
+    let mut index = 0usize;
+    for line in lines {
+        push_line(out, alloc, text, outcomes, answers, index, line)?;
+        index += 1;
+    }
+    Ok(())
+}
+
+// Writes the line of a script that has the answer at the index, if it is told.
+fn push_line(
+    out: &mut String,
+    alloc: Global,
+    text: &str,
+    outcomes: &[Outcome],
+    answers: &[Answer],
+    index: usize,
+    line: &ScriptLine,
+) -> Result<(), AllocError>
+    ensures { OnOk result (string_bytes out.new ≡ string_bytes out.old ++ told (expected text.now line.now) outcomes.now index line.now (slice_get answers.now index)) }
+{
+    let words = expected(text, line);
+    push_told(out, alloc, words, outcomes, index, line, answers.get(index))
+}
+
+// Writes the line of a call where it has an answer, and outcomes differ in it or it breaks what is expected.
+fn push_told(
+    out: &mut String,
+    alloc: Global,
+    words: Option<&str>,
+    outcomes: &[Outcome],
+    index: usize,
+    line: &ScriptLine,
+    answer: Option<&Answer>,
+) -> Result<(), AllocError>
+    ensures { OnOk result (string_bytes out.new ≡ string_bytes out.old ++ told (option_map (λ w. w.now) words.entry) outcomes.now index line.now (option_map (λ a. a.now) answer.entry)) }
+{
+    let Some(answer) = answer else {
+        return Ok(());
+    };
+    let broken = is_broken(alloc, words, answer)?;
+    if broken || differs(outcomes, index, answer) {
+        push_answered(out, line, answer)?;
+        push_ending(out, broken, words)?;
+    }
+    Ok(())
+}
+
+// Whether an outcome has another answer at the index.
+fn differs(outcomes: &[Outcome], index: usize, answer: &Answer) -> bool
+    ensures { result ≡ differs outcomes.now index answer.now }
+{
+    for outcome in outcomes {
+        if differs_from(outcome, index, answer) {
+            return true;
+        }
+    }
+    false
+}
+
+// Whether the outcome has another answer at the index.
+fn differs_from(outcome: &Outcome, index: usize, answer: &Answer) -> bool
+    ensures { result ≡ is_other answer.now (slice_get outcome.now.answers index) }
+{
+    is_other(answer, outcome.answers().get(index))
+}
+
+// Whether there is another answer.
+fn is_other(answer: &Answer, other: Option<&Answer>) -> bool
+    ensures { result ≡ is_other answer.now (option_map (λ a. a.now) other.entry) }
+{
+    match other {
+        Some(other) => *other != *answer,
+        None => false,
+    }
+}
+
+// Writes the line of a call with its answer, without its end.
+fn push_answered(out: &mut String, line: &ScriptLine, answer: &Answer) -> Result<(), AllocError>
+    ensures { OnOk result (string_bytes out.new ≡ string_bytes out.old ++ answer_part line.now answer.now) }
+{
+    let number = line.number();
+    write!(out, "  line {number}: ")?;
+    push_call(out, &line.command())?;
+    out.push_str(" -> ")?;
+    push_answer(out, answer)
+}
+
+// Writes what a call asks for.
+fn push_call(out: &mut String, command: &Command) -> Result<(), AllocError>
+    ensures { OnOk result (string_bytes out.new ≡ string_bytes out.old ++ call_part command.now) }
+{
+    if let Command::Call { node, pid, op } = command {
+        write!(out, "{node} {pid} ")?;
+        Operation::write(op, out)?;
+    }
+    Ok(())
+}
+
+// Writes the end of such a line, with what is expected where it is broken.
+fn push_ending(out: &mut String, broken: bool, words: Option<&str>) -> Result<(), AllocError>
+    ensures { OnOk result (string_bytes out.new ≡ string_bytes out.old ++ ending broken (option_map (λ w. w.now) words.entry)) }
+{
+    match words {
+        Some(words) if broken => writeln!(out, ", expected {words}"),
+        _ => out.push_str("\n"),
+    }
+}
+
+// Writes how many outcomes there are, seeds, and outcomes that break what is expected.
+fn push_counts(out: &mut String, outcomes: &[Outcome], seeds: u32) -> Result<(), AllocError>
+    ensures { OnOk result (string_bytes out.new ≡ string_bytes out.old ++ counts outcomes.now seeds) }
+{
+    let count = outcomes.len();
+    let breaking = count_breaking(outcomes);
+    writeln!(out, "outcomes {count}, seeds {seeds}, breaking {breaking}")
+}
+
+// How many outcomes break what is expected.
+fn count_breaking(outcomes: &[Outcome]) -> usize
+    ensures { result ≡ count_by (λ o. o.breaks) outcomes.now }
+{
+    let mut breaking = 0;
+    for outcome in outcomes {
+        if outcome.breaks() {
+            breaking += 1;
+        }
+    }
+    breaking
+}

@@ -1,0 +1,141 @@
+//! Making schedules.
+ghost use Rattle.std.specs.Prelude.{◌≡◌, ◌+◌, ◌≤◌, ◌∷◌, ◌++◌, [], length, IfOk, IfSome, OnOk, Some};
+ghost use Rattle.cluster_core.specs.Histories.{HasOneHistory};
+ghost use Rattle.cluster_core.specs.Runs.{Leads};
+ghost use Rattle.cluster_core.specs.World.{first_world};
+ghost use Rattle.player.specs.Parts.{progress, state_of};
+ghost use Rattle.player.specs.Played.{played_of, ComesTo};
+ghost use Rattle.player.specs.Progress.{RunsTo};
+ghost use Rattle.explorer.specs.Schedules.{most_lines, numbered, Follows, IsScheduleOf};
+
+use crate::chooser::Chooser;
+use crate::follows::following;
+use crate::scheduled::Scheduled;
+use cluster_core::run::Run;
+use lockscript::script::Script;
+use lockscript::script_line::{Command, ScriptLine};
+use messages::shape::Shape;
+use player::play::PlayError;
+use player::player::Player;
+use std::alloc::{AllocError, Global};
+
+/// The number of the first line of a schedule in its text, behind the `cluster` line.
+const FIRST_LINE: u32 = 2;
+
+/// No schedule has more lines behind its `cluster` line.
+const MOST_LINES: u32 = 100_000;
+
+/// A schedule of the calls of a script, the same one for the same seed, and what came of it. A phase is the
+/// calls up to the next line that is no call: in it each process makes its calls in their order, the next one
+/// when the one before has its reply, and which of them goes on, which message comes, is lost or comes twice is
+/// by chance. What has no answer is asked for again where nothing else is under way. A phase ends where nothing
+/// goes on; then all messages are settled, and the line that is no call has its turn. With `failures` a node and
+/// a server may be declared failed at some time, and begin again later.
+///
+/// A schedule has at most 64 lines and 40 more for each call, and no more than 100,000; where it ends so, later
+/// calls are not made.
+///
+/// # Errors
+/// `JournalFull` where the run needs more entries than a journal may have; `NoMemory` where a request for
+/// memory was refused.
+pub fn schedule(
+    alloc: Global,
+    script: &Script,
+    seed: u32,
+    failures: bool,
+) -> Result<Scheduled, PlayError>
+    // It is a schedule of the script's lines.
+    ensures of_script { IfOk result (λ s. IsScheduleOf failures script.now.lines s.commands) }
+
+    // It has no more lines than this, behind the `cluster` line.
+    ensures few { IfOk result (λ s. length s.commands ≤ most_lines) }
+
+    // What came of it is what its lines come to, one after the other.
+    ensures played { IfOk result (λ s. ComesTo script.now.shape (numbered s.commands) (state_of s.played)) }
+
+    // One table explains every reply, and ends as what the nodes hold.
+    ensures history { IfOk result (λ s. HasOneHistory script.now.shape s.played.journal.entries) }
+{
+    let shape = script.shape();
+    let lines = script.lines();
+    let chooser = Chooser::new(alloc, lines, seed, failures)?;
+    let player = Player::new(alloc, shape)?;
+    let made = choose_lines(alloc, failures, lines, chooser, player)?;
+    Ok(finished(shape, made.0, made.1))
+}
+
+// The schedule of these commands, on a cluster of this shape, where the player stands behind them.
+fn finished(shape: Shape, commands: Vec<Command>, player: Player) -> Scheduled
+    requires { Leads (first_world shape) (progress player).entries (progress player).world }
+    ensures commands { result.commands ≡ commands.items }
+    ensures played { state_of result.played ≡ played_of shape (progress player) }
+    ensures history { HasOneHistory shape result.played.journal.entries }
+{
+    Scheduled::new(commands, player.finish(shape))
+}
+
+// Chooses line after line from where the player stands, and carries each out.
+fn choose_lines(
+    alloc: Global,
+    failures: bool,
+    lines: &[ScriptLine],
+    mut chooser: Chooser<'_>,
+    mut player: Player,
+) -> Result<(Vec<Command>, Player), PlayError>
+    ensures of_script { IfOk result (λ made. IsScheduleOf failures lines.now made.0.items) }
+    ensures few { IfOk result (λ made. length made.0.items ≤ most_lines) }
+    ensures runs { IfOk result (λ made. RunsTo (progress player) (numbered made.0.items) (Some (progress made.1))) }
+{
+    let mut commands = Vec::new(alloc);
+    for number in FIRST_LINE..line_limit(lines) {
+        let taken = commands.as_slice();
+        let next = next_line(alloc, failures, lines, taken, &mut chooser, player.run())?;
+        match next {
+            Some(command) => {
+                player.carry_out(alloc, number, command)?;
+                add(&mut commands, command)?;
+            }
+            None => break,
+        }
+    }
+    Ok((commands, player))
+}
+
+// The command comes last.
+fn add(commands: &mut Vec<Command>, command: Command) -> Result<(), AllocError>
+    ensures items { OnOk result (commands.new.items ≡ commands.old.items ++ command ∷ []) }
+    ensures len { OnOk result (length commands.new.items ≡ length commands.old.items + 1) }
+{
+    commands.push(command)?;
+    Ok(())
+}
+
+// What comes next in a schedule of the lines behind these commands, which led to this run.
+fn next_line(
+    alloc: Global,
+    failures: bool,
+    lines: &[ScriptLine],
+    commands: &[Command],
+    chooser: &mut Chooser<'_>,
+    run: &Run,
+) -> Result<Option<Command>, AllocError>
+    ensures { IfOk result (λ next. IfSome next (Follows failures lines.now commands.now)) }
+{
+    match chooser.next(run)? {
+        Some(wanted) => following(alloc, failures, lines, commands, wanted),
+        None => Ok(None),
+    }
+}
+
+// The number of the first line that a schedule of these lines has not.
+fn line_limit(lines: &[ScriptLine]) -> u32
+    ensures { result ≤ most_lines + 2 }
+{
+    let mut limit: u32 = 64;
+    for line in lines {
+        if let Command::Call { .. } = line.command() {
+            limit = limit.saturating_add(40);
+        }
+    }
+    limit.min(MOST_LINES) + FIRST_LINE
+}

@@ -1,0 +1,53 @@
+//! Schedules that were made.
+ghost use Rattle.std.specs.Prelude.{◌≡◌};
+
+use lockscript::script_line::Command;
+use player::played::Played;
+use std::marker::Model;
+
+/// A schedule of the calls of a script: what its lines ask for, behind the `cluster` line, and what came of
+/// them.
+#[derive(Drop)]
+pub struct Scheduled {
+    commands: Vec<Command>,
+    played: Played,
+}
+
+impl Model for Scheduled {
+    ghost use Rattle.explorer.specs.Schedules.{ScheduledParts};
+
+    ghost Value = { ScheduledParts };
+
+    ghost view = { λ s. record { commands = s.commands.items; played = s.played } };
+}
+
+impl Scheduled {
+    pub(crate) fn new(commands: Vec<Command>, played: Played) -> Scheduled
+        ensures { result ≡ record { commands = commands.items; played = played } }
+    {
+        Scheduled { commands, played }
+    }
+
+    /// What the lines ask for, in order. The line of the first has number 2 in the text of the schedule.
+    pub fn commands(&self) -> &[Command]
+        ensures { result.now ≡ self.now.commands }
+    {
+        self.commands.as_slice()
+    }
+
+    /// What came of them.
+    pub fn played(&self) -> &Played
+        ensures { result.now ≡ self.now.played }
+    {
+        &self.played
+    }
+
+    /// What the lines ask for, and what came of them.
+    pub fn into_parts(self) -> (Vec<Command>, Played)
+        ensures commands { result.0.items ≡ self.commands }
+        ensures played { result.1 ≡ self.played }
+    {
+        let Scheduled { commands, played } = self;
+        (commands, played)
+    }
+}

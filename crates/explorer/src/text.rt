@@ -1,0 +1,83 @@
+//! The text of a schedule.
+ghost use Rattle.std.specs.Prelude.{◌≡◌, ◌++◌, codes, flat_map, string_bytes, IfOk, OnOk};
+ghost use Rattle.lockscript.specs.Scripts.{command_text, shape_text};
+ghost use Rattle.explorer.specs.Texts.{command_line, script_text};
+
+use lockscript::fields::{FileField, IncarnationField, NodeField, PidField};
+use lockscript::operations::Operation;
+use lockscript::script_line::Command;
+use messages::shape::Shape;
+use std::alloc::{AllocError, Global};
+use std::fmt::Write;
+use texts::text::Text;
+use texts::words::policy_word;
+
+/// The text of a script: the `cluster` line of the shape, and a line for each command, in order. By the law
+/// `every_schedule_is_read` it is read as these lines.
+///
+/// # Errors
+/// `AllocError` where a request for memory was refused.
+pub fn script_text(alloc: Global, shape: &Shape, commands: &[Command]) -> Result<String, AllocError>
+    ensures { IfOk result (λ text. string_bytes text ≡ script_text shape.now commands.now) }
+{
+    let mut out = String::new(alloc);
+    push_shape(&mut out, shape)?;
+    for command in commands {
+        push_line(&mut out, command)?;
+    }
+    Ok(out)
+}
+
+// Writes the `cluster` line.
+fn push_shape(out: &mut String, shape: &Shape) -> Result<(), AllocError>
+    ensures { OnOk result (string_bytes out.new ≡ string_bytes out.old ++ shape_text shape.now ++ codes "\n") }
+{
+    let nodes = shape.nodes();
+    let files = shape.files();
+    let policy = policy_word(shape.policy());
+    writeln!(out, "cluster nodes {nodes} files {files} policy {policy}")
+}
+
+// Writes the line of a command.
+fn push_line(out: &mut String, command: &Command) -> Result<(), AllocError>
+    ensures { OnOk result (string_bytes out.new ≡ string_bytes out.old ++ command_line command.now) }
+{
+    push_command(out, command)?;
+    out.push_str("\n")
+}
+
+/// Writes what a line asks for, without its end.
+///
+/// # Errors
+/// `AllocError` where a request for memory was refused.
+pub fn push_command(out: &mut String, command: &Command) -> Result<(), AllocError>
+    ensures { OnOk result (string_bytes out.new ≡ string_bytes out.old ++ command_text command.now) }
+{
+    match command {
+        Command::Call { node, pid, op } => {
+            out.push_str("call ")?;
+            <(NodeField, (PidField, Operation))>::write(&(*node, (*pid, *op)), out)
+        }
+        Command::Deliver { message } => write!(out, "deliver {message}"),
+        Command::Lose { message } => write!(out, "lose {message}"),
+        Command::Settle => out.push_str("settle"),
+        Command::Interrupt { node, pid } => write!(out, "interrupt {node} {pid}"),
+        Command::Retry { node, pid } => write!(out, "retry {node} {pid}"),
+        Command::Resend { file } => write!(out, "resend {file}"),
+        Command::Declare { node } => write!(out, "declare {node}"),
+        Command::Restart { node } => write!(out, "restart {node}"),
+        Command::Learn {
+            file,
+            node,
+            incarnation,
+        } => {
+            out.push_str("learn ")?;
+            <(FileField, (NodeField, IncarnationField))>::write(
+                &(*file, (*node, *incarnation)),
+                out,
+            )
+        }
+        Command::FailServer { file } => write!(out, "fail-server {file}"),
+        Command::StartServer { file } => write!(out, "start-server {file}"),
+    }
+}
