@@ -2,3 +2,4 @@ pub mod BadLines
 pub mod Places
 pub mod Reports
 pub mod Verdicts
+pub mod JournalReports

@@ -1,4 +1,5 @@
-//! What is wrong in a text that is no script, line by line, and what is said of a text that is one.
+//! What is wrong in a text that is no script, line by line, and what is said of a text that is one; and where the
+//! text of a journal goes wrong.
 #![tactic(auto)]
 
 mod bad_line;
@@ -10,6 +11,7 @@ mod flaw;
 mod forms;
 pub mod found;
 pub mod hint;
+pub mod journal_report;
 mod lines;
 mod nearest;
 mod place;
