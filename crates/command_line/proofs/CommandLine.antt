@@ -7,13 +7,15 @@ use Rattle.std.proofs.Common.{ℕ, Bool, true, false, cond, refl, sym, subst, ap
 use Rattle.clap.specs.declared.error.Error.{Error}
 use Rattle.clap.specs.Words.{HasKind, IsAmong, kind_of, Kinds, Row, Text, fault_of, first_of, subcommand_name_of, one_of, subcommand_of, subcommand_rows_of}
 use Rattle.clap.specs.declared.error.kind.ErrorKind.{ErrorKind}
-use Rattle.clap.specs.declared.error.kind.ErrorKind.TheVariants.{OutOfMemory, MissingSubcommand}
+use Rattle.clap.specs.declared.error.kind.ErrorKind.TheVariants.{OutOfMemory, ValueValidation}
 use Rattle.clap.specs.declared.parser.matches.ArgMatches.{ArgMatches}
 use Rattle.clap.specs.declared.parser.matches.ArgMatches.TheViews.{out-ArgMatches}
 use Rattle.command_line.specs.Kinds.{IsKindOf, IsOfKind}
-use Rattle.command_line.specs.Program.{program_app, flag_text, IsMet, IsSeed}
-use Rattle.command_line.specs.Tasks.{Task, run, threads, audit, history, explain, open_calls, check, picture}
+use Rattle.command_line.specs.Program.{program_app, flag_text, IsMet, IsNumber}
+use Rattle.command_line.specs.Tasks.{Task, run, threads, audit, history, explain, open_calls, check, picture, from_strace, explore, schedule, format_text, greatest_seed, most_nodes}
 use Rattle.command_line.specs.Words.{AsksFor, IsRefusal, IsShown}
+use Rattle.command_line.specs.declared.format.Format.{Format}
+use Rattle.command_line.specs.declared.format.Format.TheVariants.{Svg, Mermaid, Trace}
 use Rattle.command_line.specs.declared.refusal.Refusal.{Refusal}
 use Rattle.command_line.specs.declared.refusal.Refusal.TheVariants.{Help, Wrong, NotText, NoMemory}
 
@@ -38,7 +40,7 @@ pub fails_so : (words : List Text) (error : Error) → HasKind (fault_of program
 fails_so words error (inl is) = inl is
 fails_so words error (inr among) = inr (inl among)
 
-pub not_shown : (kind : ErrorKind) → kind ≡ MissingSubcommand → IsShown kind → ⊥
+pub not_shown : (kind : ErrorKind) → kind ≡ ValueValidation → IsShown kind → ⊥
 not_shown kind is (inl help) = cc
 not_shown kind is (inr version) = cc
 
@@ -83,26 +85,32 @@ abbrev name_in : Option Values → Text
 name_in met = option_map_or (λ (values : Values). values.0) met []
 
 abbrev pub name_of : Task → Text
-name_of (run s a j) = codes "run"
+name_of (run s a j o) = codes "run"
 name_of (threads s n h j) = codes "threads"
 name_of (audit j) = codes "audit"
 name_of (history j) = codes "history"
 name_of (explain j c) = codes "explain"
 name_of (open_calls j) = codes "open"
 name_of (check s) = codes "check"
-name_of (picture j c) = codes "picture"
+name_of (picture j c a b f) = codes "picture"
+name_of (from_strace r n) = codes "from-strace"
+name_of (explore s k n f) = codes "explore"
+name_of (schedule s n f) = codes "schedule"
 
 pub name_is : (p : Text × List Row) (task : Task) → IsMet (Some p) task → p.0 ≡ name_of task
-name_is p (run s a j) met = ap name_in met
+name_is p (run s a j o) met = ap name_in met
 name_is p (threads s n h j) met = ap name_in met.1
 name_is p (audit j) met = ap name_in met
 name_is p (history j) met = ap name_in met
 name_is p (explain j c) met = ap name_in met
 name_is p (open_calls j) met = ap name_in met
 name_is p (check s) met = ap name_in met
-name_is p (picture j c) met = ap name_in met
+name_is p (picture j c a b f) met = ap name_in met.2
+name_is p (from_strace r n) met = ap name_in met.1
+name_is p (explore s k n f) met = ap name_in met.2
+name_is p (schedule s n f) met = ap name_in met.1
 
--- the text of a number, and that of a flag
+-- the text of a number, that of a flag, and that of a format
 abbrev number_of : Text → ℕ
 number_of text = digits_value 10 (without_leading_plus text)
 
@@ -113,34 +121,69 @@ given_is : (flag : Bool) → is_given (flag_text flag) ≡ flag
 given_is true = refl
 given_is false = refl
 
+abbrev format_named : Text → Format
+format_named text = cond (bytes_eq text (codes "svg")) Svg (cond (bytes_eq text (codes "mermaid")) Mermaid Trace)
+
+format_is : (format : Format) → format_named (format_text format) ≡ format
+format_is Svg = refl
+format_is Mermaid = refl
+format_is Trace = refl
+
 abbrev path_in : Text → List Row → Text
 path_in id rows = unwrap_or (first_of id rows) []
 
+abbrev number_in : Text → List Row → ℕ
+number_in id rows = number_of (unwrap_or (one_of id rows) [])
+
+abbrev flag_in : Text → List Row → Bool
+flag_in id rows = is_given (unwrap_or (one_of id rows) [])
+
 abbrev threads_of : List Row → Task
-threads_of rows = threads (path_in (codes "SCRIPT") rows) (number_of (unwrap_or (one_of (codes "N") rows) [])) (is_given (unwrap_or (one_of (codes "stop-when-stuck") rows) [])) (first_of (codes "FILE") rows)
+threads_of rows = threads (path_in (codes "SCRIPT") rows) (number_in (codes "N") rows) (flag_in (codes "stop-when-stuck") rows) (first_of (codes "FILE") rows)
+
+abbrev picture_of : List Row → Task
+picture_of rows = picture (path_in (codes "JOURNAL") rows) (first_of (codes "CALL") rows) (number_in (codes "K") rows) (number_in (codes "L") rows) (format_named (path_in (codes "FORMAT") rows))
+
+abbrev explore_of : List Row → Task
+explore_of rows = explore (path_in (codes "SCRIPT") rows) (number_in (codes "COUNT") rows) (number_in (codes "N") rows) (flag_in (codes "failures") rows)
 
 -- the task of the command of this name, with these values
 abbrev task_named : Text → List Row → Task
 task_named name rows =
-    cond (bytes_eq name (codes "run")) (run (path_in (codes "SCRIPT") rows) (first_of (codes "JOURNAL") rows) (first_of (codes "FILE") rows))
+    cond (bytes_eq name (codes "run")) (run (path_in (codes "SCRIPT") rows) (first_of (codes "JOURNAL") rows) (first_of (codes "FILE") rows) (flag_in (codes "open") rows))
     (cond (bytes_eq name (codes "threads")) (threads_of rows)
     (cond (bytes_eq name (codes "audit")) (audit (path_in (codes "JOURNAL") rows))
     (cond (bytes_eq name (codes "history")) (history (path_in (codes "JOURNAL") rows))
     (cond (bytes_eq name (codes "explain")) (explain (path_in (codes "JOURNAL") rows) (path_in (codes "CALL") rows))
     (cond (bytes_eq name (codes "open")) (open_calls (path_in (codes "JOURNAL") rows))
     (cond (bytes_eq name (codes "check")) (check (path_in (codes "SCRIPT") rows))
-    (picture (path_in (codes "JOURNAL") rows) (first_of (codes "CALL") rows))))))))
+    (cond (bytes_eq name (codes "picture")) (picture_of rows)
+    (cond (bytes_eq name (codes "from-strace")) (from_strace (path_in (codes "RECORDING") rows) (number_in (codes "N") rows))
+    (cond (bytes_eq name (codes "explore")) (explore_of rows)
+    (schedule (path_in (codes "SCRIPT") rows) (number_in (codes "N") rows) (flag_in (codes "failures") rows)))))))))))
 
 named : (p : Text × List Row) (task : Task) → IsMet (Some p) task → task_named p.0 p.1 ≡ task_named (name_of task) p.1
 named p task met = ap (λ (name : Text). task_named name p.1) (name_is p task met)
 
+-- the number at a place, and the flag there
+number_there : (place : ℕ) (v w : Option Values) (least greatest : ℕ) (text : Text) (number : ℕ) → v ≡ w → text_at place w ≡ text → IsNumber least greatest text number → number_of (text_at place v) ≡ number
+number_there place v w least greatest text number same there writes = ap (λ (u : Option Values). number_of (text_at place u)) same ∙ (ap number_of there ∙ sym writes.value)
+
+flag_there : (place : ℕ) (v w : Option Values) (flag : Bool) → v ≡ w → text_at place w ≡ flag_text flag → is_given (text_at place v) ≡ flag
+flag_there place v w flag same there = ap (λ (u : Option Values). is_given (text_at place u)) same ∙ (ap is_given there ∙ given_is flag)
+
 -- the command and its values tell the task
 met_is : (p : Text × List Row) (task : Task) → IsMet (Some p) task → task_named p.0 p.1 ≡ task
-met_is p (run s a j) met = named p (run s a j) met ∙ ap (λ (v : Option Values). run (text_at 0 v) (value_at 1 v) (value_at 2 v)) met
+met_is p (run s a j o) met =
+    let script = ap (text_at 0) met in
+    let after = ap (value_at 1) met in
+    let file = ap (value_at 2) met in
+    let flag = flag_there 3 _ _ o met refl in
+    named p (run s a j o) met ∙ (λ i. run (script i) (after i) (file i) (flag i))
 met_is p (threads s n h j) met =
     let script = ap (text_at 0) met.1 in
-    let number = ap (λ (v : Option Values). number_of (text_at 1 v)) met.1 ∙ sym met.2.value in
-    let flag = ap (λ (v : Option Values). is_given (text_at 2 v)) met.1 ∙ given_is h in
+    let number = number_there 1 _ _ 0 greatest_seed met.0 n met.1 refl met.2 in
+    let flag = flag_there 2 _ _ h met.1 refl in
     let file = ap (value_at 3) met.1 in
     named p (threads s n h j) met ∙ (λ i. threads (script i) (number i) (flag i) (file i))
 met_is p (audit j) met = named p (audit j) met ∙ ap (λ (v : Option Values). audit (text_at 0 v)) met
@@ -148,21 +191,45 @@ met_is p (history j) met = named p (history j) met ∙ ap (λ (v : Option Values
 met_is p (explain j c) met = named p (explain j c) met ∙ ap (λ (v : Option Values). explain (text_at 0 v) (text_at 1 v)) met
 met_is p (open_calls j) met = named p (open_calls j) met ∙ ap (λ (v : Option Values). open_calls (text_at 0 v)) met
 met_is p (check s) met = named p (check s) met ∙ ap (λ (v : Option Values). check (text_at 0 v)) met
-met_is p (picture j c) met = named p (picture j c) met ∙ ap (λ (v : Option Values). picture (text_at 0 v) (value_at 1 v)) met
+met_is p (picture j c a b f) met =
+    let journal = ap (text_at 0) met.2 in
+    let call = ap (value_at 1) met.2 in
+    let first = number_there 2 _ _ 1 greatest_seed met.0 a met.2 refl met.3 in
+    let last = number_there 3 _ _ 1 greatest_seed met.1 b met.2 refl met.4 in
+    let format = ap (λ (v : Option Values). format_named (text_at 4 v)) met.2 ∙ format_is f in
+    named p (picture j c a b f) met ∙ (λ i. picture (journal i) (call i) (first i) (last i) (format i))
+met_is p (from_strace r n) met =
+    let recording = ap (text_at 0) met.1 in
+    let number = number_there 1 _ _ 1 most_nodes met.0 n met.1 refl met.2 in
+    named p (from_strace r n) met ∙ (λ i. from_strace (recording i) (number i))
+met_is p (explore s k n f) met =
+    let script = ap (text_at 0) met.2 in
+    let count = number_there 1 _ _ 1 greatest_seed met.0 k met.2 refl met.3 in
+    let number = number_there 2 _ _ 0 greatest_seed met.1 n met.2 refl met.4 in
+    let flag = flag_there 3 _ _ f met.2 refl in
+    named p (explore s k n f) met ∙ (λ i. explore (script i) (count i) (number i) (flag i))
+met_is p (schedule s n f) met =
+    let script = ap (text_at 0) met.1 in
+    let number = number_there 1 _ _ 0 greatest_seed met.0 n met.1 refl met.2 in
+    let flag = flag_there 2 _ _ f met.1 refl in
+    named p (schedule s n f) met ∙ (λ i. schedule (script i) (number i) (flag i))
 
 unmet : (values : Values) → ◌≡◌ {A = Option Values} None (Some values) → ⊥
 unmet values is = cc
 
 -- where nothing is met, or a name that no task has, or a name without one of its values
 pub nothing_met : (task : Task) → IsMet None task → ⊥
-nothing_met (run s a j) is = cc
+nothing_met (run s a j o) is = cc
 nothing_met (threads s n h j) is = unmet _ is.1
 nothing_met (audit j) is = cc
 nothing_met (history j) is = cc
 nothing_met (explain j c) is = cc
 nothing_met (open_calls j) is = cc
 nothing_met (check s) is = cc
-nothing_met (picture j c) is = cc
+nothing_met (picture j c a b f) is = unmet _ is.2
+nothing_met (from_strace r n) is = unmet _ is.1
+nothing_met (explore s k n f) is = unmet _ is.2
+nothing_met (schedule s n f) is = unmet _ is.1
 
 one_met : (met : Option (Text × List Row)) (one other : Task) → IsMet met one → IsMet met other → one ≡ other
 one_met None one other first second = absurd (nothing_met one first)
@@ -179,37 +246,98 @@ as_named name rows task met = subst (IsMet (Some (name, rows))) (sym (met_is (na
 nowhere : (text : Text) (value : Option Text) → value ≡ None → value ≡ Some text → ⊥
 nowhere text value none some = cc
 
-pub no_script : (rows : List Row) → first_of (codes "SCRIPT") rows ≡ None → (task : Task) → IsMet (Some (codes "run", rows)) task → ⊥
+-- no task has the command of this name where a value of it is missing, or is no number, flag or format
+abbrev Unmet : Text → List Row → Type 0
+Unmet name rows = (task : Task) → IsMet (Some (name, rows)) task → ⊥
+
+abbrev NoNumber : ℕ → ℕ → Text → List Row → Type 0
+NoNumber least greatest id rows = (text : Text) (number : ℕ) → one_of id rows ≡ Some text → IsNumber least greatest text number → ⊥
+
+abbrev NoFlag : Text → List Row → Type 0
+NoFlag id rows = (flag : Bool) → one_of id rows ≡ Some (flag_text flag) → ⊥
+
+pub no_script : (rows : List Row) → first_of (codes "SCRIPT") rows ≡ None → Unmet (codes "run") rows
 no_script rows none task met = nowhere _ _ none (ap (value_at 0) (as_named (codes "run") rows task met))
 
-pub no_threads_script : (rows : List Row) → first_of (codes "SCRIPT") rows ≡ None → (task : Task) → IsMet (Some (codes "threads", rows)) task → ⊥
+pub no_run_flag : (rows : List Row) → NoFlag (codes "open") rows → Unmet (codes "run") rows
+no_run_flag rows none task met = none _ (ap (value_at 3) (as_named (codes "run") rows task met))
+
+pub no_threads_script : (rows : List Row) → first_of (codes "SCRIPT") rows ≡ None → Unmet (codes "threads") rows
 no_threads_script rows none task met = nowhere _ _ none (ap (value_at 0) (as_named (codes "threads") rows task met).1)
 
-pub no_seed : (rows : List Row) → ((text : Text) (seed : ℕ) → one_of (codes "N") rows ≡ Some text → IsSeed text seed → ⊥) → (task : Task) → IsMet (Some (codes "threads", rows)) task → ⊥
+pub no_seed : (rows : List Row) → NoNumber 0 greatest_seed (codes "N") rows → Unmet (codes "threads") rows
 no_seed rows none task met =
     let is = as_named (codes "threads") rows task met in
     none is.0 _ (ap (value_at 1) is.1) is.2
 
-pub no_flag : (rows : List Row) → ((flag : Bool) → one_of (codes "stop-when-stuck") rows ≡ Some (flag_text flag) → ⊥) → (task : Task) → IsMet (Some (codes "threads", rows)) task → ⊥
+pub no_flag : (rows : List Row) → NoFlag (codes "stop-when-stuck") rows → Unmet (codes "threads") rows
 no_flag rows none task met = none _ (ap (value_at 2) (as_named (codes "threads") rows task met).1)
 
-pub no_audit : (rows : List Row) → first_of (codes "JOURNAL") rows ≡ None → (task : Task) → IsMet (Some (codes "audit", rows)) task → ⊥
+pub no_audit : (rows : List Row) → first_of (codes "JOURNAL") rows ≡ None → Unmet (codes "audit") rows
 no_audit rows none task met = nowhere _ _ none (ap (value_at 0) (as_named (codes "audit") rows task met))
 
-pub no_history : (rows : List Row) → first_of (codes "JOURNAL") rows ≡ None → (task : Task) → IsMet (Some (codes "history", rows)) task → ⊥
+pub no_history : (rows : List Row) → first_of (codes "JOURNAL") rows ≡ None → Unmet (codes "history") rows
 no_history rows none task met = nowhere _ _ none (ap (value_at 0) (as_named (codes "history") rows task met))
 
-pub no_explain : (rows : List Row) → first_of (codes "JOURNAL") rows ≡ None → (task : Task) → IsMet (Some (codes "explain", rows)) task → ⊥
+pub no_explain : (rows : List Row) → first_of (codes "JOURNAL") rows ≡ None → Unmet (codes "explain") rows
 no_explain rows none task met = nowhere _ _ none (ap (value_at 0) (as_named (codes "explain") rows task met))
 
-pub no_call : (rows : List Row) → first_of (codes "CALL") rows ≡ None → (task : Task) → IsMet (Some (codes "explain", rows)) task → ⊥
+pub no_call : (rows : List Row) → first_of (codes "CALL") rows ≡ None → Unmet (codes "explain") rows
 no_call rows none task met = nowhere _ _ none (ap (value_at 1) (as_named (codes "explain") rows task met))
 
-pub no_open : (rows : List Row) → first_of (codes "JOURNAL") rows ≡ None → (task : Task) → IsMet (Some (codes "open", rows)) task → ⊥
+pub no_open : (rows : List Row) → first_of (codes "JOURNAL") rows ≡ None → Unmet (codes "open") rows
 no_open rows none task met = nowhere _ _ none (ap (value_at 0) (as_named (codes "open") rows task met))
 
-pub no_check : (rows : List Row) → first_of (codes "SCRIPT") rows ≡ None → (task : Task) → IsMet (Some (codes "check", rows)) task → ⊥
+pub no_check : (rows : List Row) → first_of (codes "SCRIPT") rows ≡ None → Unmet (codes "check") rows
 no_check rows none task met = nowhere _ _ none (ap (value_at 0) (as_named (codes "check") rows task met))
 
-pub no_picture : (rows : List Row) → first_of (codes "JOURNAL") rows ≡ None → (task : Task) → IsMet (Some (codes "picture", rows)) task → ⊥
-no_picture rows none task met = nowhere _ _ none (ap (value_at 0) (as_named (codes "picture") rows task met))
+pub no_picture : (rows : List Row) → first_of (codes "JOURNAL") rows ≡ None → Unmet (codes "picture") rows
+no_picture rows none task met = nowhere _ _ none (ap (value_at 0) (as_named (codes "picture") rows task met).2)
+
+pub no_first : (rows : List Row) → NoNumber 1 greatest_seed (codes "K") rows → Unmet (codes "picture") rows
+no_first rows none task met =
+    let is = as_named (codes "picture") rows task met in
+    none is.0 _ (ap (value_at 2) is.2) is.3
+
+pub no_last : (rows : List Row) → NoNumber 1 greatest_seed (codes "L") rows → Unmet (codes "picture") rows
+no_last rows none task met =
+    let is = as_named (codes "picture") rows task met in
+    none is.1 _ (ap (value_at 3) is.2) is.4
+
+pub no_format : (rows : List Row) → ((format : Format) → first_of (codes "FORMAT") rows ≡ Some (format_text format) → ⊥) → Unmet (codes "picture") rows
+no_format rows none task met = none _ (ap (value_at 4) (as_named (codes "picture") rows task met).2)
+
+pub no_recording : (rows : List Row) → first_of (codes "RECORDING") rows ≡ None → Unmet (codes "from-strace") rows
+no_recording rows none task met = nowhere _ _ none (ap (value_at 0) (as_named (codes "from-strace") rows task met).1)
+
+pub no_nodes : (rows : List Row) → NoNumber 1 most_nodes (codes "N") rows → Unmet (codes "from-strace") rows
+no_nodes rows none task met =
+    let is = as_named (codes "from-strace") rows task met in
+    none is.0 _ (ap (value_at 1) is.1) is.2
+
+pub no_explored_script : (rows : List Row) → first_of (codes "SCRIPT") rows ≡ None → Unmet (codes "explore") rows
+no_explored_script rows none task met = nowhere _ _ none (ap (value_at 0) (as_named (codes "explore") rows task met).2)
+
+pub no_count : (rows : List Row) → NoNumber 1 greatest_seed (codes "COUNT") rows → Unmet (codes "explore") rows
+no_count rows none task met =
+    let is = as_named (codes "explore") rows task met in
+    none is.0 _ (ap (value_at 1) is.2) is.3
+
+pub no_first_seed : (rows : List Row) → NoNumber 0 greatest_seed (codes "N") rows → Unmet (codes "explore") rows
+no_first_seed rows none task met =
+    let is = as_named (codes "explore") rows task met in
+    none is.1 _ (ap (value_at 2) is.2) is.4
+
+pub no_explored_flag : (rows : List Row) → NoFlag (codes "failures") rows → Unmet (codes "explore") rows
+no_explored_flag rows none task met = none _ (ap (value_at 3) (as_named (codes "explore") rows task met).2)
+
+pub no_scheduled_script : (rows : List Row) → first_of (codes "SCRIPT") rows ≡ None → Unmet (codes "schedule") rows
+no_scheduled_script rows none task met = nowhere _ _ none (ap (value_at 0) (as_named (codes "schedule") rows task met).1)
+
+pub no_scheduled_seed : (rows : List Row) → NoNumber 0 greatest_seed (codes "N") rows → Unmet (codes "schedule") rows
+no_scheduled_seed rows none task met =
+    let is = as_named (codes "schedule") rows task met in
+    none is.0 _ (ap (value_at 1) is.1) is.2
+
+pub no_scheduled_flag : (rows : List Row) → NoFlag (codes "failures") rows → Unmet (codes "schedule") rows
+no_scheduled_flag rows none task met = none _ (ap (value_at 2) (as_named (codes "schedule") rows task met).1)

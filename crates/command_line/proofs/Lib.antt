@@ -1,6 +1,13 @@
 pub mod PlainWords
 pub mod CommandLine
+pub mod CommandWords
+pub mod BuiltCommands
 pub mod Flags
-pub mod Seeds
-pub mod Tables
+pub mod Formats
+pub mod Numbers
+pub mod ExploreWords
+pub mod PictureWords
+pub mod ScheduleWords
+pub mod StraceWords
 pub mod ThreadsWords
+pub mod Tables

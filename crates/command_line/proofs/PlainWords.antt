@@ -1,17 +1,21 @@
 -- What clap makes of plain words.
-use Rattle.std.proofs.Common.{arith, refl, sym, subst, ap, codes, true, false, ℕ, List, Some, None, [], ◌∷◌, ◌≡◌, ◌≢◌}
+use Rattle.std.proofs.Common.{arith, refl, sym, subst, codes, true, false, Bool, List, Some, None, [], ◌∷◌, ◌≡◌, ◌≢◌}
 use Rattle.std.specs.Prelude.{decimal, slice_get}
-use Rattle.std.specs.Str.{bytes_eq}
 use Rattle.std.specs.List.{All}
-use Rattle.std.proofs.lemmas.Bool.{ne_eqb}
-use Rattle.clap.specs.Lexer.{strip_byte}
-use Rattle.clap.specs.Words.{Text, fault_of, is_simple, is_simple_and_free, subcommand_of}
+use Rattle.clap.specs.Words.{Text, is_simple, is_simple_and_free}
 use Rattle.clap.proofs.OnLiterals.{clap_on_literals}
-use Rattle.command_line.specs.Program.{program_app, IsMet}
-use Rattle.command_line.specs.Tasks.{Task, run, threads, audit, history, explain, open_calls, check, picture, HasPlainWords, paths_of, plain_words_of}
+use Rattle.command_line.specs.Program.{program_app}
+use Rattle.command_line.specs.Tasks.{Task, run, threads, audit, history, explain, open_calls, check, picture, from_strace, explore, schedule, flag_words, greatest_seed, most_nodes, HasPlainWords, paths_of, plain_words_of}
 use Rattle.command_line.specs.Words.{AsksFor, IsPlain}
-use Rattle.command_line.proofs.Seeds.{one_writes, seed_text}
-use Rattle.command_line.proofs.ThreadsWords.{seeded_asks, seeded_to_asks, stopping_asks, stopping_to_asks}
+use Rattle.command_line.specs.declared.format.Format.TheVariants.{Svg}
+use Rattle.command_line.proofs.BuiltCommands.{audit_command, check_command, explain_command, explore_command, history_command, open_command, picture_command, run_command, schedule_command, strace_command, threads_command}
+use Rattle.command_line.proofs.CommandWords.{asks_by, is_path, IsPath}
+use Rattle.command_line.proofs.ExploreWords.{explore_asks}
+use Rattle.command_line.proofs.Numbers.{greatest_writes, hundred_writes, number_text, one_writes}
+use Rattle.command_line.proofs.PictureWords.{around_asks, picture_asks}
+use Rattle.command_line.proofs.ScheduleWords.{schedule_asks}
+use Rattle.command_line.proofs.StraceWords.{strace_asks}
+use Rattle.command_line.proofs.ThreadsWords.{threads_asks, written_asks}
 
 pub is_simple_program : is_simple program_app ≡ true
 unfolding clap_on_literals
@@ -21,201 +25,134 @@ pub is_free_program : is_simple_and_free program_app ≡ true
 unfolding clap_on_literals
 is_free_program = refl
 
--- the path is read as no option
-record IsPath (path : Text) : Type 0 where
-  pub no_minus : strip_byte 45 path ≡ None
-  pub no_dashes : bytes_eq path (45 ∷ 45 ∷ []) ≡ false
+-- the commands with one path
+module _ (program path : Text) (p : IsPath path) where
+  audit_asks : AsksFor (program ∷ codes "audit" ∷ path ∷ []) (audit path)
+  unfolding clap_on_literals
+  audit_asks = asks_by _ _ audit_command program (path ∷ []) (audit path) (rw (p.no_dashes, p.no_minus, p.no_minus) refl) (rw (p.no_dashes, p.no_minus, p.no_minus) refl)
 
-is_path : (path : Text) → slice_get path 0 ≢ Some 45 → IsPath path
-is_path [] plain = record { no_minus = refl; no_dashes = refl }
-is_path (x ∷ xs) plain =
-    let differs : x ≢ 45 = λ is. plain (ap (λ (y : ℕ). Some y) is) in
-    record { no_minus = rw (ne_eqb x 45 differs) refl; no_dashes = rw (ne_eqb x 45 differs) refl }
+  history_asks : AsksFor (program ∷ codes "history" ∷ path ∷ []) (history path)
+  unfolding clap_on_literals
+  history_asks = asks_by _ _ history_command program (path ∷ []) (history path) (rw (p.no_dashes, p.no_minus, p.no_minus) refl) (rw (p.no_dashes, p.no_minus, p.no_minus) refl)
+
+  open_asks : AsksFor (program ∷ codes "open" ∷ path ∷ []) (open_calls path)
+  unfolding clap_on_literals
+  open_asks = asks_by _ _ open_command program (path ∷ []) (open_calls path) (rw (p.no_dashes, p.no_minus, p.no_minus) refl) (rw (p.no_dashes, p.no_minus, p.no_minus) refl)
+
+  check_asks : AsksFor (program ∷ codes "check" ∷ path ∷ []) (check path)
+  unfolding clap_on_literals
+  check_asks = asks_by _ _ check_command program (path ∷ []) (check path) (rw (p.no_dashes, p.no_minus, p.no_minus) refl) (rw (p.no_dashes, p.no_minus, p.no_minus) refl)
+
+  -- what is left out
+  left_threads : AsksFor (program ∷ codes "threads" ∷ path ∷ []) (threads path 1 false None)
+  unfolding clap_on_literals
+  left_threads = asks_by _ _ threads_command program (path ∷ []) (threads path 1 false None) (rw (p.no_dashes, p.no_minus, p.no_minus) refl) (codes "1", rw (p.no_dashes, p.no_minus, p.no_minus) refl, one_writes 0 greatest_seed (omega arith) (omega arith))
+
+  left_picture : AsksFor (program ∷ codes "picture" ∷ path ∷ []) (picture path None 1 greatest_seed Svg)
+  unfolding clap_on_literals
+  left_picture =
+      asks_by _ _ picture_command program (path ∷ []) (picture path None 1 greatest_seed Svg) (rw (p.no_dashes, p.no_minus, p.no_minus) refl)
+      (codes "1", codes "4294967295", rw (p.no_dashes, p.no_minus, p.no_minus) refl, one_writes 1 greatest_seed (omega arith) (omega arith), greatest_writes)
+
+  left_strace : AsksFor (program ∷ codes "from-strace" ∷ path ∷ []) (from_strace path 1)
+  unfolding clap_on_literals
+  left_strace = asks_by _ _ strace_command program (path ∷ []) (from_strace path 1) (rw (p.no_dashes, p.no_minus, p.no_minus) refl) (codes "1", rw (p.no_dashes, p.no_minus, p.no_minus) refl, one_writes 1 most_nodes (omega arith) (omega arith))
+
+  left_explore : AsksFor (program ∷ codes "explore" ∷ path ∷ []) (explore path 100 1 false)
+  unfolding clap_on_literals
+  left_explore =
+      asks_by _ _ explore_command program (path ∷ []) (explore path 100 1 false) (rw (p.no_dashes, p.no_minus, p.no_minus) refl)
+      (codes "100", codes "1", rw (p.no_dashes, p.no_minus, p.no_minus) refl, hundred_writes, one_writes 0 greatest_seed (omega arith) (omega arith))
+
+  left_schedule : AsksFor (program ∷ codes "schedule" ∷ path ∷ []) (schedule path 1 false)
+  unfolding clap_on_literals
+  left_schedule = asks_by _ _ schedule_command program (path ∷ []) (schedule path 1 false) (rw (p.no_dashes, p.no_minus, p.no_minus) refl) (codes "1", rw (p.no_dashes, p.no_minus, p.no_minus) refl, one_writes 0 greatest_seed (omega arith) (omega arith))
+
+-- what is asked where no option is given
+module _ (program path : Text) (plain : slice_get path 0 ≢ Some 45) where
+  pub bare_threads_asks : AsksFor (program ∷ codes "threads" ∷ path ∷ []) (threads path 1 false None)
+  bare_threads_asks = left_threads program path (is_path path plain)
+
+  pub bare_picture_asks : AsksFor (program ∷ codes "picture" ∷ path ∷ []) (picture path None 1 greatest_seed Svg)
+  bare_picture_asks = left_picture program path (is_path path plain)
+
+  pub bare_strace_asks : AsksFor (program ∷ codes "from-strace" ∷ path ∷ []) (from_strace path 1)
+  bare_strace_asks = left_strace program path (is_path path plain)
+
+  pub bare_explore_asks : AsksFor (program ∷ codes "explore" ∷ path ∷ []) (explore path 100 1 false)
+  bare_explore_asks = left_explore program path (is_path path plain)
+
+  pub bare_schedule_asks : AsksFor (program ∷ codes "schedule" ∷ path ∷ []) (schedule path 1 false)
+  bare_schedule_asks = left_schedule program path (is_path path plain)
+
+-- `explain JOURNAL CALL`
+explain_asks : (program journal call : Text) → IsPath journal → IsPath call → AsksFor (program ∷ codes "explain" ∷ journal ∷ call ∷ []) (explain journal call)
+unfolding clap_on_literals
+explain_asks program journal call p q =
+    asks_by _ _ explain_command program (journal ∷ call ∷ []) (explain journal call) (rw (p.no_dashes, p.no_minus, p.no_minus, q.no_dashes, q.no_minus, q.no_minus) refl)
+    (rw (p.no_dashes, p.no_minus, p.no_minus, q.no_dashes, q.no_minus, q.no_minus) refl)
+
+-- `run SCRIPT`, with what may stand behind it
+module _ (program script : Text) (p : IsPath script) where
+  run_asks : (listed : Bool) → AsksFor (program ∷ codes "run" ∷ script ∷ flag_words (codes "--open") listed) (run script None None listed)
+  unfolding clap_on_literals
+  run_asks false = asks_by _ _ run_command program (script ∷ []) (run script None None false) (rw (p.no_dashes, p.no_minus, p.no_minus) refl) (rw (p.no_dashes, p.no_minus, p.no_minus) refl)
+  run_asks true = asks_by _ _ run_command program (script ∷ codes "--open" ∷ []) (run script None None true) (rw (p.no_dashes, p.no_minus, p.no_minus) refl) (rw (p.no_dashes, p.no_minus, p.no_minus) refl)
+
+  run_to_asks : (file : Text) → IsPath file → (listed : Bool) → AsksFor (program ∷ codes "run" ∷ script ∷ codes "--journal" ∷ file ∷ flag_words (codes "--open") listed) (run script None (Some file) listed)
+  unfolding clap_on_literals
+  run_to_asks file f false = asks_by _ _ run_command program (script ∷ codes "--journal" ∷ file ∷ []) (run script None (Some file) false) (rw (p.no_dashes, p.no_minus, p.no_minus, f.no_dashes, f.no_minus, f.no_minus) refl) (rw (p.no_dashes, p.no_minus, p.no_minus, f.no_dashes, f.no_minus, f.no_minus) refl)
+  run_to_asks file f true = asks_by _ _ run_command program (script ∷ codes "--journal" ∷ file ∷ codes "--open" ∷ []) (run script None (Some file) true) (rw (p.no_dashes, p.no_minus, p.no_minus, f.no_dashes, f.no_minus, f.no_minus) refl) (rw (p.no_dashes, p.no_minus, p.no_minus, f.no_dashes, f.no_minus, f.no_minus) refl)
+
+  run_after_asks : (after : Text) → IsPath after → (listed : Bool) → AsksFor (program ∷ codes "run" ∷ script ∷ codes "--after" ∷ after ∷ flag_words (codes "--open") listed) (run script (Some after) None listed)
+  unfolding clap_on_literals
+  run_after_asks after a false = asks_by _ _ run_command program (script ∷ codes "--after" ∷ after ∷ []) (run script (Some after) None false) (rw (p.no_dashes, p.no_minus, p.no_minus, a.no_dashes, a.no_minus, a.no_minus) refl) (rw (p.no_dashes, p.no_minus, p.no_minus, a.no_dashes, a.no_minus, a.no_minus) refl)
+  run_after_asks after a true = asks_by _ _ run_command program (script ∷ codes "--after" ∷ after ∷ codes "--open" ∷ []) (run script (Some after) None true) (rw (p.no_dashes, p.no_minus, p.no_minus, a.no_dashes, a.no_minus, a.no_minus) refl) (rw (p.no_dashes, p.no_minus, p.no_minus, a.no_dashes, a.no_minus, a.no_minus) refl)
+
+  run_after_to_asks : (after file : Text) → IsPath after → IsPath file → (listed : Bool) → AsksFor (program ∷ codes "run" ∷ script ∷ codes "--after" ∷ after ∷ codes "--journal" ∷ file ∷ flag_words (codes "--open") listed) (run script (Some after) (Some file) listed)
+  unfolding clap_on_literals
+  run_after_to_asks after file a f false = asks_by _ _ run_command program (script ∷ codes "--after" ∷ after ∷ codes "--journal" ∷ file ∷ []) (run script (Some after) (Some file) false) (rw (p.no_dashes, p.no_minus, p.no_minus, a.no_dashes, a.no_minus, a.no_minus, f.no_dashes, f.no_minus, f.no_minus) refl) (rw (p.no_dashes, p.no_minus, p.no_minus, a.no_dashes, a.no_minus, a.no_minus, f.no_dashes, f.no_minus, f.no_minus) refl)
+  run_after_to_asks after file a f true = asks_by _ _ run_command program (script ∷ codes "--after" ∷ after ∷ codes "--journal" ∷ file ∷ codes "--open" ∷ []) (run script (Some after) (Some file) true) (rw (p.no_dashes, p.no_minus, p.no_minus, a.no_dashes, a.no_minus, a.no_minus, f.no_dashes, f.no_minus, f.no_minus) refl) (rw (p.no_dashes, p.no_minus, p.no_minus, a.no_dashes, a.no_minus, a.no_minus, f.no_dashes, f.no_minus, f.no_minus) refl)
 
 abbrev words_of : Text → Task → List Text
 words_of program task = program ∷ plain_words_of task
 
-run_met : (program script : Text) → strip_byte 45 script ≡ None → bytes_eq script (45 ∷ 45 ∷ []) ≡ false → IsMet (subcommand_of program_app (words_of program (run script None None))) (run script None None)
-unfolding clap_on_literals
-run_met program script no_minus no_dashes = rw (no_dashes, no_minus, no_minus) refl
-
-run_taken : (program script : Text) → strip_byte 45 script ≡ None → bytes_eq script (45 ∷ 45 ∷ []) ≡ false → fault_of program_app (words_of program (run script None None)) ≡ []
-unfolding clap_on_literals
-run_taken program script no_minus no_dashes = rw (no_dashes, no_minus, no_minus) refl
-
-audit_met : (program journal : Text) → strip_byte 45 journal ≡ None → bytes_eq journal (45 ∷ 45 ∷ []) ≡ false → IsMet (subcommand_of program_app (words_of program (audit journal))) (audit journal)
-unfolding clap_on_literals
-audit_met program journal no_minus no_dashes = rw (no_dashes, no_minus, no_minus) refl
-
-audit_taken : (program journal : Text) → strip_byte 45 journal ≡ None → bytes_eq journal (45 ∷ 45 ∷ []) ≡ false → fault_of program_app (words_of program (audit journal)) ≡ []
-unfolding clap_on_literals
-audit_taken program journal no_minus no_dashes = rw (no_dashes, no_minus, no_minus) refl
-
-history_met : (program journal : Text) → strip_byte 45 journal ≡ None → bytes_eq journal (45 ∷ 45 ∷ []) ≡ false → IsMet (subcommand_of program_app (words_of program (history journal))) (history journal)
-unfolding clap_on_literals
-history_met program journal no_minus no_dashes = rw (no_dashes, no_minus, no_minus) refl
-
-history_taken : (program journal : Text) → strip_byte 45 journal ≡ None → bytes_eq journal (45 ∷ 45 ∷ []) ≡ false → fault_of program_app (words_of program (history journal)) ≡ []
-unfolding clap_on_literals
-history_taken program journal no_minus no_dashes = rw (no_dashes, no_minus, no_minus) refl
-
-open_met : (program journal : Text) → strip_byte 45 journal ≡ None → bytes_eq journal (45 ∷ 45 ∷ []) ≡ false → IsMet (subcommand_of program_app (words_of program (open_calls journal))) (open_calls journal)
-unfolding clap_on_literals
-open_met program journal no_minus no_dashes = rw (no_dashes, no_minus, no_minus) refl
-
-open_taken : (program journal : Text) → strip_byte 45 journal ≡ None → bytes_eq journal (45 ∷ 45 ∷ []) ≡ false → fault_of program_app (words_of program (open_calls journal)) ≡ []
-unfolding clap_on_literals
-open_taken program journal no_minus no_dashes = rw (no_dashes, no_minus, no_minus) refl
-
-check_met : (program script : Text) → strip_byte 45 script ≡ None → bytes_eq script (45 ∷ 45 ∷ []) ≡ false → IsMet (subcommand_of program_app (words_of program (check script))) (check script)
-unfolding clap_on_literals
-check_met program script no_minus no_dashes = rw (no_dashes, no_minus, no_minus) refl
-
-check_taken : (program script : Text) → strip_byte 45 script ≡ None → bytes_eq script (45 ∷ 45 ∷ []) ≡ false → fault_of program_app (words_of program (check script)) ≡ []
-unfolding clap_on_literals
-check_taken program script no_minus no_dashes = rw (no_dashes, no_minus, no_minus) refl
-
-picture_met : (program journal : Text) → strip_byte 45 journal ≡ None → bytes_eq journal (45 ∷ 45 ∷ []) ≡ false → IsMet (subcommand_of program_app (words_of program (picture journal None))) (picture journal None)
-unfolding clap_on_literals
-picture_met program journal no_minus no_dashes = rw (no_dashes, no_minus, no_minus) refl
-
-picture_taken : (program journal : Text) → strip_byte 45 journal ≡ None → bytes_eq journal (45 ∷ 45 ∷ []) ≡ false → fault_of program_app (words_of program (picture journal None)) ≡ []
-unfolding clap_on_literals
-picture_taken program journal no_minus no_dashes = rw (no_dashes, no_minus, no_minus) refl
-
--- `explain JOURNAL CALL`, and `picture JOURNAL --around CALL`
-module _ (program journal call : Text) (journal_minus : strip_byte 45 journal ≡ None) (journal_dashes : bytes_eq journal (45 ∷ 45 ∷ []) ≡ false)
-    (call_minus : strip_byte 45 call ≡ None) (call_dashes : bytes_eq call (45 ∷ 45 ∷ []) ≡ false) where
-  explain_met : IsMet (subcommand_of program_app (words_of program (explain journal call))) (explain journal call)
-  unfolding clap_on_literals
-  explain_met = rw (journal_dashes, journal_minus, journal_minus, call_dashes, call_minus, call_minus) refl
-
-  explain_taken : fault_of program_app (words_of program (explain journal call)) ≡ []
-  unfolding clap_on_literals
-  explain_taken = rw (journal_dashes, journal_minus, journal_minus, call_dashes, call_minus, call_minus) refl
-
-  picture_around_met : IsMet (subcommand_of program_app (words_of program (picture journal (Some call)))) (picture journal (Some call))
-  unfolding clap_on_literals
-  picture_around_met = rw (journal_dashes, journal_minus, journal_minus, call_dashes, call_minus, call_minus) refl
-
-  picture_around_taken : fault_of program_app (words_of program (picture journal (Some call))) ≡ []
-  unfolding clap_on_literals
-  picture_around_taken = rw (journal_dashes, journal_minus, journal_minus, call_dashes, call_minus, call_minus) refl
-
-module _ (program script file : Text) (script_minus : strip_byte 45 script ≡ None) (script_dashes : bytes_eq script (45 ∷ 45 ∷ []) ≡ false)
-    (file_minus : strip_byte 45 file ≡ None) (file_dashes : bytes_eq file (45 ∷ 45 ∷ []) ≡ false) where
-  run_to_met : IsMet (subcommand_of program_app (words_of program (run script None (Some file)))) (run script None (Some file))
-  unfolding clap_on_literals
-  run_to_met = rw (script_dashes, script_minus, script_minus, file_dashes, file_minus, file_minus) refl
-
-  run_to_taken : fault_of program_app (words_of program (run script None (Some file))) ≡ []
-  unfolding clap_on_literals
-  run_to_taken = rw (script_dashes, script_minus, script_minus, file_dashes, file_minus, file_minus) refl
-
-module _ (program script after : Text) (script_minus : strip_byte 45 script ≡ None) (script_dashes : bytes_eq script (45 ∷ 45 ∷ []) ≡ false)
-    (after_minus : strip_byte 45 after ≡ None) (after_dashes : bytes_eq after (45 ∷ 45 ∷ []) ≡ false) where
-  run_after_met : IsMet (subcommand_of program_app (words_of program (run script (Some after) None))) (run script (Some after) None)
-  unfolding clap_on_literals
-  run_after_met = rw (script_dashes, script_minus, script_minus, after_dashes, after_minus, after_minus) refl
-
-  run_after_taken : fault_of program_app (words_of program (run script (Some after) None)) ≡ []
-  unfolding clap_on_literals
-  run_after_taken = rw (script_dashes, script_minus, script_minus, after_dashes, after_minus, after_minus) refl
-
-module _ (program script after file : Text) (script_minus : strip_byte 45 script ≡ None) (script_dashes : bytes_eq script (45 ∷ 45 ∷ []) ≡ false)
-    (after_minus : strip_byte 45 after ≡ None) (after_dashes : bytes_eq after (45 ∷ 45 ∷ []) ≡ false)
-    (file_minus : strip_byte 45 file ≡ None) (file_dashes : bytes_eq file (45 ∷ 45 ∷ []) ≡ false) where
-  run_after_to_met : IsMet (subcommand_of program_app (words_of program (run script (Some after) (Some file)))) (run script (Some after) (Some file))
-  unfolding clap_on_literals
-  run_after_to_met = rw (script_dashes, script_minus, script_minus, after_dashes, after_minus, after_minus, file_dashes, file_minus, file_minus) refl
-
-  run_after_to_taken : fault_of program_app (words_of program (run script (Some after) (Some file))) ≡ []
-  unfolding clap_on_literals
-  run_after_to_taken = rw (script_dashes, script_minus, script_minus, after_dashes, after_minus, after_minus, file_dashes, file_minus, file_minus) refl
-
--- `threads SCRIPT`, of which the seed is 1
-module _ (program script : Text) (no_minus : strip_byte 45 script ≡ None) (no_dashes : bytes_eq script (45 ∷ 45 ∷ []) ≡ false) where
-  bare_met : IsMet (subcommand_of program_app (program ∷ codes "threads" ∷ script ∷ [])) (threads script 1 false None)
-  unfolding clap_on_literals
-  bare_met = (codes "1", rw (no_dashes, no_minus, no_minus) refl, one_writes)
-
-  bare_taken : fault_of program_app (program ∷ codes "threads" ∷ script ∷ []) ≡ []
-  unfolding clap_on_literals
-  bare_taken = rw (no_dashes, no_minus, no_minus) refl
-
-pub bare_asks : (program script : Text) → slice_get script 0 ≢ Some 45 → AsksFor (program ∷ codes "threads" ∷ script ∷ []) (threads script 1 false None)
-bare_asks program script plain =
-    let p = is_path script plain in
-    record { taken = bare_taken program script p.no_minus p.no_dashes; met = bare_met program script p.no_minus p.no_dashes }
-
 plain_task : (program : Text) (task : Task) → All (λ path. slice_get path 0 ≢ Some 45) (paths_of task) → HasPlainWords task → AsksFor (words_of program task) task
-plain_task program (run script None None) plain within =
-    let p = is_path script (plain 0 [] (omega arith)) in
-    record { taken = run_taken program script p.no_minus p.no_dashes; met = run_met program script p.no_minus p.no_dashes }
-plain_task program (run script None (Some file)) plain within =
-    let p = is_path script (plain 0 [] (omega arith)) in
-    let q = is_path file (plain 1 [] (omega arith)) in
-    record { taken = run_to_taken program script file p.no_minus p.no_dashes q.no_minus q.no_dashes; met = run_to_met program script file p.no_minus p.no_dashes q.no_minus q.no_dashes }
-plain_task program (run script (Some after) None) plain within =
-    let p = is_path script (plain 0 [] (omega arith)) in
-    let q = is_path after (plain 1 [] (omega arith)) in
-    record { taken = run_after_taken program script after p.no_minus p.no_dashes q.no_minus q.no_dashes; met = run_after_met program script after p.no_minus p.no_dashes q.no_minus q.no_dashes }
-plain_task program (run script (Some after) (Some file)) plain within =
-    let p = is_path script (plain 0 [] (omega arith)) in
-    let q = is_path after (plain 1 [] (omega arith)) in
-    let r = is_path file (plain 2 [] (omega arith)) in
-    record {
-      taken = run_after_to_taken program script after file p.no_minus p.no_dashes q.no_minus q.no_dashes r.no_minus r.no_dashes;
-      met = run_after_to_met program script after file p.no_minus p.no_dashes q.no_minus q.no_dashes r.no_minus r.no_dashes;
-    }
+plain_task program (run script None None listed) plain within = run_asks program script (is_path script (plain 0 [] (omega arith))) listed
+plain_task program (run script None (Some file) listed) plain within =
+    run_to_asks program script (is_path script (plain 0 [] (omega arith))) file (is_path file (plain 1 [] (omega arith))) listed
+plain_task program (run script (Some after) None listed) plain within =
+    run_after_asks program script (is_path script (plain 0 [] (omega arith))) after (is_path after (plain 1 [] (omega arith))) listed
+plain_task program (run script (Some after) (Some file) listed) plain within =
+    run_after_to_asks program script (is_path script (plain 0 [] (omega arith))) after file (is_path after (plain 1 [] (omega arith))) (is_path file (plain 2 [] (omega arith))) listed
 plain_task program (threads script seed false None) plain within =
-    let p = is_path script (plain 0 [] (omega arith)) in
-    let n = seed_text seed within in
-    let q = is_path (decimal seed) n.no_option in
-    seeded_asks program script (decimal seed) seed p.no_minus p.no_dashes q.no_minus q.no_dashes n.fits n.writes
-plain_task program (threads script seed false (Some file)) plain within =
-    let p = is_path script (plain 0 [] (omega arith)) in
-    let r = is_path file (plain 1 [] (omega arith)) in
-    let n = seed_text seed within in
-    let q = is_path (decimal seed) n.no_option in
-    seeded_to_asks program script (decimal seed) seed p.no_minus p.no_dashes q.no_minus q.no_dashes n.fits n.writes file r.no_minus r.no_dashes
+    threads_asks program script (decimal seed) seed (is_path script (plain 0 [] (omega arith))) (number_text 0 greatest_seed seed (omega arith) (omega arith) within) false
 plain_task program (threads script seed true None) plain within =
-    let p = is_path script (plain 0 [] (omega arith)) in
-    let n = seed_text seed within in
-    let q = is_path (decimal seed) n.no_option in
-    stopping_asks program script (decimal seed) seed p.no_minus p.no_dashes q.no_minus q.no_dashes n.fits n.writes
+    threads_asks program script (decimal seed) seed (is_path script (plain 0 [] (omega arith))) (number_text 0 greatest_seed seed (omega arith) (omega arith) within) true
+plain_task program (threads script seed false (Some file)) plain within =
+    written_asks program script (decimal seed) seed (is_path script (plain 0 [] (omega arith))) (number_text 0 greatest_seed seed (omega arith) (omega arith) within) file
+    (is_path file (plain 1 [] (omega arith))) false
 plain_task program (threads script seed true (Some file)) plain within =
-    let p = is_path script (plain 0 [] (omega arith)) in
-    let r = is_path file (plain 1 [] (omega arith)) in
-    let n = seed_text seed within in
-    let q = is_path (decimal seed) n.no_option in
-    stopping_to_asks program script (decimal seed) seed p.no_minus p.no_dashes q.no_minus q.no_dashes n.fits n.writes file r.no_minus r.no_dashes
-plain_task program (audit journal) plain within =
-    let p = is_path journal (plain 0 [] (omega arith)) in
-    record { taken = audit_taken program journal p.no_minus p.no_dashes; met = audit_met program journal p.no_minus p.no_dashes }
-plain_task program (history journal) plain within =
-    let p = is_path journal (plain 0 [] (omega arith)) in
-    record { taken = history_taken program journal p.no_minus p.no_dashes; met = history_met program journal p.no_minus p.no_dashes }
-plain_task program (explain journal call) plain within =
-    let p = is_path journal (plain 0 [] (omega arith)) in
-    let q = is_path call (plain 1 [] (omega arith)) in
-    record { taken = explain_taken program journal call p.no_minus p.no_dashes q.no_minus q.no_dashes; met = explain_met program journal call p.no_minus p.no_dashes q.no_minus q.no_dashes }
-plain_task program (open_calls journal) plain within =
-    let p = is_path journal (plain 0 [] (omega arith)) in
-    record { taken = open_taken program journal p.no_minus p.no_dashes; met = open_met program journal p.no_minus p.no_dashes }
-plain_task program (check script) plain within =
-    let p = is_path script (plain 0 [] (omega arith)) in
-    record { taken = check_taken program script p.no_minus p.no_dashes; met = check_met program script p.no_minus p.no_dashes }
-plain_task program (picture journal None) plain within =
-    let p = is_path journal (plain 0 [] (omega arith)) in
-    record { taken = picture_taken program journal p.no_minus p.no_dashes; met = picture_met program journal p.no_minus p.no_dashes }
-plain_task program (picture journal (Some call)) plain within =
-    let p = is_path journal (plain 0 [] (omega arith)) in
-    let q = is_path call (plain 1 [] (omega arith)) in
-    record {
-      taken = picture_around_taken program journal call p.no_minus p.no_dashes q.no_minus q.no_dashes;
-      met = picture_around_met program journal call p.no_minus p.no_dashes q.no_minus q.no_dashes;
-    }
+    written_asks program script (decimal seed) seed (is_path script (plain 0 [] (omega arith))) (number_text 0 greatest_seed seed (omega arith) (omega arith) within) file
+    (is_path file (plain 1 [] (omega arith))) true
+plain_task program (audit journal) plain within = audit_asks program journal (is_path journal (plain 0 [] (omega arith)))
+plain_task program (history journal) plain within = history_asks program journal (is_path journal (plain 0 [] (omega arith)))
+plain_task program (explain journal call) plain within = explain_asks program journal call (is_path journal (plain 0 [] (omega arith))) (is_path call (plain 1 [] (omega arith)))
+plain_task program (open_calls journal) plain within = open_asks program journal (is_path journal (plain 0 [] (omega arith)))
+plain_task program (check script) plain within = check_asks program script (is_path script (plain 0 [] (omega arith)))
+plain_task program (picture journal None first last format) plain within =
+    picture_asks program journal (decimal first) (decimal last) first last format (is_path journal (plain 0 [] (omega arith)))
+    (number_text 1 greatest_seed first (omega arith) within.0 within.1) (number_text 1 greatest_seed last (omega arith) within.2 within.3)
+plain_task program (picture journal (Some call) first last format) plain within =
+    around_asks program journal (decimal first) (decimal last) first last format (is_path journal (plain 0 [] (omega arith)))
+    (number_text 1 greatest_seed first (omega arith) within.0 within.1) (number_text 1 greatest_seed last (omega arith) within.2 within.3) call (is_path call (plain 1 [] (omega arith)))
+plain_task program (from_strace recording nodes) plain within =
+    strace_asks program recording (decimal nodes) nodes (is_path recording (plain 0 [] (omega arith))) (number_text 1 most_nodes nodes (omega arith) within.0 within.1)
+plain_task program (explore script seeds first failures) plain within =
+    explore_asks program script (decimal seeds) (decimal first) seeds first (is_path script (plain 0 [] (omega arith)))
+    (number_text 1 greatest_seed seeds (omega arith) within.0 within.1) (number_text 0 greatest_seed first (omega arith) (omega arith) within.2) failures
+plain_task program (schedule script seed failures) plain within =
+    schedule_asks program script (decimal seed) seed (is_path script (plain 0 [] (omega arith))) (number_text 0 greatest_seed seed (omega arith) (omega arith) within) failures
 
 pub plain_asks : (words : List Text) (task : Task) → IsPlain words task → AsksFor words task
 plain_asks words task plain =

@@ -1,11 +1,12 @@
 -- What the values and the errors of clap are to the program.
-use Rattle.std.specs.Prelude.{◌≡◌, ◌≢◌, ◌⊎◌, ⊤, List, MatchOption, Option}
+use Rattle.std.specs.Prelude.{◌≡◌, ◌≢◌, ◌⊎◌, ⊤, ℕ, Bool, List, MatchOption, Option, Some}
 use Rattle.clap.specs.Words.{IsAmong, Row, Text, fault_of}
 use Rattle.clap.specs.declared.error.kind.ErrorKind.{ErrorKind}
 use Rattle.clap.specs.declared.error.kind.ErrorKind.TheVariants.{OutOfMemory}
-use Rattle.command_line.specs.Program.{program_app, IsMet}
-use Rattle.command_line.specs.Tasks.{Task, task_of}
+use Rattle.command_line.specs.Program.{program_app, flag_text, IsMet, IsNumber}
+use Rattle.command_line.specs.Tasks.{Task, format_text, task_of}
 use Rattle.command_line.specs.Words.{AsksForNothing, IsShown}
+use Rattle.command_line.specs.declared.format.Format.{Format}
 use Rattle.command_line.specs.declared.line.Line.{Line}
 use Rattle.command_line.specs.declared.refusal.Refusal.{Refusal}
 use Rattle.command_line.specs.declared.refusal.Refusal.TheVariants.{Help, Wrong, NotText, NoMemory}
@@ -24,3 +25,16 @@ IsKindOf words kind = (kind ≡ OutOfMemory) ⊎ (IsAmong kind (fault_of program
 -- the line of what is met; none where nothing is that is served
 abbrev pub IsLineOf : Option (Text × List Row) → Option Line → Type 0
 IsLineOf met result = MatchOption result ((task : Task) → IsMet met task → ⊥) (λ line. IsMet met (task_of line))
+
+-- the number between the bounds that the text of the argument writes; none where it writes none
+abbrev pub IsNumberOf : ℕ → ℕ → Option Text → Option ℕ → Type 0
+IsNumberOf least greatest value result =
+    MatchOption result ((text : Text) (number : ℕ) → value ≡ Some text → IsNumber least greatest text number → ⊥) (λ number. (text : Text) × (value ≡ Some text) × IsNumber least greatest text number)
+
+-- the flag whose text the argument has
+abbrev pub IsFlagOf : Option Text → Option Bool → Type 0
+IsFlagOf value result = MatchOption result ((flag : Bool) → value ≡ Some (flag_text flag) → ⊥) (λ flag. value ≡ Some (flag_text flag))
+
+-- the format whose word the argument has
+abbrev pub IsFormatOf : Option Text → Option Format → Type 0
+IsFormatOf value result = MatchOption result ((format : Format) → value ≡ Some (format_text format) → ⊥) (λ format. value ≡ Some (format_text format))

@@ -5,37 +5,64 @@ use Rattle.clap.specs.Words.{App, Row, Rule, Text, first_of, one_of, new_app, ne
 use Rattle.clap.specs.Simple.{on_top}
 use Rattle.clap.specs.declared.builder.action.ArgAction.TheVariants.{SetTrue}
 use Rattle.clap.specs.declared.builder.value_parser.ValueParser.TheVariants.{Signed}
-use Rattle.command_line.specs.Tasks.{Task, run, threads, audit, history, explain, open_calls, check, picture, greatest_seed}
+use Rattle.command_line.specs.Tasks.{Task, run, threads, audit, history, explain, open_calls, check, picture, from_strace, explore, schedule, format_text, greatest_seed, most_nodes}
 
 -- a word that must be there: a path, or the name of a call
 abbrev pub path_rule : Text → Rule
 path_rule id = record (new_rule id) { required = true }
 
--- `--journal FILE`, which may be left out
+-- an option with a value, which may be left out: its name, and the name behind `--`
+abbrev pub option_rule : Text → Text → Rule
+option_rule id long = record (new_rule id) { long = Some long }
+
+-- one whose value is a number from the least to the greatest, with the text of the number that it is where it is left out
+abbrev pub number_rule : Text → Text → Text → ℕ → ℕ → Rule
+number_rule id long default least greatest = record (option_rule id long) { defaults = default ∷ []; parser = Some (Signed (pos least) (pos greatest)) }
+
+-- a flag, which may be left out
+abbrev pub flag_rule : Text → Rule
+flag_rule name = record (option_rule name name) { action = Some SetTrue }
+
+-- `--journal FILE`
 abbrev pub file_rule : Rule
-file_rule = record (new_rule (codes "FILE")) { long = Some (codes "journal") }
+file_rule = option_rule (codes "FILE") (codes "journal")
 
--- `--seed N`, a number from 0 to the greatest seed, and 1 if it is left out
-abbrev pub seed_rule : Rule
-seed_rule = record (new_rule (codes "N")) { long = Some (codes "seed"); defaults = codes "1" ∷ []; parser = Some (Signed (pos 0) (pos greatest_seed)) }
-
--- `--stop-when-stuck`, which may be left out
-abbrev pub stop_rule : Rule
-stop_rule = record (new_rule (codes "stop-when-stuck")) { long = Some (codes "stop-when-stuck"); action = Some SetTrue }
-
--- `--after JOURNAL`, which may be left out
+-- `--after JOURNAL`
 abbrev pub after_rule : Rule
-after_rule = record (new_rule (codes "JOURNAL")) { long = Some (codes "after") }
+after_rule = option_rule (codes "JOURNAL") (codes "after")
 
--- `--around CALL`, which may be left out
+-- `--around CALL`
 abbrev pub around_rule : Rule
-around_rule = record (new_rule (codes "CALL")) { long = Some (codes "around") }
+around_rule = option_rule (codes "CALL") (codes "around")
+
+-- `--format FORMAT`, which is `svg` if it is left out
+abbrev pub format_rule : Rule
+format_rule = record (option_rule (codes "FORMAT") (codes "format")) { defaults = codes "svg" ∷ [] }
+
+-- `--seed N`, a number from 0 to the greatest seed, and 1 if it is left out; `--first N` is one too
+abbrev pub seed_rule : Text → Rule
+seed_rule long = number_rule (codes "N") long (codes "1") 0 greatest_seed
+
+-- `--seeds COUNT`, from 1 on, and 100 if it is left out
+abbrev pub seeds_rule : Rule
+seeds_rule = number_rule (codes "COUNT") (codes "seeds") (codes "100") 1 greatest_seed
+
+-- `--from K` and `--to L`, from 1 on, and the least and the greatest if they are left out
+abbrev pub from_rule : Rule
+from_rule = number_rule (codes "K") (codes "from") (codes "1") 1 greatest_seed
+
+abbrev pub to_rule : Rule
+to_rule = number_rule (codes "L") (codes "to") (codes "4294967295") 1 greatest_seed
+
+-- `--nodes N`, from 1 to 64, and 1 if it is left out
+abbrev pub nodes_rule : Rule
+nodes_rule = number_rule (codes "N") (codes "nodes") (codes "1") 1 most_nodes
 
 abbrev pub run_app : App
-run_app = with_rule (with_rule (with_rule (new_app (codes "run")) (path_rule (codes "SCRIPT"))) after_rule) file_rule
+run_app = with_rule (with_rule (with_rule (with_rule (new_app (codes "run")) (path_rule (codes "SCRIPT"))) after_rule) file_rule) (flag_rule (codes "open"))
 
 abbrev pub threads_app : App
-threads_app = with_rule (with_rule (with_rule (with_rule (new_app (codes "threads")) (path_rule (codes "SCRIPT"))) seed_rule) stop_rule) file_rule
+threads_app = with_rule (with_rule (with_rule (with_rule (new_app (codes "threads")) (path_rule (codes "SCRIPT"))) (seed_rule (codes "seed"))) (flag_rule (codes "stop-when-stuck"))) file_rule
 
 abbrev pub audit_app : App
 audit_app = with_rule (new_app (codes "audit")) (path_rule (codes "JOURNAL"))
@@ -53,42 +80,85 @@ abbrev pub check_app : App
 check_app = with_rule (new_app (codes "check")) (path_rule (codes "SCRIPT"))
 
 abbrev pub picture_app : App
-picture_app = with_rule (with_rule (new_app (codes "picture")) (path_rule (codes "JOURNAL"))) around_rule
+picture_app = with_rule (with_rule (with_rule (with_rule (with_rule (new_app (codes "picture")) (path_rule (codes "JOURNAL"))) around_rule) from_rule) to_rule) format_rule
+
+abbrev pub strace_app : App
+strace_app = with_rule (with_rule (new_app (codes "from-strace")) (path_rule (codes "RECORDING"))) nodes_rule
+
+abbrev pub explore_app : App
+explore_app = with_rule (with_rule (with_rule (with_rule (new_app (codes "explore")) (path_rule (codes "SCRIPT"))) seeds_rule) (seed_rule (codes "first"))) (flag_rule (codes "failures"))
+
+abbrev pub schedule_app : App
+schedule_app = with_rule (with_rule (with_rule (new_app (codes "schedule")) (path_rule (codes "SCRIPT"))) (seed_rule (codes "seed"))) (flag_rule (codes "failures"))
 
 -- no command is no command line
 abbrev pub bare_app : App
 bare_app = on_top (λ s. record s { has_version = true; subcommand_required = true; arg_required_else_help = true }) (new_app (codes "lockreplay"))
 
-abbrev pub program_app : App
-program_app =
+-- the commands that read a script or a journal and change neither, behind those that run a script
+abbrev pub readers_app : App
+readers_app =
     with_subcommand (with_subcommand (with_subcommand (with_subcommand (with_subcommand (with_subcommand (with_subcommand (with_subcommand bare_app run_app.top) threads_app.top) audit_app.top) history_app.top) explain_app.top) open_app.top) check_app.top) picture_app.top
 
--- the command that is met, with the values of the arguments of these names
+abbrev pub program_app : App
+program_app = with_subcommand (with_subcommand (with_subcommand readers_app strace_app.top) explore_app.top) schedule_app.top
+
+-- the command that is met, with what is read of its arguments
+abbrev pub read_in : List (List Row → Option Text) → Option (Text × List Row) → Option (Text × List (Option Text))
+read_in readers = option_map (λ p. (p.0, map (λ read. read p.1) readers))
+
+-- the same with the values of the arguments of these names
 abbrev pub values_in : List Text → Option (Text × List Row) → Option (Text × List (Option Text))
-values_in ids = option_map (λ p. (p.0, map (λ id. first_of id p.1) ids))
+values_in ids = read_in (map (λ id. first_of id) ids)
 
--- the same of `threads`, with the seed as a number is read, and the flag as one is
-abbrev pub threads_values_in : Option (Text × List Row) → Option (Text × List (Option Text))
-threads_values_in = option_map (λ p. (p.0, first_of (codes "SCRIPT") p.1 ∷ one_of (codes "N") p.1 ∷ one_of (codes "stop-when-stuck") p.1 ∷ first_of (codes "FILE") p.1 ∷ []))
-
--- the text writes this seed
-pub record IsSeed (text : Text) (seed : ℕ) : Type 0 where
+-- the text writes this number, which lies between the bounds
+pub record IsNumber (least greatest : ℕ) (text : Text) (number : ℕ) : Type 0 where
   pub digits : IsNumeral 10 (without_leading_plus text)
-  pub value : seed ≡ digits_value 10 (without_leading_plus text)
-  pub within : seed ≤ greatest_seed
+  pub value : number ≡ digits_value 10 (without_leading_plus text)
+  pub from_least : least ≤ number
+  pub within : number ≤ greatest
 
 -- the text that stands for a flag that is given, and for one that is left out
 abbrev pub flag_text : Bool → Text
 flag_text true = codes "true"
 flag_text false = codes "false"
 
--- it is the command of the task, with its paths, its seed, its flag and the name of its call
+-- the paths, numbers and flags of the commands that have more than paths
+abbrev pub run_values_in : Option (Text × List Row) → Option (Text × List (Option Text))
+run_values_in = read_in (first_of (codes "SCRIPT") ∷ first_of (codes "JOURNAL") ∷ first_of (codes "FILE") ∷ one_of (codes "open") ∷ [])
+
+abbrev pub threads_values_in : Option (Text × List Row) → Option (Text × List (Option Text))
+threads_values_in = read_in (first_of (codes "SCRIPT") ∷ one_of (codes "N") ∷ one_of (codes "stop-when-stuck") ∷ first_of (codes "FILE") ∷ [])
+
+abbrev pub picture_values_in : Option (Text × List Row) → Option (Text × List (Option Text))
+picture_values_in = read_in (first_of (codes "JOURNAL") ∷ first_of (codes "CALL") ∷ one_of (codes "K") ∷ one_of (codes "L") ∷ first_of (codes "FORMAT") ∷ [])
+
+abbrev pub strace_values_in : Option (Text × List Row) → Option (Text × List (Option Text))
+strace_values_in = read_in (first_of (codes "RECORDING") ∷ one_of (codes "N") ∷ [])
+
+abbrev pub explore_values_in : Option (Text × List Row) → Option (Text × List (Option Text))
+explore_values_in = read_in (first_of (codes "SCRIPT") ∷ one_of (codes "COUNT") ∷ one_of (codes "N") ∷ one_of (codes "failures") ∷ [])
+
+abbrev pub schedule_values_in : Option (Text × List Row) → Option (Text × List (Option Text))
+schedule_values_in = read_in (first_of (codes "SCRIPT") ∷ one_of (codes "N") ∷ one_of (codes "failures") ∷ [])
+
+-- it is the command of the task, with its paths, its numbers, its flags, its format and the name of its call
 abbrev pub IsMet : Option (Text × List Row) → Task → Type 0
-IsMet met (run script after journal) = values_in (codes "SCRIPT" ∷ codes "JOURNAL" ∷ codes "FILE" ∷ []) met ≡ Some (codes "run", Some script ∷ after ∷ journal ∷ [])
-IsMet met (threads script seed stop journal) = (text : Text) × (threads_values_in met ≡ Some (codes "threads", Some script ∷ Some text ∷ Some (flag_text stop) ∷ journal ∷ [])) × IsSeed text seed
+IsMet met (run script after journal listed) = run_values_in met ≡ Some (codes "run", Some script ∷ after ∷ journal ∷ Some (flag_text listed) ∷ [])
+IsMet met (threads script seed stop journal) =
+    (text : Text) × (threads_values_in met ≡ Some (codes "threads", Some script ∷ Some text ∷ Some (flag_text stop) ∷ journal ∷ [])) × IsNumber 0 greatest_seed text seed
 IsMet met (audit journal) = values_in (codes "JOURNAL" ∷ []) met ≡ Some (codes "audit", Some journal ∷ [])
 IsMet met (history journal) = values_in (codes "JOURNAL" ∷ []) met ≡ Some (codes "history", Some journal ∷ [])
 IsMet met (explain journal call) = values_in (codes "JOURNAL" ∷ codes "CALL" ∷ []) met ≡ Some (codes "explain", Some journal ∷ Some call ∷ [])
 IsMet met (open_calls journal) = values_in (codes "JOURNAL" ∷ []) met ≡ Some (codes "open", Some journal ∷ [])
 IsMet met (check script) = values_in (codes "SCRIPT" ∷ []) met ≡ Some (codes "check", Some script ∷ [])
-IsMet met (picture journal call) = values_in (codes "JOURNAL" ∷ codes "CALL" ∷ []) met ≡ Some (codes "picture", Some journal ∷ call ∷ [])
+IsMet met (picture journal call first last format) =
+    (from : Text) × (to : Text) × (picture_values_in met ≡ Some (codes "picture", Some journal ∷ call ∷ Some from ∷ Some to ∷ Some (format_text format) ∷ []))
+    × IsNumber 1 greatest_seed from first × IsNumber 1 greatest_seed to last
+IsMet met (from_strace recording nodes) =
+    (text : Text) × (strace_values_in met ≡ Some (codes "from-strace", Some recording ∷ Some text ∷ [])) × IsNumber 1 most_nodes text nodes
+IsMet met (explore script seeds first failures) =
+    (count : Text) × (text : Text) × (explore_values_in met ≡ Some (codes "explore", Some script ∷ Some count ∷ Some text ∷ Some (flag_text failures) ∷ []))
+    × IsNumber 1 greatest_seed count seeds × IsNumber 0 greatest_seed text first
+IsMet met (schedule script seed failures) =
+    (text : Text) × (schedule_values_in met ≡ Some (codes "schedule", Some script ∷ Some text ∷ Some (flag_text failures) ∷ [])) × IsNumber 0 greatest_seed text seed

@@ -1,13 +1,15 @@
 -- What a line may ask for.
-use Rattle.std.specs.Prelude.{ℕ, ◌≤◌, ⊤, Bool, true, false, List, Option, Some, None, [], ◌∷◌, codes, decimal, option_map}
+use Rattle.std.specs.Prelude.{ℕ, ◌≤◌, ⊤, Bool, true, false, List, Option, Some, None, [], ◌∷◌, ◌++◌, codes, decimal, option_map}
 use Rattle.clap.specs.Words.{Text}
+use Rattle.command_line.specs.declared.format.Format.{Format}
+use Rattle.command_line.specs.declared.format.Format.TheVariants.{Svg, Mermaid, Trace}
 use Rattle.command_line.specs.declared.line.Line.{Line}
-use Rattle.command_line.specs.declared.line.Line.TheVariants.{Run, Threads, Audit, History, Explain, Open, Check, Picture}
+use Rattle.command_line.specs.declared.line.Line.TheVariants.{Run, Threads, Audit, History, Explain, Open, Check, Picture, FromStrace, Explore, Schedule}
 
 -- what is to be done, with the paths of the files that are named, and the name of a call
 pub data Task : Type 0 where
-  -- to run the script of the first path, behind the journal of the second, if there is one, and to write the journal to the third, if there is one
-  run : Text → Option Text → Option Text → Task
+  -- to run the script of the first path, behind the journal of the second, if there is one, to write the journal to the third, if there is one, and to list the calls without a reply, if that is asked for
+  run : Text → Option Text → Option Text → Bool → Task
   -- to run the script of the first path on threads, with this seed, to end the run where it is stuck, if that is asked for, and to write the journal to the second, if there is one
   threads : Text → ℕ → Bool → Option Text → Task
   -- to say whether the journal is one of a run
@@ -20,75 +22,111 @@ pub data Task : Type 0 where
   open_calls : Text → Task
   -- to say what is wrong in the script
   check : Text → Task
-  -- to draw the journal, around the call of this name, if there is one
-  picture : Text → Option Text → Task
+  -- to draw the journal, around the call of this name, if there is one, from one entry to another, in this format
+  picture : Text → Option Text → ℕ → ℕ → Format → Task
+  -- to turn the recording of calls into a script of a cluster of so many nodes
+  from_strace : Text → ℕ → Task
+  -- to run the script under so many schedules, from this seed on, with failures, if they are asked for
+  explore : Text → ℕ → ℕ → Bool → Task
+  -- to print the script of the schedule of this seed, with failures, if they are asked for
+  schedule : Text → ℕ → Bool → Task
 
 abbrev pub task_of : Line → Task
-task_of (Run script after journal) = run script.now (option_map (λ file. file.now) after) (option_map (λ file. file.now) journal)
+task_of (Run script after journal listed) = run script.now (option_map (λ file. file.now) after) (option_map (λ file. file.now) journal) listed
 task_of (Threads script seed stop journal) = threads script.now seed stop (option_map (λ file. file.now) journal)
 task_of (Audit journal) = audit journal.now
 task_of (History journal) = history journal.now
 task_of (Explain journal call) = explain journal.now call.now
 task_of (Open journal) = open_calls journal.now
 task_of (Check script) = check script.now
-task_of (Picture journal call) = picture journal.now (option_map (λ name. name.now) call)
+task_of (Picture journal call first last format) = picture journal.now (option_map (λ name. name.now) call) first last format
+task_of (FromStrace recording nodes) = from_strace recording.now nodes
+task_of (Explore script seeds first failures) = explore script.now seeds first failures
+task_of (Schedule script seed failures) = schedule script.now seed failures
+
+abbrev pub given : Option Text → List Text
+given None = []
+given (Some text) = text ∷ []
 
 -- the paths, and the name of a call
 abbrev pub paths_of : Task → List Text
-paths_of (run script None None) = script ∷ []
-paths_of (run script None (Some file)) = script ∷ file ∷ []
-paths_of (run script (Some after) None) = script ∷ after ∷ []
-paths_of (run script (Some after) (Some file)) = script ∷ after ∷ file ∷ []
-paths_of (threads script seed stop None) = script ∷ []
-paths_of (threads script seed stop (Some file)) = script ∷ file ∷ []
+paths_of (run script after journal listed) = script ∷ given after ++ given journal
+paths_of (threads script seed stop journal) = script ∷ given journal
 paths_of (audit journal) = journal ∷ []
 paths_of (history journal) = journal ∷ []
 paths_of (explain journal call) = journal ∷ call ∷ []
 paths_of (open_calls journal) = journal ∷ []
 paths_of (check script) = script ∷ []
-paths_of (picture journal None) = journal ∷ []
-paths_of (picture journal (Some call)) = journal ∷ call ∷ []
+paths_of (picture journal call first last format) = journal ∷ given call
+paths_of (from_strace recording nodes) = recording ∷ []
+paths_of (explore script seeds first failures) = script ∷ []
+paths_of (schedule script seed failures) = script ∷ []
 
 -- the path of the file to which the journal of a run is written
 abbrev pub journal_path : Task → Option Text
-journal_path (run script after to) = to
+journal_path (run script after to listed) = to
 journal_path (threads script seed stop to) = to
 journal_path (audit journal) = None
 journal_path (history journal) = None
 journal_path (explain journal call) = None
 journal_path (open_calls journal) = None
 journal_path (check script) = None
-journal_path (picture journal call) = None
+journal_path (picture journal call first last format) = None
+journal_path (from_strace recording nodes) = None
+journal_path (explore script seeds first failures) = None
+journal_path (schedule script seed failures) = None
+
+-- an option with its value, a number among them, and a flag, as words
+abbrev pub option_words : Text → Option Text → List Text
+option_words name None = []
+option_words name (Some value) = name ∷ value ∷ []
+
+abbrev pub number_words : Text → ℕ → List Text
+number_words name number = name ∷ decimal number ∷ []
+
+abbrev pub flag_words : Text → Bool → List Text
+flag_words name false = []
+flag_words name true = name ∷ []
+
+-- the word that asks for a format
+abbrev pub format_text : Format → Text
+format_text Svg = codes "svg"
+format_text Mermaid = codes "mermaid"
+format_text Trace = codes "trace"
 
 -- the words that ask for it, in their usual order
 abbrev pub plain_words_of : Task → List Text
-plain_words_of (run script None None) = codes "run" ∷ script ∷ []
-plain_words_of (run script None (Some file)) = codes "run" ∷ script ∷ codes "--journal" ∷ file ∷ []
-plain_words_of (run script (Some after) None) = codes "run" ∷ script ∷ codes "--after" ∷ after ∷ []
-plain_words_of (run script (Some after) (Some file)) = codes "run" ∷ script ∷ codes "--after" ∷ after ∷ codes "--journal" ∷ file ∷ []
-plain_words_of (threads script seed false None) = codes "threads" ∷ script ∷ codes "--seed" ∷ decimal seed ∷ []
-plain_words_of (threads script seed true None) = codes "threads" ∷ script ∷ codes "--seed" ∷ decimal seed ∷ codes "--stop-when-stuck" ∷ []
-plain_words_of (threads script seed false (Some file)) = codes "threads" ∷ script ∷ codes "--seed" ∷ decimal seed ∷ codes "--journal" ∷ file ∷ []
-plain_words_of (threads script seed true (Some file)) = codes "threads" ∷ script ∷ codes "--seed" ∷ decimal seed ∷ codes "--stop-when-stuck" ∷ codes "--journal" ∷ file ∷ []
+plain_words_of (run script after journal listed) = codes "run" ∷ script ∷ option_words (codes "--after") after ++ option_words (codes "--journal") journal ++ flag_words (codes "--open") listed
+plain_words_of (threads script seed stop journal) = codes "threads" ∷ script ∷ number_words (codes "--seed") seed ++ flag_words (codes "--stop-when-stuck") stop ++ option_words (codes "--journal") journal
 plain_words_of (audit journal) = codes "audit" ∷ journal ∷ []
 plain_words_of (history journal) = codes "history" ∷ journal ∷ []
 plain_words_of (explain journal call) = codes "explain" ∷ journal ∷ call ∷ []
 plain_words_of (open_calls journal) = codes "open" ∷ journal ∷ []
 plain_words_of (check script) = codes "check" ∷ script ∷ []
-plain_words_of (picture journal None) = codes "picture" ∷ journal ∷ []
-plain_words_of (picture journal (Some call)) = codes "picture" ∷ journal ∷ codes "--around" ∷ call ∷ []
+plain_words_of (picture journal call first last format) =
+    codes "picture" ∷ journal ∷ option_words (codes "--around") call ++ number_words (codes "--from") first ++ number_words (codes "--to") last ++ codes "--format" ∷ format_text format ∷ []
+plain_words_of (from_strace recording nodes) = codes "from-strace" ∷ recording ∷ number_words (codes "--nodes") nodes
+plain_words_of (explore script seeds first failures) = codes "explore" ∷ script ∷ number_words (codes "--seeds") seeds ++ number_words (codes "--first") first ++ flag_words (codes "--failures") failures
+plain_words_of (schedule script seed failures) = codes "schedule" ∷ script ∷ number_words (codes "--seed") seed ++ flag_words (codes "--failures") failures
 
--- the greatest seed, which has 32 bits
+-- the greatest seed, which has 32 bits; of entries and of seeds that are counted there are no more
 abbrev pub greatest_seed : ℕ
 greatest_seed = 4294967295
 
--- of what is run on threads, the words are those of a seed in its range
+-- the most nodes of a cluster
+abbrev pub most_nodes : ℕ
+most_nodes = 64
+
+-- the words are those of numbers in their range
 abbrev pub HasPlainWords : Task → Type 0
-HasPlainWords (run script after journal) = ⊤
+HasPlainWords (run script after journal listed) = ⊤
 HasPlainWords (threads script seed stop journal) = seed ≤ greatest_seed
 HasPlainWords (audit journal) = ⊤
 HasPlainWords (history journal) = ⊤
 HasPlainWords (explain journal call) = ⊤
 HasPlainWords (open_calls journal) = ⊤
 HasPlainWords (check script) = ⊤
-HasPlainWords (picture journal call) = ⊤
+HasPlainWords (picture journal call first last format) = (1 ≤ first) × (first ≤ greatest_seed) × (1 ≤ last) × (last ≤ greatest_seed)
+HasPlainWords (from_strace recording nodes) = (1 ≤ nodes) × (nodes ≤ most_nodes)
+HasPlainWords (explore script seeds first failures) = (1 ≤ seeds) × (seeds ≤ greatest_seed) × (first ≤ greatest_seed)
+HasPlainWords (schedule script seed failures) = seed ≤ greatest_seed

@@ -16,7 +16,7 @@ pub record IsPlain (words : List Text) (task : Task) : Type 0 where
   pub no_option : All (λ path. slice_get path 0 ≢ Some 45) (paths_of task)
   pub has_words : HasPlainWords task
 
--- by the program's table of arguments nothing is wrong with the words, and they are the command of the task, with its paths, its seed, its flag and the name of its call
+-- by the program's table of arguments nothing is wrong with the words, and they are the command of the task, with its paths, its numbers, its flags, its format and the name of its call
 pub record AsksFor (words : List Text) (task : Task) : Type 0 where
   pub taken : fault_of program_app words ≡ []
   pub met : IsMet (subcommand_of program_app words) task

@@ -1,7 +1,11 @@
 //! The command line: what its words ask for, and what is shown where they are refused.
 #![tactic(auto)]
 
+mod arguments;
+mod commands;
+pub mod format;
 pub mod laws;
 pub mod line;
 mod notes;
 pub mod refusal;
+mod values;

@@ -1,31 +1,31 @@
 //! The lines that words may ask for.
 ghost use Rattle.std.specs.Prelude.{◌≡◌, codes, List, map, IfErr, IfOk, Some};
-ghost use Rattle.clap.specs.Words.{app_of, found_of, kind_of, rows_of, rule_of, subcommand_rows_of};
+ghost use Rattle.clap.specs.Words.{found_of, kind_of, rows_of, subcommand_rows_of};
 ghost use Rattle.command_line.specs.Kinds.{IsKindOf, IsLineOf};
-ghost use Rattle.command_line.specs.Program.{after_rule, around_rule, audit_app, check_app, explain_app, file_rule, history_app, open_app, path_rule, picture_app, program_app, run_app, stop_rule, threads_app};
 ghost use Rattle.command_line.specs.Tasks.{task_of};
 ghost use Rattle.command_line.specs.Words.{AsksFor, IsRefusal};
 
-use crate::notes::{
-    AUDIT_NOTES, CHECK_NOTES, EXPLAIN_NOTES, HISTORY_NOTES, OPEN_NOTES, PICTURE_NOTES,
-    PROGRAM_NOTES, RUN_NOTES, THREADS_NOTES, VERSION,
-};
+use crate::commands::program;
+use crate::format::{Format, format_in};
 use crate::refusal::Refusal;
+use crate::values::{GREATEST_SEED, MOST_NODES, flag_in, number_in};
 use clap::error::ErrorKind;
-use clap::{Arg, ArgAction, ArgMatches, Command, Error, value_parser};
-use std::alloc::{AllocError, Global};
+use clap::{ArgMatches, Error};
+use std::alloc::Global;
 use std::convert::AsStr;
 
 /// What the words of a command line ask for. Each text is a path, or the name of a call.
 #[derive(Clone, Copy, Debug, PartialEq, Eq)]
 pub enum Line<'a> {
-    /// `run SCRIPT [--after JOURNAL] [--journal FILE]`: to run each line of the script in order, in a
-    /// cluster that begins or behind the run of a journal, and print the listing, and first to write the
-    /// journal of the run to the file, if there is one.
+    /// `run SCRIPT [--after JOURNAL] [--journal FILE] [--open]`: to run each line of the script in order, in
+    /// a cluster that begins or behind the run of a journal, and print the listing, with the calls that have
+    /// no reply behind it, if that is asked for, and first to write the journal of the run to the file, if
+    /// there is one.
     Run {
         script: &'a str,
         after: Option<&'a str>,
         journal: Option<&'a str>,
+        open: bool,
     },
     /// `threads SCRIPT [--seed N] [--stop-when-stuck] [--journal FILE]`: to run the script on threads, with
     /// this seed or 1, until its end or, if that is asked for, until no open call can be answered any more,
@@ -58,11 +58,37 @@ pub enum Line<'a> {
     Check {
         script: &'a str,
     },
-    /// `picture JOURNAL [--around CALL]`: to draw the first entries of the journal, or those around the call
-    /// of this name.
+    /// `picture JOURNAL [--around CALL] [--from K] [--to L] [--format FORMAT]`: to draw, in this format or as
+    /// SVG, the entries of the journal, or those around the call of this name, of them those from entry K to
+    /// entry L, which are counted from 1; K is 1 where it is left out, and L 4294967295.
     Picture {
         journal: &'a str,
         around: Option<&'a str>,
+        from: u32,
+        to: u32,
+        format: Format,
+    },
+    /// `from-strace RECORDING [--nodes N]`: to turn the recording of the calls of processes into a script of
+    /// a cluster of N nodes, from 1 to 64, or of 1.
+    FromStrace {
+        recording: &'a str,
+        nodes: u8,
+    },
+    /// `explore SCRIPT [--seeds COUNT] [--first N] [--failures]`: to run the script under so many schedules,
+    /// from 1 on, or under 100, from the seed N or 1 on, with failures of nodes and servers, if they are asked
+    /// for, and to tell what came of them.
+    Explore {
+        script: &'a str,
+        seeds: u32,
+        first: u32,
+        failures: bool,
+    },
+    /// `schedule SCRIPT [--seed N] [--failures]`: to print the script of the schedule of this seed, or of 1,
+    /// with failures of nodes and servers, if they are asked for.
+    Schedule {
+        script: &'a str,
+        seed: u32,
+        failures: bool,
     },
 }
 
@@ -92,7 +118,16 @@ fn line_in<'a, S: AsStr>(alloc: Global, words: &'a [S]) -> Result<Line<'a>, Erro
     let matches = command.try_get_matches_from_mut(words)?;
     match line_of(&matches) {
         Some(line) => Ok(line),
-        None => Err(command.error(ErrorKind::MissingSubcommand, "no command is given")?),
+        None => Err(command.error(ErrorKind::ValueValidation, complaint(&matches))?),
+    }
+}
+
+// What is said where the values of a command come to no line.
+fn complaint(matches: &ArgMatches<'_>) -> &'static str {
+    match matches.subcommand() {
+        Some(("picture", _)) =>
+            "invalid value for '--format <FORMAT>': it is svg, mermaid or trace",
+        _ => "no command is given",
     }
 }
 
@@ -110,6 +145,9 @@ fn line_of<'a>(matches: &ArgMatches<'a>) -> Option<Line<'a>>
         "open" => open_in(values),
         "check" => check_in(values),
         "picture" => picture_in(values),
+        "from-strace" => strace_in(values),
+        "explore" => explore_in(values),
+        "schedule" => schedule_in(values),
         _ => None,
     }
 }
@@ -120,10 +158,12 @@ fn run_in<'a>(values: &ArgMatches<'a>) -> Option<Line<'a>>
     let script = values.get_str("SCRIPT")?;
     let after = values.get_str("JOURNAL");
     let journal = values.get_str("FILE");
+    let open = flag_in(values, "open")?;
     Some(Line::Run {
         script,
         after,
         journal,
+        open,
     })
 }
 
@@ -131,8 +171,8 @@ fn threads_in<'a>(values: &ArgMatches<'a>) -> Option<Line<'a>>
     ensures { IsLineOf (Some (codes "threads", rows_of (found_of values.now))) result }
 {
     let script = values.get_str("SCRIPT")?;
-    let seed = values.get_one::<u32>("N")?;
-    let stop_when_stuck = values.get_one::<bool>("stop-when-stuck")?;
+    let seed = number_in(values, "N", 0, GREATEST_SEED)?;
+    let stop_when_stuck = flag_in(values, "stop-when-stuck")?;
     let file = values.get_str("FILE");
     Some(Line::Threads {
         script,
@@ -183,172 +223,53 @@ fn picture_in<'a>(values: &ArgMatches<'a>) -> Option<Line<'a>>
 {
     let journal = values.get_str("JOURNAL")?;
     let around = values.get_str("CALL");
-    Some(Line::Picture { journal, around })
+    let from = number_in(values, "K", 1, GREATEST_SEED)?;
+    let to = number_in(values, "L", 1, GREATEST_SEED)?;
+    let format = format_in(values)?;
+    Some(Line::Picture {
+        journal,
+        around,
+        from,
+        to,
+        format,
+    })
 }
 
-fn program<'a>(alloc: Global) -> Result<Command<'a>, AllocError>
-    ensures { IfOk result (λ command. app_of command ≡ program_app) }
+fn strace_in<'a>(values: &ArgMatches<'a>) -> Option<Line<'a>>
+    ensures { IsLineOf (Some (codes "from-strace", rows_of (found_of values.now))) result }
 {
-    Command::new(alloc, "lockreplay")
-        .about("Run scripts of record locks in a cluster, and print what came of them")
-        .after_long_help(PROGRAM_NOTES)
-        .version(VERSION)
-        .subcommand_required(true)
-        .arg_required_else_help(true)
-        .subcommand(run_command(alloc)?)?
-        .subcommand(threads_command(alloc)?)?
-        .subcommand(audit_command(alloc)?)?
-        .subcommand(history_command(alloc)?)?
-        .subcommand(explain_command(alloc)?)?
-        .subcommand(open_command(alloc)?)?
-        .subcommand(check_command(alloc)?)?
-        .subcommand(picture_command(alloc)?)
+    let recording = values.get_str("RECORDING")?;
+    let nodes = number_in(values, "N", 1, MOST_NODES)?;
+    Some(Line::FromStrace {
+        recording,
+        nodes: nodes as u8,
+    })
 }
 
-fn run_command<'a>(alloc: Global) -> Result<Command<'a>, AllocError>
-    ensures { IfOk result (λ command. app_of command ≡ run_app) }
+fn explore_in<'a>(values: &ArgMatches<'a>) -> Option<Line<'a>>
+    ensures { IsLineOf (Some (codes "explore", rows_of (found_of values.now))) result }
 {
-    Command::new(alloc, "run")
-        .about("Run each line of a script in order and print the listing")
-        .after_long_help(RUN_NOTES)
-        .arg(script_argument(alloc))?
-        .arg(after_argument(alloc))?
-        .arg(file_argument(alloc))
+    let script = values.get_str("SCRIPT")?;
+    let seeds = number_in(values, "COUNT", 1, GREATEST_SEED)?;
+    let first = number_in(values, "N", 0, GREATEST_SEED)?;
+    let failures = flag_in(values, "failures")?;
+    Some(Line::Explore {
+        script,
+        seeds,
+        first,
+        failures,
+    })
 }
 
-fn threads_command<'a>(alloc: Global) -> Result<Command<'a>, AllocError>
-    ensures { IfOk result (λ command. app_of command ≡ threads_app) }
+fn schedule_in<'a>(values: &ArgMatches<'a>) -> Option<Line<'a>>
+    ensures { IsLineOf (Some (codes "schedule", rows_of (found_of values.now))) result }
 {
-    let seed = Arg::new(alloc, "N")
-        .long("seed")
-        .default_value("1")
-        .value_parser(value_parser!(u32))
-        .help("The seed of the weather that messages meet, up to 4294967295");
-    Command::new(alloc, "threads")
-        .about("Run a script on threads and print the listing")
-        .after_long_help(THREADS_NOTES)
-        .arg(script_argument(alloc))?
-        .arg(seed)?
-        .arg(stop_argument(alloc))?
-        .arg(file_argument(alloc))
-}
-
-fn audit_command<'a>(alloc: Global) -> Result<Command<'a>, AllocError>
-    ensures { IfOk result (λ command. app_of command ≡ audit_app) }
-{
-    Command::new(alloc, "audit")
-        .about("Say whether a journal is one of a run")
-        .after_long_help(AUDIT_NOTES)
-        .arg(journal_argument(alloc))
-}
-
-fn history_command<'a>(alloc: Global) -> Result<Command<'a>, AllocError>
-    ensures { IfOk result (λ command. app_of command ≡ history_app) }
-{
-    Command::new(alloc, "history")
-        .about("Print the history of a journal")
-        .after_long_help(HISTORY_NOTES)
-        .arg(journal_argument(alloc))
-}
-
-fn explain_command<'a>(alloc: Global) -> Result<Command<'a>, AllocError>
-    ensures { IfOk result (λ command. app_of command ≡ explain_app) }
-{
-    Command::new(alloc, "explain")
-        .about("Tell the story of a call of a journal")
-        .after_long_help(EXPLAIN_NOTES)
-        .arg(journal_argument(alloc))?
-        .arg(call_argument(alloc))
-}
-
-fn open_command<'a>(alloc: Global) -> Result<Command<'a>, AllocError>
-    ensures { IfOk result (λ command. app_of command ≡ open_app) }
-{
-    Command::new(alloc, "open")
-        .about("List the calls of a journal that have no reply")
-        .after_long_help(OPEN_NOTES)
-        .arg(journal_argument(alloc))
-}
-
-fn check_command<'a>(alloc: Global) -> Result<Command<'a>, AllocError>
-    ensures { IfOk result (λ command. app_of command ≡ check_app) }
-{
-    Command::new(alloc, "check")
-        .about("Say what is wrong in a script")
-        .after_long_help(CHECK_NOTES)
-        .arg(script_argument(alloc))
-}
-
-fn picture_command<'a>(alloc: Global) -> Result<Command<'a>, AllocError>
-    ensures { IfOk result (λ command. app_of command ≡ picture_app) }
-{
-    Command::new(alloc, "picture")
-        .about("Draw a journal, as SVG")
-        .after_long_help(PICTURE_NOTES)
-        .arg(journal_argument(alloc))?
-        .arg(around_argument(alloc))
-}
-
-// The path of a script, which must be there.
-fn script_argument<'a>(alloc: Global) -> Arg<'a>
-    ensures { rule_of result ≡ path_rule (codes "SCRIPT") }
-{
-    Arg::new(alloc, "SCRIPT")
-        .required(true)
-        .help("The script: a file of lines, or /dev/stdin")
-}
-
-// The path of the journal behind which a script is run.
-fn after_argument<'a>(alloc: Global) -> Arg<'a>
-    ensures { rule_of result ≡ after_rule }
-{
-    Arg::new(alloc, "JOURNAL")
-        .long("after")
-        .help("Go on behind the run of JOURNAL")
-}
-
-// Whether a run on threads ends where it is stuck.
-fn stop_argument<'a>(alloc: Global) -> Arg<'a>
-    ensures { rule_of result ≡ stop_rule }
-{
-    Arg::new(alloc, "stop-when-stuck")
-        .long("stop-when-stuck")
-        .action(ArgAction::SetTrue)
-        .help("End the run where no open call can be answered any more")
-}
-
-// The name of the call around which a journal is drawn.
-fn around_argument<'a>(alloc: Global) -> Arg<'a>
-    ensures { rule_of result ≡ around_rule }
-{
-    Arg::new(alloc, "CALL")
-        .long("around")
-        .help("Draw the entries around the call, by its name, as 2.1.3")
-}
-
-// The path of the file for the journal of a run.
-fn file_argument<'a>(alloc: Global) -> Arg<'a>
-    ensures { rule_of result ≡ file_rule }
-{
-    Arg::new(alloc, "FILE")
-        .long("journal")
-        .help("Write the journal of the run to FILE")
-}
-
-// The path of a journal, which must be there.
-fn journal_argument<'a>(alloc: Global) -> Arg<'a>
-    ensures { rule_of result ≡ path_rule (codes "JOURNAL") }
-{
-    Arg::new(alloc, "JOURNAL")
-        .required(true)
-        .help("The journal: a file of lines, or /dev/stdin")
-}
-
-// The name of a call, which must be there.
-fn call_argument<'a>(alloc: Global) -> Arg<'a>
-    ensures { rule_of result ≡ path_rule (codes "CALL") }
-{
-    Arg::new(alloc, "CALL")
-        .required(true)
-        .help("The call, by its name in replies and history, as 2.1.3")
+    let script = values.get_str("SCRIPT")?;
+    let seed = number_in(values, "N", 0, GREATEST_SEED)?;
+    let failures = flag_in(values, "failures")?;
+    Some(Line::Schedule {
+        script,
+        seed,
+        failures,
+    })
 }

@@ -9,10 +9,11 @@ Exit status:
   0  done; of audit, history, explain, open and picture: the journal is one of a run
   1  audit, history, explain, open, picture or --after: the journal is not one of a run;
      explain, picture: it has no such call; threads: it lacks a receipt, or the run was
-     stopped as stuck
+     stopped as stuck; explore: an outcome is not as expected; from-strace: a part of
+     the recording is not served
   2  the words of the command line are refused
   3  SCRIPT or JOURNAL has a bad line or can't be read, JOURNAL is too old to go on
-     from, or FILE or the text can't be written; check: SCRIPT has bad lines
+     from, or FILE or the text can't be written; check: the file has bad lines
   4  no memory, or more entries than a journal may have (1048576)
 A line on standard error says which, of 2 to 4.
 
@@ -27,8 +28,15 @@ To go on behind it:
 To see which of its calls have no reply, and what became of a call, by its name:
   lockreplay open FILE
   lockreplay explain FILE 2.1.3
-To see it as a picture:
+To see it as a picture, as a sequence diagram or as a trace:
   lockreplay picture FILE > run.svg
+  lockreplay picture FILE --format mermaid > run.mmd
+  lockreplay picture FILE --format trace > run.json
+To run a script under many schedules, and to see the script of one of them, of seed 7:
+  lockreplay explore SCRIPT
+  lockreplay schedule SCRIPT --seed 7
+To make a script of what programs did, which strace recorded to a file:
+  lockreplay from-strace RECORDING
 
 'lockreplay help run' tells how a script is written and what the listing shows.";
 
@@ -88,6 +96,9 @@ These refusals end the run (see the exit status):
 
 With --journal FILE the journal of the run is written to FILE, in the place of what was
 there, before the listing is printed. A run that fails before that leaves FILE as it was.
+
+With --open the calls that have no reply are listed behind the listing, as 'lockreplay
+open' tells of them.
 
 With --after JOURNAL the script goes on behind the run of JOURNAL, a file that --journal
 wrote. Its first line has to name the same cluster. Messages are counted on, 'settle'
@@ -165,14 +176,52 @@ pub(crate) const PICTURE_NOTES: &str = "\
 The journal is audited first. Where its entries are no run, the text is 'audit no K', as
 of 'lockreplay audit' (exit status 1).
 
-The text is a picture in SVG, which browsers show: time is entries, from left to right.
-It has a row for each node, server and process that takes part, a bar for each call from
-its entry to its reply, an arrow for each message that comes, a short line for each that
-is lost, a diamond where the history places a call, and a line across where a node or a
-server fails or begins again (exit status 0). It shows the first 400 entries. With
---around CALL it shows those from ten before the first that has to do with the call to
-ten behind the last, and 400 at most; where the journal has no call of that name, the
-text is 'no call CALL' (exit status 1).";
+Else the text is a picture in this format (exit status 0):
+  svg        SVG, which browsers show
+  mermaid    a sequence diagram in Mermaid, which many wikis show
+  trace      JSON of trace events, which Perfetto and Chrome open
+In SVG, time is entries, from left to right. It has a row for each node, server and
+process that takes part, a bar for each call from its entry to its reply, an arrow for
+each message that comes, a short line for each that is lost, a diamond where the history
+places a call, and a line across where a node or a server fails or begins again. Below
+the rows it shows who held which bytes.
+
+With --from K and --to L the entries from K to L are drawn, with --around CALL those
+from ten before the first that has to do with the call to ten behind the last; with
+both, those in both. Of these the first 400 are drawn. Where the journal has no call of
+that name, the text is 'no call CALL' (exit status 1).";
+
+/// What stands under the options of `from-strace`.
+pub(crate) const STRACE_NOTES: &str = "\
+RECORDING is what this writes of a program and of the processes that it begins:
+  strace -f -e trace=fcntl,openat,open,creat,dup,dup2,dup3,close,clone,clone3,fork,\
+vfork,exit_group -o RECORDING PROGRAM
+The text is a script, for 'lockreplay run', of the locks and descriptors of that
+program. The files that are locked and the processes are numbered. Each recorded process
+that no other began is placed on a node, of the N nodes in turn, and its children on its
+node.
+
+What is not served is told on standard error, in a line for each line of RECORDING; the
+script is that of the other lines, and the exit status is 1. Else it is 0.";
+
+/// What stands under the options of `explore`.
+pub(crate) const EXPLORE_NOTES: &str = "\
+The script is one that 'lockreplay threads' takes. It is run under COUNT schedules, of
+the seeds from N on, in which messages are reordered, lost and repeated. With --failures
+nodes and servers fail too. The text tells the distinct outcomes: how often each came,
+and its first seed, whose schedule 'lockreplay schedule' prints.
+
+A comment line behind a 'call' line says what its reply begins with:
+  # expect WORDS
+Outcomes in which a reply begins otherwise are told first, and the exit status is 1.
+Where there are none, it is 0.";
+
+/// What stands under the options of `schedule`.
+pub(crate) const SCHEDULE_NOTES: &str = "\
+The script is one that 'lockreplay threads' takes. The text is the script of the
+schedule of seed N, which 'lockreplay explore' runs: with 'deliver', 'lose' and other
+lines, which say what becomes of each message. 'lockreplay run' replays it. With
+--failures nodes and servers fail in it, as with 'lockreplay explore --failures'.";
 
 /// What stands under the options of `check`.
 pub(crate) const CHECK_NOTES: &str = "\
@@ -181,4 +230,8 @@ the place in it where it goes wrong (exit status 3):
   SCRIPT:LINE:COLUMN: expected .., found \"..\"
 Where all lines are good, the text is 'script yes' and one of these (exit status 0):
   threads yes     'lockreplay threads' takes every line
-  threads no L    line L, counted from 1, is the first that it doesn't take";
+  threads no L    line L, counted from 1, is the first that it doesn't take
+
+SCRIPT may be a journal too, whose first line begins with 'journal '. Where it reads as
+one, the text is 'journal yes' (exit status 0). Else it is told on standard error where
+its text goes wrong, as that it was cut off (exit status 3).";

@@ -1,6 +1,6 @@
 use Rattle.std.proofs.Common.{rules, codes, None, Some, [], ◌∷◌, ◌≡◌}
 use Rattle.clap.specs.Words.{found_of, rows_of}
-use Rattle.command_line.proofs.CommandLine.{no_script}
+use Rattle.command_line.proofs.CommandLine.{no_run_flag, no_script}
 use Rattle.command_line.proofs.Tables.{no_value, same_value, value_is}
 use Rattle.command_line.proofs.line.run_in.Goals as goal
 
@@ -10,10 +10,16 @@ returns-in_err-script c =
     let found = found_of c.args.values.now in
     rw none (no_script (rows_of found) (no_value found (codes "SCRIPT") c.get_str.result c.get_str.ensures (search rules)))
 
+pub returns-in_err-open : goal.returns-in_err-open
+returns-in_err-open c =
+    let none : c.from_residual-in_err-open.result ≡ None = search rules in
+    rw none (no_run_flag (rows_of (found_of c.args.values.now)) c.in_err-open.ensures)
+
 pub returns : goal.returns
 returns c =
     let found = found_of c.args.values.now in
     let script = value_is found (codes "SCRIPT") c.get_str.result c.in_ok-script.script c.get_str.ensures (search rules) in
     let after = same_value found (codes "JOURNAL") c.get_str-after.result c.get_str-after.ensures in
-    let file = same_value found (codes "FILE") c.get_str-journal.result c.get_str-journal.ensures in
-    λ i. Some (codes "run", script i ∷ after i ∷ file i ∷ [])
+    let journal = same_value found (codes "FILE") c.get_str-journal.result c.get_str-journal.ensures in
+    let listed = c.in_ok-open.ensures in
+    λ i. Some (codes "run", script i ∷ after i ∷ journal i ∷ listed i ∷ [])

@@ -1,0 +1,14 @@
+use Rattle.command_line.proofs.PlainWords.{bare_explore_asks, bare_picture_asks, bare_schedule_asks, bare_strace_asks}
+use Rattle.command_line.proofs.laws.what_is_left_out_has_its_default.Goals as goal
+
+pub returns-clause-picture : goal.returns-clause-picture
+returns-clause-picture c = bare_picture_asks
+
+pub returns-clause-strace : goal.returns-clause-strace
+returns-clause-strace c = bare_strace_asks
+
+pub returns-clause-explore : goal.returns-clause-explore
+returns-clause-explore c = bare_explore_asks
+
+pub returns-clause-schedule : goal.returns-clause-schedule
+returns-clause-schedule c = bare_schedule_asks
