@@ -10,15 +10,15 @@ use Rattle.lockscript.specs.Scripts.{ScriptFields}
 use Rattle.lockscript.specs.ShapedScripts.{IsForShape, IsRefusedForShape}
 use Rattle.lockscript.specs.declared.error.ParseError.{ParseError}
 use Rattle.lockscript.specs.declared.error.ParseError.TheVariants as parse
-use Rattle.replay.specs.declared.play.PlayError.{PlayError}
-use Rattle.replay.specs.declared.play.PlayError.TheVariants as play
+use Rattle.player.specs.declared.play.PlayError.{PlayError}
+use Rattle.player.specs.declared.play.PlayError.TheVariants as play
 use Rattle.replay.specs.declared.fault.Fault.{Fault}
 use Rattle.replay.specs.declared.fault.Fault.TheVariants.{BadLine, CannotRead, CannotWrite, CannotWriteOutput, NoMemory, JournalFull, OldJournal, Faulty}
 use Rattle.cluster_core.specs.Runs.{IsRun}
 use Rattle.replay.specs.Audits.{HasNewJournal}
 use Rattle.replay.specs.Commands.{IsGoingFault}
 use Rattle.replay.specs.Faults.{IsBehindFault, IsOldFault, IsOldTextFault, IsTextFault, fault_of_parse, fault_of_play}
-use Rattle.replay.specs.Played.{FillsBehind, PlayedState}
+use Rattle.player.specs.Played.{FillsBehind, PlayedState}
 use Rattle.replay.specs.Scripts.{HasRunBehind, HasScriptFor}
 use Rattle.replay.specs.Stores.{Files, SameFiles}
 use Rattle.replay.proofs.Journals.{has-journal}

@@ -6,9 +6,8 @@ pub mod Faults
 pub mod Audits
 pub mod Journals
 pub mod LaterRuns
-pub mod Marks
-pub mod OneOutcome
 pub mod Outputs
-pub mod Progresses
 pub mod Refused
 pub mod Tellings
+pub mod Explorations
+pub mod LeftFiles

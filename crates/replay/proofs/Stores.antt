@@ -1,7 +1,7 @@
 -- Lemmas on what stores hold.
 use Rattle.std.proofs.Common.{◌≢◌, ℕ, List, Option, Some, None, sym, ap, inl, inr}
 use Rattle.std.specs.Prelude.{◌↔◌}
-use Rattle.command_line.specs.Tasks.{Task, run, threads, audit, history, explain, open_calls, check, picture, journal_path}
+use Rattle.command_line.specs.Tasks.{Task, run, threads, audit, history, explain, open_calls, check, picture, from_strace, explore, schedule, journal_path}
 use Rattle.replay.specs.Commands.{SameButJournal}
 use Rattle.replay.specs.Stores.{Files, HasNoText, HasText, SameFiles, SameOthers}
 
@@ -33,8 +33,8 @@ had-no_text old new path same (inr no_text) = inr (no_text.0, (same path (Some n
 
 -- a file that is not that of the journal is as it was
 pub same-unless : (old new : Files) (task : Task) (path : List ℕ) (file : Option (List ℕ)) → SameButJournal task old new → journal_path task ≢ Some path → new path file ↔ old path file
-same-unless old new (run script after None) path file kept unasked = kept path file
-same-unless old new (run script after (Some other)) path file kept unasked = kept path file (λ is. unasked (ap (λ (p : List ℕ). Some p) (sym is)))
+same-unless old new (run script after None with_open) path file kept unasked = kept path file
+same-unless old new (run script after (Some other) with_open) path file kept unasked = kept path file (λ is. unasked (ap (λ (p : List ℕ). Some p) (sym is)))
 same-unless old new (threads script seed may_stop None) path file kept unasked = kept path file
 same-unless old new (threads script seed may_stop (Some other)) path file kept unasked = kept path file (λ is. unasked (ap (λ (p : List ℕ). Some p) (sym is)))
 same-unless old new (audit journal) path file kept unasked = kept path file
@@ -42,4 +42,7 @@ same-unless old new (history journal) path file kept unasked = kept path file
 same-unless old new (explain journal name) path file kept unasked = kept path file
 same-unless old new (open_calls journal) path file kept unasked = kept path file
 same-unless old new (check script) path file kept unasked = kept path file
-same-unless old new (picture journal name) path file kept unasked = kept path file
+same-unless old new (picture journal name from to format) path file kept unasked = kept path file
+same-unless old new (from_strace recording nodes) path file kept unasked = kept path file
+same-unless old new (explore script seeds first failures) path file kept unasked = kept path file
+same-unless old new (schedule script seed failures) path file kept unasked = kept path file

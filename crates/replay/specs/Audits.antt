@@ -13,7 +13,7 @@ use Rattle.lockscript.specs.Listing.{history_text}
 use Rattle.replay.specs.declared.audit.Audited.{Audited}
 use Rattle.replay.specs.declared.audit.Audited.TheVariants.{Run, Wrong}
 use Rattle.replay.specs.declared.shown.Shown.{Shown}
-use Rattle.replay.specs.declared.shown.Shown.TheVariants.{Text, Lacking, Stuck, Missing, Yes, No}
+use Rattle.replay.specs.declared.shown.Shown.TheVariants.{Text, Wanting, Partial, Yes, No}
 use Rattle.replay.specs.Stores.{HasText}
 
 -- the file writes a journal of these entries, whether they are a run or not
@@ -52,9 +52,8 @@ abbrev pub IsAudit : JournalFields → Shown → Type 0
 IsAudit j Yes = IsRun j.shape j.entries
 IsAudit j (No position) = IsFirstWrong j.shape j.entries position
 IsAudit j (Text text) = ⊥
-IsAudit j (Lacking text) = ⊥
-IsAudit j (Stuck text told) = ⊥
-IsAudit j (Missing text) = ⊥
+IsAudit j (Wanting text) = ⊥
+IsAudit j (Partial text told) = ⊥
 
 -- the text is the one history of the run
 abbrev pub IsHistoryText : JournalFields → List ℕ → Type 0
@@ -63,8 +62,7 @@ IsHistoryText j text = (history : List Item) × HasHistory j.shape j.entries his
 -- what is shown for the history of the entries: it, where they are a run, or the first wrong one
 abbrev pub IsHistory : JournalFields → Shown → Type 0
 IsHistory j Yes = ⊥
-IsHistory j (Lacking text) = ⊥
-IsHistory j (Stuck text told) = ⊥
-IsHistory j (Missing text) = ⊥
+IsHistory j (Wanting text) = ⊥
+IsHistory j (Partial text told) = ⊥
 IsHistory j (No position) = IsFirstWrong j.shape j.entries position
 IsHistory j (Text text) = IsRun j.shape j.entries × IsHistoryText j (string_bytes text)

@@ -1,7 +1,9 @@
 -- What a fault of a part is to the command, what it says of a file, and the line that tells of it.
-use Rattle.std.specs.Prelude.{◌≡◌, ℕ, ◌<◌, ◌⊎◌, ⊤, List, ◌++◌, codes, decimal, length, string_bytes, Option, None, Some}
+use Rattle.std.specs.Prelude.{◌≡◌, ℕ, ◌<◌, ◌⊎◌, ⊤, List, ◌++◌, codes, decimal, length, string_bytes, Option, None, Some, String}
+use Rattle.std.specs.Global.{Global}
 use Rattle.cluster_core.specs.Journals.{JournalFields}
 use Rattle.cluster_core.specs.World.{journal_limit}
+use Rattle.diagnosis.specs.JournalReports.{BeginsAsJournal, IsJournalReport}
 use Rattle.diagnosis.specs.Reports.{IsReport}
 use Rattle.journal_text.specs.declared.error.JournalError.{JournalError}
 use Rattle.journal_text.specs.declared.error.JournalError.TheVariants as journal
@@ -12,12 +14,12 @@ use Rattle.lockscript.specs.Scripts as scripts
 use Rattle.lockscript.specs.ShapedScripts.{IsBadForShape}
 use Rattle.lockscript.specs.ThreadLines.{IsBadOnThreads}
 use Rattle.messages.specs.declared.version.Version.TheVariants.{Second}
-use Rattle.replay.specs.declared.play.PlayError.{PlayError}
-use Rattle.replay.specs.declared.play.PlayError.TheVariants as play
+use Rattle.player.specs.declared.play.PlayError.{PlayError}
+use Rattle.player.specs.declared.play.PlayError.TheVariants as play
 use Rattle.replay.specs.declared.fault.Fault.{Fault}
 use Rattle.replay.specs.declared.fault.Fault.TheVariants.{BadLine, CannotRead, CannotWrite, CannotWriteOutput, NoMemory, JournalFull, OldJournal, Faulty}
 use Rattle.replay.specs.Audits.{HasEntries, HasJournal, HasNewJournal, WritesFew}
-use Rattle.replay.specs.Played.{FillsBehind, FillsJournal}
+use Rattle.player.specs.Played.{FillsBehind, FillsJournal}
 use Rattle.replay.specs.Scripts.{HasScript, HasScriptFor}
 use Rattle.replay.specs.Threads.{FillsOnThreads, IsTaken}
 use Rattle.replay.specs.Stores.{HasNoText, HasText}
@@ -56,15 +58,21 @@ IsThreadsFault Holds RanShort path NoMemory = RanShort ⊎ IsTaken Holds
 IsThreadsFault Holds RanShort path JournalFull = FillsOnThreads Holds
 IsThreadsFault Holds RanShort path fault = ⊥
 
--- why the text is not said to be a script: its bad lines, which are reported, or memory is short for it
+-- what is wrong in the text of a file of this path: of one that begins as a journal its first bad line, and of another its bad lines as a script
+abbrev pub IsFaulty : List ℕ → List ℕ → String Global → Type 0
+IsFaulty path text report =
+    (BeginsAsJournal text × IsJournalReport path text (Some report))
+    ⊎ (¬ (BeginsAsJournal text) × ¬ (scripts.HasScript text) × IsReport path text (Some report))
+
+-- why the text is not said to be a script or a journal: what is wrong is reported, or memory is short for it
 abbrev pub IsCheckTextFault : List ℕ → List ℕ → Fault → Type 0
-IsCheckTextFault path text (Faulty report) = ¬ (scripts.HasScript text) × IsReport path text (Some report)
+IsCheckTextFault path text (Faulty report) = IsFaulty path text report
 IsCheckTextFault path text NoMemory = ⊤
 IsCheckTextFault path text fault = ⊥
 
--- why the file is not said to be a script: no text, or one with bad lines, which are reported; memory is short where `RanShort` says it, or for a text
+-- why the file is not said to be a script or a journal: no text, or one in which something is wrong, which is reported; memory is short where `RanShort` says it, or for a text
 abbrev pub IsCheckFault : (Option (List ℕ) → Type 0) → Type 0 → List ℕ → Fault → Type 0
-IsCheckFault Holds RanShort path (Faulty report) = HasText Holds (λ text. ¬ (scripts.HasScript text) × IsReport path text (Some report))
+IsCheckFault Holds RanShort path (Faulty report) = HasText Holds (λ text. IsFaulty path text report)
 IsCheckFault Holds RanShort path (CannotRead named) = (named.now ≡ path) × HasNoText Holds
 IsCheckFault Holds RanShort path NoMemory = RanShort ⊎ HasText Holds (λ text. ⊤)
 IsCheckFault Holds RanShort path fault = ⊥

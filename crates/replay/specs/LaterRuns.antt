@@ -4,7 +4,7 @@ use Rattle.cluster_core.specs.Journals.{JournalFields, IsFirstWrong}
 use Rattle.cluster_core.specs.Runs.{IsRun}
 use Rattle.replay.specs.declared.behind.Behind.{Behind}
 use Rattle.replay.specs.declared.behind.Behind.TheVariants.{Run, Wrong}
-use Rattle.replay.specs.Parts.{state_of}
+use Rattle.player.specs.Parts.{state_of}
 use Rattle.replay.specs.Scripts.{HasRunBehind}
 
 -- the journal is one of a run, which went on so by the script of the file, or there is a first wrong entry

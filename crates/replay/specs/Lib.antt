@@ -4,13 +4,10 @@ pub mod Stores
 pub mod Statuses
 pub mod Refusals
 pub mod Showing
-pub mod Progress
-pub mod Settled
-pub mod Played
-pub mod Laws
-pub mod Parts
 pub mod Scripts
 pub mod Threads
+pub mod Explorations
+pub mod Recordings
 pub mod Audits
 pub mod Faults
 pub mod Tellings

@@ -11,7 +11,7 @@ use Rattle.lockscript.specs.Listing.{listing_text}
 use Rattle.lockscript.specs.Scripts.{ScriptFields, IsScript}
 use Rattle.lockscript.specs.ShapedScripts.{IsForShape}
 use Rattle.messages.specs.Shapes.{ShapeFields}
-use Rattle.replay.specs.Played.{PlayedState, ComesTo, GoesOnTo}
+use Rattle.player.specs.Played.{PlayedState, ComesTo, GoesOnTo}
 use Rattle.replay.specs.Stores.{HasText}
 
 -- the file writes this script

@@ -1,13 +1,19 @@
 -- What is told of a journal's calls, and of a script.
-use Rattle.std.specs.Prelude.{◌≡◌, ℕ, ◌+◌, ◌-◌, true, false, min, List, ◌++◌, codes, string_bytes, Option, Some, None}
+use Rattle.std.specs.Prelude.{◌≡◌, ℕ, ◌+◌, ◌-◌, ◌⊎◌, Bool, true, false, All, map, max, min, List, [], ◌++◌, codes, string_bytes, Option, Some, None}
+use Rattle.command_line.specs.declared.format.Format.{Format}
+use Rattle.command_line.specs.declared.format.Format.TheVariants.{Svg, Mermaid, Trace}
+use Rattle.diagrams.specs.Sequences.{sequence_text}
+use Rattle.diagrams.specs.Traces.{trace_text}
+use Rattle.holdings.specs.Holdings.{AreHeldBehind, HoldingsFields, positions_within}
 use Rattle.model.specs.declared.call.CallId.{CallId}
 use Rattle.model.specs.Limits.{IsCall}
 use Rattle.cluster_core.specs.declared.item.Item.{Item}
 use Rattle.cluster_core.specs.Histories.{HasHistory, EachAtItsPlace}
 use Rattle.cluster_core.specs.Journals.{JournalFields, IsFirstWrong}
 use Rattle.cluster_core.specs.Runs.{IsRun}
+use Rattle.diagnosis.specs.JournalReports.{BeginsAsJournal, IsJournalText}
 use Rattle.diagnosis.specs.Verdicts.{verdict_text}
-use Rattle.lockscript.specs.Scripts.{ScriptFields}
+use Rattle.lockscript.specs.Scripts.{ScriptFields, IsScript}
 use Rattle.lockscript.specs.Texts.{call_text}
 use Rattle.pictures.specs.declared.window.Window.{Window}
 use Rattle.pictures.specs.Around.{around}
@@ -15,13 +21,18 @@ use Rattle.pictures.specs.Pictures.{picture_text}
 use Rattle.stories.specs.OpenCalls.{open_text}
 use Rattle.stories.specs.Stories.{is_made, story_text}
 use Rattle.replay.specs.declared.shown.Shown.{Shown}
-use Rattle.replay.specs.declared.shown.Shown.TheVariants.{Text, Lacking, Stuck, Missing, Yes, No}
+use Rattle.replay.specs.declared.shown.Shown.TheVariants.{Text, Wanting, Partial, Yes, No}
 
 -- the text is the story of the call of this name, which an entry makes, with its place in the one history of the run
 abbrev pub IsStoryOf : JournalFields → List ℕ → List ℕ → Type 0
 IsStoryOf j name text =
     (call : CallId) × (name ≡ call_text call) × (is_made call j.entries ≡ true)
     × ((history : List Item) × HasHistory j.shape j.entries history × EachAtItsPlace j.entries history × (text ≡ story_text j.shape.version j.entries history call))
+
+-- that there is no call of the name, if one was given
+abbrev pub no_call_text : Option (List ℕ) → List ℕ
+no_call_text None = []
+no_call_text (Some name) = codes "no call " ++ name ++ codes "\n"
 
 -- no entry makes a call of this name
 abbrev pub HasNoCall : JournalFields → List ℕ → Type 0
@@ -30,29 +41,45 @@ HasNoCall j name = (call : CallId) → IsCall call → name ≡ call_text call �
 -- what is shown of the call of this name: its story, where the entries are a run, or that there is none, or the first wrong entry
 abbrev pub IsExplained : JournalFields → List ℕ → Shown → Type 0
 IsExplained j name (Text text) = IsRun j.shape j.entries × IsStoryOf j name (string_bytes text)
-IsExplained j name (Missing text) = IsRun j.shape j.entries × HasNoCall j name × (string_bytes text ≡ codes "no call " ++ name ++ codes "\n")
+IsExplained j name (Wanting text) = IsRun j.shape j.entries × HasNoCall j name × (string_bytes text ≡ no_call_text (Some name))
 IsExplained j name (No position) = IsFirstWrong j.shape j.entries position
-IsExplained j name (Lacking text) = ⊥
-IsExplained j name (Stuck text told) = ⊥
+IsExplained j name (Partial text told) = ⊥
 IsExplained j name Yes = ⊥
 
 -- what is shown of the calls without a reply: they, where the entries are a run, or the first wrong entry
 abbrev pub IsOpenTold : JournalFields → Shown → Type 0
 IsOpenTold j (Text text) = IsRun j.shape j.entries × (string_bytes text ≡ open_text j.shape.version j.entries)
 IsOpenTold j (No position) = IsFirstWrong j.shape j.entries position
-IsOpenTold j (Lacking text) = ⊥
-IsOpenTold j (Stuck text told) = ⊥
-IsOpenTold j (Missing text) = ⊥
+IsOpenTold j (Wanting text) = ⊥
+IsOpenTold j (Partial text told) = ⊥
 IsOpenTold j Yes = ⊥
 
 -- what is shown of a script: that it is one, and whether threads take it
 abbrev pub IsScriptTold : ScriptFields → Shown → Type 0
 IsScriptTold script (Text text) = string_bytes text ≡ verdict_text script.lines
-IsScriptTold script (Lacking text) = ⊥
-IsScriptTold script (Stuck text told) = ⊥
-IsScriptTold script (Missing text) = ⊥
+IsScriptTold script (Wanting text) = ⊥
+IsScriptTold script (Partial text told) = ⊥
 IsScriptTold script Yes = ⊥
 IsScriptTold script (No position) = ⊥
+
+-- what is shown of a text that writes a journal
+abbrev pub IsJournalTold : Shown → Type 0
+IsJournalTold (Text text) = string_bytes text ≡ codes "journal yes\n"
+IsJournalTold (Wanting text) = ⊥
+IsJournalTold (Partial text told) = ⊥
+IsJournalTold Yes = ⊥
+IsJournalTold (No position) = ⊥
+
+-- what is shown of a text: of one that begins as a journal that it is one, and of another that it is a script
+abbrev pub IsChecked : List ℕ → Shown → Type 0
+IsChecked text shown =
+    (BeginsAsJournal text × IsJournalText text × IsJournalTold shown)
+    ⊎ (¬ (BeginsAsJournal text) × ((script : ScriptFields) × IsScript text script × IsScriptTold script shown))
+
+-- the last section of a listing, where it is asked for: the calls without a reply
+abbrev pub open_section : Bool → JournalFields → List ℕ
+open_section false j = []
+open_section true j = codes "open\n" ++ open_text j.shape.version j.entries
 
 -- how many entries a picture shows at most, and how many it shows beside those that belong to a call
 abbrev pub most_drawn : ℕ
@@ -61,41 +88,48 @@ most_drawn = 400
 abbrev pub margin : ℕ
 margin = 10
 
--- the first entries
-abbrev pub first_window : Window
-first_window = record { from = 1; to = most_drawn }
-
 -- as many of a window's entries as a picture shows
 abbrev pub narrowed : Window → Window
 narrowed window = record { from = window.from; to = min window.to (window.from + (most_drawn - 1)) }
 
--- the window of a picture around the call of this name
-abbrev pub IsAround : JournalFields → List ℕ → Window → Type 0
-IsAround j name window = (call : CallId) × (name ≡ call_text call) × ((wide : Window) × (around margin call j.entries ≡ Some wide) × (window ≡ narrowed wide))
+-- the part of a window from one position to another
+abbrev pub between : ℕ → ℕ → Window → Window
+between from to window = record { from = max window.from from; to = min window.to to }
+
+-- the window of a picture from one position to another, and around the call of a name, if one is given
+abbrev pub IsWindow : JournalFields → Option (List ℕ) → ℕ → ℕ → Window → Type 0
+IsWindow j None from to window = window ≡ narrowed (record { from = from; to = to })
+IsWindow j (Some name) from to window =
+    (call : CallId) × (name ≡ call_text call) × ((wide : Window) × (around margin call j.entries ≡ Some wide) × (window ≡ narrowed (between from to wide)))
 
 -- no entry belongs to a call of this name
 abbrev pub HasNothingOf : JournalFields → List ℕ → Type 0
 HasNothingOf j name = (call : CallId) → IsCall call → name ≡ call_text call → around margin call j.entries ≡ None
 
--- the text is the picture of these entries of the journal, with the places of its calls in the one history of the run
-abbrev pub IsPictureOf : JournalFields → Window → List ℕ → Type 0
-IsPictureOf j window text = (history : List Item) × HasHistory j.shape j.entries history × EachAtItsPlace j.entries history × (text ≡ picture_text j.shape j.entries history window)
-
--- the same, around the call of this name
-abbrev pub IsPictureAround : JournalFields → Option (List ℕ) → List ℕ → Type 0
-IsPictureAround j None text = IsPictureOf j first_window text
-IsPictureAround j (Some name) text = (window : Window) × IsAround j name window × IsPictureOf j window text
-
 -- a name was given, and there is no call of that name
-abbrev pub IsNoCall : JournalFields → Option (List ℕ) → List ℕ → Type 0
-IsNoCall j None text = ⊥
-IsNoCall j (Some name) text = HasNothingOf j name × (text ≡ codes "no call " ++ name ++ codes "\n")
+abbrev pub HasNoWindow : JournalFields → Option (List ℕ) → Type 0
+HasNoWindow j None = ⊥
+HasNoWindow j (Some name) = HasNothingOf j name
 
--- what is shown of a picture, of the first entries or around the call of a name: it, where the entries are a run, or that there is no such call, or the first wrong entry
-abbrev pub IsDrawn : JournalFields → Option (List ℕ) → Shown → Type 0
-IsDrawn j name (Text text) = IsRun j.shape j.entries × IsPictureAround j name (string_bytes text)
-IsDrawn j name (Missing text) = IsRun j.shape j.entries × IsNoCall j name (string_bytes text)
-IsDrawn j name (No position) = IsFirstWrong j.shape j.entries position
-IsDrawn j name (Lacking text) = ⊥
-IsDrawn j name (Stuck text told) = ⊥
-IsDrawn j name Yes = ⊥
+-- what the live nodes hold behind each of these entries
+pub record AreHeld (j : JournalFields) (window : Window) (held : List HoldingsFields) : Type 0 where
+  pub positions : map (λ (h : HoldingsFields). h.position) held ≡ positions_within window.from window.to j.entries
+  pub each : All (AreHeldBehind j) held
+
+-- the text draws these entries of the journal in the format, by this history
+abbrev pub Draws : JournalFields → List Item → Window → Format → List ℕ → Type 0
+Draws j history window Svg text = (held : List HoldingsFields) × AreHeld j window held × (text ≡ picture_text j.shape j.entries history held window)
+Draws j history window Mermaid text = text ≡ sequence_text j.shape j.entries history window
+Draws j history window Trace text = text ≡ trace_text j.shape j.entries history window
+
+-- the text draws these entries of the journal, with the places of its calls in the one history of the run
+abbrev pub IsPictureOf : JournalFields → Window → Format → List ℕ → Type 0
+IsPictureOf j window format text = (history : List Item) × HasHistory j.shape j.entries history × EachAtItsPlace j.entries history × Draws j history window format text
+
+-- what is shown of a picture: it, where the entries are a run, or that there is no call of the name that was given, or the first wrong entry
+abbrev pub IsDrawn : JournalFields → Option (List ℕ) → ℕ → ℕ → Format → Shown → Type 0
+IsDrawn j name from to format (Text text) = IsRun j.shape j.entries × ((window : Window) × IsWindow j name from to window × IsPictureOf j window format (string_bytes text))
+IsDrawn j name from to format (Wanting text) = IsRun j.shape j.entries × HasNoWindow j name × (string_bytes text ≡ no_call_text name)
+IsDrawn j name from to format (No position) = IsFirstWrong j.shape j.entries position
+IsDrawn j name from to format (Partial text told) = ⊥
+IsDrawn j name from to format Yes = ⊥

@@ -12,7 +12,7 @@ use Rattle.lockscript.specs.Scripts.{ScriptFields}
 use Rattle.lockscript.specs.Texts.{call_text}
 use Rattle.lockscript.specs.ThreadLines.{IsForThreads}
 use Rattle.replay.specs.declared.shown.Shown.{Shown}
-use Rattle.replay.specs.declared.shown.Shown.TheVariants.{Text, Lacking, Stuck, Missing, Yes, No}
+use Rattle.replay.specs.declared.shown.Shown.TheVariants.{Text, Wanting, Partial, Yes, No}
 use Rattle.replay.specs.Counts.{IsCount}
 use Rattle.replay.specs.Scripts.{IsListing}
 use Rattle.replay.specs.Stores.{HasText}
@@ -75,8 +75,7 @@ threads_text t = t.listing ++ codes "receipts " ++ decimal t.held ++ codes "\nau
 -- what is shown of a run on threads, whether its journal holds each receipt or lacks one, or it was ended as stuck
 abbrev pub ShowsThreads : ThreadedFields → Shown → Type 0
 ShowsThreads t (Text text) = (t.stuck ≡ []) × (t.held ≡ t.answered) × (string_bytes text ≡ threads_text t)
-ShowsThreads t (Lacking text) = (t.stuck ≡ []) × (t.held ≢ t.answered) × (string_bytes text ≡ threads_text t)
-ShowsThreads t (Stuck text told) = (t.stuck ≢ []) × (string_bytes text ≡ threads_text t) × (string_bytes told ≡ t.stuck)
-ShowsThreads t (Missing text) = ⊥
+ShowsThreads t (Wanting text) = (t.stuck ≡ []) × (t.held ≢ t.answered) × (string_bytes text ≡ threads_text t)
+ShowsThreads t (Partial text told) = (t.stuck ≢ []) × (string_bytes text ≡ threads_text t) × (string_bytes told ≡ t.stuck)
 ShowsThreads t Yes = ⊥
 ShowsThreads t (No position) = ⊥

@@ -8,21 +8,21 @@ ghost use Rattle.replay.specs.Audits.{HasNewJournal};
 ghost use Rattle.replay.specs.LaterRuns.{IsBehind};
 ghost use Rattle.replay.specs.Commands.{Does, IsFault, IsGoingFault};
 ghost use Rattle.replay.specs.Faults.{IsBehindFault};
-ghost use Rattle.replay.specs.Parts.{state_of};
+ghost use Rattle.player.specs.Parts.{state_of};
 ghost use Rattle.replay.specs.Scripts.{HasRunBehind, HasScriptFor};
 ghost use Rattle.replay.specs.Stores.{SameFiles};
 
 use crate::audit::{Audited, checked_new};
 use crate::fault::Fault;
 use crate::input::bytes_of;
-use crate::play::play_after;
-use crate::played::Played;
 use crate::run::{listing_and_journal, listing_of};
 use crate::shown::Shown;
 use crate::store::Store;
 use cluster_core::journal::Journal;
 use lockscript::script::Script;
 use messages::shape::Shape;
+use player::play::play_after;
+use player::played::Played;
 use std::alloc::Global;
 
 // What a script that goes on behind a journal comes to.
@@ -40,13 +40,14 @@ pub(crate) fn run_behind<'a, S: Store>(
     store: &mut S,
     path: &'a str,
     after: &'a str,
+    with_open: bool,
 ) -> Result<Shown, Fault<'a>>
-    ensures done { IfOk result (Does (S.holds store.old) (run path.now (Some after.now) None) (S.holds store.new)) }
+    ensures done { IfOk result (Does (S.holds store.old) (run path.now (Some after.now) None with_open) (S.holds store.new)) }
     ensures fault { IfErr result (λ fault. (fault ≢ CannotWriteOutput)
-        × IsFault (S.holds store.old) (S.ran_short store.new) (S.refuses store.new) (run path.now (Some after.now) None) (S.holds store.new) fault) }
+        × IsFault (S.holds store.old) (S.ran_short store.new) (S.refuses store.new) (run path.now (Some after.now) None with_open) (S.holds store.new) fault) }
 {
     match played_behind(alloc, store, path, after)? {
-        Behind::Run(played) => Ok(Shown::Text(listing_of(alloc, played)?)),
+        Behind::Run(played) => Ok(Shown::Text(listing_of(alloc, played, with_open)?)),
         Behind::Wrong(position) => Ok(Shown::No(position)),
     }
 }
@@ -58,16 +59,17 @@ pub(crate) fn run_behind_with_journal<'a, S: Store>(
     path: &'a str,
     after: &'a str,
     file: &'a str,
+    with_open: bool,
 ) -> Result<Shown, Fault<'a>>
-    ensures done { IfOk result (Does (S.holds store.old) (run path.now (Some after.now) (Some file.now)) (S.holds store.new)) }
+    ensures done { IfOk result (Does (S.holds store.old) (run path.now (Some after.now) (Some file.now) with_open) (S.holds store.new)) }
     ensures fault { IfErr result (λ fault. (fault ≢ CannotWriteOutput)
-        × IsFault (S.holds store.old) (S.ran_short store.new) (S.refuses store.new) (run path.now (Some after.now) (Some file.now)) (S.holds store.new) fault) }
+        × IsFault (S.holds store.old) (S.ran_short store.new) (S.refuses store.new) (run path.now (Some after.now) (Some file.now) with_open) (S.holds store.new) fault) }
 {
     let played = match played_behind(alloc, store, path, after)? {
         Behind::Run(played) => played,
         Behind::Wrong(position) => return Ok(Shown::No(position)),
     };
-    let (listing, journal) = listing_and_journal(alloc, played)?;
+    let (listing, journal) = listing_and_journal(alloc, played, with_open)?;
     match store.write(file, journal.as_bytes()) {
         Ok(()) => Ok(Shown::Text(listing)),
         Err(_) => Err(Fault::CannotWrite(file)),

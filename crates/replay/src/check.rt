@@ -1,16 +1,18 @@
-//! What is wrong in the script of a file.
+//! What is wrong in the script or the journal of a file.
 ghost use Rattle.std.specs.Prelude.{◌≢◌, Some, IfErr, IfOk};
 ghost use Rattle.command_line.specs.Tasks.{check};
+ghost use Rattle.diagnosis.specs.JournalReports.{BeginsAsJournal};
 ghost use Rattle.lockscript.specs.Scripts.{HasScript, IsScript, ScriptFields};
 ghost use Rattle.replay.specs.declared.fault.Fault.TheVariants.{CannotWriteOutput};
 ghost use Rattle.replay.specs.Commands.{Does, IsFault};
 ghost use Rattle.replay.specs.Faults.{IsCheckTextFault};
-ghost use Rattle.replay.specs.Tellings.{IsScriptTold};
+ghost use Rattle.replay.specs.Tellings.{IsChecked};
 
 use crate::fault::Fault;
 use crate::input::bytes_of;
 use crate::shown::Shown;
 use crate::store::Store;
+use diagnosis::journal_report::{begins_as_journal, journal_report};
 use diagnosis::report::report;
 use diagnosis::verdict::verdict;
 use lockscript::error::ParseError;
@@ -18,7 +20,7 @@ use lockscript::laws::every_text_has_one_reading;
 use lockscript::script::Script;
 use std::alloc::{AllocError, Global};
 
-// That a file writes a script, and whether threads take it.
+// That a file writes a script, and whether threads take it, or that it writes a journal.
 pub(crate) fn check<'a, S: Store>(
     alloc: Global,
     store: &mut S,
@@ -37,7 +39,33 @@ pub(crate) fn check<'a, S: Store>(
 
 // The same of the text of the file.
 fn checked_in<'a>(alloc: Global, path: &'a str, text: &str) -> Result<Shown, Fault<'a>>
-    ensures done { IfOk result (λ shown. (script : ScriptFields) × IsScript text.now script × IsScriptTold script shown) }
+    ensures done { IfOk result (IsChecked text.now) }
+    ensures fault { IfErr result (IsCheckTextFault path.now text.now) }
+{
+    if begins_as_journal(text) {
+        journal_checked(alloc, path, text)
+    } else {
+        script_checked(alloc, path, text)
+    }
+}
+
+// The same of a text that begins as a journal.
+fn journal_checked<'a>(alloc: Global, path: &'a str, text: &str) -> Result<Shown, Fault<'a>>
+    requires { BeginsAsJournal text.now }
+    ensures done { IfOk result (IsChecked text.now) }
+    ensures fault { IfErr result (IsCheckTextFault path.now text.now) }
+{
+    if let Some(report) = journal_report(alloc, path, text)? {
+        return Err(Fault::Faulty(report));
+    }
+    let yes = String::from_str(alloc, "journal yes\n")?;
+    Ok(Shown::Text(yes))
+}
+
+// The same of a text that does not.
+fn script_checked<'a>(alloc: Global, path: &'a str, text: &str) -> Result<Shown, Fault<'a>>
+    requires { ¬ (BeginsAsJournal text.now) }
+    ensures done { IfOk result (IsChecked text.now) }
     ensures fault { IfErr result (IsCheckTextFault path.now text.now) }
 {
     if let Some(report) = report(alloc, path, text)? {

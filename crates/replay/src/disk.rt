@@ -46,10 +46,11 @@ fn reason_of(error: &Error) -> StoreError
 }
 
 // Writes a file whole, or leaves it as it was: beside it first, under a name of its own, which is then
-// renamed. Where it is no regular file, or none can be made beside it, it is written in place.
+// renamed. Where it is no regular file or one that is not to be written, or none can be made beside it, it is
+// written in place.
 fn write_whole<R: Files + AllocGlobal>(rt: &R, path: &str, bytes: &[u8]) -> io::Result<()> {
     let old = match fs::symlink_metadata(rt, path) {
-        Ok(found) if found.is_file() => Some(found),
+        Ok(found) if found.is_file() && !found.permissions().readonly() => Some(found),
         Err(error) if error.kind() == ErrorKind::NotFound => None,
         _ => return fs::write(rt, path, bytes),
     };

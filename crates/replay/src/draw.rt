@@ -3,20 +3,26 @@ ghost use Rattle.std.specs.Prelude.{◌≡◌, ◌≢◌, IfErr, IfOk, MatchOpti
 ghost use Rattle.command_line.specs.Tasks.{picture};
 ghost use Rattle.replay.specs.declared.fault.Fault.TheVariants.{CannotWriteOutput};
 ghost use Rattle.replay.specs.Commands.{Does, IsFault};
-ghost use Rattle.replay.specs.Tellings.{HasNothingOf, IsAround, IsDrawn, IsPictureOf, first_window, narrowed};
+ghost use Rattle.command_line.specs.declared.format.Format.TheVariants.{Svg};
+ghost use Rattle.replay.specs.Tellings.{Draws, HasNoWindow, HasNothingOf, IsDrawn, IsPictureOf, IsWindow, between, narrowed, no_call_text};
 
 use crate::audit::{Audited, checked};
 use crate::explain::no_call;
 use crate::fault::Fault;
 use crate::shown::Shown;
 use crate::store::Store;
+use cluster_core::item::Item;
 use cluster_core::journal::Journal;
+use command_line::format::Format;
+use diagrams::mermaid::sequence;
+use diagrams::trace::trace;
+use holdings::stretch::holdings;
 use intervals::span_map::NoMemory;
 use pictures::around::around;
 use pictures::picture::picture;
 use pictures::window::Window;
 use placement::placed::placed;
-use std::alloc::Global;
+use std::alloc::{AllocError, Global};
 use stories::names::call_named;
 
 // How many entries a picture shows at most.
@@ -25,20 +31,32 @@ const MOST_DRAWN: u64 = 400;
 // How many it shows on each side of those that have to do with a call.
 const MARGIN: u32 = 10;
 
-// The picture of the journal of a file, where that is one of a run: of its first entries, or around the call
-// of the name, if one is given.
+// The entries from one position to another.
+pub(crate) fn window(from: u32, to: u32) -> Window
+    ensures { result ≡ record { from = from; to = to } }
+{
+    Window {
+        from: u64::from(from),
+        to: u64::from(to),
+    }
+}
+
+// A picture in this format of the journal of a file, where that is one of a run: of the entries from one position
+// to another, and around the call of the name, if one is given.
 pub(crate) fn draw<'a, S: Store>(
     alloc: Global,
     store: &mut S,
     path: &'a str,
     name: Option<&'a str>,
+    asked: &Window,
+    format: Format,
 ) -> Result<Shown, Fault<'a>>
-    ensures done { IfOk result (Does (S.holds store.old) (picture path.now (option_map (λ call. call.now) name.entry)) (S.holds store.new)) }
+    ensures done { IfOk result (Does (S.holds store.old) (picture path.now (option_map (λ call. call.now) name.entry) asked.now.from asked.now.to format) (S.holds store.new)) }
     ensures fault { IfErr result (λ fault. (fault ≢ CannotWriteOutput)
-        × IsFault (S.holds store.old) (S.ran_short store.new) (S.refuses store.new) (picture path.now (option_map (λ call. call.now) name.entry)) (S.holds store.new) fault) }
+        × IsFault (S.holds store.old) (S.ran_short store.new) (S.refuses store.new) (picture path.now (option_map (λ call. call.now) name.entry) asked.now.from asked.now.to format) (S.holds store.new) fault) }
 {
     match checked(alloc, store, path)? {
-        Audited::Run(journal) => match drawn(alloc, &journal, name) {
+        Audited::Run(journal) => match drawn(alloc, &journal, name, asked, format) {
             Ok(shown) => Ok(shown),
             Err(_) => Err(Fault::NoMemory),
         },
@@ -46,50 +64,65 @@ pub(crate) fn draw<'a, S: Store>(
     }
 }
 
-// The picture of the journal of a run.
-fn drawn(alloc: Global, journal: &Journal, name: Option<&str>) -> Result<Shown, NoMemory>
-    ensures { IfOk result (IsDrawn journal.now (option_map (λ call. call.now) name.entry)) }
+// The picture of the journal of a run, or that there is no call of the name.
+fn drawn(
+    alloc: Global,
+    journal: &Journal,
+    name: Option<&str>,
+    asked: &Window,
+    format: Format,
+) -> Result<Shown, NoMemory>
+    ensures { IfOk result (IsDrawn journal.now (option_map (λ call. call.now) name.entry) asked.now.from asked.now.to format) }
+{
+    let _ = journal.entries(); // tells the proof that they are a run
+    match window_of(journal, name, asked) {
+        Some(window) => Ok(Shown::Text(picture_in(alloc, journal, &window, format)?)),
+        None => Ok(Shown::Wanting(no_call_of(alloc, name)?)),
+    }
+}
+
+// That there is no call of the name, if one was given.
+fn no_call_of(alloc: Global, name: Option<&str>) -> Result<String, AllocError>
+    ensures { IfOk result (λ text. string_bytes text ≡ no_call_text (option_map (λ call. call.now) name.entry)) }
 {
     match name {
-        None => first_drawn(alloc, journal),
-        Some(name) => drawn_around(alloc, journal, name),
+        Some(name) => no_call(alloc, name),
+        None => Ok(String::new(alloc)),
     }
 }
 
-// The picture of its first entries.
-fn first_drawn(alloc: Global, journal: &Journal) -> Result<Shown, NoMemory>
-    ensures { IfOk result (IsDrawn journal.now None) }
+// The entries that are drawn; none where there is no call of the name.
+fn window_of(journal: &Journal, name: Option<&str>, asked: &Window) -> Option<Window>
+    ensures { MatchOption result (HasNoWindow journal.now (option_map (λ call. call.now) name.entry))
+        (IsWindow journal.now (option_map (λ call. call.now) name.entry) asked.now.from asked.now.to) }
 {
-    let _ = journal.entries(); // tells the proof that they are a run
-    let window = Window {
-        from: 1,
-        to: MOST_DRAWN,
-    };
-    Ok(Shown::Text(picture_in(alloc, journal, &window)?))
-}
-
-// The picture around the call of this name, or that there is none.
-fn drawn_around(alloc: Global, journal: &Journal, name: &str) -> Result<Shown, NoMemory>
-    ensures { IfOk result (IsDrawn journal.now (Some name.now)) }
-{
-    let _ = journal.entries(); // tells the proof that they are a run
-    match window_around(journal, name) {
-        Some(window) => Ok(Shown::Text(picture_in(alloc, journal, &window)?)),
-        None => Ok(Shown::Missing(no_call(alloc, name)?)),
+    match name {
+        Some(name) => window_around(journal, name, asked),
+        None => Some(narrowed(asked)),
     }
 }
 
-// The entries around the call of this name, as many as a picture shows.
-fn window_around(journal: &Journal, name: &str) -> Option<Window>
-    ensures { MatchOption result (HasNothingOf journal.now name.now) (IsAround journal.now name.now) }
+// Those around the call of this name.
+fn window_around(journal: &Journal, name: &str, asked: &Window) -> Option<Window>
+    ensures { MatchOption result (HasNothingOf journal.now name.now) (IsWindow journal.now (Some name.now) asked.now.from asked.now.to) }
 {
     let call = call_named(name)?;
-    let window = around(journal.entries(), &call, MARGIN)?;
-    Some(cut_short(&window))
+    let wide = around(journal.entries(), &call, MARGIN)?;
+    Some(narrowed(&between(asked, &wide)))
+}
+
+// The part of a window that another has too.
+fn between(asked: &Window, window: &Window) -> Window
+    ensures { result ≡ between asked.now.from asked.now.to window.now }
+{
+    Window {
+        from: window.from.max(asked.from),
+        to: window.to.min(asked.to),
+    }
 }
 
 // As many of the window's entries as a picture shows.
-fn cut_short(window: &Window) -> Window
+fn narrowed(window: &Window) -> Window
     ensures { result ≡ narrowed window.now }
 {
     Window {
@@ -99,15 +132,41 @@ fn cut_short(window: &Window) -> Window
 }
 
 // The picture of these entries of the journal of a run.
-fn picture_in(alloc: Global, journal: &Journal, window: &Window) -> Result<String, NoMemory>
-    ensures { IfOk result (λ text. IsPictureOf journal.now window.now (string_bytes text)) }
+fn picture_in(
+    alloc: Global,
+    journal: &Journal,
+    window: &Window,
+    format: Format,
+) -> Result<String, NoMemory>
+    ensures { IfOk result (λ text. IsPictureOf journal.now window.now format (string_bytes text)) }
 {
     let history = placed(alloc, journal)?;
+    let shape = journal.shape();
+    let items = history.items();
+    match format {
+        Format::Svg => svg_of(alloc, journal, items, window),
+        Format::Mermaid => sequence(alloc, &shape, journal.entries(), items, window),
+        Format::Trace => trace(alloc, &shape, journal.entries(), items, window),
+    }
+}
+
+// The same as SVG, with what the nodes hold.
+fn svg_of(
+    alloc: Global,
+    journal: &Journal,
+    history: &[Item],
+    window: &Window,
+) -> Result<String, NoMemory>
+    ensures { IfOk result (λ text. Draws journal.now history.now window.now Svg (string_bytes text)) }
+{
+    let held = holdings(alloc, journal, window.from, window.to)?;
+    let shape = journal.shape();
     picture(
         alloc,
-        &journal.shape(),
+        &shape,
         journal.entries(),
-        history.items(),
+        history,
+        held.as_slice(),
         window,
     )
 }

@@ -1,9 +1,9 @@
 //! What a journal tells of its calls.
-ghost use Rattle.std.specs.Prelude.{◌≡◌, ◌≢◌, ◌++◌, codes, string_bytes, IfErr, IfOk, MatchOption};
+ghost use Rattle.std.specs.Prelude.{◌≡◌, ◌≢◌, string_bytes, Some, IfErr, IfOk, MatchOption};
 ghost use Rattle.command_line.specs.Tasks.{explain, open_calls};
 ghost use Rattle.replay.specs.declared.fault.Fault.TheVariants.{CannotWriteOutput};
 ghost use Rattle.replay.specs.Commands.{Does, IsFault};
-ghost use Rattle.replay.specs.Tellings.{HasNoCall, IsExplained, IsStoryOf};
+ghost use Rattle.replay.specs.Tellings.{HasNoCall, IsExplained, IsStoryOf, no_call_text};
 ghost use Rattle.stories.specs.OpenCalls.{open_text};
 
 use crate::audit::{Audited, checked};
@@ -44,7 +44,7 @@ fn explained(alloc: Global, journal: &Journal, name: &str) -> Result<Shown, NoMe
     let _ = journal.entries(); // tells the proof that they are a run
     match story_of(alloc, journal, name)? {
         Some(text) => Ok(Shown::Text(text)),
-        None => Ok(Shown::Missing(no_call(alloc, name)?)),
+        None => Ok(Shown::Wanting(no_call(alloc, name)?)),
     }
 }
 
@@ -63,7 +63,7 @@ fn story_of(alloc: Global, journal: &Journal, name: &str) -> Result<Option<Strin
 
 // That there is no call of the name.
 pub(crate) fn no_call(alloc: Global, name: &str) -> Result<String, AllocError>
-    ensures { IfOk result (λ text. string_bytes text ≡ codes "no call " ++ name.now ++ codes "\n") }
+    ensures { IfOk result (λ text. string_bytes text ≡ no_call_text (Some name.now)) }
 {
     format!(in alloc; "no call {name}\n")
 }
@@ -88,7 +88,7 @@ pub(crate) fn open_calls<'a, S: Store>(
 }
 
 // The calls without a reply, by a journal.
-fn open_in(alloc: Global, journal: &Journal) -> Result<String, NoMemory>
+pub(crate) fn open_in(alloc: Global, journal: &Journal) -> Result<String, NoMemory>
     ensures { IfOk result (λ text. string_bytes text ≡ open_text journal.now.shape.version journal.now.entries) }
 {
     calls::open_calls(alloc, journal.shape().version(), journal.entries())

@@ -6,10 +6,10 @@ ghost use Rattle.replay.specs.Outputs.{Writes};
 ghost use Rattle.replay.specs.Statuses.{status_of};
 
 use crate::output::{Output, WriteFailed, put_line};
-use crate::play::PlayError;
 use itoa::Buffer;
 use journal_text::error::JournalError;
 use lockscript::error::ParseError;
+use player::play::PlayError;
 use std::alloc::{AllocError, AllocFailed};
 
 /// Why a command was not done.

@@ -6,8 +6,8 @@ ghost use Rattle.cluster_core.specs.Parts.{world_state};
 ghost use Rattle.cluster_core.specs.Runs.{Leads};
 ghost use Rattle.cluster_core.specs.World.{WorldState, first_world};
 ghost use Rattle.lockscript.specs.Listing.{listing_start};
-ghost use Rattle.replay.specs.Parts.{state_of};
-ghost use Rattle.replay.specs.Played.{EndsIn};
+ghost use Rattle.player.specs.Parts.{state_of};
+ghost use Rattle.player.specs.Played.{EndsIn};
 ghost use Rattle.replay.specs.Scripts.{IsListing, Lists};
 
 use cluster_core::journal::Journal;

@@ -1,15 +1,15 @@
 //! Scripts on threads.
 ghost use Rattle.std.specs.Prelude.{◌≡◌, None, IfErr, IfOk};
 ghost use Rattle.lockscript.specs.ThreadLines.{bad_line};
-ghost use Rattle.replay.specs.declared.play.PlayError.TheVariants.{JournalFull};
+ghost use Rattle.player.specs.declared.play.PlayError.TheVariants.{JournalFull};
 ghost use Rattle.replay.specs.Threads.{HasFullJournal, IsToldOf};
 
-use crate::play::PlayError;
 use crate::threaded::Threaded;
 use actors::gate::OpenGate;
 use actors::run_error::RunError;
 use actors::threads::run_threads;
 use lockscript::script::Script;
+use player::play::PlayError;
 use std::alloc::Global;
 use std::sync::Wait;
 use std::thread::Threads;

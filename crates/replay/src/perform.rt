@@ -13,10 +13,12 @@ ghost use Rattle.replay.specs.Statuses.{status_of, IsStatus};
 use crate::audit::{audit, history};
 use crate::behind::{run_behind, run_behind_with_journal};
 use crate::check::check;
-use crate::draw::draw;
+use crate::draw::{draw, window};
 use crate::explain::{explain, open_calls};
+use crate::explored::{explored, scheduled};
 use crate::fault::Fault;
 use crate::output::Output;
+use crate::recorded::recorded;
 use crate::run::{run_script, run_with_journal};
 use crate::shown::Shown;
 use crate::store::Store;
@@ -99,21 +101,22 @@ fn done<'a, R: Threads + Wait + Clock + Sync, S: Store, O: Output>(
 }
 
 // What is shown of a script that is run, once its journal is written, if a file for it is named, behind the
-// journal of another file, if one is named.
+// journal of another file, if one is named; with its open calls, if that is asked for.
 fn run_shown<'a, S: Store>(
     alloc: Global,
     store: &mut S,
     script: &'a str,
     after: Option<&'a str>,
     journal: Option<&'a str>,
+    with_open: bool,
 ) -> Result<Shown, Fault<'a>>
-    ensures done { IfOk result (Does (S.holds store.old) (run script.now (option_map (λ file. file.now) after.entry) (option_map (λ file. file.now) journal.entry)) (S.holds store.new)) }
+    ensures done { IfOk result (Does (S.holds store.old) (run script.now (option_map (λ file. file.now) after.entry) (option_map (λ file. file.now) journal.entry) with_open) (S.holds store.new)) }
     ensures fault { IfErr result (λ fault. (fault ≢ CannotWriteOutput)
-        × IsFault (S.holds store.old) (S.ran_short store.new) (S.refuses store.new) (run script.now (option_map (λ file. file.now) after.entry) (option_map (λ file. file.now) journal.entry)) (S.holds store.new) fault) }
+        × IsFault (S.holds store.old) (S.ran_short store.new) (S.refuses store.new) (run script.now (option_map (λ file. file.now) after.entry) (option_map (λ file. file.now) journal.entry) with_open) (S.holds store.new) fault) }
 {
     match after {
-        None => run_alone_shown(alloc, store, script, journal),
-        Some(after) => run_behind_shown(alloc, store, script, after, journal),
+        None => run_alone_shown(alloc, store, script, journal, with_open),
+        Some(after) => run_behind_shown(alloc, store, script, after, journal, with_open),
     }
 }
 
@@ -123,14 +126,15 @@ fn run_alone_shown<'a, S: Store>(
     store: &mut S,
     script: &'a str,
     journal: Option<&'a str>,
+    with_open: bool,
 ) -> Result<Shown, Fault<'a>>
-    ensures done { IfOk result (Does (S.holds store.old) (run script.now None (option_map (λ file. file.now) journal.entry)) (S.holds store.new)) }
+    ensures done { IfOk result (Does (S.holds store.old) (run script.now None (option_map (λ file. file.now) journal.entry) with_open) (S.holds store.new)) }
     ensures fault { IfErr result (λ fault. (fault ≢ CannotWriteOutput)
-        × IsFault (S.holds store.old) (S.ran_short store.new) (S.refuses store.new) (run script.now None (option_map (λ file. file.now) journal.entry)) (S.holds store.new) fault) }
+        × IsFault (S.holds store.old) (S.ran_short store.new) (S.refuses store.new) (run script.now None (option_map (λ file. file.now) journal.entry) with_open) (S.holds store.new) fault) }
 {
     match journal {
-        None => Ok(Shown::Text(run_script(alloc, store, script)?)),
-        Some(file) => Ok(Shown::Text(run_with_journal(alloc, store, script, file)?)),
+        None => Ok(Shown::Text(run_script(alloc, store, script, with_open)?)),
+        Some(file) => Ok(Shown::Text(run_with_journal(alloc, store, script, file, with_open)?)),
     }
 }
 
@@ -141,14 +145,15 @@ fn run_behind_shown<'a, S: Store>(
     script: &'a str,
     after: &'a str,
     journal: Option<&'a str>,
+    with_open: bool,
 ) -> Result<Shown, Fault<'a>>
-    ensures done { IfOk result (Does (S.holds store.old) (run script.now (Some after.now) (option_map (λ file. file.now) journal.entry)) (S.holds store.new)) }
+    ensures done { IfOk result (Does (S.holds store.old) (run script.now (Some after.now) (option_map (λ file. file.now) journal.entry) with_open) (S.holds store.new)) }
     ensures fault { IfErr result (λ fault. (fault ≢ CannotWriteOutput)
-        × IsFault (S.holds store.old) (S.ran_short store.new) (S.refuses store.new) (run script.now (Some after.now) (option_map (λ file. file.now) journal.entry)) (S.holds store.new) fault) }
+        × IsFault (S.holds store.old) (S.ran_short store.new) (S.refuses store.new) (run script.now (Some after.now) (option_map (λ file. file.now) journal.entry) with_open) (S.holds store.new) fault) }
 {
     match journal {
-        None => run_behind(alloc, store, script, after),
-        Some(file) => run_behind_with_journal(alloc, store, script, after, file),
+        None => run_behind(alloc, store, script, after, with_open),
+        Some(file) => run_behind_with_journal(alloc, store, script, after, file, with_open),
     }
 }
 
@@ -168,7 +173,8 @@ fn shown_of<'a, R: Threads + Wait + Clock + Sync, S: Store>(
             script,
             after,
             journal,
-        } => run_shown(alloc, store, script, after, journal),
+            open,
+        } => run_shown(alloc, store, script, after, journal, open),
         Line::Threads {
             script,
             seed,
@@ -180,6 +186,24 @@ fn shown_of<'a, R: Threads + Wait + Clock + Sync, S: Store>(
         Line::Explain { journal, call } => explain(alloc, store, journal, call),
         Line::Open { journal } => open_calls(alloc, store, journal),
         Line::Check { script } => check(alloc, store, script),
-        Line::Picture { journal, around } => draw(alloc, store, journal, around),
+        Line::Picture {
+            journal,
+            around,
+            from,
+            to,
+            format,
+        } => draw(alloc, store, journal, around, &window(from, to), format),
+        Line::FromStrace { recording, nodes } => recorded(alloc, store, recording, nodes),
+        Line::Explore {
+            script,
+            seeds,
+            first,
+            failures,
+        } => explored(alloc, store, script, seeds, first, failures),
+        Line::Schedule {
+            script,
+            seed,
+            failures,
+        } => scheduled(alloc, store, script, seed, failures),
     }
 }

@@ -8,17 +8,17 @@ ghost use Rattle.journal_text.specs.Readings.{WritesJournal};
 ghost use Rattle.lockscript.specs.Listing.{listing_start};
 ghost use Rattle.replay.specs.declared.fault.Fault.TheVariants.{CannotWriteOutput};
 ghost use Rattle.replay.specs.declared.shown.Shown.TheVariants.{Text};
-ghost use Rattle.replay.specs.Commands.{Does, IsFault};
+ghost use Rattle.replay.specs.Commands.{Does, IsFault, IsRunText};
 ghost use Rattle.replay.specs.Faults.{IsScriptFault};
-ghost use Rattle.replay.specs.Parts.{state_of};
+ghost use Rattle.player.specs.Parts.{state_of};
 ghost use Rattle.replay.specs.Scripts.{HasRun, HasScript, IsListing, Lists};
 ghost use Rattle.replay.specs.Stores.{SameFiles};
+ghost use Rattle.replay.specs.Tellings.{open_section};
 
+use crate::explain::open_in;
 use crate::fault::Fault;
 use crate::input::bytes_of;
 use crate::listing::listing_begun;
-use crate::play::play;
-use crate::played::Played;
 use crate::store::Store;
 use cluster_core::journal::Journal;
 use intervals::span_map::NoMemory;
@@ -27,20 +27,24 @@ use journal_text::laws::each_journal_is_read;
 use lockscript::listing::push_history;
 use lockscript::script::Script;
 use placement::history::History;
+use player::play::play;
+use player::played::Played;
 use std::alloc::Global;
 
-// The listing of what the script of a file comes to.
+// The listing of what the script of a file comes to, with the calls without a reply behind it, if that is asked
+// for.
 pub(crate) fn run_script<'a, S: Store>(
     alloc: Global,
     store: &mut S,
     path: &'a str,
+    with_open: bool,
 ) -> Result<String, Fault<'a>>
-    ensures done { IfOk result (λ text. Does (S.holds store.old) (run path.now None None) (S.holds store.new) (Text text)) }
+    ensures done { IfOk result (λ text. Does (S.holds store.old) (run path.now None None with_open) (S.holds store.new) (Text text)) }
     ensures fault { IfErr result (λ fault. (fault ≢ CannotWriteOutput)
-        × IsFault (S.holds store.old) (S.ran_short store.new) (S.refuses store.new) (run path.now None None) (S.holds store.new) fault) }
+        × IsFault (S.holds store.old) (S.ran_short store.new) (S.refuses store.new) (run path.now None None with_open) (S.holds store.new) fault) }
 {
     let played = played_of(alloc, store, path)?;
-    Ok(listing_of(alloc, played)?)
+    Ok(listing_of(alloc, played, with_open)?)
 }
 
 // The same, with the journal of the run written to a file. All that needs memory is done before.
@@ -49,13 +53,14 @@ pub(crate) fn run_with_journal<'a, S: Store>(
     store: &mut S,
     path: &'a str,
     file: &'a str,
+    with_open: bool,
 ) -> Result<String, Fault<'a>>
-    ensures done { IfOk result (λ text. Does (S.holds store.old) (run path.now None (Some file.now)) (S.holds store.new) (Text text)) }
+    ensures done { IfOk result (λ text. Does (S.holds store.old) (run path.now None (Some file.now) with_open) (S.holds store.new) (Text text)) }
     ensures fault { IfErr result (λ fault. (fault ≢ CannotWriteOutput)
-        × IsFault (S.holds store.old) (S.ran_short store.new) (S.refuses store.new) (run path.now None (Some file.now)) (S.holds store.new) fault) }
+        × IsFault (S.holds store.old) (S.ran_short store.new) (S.refuses store.new) (run path.now None (Some file.now) with_open) (S.holds store.new) fault) }
 {
     let played = played_of(alloc, store, path)?;
-    let (listing, journal) = listing_and_journal(alloc, played)?;
+    let (listing, journal) = listing_and_journal(alloc, played, with_open)?;
     match store.write(file, journal.as_bytes()) {
         Ok(()) => Ok(listing),
         Err(_) => Err(Fault::CannotWrite(file)),
@@ -87,31 +92,46 @@ fn script_of<'a, S: Store>(alloc: Global, store: &mut S, path: &'a str) -> Resul
 
 // The listing of a run. What is no longer needed goes as soon as it can: the journal before the
 // history is written.
-#[tactic(auto, using(crate::proofs::Sections::whole_listing))]
-pub(crate) fn listing_of(alloc: Global, played: Played) -> Result<String, NoMemory>
-    ensures { IfOk result (λ text. IsListing (state_of played) (string_bytes text)) }
+pub(crate) fn listing_of(alloc: Global, played: Played, with_open: bool) -> Result<String, NoMemory>
+    ensures { IfOk result (λ text. IsRunText (state_of played) with_open (string_bytes text)) }
 {
     let (mut text, journal, history) = listing_of_played(alloc, played)?;
+    let open = open_section(alloc, &journal, with_open)?;
     drop(journal);
     push_history(&mut text, history.items())?;
+    text.push_str(&open)?;
     Ok(text)
 }
 
 // The listing of a run, and its journal as text.
-#[tactic(auto, using(crate::proofs::Sections::whole_listing))]
 pub(crate) fn listing_and_journal(
     alloc: Global,
     played: Played,
+    with_open: bool,
 ) -> Result<(String, String), NoMemory>
-    ensures listing { IfOk result (λ texts. IsListing (state_of played) (string_bytes texts.0)) }
+    ensures listing { IfOk result (λ texts. IsRunText (state_of played) with_open (string_bytes texts.0)) }
     ensures journal { IfOk result (λ texts. string_bytes texts.1 ≡ journal_text played.journal.shape played.journal.entries) }
     ensures read { IfOk result (λ texts. WritesJournal (journal_text played.journal.shape played.journal.entries) played.journal.shape played.journal.entries) }
 {
     let (mut text, journal, history) = listing_of_played(alloc, played)?;
+    let open = open_section(alloc, &journal, with_open)?;
     each_journal_is_read(&journal);
     let printed = into_text(alloc, journal)?;
     push_history(&mut text, history.items())?;
+    text.push_str(&open)?;
     Ok((text, printed))
+}
+
+// The calls without a reply, in a section of their own, if that is asked for.
+fn open_section(alloc: Global, journal: &Journal, with_open: bool) -> Result<String, NoMemory>
+    ensures { IfOk result (λ text. string_bytes text ≡ open_section with_open journal.now) }
+{
+    let mut text = String::new(alloc);
+    if with_open {
+        text.push_str("open\n")?;
+        text.push_str(&open_in(alloc, journal)?)?;
+    }
+    Ok(text)
 }
 
 // The listing of a run up to its history, its journal, and the history.

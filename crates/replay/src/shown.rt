@@ -10,14 +10,14 @@ use itoa::Buffer;
 /// What is shown of a command that is done.
 #[derive(Drop)]
 pub enum Shown {
-    /// A listing, or a history.
+    /// A text, as a listing.
     Text(String),
-    /// The same of a run on threads, whose journal lacks a receipt.
-    Lacking(String),
-    /// The same of a run on threads that was ended as stuck, and a line for each call that is open then.
-    Stuck { text: String, told: String },
-    /// That the journal has no call of the name.
-    Missing(String),
+    /// A text, where something is wanting: a receipt in the journal of a run on threads, a call of the name
+    /// in a journal, or a reply that a script expects.
+    Wanting(String),
+    /// A text of a part of what was asked for, and what is told of the rest: of a run on threads that was
+    /// ended as stuck, a line for each call that is open then; of recorded locks, one for each that is not served.
+    Partial { text: String, told: String },
     /// `audit yes`: the entries of the journal are a run.
     Yes,
     /// `audit no K`: the entry at this position, from 1, is the first that is not the next step.
@@ -25,14 +25,13 @@ pub enum Shown {
 }
 
 impl Shown {
-    /// The exit status: 1 where a journal is none of a run or lacks a receipt or what was asked for, or a run was
-    /// ended as stuck; else 0.
+    /// The exit status: 1 where a journal is none of a run, or something is wanting or left out; else 0.
     pub fn status(&self) -> u8
         ensures { result ≡ shown_status self.now }
     {
         match self {
             Shown::Text(_) | Shown::Yes => 0,
-            Shown::Lacking(_) | Shown::Stuck { .. } | Shown::Missing(_) | Shown::No(_) => 1,
+            Shown::Wanting(_) | Shown::Partial { .. } | Shown::No(_) => 1,
         }
     }
 
@@ -49,11 +48,11 @@ impl Shown {
         out.finish()
     }
 
-    /// Tells of open calls, where a run was ended as stuck. What can't be written is lost.
+    /// Tells of what is left out, if anything is. What can't be written is lost.
     pub(crate) fn tell<E: Output>(&self, err: &mut E)
         ensures { TellsBeside E.taken E.has_failed err.old err.new self.now }
     {
-        if let Shown::Stuck { told, .. } = self {
+        if let Shown::Partial { told, .. } = self {
             let _ = err.put(told.as_bytes());
         }
     }
@@ -62,10 +61,8 @@ impl Shown {
         ensures { Writes (O.taken out.old) (O.taken out.new) (O.has_failed out.new) (shown_text self.now) result }
     {
         match self {
-            Shown::Text(text) | Shown::Lacking(text) | Shown::Missing(text) => {
-                out.put(text.as_bytes())
-            }
-            Shown::Stuck { text, .. } => out.put(text.as_bytes()),
+            Shown::Text(text) | Shown::Wanting(text) => out.put(text.as_bytes()),
+            Shown::Partial { text, .. } => out.put(text.as_bytes()),
             Shown::Yes => put_line(out, "audit yes", ""),
             Shown::No(position) => put_line(out, "audit no ", Buffer::new().format(*position)),
         }

@@ -78,12 +78,12 @@ impl Threaded {
         } = self;
         let text = with_counts(listing, held)?;
         if !stuck.is_empty() {
-            return Ok((Shown::Stuck { text, told: stuck }, journal));
+            return Ok((Shown::Partial { text, told: stuck }, journal));
         }
         if held == answered {
             Ok((Shown::Text(text), journal))
         } else {
-            Ok((Shown::Lacking(text), journal))
+            Ok((Shown::Wanting(text), journal))
         }
     }
 }

@@ -1,0 +1,10 @@
+use Rattle.std.proofs.Common.{◌≡◌, ◌∙◌, ℕ, List, ap, subst}
+use Rattle.messages.specs.Shapes.{ShapeFields}
+use Rattle.explorer.specs.Texts.{script_text}
+use Rattle.replay.proofs.explored.scheduled_in.Goals as goal
+
+pub returns-clause-done : goal.returns-clause-done
+returns-clause-done c =
+    let shape = c.shape-shape.ensures in
+    let text = c.in_ok-script_text.ensures ∙ ap (λ (s : ShapeFields). script_text s c.commands.result.now) shape ∙ ap (λ (cs : List _). script_text c.in_ok-script.script.shape cs) c.commands.ensures in
+    (c.in_ok-script.script, c.in_ok-script.ensures.script, (c.in_ok-made.made.commands, c.in_ok-made.ensures.of_script, (_, c.in_ok-made.ensures.played), text))

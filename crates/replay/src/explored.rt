@@ -1,0 +1,91 @@
+//! What may come of the script of a file under many schedules.
+ghost use Rattle.std.specs.Prelude.{◌≢◌, IfErr, IfOk};
+ghost use Rattle.command_line.specs.Tasks.{explore, schedule};
+ghost use Rattle.replay.specs.declared.fault.Fault.TheVariants.{CannotWriteOutput};
+ghost use Rattle.replay.specs.Commands.{Does, IsFault};
+ghost use Rattle.replay.specs.Explorations.{IsExploreTextFault, IsExplored, IsScheduled};
+
+use crate::fault::Fault;
+use crate::input::bytes_of;
+use crate::shown::Shown;
+use crate::store::Store;
+use explorer::explore::explore;
+use explorer::schedule::schedule;
+use explorer::text::script_text;
+use lockscript::script::Script;
+use std::alloc::Global;
+
+// The script of a schedule of that of a file.
+pub(crate) fn scheduled<'a, S: Store>(
+    alloc: Global,
+    store: &mut S,
+    path: &'a str,
+    seed: u32,
+    failures: bool,
+) -> Result<Shown, Fault<'a>>
+    ensures done { IfOk result (Does (S.holds store.old) (schedule path.now seed failures) (S.holds store.new)) }
+    ensures fault { IfErr result (λ fault. (fault ≢ CannotWriteOutput)
+        × IsFault (S.holds store.old) (S.ran_short store.new) (S.refuses store.new) (schedule path.now seed failures) (S.holds store.new) fault) }
+{
+    let bytes = bytes_of(alloc, store, path)?;
+    match str::from_utf8(bytes.as_slice()) {
+        Ok(text) => scheduled_in(alloc, text, seed, failures),
+        Err(_) => Err(Fault::CannotRead(path)),
+    }
+}
+
+// The same of the text of a file.
+fn scheduled_in<'a>(
+    alloc: Global,
+    text: &str,
+    seed: u32,
+    failures: bool,
+) -> Result<Shown, Fault<'a>>
+    ensures done { IfOk result (IsScheduled failures text.now) }
+    ensures fault { IfErr result (IsExploreTextFault text.now) }
+{
+    let script = Script::parse_for_threads(alloc, text)?;
+    let made = schedule(alloc, &script, seed, failures)?;
+    let shape = script.shape();
+    Ok(Shown::Text(script_text(alloc, &shape, made.commands())?))
+}
+
+// The outcomes of the script of a file.
+pub(crate) fn explored<'a, S: Store>(
+    alloc: Global,
+    store: &mut S,
+    path: &'a str,
+    seeds: u32,
+    first: u32,
+    failures: bool,
+) -> Result<Shown, Fault<'a>>
+    ensures done { IfOk result (Does (S.holds store.old) (explore path.now seeds first failures) (S.holds store.new)) }
+    ensures fault { IfErr result (λ fault. (fault ≢ CannotWriteOutput)
+        × IsFault (S.holds store.old) (S.ran_short store.new) (S.refuses store.new) (explore path.now seeds first failures) (S.holds store.new) fault) }
+{
+    let bytes = bytes_of(alloc, store, path)?;
+    match str::from_utf8(bytes.as_slice()) {
+        Ok(text) => explored_in(alloc, text, seeds, first, failures),
+        Err(_) => Err(Fault::CannotRead(path)),
+    }
+}
+
+// The same of the text of a file.
+fn explored_in<'a>(
+    alloc: Global,
+    text: &str,
+    seeds: u32,
+    first: u32,
+    failures: bool,
+) -> Result<Shown, Fault<'a>>
+    ensures done { IfOk result (IsExplored failures seeds text.now) }
+    ensures fault { IfErr result (IsExploreTextFault text.now) }
+{
+    let script = Script::parse_for_threads(alloc, text)?;
+    let explored = explore(alloc, text, &script, first, seeds, failures)?;
+    if explored.breaks {
+        Ok(Shown::Wanting(explored.text))
+    } else {
+        Ok(Shown::Text(explored.text))
+    }
+}
