@@ -125,12 +125,38 @@ for command in open check picture; do
     try_text "two files for $command" 2 err "Usage: lockreplay $command" "$command" first.lock first.lock
     try_text "an option for $command" 2 err "Usage: lockreplay $command" "$command" first.lock --journal=new.journal
 done
+for command in from-strace explore schedule; do
+    try_text "no file for $command" 2 err "Usage: lockreplay $command" "$command"
+    try_text "two files for $command" 2 err "Usage: lockreplay $command" "$command" first.lock first.lock
+    try_text "an option for $command" 2 err "Usage: lockreplay $command" "$command" first.lock --journal=new.journal
+done
+try_text 'the help on from-strace' 0 out 'strace -f' help from-strace
+try_text 'the help on explore' 0 out '# expect WORDS' help explore
+try_text 'the help on schedule' 0 out "'lockreplay run' replays it" help schedule
+try_text 'open calls in the help on run' 0 out '--open' help run
+try_text 'a journal in the help on check' 0 out 'journal yes' help check
 try_text 'the help on explain' 0 out 'no call CALL' help explain
 try_text 'the help on open' 0 out 'JOURNAL' help open
 try_text 'the help on check' 0 out 'threads no L' help check
-try_text 'the help on picture' 0 out 'first 400 entries' help picture
+try_text 'the help on picture' 0 out 'the first 400' help picture
 try_text 'a call to draw left out' 2 err "a value is required for '--around <CALL>'" picture new.journal --around
 try_text 'two calls to draw' 2 err "'--around <CALL>' cannot be used multiple times" picture new.journal --around 1.1.1 --around 1.1.2
+for format in png SVG ''; do
+    try_text "a format that is none: $format" 2 err "invalid value for '--format <FORMAT>'" picture new.journal --format "$format"
+done
+try_text 'a format left out' 2 err "a value is required for '--format <FORMAT>'" picture new.journal --format
+for number in 0 -1 4294967296 many; do
+    try_text "a first entry that is none: $number" 2 err "--from" picture new.journal --from="$number"
+    try_text "a last entry that is none: $number" 2 err "--to" picture new.journal --to="$number"
+    try_text "so many schedules: $number" 2 err "--seeds" explore first.lock --seeds="$number"
+done
+for number in 0 65 -1 many; do
+    try_text "so many nodes: $number" 2 err "--nodes" from-strace first.lock --nodes="$number"
+done
+for number in -1 4294967296 many; do
+    try_text "a first seed that is none: $number" 2 err "--first" explore first.lock --first="$number"
+    try_text "a seed of a schedule that is none: $number" 2 err "--seed" schedule first.lock --seed="$number"
+done
 try_text 'two scripts for threads' 2 err 'Usage: lockreplay threads' threads first.lock first.lock
 try_text 'a seed below 0' 2 err "'-1'" threads first.lock --seed -1
 try_text 'a seed that is too great' 2 err "for '--seed <N>'" threads first.lock --seed 4294967296
@@ -399,6 +425,15 @@ for call in 1.1.9 2.1.1 1.2.1 1.1 1.1.1.1 1.1.01 '' x '1.1.1 '; do
 done
 "$program" picture written.journal >first.svg
 try 'the picture around its first call, behind --' 0 first.svg none picture --around=1.1.1 -- written.journal
+try 'the picture of all its entries' 0 first.svg none picture written.journal --from 1 --to 7
+try 'the picture of more than all its entries' 0 first.svg none picture --to 4294967295 written.journal
+for format in svg mermaid trace; do
+    "$program" picture written.journal --format $format --from 3 --to 5 >part.picture
+    try "a part of it as $format, around a call" 0 part.picture none \
+        picture written.journal --around 1.1.3 --format=$format --to=5 --from=3
+    cmp -s part.picture first.svg
+    judge "that it is a part, as $format" 1 $? none none none none
+done
 sed 's/^reply 1.1.1 done$/reply 1.1.1 exists/' first.journal >wrong.journal
 echo 'audit no 1' >no-first
 try 'a story by a journal that is none of a run' 1 no-first none explain wrong.journal 1.1.1
@@ -413,6 +448,20 @@ echo 'cannot read missing.journal' >no-journal
 try 'a story by a missing journal' 3 none no-journal explain missing.journal 1.1.1
 try 'a picture of a missing journal' 3 none no-journal picture missing.journal
 try 'open calls by a missing journal' 3 none no-journal open missing.journal
+echo 'cannot read missing.lock' >no-lock
+for command in from-strace explore schedule; do
+    try "$command of a missing file" 3 none no-lock $command missing.lock
+done
+printf 'cluster nodes 1 files 1 policy wide\ndeliver 1\n' >alone.lock
+echo 'bad line 2' >second-bad
+for command in explore schedule; do
+    try "$command of a script that threads do not take" 3 none second-bad $command alone.lock
+done
+printf 'cluster nodes 1 files 1 policy wide\n' >wanted.lock
+: >empty.strace
+try 'a recording of nothing' 0 wanted.lock none from-strace empty.strace
+echo settle >>wanted.lock
+try 'a schedule of nothing' 0 wanted.lock none schedule empty.lock
 cat first.journal first.journal >written.journal
 try 'a run with its journal in the place of a longer file' 0 first.listing none run first.lock --journal written.journal
 cmp -s first.journal written.journal
@@ -460,6 +509,18 @@ timeout 120 "$program" run first.lock --journal whole.journal >came.out 2>came.e
 judge 'a journal in the place of that file' 0 $? first.listing came.out none came.err
 cmp -s first.journal whole.journal && [ "$(stat -c %a whole.journal)" = 640 ]
 judge 'the journal, with the permissions of the file' 0 $? none none none none
+cp whole.journal kept
+chmod 444 whole.journal
+inode=$(stat -c %i whole.journal)
+timeout 120 "$program" run first.lock --journal whole.journal >came.out 2>came.err
+status=$?
+if [ "$(id -u)" = 0 ]; then
+    [ $status = 0 ]
+else
+    [ $status = 3 ] && cmp -s kept whole.journal
+fi && [ "$(stat -c %i whole.journal)" = "$inode" ]
+judge 'a write-protected file, which no other takes the place of' 0 $? none none none none
+rm -f whole.journal
 ln -s whole.journal link.journal
 : >whole.journal
 try 'a journal by a link' 0 first.listing none run first.lock --journal link.journal
