@@ -19,11 +19,6 @@ AreSome (part ∷ rest) = (0 < length part) × AreSome rest
 abbrev pub row_runs : {V : Type 0} → Row V → List (Run V)
 row_runs row = row.first ++ all_runs row.rest.items
 
--- the byte at which the first run begins
-abbrev pub begins_at : {V : Type 0} → List (Run V) → ℕ
-begins_at [] = 0
-begins_at (r ∷ rest) = r.lo
-
 -- there is a first run, and it begins at byte n or below
 abbrev pub BeginsTo : {V : Type 0} → List (Run V) → ℕ → Type 0
 BeginsTo [] n = ⊥

@@ -17,6 +17,11 @@ abbrev pub IsBarredValue : {V : Type 0} → Option V → V → Type 0
 IsBarredValue None v = Unit {0}
 IsBarredValue (Some w) v = v ≡ w
 
+-- the byte at which the first run begins; 0 where there is none
+abbrev pub begins_at : {V : Type 0} → List (Run V) → ℕ
+begins_at [] = 0
+begins_at (r ∷ rest) = r.lo
+
 -- the next run begins above r, and where it begins right after r it has another value
 abbrev pub Follows : {V : Type 0} → Run V → List (Run V) → Type 0
 Follows r [] = Unit {0}

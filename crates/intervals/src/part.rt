@@ -2,8 +2,7 @@
 ghost use Rattle.std.specs.Prelude.{◌≡◌, ◌≤◌, ◌<◌, ◌+◌, ◌++◌, [], ℕ, ◌==◌, length, IfOk};
 ghost use Rattle.std.specs.Vec.{vec_len, vec_capacity};
 ghost use Rattle.intervals.specs.Bytes.{greatest, put};
-ghost use Rattle.intervals.specs.Runs.{value_at, AreRuns, EndsBelow};
-ghost use Rattle.intervals.specs.Parts.{begins_at};
+ghost use Rattle.intervals.specs.Runs.{begins_at, value_at, AreRuns, EndsBelow};
 
 use crate::run::{Run, append_all, write};
 use crate::span::Span;
@@ -11,19 +10,35 @@ use crate::span_map::{Exact, NoMemory};
 use std::alloc::Global;
 use std::marker::Model;
 
-/// Some runs of a map from bytes to values, as a sorted vector.
+/// Some runs of a map from bytes to values, as a sorted vector, with the byte at which the first begins: a search in a
+/// row of parts reads no run of theirs.
 #[derive(Drop)]
 pub(crate) struct Part<V> {
+    first: u64,
     runs: Vec<Run<V>>,
 }
 
+// The byte at which the first of the runs begins; 0 where there is none.
+#[inline(always)]
+fn first_of<V: Exact>(runs: &[Run<V>]) -> u64
+    ensures { result ≡ begins_at runs.now }
+{
+    match runs.first() {
+        Some(run) => run.lo,
+        None => 0,
+    }
+}
+
 impl<V> Model for Part<V> {
-    ghost use Rattle.std.specs.Prelude.{List};
+    ghost use Rattle.std.specs.Prelude.{◌≡◌, List};
     ghost use Rattle.intervals.specs.declared.run.Run.{Run};
+    ghost use Rattle.intervals.specs.Runs.{begins_at};
 
     ghost Value = { List (Run V) };
 
     ghost view = { λ m. m.runs.items };
+
+    ghost invariant = { λ m. m.first ≡ begins_at m.runs.items };
 }
 
 impl<V: Exact> Part<V> {
@@ -32,6 +47,7 @@ impl<V: Exact> Part<V> {
         ensures { result ≡ [] }
     {
         Part {
+            first: 0,
             runs: Vec::new(alloc),
         }
     }
@@ -41,6 +57,7 @@ impl<V: Exact> Part<V> {
         ensures { IfOk result (λ part. part ≡ []) }
     {
         Ok(Part {
+            first: 0,
             runs: Vec::with_capacity(alloc, most)?,
         })
     }
@@ -66,10 +83,7 @@ impl<V: Exact> Part<V> {
     pub(crate) fn first(&self) -> u64
         ensures { result ≡ begins_at self.now }
     {
-        match self.runs.first() {
-            Some(run) => run.lo,
-            None => 0,
-        }
+        self.first
     }
 
     // Gives each byte of the span the value, or none, as `write` does.
@@ -84,12 +98,14 @@ impl<V: Exact> Part<V> {
         ensures bytes { (b : ℕ) → value_at self.new b ≡ put (value_at self.old) span value b }
     {
         write(&mut self.runs, room, span, value);
+        self.first = first_of(&self.runs);
     }
 
     // Takes these runs in place of its own: to its own memory, where that has room for them. Takes no memory.
     pub(crate) fn put(&mut self, mut runs: Vec<Run<V>>)
         ensures { self.new ≡ runs.items }
     {
+        self.first = first_of(&runs);
         if runs.len() > self.runs.capacity() {
             self.runs = runs;
             return;
@@ -108,11 +124,13 @@ impl<V: Exact> Part<V> {
         ensures kept { 0 < kept → 0 < length result → 0 < vec_len runs.new }
     {
         self.runs.clear();
+        self.first = 0;
         if runs.len() - kept > self.runs.capacity() {
             return self;
         }
         let (_, rest) = runs.split_at(kept);
         append_all(&mut self.runs, rest);
+        self.first = first_of(rest);
         runs.truncate(kept);
         self
     }
@@ -124,6 +142,9 @@ impl<V: Exact> Part<V> {
         let most = self.runs.len().saturating_add(2).max(least);
         let mut runs = Vec::with_capacity(alloc, most)?;
         runs.extend_from_slice(&self.runs)?;
-        Ok(Part { runs })
+        Ok(Part {
+            first: self.first,
+            runs,
+        })
     }
 }
