@@ -9,5 +9,4 @@ pub mod ListingLemmas
 pub mod ListingParts
 pub mod FlagLemmas
 pub mod PageLemmas
-pub mod Regions
 pub mod Writes

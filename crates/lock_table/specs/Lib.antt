@@ -1,3 +1,4 @@
+pub mod SharedSpans
 pub mod Regions
 pub mod Rows
 pub mod Blockers

@@ -8,6 +8,7 @@ pub mod lock_table;
 pub mod order;
 pub mod owner_locks;
 pub mod owner_set;
+mod owner_spans;
 pub mod page_index;
 
 pub use model::lock_info::LockInfo;

@@ -14,11 +14,12 @@ ghost use Rattle.lock_table.specs.Pages.{HasFlag, IsKept};
 use crate::error::LockError;
 use crate::flag_set::FlagSet;
 use crate::order::{cmp_regions, lowest_of};
-use crate::owner_locks::{OwnerLocks, Spans};
+use crate::owner_locks::OwnerLocks;
+use crate::owner_spans::OwnerSpans;
 use crate::page_index::PageIndex;
 use intervals::span::Span;
 use intervals::span_edit::SpanEdit;
-use intervals::span_map::{NoMemory, SpanMap};
+use intervals::span_map::NoMemory;
 use model::lock_info::LockInfo;
 use model::mode::Mode;
 use model::owner::Owner;
@@ -205,7 +206,7 @@ impl LockTable {
         match position(&self.rows, file, owner) {
             Ok(i) => self.rows[i].spans.starts_with(span, mode),
             Err(_) => {
-                let nothing = Spans::new(*self.rows.allocator());
+                let nothing = OwnerSpans::new(*self.rows.allocator());
                 nothing.starts_with(span, mode)
             }
         }
@@ -249,7 +250,7 @@ impl LockTable {
         match position(&self.rows, file, owner) {
             Ok(i) => Ok(self.rows[i].spans.plan(span, mode)?),
             Err(_) => {
-                let nothing = Spans::new(*self.rows.allocator());
+                let nothing = OwnerSpans::new(*self.rows.allocator());
                 Ok(nothing.plan(span, mode)?)
             }
         }
@@ -337,7 +338,7 @@ impl LockTable {
         ensures limit { self.new.limit ≡ self.old.limit }
     {
         self.index.note_write(file, owner, &write);
-        let mut spans = Spans::new(*self.rows.allocator());
+        let mut spans = OwnerSpans::new(*self.rows.allocator());
         spans.apply(write);
         if spans.is_empty() {
             return;

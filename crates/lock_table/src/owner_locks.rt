@@ -7,23 +7,20 @@ ghost use Rattle.lock_table.specs.Regions.{rest_from, IsFirstRegion};
 ghost use Rattle.lock_table.specs.Blockers.{IsLowestBut};
 ghost use Rattle.lock_table.specs.Listing.{ListsRegions};
 
+use crate::owner_spans::OwnerSpans;
 use intervals::span::{GREATEST, Span};
-use intervals::span_map::{NoMemory, SpanMap};
-use intervals::tree_map::TreeMap;
+use intervals::span_map::NoMemory;
 use model::lock_info::LockInfo;
 use model::mode::Mode;
 use model::owner::Owner;
 use std::cmp::Ordering;
-
-/// The bytes that one owner holds in one file, each with its mode.
-pub(crate) type Spans = TreeMap<Mode>;
 
 /// What one owner holds in one file.
 #[derive(Drop)]
 pub struct OwnerLocks {
     pub(crate) file: u16,
     pub(crate) owner: Owner,
-    pub(crate) spans: Spans,
+    pub(crate) spans: OwnerSpans,
 }
 
 // Whether the run that was found is that one.
