@@ -1,2 +1,3 @@
 pub mod RowLaws
-pub mod MarkLaws
+pub mod CountLaws
+pub mod PlaceLaws

@@ -1,18 +1,17 @@
 -- Rows of processes.
-use Rattle.std.specs.Prelude.{◌≡◌, ◌≢◌, ℕ, zero, suc, ◌+◌, ◌<◌, ◌≤◌, ◌||◌, ◌&&◌, ◌==◌, Bool, true, false, if◌then◌else◌, List, Option, Some, None, Ok, Err, IfSome, length, replicate, slice_index_or, slice_set, refl}
+use Rattle.std.specs.Prelude.{◌≡◌, ◌≢◌, ◌⊎◌, ℕ, zero, suc, ◌+◌, ◌<◌, ◌≤◌, ◌||◌, ◌&&◌, ◌==◌, Bool, true, false, if◌then◌else◌, List, Option, Some, None, Ok, Err, IfSome, length, replicate, slice_index_or, slice_set, refl}
 use Rattle.std.proofs.Common.{arith, ap, subst, sym, ◌∙◌, inl, inr}
 use Rattle.std.proofs.lemmas.Bool.{cases_lt, cases_Bool, cases_eq, eq-eqb, ne_eqb, eqb-true, both_ways, false≢true}
 use Rattle.std.proofs.lemmas.List.{get_or-set_same, get_or-set_other, get_or_past}
 use Rattle.intervals.specs.Search.{some_passes}
 use Rattle.model.specs.declared.opened.Opened.{Opened}
 use Rattle.model.specs.Limits.{IsNumber, most_processes, most_descriptions}
-use Rattle.model.specs.Descriptors.{Processes, no_processes, with_process, with_descriptor, is_open}
+use Rattle.model.specs.Descriptors.{Processes, no_processes, with_process, with_descriptor}
 use Rattle.model.proofs.SearchLaws.{failed-start, first-passes, some_passes-found, some_passes-none}
-use Rattle.model.proofs.DescriptorLaws.{none_refers}
 use Rattle.intervals.specs.Search.{first}
 use Rattle.descriptors.specs.declared.process_entry.ProcessEntry.{ProcessEntry}
 use Rattle.descriptors.specs.declared.error.FdError.TheVariants.{NoProcess}
-use Rattle.descriptors.specs.Rows.{slot, idle, row, processes, IsSameRow, AreNumbered, IsRow, AreRows, refers, resolved}
+use Rattle.descriptors.specs.Rows.{slot, idle, row, processes, IsSameRow, AreNumbered, IsRow, AreRows, resolved, opened_or}
 
 -- no number passes of none
 pub some_passes-zero : (passes : ℕ → Bool) (lo : ℕ) → some_passes passes lo 0 ≡ false
@@ -54,26 +53,6 @@ some_passes-more passes lo n = elim (cases_Bool (some_passes passes lo n)) [
     last : (b : Bool) → passes (lo + n) ≡ b → some_passes passes lo n ≡ false → some_passes passes lo (n + 1) ≡ b
     last true h none = some_passes-found passes lo (n + 1) (lo + n) least end_in h
     last false h none = some_passes-none passes lo (n + 1) (lo + (n + 1)) (record { all = λ j above below. fails j none h above below }) (omega arith)
-
--- the marks of the descriptors below fd, and of one more
-pub marked-start : (a : Bool) (passes : ℕ → Bool) (lo : ℕ) → a ≡ (a || some_passes passes lo 0)
-marked-start a passes lo = or_false a ∙ ap (λ b. a || b) (sym (some_passes-zero passes lo))
-
-pub marked-idle : (a : Bool) (r : ProcessEntry) (d : ℕ) → r ≡ idle → a ≡ (a || refers r d)
-marked-idle a r d e = or_false a ∙ ap (λ b. a || b) (sym (none_refers (slot r.opened) d 64 (λ fd. ap (λ (s : ProcessEntry). slot s.opened fd) e)))
-
--- the open descriptions are those that some process refers to
-pub refers-is_open : (rows : List ProcessEntry) (d : ℕ) → some_passes (λ pid. refers (row rows pid) d) 1 256 ≡ is_open (processes rows) d
-unfolding processes
-refers-is_open rows d = refl
-
-or_or : (a b c : Bool) → ((a || b) || c) ≡ (a || (b || c))
-or_or true b c = refl
-or_or false b c = refl
-
-pub marked-more : (a b x y : Bool) (passes : ℕ → Bool) (lo n : ℕ) → b ≡ (a || some_passes passes lo n) → y ≡ (b || x) → x ≡ passes (lo + n) → y ≡ (a || some_passes passes lo (n + 1))
-marked-more a b x y passes lo n before marks here =
-    marks ∙ ap (λ z. z || x) before ∙ or_or a (some_passes passes lo n) x ∙ ap (λ z. a || z) (ap (λ z. some_passes passes lo n || z) here ∙ sym (some_passes-more passes lo n))
 
 -- an empty list of descriptors
 pub slot-none : (n fd : ℕ) → slot (replicate n None) fd ≡ None
@@ -130,6 +109,33 @@ runs_within rows pid runs = elim (cases_lt pid (length rows)) [
 -- and a number that can be
 pub runs-numbered : (rows : List ProcessEntry) (pid : ℕ) → AreRows rows → (processes rows).runs pid ≡ true → IsNumber most_processes pid
 runs-numbered rows pid h runs = (h pid).number_in (sym (processes-runs rows pid) ∙ runs)
+
+-- a process with a descriptor has a number that can be
+pub opened-number : (rows : List ProcessEntry) (pid fd : ℕ) (o : Opened) → AreRows rows → (processes rows).opened pid fd ≡ Some o → IsNumber most_processes pid
+opened-number rows pid fd o h is = elim (cases_Bool (row rows pid).runs) [
+  | inl runs ↦ (h pid).number_in runs
+  | inr not_running ↦ let e = sym ((h pid).idle not_running fd) ∙ sym (processes-opened rows pid fd) ∙ is in absurd (cc)
+]
+
+-- one that doesn't run has none
+pub idle-opened : (rows : List ProcessEntry) (pid fd : ℕ) → AreRows rows → (processes rows).runs pid ≡ false → (processes rows).opened pid fd ≡ None
+idle-opened rows pid fd h is = processes-opened rows pid fd ∙ (h pid).idle (sym (processes-runs rows pid) ∙ is) fd
+
+-- so each has a number that can be, or none
+pub number-or-none : (rows : List ProcessEntry) (pid : ℕ) → AreRows rows → IsNumber most_processes pid ⊎ ((fd : ℕ) → (processes rows).opened pid fd ≡ None)
+number-or-none rows pid h = elim (cases_Bool ((processes rows).runs pid)) [
+  | inl runs ↦ inl (runs-numbered rows pid h runs)
+  | inr not_running ↦ inr (λ fd. idle-opened rows pid fd h not_running)
+]
+
+-- what a descriptor resolves to
+pub resolved-opened : (ps : Processes) (pid fd : ℕ) (o : Opened) → resolved ps pid fd ≡ Ok o → ps.opened pid fd ≡ Some o
+resolved-opened ps pid fd o is = at_if (ps.runs pid) (ps.opened pid fd) is
+  where
+    at_if : (b : Bool) (x : Option Opened) → (if b then opened_or x else Err NoProcess) ≡ Ok o → x ≡ Some o
+    at_if true None h = absurd cc
+    at_if true (Some y) h = let e : Ok y ≡ Ok o = h in cc
+    at_if false x h = absurd cc
 
 -- the rows with one of them changed
 pub row-set : (rows : List ProcessEntry) (pid : ℕ) (r : ProcessEntry) (q : ℕ) → pid < length rows → row (slice_set rows pid r) q ≡ (if q == pid then r else row rows q)
@@ -194,12 +200,6 @@ pub resolved-runs : (ps : Processes) (pid fd : ℕ) (o : Opened) → resolved ps
 resolved-runs ps pid fd o is = elim (cases_Bool (ps.runs pid)) [ inl runs ↦ runs | inr idle ↦ let e : Err NoProcess ≡ Ok o = rw idle at is in absurd cc ]
 
 -- a descriptor refers to something else
-pub slot-set : (fds : List (Option Opened)) (fd : ℕ) (o : Option Opened) (k : ℕ) → fd < length fds → slot (slice_set fds fd o) k ≡ (if k == fd then o else slot fds k)
-slot-set fds fd o k within = elim (cases_eq k fd) [
-  | inl is ↦ ap (slot (slice_set fds fd o)) is ∙ get_or-set_same fds fd o None within ∙ ap (λ b. if b then o else slot fds k) (sym (eq-eqb k fd is))
-  | inr ne ↦ get_or-set_other fds fd k o None ne ∙ ap (λ b. if b then o else slot fds k) (sym (ne_eqb k fd ne))
-]
-
 slots-if : (b : Bool) (r s : ProcessEntry) (o : Option Opened) (fd k : ℕ) → (b ≡ true → (if k == fd then o else slot s.opened k) ≡ slot r.opened k) → (if b then slot r.opened k else slot s.opened k) ≡ (if b && (k == fd) then o else slot s.opened k)
 slots-if true r s o fd k h = sym (h refl)
 slots-if false r s o fd k h = refl

@@ -1,26 +1,29 @@
 -- Planned changes of the processes of a node.
-use Rattle.std.specs.Prelude.{◌≡◌, ℕ, ◌<◌, true, List, Option, Some, None, length}
-use Rattle.std.specs.Global.{Vec}
+use Rattle.std.specs.Prelude.{◌≡◌, ◌⊎◌, ℕ, ◌<◌, true, false, List, Option, Some, None, length}
 use Rattle.model.specs.Limits.{IsNumber, most_processes, most_descriptors, most_descriptions}
-use Rattle.model.specs.Descriptors.{Processes, with_process, with_descriptor}
+use Rattle.model.specs.Descriptors.{Processes, with_process, with_descriptor, is_open, lowest_description}
 use Rattle.descriptors.specs.declared.process_entry.ProcessEntry.{ProcessEntry}
 use Rattle.descriptors.specs.declared.edit.ProcessEdit.{ProcessEdit}
 use Rattle.descriptors.specs.declared.edit.ProcessEdit.TheVariants.{Begins, Forks, Opens}
-use Rattle.descriptors.specs.Rows.{processes, AreRows}
+use Rattle.descriptors.specs.Rows.{processes}
 
 -- the processes once the edit is made
 abbrev pub edited : Processes → ProcessEdit → Processes
-edited ps (Begins pid rows) = with_process ps pid true (λ fd. None)
-edited ps (Forks pid child rows) = with_process ps child true (ps.opened pid)
+edited ps (Begins pid more) = with_process ps pid true (λ fd. None)
+edited ps (Forks pid child more) = with_process ps child true (ps.opened pid)
 edited ps (Opens pid fd opened) = with_descriptor ps pid fd (Some opened)
 
--- there is a row for the process, in more rows that say the same or else already
-abbrev pub HasPlace : List ProcessEntry → ℕ → Option (Vec ProcessEntry) → Type 0
+-- there is a place for the process, in the same processes with more places or else already
+abbrev pub HasPlace : List ProcessEntry → ℕ → Option (List ProcessEntry) → Type 0
 HasPlace rows pid None = pid < length rows
-HasPlace rows pid (Some more) = (pid < length more.items) × (processes more.items ≡ processes rows) × AreRows more.items
+HasPlace rows pid (Some more) = (pid < length more) × (processes more ≡ processes rows)
 
--- what the edit needs
+-- the description is open, or is the next one to be
+abbrev pub IsKnown : Processes → ℕ → Type 0
+IsKnown ps d = (is_open ps d ≡ true) ⊎ (d ≡ lowest_description ps)
+
+-- what the edit needs: who begins doesn't run, and the descriptor is free
 abbrev pub Fits : List ProcessEntry → ProcessEdit → Type 0
-Fits rows (Begins pid more) = IsNumber most_processes pid × HasPlace rows pid more
-Fits rows (Forks pid child more) = ((processes rows).runs pid ≡ true) × IsNumber most_processes child × HasPlace rows child more
-Fits rows (Opens pid fd opened) = ((processes rows).runs pid ≡ true) × (fd < most_descriptors) × IsNumber most_descriptions opened.description
+Fits rows (Begins pid more) = ((processes rows).runs pid ≡ false) × IsNumber most_processes pid × HasPlace rows pid more
+Fits rows (Forks pid child more) = ((processes rows).runs pid ≡ true) × ((processes rows).runs child ≡ false) × IsNumber most_processes child × HasPlace rows child more
+Fits rows (Opens pid fd opened) = ((processes rows).runs pid ≡ true) × (fd < most_descriptors) × IsNumber most_descriptions opened.description × ((processes rows).opened pid fd ≡ None) × IsKnown (processes rows) opened.description

@@ -1,11 +1,10 @@
 -- Rows of processes, and the processes that they are.
 use Rattle.std.specs.Prelude.{◌≡◌, ℕ, Bool, true, false, not, if◌then◌else◌, List, [], Option, Some, None, Result, Ok, Err, IsOk, slice_index_or}
-use Rattle.intervals.specs.Search.{some_passes}
 use Rattle.model.specs.declared.opened.Opened.{Opened}
 use Rattle.model.specs.declared.reply.Reply.{Reply}
 use Rattle.model.specs.declared.reply.Reply.TheVariants as reply
-use Rattle.model.specs.Limits.{IsNumber, most_processes, most_descriptors, most_descriptions}
-use Rattle.model.specs.Descriptors.{Processes, is_of, is_open, with_descriptor}
+use Rattle.model.specs.Limits.{IsNumber, most_processes, most_descriptions}
+use Rattle.model.specs.Descriptors.{Processes, is_open, with_descriptor}
 use Rattle.descriptors.specs.declared.process_entry.ProcessEntry.{ProcessEntry}
 use Rattle.descriptors.specs.declared.error.ProcessError.{ProcessError}
 use Rattle.descriptors.specs.declared.error.ProcessError.TheVariants as error
@@ -46,14 +45,6 @@ pub record IsRow (pid : ℕ) (r : ProcessEntry) : Type 0 where
 -- each is the row of the process of its number
 abbrev pub AreRows : List ProcessEntry → Type 0
 AreRows rows = (pid : ℕ) → IsRow pid (row rows pid)
-
--- the description with that number is among those used
-abbrev pub is_used : List Bool → ℕ → Bool
-is_used used d = slice_index_or used d false
-
--- some descriptor of the process refers to the description
-abbrev pub refers : ProcessEntry → ℕ → Bool
-refers r d = some_passes (λ fd. is_of d (slot r.opened fd)) 0 most_descriptors
 
 abbrev pub opened_or : Option Opened → Result Opened FdError
 opened_or None = Err BadFd

@@ -1,21 +1,21 @@
 //! Planned changes of the processes of a node.
-use crate::process_entry::ProcessEntry;
+use crate::processes::Processes;
 use model::opened::Opened;
 
 /// What a call will make of one process.
 #[derive(Drop)]
 pub enum ProcessEdit {
-    /// The process begins, with no descriptors. Where no row is kept for it yet, `rows` are those that
-    /// are kept and more, up to its own.
+    /// The process begins, with no descriptors. Where there is no place for it yet, `more` are the
+    /// same processes with places up to its own.
     Begins {
         pid: u16,
-        rows: Option<Vec<ProcessEntry>>,
+        more: Option<Processes>,
     },
-    /// The child begins, with the descriptors of the process; `rows` as of `Begins`.
+    /// The child begins, with the descriptors of the process; `more` as of `Begins`.
     Forks {
         pid: u16,
         child: u16,
-        rows: Option<Vec<ProcessEntry>>,
+        more: Option<Processes>,
     },
     /// The descriptor, which is free, refers to this from now on.
     Opens {

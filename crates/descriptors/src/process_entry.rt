@@ -1,7 +1,7 @@
 //! One process and its descriptors.
 ghost use Rattle.std.specs.Prelude.{◌≡◌, ◌↔◌, ◌<◌, ◌==◌, if◌then◌else◌, IsTrue, IfSome, ℕ, None};
-ghost use Rattle.model.specs.Descriptors.{is_of, is_of_file};
-ghost use Rattle.descriptors.specs.Rows.{slot, refers, IsSameRow};
+ghost use Rattle.model.specs.Descriptors.{is_of_file};
+ghost use Rattle.descriptors.specs.Rows.{slot, IsSameRow};
 
 use model::limits::MOST_DESCRIPTORS;
 use model::opened::Opened;
@@ -18,13 +18,6 @@ fn same_opened(one: Option<Opened>, other: Option<Opened>) -> bool
     ensures { IsTrue result ↔ (one ≡ other) }
 {
     one == other
-}
-
-// Whether this is the description.
-fn is_of(description: u16, opened: Option<Opened>) -> bool
-    ensures { result ≡ is_of description opened }
-{
-    opened.is_some_and(|opened| opened.description == description)
 }
 
 // Whether this is of the file.
@@ -64,18 +57,6 @@ impl ProcessEntry {
         ensures opened { (k : ℕ) → slot self.new.opened k ≡ (if k == fd then opened else slot self.old.opened k) }
     {
         self.opened[fd as usize] = opened;
-    }
-
-    /// Whether a descriptor refers to the description.
-    pub fn refers_to(&self, description: u16) -> bool
-        ensures { result ≡ refers self.now description }
-    {
-        for fd in 0..MOST_DESCRIPTORS {
-            if is_of(description, self.opened(fd)) {
-                return true;
-            }
-        }
-        false
     }
 
     /// Whether both run or don't, and have the same descriptors.

@@ -1,17 +1,16 @@
 //! The processes of one node and their descriptors.
-ghost use Rattle.std.specs.Prelude.{◌≡◌, ◌≢◌, ◌≤◌, ◌<◌, ◌↔◌, ℕ, true, false, None, Some, Ok, Err, IfOk, IfErr, IfSome, OnOk, OnErr, IsTrue, MatchOption, is_none};
+ghost use Rattle.std.specs.Prelude.{◌≡◌, ◌≢◌, ◌≤◌, ◌<◌, ◌↔◌, ℕ, true, false, None, Some, Ok, Err, IfOk, IfErr, IfSome, OnOk, OnErr, IsTrue, MatchOption, is_none, length, not};
 ghost use Rattle.model.specs.declared.reply.Reply.TheVariants.{Done, Fd};
 ghost use Rattle.model.specs.Limits.{IsNumber, most_processes, most_descriptors, most_descriptions};
-ghost use Rattle.model.specs.Descriptors.{no_processes, with_process, with_descriptor, lowest_fd, has_open, is_open, after_spawn, after_fork, after_open, after_dup};
+ghost use Rattle.model.specs.Descriptors.{no_processes, with_process, with_descriptor, lowest_fd, lowest_description, has_open, is_open, after_spawn, after_fork, after_open, after_dup};
 ghost use Rattle.descriptors.specs.Rows.{processes, resolved, Refuses, IsClosed};
-ghost use Rattle.descriptors.specs.Edits.{edited, Fits, HasPlace};
+ghost use Rattle.descriptors.specs.Edits.{edited, Fits, HasPlace, IsKnown};
 
+use crate::counts::{Counts, release, share};
 use crate::edit::ProcessEdit;
 use crate::error::{FdError, ProcessError};
-use crate::marks::{Mark, mark_of, put_mark, share_marks};
 use crate::process_entry::{ProcessEntry, is_of_file};
-use crate::rows::{copy_row, is_idle, is_running, opened_at, refer, reset, same_rows, with_place};
-use crate::used::{is_open, lowest_description};
+use crate::rows::{copy_row, grown, is_idle, is_running, opened_at, refer, reset, same_rows};
 use model::access::Access;
 use model::limits::MOST_DESCRIPTORS;
 use model::opened::Opened;
@@ -25,21 +24,21 @@ use std::marker::Model;
 pub struct Processes {
     // by the process's number; there is no process 0
     rows: Vec<ProcessEntry>,
-    // by the description's number; nothing is known of one that has none
-    marks: [Mark; 1024],
+    // of the descriptors that refer to a description; as many places as the rows have descriptors
+    counts: Counts,
 }
 
 impl Model for Processes {
-    ghost use Rattle.std.specs.Prelude.{List};
+    ghost use Rattle.std.specs.Prelude.{◌≡◌, List, length};
     ghost use Rattle.descriptors.specs.declared.process_entry.ProcessEntry.{ProcessEntry};
     ghost use Rattle.descriptors.specs.Rows.{AreRows, processes};
-    ghost use Rattle.descriptors.specs.Marks.{AreMarks};
+    ghost use Rattle.descriptors.specs.Counts.{AreCounts, places};
 
     ghost Value = { List ProcessEntry };
 
     ghost view = { λ p. p.rows.items };
 
-    ghost invariant = { λ p. AreRows p.rows.items × AreMarks (processes p.rows.items) p.marks };
+    ghost invariant = { λ p. AreRows p.rows.items × (length p.counts ≡ places p.rows.items) × AreCounts (processes p.rows.items) p.counts };
 }
 
 impl Processes {
@@ -50,7 +49,7 @@ impl Processes {
     {
         Processes {
             rows: Vec::new(alloc),
-            marks: [Mark::Unused; 1024],
+            counts: Counts::new(alloc),
         }
     }
 
@@ -98,6 +97,18 @@ impl Processes {
         false
     }
 
+    // The same processes with places up to that of the process, if there is none for it yet.
+    fn with_place(&self, pid: u16) -> Result<Option<Processes>, AllocError>
+        ensures { IfOk result (HasPlace self.now pid) }
+    {
+        if (pid as usize) < self.rows.len() {
+            return Ok(None);
+        }
+        let rows = grown(&self.rows, pid as usize)?;
+        let counts = self.counts.grown(64 * (pid as usize + 1))?;
+        Ok(Some(Processes { rows, counts }))
+    }
+
     /// What `spawn` would change.
     ///
     /// # Errors
@@ -111,8 +122,8 @@ impl Processes {
         if self.is_running(pid) {
             return Err(ProcessError::Exists);
         }
-        let rows = with_place(&self.rows, pid as usize)?;
-        Ok(ProcessEdit::Begins { pid, rows })
+        let more = self.with_place(pid)?;
+        Ok(ProcessEdit::Begins { pid, more })
     }
 
     /// The process begins, with no descriptors. Its number is from 1 to 256; no other process ever runs.
@@ -146,8 +157,8 @@ impl Processes {
         if self.is_running(child) {
             return Err(ProcessError::Exists);
         }
-        let rows = with_place(&self.rows, child as usize)?;
-        Ok(ProcessEdit::Forks { pid, child, rows })
+        let more = self.with_place(child)?;
+        Ok(ProcessEdit::Forks { pid, child, more })
     }
 
     /// The child begins, with the descriptors of the process: each refers to the same description in
@@ -185,28 +196,39 @@ impl Processes {
         None
     }
 
-    // The descriptor refers to this from now on.
+    // The descriptor, which is free, refers to this from now on.
     fn refer(&mut self, pid: u16, fd: u8, opened: Opened)
         requires runs { (processes self.old).runs pid ≡ true }
         requires fd { fd < most_descriptors }
         requires number { IsNumber most_descriptions opened.description }
+        requires free { (processes self.old).opened pid fd ≡ None }
+        requires known { IsKnown (processes self.old) opened.description }
         ensures { processes self.new ≡ with_descriptor (processes self.old) pid fd (Some opened) }
     {
-        let mark = mark_of(&self.marks, opened.description).with_one_more();
-        put_mark(&mut self.marks, opened.description, mark);
+        self.counts.raise(opened.description);
         refer(&mut self.rows, pid as usize, fd, Some(opened));
     }
 
-    // The descriptor refers to nothing from now on.
-    fn free(&mut self, pid: u16, fd: u8)
-        requires runs { (processes self.old).runs pid ≡ true }
+    // The descriptor refers to nothing from now on. Answers whether the description went.
+    fn free(&mut self, pid: u16, fd: u8, opened: Opened) -> bool
+        requires was { resolved (processes self.old) pid fd ≡ Ok opened }
         requires fd { fd < most_descriptors }
-        ensures { processes self.new ≡ with_descriptor (processes self.old) pid fd None }
+        requires number { IsNumber most_descriptions opened.description }
+        ensures closed { processes self.new ≡ with_descriptor (processes self.old) pid fd None }
+        ensures gone { result ≡ not (is_open (with_descriptor (processes self.old) pid fd None) opened.description) }
     {
         refer(&mut self.rows, pid as usize, fd, None);
+        self.counts.lower(opened.description)
     }
 
-    /// What `open` would change, and the descriptor that it would answer.
+    // The lowest number, from 1, that no open description has.
+    fn lowest_description(&self) -> u16
+        ensures { result ≡ lowest_description (processes self.now) }
+    {
+        self.counts.lowest_unused()
+    }
+
+    /// What `open` would change, and the descriptor that it would answer. Takes no memory.
     ///
     /// # Errors
     /// Those of `open`.
@@ -218,15 +240,17 @@ impl Processes {
     ) -> Result<(ProcessEdit, u8), ProcessError>
         ensures ok { IfOk result (λ planned. after_open (processes self.now) pid file access ≡ Ok (edited (processes self.now) planned.0, Fd planned.1)) }
         ensures err { IfErr result (λ error. Refuses error (after_open (processes self.now) pid file access)) }
+        ensures memory { IfErr result (λ error. error ≢ ProcessError.NoMemory) }
         ensures fits { IfOk result (λ planned. Fits self.now planned.0) }
     {
+        let _ = &self.rows; // tells the proof that a process that runs has a number that can be
         if !self.is_running(pid) {
             return Err(ProcessError::NoProcess);
         }
         let Some(fd) = self.lowest_fd(pid) else {
             return Err(ProcessError::TooManyFiles);
         };
-        let description = lowest_description(*self.rows.allocator(), &self.rows)?;
+        let description = self.lowest_description();
         let opened = Opened {
             file,
             description,
@@ -237,14 +261,15 @@ impl Processes {
 
     /// Opens the file for the process: the lowest descriptor that is free, which it answers, refers to
     /// a new description of the file from now on, which takes the lowest number that is free on the
-    /// node (POSIX.1-2017 `open()`).
+    /// node (POSIX.1-2017 `open()`). Takes no memory.
     ///
     /// # Errors
     /// `NoProcess` where the process doesn't run, which is tested first; `TooManyFiles` where it has
-    /// 64 descriptors; both before memory is asked for; `NoMemory`.
+    /// 64 descriptors.
     pub fn open(&mut self, pid: u16, file: u16, access: Access) -> Result<u8, ProcessError>
         ensures ok { IfOk result (λ fd. after_open (processes self.old) pid file access ≡ Ok (processes self.new, Fd fd)) }
         ensures err { IfErr result (λ error. Refuses error (after_open (processes self.old) pid file access)) }
+        ensures memory { IfErr result (λ error. error ≢ ProcessError.NoMemory) }
         ensures unchanged { OnErr result (self.new ≡ self.old) }
     {
         let (edit, fd) = self.plan_open(pid, file, access)?;
@@ -261,6 +286,7 @@ impl Processes {
         ensures err { IfErr result (λ error. (error ≢ ProcessError.NoMemory) × Refuses error (after_dup (processes self.now) pid fd)) }
         ensures fits { IfOk result (λ planned. Fits self.now planned.0) }
     {
+        let _ = &self.rows; // tells the proof that a process that runs has a number that can be
         let found = self.resolve(pid, fd)?;
         let Some(lowest) = self.lowest_fd(pid) else {
             return Err(ProcessError::TooManyFiles);
@@ -289,29 +315,36 @@ impl Processes {
         Ok(made)
     }
 
-    // The child begins, with the descriptors of the process, in these rows if there are any.
-    fn copy_to(&mut self, pid: u16, child: u16, rows: Option<Vec<ProcessEntry>>)
+    // These are the same processes, if there are any.
+    fn take_place(&mut self, pid: u16, more: Option<Processes>)
+        requires { HasPlace self.old pid more }
+        ensures place { pid < length self.new }
+        ensures same { processes self.new ≡ processes self.old }
+    {
+        if let Some(more) = more {
+            *self = more;
+        }
+    }
+
+    // The child, which doesn't run and has a place, begins with the descriptors of the process.
+    fn copy_to(&mut self, pid: u16, child: u16)
         requires runs { (processes self.old).runs pid ≡ true }
+        requires idle { (processes self.old).runs child ≡ false }
         requires number { IsNumber most_processes child }
-        requires place { HasPlace self.old child rows }
+        requires place { child < length self.old }
         ensures { processes self.new ≡ with_process (processes self.old) child true ((processes self.old).opened pid) }
     {
-        if let Some(rows) = rows {
-            self.rows = rows;
-        }
-        share_marks(&mut self.marks, &self.rows, pid as usize);
+        share(&mut self.counts, &self.rows, pid as usize);
         copy_row(&mut self.rows, pid as usize, child as usize);
     }
 
-    // The process begins, in these rows if there are any.
-    fn begin(&mut self, pid: u16, rows: Option<Vec<ProcessEntry>>)
+    // The process, which doesn't run and has a place, begins.
+    fn begin(&mut self, pid: u16)
+        requires idle { (processes self.old).runs pid ≡ false }
         requires number { IsNumber most_processes pid }
-        requires place { HasPlace self.old pid rows }
+        requires place { pid < length self.old }
         ensures { processes self.new ≡ with_process (processes self.old) pid true (λ fd. None) }
     {
-        if let Some(rows) = rows {
-            self.rows = rows;
-        }
         reset(&mut self.rows, pid as usize, true);
     }
 
@@ -321,38 +354,16 @@ impl Processes {
         ensures { processes self.new ≡ edited (processes self.old) edit }
     {
         match edit {
-            ProcessEdit::Begins { pid, rows } => self.begin(pid, rows),
-            ProcessEdit::Forks { pid, child, rows } => self.copy_to(pid, child, rows),
+            ProcessEdit::Begins { pid, more } => {
+                self.take_place(pid, more);
+                self.begin(pid);
+            }
+            ProcessEdit::Forks { pid, child, more } => {
+                self.take_place(child, more);
+                self.copy_to(pid, child);
+            }
             ProcessEdit::Opens { pid, fd, opened } => self.refer(pid, fd, opened),
         }
-    }
-
-    // Whether no other descriptor refers to what this one refers to, by its mark alone.
-    fn is_alone(&self, pid: u16, fd: u8, opened: Opened) -> bool
-        requires was { resolved (processes self.now) pid fd ≡ Ok opened }
-        requires fd { fd < most_descriptors }
-        ensures { IsTrue result → is_open (with_descriptor (processes self.now) pid fd None) opened.description ≡ false }
-    {
-        match mark_of(&self.marks, opened.description) {
-            Mark::Unknown => false,
-            _ => true,
-        }
-    }
-
-    // Whether a descriptor of some process refers to the description.
-    fn is_open(&self, description: u16) -> bool
-        ensures { result ≡ is_open (processes self.now) description }
-    {
-        is_open(&self.rows, description)
-    }
-
-    // Notes that no descriptor refers to the description.
-    fn forget(&mut self, description: u16)
-        requires { is_open (processes self.old) description ≡ false }
-        ensures { self.new ≡ self.old }
-    {
-        let _ = &self.rows;
-        put_mark(&mut self.marks, description, Mark::Unused);
     }
 
     /// Closes the descriptor: it refers to nothing from now on. Answers whether the description went,
@@ -368,13 +379,7 @@ impl Processes {
         ensures unchanged { OnErr result (self.new ≡ self.old) }
     {
         let opened = self.resolve(pid, fd)?;
-        let is_alone = self.is_alone(pid, fd, opened);
-        self.free(pid, fd);
-        let went = is_alone || !self.is_open(opened.description);
-        if went {
-            self.forget(opened.description);
-        }
-        Ok(went)
+        Ok(self.free(pid, fd, opened))
     }
 
     /// The process runs no longer, and has no descriptors, whether it ran before or not (POSIX.1-2017
@@ -383,6 +388,7 @@ impl Processes {
         ensures { processes self.new ≡ with_process (processes self.old) pid false (λ fd. None) }
     {
         if (pid as usize) < self.rows.len() {
+            release(&mut self.counts, &self.rows, pid as usize);
             reset(&mut self.rows, pid as usize, false);
         }
     }
@@ -403,7 +409,7 @@ impl Processes {
     {
         Ok(Processes {
             rows: Vec::from_slice(*self.rows.allocator(), &self.rows)?,
-            marks: self.marks,
+            counts: self.counts.copy()?,
         })
     }
 

@@ -1,9 +1,8 @@
 //! Rows of processes, by their numbers.
-ghost use Rattle.std.specs.Prelude.{◌≡◌, ◌<◌, ◌↔◌, ℕ, None, true, IfOk, IfSome, IsTrue, OnOk, length};
+ghost use Rattle.std.specs.Prelude.{◌≡◌, ◌<◌, ◌≤◌, ◌+◌, ◌↔◌, ℕ, None, true, IfOk, IfSome, IsTrue, OnOk, length};
 ghost use Rattle.model.specs.Limits.{IsNumber, most_processes, most_descriptors, most_descriptions};
 ghost use Rattle.model.specs.Descriptors.{no_processes, with_process, with_descriptor};
 ghost use Rattle.descriptors.specs.Rows.{slot, row, processes, IsSameRow, AreRows};
-ghost use Rattle.descriptors.specs.Edits.{HasPlace};
 
 use crate::process_entry::ProcessEntry;
 use model::opened::Opened;
@@ -39,31 +38,27 @@ pub fn opened_at(rows: &[ProcessEntry], pid: usize, fd: u8) -> Option<Opened>
 // Makes a place for the process with that number.
 fn grow(rows: &mut Vec<ProcessEntry>, pid: usize) -> Result<(), AllocError>
     requires number { pid < 65536 }
-    ensures room { OnOk result (pid < length rows.new.items) }
+    requires more { length rows.old.items ≤ pid }
+    ensures places { OnOk result (length rows.new.items ≡ pid + 1) }
     ensures same { processes rows.new.items ≡ processes rows.old.items }
     ensures rows { AreRows rows.old.items → AreRows rows.new.items }
 {
-    if rows.len() <= pid {
-        rows.resize(pid + 1, ProcessEntry::new(false))?;
-    }
+    rows.resize(pid + 1, ProcessEntry::new(false))?;
     Ok(())
 }
 
-/// The rows and more, up to that of the process with that number, where there is none for it yet.
-pub fn with_place(
-    rows: &Vec<ProcessEntry>,
-    pid: usize,
-) -> Result<Option<Vec<ProcessEntry>>, AllocError>
+/// The same rows and more, up to that of the process with that number.
+pub fn grown(rows: &Vec<ProcessEntry>, pid: usize) -> Result<Vec<ProcessEntry>, AllocError>
     requires number { pid < 65536 }
+    requires more { length rows.now.items ≤ pid }
     requires rows { AreRows rows.now.items }
-    ensures { IfOk result (HasPlace rows.now.items pid) }
+    ensures places { IfOk result (λ more. length more.items ≡ pid + 1) }
+    ensures same { IfOk result (λ more. processes more.items ≡ processes rows.now.items) }
+    ensures rows { IfOk result (λ more. AreRows more.items) }
 {
-    if pid < rows.len() {
-        return Ok(None);
-    }
     let mut more = Vec::from_slice(*rows.allocator(), rows)?;
     grow(&mut more, pid)?;
-    Ok(Some(more))
+    Ok(more)
 }
 
 /// The process runs from now on, or no longer, and has no descriptors.

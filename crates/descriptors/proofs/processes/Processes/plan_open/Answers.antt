@@ -1,6 +1,6 @@
-use Rattle.std.proofs.Common.{◌≡◌, ℕ, ◌<◌, true, sym, ap, ◌∙◌, subst}
+use Rattle.std.proofs.Common.{◌≡◌, ℕ, ◌<◌, true, sym, ap, ◌∙◌, subst, inr}
 use Rattle.model.specs.Limits.{IsNumber, most_descriptions}
-use Rattle.model.specs.Descriptors.{lowest_fd, lowest_description}
+use Rattle.model.specs.Descriptors.{lowest_fd}
 use Rattle.model.proofs.DescriptorLaws.{lowest_description-number, lowest_fd-free}
 use Rattle.descriptors.specs.Rows.{processes}
 use Rattle.descriptors.proofs.RowLaws.{runs-numbered}
@@ -13,6 +13,7 @@ returns-clause-fits c =
     let Q : ℕ → Type 0 = λ n. IsNumber most_descriptions n in
     let runs : ps.runs c.args.pid ≡ true = sym c.is_running.ensures ∙ c.if-not-is_running.false in
     let lowest = subst P c.in-Some.ensures.1 c.in-Some.ensures.0 in
-    let is = c.in_ok-description.ensures ∙ ap (λ rows. lowest_description (processes rows)) (c.deref.ensures.value ∙ c.self.view_is) in
+    let free = lowest_fd-free ps c.args.pid lowest in
+    let is = c.lowest_description-description.ensures in
     let number = runs-numbered c.self.inside.rows.items c.args.pid c.self.invariant.0 (ap (λ rows. (processes rows).runs c.args.pid) c.self.view_is ∙ runs) in
-    (runs, c.in-Some.ensures.0, subst Q (sym is) (lowest_description-number ps c.args.pid (lowest_fd ps c.args.pid) number lowest (lowest_fd-free ps c.args.pid lowest)))
+    (runs, c.in-Some.ensures.0, subst Q (sym is) (lowest_description-number ps c.args.pid (lowest_fd ps c.args.pid) number lowest free), ap (ps.opened c.args.pid) c.in-Some.ensures.1 ∙ free, inr is)

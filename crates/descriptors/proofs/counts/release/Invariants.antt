@@ -1,0 +1,7 @@
+use Rattle.std.proofs.Common.{◌≡◌, ◌+◌, ℕ, length}
+use Rattle.descriptors.specs.Rows.{processes}
+use Rattle.descriptors.specs.Counts.{count_of, references_below}
+use Rattle.descriptors.proofs.counts.release.Given as goal
+
+abbrev pub invariant-loop-fd : goal.invariant-loop-fd
+invariant-loop-fd l = (length l.counts ≡ length l.initial.counts) × ((d : ℕ) → count_of l.counts d + references_below ((processes l.rows).opened l.pid) d l.fd ≡ count_of l.initial.counts d)
