@@ -149,9 +149,9 @@ impl Node {
         }
     }
 
-    // The node in its incarnation.
+    /// The node in its incarnation.
     #[tactic(auto, unfolding(crate::specs::Parts::node_state))]
-    fn host(&self) -> Host
+    pub fn host(&self) -> Host
         ensures { result ≡ host (node_state self.now) }
     {
         Host {

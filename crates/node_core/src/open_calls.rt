@@ -82,6 +82,13 @@ impl OpenCalls {
         })
     }
 
+    /// The open calls, in order of arrival.
+    pub fn as_slice(&self) -> &[OpenCall]
+        ensures { result.now ≡ self.now }
+    {
+        self.calls.as_slice()
+    }
+
     /// The open call with that number.
     pub fn get(&self, number: u32) -> Option<OpenCall>
         ensures { result ≡ find (λ c. c.number == number) self.now }

@@ -1,9 +1,10 @@
 -- Requests that are served, and the nodes whose rows they wait for.
-use Rattle.std.specs.Prelude.{◌≡◌, ℕ, zero, suc, ◌+◌, ◌<◌, ◌≤◌, Bool, true, false, cond, ◌||◌, List, [], ◌∷◌, ◌++◌, length, All, filter, slice_get, slice_set, slice_index_or, find, Option, Some}
-use Rattle.std.specs.List.{list_any, remove}
+use Rattle.std.specs.Prelude.{◌≡◌, ℕ, zero, suc, ◌+◌, ◌<◌, ◌≤◌, Bool, true, false, cond, not, ◌||◌, List, [], ◌∷◌, ◌++◌, length, All, filter, slice_get, slice_set, slice_index_or, find, Option, Some}
+use Rattle.std.specs.List.{list_any, count_by, remove}
 use Rattle.std.specs.Option.{option_map}
 use Rattle.std.proofs.Common.{refl, sym, ap, subst, ◌∙◌, take, arith}
 use Rattle.std.proofs.lemmas.List.{take_more}
+use Rattle.std.proofs.lemmas.List.Sums.{sum_by-append}
 use Rattle.std.proofs.lemmas.List.Elements.{All-head, All-tail, All-push}
 use Rattle.std.proofs.lemmas.Option.{none-some, same_Some, slice_get_within, get_or_from_slice_get}
 use Rattle.model.specs.declared.call.CallId.{CallId}
@@ -82,14 +83,6 @@ pub any-held : (call : CallId) (held : List Held) → list_any (λ h. is_of_call
 any-held call [] = refl
 any-held call (h ∷ held) = ap (λ (b : Bool). is_of_call call h.request || b) (any-held call held)
 
--- the requests that are kept, once one that is not goes
-pub filter-remove : (keep : Held → Bool) (held : List Held) (i : ℕ) (h : Held) → slice_get held i ≡ Some h → keep h ≡ false → filter keep (remove held i) ≡ filter keep held
-filter-remove keep [] i h there off = absurd (none-some h there)
-filter-remove keep (x ∷ held) zero h there off =
-    let same : x ≡ h = same_Some x h there in
-    sym (ap (λ (b : Bool). cond b (x ∷ filter keep held) (filter keep held)) (ap keep same ∙ off))
-filter-remove keep (x ∷ held) (suc i) h there off = ap (λ (hs : List Held). cond (keep x) (x ∷ hs) hs) (filter-remove keep held i h there off)
-
 pub filter-all : (keep : Held → Bool) (held : List Held) → All (λ h. keep h ≡ true) held → filter keep held ≡ held
 filter-all keep [] all = refl
 filter-all keep (h ∷ held) all =
@@ -101,3 +94,58 @@ pub kept-next : (keep : Held → Bool) (held : List Held) (i : ℕ) (h : Held) �
 kept-next keep held i h there on all =
     let next : take (i + 1) held ≡ take i held ++ h ∷ [] = take_more held i h (slice_get_within held i h there) ∙ ap (λ (x : Held). take i held ++ x ∷ []) (get_or_from_slice_get held i h h there) in
     subst (All (λ x. keep x ≡ true)) (sym next) (All-push (λ x. keep x ≡ true) (take i held) h all on)
+
+-- how many of the requests are of the call
+abbrev how_many : CallId → List Held → ℕ
+how_many call held = count_by (is_of_call call) (requests_of held)
+
+count-is : (call : CallId) (x : Held) (held : List Held) (b : Bool) → is_of_call call x.request ≡ b → how_many call (x ∷ held) ≡ cond b 1 0 + how_many call held
+count-is call x held b is =
+    sum_by-append (λ (r : TokenRequest). cond (is_of_call call r) 1 0) (x.request ∷ []) (requests_of held)
+    ∙ ap (λ (k : ℕ). k + how_many call held) (let one : count_by (is_of_call call) (x.request ∷ []) ≡ cond (is_of_call call x.request) 1 0 = omega arith in one)
+    ∙ ap (λ (t : Bool). cond t 1 0 + how_many call held) is
+
+without-first : (call : CallId) (x : Held) (held : List Held) (b : Bool) → is_of_call call x.request ≡ b → filter (λ h. not (is_of_call call h.request)) (x ∷ held) ≡ cond (not b) (x ∷ filter (λ h. not (is_of_call call h.request)) held) (filter (λ h. not (is_of_call call h.request)) held)
+without-first call x held b is = ap (λ (t : Bool). cond (not t) (x ∷ filter (λ (h : Held). not (is_of_call call h.request)) held) (filter (λ (h : Held). not (is_of_call call h.request)) held)) is
+
+-- where none of the requests is of the call, all are kept
+none-of : (call : CallId) (held : List Held) → how_many call held ≡ 0 → filter (λ h. not (is_of_call call h.request)) held ≡ held
+none-of call [] none = refl
+none-of call (x ∷ held) none = by (is_of_call call x.request) refl (λ few. none-of call held few)
+  where
+    by : (b : Bool) → is_of_call call x.request ≡ b → (how_many call held ≡ 0 → filter (λ h. not (is_of_call call h.request)) held ≡ held) → filter (λ h. not (is_of_call call h.request)) (x ∷ held) ≡ x ∷ held
+    by true is rest = let counted : how_many call (x ∷ held) ≡ 1 + how_many call held = count-is call x held true is in absurd (omega (arith, none, counted))
+    by false is rest =
+        let counted : how_many call (x ∷ held) ≡ 0 + how_many call held = count-is call x held false is in
+        without-first call x held false is ∙ ap (λ (hs : List Held). x ∷ hs) (rest (omega (arith, none, counted)))
+
+-- one that is there is counted
+some-of : (call : CallId) (held : List Held) (i : ℕ) (h : Held) → slice_get held i ≡ Some h → is_of_call call h.request ≡ true → 1 ≤ how_many call held
+some-of call [] i h there is = absurd (none-some h there)
+some-of call (x ∷ held) zero h there is =
+    let counted : how_many call (x ∷ held) ≡ 1 + how_many call held = count-is call x held true (ap (λ (y : Held). is_of_call call y.request) (same_Some x h there) ∙ is) in
+    omega (arith, counted)
+some-of call (x ∷ held) (suc i) h there is =
+    let behind = some-of call held i h there is in
+    let counted : how_many call (x ∷ held) ≡ cond (is_of_call call x.request) 1 0 + how_many call held = count-is call x held (is_of_call call x.request) refl in
+    omega (arith, behind, counted)
+
+-- where one at most is of the call, the others are those without it
+pub filter-one : (call : CallId) (held : List Held) (i : ℕ) (h : Held) → slice_get held i ≡ Some h → is_of_call call h.request ≡ true → count_by (is_of_call call) (requests_of held) ≤ 1 → remove held i ≡ filter (λ x. not (is_of_call call x.request)) held
+filter-one call [] i h there is few = absurd (none-some h there)
+filter-one call (x ∷ held) zero h there is few =
+    let here : is_of_call call x.request ≡ true = ap (λ (y : Held). is_of_call call y.request) (same_Some x h there) ∙ is in
+    let counted : how_many call (x ∷ held) ≡ 1 + how_many call held = count-is call x held true here in
+    let most : how_many call (x ∷ held) ≤ 1 = few in
+    sym (without-first call x held true here ∙ none-of call held (omega (arith, most, counted)))
+filter-one call (x ∷ held) (suc i) h there is few = by (is_of_call call x.request) refl (some-of call held i h there is) (λ most. filter-one call held i h there is most)
+  where
+    by : (b : Bool) → is_of_call call x.request ≡ b → 1 ≤ how_many call held → (how_many call held ≤ 1 → remove held i ≡ filter (λ y. not (is_of_call call y.request)) held) → x ∷ remove held i ≡ filter (λ y. not (is_of_call call y.request)) (x ∷ held)
+    by true here behind rest =
+        let counted : how_many call (x ∷ held) ≡ 1 + how_many call held = count-is call x held true here in
+        let most : how_many call (x ∷ held) ≤ 1 = few in
+        absurd (omega (arith, most, counted, behind))
+    by false here behind rest =
+        let counted : how_many call (x ∷ held) ≡ 0 + how_many call held = count-is call x held false here in
+        let most : how_many call (x ∷ held) ≤ 1 = few in
+        ap (λ (hs : List Held). x ∷ hs) (rest (omega (arith, most, counted))) ∙ sym (without-first call x held false here)

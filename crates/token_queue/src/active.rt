@@ -1,6 +1,6 @@
 //! The requests that a server serves, in order.
 ghost use Rattle.std.specs.Prelude.{◌≡◌, ◌↔◌, ◌+◌, ◌<◌, ◌≤◌, ◌++◌, ◌∷◌, [], not, filter, find, map, length, IfSome, IfOk, IsTrue, None};
-ghost use Rattle.std.specs.List.{remove};
+ghost use Rattle.std.specs.List.{count_by, remove};
 ghost use Rattle.std.specs.Option.{option_map};
 ghost use Rattle.std.specs.Vec.{vec_capacity};
 ghost use Rattle.token_queue.specs.Requests.{is_of_call, is_up_to};
@@ -106,12 +106,13 @@ impl Active {
         self.room -= 1;
     }
 
-    /// The request of the call is served no longer.
-    pub fn end(&mut self, call: CallId)
+    /// The request of the call is served no longer, of which there is one at most: no request behind it is looked at.
+    pub fn end_one(&mut self, call: CallId)
+        requires { count_by (is_of_call call) (requests_of self.old.held) ≤ 1 }
         ensures held { self.new.held ≡ filter (λ h. not (is_of_call call h.request)) self.old.held }
         ensures room { self.new.room ≡ self.old.room }
     {
-        end(&mut self.held, call);
+        end_one(&mut self.held, call);
     }
 
     /// The requests of the node in that incarnation or an older one are served no longer.
@@ -191,10 +192,11 @@ fn find(held: &[Held], call: CallId) -> Option<Held>
     held.iter().find(|held| held.is_of_call(call)).copied()
 }
 
-// The place of the first request of the call, if there is one: without it those of other calls are the same.
+// The place of the first request of the call, if there is one: without it those of other calls are left, where one at
+// most is of the call.
 fn place_of(held: &[Held], call: CallId) -> Option<usize>
     ensures within { IfSome result (λ place. place < length held.now) }
-    ensures gone { IfSome result (λ place. filter (λ h. not (is_of_call call h.request)) (remove held.now place) ≡ filter (λ h. not (is_of_call call h.request)) held.now) }
+    ensures one { IfSome result (λ place. count_by (is_of_call call) (requests_of held.now) ≤ 1 → remove held.now place ≡ filter (λ h. not (is_of_call call h.request)) held.now) }
     ensures none { result ≡ None → filter (λ h. not (is_of_call call h.request)) held.now ≡ held.now }
 {
     for place in 0..held.len() {
@@ -205,13 +207,14 @@ fn place_of(held: &[Held], call: CallId) -> Option<usize>
     None
 }
 
-// The request of the call goes: those behind it move, and no others.
-fn end(held: &mut Vec<Held>, call: CallId)
+// The request of the call goes, of which there is one at most.
+fn end_one(held: &mut Vec<Held>, call: CallId)
+    requires { count_by (is_of_call call) (requests_of held.old.items) ≤ 1 }
     ensures items { held.new.items ≡ filter (λ h. not (is_of_call call h.request)) held.old.items }
     ensures len { length held.new.items ≤ length held.old.items }
     ensures capacity { vec_capacity held.new ≡ vec_capacity held.old }
 {
-    while let Some(place) = place_of(held, call) {
+    if let Some(place) = place_of(held, call) {
         held.remove(place);
     }
 }

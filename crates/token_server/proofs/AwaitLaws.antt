@@ -1,23 +1,29 @@
 -- The nodes whose rows the requests of a server wait for.
-use Rattle.std.specs.Prelude.{◌≡◌, ℕ, zero, suc, ◌+◌, ◌<◌, ◌≤◌, Bool, false, cond, List, [], ◌∷◌, ◌++◌, length, slice_get, All, Option, Some}
+use Rattle.std.specs.Prelude.{◌≡◌, ℕ, zero, suc, ◌+◌, ◌<◌, ◌≤◌, Bool, true, false, cond, ◌&&◌, ◌||◌, ◌==◌, List, [], ◌∷◌, ◌++◌, length, slice_get, All, Option, Some}
 use Rattle.std.proofs.Common.{refl, sym, ap, subst, ◌∙◌, take, drop, arith}
-use Rattle.std.proofs.lemmas.Bool.{lt-leb}
-use Rattle.std.proofs.lemmas.List.{length-take, length-take-le, drop_all, drop-append-le}
+use Rattle.std.proofs.lemmas.Bool.{both_ways, lt-leb}
+use Rattle.std.proofs.lemmas.List.{map-append, length-take, length-take-le, drop_all, drop-append-le}
 use Rattle.std.proofs.lemmas.Option.{slice_get_within}
 use Rattle.std.proofs.lemmas.List.Elements.{All-nil, All-cons, All-head, All-tail, All-push}
+use Rattle.intervals.specs.Bytes.{Range}
 use Rattle.token_queue.specs.declared.token_request.TokenRequest.{TokenRequest}
 use Rattle.token_queue.specs.declared.held.Held.{Held}
-use Rattle.token_queue.specs.Actives.{waiting_for}
+use Rattle.token_queue.specs.Requests.{meets}
+use Rattle.token_queue.specs.Actives.{requests_of, waiting_for}
 use Rattle.token_server.specs.declared.row_edit.RowEdit.{RowEdit}
 use Rattle.token_server.specs.declared.sketch.Changed.{Changed}
-use Rattle.token_server.specs.State.{ServerState}
+use Rattle.token_server.specs.State.{Row, ServerState}
 use Rattle.token_server.specs.Serve.{row_conflicts, conflicting_node}
-use Rattle.token_server.specs.Obstacles.{obstacle, may_turn}
+use Rattle.token_server.specs.Obstacles.{obstacle, are_apart, frees, may_bar, may_turn}
 use Rattle.token_server.specs.Parts.{ServerParts, server_state, rows_of}
 use Rattle.token_server.specs.Sketches.{rows_after}
 use Rattle.token_server.specs.Edits.{overlaid, reached}
 use Rattle.token_server.proofs.FreeLaws.{obstacle-changed}
 use Rattle.token_server.proofs.MarkLaws.{unopposed-none}
+use Rattle.token_server.proofs.AdmittingLaws.{meets-flip}
+use Rattle.token_server.proofs.FreedLaws.{meets-within}
+use Rattle.token_server.proofs.KeepLaws.{apart-behind}
+use Rattle.token_server.proofs.ToldLaws.{list-at}
 use Rattle.token_server.proofs.TurnLaws.{take-next}
 
 -- a request that no row stands in the way of waits for the row of its own node
@@ -58,6 +64,39 @@ pub rest-none : (P : Held → Type 0) (held : List Held) (i : ℕ) → All P (dr
 rest-none P held i =
     let len : length (take i held) ≤ i = omega (arith, length-take i held) in
     subst (All P) (sym (drop_all i (take i held) len)) (All-nil P)
+
+-- whoever needs no byte of a span needs none of a part of it
+pub apart-part : (t u s : Range) → t.lo ≤ u.lo → u.hi ≤ t.hi → meets t s ≡ false → meets u s ≡ false
+apart-part t u s starts ends apart = by (meets u s) refl
+  where
+    by : (b : Bool) → meets u s ≡ b → meets u s ≡ false
+    by true here = absurd (both_ways (meets t s) apart (meets-flip t s ∙ meets-within s t u starts ends (meets-flip s u ∙ here)))
+    by false here = here
+
+-- none behind a request that needs all that is given up: no two of them need a byte in common
+pub rest-apart : (c : Changed) (row : Option Row) (held : List Held) (i : ℕ) (h : Held) → slice_get held i ≡ Some h → are_apart (requests_of held) ≡ true → ((s : Range) → meets h.request.wanted.required s ≡ false → frees c.change row s ≡ false) → All (λ k. may_turn c row k ≡ false) (drop (i + 1) held)
+rest-apart c row held i h there apart kept =
+    each (drop (i + 1) held) (apart-behind (requests_of (take i held)) (requests_of (drop (i + 1) held)) h.request (subst (λ (rs : List TokenRequest). are_apart rs ≡ true) parts apart))
+  where
+    parts : requests_of held ≡ requests_of (take i held) ++ h.request ∷ requests_of (drop (i + 1) held)
+    parts = ap requests_of (list-at held i h (take-next held i h there)) ∙ map-append (λ (k : Held). k.request) (take i held) (h ∷ drop (i + 1) held)
+
+    never : (b : Bool) → (b && false) ≡ false
+    never true = refl
+    never false = refl
+
+    Turns : Held → Type 0
+    Turns k = may_turn c row k ≡ false
+
+    Clear : TokenRequest → Type 0
+    Clear q = meets h.request.wanted.required q.wanted.required ≡ false
+
+    each : (ks : List Held) → All Clear (requests_of ks) → All Turns ks
+    each [] all = All-nil Turns
+    each (k ∷ ks) all =
+        All-cons Turns k ks
+        (ap (λ (b : Bool). (may_bar c.change || (k.at == c.node)) && b) (kept k.request.wanted.required (All-head Clear k.request (requests_of ks) all)) ∙ never (may_bar c.change || (k.at == c.node)))
+        (each ks (All-tail Clear k.request (requests_of ks) all))
 
 -- one that can't turn to another row waits as before
 pub unfreed-waits : (p : ServerParts) (edit : Option RowEdit) (c : Changed) (h : Held) → rows_of (overlaid p.clients edit) ≡ rows_after (Some c) (rows_of p.clients) → obstacle (server_state p) h.request ≡ h.at → may_turn c (rows_of p.clients c.node) h ≡ false → obstacle (reached p edit) h.request ≡ h.at

@@ -219,6 +219,30 @@ pub left-exact : (active : List TokenRequest) (r : TokenRequest) → r.wanted.re
 left-exact active r order starts ends =
     sym (largest_around-free (is_needed active r) r.wanted.required r.wanted.desired order (omega arith) (omega arith) (λ b above below. none_needed active r b (omega arith) (omega arith)))
 
+-- where no more is left than is required, no other request takes a byte away
+pub left-least : (active more : List TokenRequest) (r : TokenRequest) (span : Range) → IsLeft active r span → span ≡ r.wanted.required → span ≡ narrowed (active ++ more) r
+left-least active more r span l exact =
+    exact ∙ largest_around-is (is_needed (active ++ more) r) r.wanted.required r.wanted.desired r.wanted.required l.order (record {
+      has_first = omega arith;
+      has_last = omega arith;
+      starts_within = l.starts;
+      ends_within = l.ends;
+      free = none_needed (active ++ more) r;
+      full_below = λ b next above. needed b (least.full_below b next above);
+      full_above = λ below. needed (r.wanted.required.hi + 1) (least.full_above below);
+    })
+  where
+    least : IsLargest (λ b. is_needed active r b ≡ true) r.wanted.required r.wanted.desired r.wanted.required
+    least =
+        subst (λ (s : Range). IsLargest (λ b. is_needed active r b ≡ true) r.wanted.required r.wanted.desired s) (sym l.value ∙ exact)
+        (largest_is_largest (is_needed active r) r.wanted.required r.wanted.desired l.order l.starts l.ends (none_needed active r))
+
+    needed : (b : ℕ) → is_needed active r b ≡ true → is_needed (active ++ more) r b ≡ true
+    needed b here =
+        let parts = and_parts (not (is_in r.wanted.required b)) (list_any (λ (q : TokenRequest). is_in q.wanted.required b) active) here in
+        and_from (not (is_in r.wanted.required b)) (list_any (λ (q : TokenRequest). is_in q.wanted.required b) (active ++ more)) parts.0
+        (list_any-append (λ (q : TokenRequest). is_in q.wanted.required b) active more ∙ ap (λ (t : Bool). t || list_any (λ (q : TokenRequest). is_in q.wanted.required b) more) parts.1)
+
 -- the request needs a byte
 abbrev pub HasByte : TokenRequest → Type 0
 HasByte r = r.wanted.required.lo ≤ r.wanted.required.hi

@@ -28,3 +28,5 @@ pub mod AwaitLaws
 pub mod OrderlyLaws
 pub mod ReadyLaws
 pub mod TurnLaws
+pub mod EndLaws
+pub mod ReaderLaws

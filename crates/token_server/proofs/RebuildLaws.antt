@@ -1,5 +1,5 @@
 -- What a server knows of each node once it was rebuilt.
-use Rattle.std.specs.Prelude.{◌≡◌, ℕ, zero, suc, ◌+◌, ◌-◌, ◌<◌, ◌≤◌, Bool, true, false, cond, ◌&&◌, nat_le, List, [], length, IfSome, Option, Some, None}
+use Rattle.std.specs.Prelude.{◌≡◌, ℕ, zero, suc, ◌+◌, ◌-◌, ◌<◌, ◌≤◌, Bool, true, false, cond, ◌&&◌, nat_le, List, [], ◌∷◌, ◌++◌, length, slice_get, IfSome, Option, Some, None}
 use Rattle.std.proofs.Common.{refl, sym, ap, subst, ◌∙◌, inl, inr, arith}
 use Rattle.std.proofs.lemmas.Bool.{cases_lt, and_from, le-leb, lt-leb}
 use Rattle.std.proofs.lemmas.Option.{slice_get_past}
@@ -112,3 +112,27 @@ rebuilt-counted shape file epoch members clients rows n =
     by : (b : Bool) → IfSome (cond b (Some (awaited_row file (before_epoch epoch) n ((members_state members.nodes).incarnation n))) None) (λ row. before_epoch epoch ≤ row.number)
     by true = omega arith
     by false = tt
+
+-- one more client that was rebuilt
+pub rebuilt-push : (file number : ℕ) (members : MembersParts) (n : ℕ) (clients : List Client) (client : Client) → length clients ≡ n → row_of (Some client) ≡ rebuilt_row file number members (n + 1) → dead_of (Some client) ≡ rebuilt_dead members (n + 1) → AreRebuilt file number members n clients → AreRebuilt file number members (n + 1) (clients ++ client ∷ [])
+rebuilt-push file number members n clients client len row dead all = λ k below. elim (cases_lt k n) [
+  | inl before ↦
+      let there : slice_get (clients ++ client ∷ []) k ≡ slice_get clients k = before-push clients k (omega (arith, len, before)) in
+      (ap row_of there ∙ (all k before).0, ap dead_of there ∙ (all k before).1)
+  | inr from ↦
+      let same : n ≡ k = omega (arith, from, below) in
+      subst (λ (m : ℕ). (row_of (slice_get (clients ++ client ∷ []) m) ≡ rebuilt_row file number members (m + 1)) × (dead_of (slice_get (clients ++ client ∷ []) m) ≡ rebuilt_dead members (m + 1))) same
+      (ap row_of last ∙ row, ap dead_of last ∙ dead)
+]
+  where
+    before-push : (cs : List Client) (k : ℕ) → k < length cs → slice_get (cs ++ client ∷ []) k ≡ slice_get cs k
+    before-push [] k within = absurd (omega arith)
+    before-push (c ∷ cs) zero within = refl
+    before-push (c ∷ cs) (suc k) within = before-push cs k (omega arith)
+
+    at-end : (cs : List Client) → slice_get (cs ++ client ∷ []) (length cs) ≡ Some client
+    at-end [] = refl
+    at-end (c ∷ cs) = at-end cs
+
+    last : slice_get (clients ++ client ∷ []) n ≡ Some client
+    last = ap (slice_get (clients ++ client ∷ [])) (sym len) ∙ at-end clients

@@ -5,7 +5,7 @@ use Rattle.std.specs.Option.{option_to_list}
 use Rattle.std.proofs.Common.{refl, sym, ap, subst, ◌∙◌, inl, inr, arith, take, drop, get_or, append-nil, append_assoc}
 use Rattle.std.proofs.lemmas.Bool.{both_ways, and_parts, leb-true, le-leb, lt-leb, cases_lt}
 use Rattle.std.proofs.lemmas.Bool.Decides.{eqb_tells}
-use Rattle.std.proofs.lemmas.List.{map-append, take_more, take_all}
+use Rattle.std.proofs.lemmas.List.{map-append, take_more, take_all, take-append-drop}
 use Rattle.std.proofs.lemmas.List.Elements.{All-nil, All-cons, All-head, All-tail, All-push, filter-append}
 use Rattle.std.proofs.lemmas.Option.{none-some, same_Some, slice_get_within, slice_get-get_or, slice_get_cases, get_or_from_slice_get}
 use Rattle.intervals.specs.Bytes.{Range}
@@ -31,7 +31,7 @@ use Rattle.token_server.specs.Told.{told_to, row_told, with_told, commands_told,
 use Rattle.token_server.specs.Edits.{is_up_to_any, is_of_any, keeps, held_still, held_without, held_after}
 use Rattle.token_server.specs.Turns.{kept, kept_of, IsTurn, AreServed}
 use Rattle.token_server.proofs.GrantLaws.{conflicts_at}
-use Rattle.token_server.proofs.CutLaws.{HasByte, AreCut, cut-more}
+use Rattle.token_server.proofs.CutLaws.{HasByte, IsLeft, left-more}
 use Rattle.token_server.proofs.ObstacleLaws.{obstacle-same, served-silent}
 use Rattle.token_server.proofs.KeepLaws.{StandSame, served-same}
 use Rattle.token_server.proofs.CareLaws.{All-right}
@@ -437,16 +437,24 @@ module _ (s t : ServerState) (l : Lists) (held : List Held) (told : List Told) (
     | inr other ↦ rest-apart j w above there (λ h. other.1 (same_Some w.at at (sym h ∙ is)))
   ]
 
--- what is left of a span, by one request more
-pub cut-next : (required within : Range) (l : Lists) (xs next : List Held) (h : Held) (span new : Range) → next ≡ xs ++ h ∷ [] → HasByte h.request → (keeps l.dropped l.ended h.request ≡ true → new ≡ cut required span h.request.wanted.required) → (keeps l.dropped l.ended h.request ≡ false → new ≡ span) → AreCut required within (requests_of (kept l xs)) span → AreCut required within (requests_of (kept l next)) new
-cut-next required within l xs next h span new is full on off a = by (keeps l.dropped l.ended h.request) refl
+-- what a request is left with, by one request more
+pub left-next : (l : Lists) (xs next : List Held) (h : Held) (r : TokenRequest) (span new : Range) → next ≡ xs ++ h ∷ [] → HasByte h.request → (keeps l.dropped l.ended h.request ≡ true → new ≡ cut r.wanted.required span h.request.wanted.required) → (keeps l.dropped l.ended h.request ≡ false → new ≡ span) → IsLeft (requests_of (kept l xs)) r span → IsLeft (requests_of (kept l next)) r new
+left-next l xs next h r span new is full on off left = by (keeps l.dropped l.ended h.request) refl
   where
-    by : (b : Bool) → keeps l.dropped l.ended h.request ≡ b → AreCut required within (requests_of (kept l next)) new
+    by : (b : Bool) → keeps l.dropped l.ended h.request ≡ b → IsLeft (requests_of (kept l next)) r new
     by true k =
         let more : requests_of (kept l next) ≡ requests_of (kept l xs) ++ h.request ∷ [] =
         ap requests_of (kept-more l xs next h is k) ∙ map-append (λ (x : Held). x.request) (kept l xs) (h ∷ []) in
-        subst (λ (rs : List TokenRequest). AreCut required within rs new) (sym more)
-        (subst (λ (s : Range). AreCut required within (requests_of (kept l xs) ++ h.request ∷ []) s) (sym (on k)) (cut-more required within (requests_of (kept l xs)) span h.request full a))
+        subst (λ (rs : List TokenRequest). IsLeft rs r new) (sym more)
+        (subst (λ (s : Range). IsLeft (requests_of (kept l xs) ++ h.request ∷ []) r s) (sym (on k)) (left-more (requests_of (kept l xs)) h.request r span full left))
     by false k =
-        subst (λ (hs : List Held). AreCut required within (requests_of hs) new) (sym (kept-less l xs next h is k))
-        (subst (λ (s : Range). AreCut required within (requests_of (kept l xs)) s) (sym (off k)) a)
+        subst (λ (hs : List Held). IsLeft (requests_of hs) r new) (sym (kept-less l xs next h is k))
+        (subst (λ (s : Range). IsLeft (requests_of (kept l xs)) r s) (sym (off k)) left)
+
+-- those of the first requests, and of the others
+pub kept-parts : (l : Lists) (held : List Held) (i : ℕ) → still_active l.ended (without l.dropped (requests_of held)) ≡ requests_of (kept l (take i held)) ++ requests_of (kept l (drop i held))
+kept-parts l held i =
+    sym (kept-requests l held)
+    ∙ ap (λ (hs : List Held). requests_of (kept l hs)) (sym (take-append-drop i held))
+    ∙ ap requests_of (filter-append (λ (h : Held). keeps l.dropped l.ended h.request) (take i held) (drop i held))
+    ∙ map-append (λ (h : Held). h.request) (kept l (take i held)) (kept l (drop i held))

@@ -22,7 +22,7 @@ use token_set::edit::TokenEdit;
 use token_set::set::TokenSet;
 
 /// What a command tells a node.
-#[derive(Clone, Copy, Debug)]
+#[derive(Clone, Copy)]
 pub enum Order {
     /// The token is raised on the span for the mode.
     Grant {
@@ -48,7 +48,7 @@ pub enum Order {
 
 /// A command of the server of a file, which contracts see as the message that it is. Unlike any message it is
 /// copied without memory.
-#[derive(Clone, Copy, Debug)]
+#[derive(Clone, Copy)]
 pub struct Command {
     file: FileNumber,
     order: Order,

@@ -18,7 +18,7 @@ use std::marker::Model;
 
 /// The commands to a node in one incarnation (from 1): the number of the last (at first the one after which
 /// those of the server's epoch begin), and that command while no answer has come.
-#[derive(Clone, Copy, Debug)]
+#[derive(Clone, Copy)]
 pub struct Commands {
     pub incarnation: u16,
     pub number: u64,

@@ -15,6 +15,7 @@ mod node_change;
 mod reports;
 mod row_edit;
 pub mod server;
+pub mod shown_row;
 mod sketch;
 mod token_holder;
 mod told;

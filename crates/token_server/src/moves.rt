@@ -3,6 +3,7 @@ ghost use Rattle.std.specs.Prelude.{◌≡◌, ◌≤◌, ◌++◌, ◌∷◌, [
 ghost use Rattle.token_queue.specs.Requests.{is_of_call};
 ghost use Rattle.token_queue.specs.Actives.{requests_of, waiting_for};
 ghost use Rattle.token_server.specs.Admitting.{has_call_of, all_but};
+ghost use Rattle.token_server.specs.Ready.{AreDistinct};
 ghost use Rattle.token_server.specs.Sketches.{without, queue_moved, waiting_moved};
 ghost use Rattle.token_server.specs.Edits.{held_without, held_still, held_after, queue_after, waiting_after, HasRoom, HeldHasRoom, IsNewCall, many_moved, many_put_off};
 
@@ -101,6 +102,7 @@ pub(crate) fn change(
     lists: Lists,
     spares: Spares,
 )
+    requires distinct { AreDistinct (requests_of active.old.held) }
     requires new { IsNewCall lists.moved (without lists.dropped queue.old.requests) (without lists.dropped waiting.old.requests) }
     requires served { HeldHasRoom active.old spares.active (length lists.fresh.items) }
     requires queued { HasRoom queue.old spares.queue (many_moved lists.moved (without lists.dropped waiting.old.requests)) }
@@ -141,18 +143,46 @@ fn serve_on(
     ended: Option<CallId>,
     fresh: &[Held],
 )
-    requires { HeldHasRoom active.old spare (length fresh.now) }
+    requires distinct { AreDistinct (requests_of active.old.held) }
+    requires room { HeldHasRoom active.old spare (length fresh.now) }
     ensures { active.new.held ≡ held_still ended (held_without dropped (waiting_for ats.now active.old.held)) ++ fresh.now }
 {
+    refill_served(active, spare, fresh.len());
+    active.wait_for(ats);
+    drop_served(active, dropped);
+    end_served(active, ended);
+    serve(active, fresh);
+}
+
+// The requests that are served move into the spare list, if there is one.
+fn refill_served(active: &mut Active, spare: Option<Vec<Held>>, more: usize)
+    requires { HeldHasRoom active.old spare more }
+    ensures held { active.new.held ≡ active.old.held }
+    ensures room { more ≤ active.new.room }
+{
+    let _ = more; // (the proof speaks of it)
     if let Some(spare) = spare {
         active.refill(spare);
     }
-    active.wait_for(ats);
+}
+
+// The requests of the incarnations of a node up to one are served no longer, if it is said of one.
+fn drop_served(active: &mut Active, dropped: Option<(u8, u16)>)
+    ensures held { active.new.held ≡ held_without dropped active.old.held }
+    ensures room { active.new.room ≡ active.old.room }
+{
     if let Some((node, incarnation)) = dropped {
         active.forget(node, incarnation);
     }
+}
+
+// The call's request is served no longer, if one is named.
+fn end_served(active: &mut Active, ended: Option<CallId>)
+    requires { AreDistinct (requests_of active.old.held) }
+    ensures held { active.new.held ≡ held_still ended active.old.held }
+    ensures room { active.new.room ≡ active.old.room }
+{
     if let Some(call) = ended {
-        active.end(call);
+        active.end_one(call);
     }
-    serve(active, fresh);
 }

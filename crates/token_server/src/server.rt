@@ -51,6 +51,7 @@ use token_queue::token_request::TokenRequest;
 
 mod admitting;
 mod obstacles;
+mod readers;
 mod serving;
 
 /// The token server of one file: what it knows of each node, the requests that are queued, in the

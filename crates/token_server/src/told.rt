@@ -9,7 +9,7 @@ use intervals::span::Span;
 use messages::command_number::CommandNumber;
 
 /// A node that is sent a command, and the commands to it from then on.
-#[derive(Clone, Copy, Debug)]
+#[derive(Clone, Copy)]
 pub struct Told {
     pub node: u8,
     pub commands: Commands,

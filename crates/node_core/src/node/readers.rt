@@ -1,13 +1,14 @@
 //! What a node holds, as lists.
-ghost use Rattle.std.specs.Prelude.{◌≡◌, ◌≤◌, IfOk};
+ghost use Rattle.std.specs.Prelude.{◌≡◌, ◌≤◌, All, IfOk};
 ghost use Rattle.model.specs.Anchors.{IsAnchored};
 ghost use Rattle.model.specs.Locks.{IsOfNode};
 ghost use Rattle.lock_table.specs.Listing.{IsListing};
 ghost use Rattle.token_set.specs.Runs.{ListsRuns};
-ghost use Rattle.node_core.specs.Parts.{node_state};
+ghost use Rattle.node_core.specs.Parts.{node_state, IsCallOf};
 
 use super::Node;
 use crate::numbers::is_within;
+use crate::open_call::OpenCall;
 use intervals::span::Span;
 use model::level::Level;
 use model::lock_info::LockInfo;
@@ -21,6 +22,17 @@ impl Node {
         ensures counted { 1 ≤ result }
     {
         self.incarnation
+    }
+
+    /// The calls that have no reply yet, in the order in which the node took them: of each its number, its
+    /// process, what it asks for, and the lock that it is about. The name of such a call is its number with
+    /// that of `host`. A call that was answered in its own step was never one of them. Takes no memory.
+    #[tactic(auto, unfolding(crate::specs::Parts::node_state))]
+    pub fn open_calls(&self) -> &[OpenCall]
+        ensures calls { result.now ≡ (node_state self.now).pending }
+        ensures own { All (IsCallOf (node_state self.now)) result.now }
+    {
+        self.pending.as_slice()
     }
 
     /// The longest runs of bytes at one level in the node's token for the file, each with its level,

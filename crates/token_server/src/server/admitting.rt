@@ -73,7 +73,7 @@ fn meets_left(slots: &[Option<TokenRequest>], gone: &Gone, request: &TokenReques
 }
 
 // Whether the request needs all bytes of the span.
-fn needs_all_of(request: &TokenRequest, span: Span) -> bool
+pub(super) fn needs_all_of(request: &TokenRequest, span: Span) -> bool
     ensures { result ≡ true → (request.now.wanted.required.lo ≤ span.lo) × (span.hi ≤ request.now.wanted.required.hi) }
 {
     let required = request.required();

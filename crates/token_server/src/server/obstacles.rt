@@ -2,6 +2,7 @@
 ghost use Rattle.std.specs.Prelude.{◌≡◌, ◌≤◌, ◌↔◌, true, false, not, ◌&&◌, ◌||◌, ◌==◌, All, length, drop, IsSome, IfOk, IfSome, Option, Some};
 ghost use Rattle.intervals.specs.Bytes.{Range};
 ghost use Rattle.model.specs.Limits.{IsNumber, most_nodes};
+ghost use Rattle.token_queue.specs.Requests.{meets};
 ghost use Rattle.token_queue.specs.Actives.{requests_of, waiting_for};
 ghost use Rattle.token_server.specs.State.{Row};
 ghost use Rattle.token_server.specs.Serve.{row_conflicts, conflicting_node};
@@ -12,6 +13,7 @@ ghost use Rattle.token_server.specs.Sketches.{rows_after};
 ghost use Rattle.token_server.specs.Edits.{overlaid, reached};
 
 use super::Server;
+use super::admitting::needs_all_of;
 use crate::node_change::NodeChange;
 use crate::row_edit::RowEdit;
 use crate::sketch::Changed;
@@ -75,20 +77,6 @@ impl Server {
         }
     }
 
-    // Whether bytes of a span may stand in the way no longer, or others may, once the row of a node changes so.
-    fn frees(&self, changed: &Changed, request: &TokenRequest) -> bool
-        requires { IsNumber self.now.shape.nodes changed.now.node }
-        ensures { result ≡ frees changed.now.change (rows_of self.now.clients changed.now.node) request.now.wanted.required }
-    {
-        match &changed.change {
-            NodeChange::Forgotten { incarnation } => self.is_dropped(changed.node, *incarnation),
-            NodeChange::Asked { host, .. } => self.is_dropped(changed.node, host.incarnation - 1),
-            NodeChange::Answered => false,
-            NodeChange::Relieved { span, .. } => request.meets(*span),
-            NodeChange::Reported { .. } => true,
-        }
-    }
-
     // Whether it is known at once that no request waits for another row than before.
     fn frees_none(&self, changed: &Changed) -> bool
         requires { IsNumber self.now.shape.nodes changed.now.node }
@@ -100,14 +88,6 @@ impl Server {
             NodeChange::Answered => true,
             NodeChange::Relieved { .. } | NodeChange::Reported { .. } => false,
         }
-    }
-
-    // Whether a request that is served may wait for another row than before.
-    fn is_freed(&self, changed: &Changed, held: &Held) -> bool
-        requires { IsNumber self.now.shape.nodes changed.now.node }
-        ensures { result ≡ may_turn changed.now (rows_of self.now.clients changed.now.node) held.now }
-    {
-        concerns(changed, held) && self.frees(changed, &held.request)
     }
 
     // How many of the requests that are served stand up to the last one that may wait for another row than before.
@@ -122,8 +102,12 @@ impl Server {
         let mut many = 0;
         let active = self.active.as_slice();
         for place in 0..active.len() {
-            if may_be_freed(changed, &active[place]) {
+            let held = &active[place];
+            if may_be_freed(changed, held) {
                 many = place + 1;
+                if takes_all(&changed.change, &held.request) {
+                    return many;
+                }
             }
         }
         many
@@ -163,7 +147,7 @@ impl Server {
         requires waits { obstacle (server_state self.now) held.now.request ≡ held.now.at }
         ensures { obstacle (reached self.now rows.now) held.now.request ≡ result }
     {
-        if self.is_freed(changed, held) {
+        if may_be_freed(changed, held) {
             return self.obstacle(rows, readable, &held.request);
         }
         held.at
@@ -217,6 +201,16 @@ fn may_be_freed(changed: &Changed, held: &Held) -> bool
     ensures { result ≡ false → (row : Option Row) → may_turn changed.now row held.now ≡ false }
 {
     concerns(changed, held) && may_free(&changed.change, &held.request)
+}
+
+// Whether the request needs all bytes that a node gave up: then no other one that is served needs any of them.
+fn takes_all(change: &NodeChange, request: &TokenRequest) -> bool
+    ensures { result ≡ true → (row : Option Row) → (s : Range) → meets request.now.wanted.required s ≡ false → frees change.now row s ≡ false }
+{
+    let NodeChange::Relieved { span, .. } = change else {
+        return false;
+    };
+    needs_all_of(request, *span)
 }
 
 // Whether the mode is that of a read lock.

@@ -47,7 +47,7 @@ impl Server {
         if desired.lo == required.lo && desired.hi == required.hi {
             return desired;
         }
-        let span = cut_by(required, desired, self.active.as_slice(), &draft.lists);
+        let span = cut_by(request, self.active.as_slice(), &draft.lists);
         cut_by_all(required, span, draft.lists.fresh.as_slice())
     }
 
@@ -349,24 +349,33 @@ fn none_may_come(ats: &[u8], touched: Option<u8>) -> bool
     ats.is_empty() && touched.is_none()
 }
 
-// The largest span that contains `required` and lies in `within` without the bytes that requests need which are
-// served on.
-fn cut_by(required: Span, within: Span, held: &[Held], lists: &Lists) -> Span
-    requires starts_within { within.lo ≤ required.lo }
-    requires ends_within { required.hi ≤ within.hi }
-    ensures value { result ≡ cut_all required within (still_active lists.now.ended (without lists.now.dropped (requests_of held.now))) }
-    ensures starts_before { result.lo ≤ required.lo }
-    ensures ends_after { required.hi ≤ result.hi }
-    ensures ordered { All (λ r. r.wanted.required.lo ≤ r.wanted.required.hi) (still_active lists.now.ended (without lists.now.dropped (requests_of held.now))) }
+// What the request would like to have, without the bytes that requests need which are served on. Once no more is left
+// than it needs, none of them takes a byte away.
+fn cut_by(request: &TokenRequest, held: &[Held], lists: &Lists) -> Span
+    ensures value { result ≡ narrowed (still_active lists.now.ended (without lists.now.dropped (requests_of held.now))) request.now }
+    ensures starts_before { result.lo ≤ request.now.wanted.required.lo }
+    ensures ends_after { request.now.wanted.required.hi ≤ result.hi }
 {
-    let mut span = within;
+    let required = request.required();
+    let mut span = request.desired();
     for other in held {
+        if are_same(span, required) {
+            return span;
+        }
         span = cut_by_one(required, span, other, lists);
     }
     span
 }
 
-// The same of one request, if it is served on. One that needs no byte of the span takes none away.
+// Whether both are the same span.
+fn are_same(one: Span, other: Span) -> bool
+    ensures { result ≡ true → one ≡ other }
+{
+    one.lo == other.lo && one.hi == other.hi
+}
+
+// The largest span that contains `required` and lies in `within` without the bytes that one request needs, if it is
+// served on. One that needs no byte of the span takes none away.
 fn cut_by_one(required: Span, within: Span, other: &Held, lists: &Lists) -> Span
     requires starts_within { within.lo ≤ required.lo }
     requires ends_within { required.hi ≤ within.hi }
@@ -385,7 +394,7 @@ fn cut_by_one(required: Span, within: Span, other: &Held, lists: &Lists) -> Span
     cut(required, within, needed)
 }
 
-// The same of requests that are all served.
+// The same of requests that are all served on.
 fn cut_by_all(required: Span, within: Span, held: &[Held]) -> Span
     requires starts_within { within.lo ≤ required.lo }
     requires ends_within { required.hi ≤ within.hi }

@@ -1,8 +1,10 @@
-use Rattle.std.specs.Prelude.{List, length}
+use Rattle.std.specs.Prelude.{◌++◌, List, length}
 use Rattle.std.proofs.Common.{sym, ap, subst, ◌∙◌}
+use Rattle.token_queue.specs.Actives.{requests_of}
 use Rattle.token_server.specs.declared.client.Client.{Client}
 use Rattle.token_server.specs.Parts.{ServerParts, deaths_of}
 use Rattle.token_server.specs.Edits.{given_rows, Fits}
+use Rattle.token_server.proofs.ComesLaws.{distinct-first}
 use Rattle.token_server.proofs.ReadyLaws.{applied}
 use Rattle.token_server.proofs.server.Server.apply.Goals as goal
 
@@ -16,3 +18,7 @@ invariant_of-self c =
     (c.give_each.ensures.deaths ∙ ap deaths_of c.apply.ensures)
     (c.give_each.ensures.len ∙ ap (λ (cs : List Client). length cs) c.apply.ensures)
     c.change.ensures.active c.change.ensures.queue c.change.ensures.waiting
+
+pub change-requires-clause-distinct : goal.change-requires-clause-distinct
+change-requires-clause-distinct c =
+    distinct-first (requests_of c.self.inside.active.held) (c.self.inside.queue.requests ++ c.self.inside.waiting.requests) c.self.invariant.ready.orderly.distinct

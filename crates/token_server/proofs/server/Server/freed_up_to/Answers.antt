@@ -1,12 +1,13 @@
-use Rattle.std.specs.Prelude.{◌≡◌, ◌+◌, ◌≤◌, List, false, All, length, slice_get, Some}
+use Rattle.std.specs.Prelude.{◌≡◌, ◌+◌, ◌≤◌, List, true, false, All, length, slice_get, Some}
 use Rattle.std.proofs.Common.{ap, subst, ◌∙◌, drop, arith}
 use Rattle.std.proofs.lemmas.List.{take_all}
 use Rattle.token_queue.specs.declared.held.Held.{Held}
-use Rattle.token_server.specs.Obstacles.{may_turn}
+use Rattle.token_queue.specs.Actives.{requests_of}
+use Rattle.token_server.specs.Obstacles.{are_apart, may_turn}
 use Rattle.token_server.specs.Parts.{ServerParts, rows_of}
-use Rattle.token_server.proofs.AwaitLaws.{rest-more, rest-none}
+use Rattle.token_server.proofs.AwaitLaws.{rest-more, rest-none, rest-apart}
 use Rattle.token_server.proofs.TurnLaws.{read-place}
-use Rattle.token_server.proofs.server.Server.freed_up_to.Goals.{then-may_be_freed, else-may_be_freed}
+use Rattle.token_server.proofs.server.Server.freed_up_to.Goals.{then-may_be_freed+else-takes_all, else-may_be_freed}
 use Rattle.token_server.proofs.server.Server.freed_up_to.Goals as goal
 
 pub loop-place-preserved : goal.loop-place-preserved
@@ -19,10 +20,26 @@ loop-place-preserved c =
     let many : length c.as_slice-active.result.now ≡ length held = ap (λ (hs : List Held). length hs) read in
     let there : slice_get held i ≡ Some item = read-place c.as_slice-active.result.now held i item read c.loop-place-test.true c.index-active-place.is in
     elim c.if-may_be_freed.branch [
-      | then-may_be_freed w ↦ rw w.many-is (omega arith, omega (arith, many, c.loop-place-test.true), rest-none P held (i + 1))
+      | then-may_be_freed+else-takes_all w ↦ rw w.many-is (omega arith, omega (arith, many, c.loop-place-test.true), rest-none P held (i + 1))
       | else-may_be_freed w ↦
           rw w.many-is (omega (arith, c.loop-place.invariant.0), c.loop-place.invariant.1, rest-more P held c.loop-place.many i item c.loop-place.invariant.0 there (c.may_be_freed.ensures w.if-may_be_freed.false (rows_of c.args.self.now.clients c.args.changed.now.node)) c.loop-place.invariant.2)
     ]
+
+pub returns-then-takes_all-clause-within : goal.returns-then-takes_all-clause-within
+returns-then-takes_all-clause-within c =
+    let many : length c.as_slice-active.result.now ≡ length c.args.self.now.active.held = ap (λ (hs : List Held). length hs) (c.as_slice-active.ensures ∙ ap (λ (p : ServerParts). p.active.held) c.self.view_is) in
+    omega (arith, many, c.loop-place-test.true)
+
+pub returns-then-takes_all-clause-rest : goal.returns-then-takes_all-clause-rest
+returns-then-takes_all-clause-rest c =
+    let i = c.loop-place.place in
+    let held : List Held = c.args.self.now.active.held in
+    let item : Held = c.index-active-place.result in
+    let row = rows_of c.args.self.now.clients c.args.changed.now.node in
+    let read : c.as_slice-active.result.now ≡ held = c.as_slice-active.ensures ∙ ap (λ (p : ServerParts). p.active.held) c.self.view_is in
+    let there : slice_get held i ≡ Some item = read-place c.as_slice-active.result.now held i item read c.loop-place-test.true c.index-active-place.is in
+    let apart : are_apart (requests_of held) ≡ true = subst (λ (p : ServerParts). are_apart (requests_of p.active.held) ≡ true) c.self.view_is c.self.invariant.ready.apart in
+    rest-apart c.args.changed.now row held i item there apart (c.takes_all.ensures c.if-takes_all.true row)
 
 pub returns-clause-rest : goal.returns-clause-rest
 returns-clause-rest c =

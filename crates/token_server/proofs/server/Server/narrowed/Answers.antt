@@ -1,5 +1,5 @@
-use Rattle.std.specs.Prelude.{◌≡◌, List, [], ◌++◌, All}
-use Rattle.std.proofs.Common.{sym, ap, subst, ◌∙◌}
+use Rattle.std.specs.Prelude.{◌≡◌, List, ◌++◌, All}
+use Rattle.std.proofs.Common.{refl, sym, ap, subst, ◌∙◌}
 use Rattle.intervals.specs.Bytes.{Range}
 use Rattle.token_queue.specs.declared.held.Held.{Held}
 use Rattle.token_queue.specs.declared.token_request.TokenRequest.{TokenRequest}
@@ -9,7 +9,7 @@ use Rattle.token_server.specs.Serve.{narrowed}
 use Rattle.token_server.specs.Parts.{ServerParts}
 use Rattle.token_server.specs.Sketches.{without, still_active}
 use Rattle.token_server.specs.Told.{cut_all}
-use Rattle.token_server.proofs.CutLaws.{HasByte, IsLeft, left-start, left-all, left-exact}
+use Rattle.token_server.proofs.CutLaws.{HasByte, IsLeft, left-all, left-exact}
 use Rattle.token_server.proofs.TurnLaws.{held_after-requests}
 use Rattle.token_server.proofs.server.Server.narrowed.Goals as goal
 
@@ -25,6 +25,12 @@ returns-then-desired-required-2-clause-value c =
     let ends : c.args.request.now.wanted.desired.hi ≡ c.args.request.now.wanted.required.hi = cc in
     c.desired-desired.ensures.value ∙ left-exact _ c.args.request.now (rw (← c.required-required.ensures.value) c.required-required.ensures.ordered) starts ends
 
+pub cut_by_all-requires-clause-starts_within : goal.cut_by_all-requires-clause-starts_within
+cut_by_all-requires-clause-starts_within c = rw c.required-required.ensures.value c.cut_by-span.ensures.starts_before
+
+pub cut_by_all-requires-clause-ends_within : goal.cut_by_all-requires-clause-ends_within
+cut_by_all-requires-clause-ends_within c = rw c.required-required.ensures.value c.cut_by-span.ensures.ends_after
+
 pub returns-clause-value : goal.returns-clause-value
 returns-clause-value c =
     let r : TokenRequest = c.args.request.now in
@@ -33,14 +39,15 @@ returns-clause-value c =
     let on : List TokenRequest = still_active lists.ended (without lists.dropped (requests_of held)) in
     let fresh : List TokenRequest = requests_of lists.fresh.items in
     let read : c.as_slice.result.now ≡ held = c.as_slice.ensures ∙ ap (λ (p : ServerParts). p.active.held) c.self.view_is in
-    let same : still_active lists.ended (without lists.dropped (requests_of c.as_slice.result.now)) ≡ on = ap (λ (hs : List Held). still_active lists.ended (without lists.dropped (requests_of hs))) read in
-    let first : c.cut_by-span.result ≡ cut_all r.wanted.required r.wanted.desired on =
-    c.cut_by-span.ensures.value ∙ (λ i. cut_all (c.required-required.ensures.value i) (c.desired-desired.ensures.value i) (same i)) in
-    let start : IsLeft [] r r.wanted.desired =
-    left-start r (rw (← c.required-required.ensures.value) c.required-required.ensures.ordered) (rw (← c.desired-desired.ensures.value) c.desired-desired.ensures.starts_before) (rw (← c.desired-desired.ensures.value) c.desired-desired.ensures.ends_after) in
-    let some : IsLeft on r (cut_all r.wanted.required r.wanted.desired on) = left-all [] on r r.wanted.desired (subst (All HasByte) same c.cut_by-span.ensures.ordered) start in
-    let all : IsLeft (on ++ fresh) r (cut_all r.wanted.required (cut_all r.wanted.required r.wanted.desired on) fresh) =
-    left-all on fresh r (cut_all r.wanted.required r.wanted.desired on) (subst (λ (hs : List Held). All HasByte (requests_of hs)) c.as_slice-2.ensures.value c.cut_by_all.ensures.ordered) some in
+    let first : c.cut_by-span.result ≡ narrowed on r = c.cut_by-span.ensures.value ∙ ap (λ (hs : List Held). narrowed (still_active lists.ended (without lists.dropped (requests_of hs))) r) read in
+    let some : IsLeft on r (narrowed on r) = record {
+      order = rw (← c.required-required.ensures.value) c.required-required.ensures.ordered;
+      starts = rw (← c.desired-desired.ensures.value) c.desired-desired.ensures.starts_before;
+      ends = rw (← c.desired-desired.ensures.value) c.desired-desired.ensures.ends_after;
+      value = refl;
+    } in
+    let all : IsLeft (on ++ fresh) r (cut_all r.wanted.required (narrowed on r) fresh) =
+    left-all on fresh r (narrowed on r) (subst (λ (hs : List Held). All HasByte (requests_of hs)) c.as_slice-2.ensures.value c.cut_by_all.ensures.ordered) some in
     c.cut_by_all.ensures.value
     ∙ (λ i. cut_all (c.required-required.ensures.value i) (first i) (requests_of (c.as_slice-2.ensures.value i)))
     ∙ all.value

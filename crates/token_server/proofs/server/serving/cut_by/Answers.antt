@@ -1,24 +1,29 @@
-use Rattle.std.specs.Prelude.{◌≡◌, ◌+◌, List, [], ◌∷◌, ◌++◌, All}
-use Rattle.std.proofs.Common.{sym, ap, subst, ◌∙◌, take}
+use Rattle.std.specs.Prelude.{◌≡◌, ◌+◌, List, [], ◌∷◌, ◌++◌}
+use Rattle.std.proofs.Common.{sym, ap, subst, ◌∙◌, take, drop}
 use Rattle.std.proofs.lemmas.List.{take_more, take_all}
+use Rattle.intervals.specs.Bytes.{Range}
 use Rattle.token_queue.specs.declared.held.Held.{Held}
 use Rattle.token_queue.specs.declared.token_request.TokenRequest.{TokenRequest}
 use Rattle.token_queue.specs.Actives.{requests_of}
 use Rattle.token_server.specs.declared.lists.Lists.{Lists}
-use Rattle.token_server.specs.Told.{cut_all}
+use Rattle.token_server.specs.Serve.{narrowed}
+use Rattle.token_server.specs.Told.{cut}
 use Rattle.token_server.specs.Turns.{kept}
-use Rattle.token_server.proofs.CutLaws.{HasByte, cut-start}
-use Rattle.token_server.proofs.TurnLaws.{kept-requests, cut-next}
+use Rattle.token_server.proofs.CutLaws.{IsLeft, left-start, left-bounds, left-least}
+use Rattle.token_server.proofs.TurnLaws.{kept-requests, kept-parts, left-next}
 use Rattle.token_server.proofs.server.serving.cut_by.Goals as goal
 
 pub loop-other-init : goal.loop-other-init
-loop-other-init c = cut-start c.args.required c.args.within c.requires.starts_within c.requires.ends_within
+loop-other-init c =
+    let r : TokenRequest = c.args.request.now in
+    subst (λ (s : Range). IsLeft [] r s) (sym c.desired-span.ensures.value)
+    (left-start r (rw (← c.required-required.ensures.value) c.required-required.ensures.ordered) (rw (← c.desired-span.ensures.value) c.desired-span.ensures.starts_before) (rw (← c.desired-span.ensures.value) c.desired-span.ensures.ends_after))
 
 pub cut_by_one-span-requires-clause-starts_within : goal.cut_by_one-span-requires-clause-starts_within
-cut_by_one-span-requires-clause-starts_within c = c.loop-other.invariant.starts
+cut_by_one-span-requires-clause-starts_within c = rw c.required-required.ensures.value (left-bounds _ c.args.request.now c.loop-other.span c.loop-other.invariant).0
 
 pub cut_by_one-span-requires-clause-ends_within : goal.cut_by_one-span-requires-clause-ends_within
-cut_by_one-span-requires-clause-ends_within c = c.loop-other.invariant.ends
+cut_by_one-span-requires-clause-ends_within c = rw c.required-required.ensures.value (left-bounds _ c.args.request.now c.loop-other.span c.loop-other.invariant).1
 
 pub loop-other-preserved : goal.loop-other-preserved
 loop-other-preserved c =
@@ -28,24 +33,35 @@ loop-other-preserved c =
     let item : Held = c.other-item.result in
     let next : take (i + 1) held ≡ take i held ++ item ∷ [] = take_more held i item c.loop-other-test.true ∙ ap (λ (h : Held). take i held ++ h ∷ []) (sym c.other-item.is) in
     let e = c.cut_by_one-span.ensures in
-    cut-next c.args.required c.args.within lists (take i held) (take (i + 1) held) item c.loop-other.span c.cut_by_one-span.result next e.ordered e.kept e.gone c.loop-other.invariant
+    left-next lists (take i held) (take (i + 1) held) item c.args.request.now c.loop-other.span c.cut_by_one-span.result next e.ordered
+    (λ on. e.kept on ∙ ap (λ (q : Range). cut q c.loop-other.span item.request.wanted.required) c.required-required.ensures.value) e.gone c.loop-other.invariant
+
+pub returns-then-are_same-clause-value : goal.returns-then-are_same-clause-value
+returns-then-are_same-clause-value c =
+    let i = c.loop-other.other-index in
+    let held : List Held = c.args.held.now in
+    let lists : Lists = c.args.lists.now in
+    let r : TokenRequest = c.args.request.now in
+    left-least (requests_of (kept lists (take i held))) (requests_of (kept lists (drop i held))) r c.loop-other.span c.loop-other.invariant (c.are_same.ensures c.if-are_same.true ∙ c.required-required.ensures.value)
+    ∙ ap (λ (rs : List TokenRequest). narrowed rs r) (sym (kept-parts lists held i))
+
+pub returns-then-are_same-clause-starts_before : goal.returns-then-are_same-clause-starts_before
+returns-then-are_same-clause-starts_before c = (left-bounds _ c.args.request.now c.loop-other.span c.loop-other.invariant).0
+
+pub returns-then-are_same-clause-ends_after : goal.returns-then-are_same-clause-ends_after
+returns-then-are_same-clause-ends_after c = (left-bounds _ c.args.request.now c.loop-other.span c.loop-other.invariant).1
 
 pub returns-clause-value : goal.returns-clause-value
 returns-clause-value c =
     let held : List Held = c.args.held.now in
     let lists : Lists = c.args.lists.now in
+    let r : TokenRequest = c.args.request.now in
     c.loop-other.invariant.value
-    ∙ ap (λ (hs : List Held). cut_all c.args.required c.args.within (requests_of (kept lists hs))) (take_all c.loop-other.other-index held c.loop-other-test.false)
-    ∙ ap (λ (rs : List TokenRequest). cut_all c.args.required c.args.within rs) (kept-requests lists held)
-
-pub returns-clause-ordered : goal.returns-clause-ordered
-returns-clause-ordered c =
-    let held : List Held = c.args.held.now in
-    let lists : Lists = c.args.lists.now in
-    subst (All HasByte) (ap (λ (hs : List Held). requests_of (kept lists hs)) (take_all c.loop-other.other-index held c.loop-other-test.false) ∙ kept-requests lists held) c.loop-other.invariant.full
+    ∙ ap (λ (hs : List Held). narrowed (requests_of (kept lists hs)) r) (take_all c.loop-other.other-index held c.loop-other-test.false)
+    ∙ ap (λ (rs : List TokenRequest). narrowed rs r) (kept-requests lists held)
 
 pub returns-clause-starts_before : goal.returns-clause-starts_before
-returns-clause-starts_before c = c.loop-other.invariant.starts
+returns-clause-starts_before c = (left-bounds _ c.args.request.now c.loop-other.span c.loop-other.invariant).0
 
 pub returns-clause-ends_after : goal.returns-clause-ends_after
-returns-clause-ends_after c = c.loop-other.invariant.ends
+returns-clause-ends_after c = (left-bounds _ c.args.request.now c.loop-other.span c.loop-other.invariant).1

@@ -1,8 +1,8 @@
 use Rattle.std.proofs.Common.{take}
 use Rattle.token_queue.specs.Actives.{requests_of}
 use Rattle.token_server.specs.Turns.{kept}
-use Rattle.token_server.proofs.CutLaws.{AreCut}
+use Rattle.token_server.proofs.CutLaws.{IsLeft}
 use Rattle.token_server.proofs.server.serving.cut_by.Given as goal
 
 abbrev pub invariant-loop-other : goal.invariant-loop-other
-invariant-loop-other l = AreCut l.required l.fn.within (requests_of (kept l.lists (take l.other-index l.held))) l.span
+invariant-loop-other l = IsLeft (requests_of (kept l.lists (take l.other-index l.held))) l.request l.span

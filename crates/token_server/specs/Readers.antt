@@ -1,0 +1,23 @@
+-- What the readers of a token server show.
+use Rattle.std.specs.Prelude.{◌≡◌, ℕ, Bool, List, filter, Some}
+use Rattle.std.specs.List.{range_with_len}
+use Rattle.token_set.specs.Runs.{ListsRuns}
+use Rattle.token_server.specs.declared.shown_row.ShownRow.{ShownRow}
+use Rattle.token_server.specs.State.{Row, ServerState}
+
+-- those of the nodes 1 to n that pass, by rising node
+abbrev pub nodes_where : (ℕ → Bool) → ℕ → List ℕ
+nodes_where passes n = filter passes (range_with_len 1 n)
+
+-- the row is shown as it is, its token by the longest runs of bytes at one level
+pub record Shows (row : Row) (shown : ShownRow) : Type 0 where
+  pub incarnation : shown.incarnation ≡ row.incarnation
+  pub token : ListsRuns row.token shown.token.items
+  pub number : shown.number ≡ row.number
+  pub command : shown.command ≡ row.outstanding
+
+-- what is shown is the row that the server has of the node
+pub record IsRow (s : ServerState) (shown : ShownRow) : Type 0 where
+  pub row : Row
+  pub there : s.rows shown.node ≡ Some row
+  pub shows : Shows row shown

@@ -1,0 +1,165 @@
+//! What a token server holds, as lists.
+ghost use Rattle.std.specs.Prelude.{◌≡◌, false, All, IfOk, MatchOption, map, is_some, None};
+ghost use Rattle.std.specs.Option.{option_copied};
+ghost use Rattle.token_queue.specs.Requests.{requests_in};
+ghost use Rattle.token_queue.specs.Actives.{requests_of};
+ghost use Rattle.token_server.specs.State.{is_awaited};
+ghost use Rattle.token_server.specs.Obstacles.{obstacle, is_idle};
+ghost use Rattle.token_server.specs.Parts.{row_seen, row_state, server_state};
+ghost use Rattle.token_server.specs.Readers.{nodes_where, Shows, IsRow};
+
+use super::Server;
+use crate::shown_row::ShownRow;
+use crate::token_holder::TokenHolder;
+use intervals::span_map::NoMemory;
+use messages::message::Message;
+use std::alloc::Global;
+use token_queue::held::Held;
+use token_queue::token_request::TokenRequest;
+
+impl Server {
+    /// The requests that are served, in the order in which they came to be, each with the node whose row it
+    /// waits for: the least other node whose token is in the way, which is told to give it up, or else its own,
+    /// which is told that it has the bytes. Takes no memory.
+    pub fn served(&self) -> &[Held]
+        ensures requests { requests_of result.now ≡ (server_state self.now).active }
+        ensures rows { All (λ h. obstacle (server_state self.now) h.request ≡ h.at) result.now }
+        ensures busy { All (λ h. is_idle ((server_state self.now).rows h.at) ≡ false) result.now }
+    {
+        let _ = &self.shape; // tells the proof what holds between two steps
+        self.active.as_slice()
+    }
+
+    /// The requests that are queued, in the order in which they are to be served.
+    ///
+    /// # Errors
+    /// `NoMemory` where a request for memory was refused.
+    pub fn queued(&self, alloc: Global) -> Result<Vec<TokenRequest>, NoMemory>
+        ensures { IfOk result (λ requests. requests.items ≡ (server_state self.now).queue) }
+    {
+        listed(alloc, self.queue.slots())
+    }
+
+    /// The requests that wait for a lock of another node to go, in the order in which they will be asked for
+    /// again.
+    ///
+    /// # Errors
+    /// `NoMemory` where a request for memory was refused.
+    pub fn waiting(&self, alloc: Global) -> Result<Vec<TokenRequest>, NoMemory>
+        ensures { IfOk result (λ requests. requests.items ≡ (server_state self.now).waiting) }
+    {
+        listed(alloc, self.waiting.slots())
+    }
+
+    // The row of a node.
+    #[tactic(auto, unfolding(crate::specs::Parts::rows_of))]
+    fn row_at(&self, node: u8) -> Option<&TokenHolder>
+        ensures { row_seen (option_copied result) ≡ (server_state self.now).rows node }
+    {
+        if node == 0 {
+            return None;
+        }
+        self.clients.row(node)
+    }
+
+    /// What the server knows of the node, if that asked it in an incarnation that is not known as dead.
+    ///
+    /// # Errors
+    /// `NoMemory` where a request for memory was refused.
+    pub fn row(&self, alloc: Global, node: u8) -> Result<Option<ShownRow>, NoMemory>
+        ensures { IfOk result (λ shown. MatchOption shown ((server_state self.now).rows node ≡ None) (λ r. IsRow (server_state self.now) r × (r.node ≡ node))) }
+    {
+        match self.row_at(node) {
+            Some(row) => Ok(Some(shown(alloc, node, row)?)),
+            None => Ok(None),
+        }
+    }
+
+    /// What the server knows of each node that asked it, by rising node.
+    ///
+    /// # Errors
+    /// `NoMemory` where a request for memory was refused.
+    pub fn rows(&self, alloc: Global) -> Result<Vec<ShownRow>, NoMemory>
+        ensures nodes { let s = server_state self.now in IfOk result (λ rows. map (λ r. r.node) rows.items ≡ nodes_where (λ n. is_some (s.rows n)) s.shape.nodes) }
+        ensures each { IfOk result (λ rows. All (IsRow (server_state self.now)) rows.items) }
+    {
+        let mut rows = Vec::new(alloc);
+        for place in 0..self.shape.nodes() {
+            if let Some(row) = self.row(alloc, place + 1)? {
+                rows.push(row)?;
+            }
+        }
+        Ok(rows)
+    }
+
+    /// The greatest incarnation of the node that is known to be dead, 0 where none is.
+    pub fn dead(&self, node: u8) -> u16
+        ensures { result ≡ (server_state self.now).dead node }
+    {
+        if node == 0 || usize::from(node) > self.clients.len() {
+            return 0;
+        }
+        self.clients.dead(node)
+    }
+
+    // Whether the node is asked for its token, and has not told it.
+    fn is_awaited(&self, node: u8) -> bool
+        ensures { result ≡ is_awaited ((server_state self.now).rows node) }
+    {
+        match self.row_at(node) {
+            Some(row) => row.commands.is_asked(),
+            None => false,
+        }
+    }
+
+    /// The nodes that a server which was rebuilt still awaits, by rising node: each has not told its token,
+    /// and is not known as dead. While there is one, no request is served.
+    ///
+    /// # Errors
+    /// `NoMemory` where a request for memory was refused.
+    pub fn awaited_nodes(&self, alloc: Global) -> Result<Vec<u8>, NoMemory>
+        ensures { let s = server_state self.now in IfOk result (λ nodes. nodes.items ≡ nodes_where (λ n. is_awaited (s.rows n)) s.shape.nodes) }
+    {
+        let mut nodes = Vec::new(alloc);
+        for place in 0..self.shape.nodes() {
+            if self.is_awaited(place + 1) {
+                nodes.push(place + 1)?;
+            }
+        }
+        Ok(nodes)
+    }
+}
+
+// The requests in the slots of a line, in their order.
+fn listed(alloc: Global, slots: &[Option<TokenRequest>]) -> Result<Vec<TokenRequest>, NoMemory>
+    ensures { IfOk result (λ requests. requests.items ≡ requests_in slots.now) }
+{
+    let mut requests = Vec::new(alloc);
+    for slot in slots {
+        if let Some(request) = slot {
+            requests.push(*request)?;
+        }
+    }
+    Ok(requests)
+}
+
+// The command that has no answer yet.
+fn command_of(row: &TokenHolder) -> Option<Message>
+    ensures { result ≡ (row_state row.now).outstanding }
+{
+    Some(row.commands.outstanding?.message())
+}
+
+// The row of a node as it is shown.
+fn shown(alloc: Global, node: u8, row: &TokenHolder) -> Result<ShownRow, NoMemory>
+    ensures shows { IfOk result (λ shown. Shows (row_state row.now) shown) }
+    ensures node { IfOk result (λ shown. shown.node ≡ node) }
+{
+    Ok(ShownRow {
+        node,
+        incarnation: row.commands.incarnation(),
+        token: row.token.runs(alloc)?,
+        number: row.commands.number,
+        command: command_of(row),
+    })
+}
