@@ -1,5 +1,6 @@
-//! One node and one token server in a program of its own, which carries the messages between them: a process
-//! begins, opens a file and sets a lock, and each reply is printed.
+//! Two nodes and one token server in a program of its own, which carries the messages between them. Each has an
+//! inbox, and one letter is read at a time. Each fifth message is lost; ticks of a clock make good for it. A call
+//! waits for a lock of the other node, and gets it. Then a node dies with a lock that a call waits for.
 //!
 //! What is proved of every run of a cluster holds of such a program where it keeps to this:
 //!
@@ -21,94 +22,83 @@
 //!   used before. The first one is 1, that of `Server::new`. `Members` keeps count of them too.
 //!
 //! The law of the one history is of runs of any length; `World` and `Run`, which keep a journal, end
-//! at 1,048,576 entries. Here is one node and one server that never fail, so nothing is declared,
-//! and the server learns nothing.
+//! at 1,048,576 entries.
+//!
+//! Simpler than it could be: each node has one clock for all its open calls, and no call is tried again at
+//! once where a lock of its own node goes.
 #![tactic(auto)]
 
-use messages::items::Items;
-use messages::message::Message;
-use messages::outcome::Outcome;
-use messages::refusal::StepError;
-use messages::shape::Shape;
+mod cluster;
+mod letter;
+mod names;
+mod office;
+mod pace;
+mod seat;
+mod shown;
+
+use crate::cluster::Cluster;
 use model::access::Access;
 use model::mode::Mode;
 use model::op::Op;
 use model::owner::Kind;
-use model::policy::Policy;
-use node_core::event::NodeEvent;
-use node_core::node::Node;
-use std::alloc::Global;
-use token_server::server::Server;
 
-const CALLS: [Op; 3] = [
-    Op::Spawn,
-    Op::Open {
-        file: 1,
-        access: Access::ReadWrite,
-    },
-    Op::Set {
-        fd: 0,
-        kind: Kind::OfProcess,
-        mode: Mode::Write,
-        start: 0,
-        len: 100,
-    },
-];
+const OPEN: Op = Op::Open {
+    file: 1,
+    access: Access::ReadWrite,
+};
+
+const SET: Op = Op::Set {
+    fd: 0,
+    kind: Kind::OfProcess,
+    mode: Mode::Write,
+    start: 0,
+    len: 100,
+};
+
+const WAIT: Op = Op::Wait {
+    fd: 0,
+    kind: Kind::OfProcess,
+    mode: Mode::Write,
+    start: 50,
+    len: 100,
+};
+
+const UNLOCK: Op = Op::Unlock {
+    fd: 0,
+    kind: Kind::OfProcess,
+    start: 0,
+    len: 100,
+};
 
 fn main(rt: HostRuntime) -> anyhow::Result<()> {
-    let alloc = rt.alloc();
-    let shape = Shape::new(1, 1, Policy::Wide)?;
-    let mut node = Node::new(alloc, shape, 1, 1)?;
-    let mut server = Server::new(alloc, shape, 1)?;
-    for op in CALLS {
-        call(&rt, &mut node, &mut server, op)?;
-    }
-    Ok(())
+    let mut cluster = Cluster::new(rt.alloc(), 2)?;
+    begin(&rt, &mut cluster, 1)?;
+    begin(&rt, &mut cluster, 2)?;
+    cluster.call(&rt, 1, SET)?;
+    wait(&rt, &mut cluster, 2)?;
+    cluster.call(&rt, 1, UNLOCK)?;
+    cluster.show(&rt)?;
+    cluster.pass(&rt, 16)?;
+    wait(&rt, &mut cluster, 1)?;
+    cluster.fail(&rt, 2)?;
+    cluster.pass(&rt, 16)?;
+    cluster.restart(&rt, 2)?;
+    begin(&rt, &mut cluster, 2)?;
+    cluster.call(&rt, 2, SET)?;
+    cluster.pass(&rt, 16)?;
+    cluster.show(&rt)
 }
 
-// Process 1 calls. Where its node has no token for the bytes it sends a request, and the server grants it.
-fn call(rt: &HostRuntime, node: &mut Node, server: &mut Server, op: Op) -> anyhow::Result<()> {
-    let alloc = rt.alloc();
-    let requests = at_node(rt, node, &NodeEvent::Call { pid: 1, op })?;
-    for request in requests.as_slice() {
-        let grants = to_server(alloc, server, request)?;
-        for grant in grants.as_slice() {
-            let taken = to_node(rt, node, grant)?;
-            for message in taken.as_slice() {
-                to_server(alloc, server, message)?;
-            }
-        }
-    }
-    Ok(())
+// The process of the node begins, and opens the file.
+fn begin(rt: &HostRuntime, cluster: &mut Cluster, node: u8) -> anyhow::Result<()> {
+    cluster.call(rt, node, Op::Spawn)?;
+    cluster.call(rt, node, OPEN)
 }
 
-// Lets the event happen at the node, prints the reply if a call is answered, and answers what is sent.
-fn at_node(rt: &HostRuntime, node: &mut Node, event: &NodeEvent) -> anyhow::Result<Items<Message>> {
-    let change = node.plan(rt.alloc(), event)?;
-    told(rt, node.apply(change))
-}
-
-// The same of a message that comes to the node.
-fn to_node(rt: &HostRuntime, node: &mut Node, message: &Message) -> anyhow::Result<Items<Message>> {
-    let change = node.plan_delivery(rt.alloc(), message)?;
-    told(rt, node.apply(change))
-}
-
-// Prints the reply if a call is answered, and answers what is sent.
-fn told(rt: &HostRuntime, outcome: Outcome) -> anyhow::Result<Items<Message>> {
-    let Outcome { reply, sends, .. } = outcome;
-    if let Some((call, reply)) = reply {
-        println!(rt; "call {}: {reply:?}", call.number)?;
-    }
-    Ok(sends)
-}
-
-// Lets the message come to the server, and answers what is sent.
-fn to_server(
-    alloc: Global,
-    server: &mut Server,
-    message: &Message,
-) -> Result<Items<Message>, StepError> {
-    let change = server.plan_delivery(alloc, message)?;
-    Ok(server.apply(change).sends)
+// The process of the node waits for a lock of the other node: its request is lost, and sent again.
+fn wait(rt: &HostRuntime, cluster: &mut Cluster, node: u8) -> anyhow::Result<()> {
+    cluster.call(rt, node, WAIT)?;
+    cluster.show(rt)?;
+    cluster.pass(rt, 16)?;
+    cluster.show(rt)
 }

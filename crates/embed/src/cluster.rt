@@ -1,0 +1,187 @@
+//! Nodes and the token server of one file, and the messages between them.
+use crate::letter::{NodeLetter, ServerLetter};
+use crate::names::name_of;
+use crate::office::Office;
+use crate::seat::Seat;
+use anyhow::bail;
+use members::members::Members;
+use messages::actor::Actor;
+use messages::items::Items;
+use messages::message::Message;
+use messages::shape::Shape;
+use model::op::Op;
+use model::policy::Policy;
+use node_core::event::NodeEvent;
+use node_core::node::Node;
+use std::alloc::Global;
+use token_server::event::ServerEvent;
+use token_server::server::Server;
+
+// The one file of the cluster, and the one process of each node.
+const FILE: u16 = 1;
+
+const PROCESS: u16 = 1;
+
+// More letters than are ever read between two ticks.
+const MANY_LETTERS: u32 = 1000;
+
+/// Nodes and the token server of one file, each with an inbox. One letter is read at a time.
+#[derive(Drop)]
+pub struct Cluster {
+    shape: Shape,
+    members: Members,
+    seats: Vec<Seat>,
+    office: Office,
+    // How many messages were sent.
+    sent: u32,
+}
+
+impl Cluster {
+    /// So many nodes, and the server of file 1.
+    pub fn new(alloc: Global, nodes: u8) -> anyhow::Result<Cluster> {
+        let shape = Shape::new(nodes, FILE, Policy::Wide)?;
+        let server = Box::new(alloc, Server::new(alloc, shape, FILE)?)?;
+        Ok(Cluster {
+            shape,
+            members: Members::new(alloc, shape)?,
+            seats: seats(alloc, shape)?,
+            office: Office::of(alloc, server),
+            sent: 0,
+        })
+    }
+
+    /// The process of the node calls, and letters are read until none is left.
+    pub fn call(&mut self, rt: &HostRuntime, node: u8, op: Op) -> anyhow::Result<()> {
+        println!(rt; "node {node} calls {op:?}")?;
+        let call = NodeEvent::Call { pid: PROCESS, op };
+        self.put(node, NodeLetter::Event(call))?;
+        self.settle(rt)
+    }
+
+    /// So many ticks go by: letters are read after each until none is left.
+    pub fn pass(&mut self, rt: &HostRuntime, ticks: u32) -> anyhow::Result<()> {
+        println!(rt; "{ticks} ticks go by")?;
+        for _ in 0..ticks {
+            for seat in self.seats.iter_mut() {
+                seat.put(NodeLetter::Tick)?;
+            }
+            self.office.put(ServerLetter::Tick)?;
+            self.settle(rt)?;
+        }
+        Ok(())
+    }
+
+    /// The node is dead: it is declared failed, it is fenced, and then the server learns of it.
+    pub fn fail(&mut self, rt: &HostRuntime, node: u8) -> anyhow::Result<()> {
+        let incarnation = self.members.declare(node)?;
+        println!(rt; "node {node} is declared failed in incarnation {incarnation}")?;
+        match self.seats.get_mut(place_of(node)) {
+            Some(seat) => seat.fence(),
+            None => bail!("no seat of node {node}"),
+        }
+        let learn = ServerEvent::Learn { node, incarnation };
+        self.office.put(ServerLetter::Event(learn))?;
+        self.settle(rt)?;
+        self.office.show_node(rt, node)
+    }
+
+    /// The node restarts: empty, in its next incarnation.
+    pub fn restart(&mut self, rt: &HostRuntime, node: u8) -> anyhow::Result<()> {
+        if node == 0 || node > self.shape.nodes() {
+            bail!("no node {node}");
+        }
+        let alloc = rt.alloc();
+        let incarnation = self.members.restart(node)?;
+        println!(rt; "node {node} restarts in incarnation {incarnation}")?;
+        let node_again = Box::new(alloc, Node::new(alloc, self.shape, node, incarnation)?)?;
+        match self.seats.get_mut(place_of(node)) {
+            Some(seat) => *seat = Seat::of(alloc, node_again),
+            None => bail!("no seat of node {node}"),
+        }
+        Ok(())
+    }
+
+    /// Prints which calls are open, and what the server does and knows.
+    pub fn show(&self, rt: &HostRuntime) -> anyhow::Result<()> {
+        for seat in &self.seats {
+            seat.show(rt)?;
+        }
+        self.office.show(rt)
+    }
+
+    // Letters are read, one after the other, until none is left.
+    fn settle(&mut self, rt: &HostRuntime) -> anyhow::Result<()> {
+        for _ in 0..MANY_LETTERS {
+            if !self.step(rt)? {
+                return Ok(());
+            }
+        }
+        bail!("the letters have no end")
+    }
+
+    // The first that has a letter reads it, and what it sends is posted. Whether there was a letter.
+    fn step(&mut self, rt: &HostRuntime) -> anyhow::Result<bool> {
+        let Some(sends) = self.read(rt)? else {
+            return Ok(false);
+        };
+        for message in sends.as_slice() {
+            self.post(rt, message.copy(rt.alloc())?)?;
+        }
+        Ok(true)
+    }
+
+    // The first that has a letter reads it: the nodes by their numbers, and then the server. What it sends.
+    fn read(&mut self, rt: &HostRuntime) -> anyhow::Result<Option<Items<Message>>> {
+        for seat in self.seats.iter_mut() {
+            if let Some(sends) = seat.read(rt)? {
+                return Ok(Some(sends));
+            }
+        }
+        self.office.read(rt)
+    }
+
+    // The message goes into the inbox of its addressee. Each fifth is lost, from the fourth on.
+    fn post(&mut self, rt: &HostRuntime, message: Message) -> anyhow::Result<()> {
+        self.sent = self.sent.wrapping_add(1);
+        let name = name_of(&message);
+        let to = message.addressee();
+        if self.sent % 5 == 4 {
+            println!(rt; "message {}: {name} to {to:?} is lost", self.sent)?;
+            return Ok(());
+        }
+        println!(rt; "message {}: {name} to {to:?}", self.sent)?;
+        match to {
+            Actor::Node(node) => self.put(node, NodeLetter::Event(NodeEvent::Deliver(message))),
+            Actor::Server(_) => self.put_to_server(message),
+        }
+    }
+
+    // The letter goes into the inbox of the node.
+    fn put(&mut self, node: u8, letter: NodeLetter) -> anyhow::Result<()> {
+        match self.seats.get_mut(place_of(node)) {
+            Some(seat) => Ok(seat.put(letter)?),
+            None => bail!("no seat of node {node}"),
+        }
+    }
+
+    // The message goes into the inbox of the server.
+    fn put_to_server(&mut self, message: Message) -> anyhow::Result<()> {
+        let event = ServerEvent::Deliver(message);
+        Ok(self.office.put(ServerLetter::Event(event))?)
+    }
+}
+
+// The place of the node's seat: nodes are numbered from 1.
+fn place_of(node: u8) -> usize {
+    usize::from(node).wrapping_sub(1)
+}
+
+// A seat with each node of the cluster, in its first incarnation.
+fn seats(alloc: Global, shape: Shape) -> anyhow::Result<Vec<Seat>> {
+    let mut seats = Vec::new(alloc);
+    for place in 0..shape.nodes() {
+        let node = Box::new(alloc, Node::new(alloc, shape, place + 1, 1)?)?;
+        seats.push(Seat::of(alloc, node))?;
+    }
+    Ok(seats)
+}

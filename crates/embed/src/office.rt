@@ -1,0 +1,158 @@
+//! The office of the token server.
+use crate::letter::ServerLetter;
+use crate::names::name_of;
+use crate::pace::Pace;
+use crate::shown::show_span;
+use messages::items::Items;
+use messages::message::Message;
+use std::alloc::{AllocError, Global};
+use std::collections::VecDeque;
+use token_queue::token_request::TokenRequest;
+use token_server::event::ServerEvent;
+use token_server::server::Server;
+use token_server::shown_row::ShownRow;
+
+/// The token server with its inbox.
+#[derive(Drop)]
+pub struct Office {
+    server: Box<Server>,
+    inbox: VecDeque<ServerLetter>,
+    // While it does not rest.
+    pace: Option<Pace>,
+}
+
+impl Office {
+    /// The server opens, with nothing to read.
+    pub fn of(alloc: Global, server: Box<Server>) -> Office {
+        Office {
+            server,
+            inbox: VecDeque::new(alloc),
+            pace: None,
+        }
+    }
+
+    /// The letter comes last in the inbox.
+    pub fn put(&mut self, letter: ServerLetter) -> Result<(), AllocError> {
+        self.inbox.push_back(letter)?;
+        Ok(())
+    }
+
+    /// The server reads its first letter, if it has one. What it sends.
+    pub fn read(&mut self, rt: &HostRuntime) -> anyhow::Result<Option<Items<Message>>> {
+        match self.inbox.pop_front() {
+            Some(ServerLetter::Event(event)) => {
+                self.begin(&event);
+                Ok(Some(step(rt.alloc(), &mut self.server, &event)?))
+            }
+            Some(ServerLetter::Tick) => self.tick(rt),
+            None => Ok(None),
+        }
+    }
+
+    // The first distance begins with a step after a rest, and with each answer of a node.
+    fn begin(&mut self, event: &ServerEvent) {
+        if self.pace.is_none() || is_answer(event) {
+            self.pace = Some(Pace::begun());
+        }
+    }
+
+    // A tick goes by: when it is time the server sends again what has no answer. If there is nothing, it rests.
+    fn tick(&mut self, rt: &HostRuntime) -> anyhow::Result<Option<Items<Message>>> {
+        if !is_due(&mut self.pace) {
+            return Ok(Some(Items::new(rt.alloc())));
+        }
+        let change = self.server.plan(rt.alloc(), &ServerEvent::Resend)?;
+        if change.outcome().sends.is_empty() {
+            self.pace = None;
+            return Ok(Some(Items::new(rt.alloc())));
+        }
+        println!(rt; "the server sends again")?;
+        Ok(Some(self.server.apply(change).sends))
+    }
+
+    /// Prints what the server does and knows.
+    pub fn show(&self, rt: &HostRuntime) -> anyhow::Result<()> {
+        let alloc = rt.alloc();
+        for held in self.server.served() {
+            show_request(rt, "served", &held.request)?;
+            println!(rt; "    for the row of node {}", held.at)?;
+        }
+        for request in &self.server.queued(alloc)? {
+            show_request(rt, "queued", request)?;
+        }
+        for request in &self.server.waiting(alloc)? {
+            show_request(rt, "waiting", request)?;
+        }
+        for row in &self.server.rows(alloc)? {
+            show_row(rt, row)?;
+        }
+        for node in &self.server.awaited_nodes(alloc)? {
+            println!(rt; "  awaited: the token of node {node}")?;
+        }
+        Ok(())
+    }
+
+    /// Prints what the server knows of one node.
+    pub fn show_node(&self, rt: &HostRuntime, node: u8) -> anyhow::Result<()> {
+        println!(rt;
+            "  node {node} is known as dead up to incarnation {}",
+            self.server.dead(node)
+        )?;
+        match &self.server.row(rt.alloc(), node)? {
+            Some(row) => show_row(rt, row),
+            None => Ok(println!(rt; "  no row of node {node}")?),
+        }
+    }
+}
+
+// Lets the event happen. What is sent.
+fn step(alloc: Global, server: &mut Server, event: &ServerEvent) -> anyhow::Result<Items<Message>> {
+    let change = server.plan(alloc, event)?;
+    Ok(server.apply(change).sends)
+}
+
+// A tick goes by. Whether it is time to send again; never while the server rests.
+fn is_due(pace: &mut Option<Pace>) -> bool {
+    match pace {
+        Some(pace) => pace.tick(),
+        None => false,
+    }
+}
+
+// Whether it is an answer of a node to a command.
+fn is_answer(event: &ServerEvent) -> bool {
+    match event {
+        ServerEvent::Deliver(message) => matches!(
+            message,
+            Message::Taken { .. }
+                | Message::Released { .. }
+                | Message::Conflict { .. }
+                | Message::Report { .. }
+        ),
+        _ => false,
+    }
+}
+
+// Prints a request that stands in a list.
+fn show_request(rt: &HostRuntime, list: &str, request: &TokenRequest) -> anyhow::Result<()> {
+    let call = request.call;
+    println!(rt; "  {list}: call {} of node {}", call.number, call.node)?;
+    show_span(rt, request.mode, request.required())
+}
+
+// Prints what the server knows of a node.
+fn show_row(rt: &HostRuntime, row: &ShownRow) -> anyhow::Result<()> {
+    let command = match &row.command {
+        Some(message) => name_of(message),
+        None => "nothing",
+    };
+    println!(rt;
+        "  row: node {} in incarnation {}",
+        row.node, row.incarnation
+    )?;
+    println!(rt; "    {command} under way, last command {}", row.number)?;
+    for (span, level) in &row.token {
+        println!(rt; "    {level:?} from {} to {}", span.lo, span.hi)?;
+    }
+    Ok(())
+}
