@@ -12,13 +12,14 @@ use Rattle.recordings.specs.declared.running.Running.{Running}
 use Rattle.recordings.specs.Places.{PlaceFields, is_at}
 
 -- how many nodes there are, and on which the next process is placed that no other made; the files of the script; who runs, and which
--- descriptors are open; the files on which there were lock calls; the lines of the script, and what is noted
+-- descriptors are open; the PIDs of those that stay out of the script; the files on which there were lock calls; the lines of the script, and what is noted
 pub record KnownFields : Type 0 where
   pub nodes : ℕ
   pub next : ℕ
   pub files : List NumberedFile
   pub running : List Running
   pub held : List Held
+  pub left : List ℕ
   pub locked : List NumberedFile
   pub lines : List Line
   pub notes : List Note
@@ -36,6 +37,10 @@ has_pid pid r = r.pid == pid
 
 abbrev pub running_of : List Running → ℕ → Option Running
 running_of running pid = find (has_pid pid) running
+
+-- the process or thread of this PID stays out of the script
+abbrev pub is_left : List ℕ → ℕ → Bool
+is_left left pid = list_any (λ other. other == pid) left
 
 -- it is of this process of the script
 abbrev pub runs_at : PlaceFields → Running → Bool

@@ -1,5 +1,5 @@
 -- What the events of a recording add to a script.
-use Rattle.std.specs.Prelude.{ℕ, ◌+◌, Bool, true, false, ◌&&◌, ◌==◌, nat_lt, not, if◌then◌else◌, is_some, List, [], ◌∷◌, ◌++◌, filter, fold, length, map, Option, Some, None}
+use Rattle.std.specs.Prelude.{ℕ, ◌+◌, Bool, true, false, ◌&&◌, ◌||◌, ◌==◌, nat_lt, not, if◌then◌else◌, is_some, List, [], ◌∷◌, ◌++◌, filter, fold, length, map, Option, Some, None}
 use Rattle.std.specs.List.{list_any}
 use Rattle.messages.specs.Shapes.{most_files}
 use Rattle.model.specs.declared.access.Access.{Access}
@@ -15,12 +15,12 @@ use Rattle.recordings.specs.declared.line.Line.{Line}
 use Rattle.recordings.specs.declared.line.Line.TheVariants.{Begins, Says}
 use Rattle.recordings.specs.declared.numbered_file.NumberedFile.{NumberedFile}
 use Rattle.recordings.specs.declared.reason.Reason.{Reason}
-use Rattle.recordings.specs.declared.reason.Reason.TheVariants.{NotOpen, TooManyDescriptors, TooManyFiles, TooManyProcesses}
+use Rattle.recordings.specs.declared.reason.Reason.TheVariants.{LeftOut, NotOpen, TooManyDescriptors, TooManyFiles, TooManyProcesses}
 use Rattle.recordings.specs.declared.recorded.Happening.{Happening}
 use Rattle.recordings.specs.declared.recorded.Happening.TheVariants as happens
 use Rattle.recordings.specs.declared.recorded.Recorded.{Recorded}
 use Rattle.recordings.specs.declared.running.Running.{Running}
-use Rattle.recordings.specs.Known.{KnownFields, file_of, free_place, free_slot, has_pid, held_by, is_file, is_held, is_of, running_of, runs_at}
+use Rattle.recordings.specs.Known.{KnownFields, file_of, free_place, free_slot, has_pid, held_by, is_file, is_held, is_left, is_of, running_of, runs_at}
 use Rattle.recordings.specs.Places.{PlaceFields}
 
 abbrev pub with_line : Line → KnownFields → KnownFields
@@ -38,20 +38,30 @@ with_running pid place is_thread k = record k { running = k.running ++ record { 
 abbrev pub with_held : PlaceFields → ℕ → ℕ → Option ℕ → KnownFields → KnownFields
 with_held place fd path slot k = record k { held = k.held ++ record { place = place; fd = fd; path = path; slot = slot } ∷ [] }
 
+-- the process or thread of that PID stays out of the script, and that one no more
+abbrev pub with_left : ℕ → KnownFields → KnownFields
+with_left pid k = record k { left = k.left ++ pid ∷ [] }
+
+abbrev pub without_left : ℕ → KnownFields → KnownFields
+without_left pid k = record k { left = filter (λ other. not (other == pid)) k.left }
+
+abbrev pub left_out : ℕ → ℕ → Reason → KnownFields → KnownFields
+left_out line pid reason k = with_left pid (with_note line reason k)
+
 -- the node behind this one, or the first behind the last
 abbrev pub node_after : ℕ → ℕ → ℕ
 node_after nodes node = if nat_lt node nodes then node + 1 else 1
 
--- a process that no other made begins, if its node has room
+-- a process that no other made begins, or stays out where its node has no room
 unfoldable pub begun : ℕ → ℕ → Option PlaceFields → KnownFields → KnownFields
-begun line pid None k = with_note line TooManyProcesses k
+begun line pid None k = left_out line pid TooManyProcesses k
 begun line pid (Some place) k =
     let spawned = with_running pid place false (with_call place Spawn (with_line (Begins place pid) k)) in
     record spawned { next = node_after k.nodes k.next }
 
--- the process of that PID runs, or begins
+-- the process of that PID runs, stays out, or begins
 unfoldable pub arrived : ℕ → ℕ → KnownFields → KnownFields
-arrived line pid k = if is_some (running_of k.running pid) then k else begun line pid (free_place k.running k.next) k
+arrived line pid k = if is_some (running_of k.running pid) || is_left k.left pid then k else begun line pid (free_place k.running k.next) k
 
 -- a descriptor of the script is closed, if the recorded one is there
 abbrev pub shut_slot : PlaceFields → Option ℕ → KnownFields → KnownFields
@@ -96,9 +106,9 @@ in_child place h = record h { place = place }
 abbrev pub with_inherited : PlaceFields → PlaceFields → KnownFields → KnownFields
 with_inherited parent place k = record k { held = k.held ++ map (in_child place) (filter (is_of parent) k.held) }
 
--- the process makes another on its node, if that has room
+-- the process makes another on its node, which stays out where that has no room
 unfoldable pub forked : ℕ → PlaceFields → ℕ → Option PlaceFields → KnownFields → KnownFields
-forked line parent child None k = with_note line TooManyProcesses k
+forked line parent child None k = left_out line child TooManyProcesses k
 forked line parent child (Some place) k =
     with_inherited parent place (with_running child place false (with_call parent (Fork place.number) (with_line (Begins place child) k)))
 
@@ -178,21 +188,26 @@ unfoldable pub closes : Option Running → ℕ → KnownFields → KnownFields
 closes None fd k = k
 closes (Some r) fd k = closed r.place fd k
 
+-- of one that stays out the children and threads do too
 unfoldable pub forks : ℕ → Option Running → ℕ → KnownFields → KnownFields
-forks line None child k = k
+forks line None child k = left_out line child LeftOut k
 forks line (Some r) child k = forked line r.place child (free_place k.running r.place.node) k
 
 unfoldable pub starts_thread : Option Running → ℕ → KnownFields → KnownFields
-starts_thread None thread k = k
+starts_thread None thread k = with_left thread k
 starts_thread (Some r) thread k = with_running thread r.place true k
 
--- the process or thread of that PID exits, if it runs
+-- the process or thread of that PID exits, if it runs, or stays out no more
 unfoldable pub gone : ℕ → Bool → KnownFields → KnownFields
-gone pid whole k = exited pid whole (running_of k.running pid) k
+gone pid whole k = exited pid whole (running_of k.running pid) (without_left pid k)
 
 -- what is known before a PID is given to a process or thread that another makes
 unfoldable pub before_child : ℕ → ℕ → ℕ → KnownFields → KnownFields
 before_child line pid child k = gone child true (arrived line pid k)
+
+-- a lock call of a process or thread
+unfoldable pub asks : ℕ → ℕ → ℕ → Asked → KnownFields → KnownFields
+asks line pid fd asked k = if is_left k.left pid then with_note line LeftOut k else asked_through line asked (held_of k (running_of k.running pid) fd) k
 
 -- what an event adds
 unfoldable pub happened : ℕ → ℕ → Happening → KnownFields → KnownFields
@@ -209,7 +224,7 @@ happened line pid (happens.StartsThread thread) k =
     let there = before_child line pid thread k in
     starts_thread (running_of there.running pid) thread there
 happened line pid (happens.Exits whole) k = gone pid whole k
-happened line pid (happens.Asks fd asked) k = asked_through line asked (held_of k (running_of k.running pid) fd) k
+happened line pid (happens.Asks fd asked) k = asks line pid fd asked k
 happened line pid (happens.Returns fd) k = returned (held_of k (running_of k.running pid) fd) k
 happened line pid (happens.GivesUp fd) k = given_up (held_of k (running_of k.running pid) fd) k
 happened line pid (happens.Unserved reason) k = with_note line reason k
@@ -219,7 +234,7 @@ step k e = happened e.line e.pid e.happening k
 
 -- nobody runs yet; the script will be of these files
 abbrev pub start : ℕ → List NumberedFile → KnownFields
-start nodes files = record { nodes = nodes; next = 1; files = files; running = []; held = []; locked = []; lines = []; notes = [] }
+start nodes files = record { nodes = nodes; next = 1; files = files; running = []; held = []; left = []; locked = []; lines = []; notes = [] }
 
 -- what is known behind the events
 abbrev pub known : ℕ → List NumberedFile → List Recorded → KnownFields

@@ -2,7 +2,7 @@
 use Rattle.std.specs.Prelude.{◌≡◌, ℕ, ◌-◌, ◌==◌, nat_lt, if◌then◌else◌, List, [], ◌∷◌, ◌++◌, codes, decimal, flat_map, length, slice_get, take, Option, Some, None}
 use Rattle.std.specs.Borrow.{Bor}
 use Rattle.texts.specs.LineFeeds.{line_feed}
-use Rattle.lockscript.specs.Scripts.{command_text, shape_text}
+use Rattle.lockscript.specs.Scripts.{IsFirstBad, command_text, shape_text}
 use Rattle.messages.specs.Shapes.{ShapeFields}
 use Rattle.messages.specs.declared.version.Version.TheVariants.{Second}
 use Rattle.model.specs.declared.policy.Policy.TheVariants.{Wide}
@@ -11,7 +11,7 @@ use Rattle.recordings.specs.declared.line.Line.TheVariants.{Begins, Says}
 use Rattle.recordings.specs.declared.note.Note.{Note}
 use Rattle.recordings.specs.declared.numbered_file.NumberedFile.{NumberedFile}
 use Rattle.recordings.specs.declared.reason.Reason.{Reason}
-use Rattle.recordings.specs.declared.reason.Reason.TheVariants.{NotUnderstood, NoProcess, NotBegun, Whence, Relative, Executes, NotOpen, TooManyFiles, TooManyProcesses, TooManyDescriptors}
+use Rattle.recordings.specs.declared.reason.Reason.TheVariants.{NotUnderstood, NoProcess, NotBegun, Whence, Relative, Executes, NotOpen, TooManyFiles, TooManyProcesses, TooManyDescriptors, LeftOut, NoEnd}
 use Rattle.recordings.specs.declared.recorded.Recorded.{Recorded}
 use Rattle.recordings.specs.Steps.{known_at_end}
 
@@ -60,6 +60,8 @@ reason_text NotOpen = codes "no open of the descriptor is recorded"
 reason_text TooManyFiles = codes "256 other files have locks"
 reason_text TooManyProcesses = codes "the node has 256 other processes"
 reason_text TooManyDescriptors = codes "the process had 64 other descriptors when it got this one"
+reason_text LeftOut = codes "the process is left out"
+reason_text NoEnd = codes "the end of the call that makes a process is not recorded"
 
 abbrev pub note_text : Note → List ℕ
 note_text n = codes "line " ++ decimal n.line ++ codes ": " ++ reason_text n.reason ++ codes "\n"
@@ -93,3 +95,11 @@ pub record IsOfEvents (nodes : ℕ) (script notes : List ℕ) : Type 0 where
   pub events : List Recorded
   pub script_is : script ≡ script_made paths nodes events
   pub notes_are : notes ≡ notes_made nodes events
+
+-- the text is no script, since a line may not stand there
+abbrev pub HasBadLine : List ℕ → Type 0
+HasBadLine text = (line : ℕ) × IsFirstBad text line
+
+-- some events make a text on so many nodes that is no script
+abbrev pub SomeMakeNone : ℕ → Type 0
+SomeMakeNone nodes = (paths : List (Bor (List ℕ))) × (events : List Recorded) × HasBadLine (script_made paths nodes events)

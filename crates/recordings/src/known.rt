@@ -3,14 +3,14 @@ ghost use Rattle.std.specs.Prelude.{◌≡◌, OnOk};
 ghost use Rattle.model.specs.Limits.{IsNumber, most_nodes};
 ghost use Rattle.lockscript.specs.Served.{IsServedOp};
 ghost use Rattle.recordings.specs.Known.{file_of, running_of};
-ghost use Rattle.recordings.specs.Steps.{arrived, asked_by, asked_through, before_child, begun, bound, closed, closes, copied, duplicated, duplicates, ended, exited, forked, forks, given_up, gone, happened, held_of, node_after, op_of, opened, opens, returned, shut, start, starts_thread, step, why_not, with_call, with_held, with_line, with_locked, with_note, with_running};
+ghost use Rattle.recordings.specs.Steps.{arrived, asked_by, asked_through, asks, before_child, begun, bound, closed, closes, copied, duplicated, duplicates, ended, exited, forked, forks, given_up, gone, happened, held_of, left_out, node_after, op_of, opened, opens, returned, shut, start, starts_thread, step, why_not, with_call, with_held, with_left, with_line, with_locked, with_note, with_running};
 
 use crate::asked::{Asked, Wish};
 use crate::held::Held;
 use crate::line::Line;
 use crate::lists::{
-    file_of, free_place, free_slot, has_room, held_by, inherit, remove_all_held, remove_held,
-    remove_pid, remove_process, running_of,
+    file_of, free_place, free_slot, has_room, held_by, inherit, is_left, remove_all_held,
+    remove_held, remove_left, remove_pid, remove_process, running_of,
 };
 use crate::note::Note;
 use crate::numbered_file::NumberedFile;
@@ -34,6 +34,8 @@ pub(crate) struct Known {
     files: Vec<NumberedFile>,
     running: Vec<Running>,
     held: Vec<Held>,
+    // The PIDs of those that stay out of the script.
+    left: Vec<u32>,
     locked: Vec<NumberedFile>,
     lines: Vec<Line>,
     notes: Vec<Note>,
@@ -45,7 +47,7 @@ impl Model for Known {
 
     ghost Value = { KnownFields };
 
-    ghost view = { λ k. record { nodes = k.nodes; next = k.next; files = k.files.items; running = k.running.items; held = k.held.items; locked = k.locked.items; lines = k.lines.items; notes = k.notes.items } };
+    ghost view = { λ k. record { nodes = k.nodes; next = k.next; files = k.files.items; running = k.running.items; held = k.held.items; left = k.left.items; locked = k.locked.items; lines = k.lines.items; notes = k.notes.items } };
 
     ghost invariant = { λ k. IsNumber most_nodes k.nodes × IsNumber most_nodes k.next };
 }
@@ -62,6 +64,7 @@ impl Known {
             files,
             running: Vec::new(alloc),
             held: Vec::new(alloc),
+            left: Vec::new(alloc),
             locked: Vec::new(alloc),
             lines: Vec::new(alloc),
             notes: Vec::new(alloc),
@@ -87,40 +90,22 @@ impl Known {
             Happening::Nothing => Ok(()),
             Happening::Opens { fd, path, access } => {
                 self.arrive(line, pid)?;
-                let by = self.running(pid);
-                self.open(by, *fd, *path, *access)
+                self.open(self.running(pid), *fd, *path, *access)
             }
-            Happening::Duplicates { fd, to } => {
-                let by = self.running(pid);
-                self.duplicate(by, *fd, *to)
-            }
-            Happening::Closes { fd } => {
-                let by = self.running(pid);
-                self.close(by, *fd)
-            }
+            Happening::Duplicates { fd, to } => self.duplicate(self.running(pid), *fd, *to),
+            Happening::Closes { fd } => self.close(self.running(pid), *fd),
             Happening::Forks { child } => {
                 self.make_room(line, pid, *child)?;
-                let by = self.running(pid);
-                self.fork(line, by, *child)
+                self.fork(line, self.running(pid), *child)
             }
             Happening::StartsThread { thread } => {
                 self.make_room(line, pid, *thread)?;
-                let by = self.running(pid);
-                self.start_thread(by, *thread)
+                self.start_thread(self.running(pid), *thread)
             }
             Happening::Exits { whole } => self.end_pid(pid, *whole),
-            Happening::Asks { fd, asked } => {
-                let held = self.held(pid, *fd);
-                self.ask(line, asked, held)
-            }
-            Happening::Returns { fd } => {
-                let held = self.held(pid, *fd);
-                self.settle(held)
-            }
-            Happening::GivesUp { fd } => {
-                let held = self.held(pid, *fd);
-                self.give_up(held)
-            }
+            Happening::Asks { fd, asked } => self.ask_of(line, pid, *fd, asked),
+            Happening::Returns { fd } => self.settle(self.held(pid, *fd)),
+            Happening::GivesUp { fd } => self.give_up(self.held(pid, *fd)),
             Happening::Unserved(reason) => self.push_note(line, *reason),
         }
     }
@@ -197,12 +182,28 @@ impl Known {
         Ok(())
     }
 
-    // The process of that PID runs, or begins.
+    // The process or thread of that PID stays out of the script from now on.
+    fn push_left(&mut self, pid: u32) -> Result<(), AllocError>
+        ensures { OnOk result (self.new ≡ with_left pid self.old) }
+    {
+        self.left.push(pid)?;
+        Ok(())
+    }
+
+    // The same, with a note.
+    fn leave_out(&mut self, line: u64, pid: u32, reason: Reason) -> Result<(), AllocError>
+        ensures { OnOk result (self.new ≡ left_out line pid reason self.old) }
+    {
+        self.push_note(line, reason)?;
+        self.push_left(pid)
+    }
+
+    // The process of that PID runs, stays out, or begins.
     #[tactic(auto, unfolding(crate::specs::Steps::arrived))]
     fn arrive(&mut self, line: u64, pid: u32) -> Result<(), AllocError>
         ensures { OnOk result (self.new ≡ arrived line pid self.old) }
     {
-        if self.running(pid).is_some() {
+        if self.running(pid).is_some() || is_left(&self.left, pid) {
             return Ok(());
         }
         let next = self.next;
@@ -210,13 +211,13 @@ impl Known {
         self.begin(line, pid, place)
     }
 
-    // A process that no other made begins, if its node has room.
+    // A process that no other made begins, or stays out where its node has no room.
     #[tactic(auto, unfolding(crate::specs::Steps::begun))]
     fn begin(&mut self, line: u64, pid: u32, place: Option<Place>) -> Result<(), AllocError>
         ensures { OnOk result (self.new ≡ begun line pid place self.old) }
     {
         let Some(place) = place else {
-            return self.push_note(line, Reason::TooManyProcesses);
+            return self.leave_out(line, pid, Reason::TooManyProcesses);
         };
         self.push_line(Line::Begins { place, pid })?;
         self.push_call(place, Op::Spawn)?;
@@ -384,7 +385,7 @@ impl Known {
         self.end_pid(child, true)
     }
 
-    // The process or thread makes a process.
+    // The process or thread makes a process, which stays out where that one does.
     #[tactic(auto, unfolding(crate::specs::Steps::forks))]
     fn fork(&mut self, line: u64, by: Option<Running>, child: u32) -> Result<(), AllocError>
         ensures { OnOk result (self.new ≡ forks line by child self.old) }
@@ -394,11 +395,11 @@ impl Known {
                 let place = free_place(&self.running, one.place.node());
                 self.fork_at(line, one.place, child, place)
             }
-            None => Ok(()),
+            None => self.leave_out(line, child, Reason::LeftOut),
         }
     }
 
-    // The process makes another one, if its node has room.
+    // The process makes another one, which stays out where its node has no room.
     #[tactic(auto, unfolding(crate::specs::Steps::forked))]
     fn fork_at(
         &mut self,
@@ -410,7 +411,7 @@ impl Known {
         ensures { OnOk result (self.new ≡ forked line parent pid place self.old) }
     {
         let Some(place) = place else {
-            return self.push_note(line, Reason::TooManyProcesses);
+            return self.leave_out(line, pid, Reason::TooManyProcesses);
         };
         let child = place.number();
         self.push_line(Line::Begins { place, pid })?;
@@ -419,22 +420,23 @@ impl Known {
         inherit(&mut self.held, parent, place)
     }
 
-    // The process or thread makes a thread.
+    // The process or thread makes a thread, which stays out where that one does.
     #[tactic(auto, unfolding(crate::specs::Steps::starts_thread))]
     fn start_thread(&mut self, by: Option<Running>, thread: u32) -> Result<(), AllocError>
         ensures { OnOk result (self.new ≡ starts_thread by thread self.old) }
     {
         match by {
             Some(one) => self.push_running(thread, one.place, true),
-            None => Ok(()),
+            None => self.push_left(thread),
         }
     }
 
-    // The process or thread of that PID exits, if it runs.
+    // The process or thread of that PID exits, if it runs, or stays out no more.
     #[tactic(auto, unfolding(crate::specs::Steps::gone))]
     fn end_pid(&mut self, pid: u32, whole: bool) -> Result<(), AllocError>
         ensures { OnOk result (self.new ≡ gone pid whole self.old) }
     {
+        remove_left(&mut self.left, pid);
         let one = self.running(pid);
         self.exit(pid, whole, one)
     }
@@ -463,6 +465,18 @@ impl Known {
         remove_process(&mut self.running, place);
         remove_all_held(&mut self.held, place);
         Ok(())
+    }
+
+    // The process or thread of that PID makes a lock call.
+    #[tactic(auto, unfolding(crate::specs::Steps::asks))]
+    fn ask_of(&mut self, line: u64, pid: u32, fd: u32, asked: &Asked) -> Result<(), AllocError>
+        ensures { OnOk result (self.new ≡ asks line pid fd asked.now self.old) }
+    {
+        if is_left(&self.left, pid) {
+            return self.push_note(line, Reason::LeftOut);
+        }
+        let held = self.held(pid, fd);
+        self.ask(line, asked, held)
     }
 
     // A lock call is made through a descriptor.

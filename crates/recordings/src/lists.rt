@@ -1,9 +1,9 @@
 //! What lists of processes, descriptors and files have.
-ghost use Rattle.std.specs.Prelude.{◌≡◌, filter, not, IfOk, OnOk, map, ◌++◌};
+ghost use Rattle.std.specs.Prelude.{◌≡◌, ◌==◌, filter, not, IfOk, OnOk, map, ◌++◌};
 ghost use Rattle.std.specs.List.{list_any};
 ghost use Rattle.std.specs.Option.{option_map};
 ghost use Rattle.model.specs.Limits.{IsNumber, most_nodes};
-ghost use Rattle.recordings.specs.Known.{file_of, free_place, free_slot, has_pid, has_slot, held_by, is_file, is_held, is_of, is_slot, place_of, running_of, runs_at};
+ghost use Rattle.recordings.specs.Known.{file_of, free_place, free_slot, has_pid, has_slot, held_by, is_file, is_held, is_left, is_of, is_slot, place_of, running_of, runs_at};
 ghost use Rattle.recordings.specs.Steps.{has_room, in_child};
 
 use crate::held::Held;
@@ -152,6 +152,20 @@ pub(crate) fn remove_pid(running: &mut Vec<Running>, pid: u32)
     ensures { running.new.items ≡ filter (λ t. not (has_pid pid t)) running.old.items }
 {
     running.retain(|one| one.pid != pid);
+}
+
+/// Whether the process or thread of this PID is one of these.
+pub(crate) fn is_left(left: &[u32], pid: u32) -> bool
+    ensures { result ≡ is_left left.now pid }
+{
+    left.iter().any(|other| *other == pid)
+}
+
+/// The process or thread of this PID is none of these any more.
+pub(crate) fn remove_left(left: &mut Vec<u32>, pid: u32)
+    ensures { left.new.items ≡ filter (λ other. not (other == pid)) left.old.items }
+{
+    left.retain(|other| *other != pid);
 }
 
 /// The child gets the descriptors that its parent has.

@@ -15,6 +15,8 @@ enum Start {
     Asked(u32),
     /// It makes a process or thread, which the event at this index is to tell of.
     Made(usize),
+    /// It executes a program, which the event at this index tells of.
+    Executes(usize),
     /// It is among the events, or it isn't served.
     Told,
 }
@@ -195,12 +197,16 @@ impl<'a> Reader<'a> {
             "fcntl" | "fcntl64" => return self.begin_fcntl(line, pid, arguments),
             "clone" | "clone3" | "fork" | "vfork" => {
                 let index = self.trace.events.len();
-                self.push(line, pid, Happening::Nothing)?;
+                self.push(line, pid, Happening::Unserved(Reason::NoEnd))?;
                 return Ok(Start::Made(index));
+            }
+            "execve" | "execveat" => {
+                let index = self.trace.events.len();
+                self.push(line, pid, Happening::Unserved(Reason::Executes))?;
+                return Ok(Start::Executes(index));
             }
             "close" => close_of(arguments),
             "exit_group" => Happening::Exits { whole: true },
-            "execve" | "execveat" => Happening::Unserved(Reason::Executes),
             _ => return Ok(Start::Nothing),
         };
         self.push(line, pid, happening)?;
@@ -246,6 +252,12 @@ impl<'a> Reader<'a> {
             Start::Asked(fd) => self.end_asked(line, open.pid, fd, gave),
             Start::Made(index) => {
                 self.tell_child(index, open.arguments, gave);
+                Ok(())
+            }
+            Start::Executes(index) => {
+                if gave.starts_with("-1") {
+                    self.tell(index, Happening::Nothing);
+                }
                 Ok(())
             }
             Start::Nothing => match number_in(gave) {
@@ -319,15 +331,20 @@ impl<'a> Reader<'a> {
 
     // The event at this index tells of the process or thread that a call made, if it made one.
     fn tell_child(&mut self, index: usize, arguments: &str, gave: &str) {
-        let Some(child) = number_in(gave) else {
-            return;
+        let happening = match number_in(gave) {
+            Some(thread) if arguments.contains("CLONE_THREAD") => {
+                Happening::StartsThread { thread }
+            }
+            Some(child) => Happening::Forks { child },
+            None => Happening::Nothing,
         };
+        self.tell(index, happening);
+    }
+
+    // The event at this index tells of this.
+    fn tell(&mut self, index: usize, happening: Happening) {
         if let Some(event) = self.trace.events.get_mut(index) {
-            event.happening = if arguments.contains("CLONE_THREAD") {
-                Happening::StartsThread { thread: child }
-            } else {
-                Happening::Forks { child }
-            };
+            event.happening = happening;
         }
     }
 }

@@ -25,6 +25,10 @@ pub enum Reason {
     TooManyProcesses,
     /// The process had 64 other descriptors when it got this one.
     TooManyDescriptors,
+    /// The process is left out.
+    LeftOut,
+    /// The end of a call that makes a process or thread isn't recorded.
+    NoEnd,
 }
 
 impl Reason {
@@ -44,6 +48,8 @@ impl Reason {
             Reason::TooManyProcesses => "the node has 256 other processes",
             Reason::TooManyDescriptors =>
                 "the process had 64 other descriptors when it got this one",
+            Reason::LeftOut => "the process is left out",
+            Reason::NoEnd => "the end of the call that makes a process is not recorded",
         }
     }
 }

@@ -1,9 +1,10 @@
 //! Scripts of recordings.
-ghost use Rattle.std.specs.Prelude.{◌≡◌, ◌++◌, string_bytes, IfOk, OnOk};
+ghost use Rattle.std.specs.Prelude.{◌≡◌, ◌≢◌, ◌++◌, string_bytes, IfErr, IfOk, OnOk};
 ghost use Rattle.model.specs.Limits.{IsNumber, most_nodes};
 ghost use Rattle.lockscript.specs.Scripts.{HasScript};
-ghost use Rattle.recordings.specs.Texts.{IsOfEvents, notes_made, script_made, script_text};
+ghost use Rattle.recordings.specs.Texts.{HasBadLine, IsOfEvents, SomeMakeNone, notes_made, script_made, script_text};
 ghost use Rattle.recordings.specs.Steps.{known, known_at_end};
+ghost use Rattle.recordings.specs.declared.error.RecordingError.TheVariants.{Nodes, TooLong};
 
 use crate::error::RecordingError;
 use crate::known::Known;
@@ -31,6 +32,11 @@ pub struct Recording {
 pub fn script_of(alloc: Global, recorded: &str, nodes: u8) -> Result<Recording, RecordingError>
     ensures good { IfOk result (λ made. HasScript (string_bytes made.script)) }
     ensures events { IfOk result (λ made. IsOfEvents nodes (string_bytes made.script) (string_bytes made.notes)) }
+
+    // A number of nodes that a cluster can't have is refused, and no other; what would be no script is too.
+    ensures served { IfOk result (λ made. IsNumber most_nodes nodes) }
+    ensures nodes { IfErr result (λ error. error ≡ Nodes → ¬ (IsNumber most_nodes nodes)) }
+    ensures long { IfErr result (λ error. error ≡ TooLong → SomeMakeNone nodes) }
 {
     let trace = events_of(alloc, recorded)?;
     script_from(alloc, trace.paths(), trace.events(), nodes)
@@ -49,6 +55,9 @@ pub fn script_from(
     ensures script { IfOk result (λ made. string_bytes made.script ≡ script_made paths.now nodes events.now) }
     ensures good { IfOk result (λ made. HasScript (string_bytes made.script)) }
     ensures notes { IfOk result (λ made. string_bytes made.notes ≡ notes_made nodes events.now) }
+    ensures served { IfOk result (λ made. IsNumber most_nodes nodes) }
+    ensures nodes { IfErr result (λ error. error ≡ Nodes → ¬ (IsNumber most_nodes nodes)) }
+    ensures long { IfErr result (λ error. error ≡ TooLong → HasBadLine (script_made paths.now nodes events.now)) }
 {
     if nodes < 1 || nodes > MOST_NODES {
         return Err(RecordingError::Nodes);
@@ -64,7 +73,9 @@ pub fn script_from(
 
 // Whether the text is that of a script, as it is where it has at most so many lines as a script can have.
 fn check_script(alloc: Global, text: &str) -> Result<(), RecordingError>
-    ensures { OnOk result (HasScript text.now) }
+    ensures good { OnOk result (HasScript text.now) }
+    ensures nodes { IfErr result (λ error. error ≢ Nodes) }
+    ensures long { IfErr result (λ error. error ≡ TooLong → HasBadLine text.now) }
 {
     match Script::parse(alloc, text) {
         Ok(_) => Ok(()),
