@@ -12,8 +12,9 @@ Exit status:
      stopped as stuck; explore: an outcome is not as expected; from-strace: a part of
      the recording is not served
   2  the words of the command line are refused
-  3  SCRIPT or JOURNAL has a bad line or can't be read, JOURNAL is too old to go on
-     from, or FILE or the text can't be written; check: the file has bad lines
+  3  SCRIPT or JOURNAL has a bad line, that or RECORDING can't be read, JOURNAL is too
+     old to go on from, or FILE or the text can't be written; check: the file has bad
+     lines
   4  no memory, or more entries than a journal may have (1048576)
 A line on standard error says which, of 2 to 4.
 
@@ -201,17 +202,20 @@ program. The files that are locked and the processes are numbered. Each recorded
 that no other began is placed on a node, of the N nodes in turn, and its children on its
 node.
 
-What is not served is told on standard error, in a line for each line of RECORDING; the
-script is that of the other lines, and the exit status is 1. Else it is 0.";
+What is not served is told on standard error, by the line of RECORDING, the first hundred
+times, and then how often more; the script is that of the other lines, and the exit
+status is 1. Else it is 0.";
 
 /// What stands under the options of `explore`.
 pub(crate) const EXPLORE_NOTES: &str = "\
 The script is one that 'lockreplay threads' takes. It is run under COUNT schedules, of
 the seeds from N on, in which messages are reordered, lost and repeated. With --failures
-nodes and servers fail too. The text tells the distinct outcomes: how often each came,
-and its first seed, whose schedule 'lockreplay schedule' prints.
+a node and a server may fail too, by chance and once each at most. The text tells the
+distinct outcomes: how often each came, and its first seed, whose schedule 'lockreplay
+schedule' prints.
 
-A comment line behind a 'call' line says what its reply begins with:
+A comment line right behind a 'call' line says what its reply begins with, letter by
+letter:
   # expect WORDS
 Outcomes in which a reply begins otherwise are told first, and the exit status is 1.
 Where there are none, it is 0.";
@@ -221,7 +225,7 @@ pub(crate) const SCHEDULE_NOTES: &str = "\
 The script is one that 'lockreplay threads' takes. The text is the script of the
 schedule of seed N, which 'lockreplay explore' runs: with 'deliver', 'lose' and other
 lines, which say what becomes of each message. 'lockreplay run' replays it. With
---failures nodes and servers fail in it, as with 'lockreplay explore --failures'.";
+--failures a node and a server may fail in it, as with 'lockreplay explore --failures'.";
 
 /// What stands under the options of `check`.
 pub(crate) const CHECK_NOTES: &str = "\

@@ -32,8 +32,8 @@ const MOST_LINES: u32 = 100_000;
 /// goes on; then all messages are settled, and the line that is no call has its turn. With `failures` a node and
 /// a server may be declared failed at some time, and begin again later.
 ///
-/// A schedule has at most 64 lines and 40 more for each call, and no more than 100,000; where it ends so, later
-/// calls are not made.
+/// A schedule has at most 64 lines and 40 more for each line of the script behind its `cluster` line, and no more
+/// than 100,000; where it ends so, later calls are not made.
 ///
 /// # Errors
 /// `JournalFull` where the run needs more entries than a journal may have; `NoMemory` where a request for
@@ -132,10 +132,8 @@ fn line_limit(lines: &[ScriptLine]) -> u32
     ensures { result ≤ most_lines + 2 }
 {
     let mut limit: u32 = 64;
-    for line in lines {
-        if let Command::Call { .. } = line.command() {
-            limit = limit.saturating_add(40);
-        }
+    for _ in lines {
+        limit = limit.saturating_add(40);
     }
     limit.min(MOST_LINES) + FIRST_LINE
 }
