@@ -378,6 +378,43 @@ awk 'BEGIN {
 }' >regions.listing
 try 'more regions than there may be' 0 regions.listing none run regions.lock
 
+# A process locks 150 places of five bytes, with five free bytes after each, in an order in which most come between others. Then the gaps are
+# locked too, in another order, and all comes to one region.
+places() {
+    cat empty.lock
+    printf 'call 1 1 spawn\ncall 1 1 open 1 rw\ncall 1 1 set 0 proc read 0 5\nsettle\n'
+    awk 'BEGIN { for (step = 1; step < 150; step++) print "call 1 1 set 0 proc read " 10 * (step * 7 % 150) " 5" }'
+}
+gaps() {
+    awk 'BEGIN { for (step = 0; step < 149; step++) print "call 1 1 set 0 proc read " 10 * (step * 11 % 149) + 5 " 5" }'
+}
+# The listing of the calls of such a script on standard input. (The first lock is done at 5, once its token comes.)
+places_listing() {
+    awk -v joined="$1" '/^call/ {
+        at = ++count < 3 ? count : count + (count == 3 ? 2 : 3)
+        reply = $4 == "open" ? "fd 0" : "done"
+        op = $0
+        sub(/^call 1 1 /, "", op)
+        replies[count] = sprintf("%7d %-16s %s", at, "1.1." count, reply)
+        history[count] = sprintf("%7d %-16s 1 %s -> %s", at, "1.1." count, op, reply)
+    }
+    END {
+        print "refused\nreplies"
+        for (i = 1; i <= count; i++) print replies[i]
+        print "tokens\n1.1        1                   0 9223372036854775807 shared\nlocks"
+        if (joined) printf "%-16s   1 %19d %19d read\n", "p1@1.1", 0, 1494
+        else for (lo = 0; lo < 1500; lo += 10) printf "%-16s   1 %19d %19d read\n", "p1@1.1", lo, lo + 4
+        print "history"
+        for (i = 1; i <= count; i++) print history[i]
+    }'
+}
+places >places.lock
+places_listing 0 <places.lock >places.listing
+try 'regions that are made between others' 0 places.listing none run places.lock
+gaps >>places.lock
+places_listing 1 <places.lock >places.listing
+try 'regions that become one' 0 places.listing none run places.lock
+
 # A node restarts until it has the greatest incarnation, and then no more.
 {
     cat empty.lock
@@ -462,6 +499,31 @@ printf 'cluster nodes 1 files 1 policy wide\n' >wanted.lock
 try 'a recording of nothing' 0 wanted.lock none from-strace empty.strace
 echo settle >>wanted.lock
 try 'a schedule of nothing' 0 wanted.lock none schedule empty.lock
+
+# What is left out of the words: the least seed of a schedule, its failures, how many schedules and nodes there are, and the format. The
+# name of the case, the words without it, and then those with it, which come to the same.
+try_same() {
+    local name=$1
+    timeout 120 "$program" $2 >wanted 2>came.err </dev/null
+    judge "$name, left out" 0 $? none none none came.err
+    try "$name" 0 wanted none $3
+}
+try_same 'a hundred schedules from seed 1' 'explore first.lock' 'explore --first 1 first.lock --seeds=100'
+try_same 'the schedule of seed 1' 'schedule first.lock' 'schedule --seed=1 first.lock'
+try_same 'a recording on one node' "from-strace $tests/../examples/sqlite.strace" "from-strace --nodes 1 $tests/../examples/sqlite.strace"
+try_same 'a picture in SVG' 'picture written.journal' 'picture --format=svg written.journal --from 1 --to 4294967295'
+for failures in '' --failures; do
+    for seed in 0 4294967295; do
+        timeout 120 "$program" schedule first.lock $failures --seed $seed >came.lock 2>came.err </dev/null
+        judge "the schedule of seed $seed $failures" 0 $? none none none came.err
+        try_text "the run of that schedule" 0 out history run came.lock
+        try_text "the outcome of that schedule" 0 out "outcome 1: 1 of 1 seeds, first $seed" \
+            explore --seeds 1 first.lock --first=$seed $failures
+    done
+done
+echo 'cluster nodes 64 files 1 policy wide' >first-line
+timeout 120 "$program" from-strace "$tests/../examples/sqlite.strace" --nodes 64 2>came.err </dev/null | sed -n '/^cluster/p' >came.out
+judge 'a recording on 64 nodes' 0 0 first-line came.out none came.err
 cat first.journal first.journal >written.journal
 try 'a run with its journal in the place of a longer file' 0 first.listing none run first.lock --journal written.journal
 cmp -s first.journal written.journal
@@ -630,6 +692,36 @@ came=$?
     printf 'locks\nhistory\nreceipts 12\naudit yes\n'
 } >wanted
 judge 'three clients that wait on threads' 0 "$came" wanted came.out none came.err
+
+# A lock that two processes of a node pass on to each other. While one waits for it, the other makes twenty calls and then gives it up: no step of
+# the node comes between that and the reply of the wait. (How many waits were open then, and how many such steps there are.)
+{
+    cat empty.lock
+    printf 'call 1 1 spawn\ncall 1 1 open 1 rw\ncall 1 1 set 0 proc write 0 10\nsettle\ncall 1 2 spawn\ncall 1 2 open 1 rw\nsettle\n'
+    for round in 1 2 3 4 5; do
+        for pid in 1 2; do
+            echo "call 1 $((3 - pid)) wait 0 proc write 0 10"
+            for _ in $(seq 20); do echo "call 1 $pid query 0 proc read 90 10"; done
+            printf 'call 1 %s unlock 0 proc 0 10\nsettle\n' $pid
+        done
+    done
+} >passed-on.lock
+timeout 120 "$program" threads passed-on.lock --journal threads.journal >threads.out 2>came.err </dev/null
+came=$?
+{
+    tail -n 2 threads.out
+    awk '$1 == "entry" { at = $2 }
+    $1 == "entry" && ($3 ~ /^(call|retry|interrupt)$/ || $3 == "deliver" && $4 ~ /^(grant|revoke|deny|hello)$/) { steps[at] = 1 }
+    $1 == "entry" && $6 == "wait" { waits[$4] = at }
+    $1 == "entry" && $6 == "unlock" { freed = at }
+    $1 == "reply" && $2 in waits && waits[$2] < freed && freed < at {
+        seen++
+        for (i = freed + 1; i < at; i++) between += i in steps
+    }
+    END { print (seen > 0 ? "seen " : "none ") between + 0 }' threads.journal
+} >came.out
+printf 'receipts 225\naudit yes\nseen 0\n' >wanted
+judge 'a lock that goes on to a wait of its node at once' 0 "$came" wanted came.out none came.err
 
 # Lines are refused in their order, and a node goes on in its next incarnation. What node 1 and node 2 are answered is of their own order.
 cat >failures.lock <<'END'
@@ -1266,6 +1358,34 @@ for length in $(seq 0 $((size - 1))); do
 done
 echo "$wrong" >came.out
 judge 'a journal cut at each byte, behind which to run' 0 0 nothing-wrong came.out none none
+
+# A process has 1,024 regions in version 1, and 1,024 are not too many in version 2: of a lock with another reply an audit says that it is wrong.
+# The version, what stands before the number of a command, and what the process is answered that has so many and wants one more.
+regions() {
+    awk -v version="$1" -v epoch="$2" -v last="$3" 'BEGIN {
+        print "journal " version " nodes 1 files 1 policy wide\nentry 1 call 1.1.1 1 spawn\nreply 1.1.1 done"
+        print "entry 2 call 1.1.2 1 open 1 rw\nreply 1.1.2 fd 0\nentry 3 call 1.1.3 1 set 0 proc read 0 1"
+        request = "request 1 1.1.3 now read 0 0 0 9223372036854775807"
+        grant = "grant 1 " epoch "1 1.1.3 read 0 9223372036854775807"
+        taken = "taken 1 " epoch "1 1.1.3"
+        print "send " request "\nentry 4 deliver " request "\nsend " grant "\nentry 5 deliver " grant "\nreply 1.1.3 done"
+        print "send " taken "\nentry 6 deliver " taken
+        for (i = 1; i <= 1024; i++) {
+            print "entry " i + 6 " call 1.1." i + 3 " 1 set 0 proc read " 2 * i " 1"
+            print "reply 1.1." i + 3 " " (i < 1024 ? "done" : last)
+        }
+        print "end 1030"
+    }'
+}
+echo 'audit no 1030' >no-1030
+regions 1 '' no-locks >regions.journal
+try 'as many regions as version 1 has' 0 yes none audit regions.journal
+regions 1 '' done >regions.journal
+try 'one more than version 1 has' 1 no-1030 none audit regions.journal
+regions 2 '1 ' done >regions.journal
+try 'one more than that, in version 2' 0 yes none audit regions.journal
+regions 2 '1 ' no-locks >regions.journal
+try 'no room for it in version 2' 1 no-1030 none audit regions.journal
 
 # Large journals.
 large() {

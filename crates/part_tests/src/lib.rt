@@ -12,8 +12,4 @@ mod of_lock_table;
 #[cfg(test)]
 mod of_messages;
 #[cfg(test)]
-mod of_model;
-#[cfg(test)]
-mod of_token_queue;
-#[cfg(test)]
 mod of_token_set;

@@ -176,22 +176,27 @@ const LOCKS: [Call; 9] = [
     (ELSEWHERE, OWN, WRITE, 0, 100, Reply::BadFd),
 ];
 
-// What a second descriptor changes, whose close frees the locks of its process.
-const SHUTS: [(Process, Op, Reply); 4] = [
+// What a second descriptor changes, whose close frees the locks of its process; and a process of the next incarnation begins.
+const SHUTS: [(Process, Op, Reply); 5] = [
     (FIRST, Op::Dup { fd: 0 }, Reply::Fd(1)),
     (FIRST, Op::Dup { fd: 64 }, Reply::BadFd),
     (FIRST, Op::Close { fd: 1 }, Reply::Done),
     (SECOND, Op::Exit, Reply::Done),
+    (LATER, Op::Spawn, Reply::Done),
 ];
 
-#[test]
-fn calls_are_answered_by_one_table(rt: HostRuntime) -> Result<(), Fail> {
-    let mut table = begins(rt.alloc())?;
-    assert!(rt; answers(&mut table, &BEGIN)? && locks(&mut table, &LOCKS)?);
-    assert!(rt; table.has_region(1, &HALF) && !table.has_region(1, &HELD));
-    assert!(rt; answers(&mut table, &SHUTS)?);
-    assert!(rt; !table.has_region(1, &HALF) && table.has_region(1, &SHARED));
-    Ok(())
+// Who is there once the first incarnation of node 1 is gone.
+const THEN: [(Process, Op, Reply); 3] = [
+    (ELSEWHERE, Op::Spawn, Reply::Exists),
+    (LATER, Op::Spawn, Reply::Exists),
+    (SECOND, Op::Spawn, Reply::Done),
+];
+
+// Whether the table has the region of the first process, and that of the description.
+fn has(table: &FcntlTable, half: bool, shared: bool) -> bool {
+    table.has_region(1, &HALF) == half
+        && table.has_region(1, &SHARED) == shared
+        && !table.has_region(1, &HELD)
 }
 
 // Whether an incarnation that is not the node's takes nothing with it, and its own takes its locks and processes.
@@ -199,21 +204,15 @@ fn goes(table: &mut FcntlTable) -> Result<bool, AllocError> {
     for (node, incarnation) in [(0, 1), (65, 1), (1, 0)] {
         table.gone(node, incarnation);
     }
-    let stays = table.has_region(1, &HALF) && table.has_region(1, &SHARED);
+    let stays = has(table, false, true);
     table.gone(1, 1);
-    let after = [
-        (ELSEWHERE, Op::Spawn, Reply::Exists),
-        (LATER, Op::Spawn, Reply::Exists),
-        (SECOND, Op::Spawn, Reply::Done),
-    ];
-    let goes = !table.has_region(1, &HALF) && !table.has_region(1, &SHARED);
-    Ok(stays && goes && answers(table, &after)?)
+    Ok(stays && has(table, false, false) && answers(table, &THEN)?)
 }
 
 #[test]
-fn one_incarnation_is_gone(rt: HostRuntime) -> Result<(), Fail> {
+fn calls_are_answered_by_one_table(rt: HostRuntime) -> Result<(), Fail> {
     let mut table = begins(rt.alloc())?;
     assert!(rt; answers(&mut table, &BEGIN)? && locks(&mut table, &LOCKS)?);
-    assert!(rt; answers(&mut table, &[(LATER, Op::Spawn, Reply::Done)])? && goes(&mut table)?);
+    assert!(rt; has(&table, true, true) && answers(&mut table, &SHUTS)? && goes(&mut table)?);
     Ok(())
 }

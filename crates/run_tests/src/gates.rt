@@ -61,25 +61,3 @@ impl<R: Clock> Gate for Holder<'_, R> {
         }
     }
 }
-
-/// Holds nothing, and marks that node 1 has committed a step.
-#[derive(Drop)]
-pub struct Commits {
-    pub one: AtomicU64,
-}
-
-impl Commits {
-    pub fn new() -> Commits {
-        Commits {
-            one: AtomicU64::new(0),
-        }
-    }
-}
-
-impl Gate for Commits {
-    fn at(&self, point: Point) {
-        if let Point::Committed(Actor::Node(1), _) = point {
-            self.one.store(1, Ordering::SeqCst);
-        }
-    }
-}

@@ -11,8 +11,6 @@ mod of_book;
 #[cfg(test)]
 mod of_cluster_core;
 #[cfg(test)]
-mod of_command_line;
-#[cfg(test)]
 mod of_journal_text;
 #[cfg(test)]
 mod of_lockscript;
@@ -24,3 +22,5 @@ mod of_placement;
 mod of_refused_memory;
 #[cfg(test)]
 mod of_token_server;
+#[cfg(test)]
+mod protocol;

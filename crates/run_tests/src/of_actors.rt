@@ -1,5 +1,5 @@
 //! Clusters on threads, where a gate holds an actor or a node is declared failed meanwhile.
-use crate::gates::{Commits, Holder, wait_for};
+use crate::gates::{Holder, wait_for};
 use actors::call_error::CallError;
 use actors::client::Client;
 use actors::cluster::with_cluster;
@@ -9,8 +9,6 @@ use actors::weather::{Fair, Fate, Weather};
 use book::confirms::Confirms;
 use book::receipt::Receipt;
 use cluster_core::journal::Journal;
-use messages::actor::Actor;
-use messages::entry::Entry;
 use messages::event::Event;
 use messages::file_number::FileNumber;
 use messages::message::Message;
@@ -26,8 +24,6 @@ use std::sync::Wait;
 use std::sync::atomic::Ordering;
 use std::test::Fail;
 use std::thread;
-use std::thread::Threads;
-use std::time::Clock;
 
 // A lock of a process on descriptor 0.
 fn set(start: i64, len: i64) -> Op {
@@ -236,111 +232,4 @@ fn a_seed_says_what_becomes_of_each_message(rt: HostRuntime) {
     for place in 0..19 {
         assert!(rt; is_wanted(place, weather.fate(&message)));
     }
-}
-
-// Loses the first messages of its actor, so many.
-#[derive(Clone, Copy)]
-struct LosesFirst(u8);
-
-impl Weather for LosesFirst {
-    fn fate(&mut self, _message: &Message) -> Fate {
-        if self.0 == 0 {
-            return Fate::Pass;
-        }
-        self.0 -= 1;
-        Fate::Drop
-    }
-}
-
-#[test]
-fn a_call_is_denied_although_eight_messages_of_each_are_lost(rt: HostRuntime) -> Result<(), Fail> {
-    let alloc = rt.alloc();
-    let shape = Shape::new(2, 1, Policy::Wide)?;
-    let weathers = vec![in alloc; LosesFirst(8); 3]?;
-    let (made, journal) = with_cluster(&rt, alloc, shape, &OpenGate, weathers, |cluster| {
-        let mut one = cluster.client(&rt, 1, 1).ok()?;
-        let mut two = cluster.client(&rt, 2, 1).ok()?;
-        let held = begin(&rt, &mut one, set(0, 100))?;
-        two.told(&held);
-        begin(&rt, &mut two, set(50, 10))
-    })?;
-    let receipt = made.ok_or("a receipt")?;
-    let denied = matches!(receipt.reply(), Reply::Again(_));
-    assert!(rt; denied && journal.holds(&receipt));
-    Ok(())
-}
-
-// Whether the entry is a step of a node.
-fn is_of_node(entry: &Entry) -> bool {
-    match entry.event() {
-        Event::Call { .. } | Event::Retry { .. } | Event::Interrupt { .. } => true,
-        Event::Deliver(message) => matches!(message.addressee(), Actor::Node(_)),
-        _ => false,
-    }
-}
-
-// Whether a step of a node stands between these positions.
-fn has_node_step(journal: &Journal, first: u32, last: u32) -> bool {
-    let mut position = 0;
-    for entry in journal.entries() {
-        position = u32::saturating_add(position, 1);
-        if first < position && position < last && is_of_node(entry) {
-            return true;
-        }
-    }
-    false
-}
-
-// One process waits for the lock of another on its node, which gives it up after the node took the
-// wait: the receipts of the wait and of the unlock.
-fn pass_on<R: Threads + Wait + Clock + Sync>(
-    rt: &R,
-    gate: &Commits,
-    from: &mut Client<'_>,
-    to: &mut Client<'_>,
-) -> Option<(Receipt, Receipt)> {
-    gate.one.store(0, Ordering::SeqCst);
-    let (waited, given) = thread::join(
-        rt,
-        || to.call(rt, WAIT),
-        || {
-            wait_for(rt, &gate.one);
-            from.call(rt, unlock(0, 10))
-        },
-    );
-    Some((waited.ok()?, given.ok()?))
-}
-
-#[test]
-fn a_lock_goes_on_to_a_wait_of_its_node_at_once(rt: HostRuntime) -> Result<(), Fail> {
-    let alloc = rt.alloc();
-    let gate = Commits::new();
-    let shape = Shape::new(1, 1, Policy::Wide)?;
-    let weathers = vec![in alloc; Fair, Fair]?;
-    let (made, journal) = with_cluster(&rt, alloc, shape, &gate, weathers, |cluster| {
-        let mut one = cluster.client(&rt, 1, 1).ok()?;
-        let mut two = cluster.client(&rt, 1, 2).ok()?;
-        begin(&rt, &mut one, set(0, 10))?;
-        begin(&rt, &mut two, set(20, 10))?;
-        let mut passed = Vec::new(alloc);
-        for _ in 0..5 {
-            passed.push(pass_on(&rt, &gate, &mut one, &mut two)?).ok()?;
-            passed.push(pass_on(&rt, &gate, &mut two, &mut one)?).ok()?;
-        }
-        Some(passed)
-    })?;
-    let mut waits = 0u32;
-    for (wait, unlock) in made.ok_or("ten locks are passed on")? {
-        assert_eq!(rt; wait.reply(), Reply::Done);
-        if wait.call_at() > unlock.call_at() {
-            continue;
-        }
-        waits = u32::saturating_add(waits, 1);
-        assert!(rt;
-            !has_node_step(&journal, unlock.call_at(), wait.reply_at()),
-            "no step of the node comes first"
-        );
-    }
-    assert!(rt; waits > 0, "a wait was open as the lock was given up");
-    Ok(())
 }

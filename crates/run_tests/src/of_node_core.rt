@@ -2,20 +2,18 @@
 ghost use Rattle.std.specs.Prelude.{◌≤◌, IfOk};
 ghost use Rattle.node_core.specs.Plans.{Fits};
 
+use crate::protocol::{
+    ASKS, FOURTH, THIRD, are_sent, conflict, deny, freed, grant, released, request, revoke, taken,
+};
 use intervals::span::Span;
-use intervals::span_map::NoMemory;
+use lock_table::error::LockError;
 use lock_table::lock_table::LockTable;
-use messages::command_number::CommandNumber;
-use messages::file_number::FileNumber;
 use messages::message::{Message, Urgency};
 use messages::outcome::Outcome;
 use messages::refusal::StepError;
 use messages::shape::Shape;
-use messages::wanted::Wanted;
 use model::access::Access;
 use model::call::CallId;
-use model::host::Host;
-use model::level::Level;
 use model::lock_info::LockInfo;
 use model::lock_target::LockTarget;
 use model::mode::Mode;
@@ -53,18 +51,6 @@ const FAR: LockInfo = LockInfo {
     ..LOCK
 };
 
-const THIRD: CallId = CallId {
-    node: 1,
-    incarnation: 1,
-    number: 3,
-};
-
-const FOURTH: CallId = CallId { number: 4, ..THIRD };
-
-fn call(pid: u16, op: Op) -> NodeEvent {
-    NodeEvent::Call { pid, op }
-}
-
 pub(crate) const OPEN: Op = Op::Open {
     file: 1,
     access: Access::ReadWrite,
@@ -86,34 +72,20 @@ const WAIT: Op = Op::Wait {
     len: 100,
 };
 
-fn request(call: CallId, urgency: Urgency, span: Span) -> Message {
-    Message::Request {
-        file: FileNumber::of(1),
-        call,
-        urgency,
-        mode: Mode::Write,
-        wanted: Wanted::new(span, span),
-    }
+fn call(pid: u16, op: Op) -> NodeEvent {
+    NodeEvent::Call { pid, op }
 }
 
-fn grant(command: u32, call: CallId) -> NodeEvent
-    requires { 1 ≤ command }
+fn granted(number: u32, call: CallId) -> NodeEvent
+    requires { 1 ≤ number }
 {
-    NodeEvent::Deliver(Message::Grant {
-        file: FileNumber::of(1),
-        number: CommandNumber::of(1, command),
-        call,
-        mode: Mode::Write,
-        span: HUNDRED,
-    })
+    NodeEvent::Deliver(grant(number, call, HUNDRED))
 }
 
-fn taken() -> Message {
-    Message::Taken {
-        file: FileNumber::of(1),
-        number: CommandNumber::of(1, 1),
-        call: THIRD,
-    }
+fn revoked(number: u32, incarnation: u16) -> NodeEvent
+    requires { 1 ≤ number }
+{
+    NodeEvent::Deliver(revoke(number, incarnation, HUNDRED, HUNDRED))
 }
 
 // The reply to the node's call with that number.
@@ -123,86 +95,11 @@ fn answered(number: u32, reply: Reply) -> Option<(CallId, Reply)>
     Some((CallId { number, ..THIRD }, reply))
 }
 
-fn host(incarnation: u16) -> Host {
-    Host {
-        node: 1,
-        incarnation: incarnation.max(1),
-    }
-}
-
-// A command that tells the node in its incarnation to give up what a call of another node needs.
-fn revoke(command: u32, incarnation: u16) -> NodeEvent
-    requires { 1 ≤ command }
-{
-    NodeEvent::Deliver(Message::Revoke {
-        file: FileNumber::of(1),
-        number: CommandNumber::of(1, command),
-        holder: host(incarnation),
-        call: CallId { node: 2, ..THIRD },
-        mode: Mode::Write,
-        wanted: Wanted::new(HUNDRED, HUNDRED),
-    })
-}
-
-// The node's answers to the second and third command, where its lock is in the way and where it is gone, and what tells
-// that it may be gone.
-fn conflict() -> Message {
-    Message::Conflict {
-        file: FileNumber::of(1),
-        number: CommandNumber::of(1, 2),
-        holder: host(1),
-        call: CallId { node: 2, ..THIRD },
-        lock: LOCK,
-    }
-}
-
-fn freed() -> Message {
-    Message::Freed {
-        file: FileNumber::of(1),
-        holder: host(1),
-    }
-}
-
-fn released() -> Message {
-    Message::Released {
-        file: FileNumber::of(1),
-        number: CommandNumber::of(1, 3),
-        holder: host(1),
-        call: CallId { node: 2, ..THIRD },
-        span: HUNDRED,
-    }
-}
-
-fn deny(call: CallId) -> NodeEvent {
-    NodeEvent::Deliver(Message::Deny {
-        file: FileNumber::of(1),
-        call,
-        holder: Host {
-            node: 2,
-            incarnation: 1,
-        },
-        number: CommandNumber::of(1, 1),
-        lock: FAR,
-    })
-}
-
 // An event, the reply and the one message that it must give, if any, and whether the node is another after it.
 type Move = (NodeEvent, Option<(CallId, Reply)>, Option<Message>, bool);
 
-// Whether the message is the only one.
-fn is_only(messages: &[Message], message: &Message) -> bool {
-    match messages {
-        [only] => only.same(message),
-        _ => false,
-    }
-}
-
 fn is_right(expected: &Move, outcome: &Outcome) -> bool {
-    let is_sent = match &expected.2 {
-        Some(message) => is_only(outcome.sends.as_slice(), message),
-        None => outcome.sends.is_empty(),
-    };
-    is_sent && expected.1 == outcome.reply
+    are_sent(outcome.sends.as_slice(), &expected.2) && expected.1 == outcome.reply
 }
 
 // The node in a box. A test keeps no other, since one is dropped in fewer steps, each of which the
@@ -283,12 +180,10 @@ fn take(alloc: Global, node: &mut Node, moves: &[Move]) -> Result<bool, StepErro
 
 // Whether the node begins, opens file 1 and asks for a token of 100 bytes.
 fn asks(alloc: Global, node: &mut Node) -> Result<bool, StepError> {
-    let first = CallId { number: 1, ..THIRD };
-    let second = CallId { number: 2, ..THIRD };
-    let asked = request(THIRD, Urgency::Now, HUNDRED);
+    let asked = request(THIRD, Urgency::Now, HUNDRED, HUNDRED);
     let moves = [
-        (call(1, Op::Spawn), Some((first, Reply::Done)), None, true),
-        (call(1, OPEN), Some((second, Reply::Fd(0))), None, true),
+        (call(1, Op::Spawn), answered(1, Reply::Done), None, true),
+        (call(1, OPEN), answered(2, Reply::Fd(0)), None, true),
         (call(1, SET), None, Some(asked), true),
     ];
     take(alloc, node, &moves)
@@ -300,77 +195,37 @@ fn takes_its_own(alloc: Global, node: &mut Node) -> Result<bool, StepError> {
         incarnation: 2,
         ..THIRD
     };
-    let asked = request(FOURTH, Urgency::Waits, ABOVE);
+    let done = answered(3, Reply::Done);
+    let asked = request(FOURTH, Urgency::Waits, ABOVE, ABOVE);
+    let denied = NodeEvent::Deliver(deny(1, FOURTH, 2, FAR));
     let interrupt = NodeEvent::Interrupt { pid: 1 };
     let moves = [
-        (grant(2, THIRD), None, None, false),
-        (grant(1, later), None, None, false),
-        (
-            grant(1, THIRD),
-            Some((THIRD, Reply::Done)),
-            Some(taken()),
-            true,
-        ),
-        (grant(1, THIRD), None, Some(taken()), false),
-        (revoke(3, 1), None, None, false),
-        (revoke(2, 2), None, None, false),
+        (granted(2, THIRD), None, None, false),
+        (granted(1, later), None, None, false),
+        (granted(1, THIRD), done, Some(taken(1, THIRD)), true),
+        (granted(1, THIRD), None, Some(taken(1, THIRD)), false),
+        (revoked(3, 1), None, None, false),
+        (revoked(2, 2), None, None, false),
         (call(1, WAIT), None, Some(asked), true),
-        (deny(FOURTH), None, None, false),
-        (interrupt, Some((FOURTH, Reply::Interrupted)), None, true),
+        (denied, None, None, false),
+        (interrupt, answered(4, Reply::Interrupted), None, true),
     ];
     take(alloc, node, &moves)
 }
 
-// Whether the node lists what it has of file 1, and nothing of file 2.
-fn has_its_token(node: &Node, alloc: Global) -> Result<bool, NoMemory> {
-    let runs = node.token_runs(alloc, 1)?;
-    let has_token = runs.as_slice() == [(HUNDRED, Level::Exclusive)].as_slice();
-    Ok(has_token && node.token_runs(alloc, 2)?.is_empty())
-}
-
-fn has_its_lock(node: &Node) -> Result<bool, NoMemory> {
-    let has_lock = node.regions(1)?.as_slice() == [LOCK].as_slice();
-    Ok(has_lock && node.regions(2)?.is_empty())
-}
-
-fn is_copied(alloc: Global, node: &Node) -> Result<bool, StepError> {
-    let copy = boxed(alloc, node.copy(alloc)?)?;
-    Ok(copy.same(node))
-}
-
-#[test]
-fn does_each_command_once_and_in_order(rt: HostRuntime) -> Result<(), Fail> {
-    let alloc = rt.alloc();
-    let mut node = begins(alloc)?;
-    assert!(rt; asks(alloc, &mut node)? && takes_its_own(alloc, &mut node)?);
-    assert!(rt; has_its_token(&node, alloc)? && has_its_lock(&node)?);
-    assert!(rt; is_copied(alloc, &node)? && node.incarnation() == 1);
-    Ok(())
-}
-
 // Whether the node names its lock where another node needs its bytes, and gives them up once the lock is gone.
 fn shuts(alloc: Global, node: &mut Node) -> Result<bool, StepError> {
+    let dup = call(1, Op::Dup { fd: 0 });
+    let fork = call(1, Op::Fork { child: 2 });
+    let close = call(1, Op::Close { fd: 0 });
+    let found = conflict(2, ASKS, LOCK);
+    let gives = released(3, HUNDRED);
     let moves = [
-        (
-            call(1, Op::Dup { fd: 0 }),
-            answered(5, Reply::Fd(1)),
-            None,
-            true,
-        ),
-        (
-            call(1, Op::Fork { child: 2 }),
-            answered(6, Reply::Done),
-            None,
-            true,
-        ),
-        (revoke(2, 1), None, Some(conflict()), true),
-        (
-            call(1, Op::Close { fd: 0 }),
-            answered(7, Reply::Done),
-            Some(freed()),
-            true,
-        ),
-        (revoke(3, 1), None, Some(released()), true),
+        (dup, answered(5, Reply::Fd(1)), None, true),
+        (fork, answered(6, Reply::Done), None, true),
+        (revoked(2, 1), None, Some(found), true),
+        (close, answered(7, Reply::Done), Some(freed(1)), true),
+        (revoked(3, 1), None, Some(gives), true),
         (call(2, Op::Exit), answered(8, Reply::Done), None, true),
     ];
     take(alloc, node, &moves)
@@ -404,48 +259,38 @@ fn refuses_events_of_strangers(rt: HostRuntime) -> Result<(), Fail> {
     let events = [
         call(0, Op::Spawn),
         call(257, Op::Spawn),
-        call(1, Op::Open { file: 3, access }),
         call(1, Op::Open { file: 0, access }),
         NodeEvent::Retry { pid: 0 },
         NodeEvent::Retry { pid: 257 },
         NodeEvent::Interrupt { pid: 0 },
         NodeEvent::Interrupt { pid: 257 },
-        NodeEvent::Deliver(taken()),
+        NodeEvent::Deliver(taken(1, THIRD)),
     ];
     let node = begins(rt.alloc())?;
     assert!(rt; refuses(rt.alloc(), &node, &events));
     Ok(())
 }
 
-// Bytes that are locked in a mode, or freed, and how many regions there are then.
-const CHANGES: [(Option<Mode>, u64, u64, usize); 4] = [
-    (Some(Mode::Write), 0, 9, 1),
-    (None, 4, 5, 2),
-    (Some(Mode::Read), 0, 3, 2),
-    (None, 0, 7, 1),
-];
-
-fn changes(locks: &mut LockTable) -> Result<bool, Fail> {
-    for (mode, lo, hi, regions) in CHANGES {
-        if lo > hi || hi > 9 {
-            return Ok(false);
-        }
-        let target = LockTarget {
-            file: 1,
-            owner: OWNER,
-            span: Span { lo, hi },
-        };
-        change_locks(locks, target, mode)?;
-        if locks.locks(1)?.len() != regions {
-            return Ok(false);
-        }
-    }
-    Ok(true)
+// Whether the bytes are then locked in the mode, or free, and there are so many regions.
+fn changes(
+    locks: &mut LockTable,
+    span: Span,
+    mode: Option<Mode>,
+    regions: usize,
+) -> Result<bool, LockError> {
+    let target = LockTarget {
+        file: 1,
+        owner: OWNER,
+        span,
+    };
+    change_locks(locks, target, mode)?;
+    Ok(locks.locks(1)?.len() == regions)
 }
 
 #[test]
 fn locks_and_frees_bytes(rt: HostRuntime) -> Result<(), Fail> {
     let mut locks = Box::new(rt.alloc(), LockTable::new(rt.alloc(), 1024))?;
-    assert!(rt; changes(&mut locks)?);
+    assert!(rt; changes(&mut locks, HUNDRED, Some(Mode::Write), 1)?);
+    assert!(rt; changes(&mut locks, Span { lo: 4, hi: 5 }, None, 2)?);
     Ok(())
 }

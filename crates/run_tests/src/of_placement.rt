@@ -29,13 +29,7 @@ const QUERY: Op = Op::Query {
     len: 10,
 };
 
-const CALL: CallId = CallId {
-    node: 1,
-    incarnation: 1,
-    number: 1,
-};
-
-// A write lock of bytes 0 to 9, and one of bytes 5 to 14.
+// Write locks of bytes 0 to 9, and of 5 to 14.
 const FIRST: Op = Op::Set {
     fd: 0,
     kind: Kind::OfProcess,
@@ -60,82 +54,160 @@ const WAIT: Op = Op::Wait {
     len: 10,
 };
 
-// A call of another node.
-const ELSEWHERE: CallId = CallId {
-    node: 2,
-    incarnation: 1,
-    number: 1,
+// A lock of bytes 40 to 49 of a description, and one of a process.
+const SHARED: Op = Op::Set {
+    fd: 0,
+    kind: Kind::OfDescription,
+    mode: Mode::Read,
+    start: 40,
+    len: 10,
 };
 
-// Processes 1 and 2 of node 1 have the file open, and the first holds its write lock.
-const START: [(u32, u16, Op, Reply); 5] = [
+const FORTY: Op = Op::Set {
+    fd: 0,
+    kind: Kind::OfProcess,
+    mode: Mode::Write,
+    start: 40,
+    len: 10,
+};
+
+// A call of a process of a node, and its reply.
+type Call = (u8, u16, Op, Reply);
+
+// Processes 1 and 2 of node 1 and process 1 of node 2 have the file open. The first holds its write lock, the description of the
+// second one for read.
+const START: [Call; 8] = [
     (1, 1, Op::Spawn, Reply::Done),
-    (2, 2, Op::Spawn, Reply::Done),
-    (4, 1, OPEN, Reply::Fd(0)),
-    (7, 2, OPEN, Reply::Fd(0)),
-    (8, 1, FIRST, Reply::Done),
+    (1, 2, Op::Spawn, Reply::Done),
+    (2, 1, Op::Spawn, Reply::Done),
+    (1, 1, OPEN, Reply::Fd(0)),
+    (1, 2, OPEN, Reply::Fd(0)),
+    (2, 1, OPEN, Reply::Fd(0)),
+    (1, 1, FIRST, Reply::Done),
+    (1, 2, SHARED, Reply::Done),
 ];
 
-// The region of the first process of node 1.
-fn region(span: Span) -> LockInfo {
-    LockInfo {
-        owner: Owner {
-            node: 1,
+// The region of the first process, a part of it and more than it, and it in another mode.
+const REGION: LockInfo = LockInfo {
+    owner: Owner {
+        node: 1,
+        incarnation: 1,
+        kind: Kind::OfProcess,
+        number: 1,
+    },
+    mode: Mode::Write,
+    span: Span { lo: 0, hi: 9 },
+};
+
+const PART: LockInfo = LockInfo {
+    span: Span { lo: 5, hi: 9 },
+    ..REGION
+};
+
+const MORE: LockInfo = LockInfo {
+    span: Span { lo: 0, hi: 14 },
+    ..REGION
+};
+
+const FOR_READ: LockInfo = LockInfo {
+    mode: Mode::Read,
+    ..REGION
+};
+
+// An answered call at that place of a history, from 0. (Numbers of calls are no matter of histories.)
+fn answered(place: u32, call: &Call) -> Item
+    requires { place < 70000 }
+{
+    let (node, pid, op, reply) = *call;
+    Item::Answered {
+        position: place + 1,
+        id: CallId {
+            node: node.clamp(1, 64),
             incarnation: 1,
-            kind: Kind::OfProcess,
             number: 1,
         },
-        mode: Mode::Write,
-        span,
+        pid,
+        op,
+        reply,
     }
 }
 
-fn blocked(span: Span) -> Reply {
-    Reply::Again(region(span))
-}
-
-// Adds calls of node 1, each with its position and its process.
-fn push_calls(items: &mut Vec<Item>, made: &[(u32, u16, Op, Reply)]) -> Result<(), AllocError> {
-    for &(position, pid, op, reply) in made {
-        items.push(Item::Answered {
-            position,
-            id: CALL,
-            pid,
-            op,
-            reply,
-        })?;
+// The calls with which it starts.
+fn starts(alloc: Global) -> Result<Vec<Item>, AllocError> {
+    let mut items = Vec::new(alloc);
+    for place in 0..8u32 {
+        items.push(answered(place, &START[place as usize]))?;
     }
-    Ok(())
+    Ok(items)
 }
 
-fn is_legal(alloc: Global, items: Vec<Item>) -> Result<bool, Fail> {
-    let history = History::new(Version::Second, items)?;
+fn is_legal(alloc: Global, version: Version, items: Vec<Item>) -> Result<bool, Fail> {
+    let history = History::new(version, items)?;
     Ok(legal(alloc, &history)?)
 }
 
-// Whether these calls may be answered so, behind those with which it starts.
-fn may_follow(alloc: Global, made: &[(u32, u16, Op, Reply)]) -> Result<bool, Fail> {
-    let mut items = Vec::new(alloc);
-    push_calls(&mut items, &START)?;
-    push_calls(&mut items, made)?;
-    is_legal(alloc, items)
+// Whether the call may be answered so behind those with which it starts, once that incarnation of node 1 is gone, if one is.
+fn may_follow(alloc: Global, gone: Option<u16>, call: &Call) -> Result<bool, Fail> {
+    let mut items = starts(alloc)?;
+    if let Some(incarnation) = gone {
+        items.push(Item::Gone {
+            position: 9,
+            node: 1,
+            incarnation,
+        })?;
+    }
+    items.push(answered(9, call))?;
+    is_legal(alloc, Version::Second, items)
 }
+
+// A wait may be interrupted wherever it passes its tests, and nothing else may; it is told of no lock. A lock that is in the way is
+// named whole, and none is in its own owner's way. Processes and locks go with their incarnation alone.
+const CASES: [(Option<u16>, Call, bool); 37] = [
+    (None, (1, 2, SECOND, Reply::Again(REGION)), true),
+    (None, (1, 2, SECOND, Reply::Again(MORE)), false),
+    (None, (1, 2, SECOND, Reply::Again(FOR_READ)), false),
+    (None, (1, 2, SECOND, Reply::Done), false),
+    (None, (1, 1, SECOND, Reply::Done), true),
+    (None, (1, 3, SECOND, Reply::NoProcess), true),
+    (None, (1, 0, Op::Spawn, Reply::Done), false),
+    (None, (1, 256, Op::Spawn, Reply::Done), true),
+    (None, (1, 257, Op::Spawn, Reply::Done), false),
+    (None, (1, 1, WAIT, Reply::Done), true),
+    (None, (1, 1, WAIT, Reply::Interrupted), true),
+    (None, (1, 2, WAIT, Reply::Done), false),
+    (None, (1, 2, WAIT, Reply::Interrupted), true),
+    (None, (1, 2, WAIT, Reply::Again(REGION)), false),
+    (None, (1, 2, WAIT, Reply::Blocked(REGION)), false),
+    (None, (1, 3, WAIT, Reply::NoProcess), true),
+    (None, (1, 3, WAIT, Reply::Interrupted), false),
+    (None, (1, 2, SECOND, Reply::Interrupted), false),
+    (None, (1, 2, QUERY, Reply::Interrupted), false),
+    (None, (1, 3, Op::Spawn, Reply::Interrupted), false),
+    (None, (1, 2, QUERY, Reply::Blocked(REGION)), true),
+    (None, (1, 2, QUERY, Reply::Blocked(PART)), false),
+    (None, (1, 2, QUERY, Reply::Again(REGION)), false),
+    (None, (1, 2, QUERY, Reply::Free), false),
+    (None, (1, 1, QUERY, Reply::Free), true),
+    (None, (1, 1, QUERY, Reply::Blocked(REGION)), false),
+    (Some(1), (1, 1, OPEN, Reply::NoProcess), true),
+    (Some(1), (1, 1, OPEN, Reply::Fd(1)), false),
+    (Some(2), (1, 1, OPEN, Reply::Fd(1)), true),
+    (None, (2, 1, SECOND, Reply::Again(REGION)), true),
+    (Some(1), (2, 1, SECOND, Reply::Done), true),
+    (Some(1), (2, 1, SECOND, Reply::Again(REGION)), false),
+    (Some(2), (2, 1, SECOND, Reply::Again(REGION)), true),
+    (Some(2), (2, 1, SECOND, Reply::Done), false),
+    (Some(1), (2, 1, FORTY, Reply::Done), true),
+    (Some(2), (2, 1, FORTY, Reply::Done), false),
+    (None, (2, 1, FORTY, Reply::Done), false),
+];
 
 #[test]
 fn allows_what_one_machine_may_answer(rt: HostRuntime) -> Result<(), Fail> {
-    for (call, may) in [
-        ((9, 2, SECOND, blocked(Span { lo: 0, hi: 9 })), true),
-        ((9, 2, SECOND, blocked(Span { lo: 0, hi: 14 })), false),
-        ((9, 2, SECOND, Reply::Done), false),
-        ((9, 1, SECOND, Reply::Done), true),
-        ((9, 3, SECOND, Reply::NoProcess), true),
-        ((9, 0, Op::Spawn, Reply::Done), false),
-        ((9, 256, Op::Spawn, Reply::Done), true),
-        ((9, 257, Op::Spawn, Reply::Done), false),
-    ] {
-        assert!(rt; may_follow(rt.alloc(), &[call])? == may);
+    for (gone, call, may) in &CASES {
+        assert!(rt; may_follow(rt.alloc(), *gone, call)? == *may);
     }
-    assert!(rt; is_legal(rt.alloc(), Vec::new(rt.alloc()))?);
+    assert!(rt; is_legal(rt.alloc(), Version::Second, Vec::new(rt.alloc()))?);
     Ok(())
 }
 
@@ -145,7 +217,7 @@ fn byte_at(place: u16) -> Op {
         fd: 0,
         kind: Kind::OfProcess,
         mode: Mode::Read,
-        start: 20 + 2 * place as i64,
+        start: 100 + 2 * place as i64,
         len: 1,
     }
 }
@@ -153,20 +225,14 @@ fn byte_at(place: u16) -> Op {
 // Whether the second process may lock so many bytes, and then be refused one more, in a cluster of the
 // version.
 fn may_be_full(alloc: Global, version: Version, count: u16) -> Result<bool, Fail> {
-    let mut items = Vec::new(alloc);
-    push_calls(&mut items, &START)?;
+    let mut items = starts(alloc)?;
     for place in 0..count {
-        push_calls(
-            &mut items,
-            &[(9 + place as u32, 2, byte_at(place), Reply::Done)],
-        )?;
+        let call = (1, 2, byte_at(place), Reply::Done);
+        items.push(answered(8 + place as u32, &call))?;
     }
-    push_calls(
-        &mut items,
-        &[(9 + count as u32, 2, byte_at(count), Reply::NoLocks)],
-    )?;
-    let history = History::new(version, items)?;
-    Ok(legal(alloc, &history)?)
+    let call = (1, 2, byte_at(count), Reply::NoLocks);
+    items.push(answered(8 + count as u32, &call))?;
+    is_legal(alloc, version, items)
 }
 
 #[test]
@@ -183,168 +249,22 @@ fn allows_as_many_regions_as_the_version_has(rt: HostRuntime) -> Result<(), Fail
     Ok(())
 }
 
-// A wait may be interrupted wherever it passes its tests, and nothing else may; it is told of no lock.
-#[test]
-fn allows_what_a_wait_may_be_answered(rt: HostRuntime) -> Result<(), Fail> {
-    for (pid, op, reply, may) in [
-        (1, WAIT, Reply::Done, true),
-        (1, WAIT, Reply::Interrupted, true),
-        (2, WAIT, Reply::Done, false),
-        (2, WAIT, Reply::Interrupted, true),
-        (2, WAIT, blocked(Span { lo: 0, hi: 9 }), false),
-        (
-            2,
-            WAIT,
-            Reply::Blocked(region(Span { lo: 0, hi: 9 })),
-            false,
-        ),
-        (3, WAIT, Reply::NoProcess, true),
-        (3, WAIT, Reply::Interrupted, false),
-        (2, SECOND, Reply::Interrupted, false),
-        (2, QUERY, Reply::Interrupted, false),
-        (3, Op::Spawn, Reply::Interrupted, false),
-    ] {
-        assert!(rt; may_follow(rt.alloc(), &[(9, pid, op, reply)])? == may);
-    }
-    Ok(())
-}
-
-// A lock that would be in the way is named whole, and none is in its own owner's way.
-#[test]
-fn allows_what_a_query_may_be_told(rt: HostRuntime) -> Result<(), Fail> {
-    for (pid, reply, may) in [
-        (2, Reply::Blocked(region(Span { lo: 0, hi: 9 })), true),
-        (2, Reply::Blocked(region(Span { lo: 5, hi: 9 })), false),
-        (2, blocked(Span { lo: 0, hi: 9 }), false),
-        (2, Reply::Free, false),
-        (1, Reply::Free, true),
-        (1, Reply::Blocked(region(Span { lo: 0, hi: 9 })), false),
-    ] {
-        assert!(rt; may_follow(rt.alloc(), &[(9, pid, QUERY, reply)])? == may);
-    }
-    Ok(())
-}
-
-// Adds that the incarnation of node 1 is gone, and then an answer to process 1 of a node.
-fn push_gone(
-    items: &mut Vec<Item>,
-    position: u32,
-    incarnation: u16,
-    id: CallId,
-    op: Op,
-    reply: Reply,
-) -> Result<(), AllocError>
-    requires { position < u32.MAX }
+// Whether two calls at these places, from 0, make a history.
+fn is_history(alloc: Global, first: u32, second: u32) -> Result<bool, AllocError>
+    requires first { first < 100 }
+    requires second { second < 100 }
 {
-    items.push(Item::Gone {
-        position,
-        node: 1,
-        incarnation,
-    })?;
-    items.push(Item::Answered {
-        position: position + 1,
-        id,
-        pid: 1,
-        op,
-        reply,
-    })?;
-    Ok(())
-}
-
-// Whether a process that begins before the incarnation of its node is gone may then be answered so.
-fn may_open_then(alloc: Global, incarnation: u16, reply: Reply) -> Result<bool, Fail> {
-    let mut items = Vec::new(alloc);
-    push_calls(&mut items, &[(1, 1, Op::Spawn, Reply::Done)])?;
-    push_gone(&mut items, 2, incarnation, CALL, OPEN, reply)?;
-    is_legal(alloc, items)
-}
-
-#[test]
-fn ends_the_processes_of_a_node_that_is_gone(rt: HostRuntime) -> Result<(), Fail> {
-    for (incarnation, reply, may) in [
-        (1, Reply::NoProcess, true),
-        (1, Reply::Fd(0), false),
-        (2, Reply::Fd(0), true),
-    ] {
-        assert!(rt; may_open_then(rt.alloc(), incarnation, reply)? == may);
-    }
-    Ok(())
-}
-
-// Process 1 of node 1 holds a write lock of bytes 0 to 9, and process 1 of node 2 has the file open.
-fn push_two_nodes(items: &mut Vec<Item>, kind: Kind) -> Result<(), AllocError> {
-    let set = Op::Set {
-        fd: 0,
-        kind,
-        mode: Mode::Write,
-        start: 0,
-        len: 10,
-    };
-    for (position, id, op, reply) in [
-        (1, CALL, Op::Spawn, Reply::Done),
-        (2, ELSEWHERE, Op::Spawn, Reply::Done),
-        (3, CALL, OPEN, Reply::Fd(0)),
-        (4, ELSEWHERE, OPEN, Reply::Fd(0)),
-        (5, CALL, set, Reply::Done),
-    ] {
-        items.push(Item::Answered {
-            position,
-            id,
-            pid: 1,
-            op,
-            reply,
-        })?;
-    }
-    Ok(())
-}
-
-// Whether the process of node 2 may be answered so once the incarnation of node 1 is gone.
-fn may_set_then(alloc: Global, kind: Kind, incarnation: u16, reply: Reply) -> Result<bool, Fail> {
-    let mut items = Vec::new(alloc);
-    push_two_nodes(&mut items, kind)?;
-    push_gone(&mut items, 6, incarnation, ELSEWHERE, SECOND, reply)?;
-    is_legal(alloc, items)
-}
-
-// The process of node 2 gets its lock where the node that was in the way is gone.
-#[test]
-fn frees_the_locks_of_a_node_that_is_gone(rt: HostRuntime) -> Result<(), Fail> {
-    for (kind, incarnation, reply, may) in [
-        (Kind::OfProcess, 1, Reply::Done, true),
-        (Kind::OfDescription, 1, Reply::Done, true),
-        (Kind::OfProcess, 1, blocked(Span { lo: 0, hi: 9 }), false),
-        (Kind::OfProcess, 2, blocked(Span { lo: 0, hi: 9 }), true),
-        (Kind::OfProcess, 2, Reply::Done, false),
-        (Kind::OfDescription, 2, Reply::Done, false),
-    ] {
-        assert!(rt; may_set_then(rt.alloc(), kind, incarnation, reply)? == may);
-    }
-    Ok(())
-}
-
-fn spawned(position: u32) -> Item {
-    Item::Answered {
-        position,
-        id: CALL,
-        pid: 7,
-        op: Op::Spawn,
-        reply: Reply::Done,
-    }
-}
-
-// Two items at these positions, whether or not they make a history, which then has them.
-fn is_history(alloc: Global, first: u32, second: u32) -> Result<bool, AllocError> {
-    let items = vec![in alloc; spawned(first), spawned(second)]?;
+    let call = (1, 7, Op::Spawn, Reply::Done);
+    let items = vec![in alloc; answered(first, &call), answered(second, &call)]?;
     match History::new(Version::Second, items) {
-        Ok(history) => Ok(history.items() == [spawned(first), spawned(second)].as_slice()),
+        Ok(history) => Ok(history.items().len() == 2),
         Err(_) => Ok(false),
     }
 }
 
 #[test]
 fn the_positions_of_a_history_rise(rt: HostRuntime) -> Result<(), Fail> {
-    for (first, second, may) in [(2, 5, true), (5, 5, false), (5, 4, false), (1, 0, false)] {
-        assert!(rt; is_history(rt.alloc(), first, second)? == may);
-    }
+    assert!(rt; is_history(rt.alloc(), 1, 4)? && is_history(rt.alloc(), 0, 1)?);
+    assert!(rt; !is_history(rt.alloc(), 4, 4)? && !is_history(rt.alloc(), 4, 3)?);
     Ok(())
 }

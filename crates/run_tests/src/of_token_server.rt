@@ -1,19 +1,18 @@
 //! Servers, by messages that no node sends.
 ghost use Rattle.std.specs.Prelude.{◌≤◌, IfOk};
-ghost use Rattle.model.specs.Limits.{IsNumber};
-ghost use Rattle.messages.specs.Shapes.{most_files};
 ghost use Rattle.token_server.specs.Edits.{Fits};
 
+use crate::protocol::{
+    ASKS, FOURTH, THIRD, are_sent, conflict, deny, freed, grant, host, released, request, revoke,
+    taken,
+};
 use intervals::span::{GREATEST, Span};
-use messages::command_number::CommandNumber;
 use messages::file_number::FileNumber;
 use messages::message::{Message, Urgency};
 use messages::outcome::Outcome;
 use messages::refusal::StepError;
 use messages::shape::Shape;
-use messages::wanted::Wanted;
 use model::call::CallId;
-use model::host::Host;
 use model::lock_info::LockInfo;
 use model::mode::Mode;
 use model::owner::{Kind, Owner};
@@ -33,12 +32,7 @@ const WHOLE: Span = Span {
     hi: GREATEST,
 };
 
-// A node that holds a token, and its lock.
-const HOLDER: Host = Host {
-    node: 1,
-    incarnation: 1,
-};
-
+// The lock of node 1.
 const LOCK: LockInfo = LockInfo {
     owner: Owner {
         node: 1,
@@ -50,137 +44,59 @@ const LOCK: LockInfo = LockInfo {
     span: LOW,
 };
 
-// Its calls, one of another node, and one that this node never made.
-const HELD: CallId = CallId {
-    node: 1,
-    incarnation: 1,
-    number: 3,
-};
-
-const NEXT: CallId = CallId { number: 4, ..HELD };
-
-const ASKS: CallId = CallId { node: 2, ..HELD };
-
+// A call that node 2 never made.
 const OTHER: CallId = CallId { number: 9, ..ASKS };
 
 // A request of those bytes, or, if it can be, of all.
-fn asks(file: u16, call: CallId, urgency: Urgency, required: Span) -> ServerEvent
-    requires { IsNumber most_files file }
-{
+fn asks(call: CallId, urgency: Urgency, required: Span) -> ServerEvent {
     let _ = &required.lo; // tells the proof that the span ends by the greatest offset
-    ServerEvent::Deliver(Message::Request {
-        file: FileNumber::of(file),
-        call,
-        urgency,
-        mode: Mode::Write,
-        wanted: Wanted::new(required, WHOLE),
-    })
+    ServerEvent::Deliver(request(call, urgency, required, WHOLE))
 }
 
-fn request(file: u16, call: CallId) -> ServerEvent
-    requires { IsNumber most_files file }
-{
-    asks(file, call, Urgency::Now, LOW)
+fn wants(call: CallId) -> ServerEvent {
+    asks(call, Urgency::Now, LOW)
 }
 
-fn grant(number: u32, call: CallId) -> Message
+fn waits(required: Span) -> ServerEvent {
+    asks(ASKS, Urgency::Waits, required)
+}
+
+fn given(number: u32, call: CallId) -> Option<Message>
     requires { 1 ≤ number }
 {
-    Message::Grant {
-        file: FileNumber::of(2),
-        number: CommandNumber::of(1, number),
-        call,
-        mode: Mode::Write,
-        span: WHOLE,
-    }
+    Some(grant(number, call, WHOLE))
 }
 
-fn taken(number: u32, call: CallId) -> ServerEvent
+fn was_taken(number: u32, call: CallId) -> ServerEvent
     requires { 1 ≤ number }
 {
-    ServerEvent::Deliver(Message::Taken {
-        file: FileNumber::of(2),
-        number: CommandNumber::of(1, number),
-        call,
-    })
+    ServerEvent::Deliver(taken(number, call))
 }
 
-fn revoke(number: u32) -> Message
+fn revoked(number: u32) -> Option<Message>
     requires { 1 ≤ number }
 {
-    Message::Revoke {
-        file: FileNumber::of(2),
-        number: CommandNumber::of(1, number),
-        holder: HOLDER,
-        call: ASKS,
-        mode: Mode::Write,
-        wanted: Wanted::new(LOW, WHOLE),
-    }
+    Some(revoke(number, 1, LOW, WHOLE))
 }
 
-fn released(number: u32) -> ServerEvent
+fn was_released(number: u32) -> ServerEvent
     requires { 1 ≤ number }
 {
-    ServerEvent::Deliver(Message::Released {
-        file: FileNumber::of(2),
-        number: CommandNumber::of(1, number),
-        holder: HOLDER,
-        call: ASKS,
-        span: WHOLE,
-    })
+    ServerEvent::Deliver(released(number, WHOLE))
 }
 
-fn conflict(number: u32, call: CallId) -> ServerEvent
+fn in_conflict(number: u32, call: CallId) -> ServerEvent
     requires { 1 ≤ number }
 {
-    ServerEvent::Deliver(Message::Conflict {
-        file: FileNumber::of(2),
-        number: CommandNumber::of(1, number),
-        holder: HOLDER,
-        call,
-        lock: LOCK,
-    })
+    ServerEvent::Deliver(conflict(number, call, LOCK))
 }
 
-fn deny(number: u32) -> Message
-    requires { 1 ≤ number }
-{
-    Message::Deny {
-        file: FileNumber::of(2),
-        call: ASKS,
-        holder: HOLDER,
-        number: CommandNumber::of(1, number),
-        lock: LOCK,
-    }
-}
-
-fn freed(incarnation: u16) -> ServerEvent {
-    ServerEvent::Deliver(Message::Freed {
-        file: FileNumber::of(2),
-        holder: Host {
-            node: 1,
-            incarnation: incarnation.max(1),
-        },
-    })
+fn was_freed(incarnation: u16) -> ServerEvent {
+    ServerEvent::Deliver(freed(incarnation))
 }
 
 // An event, the one message that it must send, if there is one, and whether the server is another after it.
 type Move = (ServerEvent, Option<Message>, bool);
-
-// Whether the message is the only one.
-fn is_only(messages: &[Message], message: &Message) -> bool {
-    match messages {
-        [only] => only.same(message),
-        _ => false,
-    }
-}
-
-fn has_sent(outcome: &Outcome, message: &Option<Message>) -> bool {
-    match message {
-        Some(message) => is_only(outcome.sends.as_slice(), message),
-        None => outcome.sends.is_empty(),
-    }
-}
 
 // The server in a box. A test keeps no other, since one is dropped in fewer steps, each of which the
 // check proves.
@@ -188,10 +104,9 @@ fn boxed(alloc: Global, server: Server) -> Result<Box<Server>, StepError> {
     Ok(Box::new(alloc, server)?)
 }
 
-fn begun(alloc: Global, shape: Shape) -> Result<Box<Server>, StepError>
-    requires { 2 ≤ shape.files }
-{
-    boxed(alloc, Server::new(alloc, shape, 2)?)
+fn begun(alloc: Global, shape: Shape) -> Result<Box<Server>, StepError> {
+    let _ = shape.files(); // tells the proof that there is one
+    boxed(alloc, Server::new(alloc, shape, 1)?)
 }
 
 fn begins(alloc: Global) -> Result<Box<Server>, Fail> {
@@ -238,7 +153,7 @@ fn planned_again(alloc: Global, server: &Server, event: &ServerEvent) -> Result<
 fn goes_on(alloc: Global, server: &mut Server, expected: &Move) -> Result<bool, StepError> {
     let change = planned_again(alloc, server, &expected.0)?;
     let outcome = server.apply(change);
-    Ok(has_sent(&outcome, &expected.1))
+    Ok(are_sent(outcome.sends.as_slice(), &expected.1))
 }
 
 // Goes on from what the event gives; whether this is what it must be, planned or not.
@@ -246,7 +161,7 @@ fn takes(alloc: Global, server: &mut Server, expected: &Move) -> Result<bool, St
     let (next, outcome) = stepped_again(alloc, server, &expected.0)?;
     let changes = !next.same(server);
     let is_planned = goes_on(alloc, server, expected)? && next.same(server);
-    Ok(is_planned && changes == expected.2 && has_sent(&outcome, &expected.1))
+    Ok(is_planned && changes == expected.2 && are_sent(outcome.sends.as_slice(), &expected.1))
 }
 
 // Whether each event comes to what it must.
@@ -263,28 +178,29 @@ fn take(alloc: Global, server: &mut Server, moves: &[Move]) -> Result<bool, Step
 fn grants(alloc: Global, server: &mut Server) -> Result<bool, StepError> {
     let moves = [
         (ServerEvent::Resend, None, false),
-        (request(2, HELD), Some(grant(1, HELD)), true),
-        (request(2, NEXT), None, true),
-        (taken(2, HELD), None, false),
-        (released(1), None, false),
-        (ServerEvent::Resend, Some(grant(1, HELD)), false),
-        (taken(1, HELD), Some(grant(2, NEXT)), true),
-        (taken(2, NEXT), None, true),
+        (wants(THIRD), given(1, THIRD), true),
+        (wants(FOURTH), None, true),
+        (was_taken(2, THIRD), None, false),
+        (was_released(1), None, false),
+        (ServerEvent::Resend, given(1, THIRD), false),
+        (was_taken(1, THIRD), given(2, FOURTH), true),
+        (was_taken(2, FOURTH), None, true),
     ];
     take(alloc, server, &moves)
 }
 
 // Whether an answer that names another call ends none, and the holder is then asked again.
 fn denies(alloc: Global, server: &mut Server) -> Result<bool, StepError> {
+    let denied = deny(4, ASKS, 1, LOCK);
     let moves = [
-        (request(2, ASKS), Some(revoke(3)), true),
-        (freed(1), None, false),
-        (freed(2), None, false),
-        (taken(3, ASKS), None, false),
-        (conflict(2, ASKS), None, false),
-        (conflict(3, OTHER), Some(revoke(4)), true),
-        (conflict(4, ASKS), Some(deny(4)), true),
-        (conflict(4, ASKS), None, false),
+        (wants(ASKS), revoked(3), true),
+        (was_freed(1), None, false),
+        (was_freed(2), None, false),
+        (was_taken(3, ASKS), None, false),
+        (in_conflict(2, ASKS), None, false),
+        (in_conflict(3, OTHER), revoked(4), true),
+        (in_conflict(4, ASKS), Some(denied), true),
+        (in_conflict(4, ASKS), None, false),
     ];
     take(alloc, server, &moves)
 }
@@ -292,29 +208,15 @@ fn denies(alloc: Global, server: &mut Server) -> Result<bool, StepError> {
 // Whether a call that waits is asked for as it was first, when it asks again, when locks may be gone and at a resend.
 fn puts_off(alloc: Global, server: &mut Server) -> Result<bool, StepError> {
     let moves = [
-        (asks(2, ASKS, Urgency::Waits, LOW), Some(revoke(5)), true),
-        (conflict(5, ASKS), None, true),
-        (asks(2, ASKS, Urgency::Waits, HIGH), Some(revoke(6)), true),
-        (conflict(6, ASKS), None, true),
-        (freed(1), Some(revoke(7)), true),
-        (conflict(7, ASKS), None, true),
-        (ServerEvent::Resend, Some(revoke(8)), true),
+        (waits(LOW), revoked(5), true),
+        (in_conflict(5, ASKS), None, true),
+        (waits(HIGH), revoked(6), true),
+        (in_conflict(6, ASKS), None, true),
+        (was_freed(1), revoked(7), true),
+        (in_conflict(7, ASKS), None, true),
+        (ServerEvent::Resend, revoked(8), true),
     ];
     take(alloc, server, &moves)
-}
-
-fn is_copied(server: &Server) -> Result<bool, StepError> {
-    let copy = server.copy()?;
-    Ok(copy.same(server))
-}
-
-#[test]
-fn an_answer_ends_what_it_names(rt: HostRuntime) -> Result<(), Fail> {
-    let alloc = rt.alloc();
-    let mut server = begins(alloc)?;
-    assert!(rt; grants(alloc, &mut server)? && denies(alloc, &mut server)?);
-    assert!(rt; puts_off(alloc, &mut server)? && is_copied(&server)?);
-    Ok(())
 }
 
 // Whether a call that waits is forgotten with its node, and a request that stands there is not taken again.
@@ -324,11 +226,11 @@ fn learns(alloc: Global, server: &mut Server) -> Result<bool, StepError> {
         incarnation: 1,
     };
     let moves = [
-        (request(2, ASKS), None, false),
+        (wants(ASKS), None, false),
         (learn, None, true),
-        (ServerEvent::Resend, Some(revoke(8)), false),
-        (request(2, ASKS), None, false),
-        (released(8), None, true),
+        (ServerEvent::Resend, revoked(8), false),
+        (wants(ASKS), None, false),
+        (was_released(8), None, true),
         (ServerEvent::Resend, None, false),
     ];
     take(alloc, server, &moves)
@@ -357,11 +259,15 @@ fn refuses(alloc: Global, server: &Server, events: &[ServerEvent]) -> bool {
 
 #[test]
 fn refuses_messages_for_others(rt: HostRuntime) -> Result<(), Fail> {
+    let message = Message::Freed {
+        file: FileNumber::of(3),
+        holder: host(1, 1),
+    };
     let events = [
-        request(3, HELD),
-        request(2, CallId { node: 3, ..HELD }),
-        ServerEvent::Deliver(grant(1, HELD)),
-        ServerEvent::Deliver(revoke(1)),
+        ServerEvent::Deliver(message),
+        wants(CallId { node: 3, ..THIRD }),
+        ServerEvent::Deliver(grant(1, THIRD, WHOLE)),
+        ServerEvent::Deliver(revoke(1, 1, LOW, WHOLE)),
     ];
     let server = begins(rt.alloc())?;
     assert!(rt; refuses(rt.alloc(), &server, &events));
