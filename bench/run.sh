@@ -2,8 +2,9 @@
 # Times lockreplay on scripts of each kind that make some 10,000, 100,000 and 1,000,000 entries of the journal (it holds
 # 1,048,576). Prints for each the processor seconds of its fastest run (of nine times ten that are counted together, five and
 # five), entries per second and peak memory, and beside the last size the ratio of the time an entry takes there to what it
-# takes in the first. Of queue and rivals, which are about many calls at a server, the sizes are 100,000 and 1,000,000 entries with
-# few calls there, and 1,000,000 with many: so their ratios tell what more entries cost, and what more entries and more calls do.
+# takes in the first. Of queue and rivals, which are about many calls at a server, of regions, opens and wide, which are about a node that
+# holds much, the sizes are 100,000 and 1,000,000 entries with little of it, and 1,000,000 with much: so their ratios tell what more
+# entries cost, and what more entries and more of it do.
 # usage: bench/run.sh [DIR [KIND]..]   (the scripts and listings stay in DIR; without one they go)
 here=$(dirname -- "$(readlink -f -- "$0")") || exit 1
 folder=$1
@@ -12,7 +13,7 @@ if [ -z "$folder" ]; then
     folder=$(mktemp -d) || exit 1
     trap 'rm -rf "$folder"' EXIT
 fi
-[ $# -gt 0 ] || set -- covered readers lossy fight storm crowd walk scattered regions churn failures turns queue rivals rebuilt
+[ $# -gt 0 ] || set -- covered readers lossy fight storm crowd walk scattered regions churn failures turns queue rivals opens wide rebuilt
 mkdir -p "$folder" || exit 1
 "$here/../lockreplay" --help >/dev/null || exit 1
 program=$here/../crates/lockreplay/out/lockreplay
@@ -39,6 +40,9 @@ for kind in "$@"; do
         turns) share=3 start=190 ;;
         queue) sizes="100000:5:512 1000000:5:512 1000000:5:16384" ;;
         rivals) sizes="100000:5:16 1000000:5:16 1000000:5:1008" ;;
+        regions) sizes="100000:5:64 1000000:5:64 1000000:5:16000" ;;
+        opens) sizes="100000:5:2 1000000:5:2 1000000:5:255" ;;
+        wide) sizes="100000:5:2 1000000:5:2 1000000:5:250" ;;
         rebuilt) sizes="10000:5:10 100000:5:300 1000000:5:3900" ;;
     esac
     first=

@@ -16,7 +16,7 @@
 #          come to have thousands of runs, since each asks for just those bytes
 # scattered a process on each of 64 nodes sets and unlocks one byte, from a high one down, the next node the next byte but one: so
 #          their tokens come to have thousands of runs, each written at the low end
-# regions  a process of one node has some thousand regions of ten bytes in one file, all of which the token of its node covers,
+# regions  a process of one node has CALLS (1,000, up to 16,000) regions of ten bytes in one file, all of which the token of its node covers,
 #          and unlocks or sets again one of them, anywhere, at each line
 # churn    a process of one node forks children, 64 at once: each opens one of four files, locks bytes of it for itself and
 #          for the description, closes one of its two descriptors of that, locks again and exits; the node's token
@@ -31,6 +31,9 @@
 # rivals   16 processes on each of 63 nodes want to write ten bytes, each others, of a file whose token one more node has, without
 #          a lock: so 1,008 requests are served at once. Whoever gets its bytes unlocks them and asks for the ten behind all
 #          others. CALLS is how many are served at once, up to 1008
+# opens    CALLS processes of one node (255, up to 255) have 64 descriptors each; one of them closes one and opens a file again
+# wide     CALLS processes of one node (250, up to 255) have 200 read locks each in one file; one more asks for a lock that would
+#          read all of these bytes
 # rebuilt  64 nodes have tokens of CALLS runs each (4,000, up to 4,000); then the server fails and is rebuilt from what they report, again
 #          and again
 # usage: script.sh KIND LINES [CALLS]
@@ -154,13 +157,14 @@ function regions() {
     seed = 1
     put("cluster nodes 1 files 1 policy wide")
     begin(1, 1)
-    for (place = 0; place < 1000; place++) {
+    many = calls == "" ? 1000 : calls
+    for (place = 0; place < many; place++) {
         put("call 1 1 set 0 proc write " 20 * place " 10")
         if (place == 0)
             put("settle")
     }
     while (written < lines) {
-        place = draw(1000)
+        place = draw(many)
         put("call 1 1 " (gone[place] ? "set 0 proc write " : "unlock 0 proc ") 20 * place " 10")
         gone[place] = !gone[place]
     }
@@ -319,6 +323,37 @@ function rivals() {
     }
 }
 
+function opens() {
+    many = calls == "" ? 255 : calls
+    put("cluster nodes 1 files 4 policy wide")
+    for (pid = 1; pid <= many; pid++) {
+        put("call 1 " pid " spawn")
+        for (number = 0; number < 64; number++)
+            put("call 1 " pid " open " number % 4 + 1 " rw")
+    }
+    for (number = 0; written < lines; number++) {
+        put("call 1 1 close " number % 64)
+        put("call 1 1 open " number % 4 + 1 " rw")
+    }
+}
+
+# No lock is in the way: what is asked for is a read lock.
+function wide() {
+    many = calls == "" ? 250 : calls
+    put("cluster nodes 1 files 1 policy wide")
+    for (pid = 1; pid <= many; pid++) {
+        begin(1, pid)
+        for (number = 0; number < 200; number++) {
+            put("call 1 " pid " set 0 proc read " 20 * number + pid % 7 " 10")
+            if (pid == 1 && number == 0)
+                put("settle")
+        }
+    }
+    begin(1, 256)
+    while (written < lines)
+        put("call 1 256 query 0 proc read 0 4100")
+}
+
 # Each node reads one byte in two: two lines for each run of each node come before the first failure.
 function rebuilt() {
     many = calls == "" ? 4000 : calls
@@ -369,6 +404,10 @@ BEGIN {
         queue()
     else if (kind == "rivals")
         rivals()
+    else if (kind == "opens")
+        opens()
+    else if (kind == "wide")
+        wide()
     else if (kind == "rebuilt")
         rebuilt()
     else
