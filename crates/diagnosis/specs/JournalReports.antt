@@ -1,5 +1,5 @@
 -- What is said of a text that is to be a journal.
-use Rattle.std.specs.Prelude.{◌≡◌, ℕ, ◌-◌, ◌==◌, nat_le, Bool, false, if◌then◌else◌, List, ◌++◌, codes, decimal, length, slice_get, String, string_bytes, MatchOption, Option}
+use Rattle.std.specs.Prelude.{◌≡◌, ℕ, ◌-◌, ◌==◌, nat_le, Bool, true, if◌then◌else◌, List, ◌++◌, codes, decimal, length, slice_get, String, string_bytes, MatchOption, Option}
 use Rattle.std.specs.Global.{Global}
 use Rattle.std.specs.Option.{option_map_or}
 use Rattle.messages.specs.Entries.{EntryFields}
@@ -15,16 +15,16 @@ IsJournalText text = (shape : ShapeFields) × ((entries : List EntryFields) × W
 abbrev pub BeginsAsJournal : List ℕ → Type 0
 BeginsAsJournal text = (rest : List ℕ) × (text ≡ codes "journal " ++ rest)
 
--- the last byte of the text is a line feed
+-- the text is whole lines
 abbrev pub ends_a_line : List ℕ → Bool
-ends_a_line text = option_map_or (λ b. b == line_feed) (slice_get text (length text - 1)) false
+ends_a_line text = option_map_or (λ b. b == line_feed) (slice_get text (length text - 1)) true
 
 -- why the line of this number is the first that may not stand there: it ends with a line feed, or it is missing, or it has no line feed
 unfoldable pub journal_reason : List ℕ → ℕ → List ℕ
 journal_reason text number =
     if nat_le number (line_feeds text) then codes "no journal has this line here"
     else if ends_a_line text then codes "the journal was cut off before this line: its last line is \"end COUNT\""
-    else codes "the journal was cut off in this line, which has no line feed"
+    else codes "this line has no line feed, as where the journal was cut off in it"
 
 -- the line of the report
 abbrev pub journal_report_text : List ℕ → List ℕ → ℕ → List ℕ

@@ -54,7 +54,7 @@ fn reason_of(text: &str, line: u64) -> &'static str
     } else if ends_a_line(text) {
         "the journal was cut off before this line: its last line is \"end COUNT\""
     } else {
-        "the journal was cut off in this line, which has no line feed"
+        "this line has no line feed, as where the journal was cut off in it"
     }
 }
 
@@ -68,12 +68,12 @@ fn line_feeds(text: &str) -> u64
         .count() as u64
 }
 
-// Whether the last byte of the text is a line feed.
+// Whether the text is whole lines: its last byte, if it has one, is a line feed.
 fn ends_a_line(text: &str) -> bool
     ensures { result ≡ ends_a_line text.now }
 {
     match text.as_bytes().last() {
         Some(byte) => *byte == b'\n',
-        None => false,
+        None => true,
     }
 }

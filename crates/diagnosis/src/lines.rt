@@ -1,6 +1,5 @@
 //! What lines say.
 ghost use Rattle.std.specs.Prelude.{◌≡◌, ◌≤◌, true, false, MatchBool};
-ghost use Rattle.texts.specs.LineFeeds.{is_skipped};
 ghost use Rattle.diagnosis.specs.Places.{IsFit, IsUnfit};
 
 use lockscript::cluster_line::shape_of;
@@ -8,13 +7,6 @@ use lockscript::commands::command_of;
 
 /// The greatest number of a line of a script.
 const GREATEST_LINE: u64 = 4_294_967_295;
-
-/// Whether the line says nothing: it is empty, or a comment.
-pub(crate) fn is_skipped(line: &str) -> bool
-    ensures { result ≡ is_skipped line.now }
-{
-    line.is_empty() || line.starts_with('#')
-}
 
 /// Whether the line names a cluster that scripts may have, whatever its number.
 pub(crate) fn names_cluster(number: u64, line: &str) -> bool

@@ -1,6 +1,7 @@
 //! Where lines stand.
 use crate::expected::Expected;
-use crate::lines::{asks_at, is_skipped, names_cluster};
+use crate::lines::{asks_at, names_cluster};
+use lockscript::lines::is_skipped;
 
 /// What is expected in the cluster's line.
 const CLUSTER: [Expected; 1] = [Expected::ClusterLine];

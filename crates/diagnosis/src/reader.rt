@@ -3,6 +3,7 @@ ghost use Rattle.std.specs.Prelude.{◌≡◌, ◌+◌, ◌<◌, ◌≤◌, ◌^
 ghost use Rattle.texts.specs.LineFeeds.{line_feeds, is_skipped, BeginsWithLine};
 
 use crate::place::Place;
+use lockscript::lines::split_line;
 
 /// What is left of a text, and the place of its first line.
 #[derive(Drop)]
@@ -38,11 +39,4 @@ impl<'a> Reader<'a> {
         self.place = place.behind(line);
         Some((place, line))
     }
-}
-
-// The first line of a text, and what stands after its line feed.
-fn split_line(text: &str) -> Option<(&str, &str)>
-    ensures { MatchOption result (line_feeds text.now ≡ 0) (λ parts. BeginsWithLine text.now parts.0.now parts.1.now) }
-{
-    text.split_once('\n')
 }

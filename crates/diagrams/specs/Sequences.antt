@@ -14,8 +14,8 @@ use Rattle.messages.specs.Entries.{EntryFields}
 use Rattle.messages.specs.Messages.{addressee, same_call}
 use Rattle.messages.specs.Shapes.{ShapeFields}
 use Rattle.cluster_core.specs.declared.item.Item.{Item}
-use Rattle.lockscript.specs.Texts.{call_text, op_text, reply_text}
-use Rattle.journal_text.specs.Texts.{holder_text}
+use Rattle.message_text.specs.Names.{call_text, holder_text}
+use Rattle.lockscript.specs.Texts.{op_text, reply_text}
 use Rattle.stories.specs.declared.made_call.MadeCall.{MadeCall}
 use Rattle.stories.specs.About.{answers}
 use Rattle.stories.specs.OpenCalls.{made_by}

@@ -10,7 +10,8 @@ use Rattle.messages.specs.Entries.{EntryFields}
 use Rattle.messages.specs.Shapes.{ShapeFields}
 use Rattle.cluster_core.specs.declared.item.Item.{Item}
 use Rattle.cluster_core.specs.declared.item.Item.TheVariants.{Answered, Gone}
-use Rattle.lockscript.specs.Texts.{call_text, op_text}
+use Rattle.message_text.specs.Names.{call_text}
+use Rattle.lockscript.specs.Texts.{op_text}
 use Rattle.stories.specs.Stories.{plain_text}
 use Rattle.pictures.specs.declared.answer.Answer.{Answer}
 use Rattle.pictures.specs.declared.bar.Bar.{Bar}

@@ -10,7 +10,7 @@ use Rattle.messages.specs.declared.message.Message.{Message}
 use Rattle.messages.specs.Entries.{EntryFields}
 use Rattle.messages.specs.Messages.{addressee, host_of}
 use Rattle.indexmap.specs.IndexSet.{insert_all}
-use Rattle.lockscript.specs.Texts.{host_text}
+use Rattle.message_text.specs.Names.{host_text}
 use Rattle.pictures.specs.declared.bar.Bar.{Bar}
 use Rattle.pictures.specs.Stretches.{PlacedFields}
 use Rattle.diagrams.specs.declared.track.Track.{Track}

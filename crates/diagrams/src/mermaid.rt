@@ -6,7 +6,6 @@ ghost use Rattle.diagrams.specs.Sequences.{all_text, diagram_text, entry_lines, 
 use crate::notes::{push_actor_id, push_entry_lines};
 use crate::places::Places;
 use cluster_core::item::Item;
-use intervals::span_map::NoMemory;
 use messages::actor::Actor;
 use messages::entry::Entry;
 use messages::shape::Shape;
@@ -31,7 +30,7 @@ use stories::lines::push_actor;
 /// no later entry.
 ///
 /// # Errors
-/// `NoMemory` where a request for memory was refused.
+/// `AllocError` where a request for memory was refused.
 #[tactic(auto, unfolding(crate::specs::Sequences::sequence_text))]
 pub fn sequence(
     alloc: Global,
@@ -39,7 +38,7 @@ pub fn sequence(
     entries: &[Entry],
     history: &[Item],
     window: &Window,
-) -> Result<String, NoMemory>
+) -> Result<String, AllocError>
     ensures { IfOk result (λ text. string_bytes text ≡ sequence_text shape.now entries.now history.now window.now) }
 {
     let window = window.cut(entries.len() as u64);

@@ -5,8 +5,9 @@ ghost use Rattle.diagrams.specs.Places.{call_at};
 ghost use Rattle.diagrams.specs.Sequences.{actor_id, call_note, coming_line, entry_lines, event_lines, event_note, history_note, is_placed, lost_line, message_line, note_start, placed_note, reply_end, reply_note, reply_start, subject_text, told_lines};
 
 use crate::places::Places;
-use lockscript::names::{push_call, push_host, push_reply};
 use lockscript::operations::Operation;
+use lockscript::replies::push_reply;
+use message_text::names::{push_call, push_host};
 use messages::actor::Actor;
 use messages::entry::Entry;
 use messages::event::Event;

@@ -6,8 +6,8 @@ ghost use Rattle.diagrams.specs.Traces.{begin_of, call_event, call_head, duratio
 use crate::track::Track;
 use crate::tracks::push_place;
 use cluster_core::item::Item;
-use lockscript::names::push_call;
 use lockscript::operations::Operation;
+use message_text::names::push_call;
 use messages::entry::Entry;
 use messages::event::Event;
 use messages::message::Message;

@@ -5,7 +5,6 @@ ghost use Rattle.diagrams.specs.Traces.{call_event, entry_events, events_text, m
 use crate::slices::{push_call_event, push_entry_events, push_mark_if};
 use crate::tracks::push_names;
 use cluster_core::item::Item;
-use intervals::span_map::NoMemory;
 use messages::entry::Entry;
 use messages::shape::Shape;
 use messages::version::Version;
@@ -27,7 +26,7 @@ use std::alloc::{AllocError, Global};
 /// history has it; and a global one for each failure and start.
 ///
 /// # Errors
-/// `NoMemory` where a request for memory was refused.
+/// `AllocError` where a request for memory was refused.
 #[tactic(auto, unfolding(crate::specs::Traces::trace_text))]
 pub fn trace(
     alloc: Global,
@@ -35,7 +34,7 @@ pub fn trace(
     entries: &[Entry],
     history: &[Item],
     window: &Window,
-) -> Result<String, NoMemory>
+) -> Result<String, AllocError>
     ensures { IfOk result (λ text. string_bytes text ≡ trace_text shape.now entries.now history.now window.now) }
 {
     let window = window.cut(entries.len() as u64);

@@ -2,7 +2,7 @@
 ghost use Rattle.std.specs.Prelude.{◌≡◌, ◌++◌, string_bytes, OnOk};
 ghost use Rattle.diagrams.specs.Tracks.{incarnation_of, process_name, process_of, thread_name, thread_of, track_in, track_of, track_of_bar, track_of_call, track_to};
 
-use lockscript::names::push_host;
+use message_text::names::push_host;
 use messages::actor::Actor;
 use messages::entry::Entry;
 use messages::event::Event;

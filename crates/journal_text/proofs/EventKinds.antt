@@ -10,22 +10,23 @@ use Rattle.messages.specs.declared.version.Version.{Version}
 use Rattle.texts.specs.Layout.{space}
 use Rattle.texts.specs.Reads.{Both, IsOneField, Lacks, Reads, pair_text}
 use Rattle.lockscript.specs.Served.{IsServedOp}
-use Rattle.lockscript.specs.Texts.{call_text, op_text}
+use Rattle.message_text.specs.Names.{call_text, holder_text, server_text}
+use Rattle.lockscript.specs.Texts.{op_text}
 use Rattle.texts.proofs.FieldValues.{apart-number}
-use Rattle.journal_text.proofs.Fronts.{Kinds, apart-kinds, kind_in}
+use Rattle.message_text.proofs.Fronts.{Kinds, apart-kinds, kind_in}
 use Rattle.lockscript.proofs.OperationKinds.{apart-op}
 use Rattle.texts.proofs.Pairs.{AreApart, apart-pair}
-use Rattle.lockscript.proofs.SingleWords.{file_words, pid_words}
+use Rattle.message_text.proofs.SingleWords.{file_words, pid_words}
 use Rattle.texts.proofs.SingleWords.{first-word, one-word}
 use Rattle.journal_text.specs.declared.named_event.NamedEvent.{NamedEvent}
 use Rattle.journal_text.specs.declared.named_event.NamedEvent.TheVariants.{Call, Deliver, Interrupt, Retry, Resend, Declare, Restart, Learn, FailServer, StartServer}
 use Rattle.journal_text.specs.Events.{IsServedEvent, named_text}
-use Rattle.journal_text.specs.Parts.{AreServerParts}
-use Rattle.journal_text.specs.Served.{IsFile, IsHolder, IsServedMessage}
-use Rattle.journal_text.specs.Texts.{holder_text, message_text, server_text}
-use Rattle.journal_text.proofs.MessageKinds.{apart-message}
-use Rattle.journal_text.proofs.Names.{apart-call, apart-holder, apart-server}
-use Rattle.journal_text.proofs.Words.{call_words, holder_words}
+use Rattle.message_text.specs.Parts.{AreServerParts}
+use Rattle.message_text.specs.Served.{IsFile, IsHolder, IsServedMessage}
+use Rattle.message_text.specs.Texts.{message_text}
+use Rattle.message_text.proofs.MessageKinds.{apart-message}
+use Rattle.message_text.proofs.NameTexts.{apart-call, apart-holder, apart-server}
+use Rattle.message_text.proofs.Words.{call_words, holder_words}
 
 pub data EventKind : Type 0 where
   calls : EventKind

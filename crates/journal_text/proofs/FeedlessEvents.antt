@@ -5,13 +5,14 @@ use Rattle.messages.specs.declared.version.Version.{Version}
 use Rattle.texts.specs.LineFeeds.{line_feed}
 use Rattle.texts.specs.Reads.{Both, Lacks, pair_text}
 use Rattle.lockscript.specs.Served.{IsServedOp}
-use Rattle.lockscript.specs.Texts.{call_text, op_text}
+use Rattle.message_text.specs.Names.{call_text, holder_text}
+use Rattle.lockscript.specs.Texts.{op_text}
 use Rattle.texts.proofs.SingleWords.{lacks-tested}
 use Rattle.journal_text.specs.Events.{IsServedEvent, named_text}
-use Rattle.journal_text.specs.Served.{IsFile, IsHolder}
-use Rattle.journal_text.specs.Texts.{holder_text}
-use Rattle.journal_text.proofs.Feedless.{HasNone, files, holders, named_calls, of_kinds, pair, pids, servers}
-use Rattle.journal_text.proofs.FeedlessMessages.{feedless-message}
+use Rattle.message_text.specs.Served.{IsFile, IsHolder}
+use Rattle.message_text.proofs.Feedless.{HasNone, files, holders, named_calls, of_kinds, pair, servers}
+use Rattle.journal_text.proofs.Feedless.{pids}
+use Rattle.message_text.proofs.FeedlessMessages.{feedless-message}
 use Rattle.journal_text.proofs.FeedlessOps.{feedless-op}
 use Rattle.journal_text.proofs.EventKinds.{EventKind, Fit, events, front, rest}
 use Rattle.journal_text.proofs.EventKinds.EventKind.{calls, declares, delivers, fails, interrupts, learns, resends, restarts, retries, starts}

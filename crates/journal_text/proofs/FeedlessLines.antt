@@ -5,7 +5,8 @@ use Rattle.messages.specs.Shapes.{IsShape, ShapeFields}
 use Rattle.messages.specs.declared.version.Version.{Version}
 use Rattle.texts.specs.LineFeeds.{line_feed}
 use Rattle.texts.specs.Reads.{Lacks}
-use Rattle.lockscript.specs.Texts.{call_text, reply_text}
+use Rattle.message_text.specs.Names.{call_text}
+use Rattle.lockscript.specs.Texts.{reply_text}
 use Rattle.lockscript.proofs.Feeds.{none_is-line_feeds}
 use Rattle.lockscript.proofs.Passes.{IsSingle}
 use Rattle.texts.proofs.SingleWords.{lacks-tested}
@@ -14,9 +15,10 @@ use Rattle.journal_text.specs.Events.{IsServedEvent, named_text}
 use Rattle.journal_text.specs.Journals.{head_text}
 use Rattle.journal_text.specs.Lines.{IsCount, IsPosition, IsServedLine, line_text}
 use Rattle.journal_text.specs.Served.{IsServedReply}
-use Rattle.journal_text.proofs.Feedless.{HasNone, commands, heads, named_calls, number, of_kinds, pair}
+use Rattle.message_text.proofs.Feedless.{HasNone, commands, named_calls, number, of_kinds, pair}
+use Rattle.journal_text.proofs.Feedless.{heads}
 use Rattle.journal_text.proofs.FeedlessEvents.{feedless-event}
-use Rattle.journal_text.proofs.FeedlessMessages.{feedless-message}
+use Rattle.message_text.proofs.FeedlessMessages.{feedless-message}
 use Rattle.journal_text.proofs.FeedlessReplies.{feedless-reply}
 use Rattle.journal_text.proofs.LineKinds.{Fit, LineKind, front, lines, rest}
 use Rattle.journal_text.proofs.LineKinds.LineKind.{answers, ends, entries, sends}

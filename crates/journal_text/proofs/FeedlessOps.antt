@@ -10,7 +10,8 @@ use Rattle.texts.specs.Words.{access_text, kind_text}
 use Rattle.texts.proofs.SingleWords.{lacks-tested}
 use Rattle.lockscript.specs.Served.{AreOffsets, IsAskedLock, IsDescriptor, IsServedOp}
 use Rattle.lockscript.specs.Texts.{asked_lock_text, op_text, segment_text}
-use Rattle.journal_text.proofs.Feedless.{HasNone, accesses, after, asked_locks, fds, files, kinds_of_owners, pair, pids, segments}
+use Rattle.message_text.proofs.Feedless.{HasNone, files, pair}
+use Rattle.journal_text.proofs.Feedless.{accesses, after, asked_locks, fds, kinds_of_owners, pids, segments}
 
 opens : HasNone (pair_text decimal access_text) (Both (IsNumber most_files) (λ _. ⊤))
 opens = pair decimal access_text (IsNumber most_files) (λ _. ⊤) files accesses

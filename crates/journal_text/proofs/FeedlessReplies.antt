@@ -5,7 +5,8 @@ use Rattle.texts.specs.Reads.{Lacks}
 use Rattle.lockscript.specs.Texts.{reply_text}
 use Rattle.texts.proofs.SingleWords.{lacks-tested}
 use Rattle.journal_text.specs.Served.{IsServedReply}
-use Rattle.journal_text.proofs.Feedless.{HasNone, fds, nothing, of_kinds, served_locks}
+use Rattle.message_text.proofs.Feedless.{HasNone, of_kinds, served_locks}
+use Rattle.journal_text.proofs.Feedless.{fds, nothing}
 use Rattle.journal_text.proofs.ReplyKinds.{Fit, ReplyKind, front, replies, rest}
 use Rattle.journal_text.proofs.ReplyKinds.ReplyKind.{agains, bad_fds, blocks, dones, existing, fds as fd_replies, frees, interrupts, invalids, no_processes, overflows, too_many, without_locks}
 

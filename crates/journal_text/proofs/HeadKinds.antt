@@ -8,7 +8,7 @@ use Rattle.texts.proofs.Pairs.{AreApart}
 use Rattle.lockscript.specs.Scripts.{IsShapeOf, counts_text}
 use Rattle.lockscript.proofs.Clusters.{apart-clusters}
 use Rattle.journal_text.specs.Journals.{head_front, head_text}
-use Rattle.journal_text.proofs.Fronts.{Kinds, apart-kinds, kind_in, none-of_kind}
+use Rattle.message_text.proofs.Fronts.{Kinds, apart-kinds, kind_in, none-of_kind}
 
 abbrev pub table : List (List ℕ × Version)
 table = (head_front First, First) ∷ (head_front Second, Second) ∷ []

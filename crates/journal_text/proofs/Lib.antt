@@ -1,9 +1,3 @@
-pub mod Fronts
-pub mod Views
-pub mod Names
-pub mod SpanParts
-pub mod Words
-pub mod MessageKinds
 pub mod EventKinds
 pub mod ReplyKinds
 pub mod LineKinds
@@ -15,7 +9,6 @@ pub mod Standing
 pub mod Stuck
 pub mod Feedless
 pub mod FeedlessOps
-pub mod FeedlessMessages
 pub mod FeedlessReplies
 pub mod FeedlessEvents
 pub mod FeedlessLines
@@ -24,6 +17,3 @@ pub mod OneReading
 pub mod OldTexts
 pub mod Limits
 pub mod Writes
-pub mod ReportWords
-pub mod Commands
-pub mod ReportFields

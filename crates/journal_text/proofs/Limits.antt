@@ -40,7 +40,7 @@ use Rattle.journal_text.specs.Journals.{journal_text}
 use Rattle.journal_text.specs.Lines.{IsServedLine}
 use Rattle.journal_text.specs.OneText.{IsServedJournal}
 use Rattle.journal_text.specs.Readings.{WritesJournal, answer_lines, entry_in, entry_lines, lines_of}
-use Rattle.journal_text.specs.Served.{IsCommandNumber, IsServedMessage}
+use Rattle.message_text.specs.Served.{IsCommandNumber, IsServedMessage}
 use Rattle.journal_text.proofs.Printed.{read-printed}
 
 within : (few most n : ℕ) → few ≤ most → is_within few n ≡ true → IsNumber most n

@@ -8,9 +8,10 @@ use Rattle.messages.specs.declared.message.Message.{Message}
 use Rattle.messages.specs.declared.version.Version.{Version}
 use Rattle.texts.specs.Layout.{space}
 use Rattle.texts.specs.Reads.{Both, IsOneField, Lacks, Reads, pair_text}
-use Rattle.lockscript.specs.Texts.{call_text, reply_text}
+use Rattle.message_text.specs.Names.{call_text}
+use Rattle.lockscript.specs.Texts.{reply_text}
 use Rattle.texts.proofs.FieldValues.{apart-number}
-use Rattle.journal_text.proofs.Fronts.{Kinds, apart-kinds, kind_in}
+use Rattle.message_text.proofs.Fronts.{Kinds, apart-kinds, kind_in}
 use Rattle.texts.proofs.Pairs.{AreApart, AreWords, apart-pair}
 use Rattle.texts.proofs.SingleWords.{Lacks-decimal, first-word, one-word}
 use Rattle.journal_text.specs.declared.named_event.NamedEvent.{NamedEvent}
@@ -18,13 +19,14 @@ use Rattle.journal_text.specs.declared.lines.JournalLine.{JournalLine}
 use Rattle.journal_text.specs.declared.lines.JournalLine.TheVariants.{Entry, Answer, Send, End}
 use Rattle.journal_text.specs.Events.{IsServedEvent, named_text}
 use Rattle.journal_text.specs.Lines.{IsCount, IsPosition, IsServedLine, line_text}
-use Rattle.journal_text.specs.Served.{IsServedMessage, IsServedReply}
-use Rattle.journal_text.specs.Texts.{message_text}
+use Rattle.message_text.specs.Served.{IsServedMessage}
+use Rattle.journal_text.specs.Served.{IsServedReply}
+use Rattle.message_text.specs.Texts.{message_text}
 use Rattle.journal_text.proofs.EventKinds.{apart-event}
-use Rattle.journal_text.proofs.MessageKinds.{apart-message}
-use Rattle.journal_text.proofs.Names.{apart-call}
+use Rattle.message_text.proofs.MessageKinds.{apart-message}
+use Rattle.message_text.proofs.NameTexts.{apart-call}
 use Rattle.journal_text.proofs.ReplyKinds.{apart-reply}
-use Rattle.journal_text.proofs.Words.{call_words}
+use Rattle.message_text.proofs.Words.{call_words}
 
 pub data LineKind : Type 0 where
   entries : LineKind

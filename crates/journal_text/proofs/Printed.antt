@@ -10,7 +10,8 @@ use Rattle.messages.specs.Entries.{EntryFields}
 use Rattle.messages.specs.Shapes.{ShapeFields}
 use Rattle.messages.specs.declared.message.Message.{Message}
 use Rattle.messages.specs.declared.version.Version.{Version}
-use Rattle.lockscript.specs.Texts.{call_text, reply_text}
+use Rattle.message_text.specs.Names.{call_text}
+use Rattle.lockscript.specs.Texts.{reply_text}
 use Rattle.lockscript.proofs.Passes.{IsSingle, ended}
 use Rattle.journal_text.specs.declared.lines.JournalLine.{JournalLine}
 use Rattle.journal_text.specs.declared.lines.JournalLine.TheVariants.{End, Send}

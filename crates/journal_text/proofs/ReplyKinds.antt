@@ -7,13 +7,15 @@ use Rattle.model.specs.declared.reply.Reply.TheVariants.{Done, Fd, Again, Free, 
 use Rattle.texts.specs.Layout.{space}
 use Rattle.texts.specs.Reads.{IsOneField, Lacks, Reads}
 use Rattle.lockscript.specs.Served.{IsDescriptor}
-use Rattle.lockscript.specs.Texts.{lock_text, reply_text}
+use Rattle.message_text.specs.Names.{lock_text}
+use Rattle.lockscript.specs.Texts.{reply_text}
 use Rattle.texts.proofs.FieldValues.{apart-byte}
-use Rattle.journal_text.proofs.Fronts.{Kinds, apart-kinds, kind_in}
+use Rattle.message_text.proofs.Fronts.{Kinds, apart-kinds, kind_in}
 use Rattle.texts.proofs.Pairs.{AreApart}
 use Rattle.texts.proofs.SingleWords.{first-word, not-one, one-word}
-use Rattle.journal_text.specs.Served.{IsServedLock, IsServedReply}
-use Rattle.journal_text.proofs.SpanParts.{apart-lock}
+use Rattle.message_text.specs.Served.{IsServedLock}
+use Rattle.journal_text.specs.Served.{IsServedReply}
+use Rattle.message_text.proofs.SpanParts.{apart-lock}
 
 pub data ReplyKind : Type 0 where
   dones : ReplyKind

@@ -10,7 +10,7 @@ use Rattle.messages.specs.declared.event.Event.TheVariants as event
 use Rattle.lockscript.specs.Served.{IsServedOp}
 use Rattle.journal_text.specs.declared.named_event.NamedEvent.{NamedEvent}
 use Rattle.journal_text.specs.declared.named_event.NamedEvent.TheVariants.{Call, Deliver, Interrupt, Retry, Resend, Declare, Restart, Learn, FailServer, StartServer}
-use Rattle.journal_text.specs.Served.{IsFile, IsHolder, IsServedMessage}
+use Rattle.message_text.specs.Served.{IsFile, IsHolder, IsServedMessage}
 use Rattle.journal_text.specs.Texts.{event_text}
 
 abbrev pub event_of : NamedEvent → Event

@@ -12,7 +12,8 @@ use Rattle.messages.specs.declared.event.Event.TheVariants.{Call, Deliver, Learn
 use Rattle.messages.specs.declared.message.Message.{Message}
 use Rattle.messages.specs.declared.version.Version.TheVariants.{Second}
 use Rattle.lockscript.specs.Served.{IsDescriptor}
-use Rattle.journal_text.specs.Served.{IsServedMessage, IsServedReply}
+use Rattle.message_text.specs.Served.{IsServedMessage}
+use Rattle.journal_text.specs.Served.{IsServedReply}
 
 -- a byte for a descriptor, 64 bits for a start and a length
 abbrev pub FitsOp : Op → Type 0

@@ -8,8 +8,10 @@ use Rattle.messages.specs.Shapes.{ShapeFields}
 use Rattle.messages.specs.declared.version.Version.{Version}
 use Rattle.messages.specs.declared.version.Version.TheVariants.{First, Second}
 use Rattle.lockscript.specs.Scripts.{counts_text}
-use Rattle.lockscript.specs.Texts.{call_text, reply_text}
-use Rattle.journal_text.specs.Texts.{event_text, message_text}
+use Rattle.message_text.specs.Names.{call_text}
+use Rattle.lockscript.specs.Texts.{reply_text}
+use Rattle.journal_text.specs.Texts.{event_text}
+use Rattle.message_text.specs.Texts.{message_text}
 
 -- the line of the answer, if there is one
 abbrev pub reply_line : Option (CallId × Reply) → List ℕ

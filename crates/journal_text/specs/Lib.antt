@@ -1,9 +1,6 @@
 pub mod Texts
 pub mod Served
-pub mod Reports
-pub mod Forms
 pub mod Fits
-pub mod Parts
 pub mod Events
 pub mod Lines
 pub mod Journals
@@ -11,4 +8,3 @@ pub mod Places
 pub mod Readings
 pub mod Built
 pub mod OneText
-pub mod OneField

@@ -3,12 +3,14 @@ use Rattle.std.specs.Prelude.{ℕ, ◌≤◌, List, ◌++◌, codes, decimal}
 use Rattle.model.specs.Limits.{IsCall, IsNumber}
 use Rattle.messages.specs.declared.version.Version.{Version}
 use Rattle.texts.specs.Reads.{pair_text}
-use Rattle.lockscript.specs.Texts.{call_text, reply_text}
+use Rattle.message_text.specs.Names.{call_text}
+use Rattle.lockscript.specs.Texts.{reply_text}
 use Rattle.journal_text.specs.declared.lines.JournalLine.{JournalLine}
 use Rattle.journal_text.specs.declared.lines.JournalLine.TheVariants.{Entry, Answer, Send, End}
 use Rattle.journal_text.specs.Events.{IsServedEvent, named_text}
-use Rattle.journal_text.specs.Served.{IsServedMessage, IsServedReply}
-use Rattle.journal_text.specs.Texts.{message_text}
+use Rattle.message_text.specs.Served.{IsServedMessage}
+use Rattle.journal_text.specs.Served.{IsServedReply}
+use Rattle.message_text.specs.Texts.{message_text}
 
 -- the place of an entry
 abbrev pub IsPosition : ℕ → Type 0

@@ -1,5 +1,6 @@
 -- One text writes one value.
 use Rattle.std.specs.Prelude.{◌≡◌, ℕ, List, All, map}
+use Rattle.message_text.specs.OneText.{HasOneValue}
 use Rattle.lockscript.specs.Texts.{reply_text}
 use Rattle.messages.specs.Entries.{EntryFields}
 use Rattle.messages.specs.Shapes.{IsShape, ShapeFields}
@@ -9,12 +10,9 @@ use Rattle.journal_text.specs.Events.{IsServedEvent, named_text}
 use Rattle.journal_text.specs.Journals.{journal_text}
 use Rattle.journal_text.specs.Lines.{IsServedLine, line_text}
 use Rattle.journal_text.specs.Readings.{IsFirstBad, WritesJournal, body_lines, entry_in}
-use Rattle.journal_text.specs.Served.{IsServedMessage, IsServedReply}
-use Rattle.journal_text.specs.Texts.{message_text}
-
--- two values that fit and have one text are one
-abbrev pub HasOneValue : {A : Type 0} → (A → List ℕ) → (A → Type 0) → Type 0
-HasOneValue text Fits = (x y : _) → Fits x → Fits y → text x ≡ text y → x ≡ y
+use Rattle.message_text.specs.Served.{IsServedMessage}
+use Rattle.journal_text.specs.Served.{IsServedReply}
+use Rattle.message_text.specs.Texts.{message_text}
 
 -- a journal whose numbers are within their limits, in each of its lines
 pub record IsServedJournal (s : ShapeFields) (es : List EntryFields) : Type 0 where

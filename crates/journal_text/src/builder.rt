@@ -12,7 +12,7 @@ use crate::lines::JournalLine;
 use crate::named_entry::NamedEntry;
 use crate::named_event::NamedEvent;
 use crate::sink::Sink;
-use crate::written_message::WrittenMessage;
+use message_text::written_message::WrittenMessage;
 use messages::entry::Entry;
 use messages::items::Items;
 use messages::outcome::Outcome;

@@ -4,12 +4,12 @@ ghost use Rattle.texts.specs.Layout.{space};
 ghost use Rattle.texts.specs.Reads.{Lacks, Reads};
 ghost use Rattle.journal_text.specs.Events.{IsServedEvent, named_text};
 
-use crate::edition::{Edition, FirstEdition, SecondEdition};
-use crate::message::message_in;
 use crate::named_event::NamedEvent;
 use crate::operands::{CallFields, LearnFields, ProcessFields};
-use crate::parts::{host_of, server_of};
-use lockscript::fields::FileField;
+use message_text::edition::{Edition, FirstEdition, SecondEdition};
+use message_text::message::message_in;
+use message_text::names::{host_of, server_of};
+use message_text::numbers::FileField;
 use messages::version::Version;
 use texts::text::{Text, split_field};
 

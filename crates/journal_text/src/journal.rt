@@ -3,10 +3,11 @@ ghost use Rattle.std.specs.Prelude.{◌≡◌, ◌++◌, codes, flat_map, revers
 ghost use Rattle.journal_text.specs.Journals.{end_text, entries_text, entry_text, head_text, journal_text, reply_line, send_line};
 
 use crate::head::head_front;
-use crate::writing::{push_event, push_message};
+use crate::writing::push_event;
 use cluster_core::journal::Journal;
-use intervals::span_map::NoMemory;
-use lockscript::names::{push_call, push_reply};
+use lockscript::replies::push_reply;
+use message_text::names::push_call;
+use message_text::writing::push_message;
 use messages::entry::Entry;
 use messages::message::Message;
 use messages::shape::Shape;
@@ -24,8 +25,8 @@ const ENTRIES_AT_ONCE: usize = 16_384;
 /// entry, the first at position 1, and a last line with how many entries there are.
 ///
 /// # Errors
-/// `NoMemory` where a request for memory was refused.
-pub fn print(alloc: Global, shape: &Shape, entries: &[Entry]) -> Result<String, NoMemory>
+/// `AllocError` where a request for memory was refused.
+pub fn print(alloc: Global, shape: &Shape, entries: &[Entry]) -> Result<String, AllocError>
     ensures { IfOk result (λ text. string_bytes text ≡ journal_text shape.now entries.now) }
 {
     let mut out = String::new(alloc);
@@ -40,8 +41,8 @@ pub fn print(alloc: Global, shape: &Shape, entries: &[Entry]) -> Result<String, 
 /// is given back part by part, so the journal and its text need no room beside each other.
 ///
 /// # Errors
-/// `NoMemory` where a request for memory was refused; the journal is gone then too.
-pub fn into_text(alloc: Global, journal: Journal) -> Result<String, NoMemory>
+/// `AllocError` where a request for memory was refused; the journal is gone then too.
+pub fn into_text(alloc: Global, journal: Journal) -> Result<String, AllocError>
     ensures { IfOk result (λ text. string_bytes text ≡ journal_text journal.shape journal.entries) }
 {
     let shape = journal.shape();
@@ -90,11 +91,10 @@ fn push_from_last(
 ) -> Result<(), AllocError>
     ensures { OnOk result (string_bytes out.new ≡ string_bytes out.old ++ entries_text version 1 (reversed entries.items)) }
 {
-    for written in 0..entries.len() {
-        let Some(entry) = entries.pop() else {
-            unreachable!()
-        };
-        push_entry(out, version, written as u64 + 1, &entry)?;
+    let mut position = 0u64;
+    while let Some(entry) = entries.pop() {
+        position += 1;
+        push_entry(out, version, position, &entry)?;
         if entries.len() % ENTRIES_AT_ONCE == 0 {
             entries.shrink_to_fit();
         }

@@ -4,13 +4,13 @@ ghost use Rattle.texts.specs.Layout.{space};
 ghost use Rattle.texts.specs.Reads.{Lacks, Reads};
 ghost use Rattle.journal_text.specs.Lines.{IsServedLine, line_text};
 
-use crate::edition::{Edition, FirstEdition, SecondEdition};
 use crate::events::event_in;
-use crate::message::message_in;
 use crate::named_event::NamedEvent;
 use crate::operands::AnswerFields;
-use crate::parts::Counted;
-use crate::written_message::WrittenMessage;
+use message_text::edition::{Edition, FirstEdition, SecondEdition};
+use message_text::message::message_in;
+use message_text::numbers::Counted;
+use message_text::written_message::WrittenMessage;
 use messages::version::Version;
 use model::call::CallId;
 use model::reply::Reply;

@@ -2,7 +2,7 @@
 ghost use Rattle.std.specs.Prelude.{◌≡◌, IfOk};
 ghost use Rattle.journal_text.specs.Events as named;
 
-use crate::written_message::WrittenMessage;
+use message_text::written_message::WrittenMessage;
 use messages::event::Event;
 use model::call::CallId;
 use model::host::Host;

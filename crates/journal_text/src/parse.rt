@@ -7,8 +7,9 @@ ghost use Rattle.journal_text.specs.Readings.{HasLength, IsBadLine, IsOld, IsRef
 use crate::builder::Builder;
 use crate::error::JournalError;
 use crate::head::head_of;
-use crate::reader::{Reader, split_line};
+use crate::reader::Reader;
 use crate::sink::Sink;
+use lockscript::lines::split_line;
 use messages::entry::Entry;
 use messages::shape::Shape;
 use messages::version::Version;

@@ -14,6 +14,7 @@ use crate::error::JournalError;
 use crate::head::head_of;
 use crate::lines::{JournalLine, line_of};
 use crate::place::Place;
+use lockscript::lines::split_line;
 use messages::shape::Shape;
 use messages::version::Version;
 
@@ -123,11 +124,4 @@ fn line_at(version: Version, place: Place, text: &str) -> Option<(JournalLine<'_
     let line = line_of(version, text)?;
     let behind = place.behind(&line)?;
     Some((line, behind))
-}
-
-/// The first line of a text, and what stands after its line feed.
-pub(crate) fn split_line(text: &str) -> Option<(&str, &str)>
-    ensures { MatchOption result (line_feeds text.now ≡ 0) (λ parts. BeginsWithLine text.now parts.0.now parts.1.now) }
-{
-    text.split_once('\n')
 }

@@ -1,12 +1,14 @@
-//! Replies from their texts.
+//! Replies and their texts.
 ghost use Rattle.std.specs.Prelude.{◌∷◌, ◌++◌, codes};
 ghost use Rattle.texts.specs.Layout.{space};
 ghost use Rattle.texts.specs.Reads.{IsOneField, Lacks, Reads};
 ghost use Rattle.lockscript.specs.Texts.{reply_text};
 ghost use Rattle.journal_text.specs.Served.{IsServedReply};
 
-use crate::spans::lock_of;
+use lockscript::replies::push_reply;
+use message_text::spans::lock_of;
 use model::reply::Reply;
+use std::alloc::AllocError;
 use texts::text::{Text, split_field};
 
 /// The reply that the text writes.
@@ -74,4 +76,23 @@ fn blocked_of(operand: &str) -> Option<Reply>
 {
     let lock = lock_of(operand)?;
     Some(Reply::Blocked(lock))
+}
+
+/// A reply.
+pub(crate) struct ReplyText;
+
+impl Text for ReplyText {
+    type Value = Reply;
+
+    ghost text_of = { reply_text };
+
+    ghost is_served = { IsServedReply };
+
+    fn read(text: &str) -> Option<Reply> {
+        reply_of(text)
+    }
+
+    fn write(value: &Reply, out: &mut String) -> Result<(), AllocError> {
+        push_reply(out, value)
+    }
 }

@@ -13,7 +13,7 @@ use Rattle.lockscript.specs.Scripts.{IsScriptShape, IsShapeOf, counts_text, shap
 use Rattle.texts.specs.Words.{policy_text}
 use Rattle.texts.proofs.FieldValues.{apart-number, apart-policy}
 use Rattle.texts.proofs.Pairs.{AreApart, apart-after, apart-pair, cancel-front}
-use Rattle.lockscript.proofs.SingleWords.{file_words, node_words}
+use Rattle.message_text.proofs.SingleWords.{file_words, node_words}
 
 abbrev pub IsCounts : ℕ × (ℕ × Policy) → Type 0
 IsCounts = Both (IsNumber most_nodes) (Both (IsNumber most_files) (λ _. ⊤))

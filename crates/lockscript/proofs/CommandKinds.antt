@@ -15,7 +15,7 @@ use Rattle.lockscript.specs.Scripts.{IsCommand, command_text, greatest_message}
 use Rattle.lockscript.specs.Served.{IsServedOp}
 use Rattle.lockscript.specs.Texts.{op_text}
 use Rattle.lockscript.proofs.OperationKinds.{apart-op}
-use Rattle.lockscript.proofs.SingleWords.{file_words, node_words, pid_words}
+use Rattle.message_text.proofs.SingleWords.{file_words, node_words, pid_words}
 
 pub calls : IsKind command_text IsCommand (codes "call ") (pair_text decimal (pair_text decimal op_text)) (Both (IsNumber most_nodes) (Both (IsNumber most_processes) IsServedOp)) (λ (f : ℕ × (ℕ × Op)). Call f.0 f.1.0 f.1.1)
 calls = record { fits = λ f fit. (fit.0, fit.1.0, fit.1.1); written = λ f. refl; told = elim [ Call node pid op ↦ λ fits. inl ((node, (pid, op)), (fits.0, (fits.1, fits.2)), refl) | _ ↦ λ _. inr refl ] }

@@ -11,7 +11,7 @@ use Rattle.texts.proofs.Pairs.{AreApart, apart-pair}
 use Rattle.texts.proofs.SingleWords.{byte_words, kind_words, mode_words, offset_words}
 use Rattle.lockscript.specs.Served.{AreOffsets, IsAskedLock, IsDescriptor}
 use Rattle.lockscript.specs.Texts.{asked_lock_text, segment_text}
-use Rattle.lockscript.proofs.SingleWords.{file_words}
+use Rattle.message_text.proofs.SingleWords.{file_words}
 
 apart-segment : AreApart segment_text AreOffsets
 apart-segment = apart-pair signed_decimal signed_decimal (FitsSigned w64) (FitsSigned w64) offset_words apart-offset apart-offset

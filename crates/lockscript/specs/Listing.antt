@@ -10,7 +10,8 @@ use Rattle.cluster_core.specs.declared.item.Item.{Item}
 use Rattle.cluster_core.specs.declared.item.Item.TheVariants.{Answered, Gone}
 use Rattle.lockscript.specs.declared.refused_line.RefusedLine.{RefusedLine}
 use Rattle.lockscript.specs.Layout.{left_in, right_in}
-use Rattle.lockscript.specs.Texts.{call_text, host_text, op_text, owner_text, reply_text}
+use Rattle.message_text.specs.Names.{call_text, host_text, owner_text}
+use Rattle.lockscript.specs.Texts.{op_text, reply_text}
 use Rattle.texts.specs.Words.{level_text, mode_text}
 
 -- a refused line of the script, with the number of its refusal

@@ -3,33 +3,13 @@ use Rattle.std.specs.Prelude.{ℕ, ℤ, List, ◌++◌, codes, decimal}
 use Rattle.std.specs.Fmt.{signed_decimal}
 use Rattle.model.specs.declared.mode.Mode.{Mode}
 use Rattle.model.specs.declared.owner.Kind.{Kind}
-use Rattle.model.specs.declared.owner.Kind.TheVariants.{OfProcess, OfDescription}
-use Rattle.model.specs.declared.owner.Owner.{Owner}
-use Rattle.model.specs.declared.call.CallId.{CallId}
-use Rattle.model.specs.declared.lock_info.LockInfo.{LockInfo}
 use Rattle.model.specs.declared.op.Op.{Op}
 use Rattle.model.specs.declared.op.Op.TheVariants.{Spawn, Fork, Open, Dup, Close, Exit, Set, Wait, Unlock, Query}
 use Rattle.texts.specs.Reads.{pair_text}
+use Rattle.message_text.specs.Names.{lock_text}
 use Rattle.texts.specs.Words.{access_text, kind_text, mode_text}
 use Rattle.model.specs.declared.reply.Reply.{Reply}
 use Rattle.model.specs.declared.reply.Reply.TheVariants.{Done, Fd, Again, Free, Blocked, Interrupted, NoProcess, Exists, BadFd, TooManyFiles, NoLocks, Invalid, Overflow}
-
--- a node in one incarnation
-abbrev pub host_text : ℕ → ℕ → List ℕ
-host_text node incarnation = decimal node ++ codes "." ++ decimal incarnation
-
-abbrev pub call_text : CallId → List ℕ
-call_text c = host_text c.node c.incarnation ++ codes "." ++ decimal c.number
-
-abbrev pub owner_letter : Kind → List ℕ
-owner_letter OfProcess = codes "p"
-owner_letter OfDescription = codes "d"
-
-abbrev pub owner_text : Owner → List ℕ
-owner_text o = owner_letter o.kind ++ decimal o.number ++ codes "@" ++ host_text o.node o.incarnation
-
-abbrev pub lock_text : LockInfo → List ℕ
-lock_text l = mode_text l.mode ++ codes " " ++ decimal l.span.lo ++ codes " " ++ decimal l.span.hi ++ codes " " ++ owner_text l.owner
 
 abbrev pub reply_text : Reply → List ℕ
 reply_text Done = codes "done"

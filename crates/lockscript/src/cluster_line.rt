@@ -3,7 +3,7 @@ ghost use Rattle.std.specs.Prelude.{codes};
 ghost use Rattle.texts.specs.Reads.{Reads};
 ghost use Rattle.lockscript.specs.Scripts.{IsScriptShape, IsShapeOf, counts_text, shape_text};
 
-use crate::fields::{FileField, NodeField};
+use message_text::numbers::{FileField, NodeField};
 use messages::shape::Shape;
 use messages::version::Version;
 use model::policy::Policy;

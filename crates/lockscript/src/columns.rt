@@ -3,10 +3,10 @@ ghost use Rattle.std.specs.Prelude.{◌≡◌, ◌≤◌, ◌-◌, ◌++◌, cod
 ghost use Rattle.lockscript.specs.Layout.{left_in};
 ghost use Rattle.texts.specs.Layout.{space};
 ghost use Rattle.lockscript.specs.Listing.{placed, span_columns};
-ghost use Rattle.lockscript.specs.Texts.{call_text, host_text, owner_text};
+ghost use Rattle.message_text.specs.Names.{call_text, host_text, owner_text};
 
-use crate::names::{push_call, push_host, push_owner};
 use intervals::span::Span;
+use message_text::names::{push_call, push_host, push_owner};
 use model::call::CallId;
 use model::owner::Owner;
 use std::alloc::AllocError;

@@ -4,9 +4,9 @@ ghost use Rattle.texts.specs.Layout.{space};
 ghost use Rattle.texts.specs.Reads.{IsOneField, Lacks, Reads};
 ghost use Rattle.lockscript.specs.Scripts.{IsCommand, command_text};
 
-use crate::fields::{FileField, IncarnationField, MessageField, NodeField, PidField};
 use crate::operations::Operation;
 use crate::script_line::Command;
+use message_text::numbers::{Counted, FileField, IncarnationField, NodeField, PidField};
 use texts::text::{Text, split_field};
 
 /// What the line asks for, if it is one that is served: so far `call N PID OP`, `deliver K`, `lose K`,
@@ -31,8 +31,8 @@ fn command_with(word: &str, operands: &str) -> Option<Command>
             node,
             (pid, op),
         )| Command::Call { node, pid, op }),
-        "deliver" => MessageField::read(operands).map(|message| Command::Deliver { message }),
-        "lose" => MessageField::read(operands).map(|message| Command::Lose { message }),
+        "deliver" => Counted::read(operands).map(|message| Command::Deliver { message }),
+        "lose" => Counted::read(operands).map(|message| Command::Lose { message }),
         "interrupt" => <(NodeField, PidField)>::read(operands).map(|(
             node,
             pid,

@@ -86,15 +86,15 @@ impl<'a> Lines<'a> {
     }
 }
 
-// Whether the line says nothing: it is empty, or a comment.
-fn is_skipped(line: &str) -> bool
+/// Whether the line says nothing: it is empty, or a comment.
+pub fn is_skipped(line: &str) -> bool
     ensures { result ≡ is_skipped line.now }
 {
     line.is_empty() || line.starts_with('#')
 }
 
-// The first line of a text, and what stands after its line feed.
-fn split_line(text: &str) -> Option<(&str, &str)>
+/// The first line of a text, and what stands after its line feed.
+pub fn split_line(text: &str) -> Option<(&str, &str)>
     ensures { MatchOption result (line_feeds text.now ≡ 0) (λ parts. BeginsWithLine text.now parts.0.now parts.1.now) }
 {
     text.split_once('\n')

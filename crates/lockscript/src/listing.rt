@@ -5,13 +5,12 @@ ghost use Rattle.lockscript.specs.Listing.{listing_text, listing_start, history_
 ghost use Rattle.lockscript.specs.Texts.{reply_text};
 
 use crate::columns::{push_host_column, push_owner_column, push_placed, push_span_line};
-use crate::names::push_reply;
 use crate::operations::Operation;
 use crate::refused_line::RefusedLine;
+use crate::replies::push_reply;
 use cluster_core::held_lock::HeldLock;
 use cluster_core::item::Item;
 use cluster_core::token_run::TokenRun;
-use intervals::span_map::NoMemory;
 use messages::entry::Entry;
 use model::call::CallId;
 use model::op::Op;
@@ -26,7 +25,7 @@ use texts::words::{level_word, mode_word};
 /// the order in which it is given. Positions of entries count from 1.
 ///
 /// # Errors
-/// `NoMemory` where a request for memory was refused.
+/// `AllocError` where a request for memory was refused.
 pub fn listing(
     alloc: Global,
     refused: &[RefusedLine],
@@ -34,7 +33,7 @@ pub fn listing(
     tokens: &[TokenRun],
     locks: &[HeldLock],
     history: &[Item],
-) -> Result<String, NoMemory>
+) -> Result<String, AllocError>
     ensures { IfOk result (λ text. string_bytes text ≡ listing_text refused.now entries.now tokens.now locks.now history.now) }
 {
     let mut out = listing_start(alloc, refused, entries, tokens, locks)?;
@@ -45,14 +44,14 @@ pub fn listing(
 /// The listing of a run up to its history: the first four of its sections.
 ///
 /// # Errors
-/// `NoMemory` where a request for memory was refused.
+/// `AllocError` where a request for memory was refused.
 pub fn listing_start(
     alloc: Global,
     refused: &[RefusedLine],
     entries: &[Entry],
     tokens: &[TokenRun],
     locks: &[HeldLock],
-) -> Result<String, NoMemory>
+) -> Result<String, AllocError>
     ensures { IfOk result (λ text. string_bytes text ≡ listing_start refused.now entries.now tokens.now locks.now) }
 {
     let mut out = String::new(alloc);

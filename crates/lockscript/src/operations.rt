@@ -6,7 +6,7 @@ ghost use Rattle.texts.specs.Reads.{IsOneField, Lacks, Reads};
 ghost use Rattle.lockscript.specs.Served.{IsServedOp};
 ghost use Rattle.lockscript.specs.Texts.{op_text};
 
-use crate::fields::{FileField, PidField};
+use message_text::numbers::{FileField, PidField};
 use model::access::Access;
 use model::mode::Mode;
 use model::op::Op;

@@ -1,5 +1,5 @@
 -- What holds of each picture.
-use Rattle.std.specs.Prelude.{◌≡◌, ◌≤◌, ℕ, ◌+◌, Bool, true, false, List, ◌∷◌, ◌++◌, length, MatchOption}
+use Rattle.std.specs.Prelude.{◌≡◌, ◌≤◌, ◌<◌, ℕ, ◌+◌, Bool, true, false, List, ◌∷◌, ◌++◌, length, MatchOption}
 use Rattle.std.specs.List.{list_any}
 use Rattle.model.specs.Limits.{IsNumber}
 use Rattle.messages.specs.declared.actor.Actor.TheVariants.{Node, Server}
@@ -45,10 +45,10 @@ pub record IsLastToPass {A : Type 0} (test : A → Bool) (xs : List A) (position
 abbrev pub EachArrowIsFromTheLastSend : Type 0
 EachArrowIsFromTheLastSend = (before : List EntryFields) (m : Message) → MatchOption (origin_of before (Deliver m)) (list_any (λ e. is_among e.sends m) before ≡ false) (IsLastToPass (λ e. is_among e.sends m) before)
 
--- what comes later in the journal stands no further left
+-- what comes later in the journal stands no further left, and in the window 60 units further right for each entry
 abbrev pub TimeGoesRight : Type 0
-TimeGoesRight = (s : SheetFields) (p q : ℕ) → p ≤ q → x_of s p ≤ x_of s q
+TimeGoesRight = (s : SheetFields) (p q : ℕ) → (p ≤ q → x_of s p ≤ x_of s q) × (s.window.from ≤ p → p < q → q ≤ s.window.to → x_of s p + 60 ≤ x_of s q)
 
--- all stands between the edges
-abbrev pub AllIsBetweenTheEdges : Type 0
-AllIsBetweenTheEdges = (s : SheetFields) (p : ℕ) → (left_edge ≤ x_of s p) × (x_of s p ≤ right_edge s)
+-- the place of each entry is between the edges
+abbrev pub EachEntryIsBetweenTheEdges : Type 0
+EachEntryIsBetweenTheEdges = (s : SheetFields) (p : ℕ) → (left_edge ≤ x_of s p) × (x_of s p ≤ right_edge s)

@@ -15,8 +15,10 @@ use Rattle.messages.specs.Shapes.{ShapeFields}
 use Rattle.cluster_core.specs.declared.item.Item.{Item}
 use Rattle.cluster_core.specs.declared.item.Item.TheVariants.{Answered, Gone}
 use Rattle.holdings.specs.Holdings.{HoldingsFields}
-use Rattle.lockscript.specs.Texts.{call_text, host_text, op_text, reply_text}
-use Rattle.journal_text.specs.Texts.{event_text, message_text}
+use Rattle.message_text.specs.Names.{call_text, host_text}
+use Rattle.lockscript.specs.Texts.{op_text, reply_text}
+use Rattle.journal_text.specs.Texts.{event_text}
+use Rattle.message_text.specs.Texts.{message_text}
 use Rattle.stories.specs.Stories.{actor_text}
 use Rattle.pictures.specs.declared.answer.Answer.{Answer}
 use Rattle.pictures.specs.declared.bar.Bar.{Bar}

@@ -3,7 +3,7 @@ use Rattle.std.specs.Prelude.{ℕ, ◌+◌, ◌-◌, ◌%◌, ◌==◌, if◌the
 use Rattle.std.specs.List.{enumerate_from}
 use Rattle.intervals.specs.Bytes.{greatest}
 use Rattle.texts.specs.Words.{level_text, mode_text}
-use Rattle.lockscript.specs.Texts.{host_text, owner_text}
+use Rattle.message_text.specs.Names.{host_text, owner_text}
 use Rattle.pictures.specs.declared.held.Held.{Held}
 use Rattle.pictures.specs.declared.held.Held.TheVariants.{Token, Lock}
 use Rattle.pictures.specs.declared.stay.Stay.{Stay}

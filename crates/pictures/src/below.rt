@@ -11,7 +11,7 @@ use crate::sheet::Sheet;
 use crate::stay::Stay;
 use crate::track::Track;
 use intervals::span::GREATEST;
-use lockscript::names::{push_host, push_owner};
+use message_text::names::{push_host, push_owner};
 use std::alloc::AllocError;
 use std::fmt::Write;
 use texts::words::{level_word, mode_word};

@@ -1,5 +1,5 @@
 //! What holds of each picture.
-ghost use Rattle.pictures.specs.Laws.{AllIsBetweenTheEdges, EachArrowIsFromTheLastSend, EachRowIsThere, TimeGoesRight};
+ghost use Rattle.pictures.specs.Laws.{EachArrowIsFromTheLastSend, EachEntryIsBetweenTheEdges, EachRowIsThere, TimeGoesRight};
 
 /// Each node and each server of the cluster that takes part in an entry has a row, and so has each
 /// process of such a node whose call is drawn.
@@ -13,9 +13,9 @@ pub fn each_arrow_is_from_the_last_send()
     ensures { EachArrowIsFromTheLastSend }
 {}
 
-/// What comes later in the journal stands no further left, and all stands between the left edge of the
-/// rows and the right one.
+/// What comes later in the journal stands no further left, and in the window 60 units further right for each
+/// entry; the place of each entry is between the left edge of the rows and the right one.
 pub fn time_goes_right()
     ensures later { TimeGoesRight }
-    ensures within { AllIsBetweenTheEdges }
+    ensures within { EachEntryIsBetweenTheEdges }
 {}

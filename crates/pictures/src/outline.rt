@@ -8,7 +8,7 @@ use crate::point::Point;
 use crate::row::Row;
 use crate::sheet::{Sheet, top_of};
 use crate::style::{push_defs, push_legend, push_style};
-use lockscript::names::push_host;
+use message_text::names::push_host;
 use std::alloc::AllocError;
 use std::fmt::Write;
 use stories::lines::push_actor;

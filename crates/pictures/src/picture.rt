@@ -21,7 +21,6 @@ use crate::tracks::tracks;
 use crate::window::Window;
 use cluster_core::item::Item;
 use holdings::holdings::Holdings;
-use intervals::span_map::NoMemory;
 use messages::actor::Actor;
 use messages::entry::Entry;
 use messages::shape::Shape;
@@ -45,7 +44,7 @@ use std::alloc::{AllocError, Global};
 /// last one. `holdings` has one element for each entry of the window, in order, or none at all.
 ///
 /// # Errors
-/// `NoMemory` where a request for memory was refused.
+/// `AllocError` where a request for memory was refused.
 #[tactic(auto, unfolding(crate::specs::Pictures::picture_text))]
 pub fn picture(
     alloc: Global,
@@ -54,7 +53,7 @@ pub fn picture(
     history: &[Item],
     holdings: &[Holdings],
     window: &Window,
-) -> Result<String, NoMemory>
+) -> Result<String, AllocError>
     ensures { IfOk result (λ text. string_bytes text ≡ picture_text shape.now entries.now history.now holdings.now window.now) }
 {
     let window = window.cut(entries.len() as u64);

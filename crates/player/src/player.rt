@@ -84,7 +84,8 @@ impl Player {
     }
 
     /// Does what the line asks for. A line whose event is refused, but for want of memory or of room in
-    /// the journal, is listed.
+    /// the journal, is listed. After an error the player may stand in the middle of the line, and is of no
+    /// more use.
     ///
     /// # Errors
     /// `JournalFull` where the line needs more entries than a journal may have; `NoMemory` where a request

@@ -1,9 +1,9 @@
 //! A journal whose entries are handed on to what takes no more than three, and one of version 1, which no program writes.
 use journal_text::error::JournalError;
 use journal_text::journal::print;
-use journal_text::message::message_of;
 use journal_text::parse::{parse, read_each};
 use journal_text::sink::Sink;
+use message_text::message::message_of;
 use messages::entry::Entry;
 use messages::version::Version;
 use std::alloc::{AllocError, Global};

@@ -5,7 +5,6 @@ use book::book::Book;
 use book::seat::Seat;
 use book::stamp::Stamp;
 use cluster_core::world::World;
-use intervals::span_map::NoMemory;
 use messages::actor::Actor;
 use messages::entry::Entry;
 use messages::event::Event;
@@ -14,7 +13,7 @@ use model::mode::Mode;
 use model::op::Op;
 use model::owner::Kind;
 use model::policy::Policy;
-use std::alloc::Global;
+use std::alloc::{AllocError, Global};
 use std::test::Fail;
 
 // With how many messages were delivered. (In boxes, since what a test keeps in a box is dropped in fewer steps.)
@@ -26,7 +25,7 @@ struct Cluster {
     delivered: usize,
 }
 
-fn begun(alloc: Global, shape: Shape) -> Result<Cluster, NoMemory> {
+fn begun(alloc: Global, shape: Shape) -> Result<Cluster, AllocError> {
     let (book, seats) = Book::new(alloc, shape)?;
     Ok(Cluster {
         world: Box::new(alloc, World::new(alloc, shape)?)?,
@@ -209,7 +208,7 @@ fn all_happens(alloc: Global, cluster: &mut Cluster) -> bool {
     true
 }
 
-fn count_locks(alloc: Global, world: &World) -> Result<usize, NoMemory> {
+fn count_locks(alloc: Global, world: &World) -> Result<usize, AllocError> {
     match world.locks(alloc) {
         Ok(locks) => Ok(locks.len()),
         Err(_) => Ok(world.locks(alloc)?.len()),

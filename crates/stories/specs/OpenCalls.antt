@@ -10,7 +10,7 @@ use Rattle.messages.specs.declared.event.Event.{Event}
 use Rattle.messages.specs.declared.event.Event.TheVariants.{Call, Declare}
 use Rattle.messages.specs.declared.version.Version.{Version}
 use Rattle.messages.specs.Entries.{EntryFields}
-use Rattle.lockscript.specs.Texts.{call_text}
+use Rattle.message_text.specs.Names.{call_text}
 use Rattle.stories.specs.declared.made_call.MadeCall.{MadeCall}
 use Rattle.stories.specs.About.{answers, part_of}
 use Rattle.stories.specs.Pending.{pending_told}

@@ -9,7 +9,7 @@ use Rattle.messages.specs.declared.message.Message.{Message}
 use Rattle.messages.specs.declared.message.Message.TheVariants.{Conflict, Request}
 use Rattle.messages.specs.declared.version.Version.{Version}
 use Rattle.messages.specs.Messages.{same_call, same_message}
-use Rattle.lockscript.specs.Texts.{lock_text}
+use Rattle.message_text.specs.Names.{lock_text}
 use Rattle.stories.specs.About.{PlacedFields, NumberedFields, delivers, is_about, sent_by}
 use Rattle.stories.specs.Stories.{addressed_text}
 

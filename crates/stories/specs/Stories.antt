@@ -15,8 +15,10 @@ use Rattle.messages.specs.Entries.{EntryFields}
 use Rattle.messages.specs.Messages.{addressee, same_call}
 use Rattle.cluster_core.specs.declared.item.Item.{Item}
 use Rattle.cluster_core.specs.declared.item.Item.TheVariants.{Answered, Gone}
-use Rattle.lockscript.specs.Texts.{call_text, lock_text, op_text, reply_text}
-use Rattle.journal_text.specs.Texts.{event_text, message_text}
+use Rattle.message_text.specs.Names.{call_text, lock_text}
+use Rattle.lockscript.specs.Texts.{op_text, reply_text}
+use Rattle.journal_text.specs.Texts.{event_text}
+use Rattle.message_text.specs.Texts.{message_text}
 use Rattle.stories.specs.About.{PlacedFields, NumberedFields, answers, makes, number_of, part_of, sent_about, sent_by}
 
 abbrev pub actor_text : Actor → List ℕ

@@ -2,8 +2,8 @@
 ghost use Rattle.std.specs.Prelude.{◌≡◌, ◌++◌, string_bytes, OnOk};
 ghost use Rattle.stories.specs.Stories.{actor_text, addressed_text, calling_text};
 
-use journal_text::writing::push_message;
 use lockscript::operations::Operation;
+use message_text::writing::push_message;
 use messages::actor::Actor;
 use messages::message::Message;
 use messages::version::Version;

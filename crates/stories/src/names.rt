@@ -1,9 +1,9 @@
 //! Names of calls.
 ghost use Rattle.model.specs.Limits.{IsCall};
 ghost use Rattle.texts.specs.Reads.{Reads};
-ghost use Rattle.lockscript.specs.Texts.{call_text};
+ghost use Rattle.message_text.specs.Names.{call_text};
 
-use journal_text::parts::call_of;
+use message_text::names::call_of;
 use model::call::CallId;
 
 /// The call that the word names as `N.I.C`: node 1 to 64, incarnation 1 to 65,535, number 1 to

@@ -10,8 +10,7 @@ use crate::made_call::MadeCall;
 use crate::open_call::OpenCall;
 use crate::parts::Parts;
 use crate::pending::push_pending;
-use intervals::span_map::NoMemory;
-use lockscript::names::push_call;
+use message_text::names::push_call;
 use messages::entry::Entry;
 use messages::event::Event;
 use messages::version::Version;
@@ -30,8 +29,8 @@ use std::fmt::Write;
 /// no message about it was sent, its own node.
 ///
 /// # Errors
-/// `NoMemory` where a request for memory was refused.
-pub fn open_calls(alloc: Global, version: Version, entries: &[Entry]) -> Result<String, NoMemory>
+/// `AllocError` where a request for memory was refused.
+pub fn open_calls(alloc: Global, version: Version, entries: &[Entry]) -> Result<String, AllocError>
     ensures { IfOk result (λ text. string_bytes text ≡ open_text version entries.now) }
 {
     let answered = AnsweredCalls::of(alloc, entries)?;

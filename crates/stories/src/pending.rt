@@ -2,7 +2,7 @@
 ghost use Rattle.std.specs.Prelude.{◌≡◌, ◌++◌, codes, filter, filter_map, fold, not, string_bytes, IfOk, OnOk};
 ghost use Rattle.std.specs.List.{last_or};
 ghost use Rattle.messages.specs.Messages.{same_message};
-ghost use Rattle.lockscript.specs.Texts.{lock_text};
+ghost use Rattle.message_text.specs.Names.{lock_text};
 ghost use Rattle.stories.specs.About.{delivers};
 ghost use Rattle.stories.specs.Pending.{file_asked, is_on_way, is_sent, last_file, last_lock, lock_met, pending_told, under_way, waits_told, way_told, way_with};
 
@@ -10,7 +10,7 @@ use crate::about::{brings, is_any_about, is_same};
 use crate::lines::push_addressed;
 use crate::numbered_message::NumberedMessage;
 use crate::placed_entry::PlacedEntry;
-use lockscript::names::push_lock;
+use message_text::names::push_lock;
 use messages::event::Event;
 use messages::message::Message;
 use messages::version::Version;

@@ -1,6 +1,7 @@
 //! The story of a call.
 ghost use Rattle.std.specs.Prelude.{◌≡◌, ◌++◌, codes, flat_map, is_some, string_bytes, IfOk, IfSome, OnOk};
-ghost use Rattle.lockscript.specs.Texts.{call_text, lock_text, reply_text};
+ghost use Rattle.message_text.specs.Names.{call_text, lock_text};
+ghost use Rattle.lockscript.specs.Texts.{reply_text};
 ghost use Rattle.stories.specs.About.{answers, makes, sent_by};
 ghost use Rattle.stories.specs.Stories.{answered_at, coming_text, end_told, entry_told, happening_text, is_made, lock_told, part_text, passes_at, place_in, plain_text, reply_told, role_text, send_told, story_text};
 
@@ -10,9 +11,9 @@ use crate::numbered_message::NumberedMessage;
 use crate::placed_entry::{PlacedEntry, part_of};
 use crate::sent_messages::SentMessages;
 use cluster_core::item::Item;
-use intervals::span_map::NoMemory;
 use journal_text::writing::push_event;
-use lockscript::names::{push_call, push_lock, push_reply};
+use lockscript::replies::push_reply;
+use message_text::names::{push_call, push_lock};
 use messages::entry::Entry;
 use messages::event::Event;
 use messages::message::Message;
@@ -35,14 +36,14 @@ use std::fmt::Write;
 /// that equals it.
 ///
 /// # Errors
-/// `NoMemory` where a request for memory was refused.
+/// `AllocError` where a request for memory was refused.
 pub fn story(
     alloc: Global,
     version: Version,
     entries: &[Entry],
     history: &[Item],
     call: &CallId,
-) -> Result<Option<String>, NoMemory>
+) -> Result<Option<String>, AllocError>
     ensures made { IfOk result (λ told. is_some told ≡ is_made call.now entries.now) }
     ensures text { IfOk result (λ told. IfSome told (λ text. string_bytes text ≡ story_text version entries.now history.now call.now)) }
 {

@@ -1,6 +1,6 @@
 use Rattle.std.specs.Prelude.{codes}
 use Rattle.messages.specs.declared.actor.Actor.TheVariants.{Node}
-use Rattle.lockscript.specs.Texts.{call_text}
+use Rattle.message_text.specs.Names.{call_text}
 use Rattle.diagrams.specs.Sequences.{actor_id, note_start, placed_note}
 use Rattle.diagrams.proofs.Steps.{behind, pushed}
 use Rattle.diagrams.proofs.notes.push_placed_note.Goals as goal

@@ -1,4 +1,4 @@
-use Rattle.journal_text.proofs.Fronts.{none-of_kind}
+use Rattle.message_text.proofs.Fronts.{none-of_kind}
 use Rattle.journal_text.proofs.EventKinds.{events}
 use Rattle.journal_text.proofs.EventKinds.EventKind.{calls}
 use Rattle.journal_text.proofs.events.call_event.Goals as goal

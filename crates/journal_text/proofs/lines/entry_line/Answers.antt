@@ -1,5 +1,5 @@
 use Rattle.std.specs.Fmt.{decimal}
-use Rattle.journal_text.proofs.Fronts.{none-of_kind}
+use Rattle.message_text.proofs.Fronts.{none-of_kind}
 use Rattle.texts.proofs.Pairs.{reads-pair_none}
 use Rattle.journal_text.specs.Events.{IsServedEvent, named_text}
 use Rattle.journal_text.specs.Lines.{IsPosition}

@@ -1,7 +1,7 @@
 use Rattle.std.proofs.Common.{◌++◌, ◌∷◌, Some, None, refl}
 use Rattle.std.specs.Fmt.{decimal}
 use Rattle.texts.specs.Layout.{space}
-use Rattle.journal_text.proofs.Fronts.{none-of_kind}
+use Rattle.message_text.proofs.Fronts.{none-of_kind}
 use Rattle.texts.proofs.Pairs.{reads-first_none, reads-pair}
 use Rattle.journal_text.specs.Events.{IsServedEvent, named_text}
 use Rattle.journal_text.specs.Lines.{IsPosition}

@@ -1,4 +1,4 @@
-use Rattle.journal_text.proofs.Fronts.{none-of_kind}
+use Rattle.message_text.proofs.Fronts.{none-of_kind}
 use Rattle.journal_text.proofs.LineKinds.{lines}
 use Rattle.journal_text.proofs.LineKinds.LineKind.{answers}
 use Rattle.journal_text.proofs.lines.reply_line.Goals as goal

@@ -1,4 +1,4 @@
-use Rattle.journal_text.proofs.Fronts.{none-of_kind}
+use Rattle.message_text.proofs.Fronts.{none-of_kind}
 use Rattle.journal_text.proofs.ReplyKinds.{replies}
 use Rattle.journal_text.proofs.ReplyKinds.ReplyKind.{fds}
 use Rattle.journal_text.proofs.replies.fd_of.Goals as goal

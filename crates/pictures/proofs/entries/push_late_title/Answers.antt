@@ -2,7 +2,7 @@ use Rattle.std.proofs.Common.{◌∙◌, ◌++◌, ap}
 use Rattle.std.specs.Prelude.{string_bytes, codes}
 use Rattle.std.proofs.lemmas.Result.{on_ok_weaker}
 use Rattle.messages.specs.declared.version.Version.{Version}
-use Rattle.journal_text.specs.Texts.{message_text}
+use Rattle.message_text.specs.Texts.{message_text}
 use Rattle.pictures.specs.Pictures.{late_title}
 use Rattle.pictures.proofs.Glue.{glue}
 use Rattle.pictures.proofs.entries.push_late_title.Goals as goal

@@ -4,7 +4,7 @@ use Rattle.pictures.proofs.laws.time_goes_right.Goals as goal
 
 pub returns-clause-later : goal.returns-clause-later
 unfolding x_of
-returns-clause-later c s p q before = omega arith
+returns-clause-later c s p q = ((λ before. omega arith), (λ begun before within. omega arith))
 
 pub returns-clause-within : goal.returns-clause-within
 unfolding x_of

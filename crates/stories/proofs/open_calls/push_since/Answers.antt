@@ -1,6 +1,6 @@
 use Rattle.std.specs.Prelude.{codes, decimal, string_bytes, OnOk, Ok, Err}
 use Rattle.std.proofs.Common.{◌≡◌, ◌++◌}
-use Rattle.lockscript.specs.Texts.{call_text}
+use Rattle.message_text.specs.Names.{call_text}
 use Rattle.stories.proofs.Passes.{written}
 use Rattle.stories.specs.OpenCalls.{since_text}
 use Rattle.stories.proofs.open_calls.push_since.Goals as goal

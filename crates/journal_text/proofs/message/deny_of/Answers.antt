@@ -1,7 +1,0 @@
-use Rattle.journal_text.proofs.Fronts.{none-of_kind}
-use Rattle.journal_text.proofs.MessageKinds.{messages}
-use Rattle.journal_text.proofs.MessageKinds.MessageKind.{denials}
-use Rattle.journal_text.proofs.message.deny_of.Goals as goal
-
-pub returns-in_err-file : goal.returns-in_err-file
-returns-in_err-file g c = rw c.from_residual.ensures (none-of_kind (messages g.V.Edition.version) denials c.args.operands.now c.in_err-file.ensures)

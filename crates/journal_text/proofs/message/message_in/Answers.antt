@@ -1,5 +1,0 @@
-use Rattle.journal_text.proofs.MessageKinds.{no_message_alone}
-use Rattle.journal_text.proofs.message.message_in.Goals as goal
-
-pub returns-in-None : goal.returns-in-None
-returns-in-None g c = no_message_alone g.V.Edition.version c.args.text.now c.in-None.ensures

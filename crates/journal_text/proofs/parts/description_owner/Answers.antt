@@ -1,7 +1,0 @@
-use Rattle.model.specs.declared.owner.Kind.TheVariants.{OfDescription}
-use Rattle.journal_text.proofs.Fronts.{none-of_kind}
-use Rattle.journal_text.proofs.Names.{owners}
-use Rattle.journal_text.proofs.parts.description_owner.Goals as goal
-
-pub returns-in_err-number : goal.returns-in_err-number
-returns-in_err-number c = rw c.from_residual.ensures (none-of_kind owners OfDescription c.args.rest.now c.in_err-number.ensures)

@@ -1,7 +1,0 @@
-use Rattle.std.proofs.Common.{◌↔◌, ◌-◌}
-use Rattle.journal_text.specs.Reports.{IsRunsText}
-use Rattle.journal_text.proofs.ReportWords.{AreRunWords}
-use Rattle.journal_text.proofs.reports.are_runs.Given as goal
-
-abbrev pub invariant-loop : goal.invariant-loop
-invariant-loop l = IsRunsText l.text ↔ AreRunWords l.last (l.count - l.counter) l.words

@@ -1,0 +1,35 @@
+//! Texts of replies.
+ghost use Rattle.std.specs.Prelude.{◌≡◌, ◌++◌, string_bytes, OnOk};
+ghost use Rattle.lockscript.specs.Texts.{reply_text};
+
+use message_text::names::push_lock;
+use model::reply::Reply;
+use std::alloc::AllocError;
+use std::fmt::Write;
+
+/// Writes a reply.
+pub fn push_reply(out: &mut String, reply: &Reply) -> Result<(), AllocError>
+    ensures { OnOk result (string_bytes out.new ≡ string_bytes out.old ++ reply_text reply.now) }
+{
+    match reply {
+        Reply::Done => out.push_str("done"),
+        Reply::Fd(fd) => write!(out, "fd {fd}"),
+        Reply::Again(lock) => {
+            out.push_str("again ")?;
+            push_lock(out, lock)
+        }
+        Reply::Free => out.push_str("free"),
+        Reply::Blocked(lock) => {
+            out.push_str("blocked ")?;
+            push_lock(out, lock)
+        }
+        Reply::Interrupted => out.push_str("interrupted"),
+        Reply::NoProcess => out.push_str("no-process"),
+        Reply::Exists => out.push_str("exists"),
+        Reply::BadFd => out.push_str("bad-fd"),
+        Reply::TooManyFiles => out.push_str("too-many-files"),
+        Reply::NoLocks => out.push_str("no-locks"),
+        Reply::Invalid => out.push_str("invalid"),
+        Reply::Overflow => out.push_str("overflow"),
+    }
+}

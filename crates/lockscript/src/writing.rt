@@ -1,0 +1,46 @@
+//! Lines of scripts, written.
+ghost use Rattle.std.specs.Prelude.{◌≡◌, ◌++◌, string_bytes, OnOk};
+ghost use Rattle.lockscript.specs.Scripts.{command_text};
+
+use crate::operations::Operation;
+use crate::script_line::Command;
+use message_text::numbers::{FileField, IncarnationField, NodeField, PidField};
+use std::alloc::AllocError;
+use std::fmt::Write;
+use texts::text::Text;
+
+/// Writes what a line asks for, without its end.
+///
+/// # Errors
+/// `AllocError` where a request for memory was refused.
+pub fn push_command(out: &mut String, command: &Command) -> Result<(), AllocError>
+    ensures { OnOk result (string_bytes out.new ≡ string_bytes out.old ++ command_text command.now) }
+{
+    match command {
+        Command::Call { node, pid, op } => {
+            out.push_str("call ")?;
+            <(NodeField, (PidField, Operation))>::write(&(*node, (*pid, *op)), out)
+        }
+        Command::Deliver { message } => write!(out, "deliver {message}"),
+        Command::Lose { message } => write!(out, "lose {message}"),
+        Command::Settle => out.push_str("settle"),
+        Command::Interrupt { node, pid } => write!(out, "interrupt {node} {pid}"),
+        Command::Retry { node, pid } => write!(out, "retry {node} {pid}"),
+        Command::Resend { file } => write!(out, "resend {file}"),
+        Command::Declare { node } => write!(out, "declare {node}"),
+        Command::Restart { node } => write!(out, "restart {node}"),
+        Command::Learn {
+            file,
+            node,
+            incarnation,
+        } => {
+            out.push_str("learn ")?;
+            <(FileField, (NodeField, IncarnationField))>::write(
+                &(*file, (*node, *incarnation)),
+                out,
+            )
+        }
+        Command::FailServer { file } => write!(out, "fail-server {file}"),
+        Command::StartServer { file } => write!(out, "start-server {file}"),
+    }
+}

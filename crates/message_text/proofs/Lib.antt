@@ -1,0 +1,13 @@
+pub mod SingleWords
+pub mod Fronts
+pub mod Views
+pub mod NameTexts
+pub mod SpanParts
+pub mod Words
+pub mod Commands
+pub mod ReportWords
+pub mod MessageKinds
+pub mod ReportFields
+pub mod Feedless
+pub mod FeedlessMessages
+pub mod TextLaws

@@ -1,0 +1,17 @@
+-- What is read of the text of a message is that message.
+use Rattle.std.proofs.Common.{◌≡◌, Option, Some, None, refl, sym, ap}
+use Rattle.messages.specs.declared.message.Message.{Message}
+use Rattle.messages.specs.declared.version.Version.{Version}
+use Rattle.texts.specs.Reads.{Reads}
+use Rattle.message_text.specs.OneText.{MessagesHaveTexts}
+use Rattle.message_text.specs.Served.{IsServedMessage}
+use Rattle.message_text.specs.Texts.{message_text}
+use Rattle.message_text.proofs.FeedlessMessages.{feedless-message}
+use Rattle.message_text.proofs.MessageKinds.{apart-message}
+
+read-again : (version : Version) (m : Message) → IsServedMessage version m → (found : Option Message) → Reads (message_text version) (IsServedMessage version) (message_text version m) found → found ≡ Some m
+read-again version m fits None none = absurd (none m fits refl)
+read-again version m fits (Some other) some = ap Some (apart-message version other m some.0 fits (sym some.1))
+
+pub messages_have_texts : (version : Version) → MessagesHaveTexts version
+messages_have_texts version = record { one_value = apart-message version; is_read = read-again version; is_line = feedless-message version }

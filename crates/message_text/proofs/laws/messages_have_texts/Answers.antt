@@ -1,0 +1,5 @@
+use Rattle.message_text.proofs.TextLaws.{messages_have_texts}
+use Rattle.message_text.proofs.laws.messages_have_texts.Goals as goal
+
+pub returns : goal.returns
+returns c = messages_have_texts

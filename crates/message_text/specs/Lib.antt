@@ -1,0 +1,8 @@
+pub mod Names
+pub mod Texts
+pub mod Served
+pub mod Reports
+pub mod Forms
+pub mod Parts
+pub mod OneField
+pub mod OneText

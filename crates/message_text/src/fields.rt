@@ -1,0 +1,312 @@
+//! The fields of messages.
+ghost use Rattle.std.specs.Prelude.{◌≡◌, ◌≢◌, ◌++◌, ◌∷◌, ℕ, List, decimal, string_bytes, MatchOption, OnOk, ⊤, refl};
+ghost use Rattle.std.proofs.Common.{arith};
+ghost use Rattle.messages.specs.declared.message.Urgency.TheVariants.{Now, Waits};
+ghost use Rattle.model.specs.Limits.{IsCall, IsOwner};
+ghost use Rattle.texts.specs.OneField.{decimal_is_one_field};
+ghost use Rattle.messages.specs.Epochs.{IsRebuilt};
+ghost use Rattle.messages.specs.declared.version.Version.TheVariants.{First, Second};
+ghost use Rattle.texts.specs.Layout.{space};
+ghost use Rattle.texts.specs.Reads.{Both, Reads};
+ghost use Rattle.message_text.specs.Names.{call_text, lock_text, owner_text, holder_text};
+ghost use Rattle.message_text.specs.OneField.{call_is_one_field, epoch_is_one_field, holder_is_one_field};
+ghost use Rattle.message_text.specs.Served.{AreServedWants, IsCommandNumber, IsFile, IsHolder, IsServedLock, IsServedSpan};
+ghost use Rattle.message_text.specs.Texts.{command_text, epoch_text, span_text, urgency_text, wants_text};
+
+use crate::edition::Edition;
+use crate::names::{call_of, host_of, owner_of, push_call, push_host, push_lock, push_owner};
+use crate::numbers::{Counted, EpochField, FileField, RebuiltField};
+use crate::spans::{lock_of, span_of, wants_of};
+use intervals::span::Span;
+use messages::command_number::CommandNumber;
+use messages::epoch_number::EpochNumber;
+use messages::file_number::FileNumber;
+use messages::message::Urgency;
+use messages::version::Version;
+use messages::wanted::Wanted;
+use model::call::CallId;
+use model::host::Host;
+use model::lock_info::LockInfo;
+use model::owner::Owner;
+use std::alloc::AllocError;
+use std::fmt::Write;
+use std::marker::PhantomData;
+use texts::text::{Text, Word, split_field};
+
+/// The number of a file that messages name.
+pub(crate) struct FileName;
+
+impl Text for FileName {
+    type Value = FileNumber;
+
+    ghost text_of = { decimal };
+
+    ghost is_served = { IsFile };
+
+    fn read(text: &str) -> Option<FileNumber> {
+        match FileField::read(text) {
+            Some(number) => Some(FileNumber::of(number)),
+            None => None,
+        }
+    }
+
+    fn write(value: &FileNumber, out: &mut String) -> Result<(), AllocError> {
+        let number = value.get();
+        write!(out, "{number}")
+    }
+}
+
+impl Word for FileName {
+    ghost is_one_field = { λ n served. decimal_is_one_field n (Prim.omega (arith, served.1)) };
+}
+
+/// The epoch of a server that was rebuilt.
+pub(crate) struct EpochName;
+
+impl Text for EpochName {
+    type Value = EpochNumber;
+
+    ghost text_of = { epoch_text };
+
+    ghost is_served = { IsRebuilt };
+
+    fn read(text: &str) -> Option<EpochNumber> {
+        match RebuiltField::read(text) {
+            Some(epoch) => Some(EpochNumber::of(epoch)),
+            None => None,
+        }
+    }
+
+    fn write(value: &EpochNumber, out: &mut String) -> Result<(), AllocError> {
+        let epoch = value.epoch();
+        write!(out, "{epoch}")
+    }
+}
+
+impl Word for EpochName {
+    ghost is_one_field = { epoch_is_one_field };
+}
+
+/// `E K` in a version with epochs, else `K`, and what follows: the number of a command, with the epoch
+/// of the server that gave it.
+pub(crate) struct Numbered<V, B> {
+    of: PhantomData<(V, B)>,
+}
+
+impl<V: Edition, B: Text> Text for Numbered<V, B> {
+    type Value = (CommandNumber, B::Value);
+
+    ghost text_of = { command_text V.version B.text_of };
+
+    ghost is_served = { Both (IsCommandNumber V.version) B.is_served };
+
+    fn read(text: &str) -> Option<(CommandNumber, B::Value)> {
+        match V::version() {
+            Version::First => of_first_epoch::<B>(text),
+            Version::Second => of_epoch::<B>(text),
+        }
+    }
+
+    fn write(value: &(CommandNumber, B::Value), out: &mut String) -> Result<(), AllocError> {
+        push_number(out, V::version(), value.0)?;
+        B::write(&value.1, out)
+    }
+}
+
+// The number of a command of the first epoch, and what follows.
+fn of_first_epoch<B: Text>(text: &str) -> Option<(CommandNumber, B::Value)>
+    ensures { Reads (command_text First B.text_of) (Both (IsCommandNumber First) B.is_served) text.now result }
+{
+    let (number, rest) = <(Counted, B)>::read(text)?;
+    Some((CommandNumber::of(1, number), rest))
+}
+
+// The epoch of a command, its number in that, and what follows.
+fn of_epoch<B: Text>(text: &str) -> Option<(CommandNumber, B::Value)>
+    ensures { Reads (command_text Second B.text_of) (Both (IsCommandNumber Second) B.is_served) text.now result }
+{
+    let (epoch, (number, rest)) = <(EpochField, (Counted, B))>::read(text)?;
+    Some((CommandNumber::of(epoch, number), rest))
+}
+
+// Writes the number of a command, and a space.
+fn push_number(out: &mut String, version: Version, number: CommandNumber) -> Result<(), AllocError>
+    ensures { OnOk result ((rest : List ℕ) → string_bytes out.new ++ rest ≡ string_bytes out.old ++ command_text version (λ (bytes : List ℕ). bytes) (number, rest)) }
+{
+    match version {
+        Version::First => {
+            let count = number.get();
+            write!(out, "{count} ")
+        }
+        Version::Second => {
+            let epoch = number.epoch();
+            let number = number.number();
+            write!(out, "{epoch} {number} ")
+        }
+    }
+}
+
+/// The value that the first field of a text writes, and what stands behind the space after it.
+pub(crate) fn first_field<A: Word>(text: &str) -> Option<(A::Value, &str)>
+    ensures { MatchOption result ((x : A.Value) (rest : List ℕ) → A.is_served x → text.now ≢ A.text_of x ++ space ∷ rest) (λ found. A.is_served found.0 × (text.now ≡ A.text_of found.0 ++ space ∷ found.1.now)) }
+{
+    let (word, rest) = split_field(text)?;
+    let value = A::read(word)?;
+    Some((value, rest))
+}
+
+/// `N.I`.
+pub struct HostName;
+
+impl Text for HostName {
+    type Value = Host;
+
+    ghost text_of = { holder_text };
+
+    ghost is_served = { IsHolder };
+
+    fn read(text: &str) -> Option<Host> {
+        host_of(text)
+    }
+
+    fn write(value: &Host, out: &mut String) -> Result<(), AllocError> {
+        push_host(out, value.node, value.incarnation)
+    }
+}
+
+impl Word for HostName {
+    ghost is_one_field = { holder_is_one_field };
+}
+
+/// `N.I.C`.
+pub struct CallName;
+
+impl Text for CallName {
+    type Value = CallId;
+
+    ghost text_of = { call_text };
+
+    ghost is_served = { IsCall };
+
+    fn read(text: &str) -> Option<CallId> {
+        call_of(text)
+    }
+
+    fn write(value: &CallId, out: &mut String) -> Result<(), AllocError> {
+        push_call(out, value)
+    }
+}
+
+impl Word for CallName {
+    ghost is_one_field = { call_is_one_field };
+}
+
+/// What a word says of a request: `now` or `wait`.
+pub(crate) struct UrgencyWord;
+
+impl Text for UrgencyWord {
+    type Value = Urgency;
+
+    ghost text_of = { urgency_text };
+
+    ghost is_served = { λ _. ⊤ };
+
+    fn read(text: &str) -> Option<Urgency> {
+        match text {
+            "now" => Some(Urgency::Now),
+            "wait" => Some(Urgency::Waits),
+            _ => None,
+        }
+    }
+
+    fn write(value: &Urgency, out: &mut String) -> Result<(), AllocError> {
+        match value {
+            Urgency::Now => out.push_str("now"),
+            Urgency::Waits => out.push_str("wait"),
+        }
+    }
+}
+
+impl Word for UrgencyWord {
+    ghost is_one_field = { elim [ Now ↦ λ _. refl | Waits ↦ λ _. refl ] };
+}
+
+/// `LO HI`.
+pub(crate) struct SpanText;
+
+impl Text for SpanText {
+    type Value = Span;
+
+    ghost text_of = { span_text };
+
+    ghost is_served = { IsServedSpan };
+
+    fn read(text: &str) -> Option<Span> {
+        span_of(text)
+    }
+
+    fn write(value: &Span, out: &mut String) -> Result<(), AllocError> {
+        let lo = value.lo;
+        let hi = value.hi;
+        write!(out, "{lo} {hi}")
+    }
+}
+
+/// `LO HI LO HI`, the required span and the desired one, which contains it.
+pub(crate) struct WantsText;
+
+impl Text for WantsText {
+    type Value = Wanted;
+
+    ghost text_of = { wants_text };
+
+    ghost is_served = { AreServedWants };
+
+    fn read(text: &str) -> Option<Wanted> {
+        wants_of(text)
+    }
+
+    fn write(value: &Wanted, out: &mut String) -> Result<(), AllocError> {
+        SpanText::write(&value.required, out)?;
+        out.push_str(" ")?;
+        SpanText::write(&value.desired, out)
+    }
+}
+
+/// `pPID@N.I` or `dNUMBER@N.I`.
+pub(crate) struct OwnerName;
+
+impl Text for OwnerName {
+    type Value = Owner;
+
+    ghost text_of = { owner_text };
+
+    ghost is_served = { IsOwner };
+
+    fn read(text: &str) -> Option<Owner> {
+        owner_of(text)
+    }
+
+    fn write(value: &Owner, out: &mut String) -> Result<(), AllocError> {
+        push_owner(out, value)
+    }
+}
+
+/// `MODE LO HI OWNER`.
+pub(crate) struct LockText;
+
+impl Text for LockText {
+    type Value = LockInfo;
+
+    ghost text_of = { lock_text };
+
+    ghost is_served = { IsServedLock };
+
+    fn read(text: &str) -> Option<LockInfo> {
+        lock_of(text)
+    }
+
+    fn write(value: &LockInfo, out: &mut String) -> Result<(), AllocError> {
+        push_lock(out, value)
+    }
+}

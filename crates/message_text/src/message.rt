@@ -1,0 +1,242 @@
+//! Messages from their texts.
+ghost use Rattle.std.specs.Prelude.{◌≡◌, ◌∷◌, ◌++◌, codes, decimal, true};
+ghost use Rattle.messages.specs.Epochs.{IsRebuilt};
+ghost use Rattle.messages.specs.Versions.{may_rebuild};
+ghost use Rattle.texts.specs.Layout.{space};
+ghost use Rattle.texts.specs.Reads.{Lacks, Reads};
+ghost use Rattle.message_text.specs.Served.{IsFile, IsHolder, IsServedMessage};
+ghost use Rattle.message_text.specs.Texts.{epoch_text, message_text};
+ghost use Rattle.message_text.specs.Names.{holder_text};
+
+use crate::edition::{Edition, FirstEdition, SecondEdition};
+use crate::fields::{EpochName, FileName, HostName, first_field};
+use crate::operands::{
+    ConflictFields, DenyFields, FreedFields, GrantFields, HelloFields, ReleasedFields,
+    RequestFields, RevokeFields, TakenFields,
+};
+use crate::reports::are_runs;
+use crate::written_message::WrittenMessage;
+use messages::epoch_number::EpochNumber;
+use messages::file_number::FileNumber;
+use messages::message::Message;
+use messages::version::Version;
+use model::host::Host;
+use texts::text::{Text, split_field};
+
+/// The message that the text writes in this version.
+pub fn message_of(version: Version, text: &str) -> Option<WrittenMessage<'_>>
+    ensures { Reads (message_text version) (IsServedMessage version) text.now result }
+{
+    match version {
+        Version::First => message_in::<FirstEdition>(text),
+        Version::Second => message_in::<SecondEdition>(text),
+    }
+}
+
+/// The message that the text writes in the version.
+pub fn message_in<V: Edition>(text: &str) -> Option<WrittenMessage<'_>>
+    ensures { Reads (message_text V.version) (IsServedMessage V.version) text.now result }
+{
+    match split_field(text) {
+        Some((word, operands)) => message_with::<V>(word, operands),
+        None => None,
+    }
+}
+
+// The message of this word, with these operands.
+fn message_with<'a, V: Edition>(word: &str, operands: &'a str) -> Option<WrittenMessage<'a>>
+    requires { Lacks space word.now }
+    ensures { Reads (message_text V.version) (IsServedMessage V.version) (word.now ++ space ∷ operands.now) result }
+{
+    match word {
+        "request" => request_of::<V>(operands),
+        "grant" => grant_of::<V>(operands),
+        "revoke" => revoke_of::<V>(operands),
+        "taken" => taken_of::<V>(operands),
+        "released" => released_of::<V>(operands),
+        "conflict" => conflict_of::<V>(operands),
+        "deny" => deny_of::<V>(operands),
+        "freed" => freed_of::<V>(operands),
+        "hello" => hello_of::<V>(operands),
+        "report" => report_of::<V>(operands),
+        _ => None,
+    }
+}
+
+// `request` with these operands.
+fn request_of<V: Edition>(operands: &str) -> Option<WrittenMessage<'_>>
+    ensures { Reads (message_text V.version) (IsServedMessage V.version) (codes "request " ++ operands.now) result }
+{
+    let (file, (call, (urgency, (mode, wanted)))) = RequestFields::read(operands)?;
+    Some(WrittenMessage::whole(Message::Request {
+        file,
+        call,
+        urgency,
+        mode,
+        wanted,
+    }))
+}
+
+// `grant` with these operands.
+fn grant_of<V: Edition>(operands: &str) -> Option<WrittenMessage<'_>>
+    ensures { Reads (message_text V.version) (IsServedMessage V.version) (codes "grant " ++ operands.now) result }
+{
+    let (file, (number, (call, (mode, span)))) = <GrantFields<V>>::read(operands)?;
+    Some(WrittenMessage::whole(Message::Grant {
+        file,
+        number,
+        call,
+        mode,
+        span,
+    }))
+}
+
+// `revoke` with these operands.
+fn revoke_of<V: Edition>(operands: &str) -> Option<WrittenMessage<'_>>
+    ensures { Reads (message_text V.version) (IsServedMessage V.version) (codes "revoke " ++ operands.now) result }
+{
+    let (file, (number, (holder, (call, (mode, wanted))))) = <RevokeFields<V>>::read(operands)?;
+    Some(WrittenMessage::whole(Message::Revoke {
+        file,
+        number,
+        holder,
+        call,
+        mode,
+        wanted,
+    }))
+}
+
+// `taken` with these operands.
+fn taken_of<V: Edition>(operands: &str) -> Option<WrittenMessage<'_>>
+    ensures { Reads (message_text V.version) (IsServedMessage V.version) (codes "taken " ++ operands.now) result }
+{
+    let (file, (number, call)) = <TakenFields<V>>::read(operands)?;
+    Some(WrittenMessage::whole(Message::Taken { file, number, call }))
+}
+
+// `released` with these operands.
+fn released_of<V: Edition>(operands: &str) -> Option<WrittenMessage<'_>>
+    ensures { Reads (message_text V.version) (IsServedMessage V.version) (codes "released " ++ operands.now) result }
+{
+    let (file, (number, (holder, (call, span)))) = <ReleasedFields<V>>::read(operands)?;
+    Some(WrittenMessage::whole(Message::Released {
+        file,
+        number,
+        holder,
+        call,
+        span,
+    }))
+}
+
+// `conflict` with these operands.
+fn conflict_of<V: Edition>(operands: &str) -> Option<WrittenMessage<'_>>
+    ensures { Reads (message_text V.version) (IsServedMessage V.version) (codes "conflict " ++ operands.now) result }
+{
+    let (file, (number, (holder, (call, lock)))) = <ConflictFields<V>>::read(operands)?;
+    Some(WrittenMessage::whole(Message::Conflict {
+        file,
+        number,
+        holder,
+        call,
+        lock,
+    }))
+}
+
+// `deny` with these operands.
+fn deny_of<V: Edition>(operands: &str) -> Option<WrittenMessage<'_>>
+    ensures { Reads (message_text V.version) (IsServedMessage V.version) (codes "deny " ++ operands.now) result }
+{
+    let (file, (call, (holder, (number, lock)))) = <DenyFields<V>>::read(operands)?;
+    Some(WrittenMessage::whole(Message::Deny {
+        file,
+        call,
+        holder,
+        number,
+        lock,
+    }))
+}
+
+// `freed` with these operands.
+fn freed_of<V: Edition>(operands: &str) -> Option<WrittenMessage<'_>>
+    ensures { Reads (message_text V.version) (IsServedMessage V.version) (codes "freed " ++ operands.now) result }
+{
+    let (file, holder) = FreedFields::read(operands)?;
+    Some(WrittenMessage::whole(Message::Freed { file, holder }))
+}
+
+// `hello` with these operands.
+fn hello_of<V: Edition>(operands: &str) -> Option<WrittenMessage<'_>>
+    ensures { Reads (message_text V.version) (IsServedMessage V.version) (codes "hello " ++ operands.now) result }
+{
+    if !V::version().may_rebuild() {
+        return None;
+    }
+    let (file, (number, holder)) = HelloFields::read(operands)?;
+    Some(WrittenMessage::whole(Message::Hello {
+        file,
+        number,
+        holder,
+    }))
+}
+
+// `report` with these operands.
+fn report_of<V: Edition>(operands: &str) -> Option<WrittenMessage<'_>>
+    ensures { Reads (message_text V.version) (IsServedMessage V.version) (codes "report " ++ operands.now) result }
+{
+    if !V::version().may_rebuild() {
+        return None;
+    }
+    match first_field::<FileName>(operands) {
+        Some((file, rest)) => report_about::<V>(file, rest),
+        None => None,
+    }
+}
+
+// `report F` with these operands.
+fn report_about<V: Edition>(file: FileNumber, operands: &str) -> Option<WrittenMessage<'_>>
+    requires rebuilds { may_rebuild V.version ≡ true }
+    requires file_in { IsFile file }
+    ensures { Reads (message_text V.version) (IsServedMessage V.version) (codes "report " ++ (decimal file ++ space ∷ operands.now)) result }
+{
+    match first_field::<EpochName>(operands) {
+        Some((number, rest)) => report_to::<V>(file, number, rest),
+        None => None,
+    }
+}
+
+// `report F E` with these operands.
+fn report_to<V: Edition>(
+    file: FileNumber,
+    number: EpochNumber,
+    operands: &str,
+) -> Option<WrittenMessage<'_>>
+    requires rebuilds { may_rebuild V.version ≡ true }
+    requires file_in { IsFile file }
+    requires number_in { IsRebuilt number }
+    ensures { Reads (message_text V.version) (IsServedMessage V.version) (codes "report " ++ (decimal file ++ space ∷ (epoch_text number ++ space ∷ operands.now))) result }
+{
+    match first_field::<HostName>(operands) {
+        Some((holder, runs)) => report_with::<V>(file, number, holder, runs),
+        None => None,
+    }
+}
+
+// `report F E H` with these runs.
+fn report_with<V: Edition>(
+    file: FileNumber,
+    number: EpochNumber,
+    holder: Host,
+    runs: &str,
+) -> Option<WrittenMessage<'_>>
+    requires rebuilds { may_rebuild V.version ≡ true }
+    requires file_in { IsFile file }
+    requires number_in { IsRebuilt number }
+    requires holder_in { IsHolder holder }
+    ensures { Reads (message_text V.version) (IsServedMessage V.version) (codes "report " ++ (decimal file ++ space ∷ (epoch_text number ++ space ∷ (holder_text holder ++ space ∷ runs.now)))) result }
+{
+    if are_runs(runs) {
+        Some(WrittenMessage::report(file, number, holder, runs))
+    } else {
+        None
+    }
+}

@@ -1,0 +1,167 @@
+//! The runs of reports.
+ghost use Rattle.std.specs.Prelude.{◌≡◌, ◌≢◌, ◌++◌, ◌∷◌, [], ◌↔◌, ◌<◌, ◌^◌, ℕ, List, true, decimal, IsTrue, IfOk, MatchOption, OnOk, string_bytes};
+ghost use Rattle.messages.specs.declared.token_run.TokenRun.{TokenRun as Run};
+ghost use Rattle.message_text.specs.Reports.{IsRunsText, may_stand, run_words, runs_in, words_of};
+ghost use Rattle.message_text.specs.Served.{IsServedSpan};
+ghost use Rattle.message_text.specs.Texts.{runs_text};
+
+use crate::fields::SpanText;
+use crate::numbers::Offset;
+use intervals::span::Span;
+use messages::token_run::{TokenRun, TokenRuns};
+use model::level::Level;
+use std::alloc::{AllocError, Global};
+use std::fmt::Write;
+use std::marker::Model;
+use texts::number::UpTo;
+use texts::text::{Text, split_field};
+
+// How many runs there are.
+type Total = UpTo<18_446_744_073_709_551_615>;
+
+/// The words of a text that are left.
+#[derive(Drop)]
+struct Words<'a> {
+    rest: &'a str,
+    ended: bool,
+}
+
+impl<'a> Model for Words<'a> {
+    ghost use Rattle.std.specs.Prelude.{ℕ, List, [], if◌then◌else◌};
+    ghost use Rattle.message_text.specs.Reports.{words_of};
+
+    ghost Value = { List (List ℕ) };
+
+    ghost view = { λ w. if w.ended then [] else words_of w.rest.now };
+}
+
+impl<'a> Words<'a> {
+    // Those of the text.
+    fn new(text: &'a str) -> Words<'a>
+        ensures { result ≡ words_of text.entry.now }
+    {
+        Words {
+            rest: text,
+            ended: false,
+        }
+    }
+
+    // Whether none is left.
+    fn is_empty(&self) -> bool
+        ensures { IsTrue result ↔ (self.now ≡ []) }
+    {
+        self.ended
+    }
+
+    // The next word.
+    fn next(&mut self) -> Option<&'a str>
+        ensures { MatchOption result (self.old ≡ []) (λ word. self.old ≡ word.now ∷ self.new) }
+    {
+        if self.ended {
+            return None;
+        }
+        let Some((word, rest)) = split_field(self.rest) else {
+            self.ended = true;
+            return Some(self.rest);
+        };
+        self.rest = rest;
+        Some(word)
+    }
+
+    // The number that the next word writes.
+    fn next_count(&mut self) -> Option<u64>
+        ensures { MatchOption result ((count : ℕ) (more : List (List ℕ)) → count < 2 ^ 64 → self.old ≢ decimal count ∷ more) (λ count. (count < 2 ^ 64) × (self.old ≡ decimal count ∷ self.new)) }
+    {
+        Total::read(self.next()?)
+    }
+
+    // The run that the next three words tell.
+    fn next_run(&mut self) -> Option<TokenRun>
+        ensures { MatchOption result ((run : Run) (more : List (List ℕ)) → IsServedSpan run.span → self.old ≢ run_words run ++ more) (λ run. IsServedSpan run.span × (self.old ≡ run_words run ++ self.new)) }
+    {
+        let level = Level::read(self.next()?)?;
+        let lo = Offset::read(self.next()?)?;
+        let hi = Offset::read(self.next()?)?;
+        if hi < lo {
+            return None;
+        }
+        let span = Span { lo, hi };
+        Some(TokenRun { span, level })
+    }
+}
+
+// Whether the run may stand behind the one before it, if there is one.
+fn may_stand(last: Option<TokenRun>, run: &TokenRun) -> bool
+    ensures { result ≡ may_stand last run.now }
+{
+    match last {
+        Some(before) => run.may_follow(before),
+        None => true,
+    }
+}
+
+// The next run, if it may stand behind the one before it.
+fn next_standing(words: &mut Words<'_>, last: Option<TokenRun>) -> Option<TokenRun>
+    ensures { MatchOption result ((run : Run) (more : List (List ℕ)) → IsServedSpan run.span → may_stand last run ≡ true → words.old ≢ run_words run ++ more) (λ run. IsServedSpan run.span × (may_stand last run ≡ true) × (words.old ≡ run_words run ++ words.new)) }
+{
+    let run = words.next_run()?;
+    if !may_stand(last, &run) {
+        return None;
+    }
+    Some(run)
+}
+
+/// Whether the text is that of the longest runs of a token, behind their number.
+pub(crate) fn are_runs(text: &str) -> bool
+    ensures { IsTrue result ↔ IsRunsText text.now }
+{
+    let mut words = Words::new(text);
+    let Some(count) = words.next_count() else {
+        return false;
+    };
+    let mut last = None;
+    for _ in 0..count {
+        let Some(run) = next_standing(&mut words, last) else {
+            return false;
+        };
+        last = Some(run);
+    }
+    words.is_empty()
+}
+
+/// The runs that the text tells.
+///
+/// # Errors
+/// `AllocError` where a request for memory was refused.
+pub(crate) fn read_runs(alloc: Global, text: &str) -> Result<TokenRuns, AllocError>
+    requires { IsRunsText text.now }
+    ensures { IfOk result (λ runs. runs ≡ runs_in text.now) }
+{
+    let mut words = Words::new(text);
+    let _count = words.next_count();
+    let mut runs = Vec::new(alloc);
+    while let Some(run) = words.next_run() {
+        runs.push(run)?;
+    }
+    match TokenRuns::new(runs) {
+        Some(runs) => Ok(runs),
+        None => unreachable!(),
+    }
+}
+
+/// Writes the runs behind their number.
+///
+/// # Errors
+/// `AllocError` where a request for memory was refused.
+pub(crate) fn push_runs(out: &mut String, runs: &TokenRuns) -> Result<(), AllocError>
+    ensures { OnOk result (string_bytes out.new ≡ string_bytes out.old ++ runs_text runs.now) }
+{
+    let runs = runs.as_slice();
+    let count = runs.len();
+    write!(out, "{count}")?;
+    for run in runs {
+        out.push_str(" ")?;
+        <(Level, SpanText)>::write(&(run.level, run.span), out)?;
+    }
+    Ok(())
+}

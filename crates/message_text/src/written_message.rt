@@ -1,0 +1,106 @@
+//! Messages as their texts have them.
+ghost use Rattle.std.specs.Prelude.{◌≡◌, IfOk};
+ghost use Rattle.messages.specs.declared.message.Message.TheVariants as message;
+ghost use Rattle.message_text.specs.Forms.{message_in, IsForm};
+ghost use Rattle.message_text.specs.Reports.{IsRunsText, runs_in};
+
+use crate::reports::read_runs;
+use messages::epoch_number::EpochNumber;
+use messages::file_number::FileNumber;
+use messages::message::Message;
+use model::host::Host;
+use std::alloc::{AllocError, Global};
+use std::marker::Model;
+
+// The runs of a report stay text, so that no memory is needed to read it.
+#[derive(Drop)]
+enum Form<'a> {
+    Whole(Message),
+    Report {
+        file: FileNumber,
+        number: EpochNumber,
+        holder: Host,
+        runs: &'a str,
+    },
+}
+
+impl Form<'_> {
+    // The message.
+    fn message(self, alloc: Global) -> Result<Message, AllocError>
+        requires { IsForm self }
+        ensures { IfOk result (λ message. message ≡ message_in self.entry) }
+    {
+        match self {
+            Form::Whole(message) => Ok(message),
+            Form::Report {
+                file,
+                number,
+                holder,
+                runs,
+            } => Ok(Message::Report {
+                file,
+                number,
+                holder,
+                runs: read_runs(alloc, runs)?,
+            }),
+        }
+    }
+}
+
+/// A message that was read, of which a report may still have its runs as text.
+#[derive(Drop)]
+pub struct WrittenMessage<'a> {
+    form: Form<'a>,
+}
+
+impl<'a> Model for WrittenMessage<'a> {
+    ghost use Rattle.messages.specs.declared.message.Message.{Message};
+    ghost use Rattle.message_text.specs.Forms.{message_in, IsForm};
+
+    ghost Value = { Message };
+
+    ghost view = { λ m. message_in m.form };
+
+    ghost invariant = { λ m. IsForm m.form };
+}
+
+impl<'a> WrittenMessage<'a> {
+    /// This message.
+    pub(crate) fn whole(message: Message) -> WrittenMessage<'a>
+        ensures { result ≡ message }
+    {
+        WrittenMessage {
+            form: Form::Whole(message),
+        }
+    }
+
+    /// The report with these runs.
+    pub(crate) fn report(
+        file: FileNumber,
+        number: EpochNumber,
+        holder: Host,
+        runs: &'a str,
+    ) -> WrittenMessage<'a>
+        requires { IsRunsText runs.now }
+        ensures { result ≡ message.Report file number holder (runs_in runs.entry.now) }
+    {
+        WrittenMessage {
+            form: Form::Report {
+                file,
+                number,
+                holder,
+                runs,
+            },
+        }
+    }
+
+    /// The message.
+    ///
+    /// # Errors
+    /// `AllocError` where a request for memory was refused; only the runs of a report need any.
+    pub fn message(self, alloc: Global) -> Result<Message, AllocError>
+        ensures { IfOk result (λ message. message ≡ self.entry) }
+    {
+        self.form.message(alloc)
+    }
+}
