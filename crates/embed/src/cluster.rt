@@ -1,8 +1,8 @@
 //! Nodes and the token server of one file, and the messages between them.
 use crate::letter::{NodeLetter, ServerLetter};
-use crate::names::name_of;
 use crate::office::Office;
 use crate::seat::Seat;
+use crate::wire::line_of;
 use anyhow::bail;
 use members::members::Members;
 use messages::actor::Actor;
@@ -91,13 +91,14 @@ impl Cluster {
             bail!("no node {node}");
         }
         let alloc = rt.alloc();
-        let incarnation = self.members.restart(node)?;
+        let incarnation = self.members.next(node)?;
+        let empty = Box::new(alloc, Node::new(alloc, self.shape, node, incarnation)?)?;
+        let Some(seat) = self.seats.get_mut(place_of(node)) else {
+            bail!("no seat of node {node}");
+        };
+        self.members.restart(node)?;
+        *seat = Seat::of(alloc, empty);
         println!(rt; "node {node} restarts in incarnation {incarnation}")?;
-        let node_again = Box::new(alloc, Node::new(alloc, self.shape, node, incarnation)?)?;
-        match self.seats.get_mut(place_of(node)) {
-            Some(seat) => *seat = Seat::of(alloc, node_again),
-            None => bail!("no seat of node {node}"),
-        }
         Ok(())
     }
 
@@ -125,7 +126,7 @@ impl Cluster {
             return Ok(false);
         };
         for message in sends.as_slice() {
-            self.post(rt, message.copy(rt.alloc())?)?;
+            self.post(rt, message)?;
         }
         Ok(true)
     }
@@ -140,19 +141,19 @@ impl Cluster {
         self.office.read(rt)
     }
 
-    // The message goes into the inbox of its addressee. Each fifth is lost, from the fourth on.
-    fn post(&mut self, rt: &HostRuntime, message: Message) -> anyhow::Result<()> {
+    // The message goes as a line into the inbox of its addressee. Each fifth is lost, from the fourth on.
+    fn post(&mut self, rt: &HostRuntime, message: &Message) -> anyhow::Result<()> {
         self.sent = self.sent.wrapping_add(1);
-        let name = name_of(&message);
+        let line = line_of(rt.alloc(), message)?;
         let to = message.addressee();
+        println!(rt; "message {} to {to:?}: {line}", self.sent)?;
         if self.sent % 5 == 4 {
-            println!(rt; "message {}: {name} to {to:?} is lost", self.sent)?;
+            println!(rt; "message {} is lost", self.sent)?;
             return Ok(());
         }
-        println!(rt; "message {}: {name} to {to:?}", self.sent)?;
         match to {
-            Actor::Node(node) => self.put(node, NodeLetter::Event(NodeEvent::Deliver(message))),
-            Actor::Server(_) => self.put_to_server(message),
+            Actor::Node(node) => self.put(node, NodeLetter::Line(line)),
+            Actor::Server(_) => Ok(self.office.put(ServerLetter::Line(line))?),
         }
     }
 
@@ -162,12 +163,6 @@ impl Cluster {
             Some(seat) => Ok(seat.put(letter)?),
             None => bail!("no seat of node {node}"),
         }
-    }
-
-    // The message goes into the inbox of the server.
-    fn put_to_server(&mut self, message: Message) -> anyhow::Result<()> {
-        let event = ServerEvent::Deliver(message);
-        Ok(self.office.put(ServerLetter::Event(event))?)
     }
 }
 

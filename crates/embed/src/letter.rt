@@ -5,8 +5,10 @@ use token_server::event::ServerEvent;
 /// What a node reads.
 #[derive(Drop)]
 pub enum NodeLetter {
-    /// Something happens at it: a call, or a message that came.
+    /// Something happens at it: a call.
     Event(NodeEvent),
+    /// The line of a message that came.
+    Line(String),
     /// A tick of the clock went by.
     Tick,
 }
@@ -14,8 +16,10 @@ pub enum NodeLetter {
 /// What a token server reads.
 #[derive(Drop)]
 pub enum ServerLetter {
-    /// Something happens at it: a message that came, or a declaration that it learns.
+    /// Something happens at it: a declaration that it learns.
     Event(ServerEvent),
+    /// The line of a message that came.
+    Line(String),
     /// A tick of the clock went by.
     Tick,
 }

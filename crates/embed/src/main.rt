@@ -1,6 +1,7 @@
-//! Two nodes and one token server in a program of its own, which carries the messages between them. Each has an
-//! inbox, and one letter is read at a time. Each fifth message is lost; ticks of a clock make good for it. A call
-//! waits for a lock of the other node, and gets it. Then a node dies with a lock that a call waits for.
+//! Two nodes and one token server in a program of its own, which carries the messages between them, each as a line
+//! of text. Each has an inbox, and one letter is read at a time. Each fifth message is lost; ticks of a clock make
+//! good for it. A call waits for a lock of the other node, and gets it. Then a node dies with a lock that a call
+//! waits for.
 //!
 //! What is proved of every run of a cluster holds of such a program where it keeps to this:
 //!
@@ -35,6 +36,7 @@ mod office;
 mod pace;
 mod seat;
 mod shown;
+mod wire;
 
 use crate::cluster::Cluster;
 use model::access::Access;

@@ -3,6 +3,7 @@ use crate::letter::ServerLetter;
 use crate::names::name_of;
 use crate::pace::Pace;
 use crate::shown::show_span;
+use crate::wire::message_in;
 use messages::items::Items;
 use messages::message::Message;
 use std::alloc::{AllocError, Global};
@@ -40,18 +41,37 @@ impl Office {
     /// The server reads its first letter, if it has one. What it sends.
     pub fn read(&mut self, rt: &HostRuntime) -> anyhow::Result<Option<Items<Message>>> {
         match self.inbox.pop_front() {
-            Some(ServerLetter::Event(event)) => {
-                self.begin(&event);
-                Ok(Some(step(rt.alloc(), &mut self.server, &event)?))
-            }
+            Some(ServerLetter::Event(event)) => self.learn(rt.alloc(), &event),
+            Some(ServerLetter::Line(line)) => self.deliver(rt.alloc(), &line),
             Some(ServerLetter::Tick) => self.tick(rt),
             None => Ok(None),
         }
     }
 
+    // The server learns of a declaration. What it sends.
+    fn learn(
+        &mut self,
+        alloc: Global,
+        event: &ServerEvent,
+    ) -> anyhow::Result<Option<Items<Message>>> {
+        self.begin(false);
+        let change = self.server.plan(alloc, event)?;
+        Ok(Some(self.server.apply(change).sends))
+    }
+
+    // The message of the line comes. What the server sends. A line of no message is lost.
+    fn deliver(&mut self, alloc: Global, line: &str) -> anyhow::Result<Option<Items<Message>>> {
+        let Some(message) = message_in(alloc, line)? else {
+            return Ok(Some(Items::new(alloc)));
+        };
+        self.begin(is_answer(&message));
+        let change = self.server.plan_delivery(alloc, &message)?;
+        Ok(Some(self.server.apply(change).sends))
+    }
+
     // The first distance begins with a step after a rest, and with each answer of a node.
-    fn begin(&mut self, event: &ServerEvent) {
-        if self.pace.is_none() || is_answer(event) {
+    fn begin(&mut self, answered: bool) {
+        if self.pace.is_none() || answered {
             self.pace = Some(Pace::begun());
         }
     }
@@ -105,12 +125,6 @@ impl Office {
     }
 }
 
-// Lets the event happen. What is sent.
-fn step(alloc: Global, server: &mut Server, event: &ServerEvent) -> anyhow::Result<Items<Message>> {
-    let change = server.plan(alloc, event)?;
-    Ok(server.apply(change).sends)
-}
-
 // A tick goes by. Whether it is time to send again; never while the server rests.
 fn is_due(pace: &mut Option<Pace>) -> bool {
     match pace {
@@ -120,17 +134,14 @@ fn is_due(pace: &mut Option<Pace>) -> bool {
 }
 
 // Whether it is an answer of a node to a command.
-fn is_answer(event: &ServerEvent) -> bool {
-    match event {
-        ServerEvent::Deliver(message) => matches!(
-            message,
-            Message::Taken { .. }
-                | Message::Released { .. }
-                | Message::Conflict { .. }
-                | Message::Report { .. }
-        ),
-        _ => false,
-    }
+fn is_answer(message: &Message) -> bool {
+    matches!(
+        message,
+        Message::Taken { .. }
+            | Message::Released { .. }
+            | Message::Conflict { .. }
+            | Message::Report { .. }
+    )
 }
 
 // Prints a request that stands in a list.

@@ -2,6 +2,7 @@
 use crate::letter::NodeLetter;
 use crate::pace::Pace;
 use crate::shown::show_span;
+use crate::wire::message_in;
 use messages::items::Items;
 use messages::message::Message;
 use messages::outcome::Outcome;
@@ -51,6 +52,7 @@ impl Seat {
         };
         match self.inbox.pop_front() {
             Some(NodeLetter::Event(event)) => Ok(Some(step(rt, node, &event)?)),
+            Some(NodeLetter::Line(line)) => Ok(Some(deliver(rt, node, &line)?)),
             Some(NodeLetter::Tick) => Ok(Some(tick(rt, node, &mut self.pace)?)),
             None => Ok(None),
         }
@@ -71,6 +73,17 @@ impl Seat {
 // Lets the event happen, and prints the reply if it answers a call. What is sent.
 fn step(rt: &HostRuntime, node: &mut Node, event: &NodeEvent) -> anyhow::Result<Items<Message>> {
     let change = node.plan(rt.alloc(), event)?;
+    told(rt, node.apply(change))
+}
+
+// The message of the line comes, and the reply is printed if it answers a call. What is sent. A line of no message is
+// lost.
+fn deliver(rt: &HostRuntime, node: &mut Node, line: &str) -> anyhow::Result<Items<Message>> {
+    let alloc = rt.alloc();
+    let Some(message) = message_in(alloc, line)? else {
+        return Ok(Items::new(alloc));
+    };
+    let change = node.plan_delivery(alloc, &message)?;
     told(rt, node.apply(change))
 }
 
