@@ -1,5 +1,5 @@
 -- What stands before the first line feed.
-use Rattle.std.proofs.Common.{◌≡◌, ℕ, List, [], ◌∷◌, ◌++◌, refl, sym, ap, ◌∙◌, arith, eqb, cond, Option, Some, None, MatchOption, Bor}
+use Rattle.std.proofs.Common.{◌≡◌, ℕ, List, [], ◌∷◌, ◌++◌, refl, ap, ◌∙◌, arith, eqb, cond}
 use Rattle.std.proofs.lemmas.List.Sums.{sum_by-cons}
 use Rattle.texts.specs.LineFeeds.{line_feed, line_feeds, BeginsWithLine}
 use Rattle.recordings.specs.Texts.{first_line}

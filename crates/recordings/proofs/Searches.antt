@@ -1,9 +1,8 @@
 -- Numbers that are free.
-use Rattle.std.proofs.Common.{◌≡◌, ℕ, ◌<◌, ◌≤◌, Some, None, Option, true, arith, ap, if◌then◌else◌}
+use Rattle.std.proofs.Common.{◌≡◌, ℕ, ◌<◌, ◌≤◌, Some, None, true, arith, ap, if◌then◌else◌}
 use Rattle.std.specs.Prelude.{nat_le, nat_lt, Bool}
 use Rattle.std.proofs.lemmas.Bool.Decides.{nat_tests}
 use Rattle.recordings.specs.Known.{place_of, place_up_to, slot_below}
-use Rattle.recordings.specs.Places.{PlaceFields}
 
 pub below : (slot : ℕ) → slot < 64 → slot_below slot ≡ Some slot
 below slot lt =

@@ -1,7 +1,6 @@
 -- What is known of the recorded processes, and what the script has of them so far.
-use Rattle.std.specs.Prelude.{ℕ, ◌+◌, Bool, false, ◌&&◌, ◌==◌, nat_le, nat_lt, not, if◌then◌else◌, List, find, filter, length, Option, Some, None}
+use Rattle.std.specs.Prelude.{ℕ, Bool, false, ◌&&◌, ◌==◌, nat_le, nat_lt, not, if◌then◌else◌, is_some, List, find, filter, map, Option, Some, None}
 use Rattle.std.specs.List.{list_any}
-use Rattle.std.specs.Option.{option_map}
 use Rattle.intervals.specs.Search.{first}
 use Rattle.model.specs.Limits.{most_descriptors, most_processes}
 use Rattle.recordings.specs.declared.held.Held.{Held}
@@ -56,6 +55,17 @@ held_by held place fd = find (is_held place fd) held
 -- the process has a descriptor
 abbrev pub is_of : PlaceFields → Held → Bool
 is_of place h = is_at place h.place
+
+-- the numbers of the descriptors of the process from the first to the last, in the order in which it got them
+abbrev pub is_within : PlaceFields → ℕ → ℕ → Held → Bool
+is_within place first last h = is_at place h.place && (nat_le first h.fd && nat_le h.fd last)
+
+abbrev pub fds_within : List Held → PlaceFields → ℕ → ℕ → List ℕ
+fds_within held place first last = map (λ h. h.fd) (filter (is_within place first last) held)
+
+-- the process has a descriptor, and has it in the script too
+abbrev pub is_scripted : PlaceFields → Held → Bool
+is_scripted place h = is_at place h.place && is_some h.slot
 
 abbrev pub is_slot : ℕ → Option ℕ → Bool
 is_slot slot None = false

@@ -5,7 +5,6 @@ use Rattle.messages.specs.Shapes.{most_files}
 use Rattle.model.specs.declared.access.Access.{Access}
 use Rattle.model.specs.declared.op.Op.{Op}
 use Rattle.model.specs.declared.op.Op.TheVariants.{Spawn, Fork, Open, Dup, Close, Exit, Set, Wait, Unlock, Query}
-use Rattle.lockscript.specs.declared.script_line.Command.{Command}
 use Rattle.lockscript.specs.declared.script_line.Command.TheVariants.{Call, Settle, Interrupt}
 use Rattle.recordings.specs.declared.asked.Asked.{Asked}
 use Rattle.recordings.specs.declared.asked.Wish.{Wish}
@@ -15,12 +14,12 @@ use Rattle.recordings.specs.declared.line.Line.{Line}
 use Rattle.recordings.specs.declared.line.Line.TheVariants.{Begins, Says}
 use Rattle.recordings.specs.declared.numbered_file.NumberedFile.{NumberedFile}
 use Rattle.recordings.specs.declared.reason.Reason.{Reason}
-use Rattle.recordings.specs.declared.reason.Reason.TheVariants.{LeftOut, NotOpen, TooManyDescriptors, TooManyFiles, TooManyProcesses}
+use Rattle.recordings.specs.declared.reason.Reason.TheVariants.{Executes, LeftOut, NotOpen, TooManyDescriptors, TooManyFiles, TooManyProcesses}
 use Rattle.recordings.specs.declared.recorded.Happening.{Happening}
 use Rattle.recordings.specs.declared.recorded.Happening.TheVariants as happens
 use Rattle.recordings.specs.declared.recorded.Recorded.{Recorded}
 use Rattle.recordings.specs.declared.running.Running.{Running}
-use Rattle.recordings.specs.Known.{KnownFields, file_of, free_place, free_slot, has_pid, held_by, is_file, is_held, is_left, is_of, running_of, runs_at}
+use Rattle.recordings.specs.Known.{KnownFields, fds_within, file_of, free_place, free_slot, has_pid, held_by, is_file, is_held, is_left, is_of, is_scripted, running_of, runs_at}
 use Rattle.recordings.specs.Places.{PlaceFields}
 
 abbrev pub with_line : Line → KnownFields → KnownFields
@@ -77,6 +76,13 @@ unfoldable pub closed : PlaceFields → ℕ → KnownFields → KnownFields
 closed place fd k =
     let told = shut (held_by k.held place fd) k in
     record told { held = filter (λ h. not (is_held place fd h)) k.held }
+
+-- nor any of these, which go one after the other
+abbrev pub then_closed : PlaceFields → KnownFields → ℕ → KnownFields
+then_closed place k fd = closed place fd k
+
+abbrev pub closed_in_turn : PlaceFields → List ℕ → KnownFields → KnownFields
+closed_in_turn place fds k = fold (then_closed place) k fds
 
 -- the process gets the descriptor; it is opened in the script where the file is one of the script's and a descriptor is free there
 abbrev pub bound : PlaceFields → ℕ → ℕ → Access → Option NumberedFile → Option ℕ → KnownFields → KnownFields
@@ -138,7 +144,7 @@ has_room locked path = not (list_any (is_file path) locked) && nat_lt (length lo
 unfoldable pub with_locked : ℕ → KnownFields → KnownFields
 with_locked path k = if has_room k.locked path then record k { locked = k.locked ++ record { number = length k.locked + 1; path = path } ∷ [] } else k
 
--- why a descriptor isn't in the script: there is no place for its file, or there was none for it
+-- why a descriptor isn't in the script: there is no place for its file, or there was none for it or for the one that it is a copy of
 abbrev pub why_not : Option NumberedFile → Reason
 why_not None = TooManyFiles
 why_not (Some file) = TooManyDescriptors
@@ -188,6 +194,16 @@ unfoldable pub closes : Option Running → ℕ → KnownFields → KnownFields
 closes None fd k = k
 closes (Some r) fd k = closed r.place fd k
 
+-- close_range(2): those from the first to the last that it has
+unfoldable pub closes_range : Option Running → ℕ → ℕ → KnownFields → KnownFields
+closes_range None first last k = k
+closes_range (Some r) first last k = closed_in_turn r.place (fds_within k.held r.place first last) k
+
+-- where a program is executed no descriptor goes, also where one should; that is noted of a process that has one in the script
+unfoldable pub executes : ℕ → Option Running → KnownFields → KnownFields
+executes line None k = k
+executes line (Some r) k = if list_any (is_scripted r.place) k.held then with_note line Executes k else k
+
 -- of one that stays out the children and threads do too
 unfoldable pub forks : ℕ → Option Running → ℕ → KnownFields → KnownFields
 forks line None child k = left_out line child LeftOut k
@@ -217,6 +233,8 @@ happened line pid (happens.Opens fd path access) k =
     opens (running_of there.running pid) fd path access there
 happened line pid (happens.Duplicates fd to) k = duplicates (running_of k.running pid) fd to k
 happened line pid (happens.Closes fd) k = closes (running_of k.running pid) fd k
+happened line pid (happens.ClosesRange first last) k = closes_range (running_of k.running pid) first last k
+happened line pid happens.Executes k = executes line (running_of k.running pid) k
 happened line pid (happens.Forks child) k =
     let there = before_child line pid child k in
     forks line (running_of there.running pid) child there

@@ -59,7 +59,7 @@ reason_text Executes = codes "descriptors that close where a program is executed
 reason_text NotOpen = codes "no open of the descriptor is recorded"
 reason_text TooManyFiles = codes "256 other files have locks"
 reason_text TooManyProcesses = codes "the node has 256 other processes"
-reason_text TooManyDescriptors = codes "the process had 64 other descriptors when it got this one"
+reason_text TooManyDescriptors = codes "the process had 64 other descriptors when it got this one, or the one that it is a copy of"
 reason_text LeftOut = codes "the process is left out"
 reason_text NoEnd = codes "the end of the call that makes a process is not recorded"
 
@@ -99,7 +99,3 @@ pub record IsOfEvents (nodes : ℕ) (script notes : List ℕ) : Type 0 where
 -- the text is no script, since a line may not stand there
 abbrev pub HasBadLine : List ℕ → Type 0
 HasBadLine text = (line : ℕ) × IsFirstBad text line
-
--- some events make a text on so many nodes that is no script
-abbrev pub SomeMakeNone : ℕ → Type 0
-SomeMakeNone nodes = (paths : List (Bor (List ℕ))) × (events : List Recorded) × HasBadLine (script_made paths nodes events)

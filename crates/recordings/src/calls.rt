@@ -1,6 +1,7 @@
 //! Calls as `strace` writes them.
 use crate::asked::{Asked, Wish};
 use crate::reason::Reason;
+use crate::recorded::Happening;
 use model::access::Access;
 use model::mode::Mode;
 use model::owner::Kind;
@@ -106,15 +107,42 @@ fn offset(structure: &str, name: &str) -> Option<i64> {
     field(structure, name)?.parse().ok()
 }
 
-/// The path of an `open`, `openat` or `creat` with these arguments, and how it opens the file.
+/// What a `close` with these arguments does.
+pub(crate) fn close_of(arguments: &str) -> Happening {
+    match number_in(arguments) {
+        Some(fd) => Happening::Closes { fd },
+        None => Happening::Unserved(Reason::NotUnderstood),
+    }
+}
+
+/// What a `close_range` with these arguments does. With CLOSE_RANGE_CLOEXEC the descriptors stay, until a
+/// program is executed.
+pub(crate) fn close_range_of(arguments: &str) -> Happening {
+    if arguments.contains("CLOSE_RANGE_CLOEXEC") {
+        return Happening::Nothing;
+    }
+    match range_of(arguments) {
+        Some((first, last)) => Happening::ClosesRange { first, last },
+        None => Happening::Unserved(Reason::NotUnderstood),
+    }
+}
+
+// The first descriptor and the last of a `close_range`.
+fn range_of(arguments: &str) -> Option<(u32, u32)> {
+    let first = number_in(arguments)?;
+    let last = number_in(argument(arguments, 1)?)?;
+    Some((first, last))
+}
+
+/// The path of an `open`, `openat`, `openat2` or `creat` with these arguments, and how it opens the file.
 pub(crate) fn open_of<'a>(name: &str, arguments: &'a str) -> Result<(&'a str, Access), Reason> {
-    let (directory, rest) = if name == "openat" {
+    let (directory, rest) = if name == "openat" || name == "openat2" {
         arguments.split_once(", ").ok_or(Reason::NotUnderstood)?
     } else {
         ("AT_FDCWD", arguments)
     };
     let (path, flags) = quoted(rest).ok_or(Reason::NotUnderstood)?;
-    if !path.starts_with('/') && !directory.starts_with("AT_FDCWD") {
+    if !is_whole(directory, path, flags) {
         return Err(Reason::Relative);
     }
     let access = if name == "creat" {
@@ -123,6 +151,15 @@ pub(crate) fn open_of<'a>(name: &str, arguments: &'a str) -> Result<(&'a str, Ac
         access_of(flags).ok_or(Reason::NotUnderstood)?
     };
     Ok((path, access))
+}
+
+// Whether the path says the file, as one from the root or from the working directory does.
+fn is_whole(directory: &str, path: &str, flags: &str) -> bool {
+    if path.starts_with('/') {
+        !flags.contains("RESOLVE_IN_ROOT")
+    } else {
+        directory.starts_with("AT_FDCWD")
+    }
 }
 
 // The text between quotation marks with which another begins, and what is behind it. One with a quotation

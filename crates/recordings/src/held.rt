@@ -2,12 +2,11 @@
 use crate::place::Place;
 
 /// An open descriptor: the process that has it, its number in the recording, the path of its file, by the number
-/// of the path in the recording, and
-/// its number in the script, 0 to 63, if it has one there.
+/// of the path in the recording, and its number in the script, 0 to 63, if it has one there.
 #[derive(Clone, Copy, Debug, PartialEq, Eq)]
-pub struct Held {
-    pub place: Place,
-    pub fd: u32,
-    pub path: u32,
-    pub slot: Option<u8>,
+pub(crate) struct Held {
+    pub(crate) place: Place,
+    pub(crate) fd: u32,
+    pub(crate) path: u32,
+    pub(crate) slot: Option<u8>,
 }

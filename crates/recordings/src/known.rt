@@ -3,14 +3,14 @@ ghost use Rattle.std.specs.Prelude.{◌≡◌, OnOk};
 ghost use Rattle.model.specs.Limits.{IsNumber, most_nodes};
 ghost use Rattle.lockscript.specs.Served.{IsServedOp};
 ghost use Rattle.recordings.specs.Known.{file_of, running_of};
-ghost use Rattle.recordings.specs.Steps.{arrived, asked_by, asked_through, asks, before_child, begun, bound, closed, closes, copied, duplicated, duplicates, ended, exited, forked, forks, given_up, gone, happened, held_of, left_out, node_after, op_of, opened, opens, returned, shut, start, starts_thread, step, why_not, with_call, with_held, with_left, with_line, with_locked, with_note, with_running};
+ghost use Rattle.recordings.specs.Steps.{arrived, asked_by, asked_through, asks, before_child, begun, bound, closed, closed_in_turn, closes, closes_range, copied, duplicated, duplicates, ended, executes, exited, forked, forks, given_up, gone, happened, held_of, left_out, node_after, op_of, opened, opens, returned, shut, start, starts_thread, step, why_not, with_call, with_held, with_left, with_line, with_locked, with_note, with_running};
 
 use crate::asked::{Asked, Wish};
 use crate::held::Held;
 use crate::line::Line;
 use crate::lists::{
-    file_of, free_place, free_slot, has_room, held_by, inherit, is_left, remove_all_held,
-    remove_held, remove_left, remove_pid, remove_process, running_of,
+    fds_within, file_of, free_place, free_slot, has_room, has_scripted, held_by, inherit, is_left,
+    remove_all_held, remove_held, remove_left, remove_pid, remove_process, running_of,
 };
 use crate::note::Note;
 use crate::numbered_file::NumberedFile;
@@ -94,6 +94,10 @@ impl Known {
             }
             Happening::Duplicates { fd, to } => self.duplicate(self.running(pid), *fd, *to),
             Happening::Closes { fd } => self.close(self.running(pid), *fd),
+            Happening::ClosesRange { first, last } => {
+                self.close_range(self.running(pid), *first, *last)
+            }
+            Happening::Executes => self.execute(line, self.running(pid)),
             Happening::Forks { child } => {
                 self.make_room(line, pid, *child)?;
                 self.fork(line, self.running(pid), *child)
@@ -374,6 +378,43 @@ impl Known {
             Some(fd) => self.push_call(held.place, Op::Close { fd }),
             None => Ok(()),
         }
+    }
+
+    // The descriptors of the process or thread from the first number to the last go.
+    #[tactic(auto, unfolding(crate::specs::Steps::closes_range))]
+    fn close_range(&mut self, by: Option<Running>, first: u32, last: u32) -> Result<(), AllocError>
+        ensures { OnOk result (self.new ≡ closes_range by first last self.old) }
+    {
+        let Some(one) = by else {
+            return Ok(());
+        };
+        let alloc = *self.held.allocator();
+        let fds = fds_within(alloc, &self.held, one.place, first, last)?;
+        self.close_in_turn(one.place, &fds)
+    }
+
+    // These descriptors of the process go, one after the other.
+    fn close_in_turn(&mut self, place: Place, fds: &[u32]) -> Result<(), AllocError>
+        ensures { OnOk result (self.new ≡ closed_in_turn place fds.now self.old) }
+    {
+        for fd in fds {
+            self.close_at(place, *fd)?;
+        }
+        Ok(())
+    }
+
+    // The process or thread executes a program, where its descriptors stay open.
+    #[tactic(auto, unfolding(crate::specs::Steps::executes))]
+    fn execute(&mut self, line: u64, by: Option<Running>) -> Result<(), AllocError>
+        ensures { OnOk result (self.new ≡ executes line by self.old) }
+    {
+        let Some(one) = by else {
+            return Ok(());
+        };
+        if has_scripted(&self.held, one.place) {
+            return self.push_note(line, Reason::Executes);
+        }
+        Ok(())
     }
 
     // The process of that PID runs or begins, and none of the child's PID does.

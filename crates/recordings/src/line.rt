@@ -4,9 +4,9 @@ use crate::said::Said;
 
 /// A line of a script behind the files.
 #[derive(Clone, Copy, Debug, PartialEq, Eq)]
-pub enum Line {
-    /// A comment: which recorded process this one of the script is.
+pub(crate) enum Line {
+    /// A comment: which recorded process, by its PID there, this one of the script is.
     Begins { place: Place, pid: u32 },
-    /// What the script asks for.
+    /// What the line asks for.
     Says(Said),
 }

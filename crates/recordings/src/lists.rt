@@ -3,14 +3,14 @@ ghost use Rattle.std.specs.Prelude.{◌≡◌, ◌==◌, filter, not, IfOk, OnOk
 ghost use Rattle.std.specs.List.{list_any};
 ghost use Rattle.std.specs.Option.{option_map};
 ghost use Rattle.model.specs.Limits.{IsNumber, most_nodes};
-ghost use Rattle.recordings.specs.Known.{file_of, free_place, free_slot, has_pid, has_slot, held_by, is_file, is_held, is_left, is_of, is_slot, place_of, running_of, runs_at};
+ghost use Rattle.recordings.specs.Known.{fds_within, file_of, free_place, free_slot, has_pid, has_slot, held_by, is_file, is_held, is_left, is_of, is_scripted, is_slot, is_within, place_of, running_of, runs_at};
 ghost use Rattle.recordings.specs.Steps.{has_room, in_child};
 
 use crate::held::Held;
 use crate::numbered_file::NumberedFile;
 use crate::place::Place;
 use crate::running::Running;
-use std::alloc::AllocError;
+use std::alloc::{AllocError, Global};
 
 /// The process or thread of this PID.
 pub(crate) fn running_of(running: &[Running], pid: u32) -> Option<Running>
@@ -62,11 +62,25 @@ fn is_file(file: &NumberedFile, path: u32) -> bool
     file.path == path
 }
 
-/// Whether it is that descriptor of that process.
-pub(crate) fn is_held(held: &Held, place: Place, fd: u32) -> bool
+// Whether it is that descriptor of that process.
+fn is_held(held: &Held, place: Place, fd: u32) -> bool
     ensures { result ≡ is_held place fd held.now }
 {
     held.place.is_at(place) && held.fd == fd
+}
+
+// Whether it is a descriptor of that process, from the first number to the last.
+fn is_within(held: &Held, place: Place, first: u32, last: u32) -> bool
+    ensures { result ≡ is_within place first last held.now }
+{
+    held.place.is_at(place) && first <= held.fd && held.fd <= last
+}
+
+// Whether that process has it in the script.
+fn is_scripted(held: &Held, place: Place) -> bool
+    ensures { result ≡ is_scripted place held.now }
+{
+    held.place.is_at(place) && held.slot.is_some()
 }
 
 // Whether it is that descriptor of that process in the script.
@@ -124,6 +138,33 @@ pub(crate) fn free_slot(held: &[Held], place: Place) -> Option<u8>
         }
     }
     None
+}
+
+/// Whether the process has a descriptor in the script.
+pub(crate) fn has_scripted(held: &[Held], place: Place) -> bool
+    ensures { result ≡ list_any (is_scripted place) held.now }
+{
+    held.iter().any(|one| is_scripted(one, place))
+}
+
+/// The numbers of the descriptors of the process from the first to the last, in the order in which it got
+/// them.
+pub(crate) fn fds_within(
+    alloc: Global,
+    held: &[Held],
+    place: Place,
+    first: u32,
+    last: u32,
+) -> Result<Vec<u32>, AllocError>
+    ensures { IfOk result (λ fds. fds.items ≡ fds_within held.now place first last) }
+{
+    let mut fds = Vec::new(alloc);
+    for one in held {
+        if is_within(one, place, first, last) {
+            fds.push(one.fd)?;
+        }
+    }
+    Ok(fds)
 }
 
 /// The descriptor goes.

@@ -3,7 +3,7 @@ use crate::reason::Reason;
 
 /// That something in a line of the recording is left out of the script, and why. Lines count from 1.
 #[derive(Clone, Copy, Debug, PartialEq, Eq)]
-pub struct Note {
-    pub line: u64,
-    pub reason: Reason,
+pub(crate) struct Note {
+    pub(crate) line: u64,
+    pub(crate) reason: Reason,
 }

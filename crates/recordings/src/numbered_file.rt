@@ -3,7 +3,7 @@ use messages::file_number::FileNumber;
 
 /// A file of a script, 1 to 256, with its path, by the number of the path in the recording.
 #[derive(Clone, Copy, Debug, PartialEq, Eq)]
-pub struct NumberedFile {
-    pub number: FileNumber,
-    pub path: u32,
+pub(crate) struct NumberedFile {
+    pub(crate) number: FileNumber,
+    pub(crate) path: u32,
 }

@@ -3,7 +3,7 @@ use std::marker::Model;
 
 /// A process of a script: its node, 1 to 64, and its number there, 1 to 256.
 #[derive(Clone, Copy, Debug, PartialEq, Eq)]
-pub struct Place {
+pub(crate) struct Place {
     node: u8,
     number: u16,
 }
@@ -35,7 +35,7 @@ impl Place {
     }
 
     /// Its node, 1 to 64.
-    pub fn node(&self) -> u8
+    pub(crate) fn node(&self) -> u8
         ensures value { result ≡ self.now.node }
         ensures within { IsNumber most_nodes result }
     {
@@ -43,7 +43,7 @@ impl Place {
     }
 
     /// Its number on the node, 1 to 256.
-    pub fn number(&self) -> u16
+    pub(crate) fn number(&self) -> u16
         ensures value { result ≡ self.now.number }
         ensures within { IsNumber most_processes result }
     {
@@ -51,7 +51,7 @@ impl Place {
     }
 
     /// Whether both are one process.
-    pub fn is_at(&self, other: Place) -> bool
+    pub(crate) fn is_at(&self, other: Place) -> bool
         ensures { result ≡ is_at other self.now }
     {
         self.node == other.node && self.number == other.number

@@ -1,77 +1,34 @@
 //! The events of a recording.
-use crate::calls::{Command, argument, command_of, number_in, open_of, query_of, set_of};
+use crate::calls::{
+    Command, argument, close_of, close_range_of, command_of, number_in, open_of, query_of, set_of,
+};
+use crate::pending::Pending;
 use crate::reason::Reason;
-use crate::recorded::{Happening, Recorded};
-use crate::strace_line::{Said, is_aside, pid_of, said_of};
+use crate::recorded::Happening;
+use crate::start::Start;
+use crate::strace_line::{StraceLine, is_aside, line_of, pid_of};
+use crate::trace::Trace;
 use std::alloc::{AllocError, Global};
-use std::collections::HashMap;
-
-/// What became of a call when it began.
-#[derive(Clone, Copy)]
-enum Start {
-    /// It matters where it returns.
-    Nothing,
-    /// It is a lock call through this descriptor, which is among the events.
-    Asked(u32),
-    /// It makes a process or thread, which the event at this index is to tell of.
-    Made(usize),
-    /// It executes a program, which the event at this index tells of.
-    Executes(usize),
-    /// It is among the events, or it isn't served.
-    Told,
-}
-
-/// A call that began and did not return: the PID, its name, its arguments so far, and what became of it.
-#[derive(Clone, Copy)]
-struct Open<'a> {
-    pid: u32,
-    name: &'a str,
-    arguments: &'a str,
-    start: Start,
-}
-
-/// The events of a recording, and the paths in them, by their numbers.
-#[derive(Drop)]
-pub struct Trace<'a> {
-    events: Vec<Recorded>,
-    paths: Vec<&'a str>,
-}
-
-impl<'a> Trace<'a> {
-    /// The events, in order.
-    pub fn events(&self) -> &[Recorded] {
-        self.events.as_slice()
-    }
-
-    /// The paths.
-    pub fn paths(&self) -> &[&'a str] {
-        self.paths.as_slice()
-    }
-}
 
 /// Reads the lines of a recording.
 #[derive(Drop)]
 struct Reader<'a> {
     trace: Trace<'a>,
-    numbers: HashMap<&'a str, u32>,
-    open: Vec<Open<'a>>,
+    pending: Vec<Pending<'a>>,
 }
 
 /// The events of a recording, in order, as `strace -f` writes it of the calls `fcntl`, `open`, `openat`,
-/// `creat`, `dup`, `dup2`, `dup3`, `close`, `clone`, `clone3`, `fork`, `vfork` and `exit_group`. Other calls
-/// are passed over. A process or thread is made, a descriptor is closed and a lock is asked for where the
-/// call begins; a file is opened where it returns.
+/// `openat2`, `creat`, `dup`, `dup2`, `dup3`, `close`, `close_range`, `clone`, `clone3`, `fork`, `vfork`,
+/// `execve`, `execveat` and `exit_group`. Other calls are passed over. A process or thread is made, descriptors
+/// are closed, a program is executed and a lock is asked for where the call begins; a file is opened where it
+/// returns.
 ///
 /// # Errors
 /// `AllocError` where a request for memory was refused.
-pub fn events_of<'a>(alloc: Global, recorded: &'a str) -> Result<Trace<'a>, AllocError> {
+pub(crate) fn events_of<'a>(alloc: Global, recorded: &'a str) -> Result<Trace<'a>, AllocError> {
     let mut reader = Reader {
-        trace: Trace {
-            events: Vec::new(alloc),
-            paths: Vec::new(alloc),
-        },
-        numbers: HashMap::new(alloc),
-        open: Vec::new(alloc),
+        trace: Trace::new(alloc),
+        pending: Vec::new(alloc),
     };
     let mut number = 0u64;
     for line in recorded.lines() {
@@ -88,53 +45,64 @@ impl<'a> Reader<'a> {
             return Ok(());
         }
         let Some((pid, text)) = pid_of(text) else {
-            let reason = match said_of(text) {
+            let reason = match line_of(text) {
                 Some(_) => Reason::NoProcess,
                 None => Reason::NotUnderstood,
             };
             return self.push(line, 0, Happening::Unserved(reason));
         };
-        let Some(said) = said_of(text) else {
+        let Some(said) = line_of(text) else {
             return self.push(line, pid, Happening::Unserved(Reason::NotUnderstood));
         };
         self.hear(line, pid, said)
     }
 
     // Takes what a line says of the process or thread.
-    fn hear(&mut self, line: u64, pid: u32, said: Said<'a>) -> Result<(), AllocError> {
+    fn hear(&mut self, line: u64, pid: u32, said: StraceLine<'a>) -> Result<(), AllocError> {
         match said {
-            Said::Aside => Ok(()),
-            Said::Gone => {
-                self.open.retain(|open| open.pid != pid);
+            StraceLine::Aside => Ok(()),
+            StraceLine::Gone => {
+                self.take_pending(pid);
                 self.push(line, pid, Happening::Exits { whole: false })
             }
-            Said::Begun { name, arguments } => {
-                let start = self.begin(line, pid, name, arguments)?;
-                self.open.retain(|open| open.pid != pid);
-                self.open.push(Open {
-                    pid,
-                    name,
-                    arguments,
-                    start,
-                })?;
-                Ok(())
+            StraceLine::Superseded { thread } => self.supersede(line, pid, thread),
+            StraceLine::Begun { name, arguments } => {
+                let call = self.begin(line, pid, name, arguments)?;
+                self.wait_for(call)
             }
-            Said::Resumed { arguments, gave } => self.resume(line, pid, arguments, gave),
-            Said::Whole {
+            StraceLine::Resumed { arguments, gave } => self.resume(line, pid, arguments, gave),
+            StraceLine::Whole {
                 name,
                 arguments,
                 gave,
             } => {
-                let start = self.begin(line, pid, name, arguments)?;
-                let open = Open {
-                    pid,
-                    name,
-                    arguments,
-                    start,
-                };
-                self.end(line, &open, "", gave)
+                let call = self.begin(line, pid, name, arguments)?;
+                self.end(line, &call, "", gave)
             }
         }
+    }
+
+    // The call is under way, and no other of its process or thread.
+    fn wait_for(&mut self, call: Pending<'a>) -> Result<(), AllocError> {
+        self.take_pending(call.pid);
+        self.pending.push(call)?;
+        Ok(())
+    }
+
+    // The call of that PID that is under way is so no more.
+    fn take_pending(&mut self, pid: u32) -> Option<Pending<'a>> {
+        let call = self.pending.iter().find(|call| call.pid == pid).copied();
+        self.pending.retain(|call| call.pid != pid);
+        call
+    }
+
+    // The thread is gone, and its call goes on as one of its process, which has this PID.
+    fn supersede(&mut self, line: u64, pid: u32, thread: u32) -> Result<(), AllocError> {
+        self.take_pending(pid);
+        if let Some(call) = self.take_pending(thread) {
+            self.wait_for(Pending { pid, ..call })?;
+        }
+        self.push(line, thread, Happening::Exits { whole: false })
     }
 
     // Takes the end of a call that began before.
@@ -145,44 +113,28 @@ impl<'a> Reader<'a> {
         more: &'a str,
         gave: &'a str,
     ) -> Result<(), AllocError> {
-        let Some(open) = self.open.iter().find(|open| open.pid == pid).copied() else {
+        let Some(call) = self.take_pending(pid) else {
             return self.push(line, pid, Happening::Unserved(Reason::NotBegun));
         };
-        self.open.retain(|open| open.pid != pid);
-        self.end(line, &open, more, gave)
+        self.end(line, &call, more, gave)
     }
 
     // The event comes last.
     fn push(&mut self, line: u64, pid: u32, happening: Happening) -> Result<(), AllocError> {
-        self.trace.events.push(Recorded {
-            line,
-            pid,
-            happening,
-        })?;
+        self.trace.push(line, pid, happening)?;
         Ok(())
     }
 
     // That a call with these arguments opened a file comes last.
-    fn push_open(&mut self, line: u64, open: &Open<'a>, fd: u32) -> Result<(), AllocError> {
-        let happening = match open_of(open.name, open.arguments) {
+    fn push_open(&mut self, line: u64, call: &Pending<'a>, fd: u32) -> Result<(), AllocError> {
+        let happening = match open_of(call.name, call.arguments) {
             Ok((path, access)) => {
-                let path = self.number_of(path)?;
+                let path = self.trace.number_of(path)?;
                 Happening::Opens { fd, path, access }
             }
             Err(reason) => Happening::Unserved(reason),
         };
-        self.push(line, open.pid, happening)
-    }
-
-    // The number of the path, which it gets where it has none.
-    fn number_of(&mut self, path: &'a str) -> Result<u32, AllocError> {
-        if let Some(number) = self.numbers.get(&path) {
-            return Ok(*number);
-        }
-        let number = u32::try_from(self.trace.paths.len()).unwrap_or(u32::MAX);
-        self.trace.paths.push(path)?;
-        self.numbers.insert(path, number)?;
-        Ok(number)
+        self.push(line, call.pid, happening)
     }
 
     // Takes the beginning of a call.
@@ -190,25 +142,57 @@ impl<'a> Reader<'a> {
         &mut self,
         line: u64,
         pid: u32,
+        name: &'a str,
+        arguments: &'a str,
+    ) -> Result<Pending<'a>, AllocError> {
+        let start = self.start_of(line, pid, name, arguments)?;
+        Ok(Pending {
+            pid,
+            name,
+            arguments,
+            start,
+        })
+    }
+
+    // What becomes of a call when it begins.
+    fn start_of(
+        &mut self,
+        line: u64,
+        pid: u32,
         name: &str,
         arguments: &'a str,
     ) -> Result<Start, AllocError> {
-        let happening = match name {
-            "fcntl" | "fcntl64" => return self.begin_fcntl(line, pid, arguments),
+        match name {
+            "fcntl" | "fcntl64" => self.begin_fcntl(line, pid, arguments),
             "clone" | "clone3" | "fork" | "vfork" => {
-                let index = self.trace.events.len();
-                self.push(line, pid, Happening::Unserved(Reason::NoEnd))?;
-                return Ok(Start::Made(index));
+                let unended = Happening::Unserved(Reason::NoEnd);
+                Ok(Start::Made(self.trace.push(line, pid, unended)?))
             }
-            "execve" | "execveat" => {
-                let index = self.trace.events.len();
-                self.push(line, pid, Happening::Unserved(Reason::Executes))?;
-                return Ok(Start::Executes(index));
-            }
-            "close" => close_of(arguments),
-            "exit_group" => Happening::Exits { whole: true },
-            _ => return Ok(Start::Nothing),
-        };
+            "execve" | "execveat" => self.begin_try(line, pid, Happening::Executes),
+            "close_range" => self.begin_try(line, pid, close_range_of(arguments)),
+            "close" => self.begin_told(line, pid, close_of(arguments)),
+            "exit_group" => self.begin_told(line, pid, Happening::Exits { whole: true }),
+            _ => Ok(Start::Nothing),
+        }
+    }
+
+    // Takes the beginning of a call that does this, unless it fails.
+    fn begin_try(
+        &mut self,
+        line: u64,
+        pid: u32,
+        happening: Happening,
+    ) -> Result<Start, AllocError> {
+        Ok(Start::Tried(self.trace.push(line, pid, happening)?))
+    }
+
+    // Takes the beginning of a call that does this.
+    fn begin_told(
+        &mut self,
+        line: u64,
+        pid: u32,
+        happening: Happening,
+    ) -> Result<Start, AllocError> {
         self.push(line, pid, happening)?;
         Ok(Start::Told)
     }
@@ -221,8 +205,7 @@ impl<'a> Reader<'a> {
         arguments: &'a str,
     ) -> Result<Start, AllocError> {
         let Some(fd) = number_in(arguments) else {
-            self.push(line, pid, Happening::Unserved(Reason::NotUnderstood))?;
-            return Ok(Start::Told);
+            return self.begin_told(line, pid, Happening::Unserved(Reason::NotUnderstood));
         };
         let Command::Sets { kind, waits } = command_of(argument(arguments, 1).unwrap_or("")) else {
             return Ok(Start::Nothing);
@@ -232,10 +215,7 @@ impl<'a> Reader<'a> {
                 self.push(line, pid, Happening::Asks { fd, asked })?;
                 Ok(Start::Asked(fd))
             }
-            Err(reason) => {
-                self.push(line, pid, Happening::Unserved(reason))?;
-                Ok(Start::Told)
-            }
+            Err(reason) => self.begin_told(line, pid, Happening::Unserved(reason)),
         }
     }
 
@@ -243,25 +223,25 @@ impl<'a> Reader<'a> {
     fn end(
         &mut self,
         line: u64,
-        open: &Open<'a>,
+        call: &Pending<'a>,
         more: &'a str,
         gave: &str,
     ) -> Result<(), AllocError> {
-        match open.start {
+        match call.start {
             Start::Told => Ok(()),
-            Start::Asked(fd) => self.end_asked(line, open.pid, fd, gave),
+            Start::Asked(fd) => self.end_asked(line, call.pid, fd, gave),
             Start::Made(index) => {
-                self.tell_child(index, open.arguments, gave);
+                self.tell_child(index, call.arguments, gave);
                 Ok(())
             }
-            Start::Executes(index) => {
+            Start::Tried(index) => {
                 if gave.starts_with("-1") {
-                    self.tell(index, Happening::Nothing);
+                    self.trace.tell(index, Happening::Nothing);
                 }
                 Ok(())
             }
             Start::Nothing => match number_in(gave) {
-                Some(number) => self.end_other(line, open, more, number),
+                Some(number) => self.end_other(line, call, more, number),
                 None => Ok(()),
             },
         }
@@ -282,18 +262,18 @@ impl<'a> Reader<'a> {
     fn end_other(
         &mut self,
         line: u64,
-        open: &Open<'a>,
+        call: &Pending<'a>,
         more: &'a str,
         number: u32,
     ) -> Result<(), AllocError> {
-        let pid = open.pid;
-        match open.name {
-            "open" | "openat" | "creat" => self.push_open(line, open, number),
-            "dup" | "dup2" | "dup3" => match number_in(open.arguments) {
+        let pid = call.pid;
+        match call.name {
+            "open" | "openat" | "openat2" | "creat" => self.push_open(line, call, number),
+            "dup" | "dup2" | "dup3" => match number_in(call.arguments) {
                 Some(fd) => self.push(line, pid, Happening::Duplicates { fd, to: number }),
                 None => self.push(line, pid, Happening::Unserved(Reason::NotUnderstood)),
             },
-            "fcntl" | "fcntl64" => self.end_fcntl(line, open, more, number),
+            "fcntl" | "fcntl64" => self.end_fcntl(line, call, more, number),
             _ => Ok(()),
         }
     }
@@ -302,28 +282,28 @@ impl<'a> Reader<'a> {
     fn end_fcntl(
         &mut self,
         line: u64,
-        open: &Open<'a>,
+        call: &Pending<'a>,
         more: &'a str,
         number: u32,
     ) -> Result<(), AllocError> {
-        let Some(fd) = number_in(open.arguments) else {
+        let Some(fd) = number_in(call.arguments) else {
             return Ok(());
         };
         let structure = if more.is_empty() {
-            open.arguments
+            call.arguments
         } else {
             more
         };
-        match command_of(argument(open.arguments, 1).unwrap_or("")) {
+        match command_of(argument(call.arguments, 1).unwrap_or("")) {
             Command::Duplicates => {
-                self.push(line, open.pid, Happening::Duplicates { fd, to: number })
+                self.push(line, call.pid, Happening::Duplicates { fd, to: number })
             }
             Command::Asks(kind) => match query_of(kind, structure) {
                 Ok(asked) => {
-                    self.push(line, open.pid, Happening::Asks { fd, asked })?;
-                    self.push(line, open.pid, Happening::Returns { fd })
+                    self.push(line, call.pid, Happening::Asks { fd, asked })?;
+                    self.push(line, call.pid, Happening::Returns { fd })
                 }
-                Err(reason) => self.push(line, open.pid, Happening::Unserved(reason)),
+                Err(reason) => self.push(line, call.pid, Happening::Unserved(reason)),
             },
             _ => Ok(()),
         }
@@ -338,22 +318,7 @@ impl<'a> Reader<'a> {
             Some(child) => Happening::Forks { child },
             None => Happening::Nothing,
         };
-        self.tell(index, happening);
-    }
-
-    // The event at this index tells of this.
-    fn tell(&mut self, index: usize, happening: Happening) {
-        if let Some(event) = self.trace.events.get_mut(index) {
-            event.happening = happening;
-        }
-    }
-}
-
-// What a `close` with these arguments does.
-fn close_of(arguments: &str) -> Happening {
-    match number_in(arguments) {
-        Some(fd) => Happening::Closes { fd },
-        None => Happening::Unserved(Reason::NotUnderstood),
+        self.trace.tell(index, happening);
     }
 }
 

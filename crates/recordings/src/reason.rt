@@ -15,7 +15,7 @@ pub enum Reason {
     Whence,
     /// A path is relative to a descriptor.
     Relative,
-    /// A process runs another program.
+    /// A process that has descriptors in the script runs another program.
     Executes,
     /// No open of the descriptor is recorded.
     NotOpen,
@@ -23,7 +23,7 @@ pub enum Reason {
     TooManyFiles,
     /// The node has 256 other processes.
     TooManyProcesses,
-    /// The process had 64 other descriptors when it got this one.
+    /// The process had 64 other descriptors when it got this one, or the one that it is a copy of.
     TooManyDescriptors,
     /// The process is left out.
     LeftOut,
@@ -33,7 +33,7 @@ pub enum Reason {
 
 impl Reason {
     /// What notes say of it.
-    pub fn text(self) -> &'static str
+    pub(crate) fn text(self) -> &'static str
         ensures { result.now ≡ reason_text self }
     {
         match self {
@@ -47,7 +47,7 @@ impl Reason {
             Reason::TooManyFiles => "256 other files have locks",
             Reason::TooManyProcesses => "the node has 256 other processes",
             Reason::TooManyDescriptors =>
-                "the process had 64 other descriptors when it got this one",
+                "the process had 64 other descriptors when it got this one, or the one that it is a copy of",
             Reason::LeftOut => "the process is left out",
             Reason::NoEnd => "the end of the call that makes a process is not recorded",
         }

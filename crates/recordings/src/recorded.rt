@@ -15,6 +15,10 @@ pub enum Happening {
     Duplicates { fd: u32, to: u32 },
     /// A descriptor goes.
     Closes { fd: u32 },
+    /// Each descriptor that it has from the first number to the last goes.
+    ClosesRange { first: u32, last: u32 },
+    /// It runs another program.
+    Executes,
     /// It makes a process.
     Forks { child: u32 },
     /// It makes a thread, which shares its descriptors and its locks.

@@ -1,8 +1,8 @@
 //! Scripts of recordings.
-ghost use Rattle.std.specs.Prelude.{◌≡◌, ◌≢◌, ◌++◌, string_bytes, IfErr, IfOk, OnOk};
+ghost use Rattle.std.specs.Prelude.{◌≡◌, ◌≢◌, ◌↔◌, ◌++◌, string_bytes, Err, IfErr, IfOk, IsTrue, OnOk};
 ghost use Rattle.model.specs.Limits.{IsNumber, most_nodes};
 ghost use Rattle.lockscript.specs.Scripts.{HasScript};
-ghost use Rattle.recordings.specs.Texts.{HasBadLine, IsOfEvents, SomeMakeNone, notes_made, script_made, script_text};
+ghost use Rattle.recordings.specs.Texts.{HasBadLine, IsOfEvents, notes_made, script_made, script_text};
 ghost use Rattle.recordings.specs.Steps.{known, known_at_end};
 ghost use Rattle.recordings.specs.declared.error.RecordingError.TheVariants.{Nodes, TooLong};
 
@@ -33,20 +33,28 @@ pub fn script_of(alloc: Global, recorded: &str, nodes: u8) -> Result<Recording, 
     ensures good { IfOk result (λ made. HasScript (string_bytes made.script)) }
     ensures events { IfOk result (λ made. IsOfEvents nodes (string_bytes made.script) (string_bytes made.notes)) }
 
-    // A number of nodes that a cluster can't have is refused, and no other; what would be no script is too.
+    // A number of nodes that a cluster can't have is refused as that, and no other.
     ensures served { IfOk result (λ made. IsNumber most_nodes nodes) }
     ensures nodes { IfErr result (λ error. error ≡ Nodes → ¬ (IsNumber most_nodes nodes)) }
-    ensures long { IfErr result (λ error. error ≡ TooLong → SomeMakeNone nodes) }
+    ensures refused { ¬ (IsNumber most_nodes nodes) → result ≡ Err Nodes }
 {
+    if !can_have(nodes) {
+        return Err(RecordingError::Nodes);
+    }
     let trace = events_of(alloc, recorded)?;
     script_from(alloc, trace.paths(), trace.events(), nodes)
 }
 
-/// The script that the events make, for so many nodes; the paths in them are by their places in `paths`.
-///
-/// # Errors
-/// As at `script_of`.
-pub fn script_from(
+// Whether a cluster can have so many nodes.
+fn can_have(nodes: u8) -> bool
+    ensures { IsTrue result ↔ IsNumber most_nodes nodes }
+{
+    1 <= nodes && nodes <= MOST_NODES
+}
+
+// The script that the events make, for so many nodes; the paths in them are by their places in `paths`. The errors
+// are those of `script_of`.
+fn script_from(
     alloc: Global,
     paths: &[&str],
     events: &[Recorded],
@@ -57,9 +65,10 @@ pub fn script_from(
     ensures notes { IfOk result (λ made. string_bytes made.notes ≡ notes_made nodes events.now) }
     ensures served { IfOk result (λ made. IsNumber most_nodes nodes) }
     ensures nodes { IfErr result (λ error. error ≡ Nodes → ¬ (IsNumber most_nodes nodes)) }
+    ensures refused { ¬ (IsNumber most_nodes nodes) → result ≡ Err Nodes }
     ensures long { IfErr result (λ error. error ≡ TooLong → HasBadLine (script_made paths.now nodes events.now)) }
 {
-    if nodes < 1 || nodes > MOST_NODES {
+    if !can_have(nodes) {
         return Err(RecordingError::Nodes);
     }
     let known = known_at_end(alloc, nodes, events)?;

@@ -6,7 +6,7 @@ use std::marker::Model;
 
 /// What a line asks for, within the limits of scripts.
 #[derive(Clone, Copy, Debug, PartialEq, Eq)]
-pub struct Said {
+pub(crate) struct Said {
     command: Command,
 }
 
@@ -62,7 +62,7 @@ impl Said {
     }
 
     /// What it asks for.
-    pub fn command(&self) -> Command
+    pub(crate) fn command(&self) -> Command
         ensures value { result ≡ self.now }
         ensures within { IsCommand result }
     {

@@ -1,8 +1,9 @@
 //! Lines as `strace` writes them.
+use crate::calls::number_in;
 
 /// What stands in a line behind the PID.
 #[derive(Clone, Copy)]
-pub(crate) enum Said<'a> {
+pub(crate) enum StraceLine<'a> {
     /// A call that returned this.
     Whole {
         name: &'a str,
@@ -21,36 +22,70 @@ pub(crate) enum Said<'a> {
     },
     /// That the process or thread is gone.
     Gone,
+    /// That this thread of the process is gone, since it executes a program, and goes on as the process.
+    Superseded {
+        thread: u32,
+    },
     /// A signal, or what `strace` itself says.
     Aside,
 }
 
 /// What a line says behind the PID, if it is understood.
-pub(crate) fn said_of(text: &str) -> Option<Said<'_>> {
-    if text.starts_with("+++ ") {
-        return Some(Said::Gone);
+pub(crate) fn line_of(text: &str) -> Option<StraceLine<'_>> {
+    if let Some(thread) = text.strip_prefix("+++ superseded by execve in pid ") {
+        let thread = number_in(thread)?;
+        return Some(StraceLine::Superseded { thread });
+    }
+    if is_end(text) {
+        return Some(StraceLine::Gone);
     }
     if is_aside(text) {
-        return Some(Said::Aside);
+        return Some(StraceLine::Aside);
     }
     if let Some(rest) = text.strip_prefix("<... ") {
         let (_, rest) = rest.split_once(" resumed>")?;
         let (arguments, gave) = returned(rest)?;
-        return Some(Said::Resumed { arguments, gave });
+        return Some(StraceLine::Resumed { arguments, gave });
     }
+    call_of(text)
+}
+
+// The call of a line, which did or did not return.
+fn call_of(text: &str) -> Option<StraceLine<'_>> {
     let (name, rest) = text.split_once('(')?;
     if !is_name(name) {
         return None;
     }
-    if let Some(arguments) = rest.strip_suffix(" <unfinished ...>") {
-        return Some(Said::Begun { name, arguments });
+    if let Some(arguments) = unfinished(rest) {
+        return Some(StraceLine::Begun { name, arguments });
     }
     let (arguments, gave) = returned(rest)?;
-    Some(Said::Whole {
+    Some(StraceLine::Whole {
         name,
         arguments,
         gave,
     })
+}
+
+// The arguments of a call that did not return yet. Where a thread executes a program, its call goes on as one of
+// its process.
+fn unfinished(text: &str) -> Option<&str> {
+    if let Some(arguments) = text.strip_suffix(" <unfinished ...>") {
+        return Some(arguments);
+    }
+    let (arguments, process) = text
+        .strip_suffix(" ...>")?
+        .rsplit_once(" <pid changed to ")?;
+    if is_number(process) {
+        Some(arguments)
+    } else {
+        None
+    }
+}
+
+// Whether a line says that the process or thread is gone.
+fn is_end(text: &str) -> bool {
+    text.starts_with("+++ exited with ") || text.starts_with("+++ killed by ")
 }
 
 /// Whether a line or what it says is nothing that a process does.
@@ -71,6 +106,11 @@ fn returned(text: &str) -> Option<(&str, &str)> {
 // Whether the text is the name of a call.
 fn is_name(text: &str) -> bool {
     !text.is_empty() && text.chars().all(|c| c.is_ascii_alphanumeric() || c == '_')
+}
+
+// Whether the text is a number.
+fn is_number(text: &str) -> bool {
+    !text.is_empty() && text.chars().all(|c| c.is_ascii_digit())
 }
 
 /// The PID before a line, `PID ` or `[pid PID] `, and what stands behind it.

@@ -1,20 +1,17 @@
 //! The texts of a script that is made, and of notes.
-ghost use Rattle.std.specs.Prelude.{◌≡◌, ◌++◌, codes, decimal, flat_map, slice_get, length, string_bytes, MatchOption, OnOk};
-ghost use Rattle.texts.specs.LineFeeds.{line_feeds, BeginsWithLine};
-ghost use Rattle.lockscript.specs.Scripts.{IsCommand, command_text, shape_text};
+ghost use Rattle.std.specs.Prelude.{◌≡◌, ◌++◌, codes, decimal, flat_map, slice_get, length, string_bytes, OnOk};
+ghost use Rattle.lockscript.specs.Scripts.{shape_text};
 ghost use Rattle.messages.specs.declared.version.Version.TheVariants.{Second};
 ghost use Rattle.recordings.specs.Texts.{at_least_one, file_text, first_line, line_text, note_text, notes_text, others_text, shape_of, shown, told, with_feed};
 
 use crate::line::Line;
 use crate::note::Note;
 use crate::numbered_file::NumberedFile;
-use lockscript::fields::{NodeField, PidField};
-use lockscript::operations::Operation;
-use lockscript::script_line::Command;
+use lockscript::lines::split_line;
+use lockscript::writing::push_command;
 use model::policy::Policy;
 use std::alloc::AllocError;
 use std::fmt::Write;
-use texts::text::Text;
 use texts::words::policy_word;
 
 /// Notes that are told one by one.
@@ -110,13 +107,6 @@ fn first_line(text: &str) -> &str
     }
 }
 
-// The first line of a text, and what stands after its line feed.
-fn split_line(text: &str) -> Option<(&str, &str)>
-    ensures { MatchOption result (line_feeds text.now ≡ 0) (λ parts. BeginsWithLine text.now parts.0.now parts.1.now) }
-{
-    text.split_once('\n')
-}
-
 /// Writes the lines.
 ///
 /// # Errors
@@ -145,33 +135,6 @@ fn push_line(out: &mut String, line: &Line) -> Result<(), AllocError>
             push_command(out, &said.command())?;
             out.push_str("\n")
         }
-    }
-}
-
-// Writes what a line asks for.
-fn push_command(out: &mut String, command: &Command) -> Result<(), AllocError>
-    ensures { OnOk result (string_bytes out.new ≡ string_bytes out.old ++ command_text command.now) }
-{
-    match command {
-        Command::Call { node, pid, op } => {
-            out.push_str("call ")?;
-            <(NodeField, (PidField, Operation))>::write(&(*node, (*pid, *op)), out)
-        }
-        Command::Settle => out.push_str("settle"),
-        Command::Interrupt { node, pid } => write!(out, "interrupt {node} {pid}"),
-        Command::Retry { node, pid } => write!(out, "retry {node} {pid}"),
-        Command::Deliver { message } => write!(out, "deliver {message}"),
-        Command::Lose { message } => write!(out, "lose {message}"),
-        Command::Resend { file } => write!(out, "resend {file}"),
-        Command::Declare { node } => write!(out, "declare {node}"),
-        Command::Restart { node } => write!(out, "restart {node}"),
-        Command::Learn {
-            file,
-            node,
-            incarnation,
-        } => write!(out, "learn {file} {node} {incarnation}"),
-        Command::FailServer { file } => write!(out, "fail-server {file}"),
-        Command::StartServer { file } => write!(out, "start-server {file}"),
     }
 }
 
