@@ -1,4 +1,6 @@
+mod MetOutcomes
 mod Orders
 mod Reading
+mod SameAnswers
 mod Seeds
 mod Words

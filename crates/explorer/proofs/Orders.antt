@@ -1,5 +1,5 @@
 -- Schedules that go on by one command.
-use Rattle.std.proofs.Common.{◌≡◌, ℕ, ◌+◌, ◌==◌, ◌&&◌, Bool, true, false, if◌then◌else◌, List, [], ◌∷◌, ◌++◌, length, map, refl, sym, ap, subst, ◌∙◌, inl, inr, arith, Some}
+use Rattle.std.proofs.Common.{◌≡◌, ℕ, ◌+◌, ◌<◌, ◌≤◌, ◌==◌, ◌&&◌, Bool, true, false, if◌then◌else◌, List, [], ◌∷◌, ◌++◌, length, map, refl, sym, ap, subst, ◌∙◌, inl, inr, arith, length-append, Some}
 use Rattle.std.specs.Prelude.{◌⊎◌, slice_get}
 use Rattle.std.specs.List.{enumerate_from}
 use Rattle.std.proofs.lemmas.Bool.{cases_eq, eq-eqb, ne_eqb}
@@ -11,9 +11,9 @@ use Rattle.model.specs.declared.op.Op.{Op}
 use Rattle.lockscript.specs.declared.script_line.Command.{Command}
 use Rattle.lockscript.specs.declared.script_line.Command.TheVariants.{Call, Deliver, Lose, Settle, Interrupt, Retry, Resend, Declare, Restart, Learn, FailServer, StartServer}
 use Rattle.lockscript.specs.Scripts.{IsCommand, LineFields}
-use Rattle.player.specs.Progress.{Progress, Does, RunsTo}
+use Rattle.player.specs.Progress.{Progress, Does, End, RunsTo}
 use Rattle.player.proofs.Progresses.{turns_push}
-use Rattle.explorer.specs.Schedules.{calls_in, calls_of, line_of, may_stand, numbered, op_of, Follows, IsNextCall, IsScheduleOf}
+use Rattle.explorer.specs.Schedules.{calls_in, calls_of, line_of, may_stand, most_lines, numbered, op_of, Follows, IsNextCall, IsScheduleOf}
 
 -- the number of one line more
 number_on : (n : ℕ) (commands : List Command) (c : Command) → map line_of (enumerate_from n (commands ++ c ∷ [])) ≡ map line_of (enumerate_from n commands) ++ record { number = n + length commands; command = c } ∷ []
@@ -24,13 +24,13 @@ number_on n (d ∷ commands) c =
     ∙ ap (λ (k : ℕ). let l : LineFields = record { number = k; command = c } in map line_of (enumerate_from (n + 1) commands) ++ l ∷ []) (omega arith))
 
 -- one line more is carried out
-pub carried-on : (p q r : Progress) (commands : List Command) (number : ℕ) (c : Command) → number ≡ 2 + length commands → RunsTo p (numbered commands) (Some q) → Does number c q (Some r) → RunsTo p (numbered (commands ++ c ∷ [])) (Some r)
-carried-on p q r commands number c counted runs does =
+pub carried-on : (p q : Progress) (end : End) (commands : List Command) (number : ℕ) (c : Command) → number ≡ 2 + length commands → RunsTo p (numbered commands) (Some q) → Does number c q end → RunsTo p (numbered (commands ++ c ∷ [])) end
+carried-on p q end commands number c counted runs does =
     let l : LineFields = record { number = number; command = c } in
     let same : numbered (commands ++ c ∷ []) ≡ numbered commands ++ l ∷ [] =
     number_on 2 commands c ∙ ap (λ (k : ℕ). let m : LineFields = record { number = k; command = c } in numbered commands ++ m ∷ []) (sym counted) in
-    let P : List LineFields → Type 0 = λ ls. RunsTo p ls (Some r) in
-    subst P (sym same) (turns_push (λ (k : LineFields). Does k.number k.command) (Some p) q (Some r) (numbered commands) l runs does)
+    let P : List LineFields → Type 0 = λ ls. RunsTo p ls end in
+    subst P (sym same) (turns_push (λ (k : LineFields). Does k.number k.command) (Some p) q end (numbered commands) l runs does)
 
 -- where more stands behind a list, it begins with what stands there
 behind-length : (xs rest : List Op) (op : Op) → slice_get (xs ++ rest) (length xs) ≡ Some op → (more : List Op) × (rest ≡ op ∷ more)
@@ -106,3 +106,7 @@ schedule-none failures lines = record {
   others = All-nil (λ (d : Command). may_stand failures lines d ≡ true);
   served = All-nil IsCommand;
 }
+
+-- a line more is not too many, where its number is one of those that a schedule has
+pub few-more : (commands : List Command) (command : Command) (number limit : ℕ) → number ≡ 2 + length commands → number < limit → limit ≤ most_lines + 2 → length (commands ++ command ∷ []) ≤ most_lines
+few-more commands command number limit counted below most = omega (arith, length-append commands (command ∷ []), counted, below, most)

@@ -20,9 +20,10 @@ use Rattle.lockscript.specs.Served.{IsServedOp}
 use Rattle.lockscript.specs.Texts.{op_text}
 use Rattle.lockscript.proofs.Clusters.{IsCounts, counts-fit, counts-parts, counts_of, parts_text}
 use Rattle.lockscript.proofs.Feeds.{none_is-line_feeds}
-use Rattle.journal_text.proofs.Feedless.{HasNone, after, numbers, pair, pids}
+use Rattle.message_text.proofs.Feedless.{HasNone, numbers, pair}
+use Rattle.journal_text.proofs.Feedless.{after, pids}
 use Rattle.journal_text.proofs.FeedlessOps.{feedless-op}
-use Rattle.journal_text.proofs.Words.{lacks-append}
+use Rattle.message_text.proofs.Words.{lacks-append}
 use Rattle.explorer.specs.Schedules.{line_of, numbered}
 use Rattle.explorer.specs.Texts.{script_text}
 

@@ -1,11 +1,12 @@
 -- Schedules of the calls of a script.
-use Rattle.std.specs.Prelude.{◌≡◌, ℕ, ◌==◌, ◌&&◌, ◌||◌, Bool, true, false, if◌then◌else◌, List, [], ◌∷◌, ◌++◌, All, flat_map, length, map, slice_get, Some, ⊤}
+use Rattle.std.specs.Prelude.{◌≡◌, ◌≤◌, ℕ, ◌==◌, ◌&&◌, ◌||◌, Bool, true, false, if◌then◌else◌, List, [], ◌∷◌, ◌++◌, All, flat_map, length, map, slice_get, None, Some, ⊤}
 use Rattle.std.specs.List.{enumerate_from, list_any}
 use Rattle.model.specs.declared.op.Op.{Op}
 use Rattle.lockscript.specs.declared.script_line.Command.{Command}
 use Rattle.lockscript.specs.declared.script_line.Command.TheVariants.{Call, Interrupt, Declare, Restart, FailServer, StartServer}
-use Rattle.lockscript.specs.Scripts.{IsCommand, LineFields}
+use Rattle.lockscript.specs.Scripts.{IsCommand, LineFields, ScriptFields}
 use Rattle.player.specs.Parts.{PlayedParts}
+use Rattle.player.specs.Progress.{Progress, first_progress, RunsTo}
 
 -- the line of this number asks for this
 abbrev pub line_of : ℕ × Command → LineFields
@@ -69,6 +70,14 @@ pub record IsScheduleOf (failures : Bool) (lines : List LineFields) (commands : 
   pub in_order : (node pid : ℕ) → (rest : List Op) × (calls_in node pid lines ≡ calls_of node pid commands ++ rest)
   pub others : All (λ c. may_stand failures lines c ≡ true) commands
   pub served : All IsCommand commands
+
+-- from there on a schedule of these lines, of no more lines than one has, needs an entry for which the journal has no room
+abbrev pub IsFullFrom : Bool → List LineFields → Progress → Type 0
+IsFullFrom failures lines from = (commands : List Command) × IsScheduleOf failures lines commands × (length commands ≤ most_lines) × RunsTo from (numbered commands) None
+
+-- so does a schedule of the script
+abbrev pub HasFullSchedule : Bool → ScriptFields → Type 0
+HasFullSchedule failures script = IsFullFrom failures script.lines (first_progress script.shape)
 
 -- a schedule as plain data, and what came of it
 pub record ScheduledParts : Type 0 where

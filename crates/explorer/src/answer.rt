@@ -2,7 +2,7 @@
 ghost use Rattle.std.specs.Prelude.{◌≡◌, ◌++◌, ◌↔◌, string_bytes, IsTrue, OnOk};
 ghost use Rattle.explorer.specs.Answers.{answer_text};
 
-use lockscript::names::push_reply;
+use lockscript::replies::push_reply;
 use model::reply::Reply;
 use std::alloc::AllocError;
 use std::fmt::Write;

@@ -1,5 +1,6 @@
 //! What comes next in a schedule.
 use crate::chance::Chance;
+use crate::failed::Failed;
 use crate::part::Part;
 use cluster_core::run::Run;
 use lockscript::script_line::{Command, ScriptLine};
@@ -50,6 +51,8 @@ pub(crate) struct Chooser<'a> {
     is_settling: bool,
     // How many rounds of asking again there were since the last reply.
     rounds: u32,
+    // Who was declared failed, by the script or by chance.
+    failed: Failed,
     may_fail_node: bool,
     may_fail_server: bool,
 }
@@ -80,6 +83,7 @@ impl<'a> Chooser<'a> {
             sent: 0,
             is_settling: false,
             rounds: 0,
+            failed: Failed::new(alloc),
             may_fail_node: failures,
             may_fail_server: failures,
         };
@@ -133,7 +137,7 @@ impl<'a> Chooser<'a> {
         if let Event::Declare { node } = entry.event() {
             self.tell(*node, entry.incarnation())?;
         }
-        Ok(())
+        self.failed.see(entry)
     }
 
     // The servers of the files are to learn that this incarnation of a node was declared failed.
@@ -182,7 +186,7 @@ impl<'a> Chooser<'a> {
         }
         let index = index - ready;
         if index < letters {
-            return Ok(self.letter(index)?);
+            return self.letter(index);
         }
         Ok(take(&mut self.due, index - letters))
     }
@@ -226,33 +230,39 @@ impl<'a> Chooser<'a> {
     // A failure, if one may come and chance has it: what undoes it is due then.
     fn failure(&mut self) -> Result<Option<Command>, AllocError> {
         if self.may_fail_node && self.chance.one_in(FAILED) {
-            self.may_fail_node = false;
             return self.node_failure();
         }
         if self.may_fail_server && self.chance.one_in(FAILED) {
-            self.may_fail_server = false;
             return self.server_failure();
         }
         Ok(None)
     }
 
-    // The failure of a node that has a process.
+    // The failure of a node that has a process, unless the script has it failed.
     fn node_failure(&mut self) -> Result<Option<Command>, AllocError> {
         let index = self.chance.below(self.parts.len());
         let Some(part) = self.parts.get(index) else {
             return Ok(None);
         };
         let node = part.node();
+        if self.failed.has_node(node) {
+            return Ok(None);
+        }
+        self.may_fail_node = false;
         self.due.push(Command::Restart { node })?;
         Ok(Some(Command::Declare { node }))
     }
 
-    // The failure of the server of a file that a process opens.
+    // The failure of the server of a file that a process opens, unless the script has it failed.
     fn server_failure(&mut self) -> Result<Option<Command>, AllocError> {
         let index = self.chance.below(self.files.len());
         let Some(file) = self.files.get(index).copied() else {
             return Ok(None);
         };
+        if self.failed.has_server(file) {
+            return Ok(None);
+        }
+        self.may_fail_server = false;
         self.due.push(Command::StartServer { file })?;
         Ok(Some(Command::FailServer { file }))
     }

@@ -1,11 +1,14 @@
 //! Exploring a script: its outcomes under many schedules.
-ghost use Rattle.std.specs.Prelude.{◌≡◌, ◌+◌, ◌<◌, All, Bool, length, slice_index_or, slice_set, IfOk, IfSome, OnOk};
+ghost use Rattle.std.specs.Prelude.{◌≡◌, ◌≢◌, ◌+◌, ◌<◌, ◌∷◌, ◌++◌, ◌↔◌, [], ℕ, All, Bool, HoldsAt, List, MatchOption, length, slice_index_or, slice_set, IfErr, IfOk, IsTrue, OnOk};
 ghost use Rattle.std.specs.List.{list_any};
 ghost use Rattle.std.specs.List.Sorted.{IsPermutation};
+ghost use Rattle.player.specs.declared.play.PlayError.TheVariants.{JournalFull};
 ghost use Rattle.player.specs.Parts.{state_of};
+ghost use Rattle.explorer.specs.declared.answer.Answer.{Answer};
 ghost use Rattle.explorer.specs.Answers.{answers_in};
 ghost use Rattle.explorer.specs.Explores.{Explores};
-ghost use Rattle.explorer.specs.Outcomes.{AreOrdered, ComesIn, IsOutcomeOf, OutcomeParts, seeds_of, with_seed};
+ghost use Rattle.explorer.specs.Outcomes.{AreMet, AreOrdered, AreOutcomesOf, ComesIn, IsOutcomeOf, OutcomeParts, seed_of, seeds_of, with_seed};
+ghost use Rattle.explorer.specs.Schedules.{HasFullSchedule};
 
 use crate::answer::Answer;
 use crate::answers::answers;
@@ -21,7 +24,8 @@ use std::alloc::{AllocError, Global};
 
 /// The distinct outcomes of a script, which the text writes, under the schedules of the seeds from `first` on,
 /// `count` of them; behind 4294967295 comes seed 0. An outcome is what each call of the script comes to: its
-/// reply, the number of a refusal, that it is open, or that it was not made.
+/// reply, the number of a refusal, that it is open, or that it was not made. Of each it is told how many of the
+/// seeds came to it, and which is the first.
 ///
 /// Those that break what is expected come before the others, and of each kind the more frequent ones first. Of
 /// each the lines are told in which outcomes differ, and those that break what is expected: a comment line
@@ -38,7 +42,8 @@ pub fn explore(
     count: u32,
     failures: bool,
 ) -> Result<Explored, PlayError>
-    ensures { IfOk result (λ explored. Explores failures script.now text.now count explored) }
+    ensures explored { IfOk result (λ explored. Explores failures script.now text.now first count explored) }
+    ensures full { IfErr result (λ error. error ≡ JournalFull → HasFullSchedule failures script.now) }
 {
     let outcomes = outcomes(alloc, text, script, first, count, failures)?;
     let ordered = ordered(outcomes)?;
@@ -81,7 +86,9 @@ fn outcomes(
     failures: bool,
 ) -> Result<Vec<Outcome>, PlayError>
     ensures come { IfOk result (λ outcomes. All (IsOutcomeOf failures script.now text.now) outcomes.items) }
+    ensures met { IfOk result (λ outcomes. AreMet failures script.now first count outcomes.items) }
     ensures counted { IfOk result (λ outcomes. seeds_of outcomes.items ≡ count) }
+    ensures full { IfErr result (λ error. error ≡ JournalFull → HasFullSchedule failures script.now) }
 {
     let mut outcomes = Vec::new(alloc);
     for step in 0..count {
@@ -99,7 +106,8 @@ fn answers_of(
     seed: u32,
     failures: bool,
 ) -> Result<Vec<Answer>, PlayError>
-    ensures { IfOk result (λ answers. ComesIn failures script.now answers.items) }
+    ensures answered { IfOk result (λ answers. ComesIn failures script.now answers.items) }
+    ensures full { IfErr result (λ error. error ≡ JournalFull → HasFullSchedule failures script.now) }
 {
     let scheduled = schedule(alloc, script, seed, failures)?;
     let answers = answers_under(alloc, script, &scheduled)?;
@@ -132,6 +140,7 @@ fn add(
     seed: u32,
 ) -> Result<(), AllocError>
     ensures come { OnOk result ((failures : Bool) → ComesIn failures script.now answers.items → All (IsOutcomeOf failures script.now text.now) outcomes.old.items → All (IsOutcomeOf failures script.now text.now) outcomes.new.items) }
+    ensures met { OnOk result ((first : ℕ) (came : List (List Answer)) → seed ≡ seed_of (first + length came) → AreOutcomesOf first came outcomes.old.items → AreOutcomesOf first (came ++ answers.items ∷ []) outcomes.new.items) }
     ensures counted { OnOk result (seeds_of outcomes.new.items ≡ seeds_of outcomes.old.items + 1) }
 {
     match position_of(outcomes.as_slice(), answers.as_slice()) {
@@ -149,18 +158,25 @@ fn add(
     }
 }
 
-// Where an outcome with these answers stands.
+// Where an outcome with these answers stands; none where each has others.
 fn position_of(outcomes: &[Outcome], answers: &[Answer]) -> Option<usize>
-    ensures { IfSome result (λ index. index < length outcomes.now) }
+    ensures { MatchOption result (All (λ o. o.answers ≢ answers.now) outcomes.now) (λ index. (index < length outcomes.now) × HoldsAt (λ o. o.answers ≡ answers.now) outcomes.now index) }
 {
     let mut index = 0usize;
     for outcome in outcomes {
-        if outcome.answers() == answers {
+        if same(outcome.answers(), answers) {
             return Some(index);
         }
         index += 1;
     }
     None
+}
+
+// Whether both are the same answers.
+fn same(one: &[Answer], other: &[Answer]) -> bool
+    ensures { IsTrue result ↔ (one.now ≡ other.now) }
+{
+    one == other
 }
 
 // A seed comes to the outcome at the index.

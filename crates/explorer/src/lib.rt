@@ -10,6 +10,7 @@ mod chooser;
 mod expectations;
 pub mod explore;
 pub mod explored;
+mod failed;
 mod follows;
 pub mod laws;
 mod outcome;

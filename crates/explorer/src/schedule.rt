@@ -1,12 +1,13 @@
 //! Making schedules.
-ghost use Rattle.std.specs.Prelude.{◌≡◌, ◌+◌, ◌≤◌, ◌∷◌, ◌++◌, [], length, IfOk, IfSome, OnOk, Some};
+ghost use Rattle.std.specs.Prelude.{◌≡◌, ◌+◌, ◌≤◌, ◌∷◌, ◌++◌, [], length, IfErr, IfOk, IfSome, OnOk, Some};
 ghost use Rattle.cluster_core.specs.Histories.{HasOneHistory};
 ghost use Rattle.cluster_core.specs.Runs.{Leads};
 ghost use Rattle.cluster_core.specs.World.{first_world};
+ghost use Rattle.player.specs.declared.play.PlayError.TheVariants.{JournalFull};
 ghost use Rattle.player.specs.Parts.{progress, state_of};
 ghost use Rattle.player.specs.Played.{played_of, ComesTo};
 ghost use Rattle.player.specs.Progress.{RunsTo};
-ghost use Rattle.explorer.specs.Schedules.{most_lines, numbered, Follows, IsScheduleOf};
+ghost use Rattle.explorer.specs.Schedules.{most_lines, numbered, Follows, HasFullSchedule, IsFullFrom, IsScheduleOf};
 
 use crate::chooser::Chooser;
 use crate::follows::following;
@@ -55,6 +56,9 @@ pub fn schedule(
 
     // One table explains every reply, and ends as what the nodes hold.
     ensures history { IfOk result (λ s. HasOneHistory script.now.shape s.played.journal.entries) }
+
+    // Else some schedule of the script fills the journal.
+    ensures full { IfErr result (λ error. error ≡ JournalFull → HasFullSchedule failures script.now) }
 {
     let shape = script.shape();
     let lines = script.lines();
@@ -85,6 +89,7 @@ fn choose_lines(
     ensures of_script { IfOk result (λ made. IsScheduleOf failures lines.now made.0.items) }
     ensures few { IfOk result (λ made. length made.0.items ≤ most_lines) }
     ensures runs { IfOk result (λ made. RunsTo (progress player) (numbered made.0.items) (Some (progress made.1))) }
+    ensures full { IfErr result (λ error. error ≡ JournalFull → IsFullFrom failures lines.now (progress player)) }
 {
     let mut commands = Vec::new(alloc);
     for number in FIRST_LINE..line_limit(lines) {

@@ -41,13 +41,4 @@ impl Scheduled {
     {
         &self.played
     }
-
-    /// What the lines ask for, and what came of them.
-    pub fn into_parts(self) -> (Vec<Command>, Played)
-        ensures commands { result.0.items ≡ self.commands }
-        ensures played { result.1 ≡ self.played }
-    {
-        let Scheduled { commands, played } = self;
-        (commands, played)
-    }
 }

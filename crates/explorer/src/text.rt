@@ -1,15 +1,13 @@
 //! The text of a schedule.
 ghost use Rattle.std.specs.Prelude.{◌≡◌, ◌++◌, codes, flat_map, string_bytes, IfOk, OnOk};
-ghost use Rattle.lockscript.specs.Scripts.{command_text, shape_text};
+ghost use Rattle.lockscript.specs.Scripts.{shape_text};
 ghost use Rattle.explorer.specs.Texts.{command_line, script_text};
 
-use lockscript::fields::{FileField, IncarnationField, NodeField, PidField};
-use lockscript::operations::Operation;
 use lockscript::script_line::Command;
+use lockscript::writing::push_command;
 use messages::shape::Shape;
 use std::alloc::{AllocError, Global};
 use std::fmt::Write;
-use texts::text::Text;
 use texts::words::policy_word;
 
 /// The text of a script: the `cluster` line of the shape, and a line for each command, in order. By the law
@@ -44,40 +42,4 @@ fn push_line(out: &mut String, command: &Command) -> Result<(), AllocError>
 {
     push_command(out, command)?;
     out.push_str("\n")
-}
-
-/// Writes what a line asks for, without its end.
-///
-/// # Errors
-/// `AllocError` where a request for memory was refused.
-pub fn push_command(out: &mut String, command: &Command) -> Result<(), AllocError>
-    ensures { OnOk result (string_bytes out.new ≡ string_bytes out.old ++ command_text command.now) }
-{
-    match command {
-        Command::Call { node, pid, op } => {
-            out.push_str("call ")?;
-            <(NodeField, (PidField, Operation))>::write(&(*node, (*pid, *op)), out)
-        }
-        Command::Deliver { message } => write!(out, "deliver {message}"),
-        Command::Lose { message } => write!(out, "lose {message}"),
-        Command::Settle => out.push_str("settle"),
-        Command::Interrupt { node, pid } => write!(out, "interrupt {node} {pid}"),
-        Command::Retry { node, pid } => write!(out, "retry {node} {pid}"),
-        Command::Resend { file } => write!(out, "resend {file}"),
-        Command::Declare { node } => write!(out, "declare {node}"),
-        Command::Restart { node } => write!(out, "restart {node}"),
-        Command::Learn {
-            file,
-            node,
-            incarnation,
-        } => {
-            out.push_str("learn ")?;
-            <(FileField, (NodeField, IncarnationField))>::write(
-                &(*file, (*node, *incarnation)),
-                out,
-            )
-        }
-        Command::FailServer { file } => write!(out, "fail-server {file}"),
-        Command::StartServer { file } => write!(out, "start-server {file}"),
-    }
 }

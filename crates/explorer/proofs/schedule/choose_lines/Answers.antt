@@ -1,5 +1,6 @@
 use Rattle.std.proofs.Common.{refl, arith}
-use Rattle.explorer.proofs.Orders.{carried-on, schedule-none, schedule-on}
+use Rattle.std.proofs.lemmas.Result.{err_from_is_err_and}
+use Rattle.explorer.proofs.Orders.{carried-on, few-more, schedule-none, schedule-on}
 use Rattle.explorer.proofs.schedule.choose_lines.Goals as goal
 
 pub loop-number-init : goal.loop-number-init
@@ -19,3 +20,9 @@ loop-number-preserved c =
       within = omega (arith, c.loop-number.invariant.counted, c.loop-number-test.true, c.line_limit-number-end.ensures, c.in_ok-add-in-Some.ensures.len);
       counted = omega (arith, c.loop-number.invariant.counted, c.in_ok-add-in-Some.ensures.len);
     }
+
+pub returns-in_err-carry_out-in-Some-clause-full : goal.returns-in_err-carry_out-in-Some-clause-full
+returns-in_err-carry_out-in-Some-clause-full c =
+    let follows = rw (c.in-Some.is, c.as_slice-taken.ensures.value) at c.in_ok-next.ensures in
+    let p = err_from_is_err_and c.from_residual-in_err-carry_out-in-Some.result c.from_residual-in_err-carry_out-in-Some.ensures.1 in
+    rw (p.1, p.2) (λ e. (_, schedule-on _ _ _ _ follows c.loop-number.invariant.scheduled, few-more _ _ _ _ c.loop-number.invariant.counted c.loop-number-test.true c.line_limit-number-end.ensures, carried-on _ _ _ _ _ _ c.loop-number.invariant.counted c.loop-number.invariant.runs (c.in_err-carry_out-in-Some.ensures.full e)))

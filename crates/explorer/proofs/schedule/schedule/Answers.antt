@@ -1,4 +1,5 @@
 use Rattle.std.proofs.Common.{refl, sym, subst}
+use Rattle.std.proofs.lemmas.Result.{err_from_is_err_and}
 use Rattle.cluster_core.specs.Runs.{Leads}
 use Rattle.cluster_core.specs.World.{first_world}
 use Rattle.player.specs.Parts.{progress}
@@ -15,3 +16,8 @@ pub returns-clause-played : goal.returns-clause-played
 returns-clause-played c =
     let runs = rw c.in_ok-player.ensures.first at c.in_ok-made.ensures.runs in
     rw (c.finished.ensures.commands, ← c.shape-shape.ensures) (progress c.in_ok-made.made.1, runs, c.finished.ensures.played)
+
+pub returns-in_err-made-clause-full : goal.returns-in_err-made-clause-full
+returns-in_err-made-clause-full c =
+    let p = err_from_is_err_and c.from_residual-in_err-made.result c.from_residual-in_err-made.ensures.1 in
+    rw (p.1, p.2, ← c.shape-shape.ensures, ← c.in_ok-player.ensures.first, ← c.lines-lines.ensures) c.in_err-made.ensures.full

@@ -1,0 +1,41 @@
+-- When two answers are one.
+use Rattle.std.proofs.Common.{◌≡◌, Decides, arith, refl, ap}
+use Rattle.std.proofs.lemmas.Bool.{false≢true}
+use Rattle.std.proofs.lemmas.Grind.{common_steps}
+use Rattle.model.specs.declared.lock_info.LockInfo.{LockInfo}
+use Rattle.model.specs.declared.reply.Reply.{Reply}
+use Rattle.model.specs.declared.reply.Reply.TheVariants.{Done, Fd, Again, Free, Blocked, Interrupted, NoProcess, Exists, BadFd, TooManyFiles, NoLocks, Invalid, Overflow}
+use Rattle.model.specs.contracts.lock_info.LockInfoPartialEq.TheImpl as derived_of_locks
+use Rattle.model.specs.contracts.reply.ReplyPartialEq.TheImpl as derived_of_replies
+use Rattle.explorer.specs.declared.answer.Answer.{Answer}
+use Rattle.explorer.specs.declared.answer.Answer.TheVariants.{NotMade, Refused, Open, Replied}
+use Rattle.explorer.specs.contracts.answer.AnswerPartialEq.TheImpl as derived
+
+-- the derived `==` of locks is equality
+lock_eq-Decides : (a b : LockInfo) → Decides (derived_of_locks.ghosts.eq a b) (a ≡ b)
+lock_eq-Decides a b = grind (arith, common_steps)
+
+-- and so is that of replies
+reply_eq-Decides : (a b : Reply) → Decides (derived_of_replies.ghosts.eq a b) (a ≡ b)
+reply_eq-Decides Done Done = (λ h. refl, λ e. refl)
+reply_eq-Decides (Fd fd) (Fd other) = grind (arith, common_steps)
+reply_eq-Decides (Again a) (Again b) = (λ h. ap Again ((lock_eq-Decides a b).0 h), λ e. (lock_eq-Decides a b).1 (cc))
+reply_eq-Decides Free Free = (λ h. refl, λ e. refl)
+reply_eq-Decides (Blocked a) (Blocked b) = (λ h. ap Blocked ((lock_eq-Decides a b).0 h), λ e. (lock_eq-Decides a b).1 (cc))
+reply_eq-Decides Interrupted Interrupted = (λ h. refl, λ e. refl)
+reply_eq-Decides NoProcess NoProcess = (λ h. refl, λ e. refl)
+reply_eq-Decides Exists Exists = (λ h. refl, λ e. refl)
+reply_eq-Decides BadFd BadFd = (λ h. refl, λ e. refl)
+reply_eq-Decides TooManyFiles TooManyFiles = (λ h. refl, λ e. refl)
+reply_eq-Decides NoLocks NoLocks = (λ h. refl, λ e. refl)
+reply_eq-Decides Invalid Invalid = (λ h. refl, λ e. refl)
+reply_eq-Decides Overflow Overflow = (λ h. refl, λ e. refl)
+reply_eq-Decides _ _ = (λ h. absurd (false≢true h), λ e. cc)
+
+-- and that of answers
+pub answer_eq-Decides : (a b : Answer) → Decides (derived.ghosts.eq a b) (a ≡ b)
+answer_eq-Decides NotMade NotMade = (λ h. refl, λ e. refl)
+answer_eq-Decides (Refused code) (Refused other) = grind (arith, common_steps)
+answer_eq-Decides Open Open = (λ h. refl, λ e. refl)
+answer_eq-Decides (Replied a) (Replied b) = (λ h. ap Replied ((reply_eq-Decides a b).0 h), λ e. (reply_eq-Decides a b).1 (cc))
+answer_eq-Decides _ _ = (λ h. absurd (false≢true h), λ e. cc)
