@@ -56,6 +56,17 @@ try_text() {
     fi
 }
 
+# Runs the program on words to which it writes what other cases are compared with: the name of the case, and the file for standard
+# output, which gets something.
+try_any() {
+    local name=$1 out=$2 came
+    shift 2
+    timeout 120 "$program" "$@" >"$out" 2>came.err </dev/null
+    came=$?
+    [ -s "$out" ] || came="$came, with nothing on standard output"
+    judge "$name" 0 "$came" none none none came.err
+}
+
 : >none
 cp "$data/data/first.lock" first.lock
 cp "$data/stdout" first.listing
@@ -99,6 +110,12 @@ try_text 'two journals before it' 2 err "'--after <JOURNAL>' cannot be used mult
     run --after new.journal --after other.journal first.lock
 try_text 'a journal before it without its script' 2 err 'Usage: lockreplay' run --after new.journal
 try_text 'the journal before it in the help on run' 0 out '--after JOURNAL' help run
+try_text 'no listing and no journal' 2 err "the argument '--quiet' needs '--journal <FILE>'" run first.lock --quiet
+try_text 'no listing and no journal but the one before' 2 err "the argument '--quiet' needs '--journal <FILE>'" \
+    run first.lock --after new.journal --open --quiet
+try_text 'no listing, with a value' 2 err '--quiet' run first.lock --journal new.journal --quiet=yes
+try_text 'no listing on threads' 2 err 'Usage: lockreplay threads' threads first.lock --journal new.journal --quiet
+try_text 'no listing in the help on run' 0 out '--quiet' help run
 try_text 'an option for audit' 2 err 'Usage: lockreplay' audit --journal new.journal
 try_text 'long help on audit' 0 out 'audit no K' audit --help
 try_text 'long help on history' 0 out 'Usage: lockreplay history' history --help
@@ -445,6 +462,26 @@ try 'the option with =' 0 first.listing none run --journal=written.journal first
 cmp -s first.journal written.journal
 judge 'the journal that it writes with =' 0 $? none none none none
 rm written.journal
+try 'a run without its listing' 0 none none run first.lock --journal written.journal --quiet
+cmp -s first.journal written.journal
+judge 'the journal that it writes without its listing' 0 $? none none none none
+rm written.journal
+{
+    cat empty.lock
+    printf 'call 1 1 spawn\ncall 1 1 open 1 rw\ncall 1 1 set 0 proc write 0 10\nsettle\n'
+    printf 'call 1 2 spawn\ncall 1 2 open 1 rw\ncall 1 2 wait 0 proc write 0 10\nsettle\n'
+} >open.lock
+"$program" run open.lock --journal open.journal --open >open.listing
+{ echo open; "$program" open open.journal; } >open.section
+grep -q '^open 1\.1\.6 since entry ' open.section
+judge 'that the call is open' 0 $? none none none none
+try 'a run without its listing, with its open calls' 0 open.section none run --quiet --open open.lock --journal written.journal
+cmp -s open.journal written.journal
+judge 'its journal' 0 $? none none none none
+sed -n '/^open$/,$p' open.listing | cmp -s open.section -
+judge 'the open calls behind its listing' 0 $? none none none none
+try 'its open calls left out' 0 none none run --quiet open.lock --journal written.journal
+rm written.journal
 try 'the option with = behind the script' 0 first.listing none run first.lock --journal=written.journal
 cmp -s first.journal written.journal
 judge 'the journal that it writes with = behind the script' 0 $? none none none none
@@ -460,15 +497,16 @@ for call in 1.1.9 2.1.1 1.2.1 1.1 1.1.1.1 1.1.01 '' x '1.1.1 '; do
     try "no story: $call" 1 no-call none explain written.journal "$call"
     try "no picture: $call" 1 no-call none picture written.journal --around "$call"
 done
-"$program" picture written.journal >first.svg
+try_any 'a picture of it' first.svg picture written.journal
 try 'the picture around its first call, behind --' 0 first.svg none picture --around=1.1.1 -- written.journal
 try 'the picture of all its entries' 0 first.svg none picture written.journal --from 1 --to 7
 try 'the picture of more than all its entries' 0 first.svg none picture --to 4294967295 written.journal
 for format in svg mermaid trace; do
-    "$program" picture written.journal --format $format --from 3 --to 5 >part.picture
-    try "a part of it as $format, around a call" 0 part.picture none \
+    try_any "all of it as $format" whole.$format picture written.journal --format $format
+    try_any "a part of it as $format" part.$format picture written.journal --format $format --from 3 --to 5
+    try "a part of it as $format, around a call" 0 part.$format none \
         picture written.journal --around 1.1.3 --format=$format --to=5 --from=3
-    cmp -s part.picture first.svg
+    cmp -s part.$format whole.$format
     judge "that it is a part, as $format" 1 $? none none none none
 done
 sed 's/^reply 1.1.1 done$/reply 1.1.1 exists/' first.journal >wrong.journal
@@ -504,8 +542,7 @@ try 'a schedule of nothing' 0 wanted.lock none schedule empty.lock
 # name of the case, the words without it, and then those with it, which come to the same.
 try_same() {
     local name=$1
-    timeout 120 "$program" $2 >wanted 2>came.err </dev/null
-    judge "$name, left out" 0 $? none none none came.err
+    try_any "$name, left out" wanted $2
     try "$name" 0 wanted none $3
 }
 try_same 'a hundred schedules from seed 1' 'explore first.lock' 'explore --first 1 first.lock --seeds=100'
@@ -514,8 +551,7 @@ try_same 'a recording on one node' "from-strace $tests/../examples/sqlite.strace
 try_same 'a picture in SVG' 'picture written.journal' 'picture --format=svg written.journal --from 1 --to 4294967295'
 for failures in '' --failures; do
     for seed in 0 4294967295; do
-        timeout 120 "$program" schedule first.lock $failures --seed $seed >came.lock 2>came.err </dev/null
-        judge "the schedule of seed $seed $failures" 0 $? none none none came.err
+        try_any "the schedule of seed $seed $failures" came.lock schedule first.lock $failures --seed $seed
         try_text "the run of that schedule" 0 out history run came.lock
         try_text "the outcome of that schedule" 0 out "outcome 1: 1 of 1 seeds, first $seed" \
             explore --seeds 1 first.lock --first=$seed $failures
@@ -523,7 +559,7 @@ for failures in '' --failures; do
 done
 echo 'cluster nodes 64 files 1 policy wide' >first-line
 timeout 120 "$program" from-strace "$tests/../examples/sqlite.strace" --nodes 64 2>came.err </dev/null | sed -n '/^cluster/p' >came.out
-judge 'a recording on 64 nodes' 0 0 first-line came.out none came.err
+judge 'a recording on 64 nodes' 0 "${PIPESTATUS[0]}" first-line came.out none came.err
 cat first.journal first.journal >written.journal
 try 'a run with its journal in the place of a longer file' 0 first.listing none run first.lock --journal written.journal
 cmp -s first.journal written.journal
@@ -635,6 +671,9 @@ try_threads 'a script on threads with its journal' --journal threads.journal fir
 try 'an audit of its journal' 0 yes none audit threads.journal
 sed -n '/^history$/,/^receipts /p' threads.out | sed '$d' >threads.history
 try 'the history of its journal' 0 threads.history none history threads.journal
+sed 's/^ *[0-9]* //' first.history >wanted
+sed 's/^ *[0-9]* //' threads.history >came.out
+judge 'where its calls stand in the history' 0 0 wanted came.out none none
 sed -n '$p' threads.journal | grep -q -x -E 'end [1-9][0-9]*'
 judge 'the last line of its journal' 0 $? none none none none
 cp "$tests/../examples/on-threads.lock" two.lock
@@ -897,9 +936,10 @@ try_stuck() {
     printf '%b' "$open" >wanted.err
     judge "$name" 1 "$came" wanted came.out wanted.err came.err
     try "an audit of the journal of: $name" 0 yes none audit stuck.journal
-    "$program" open stuck.journal | sed -n 's/^\(open [0-9.]*\) since .*/\1/p' | sort >came.open
+    timeout 120 "$program" open stuck.journal 2>came.err </dev/null | sed -n 's/^\(open [0-9.]*\) since .*/\1/p' | sort >came.open
+    came=${PIPESTATUS[0]}
     sort wanted.err >wanted.open
-    judge "its open calls: $name" 0 0 wanted.open came.open none none
+    judge "its open calls: $name" 0 "$came" wanted.open came.open none came.err
 }
 last=9223372036854775807
 cp "$tests/../examples/mailbox.lock" mailbox.lock
@@ -962,7 +1002,8 @@ for script in waits.lock failures.lock rebuilt.lock not-stuck.lock two.lock; do
 done
 held=0
 for seed in $(seq 20); do
-    timeout 120 "$program" threads weather.lock --seed "$seed" --stop-when-stuck >threads.out 2>came.err </dev/null && held=$((held + 1))
+    timeout 120 "$program" threads weather.lock --seed "$seed" --stop-when-stuck >threads.out 2>came.err </dev/null &&
+        [ "$(tail -n 1 threads.out)" = 'audit yes' ] && [ ! -s came.err ] && held=$((held + 1))
 done
 judge 'contended scripts under weathers, which are not stuck' 20 "$held" none none none none
 
@@ -1315,6 +1356,10 @@ try 'a run behind a journal' 0 going.listing none run going.lock --after begun.j
 try 'a run behind a journal, with its journal' 0 going.listing none run going.lock --after begun.journal --journal written.journal
 cmp -s going.journal written.journal
 judge 'the journal of a run behind a journal' 0 $? none none none none
+rm written.journal
+try 'a run behind a journal, without its listing' 0 none none run going.lock --after begun.journal --journal written.journal --quiet
+cmp -s going.journal written.journal
+judge 'its journal, without its listing' 0 $? none none none none
 try 'a run behind a journal, with the options before it' 0 going.listing none \
     run --journal written.journal --after begun.journal going.lock
 cp begun.journal both.journal

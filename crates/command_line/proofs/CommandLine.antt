@@ -3,7 +3,7 @@ use Rattle.std.specs.Prelude.{option_and_then, slice_get, unwrap_or}
 use Rattle.std.specs.Option.{option_map_or}
 use Rattle.std.specs.Str.{bytes_eq}
 use Rattle.std.specs.Str.Parse.{digits_value, without_leading_plus}
-use Rattle.std.proofs.Common.{ℕ, Bool, true, false, cond, refl, sym, subst, ap, codes, inl, inr, option_map, List, Option, Some, None, [], ◌∷◌, ◌≡◌, ◌∙◌}
+use Rattle.std.proofs.Common.{ℕ, Bool, Bor, true, false, cond, refl, sym, subst, ap, codes, inl, inr, is_some, option_map, List, Option, Some, None, [], ◌∷◌, ◌≡◌, ◌∙◌}
 use Rattle.clap.specs.declared.error.Error.{Error}
 use Rattle.clap.specs.Words.{HasKind, IsAmong, kind_of, Kinds, Row, Text, fault_of, first_of, subcommand_name_of, one_of, subcommand_of, subcommand_rows_of}
 use Rattle.clap.specs.declared.error.kind.ErrorKind.{ErrorKind}
@@ -12,7 +12,7 @@ use Rattle.clap.specs.declared.parser.matches.ArgMatches.{ArgMatches}
 use Rattle.clap.specs.declared.parser.matches.ArgMatches.TheViews.{out-ArgMatches}
 use Rattle.command_line.specs.Kinds.{IsKindOf, IsOfKind}
 use Rattle.command_line.specs.Program.{program_app, flag_text, IsMet, IsNumber}
-use Rattle.command_line.specs.Tasks.{Task, run, threads, audit, history, explain, open_calls, check, picture, from_strace, explore, schedule, format_text, greatest_seed, most_nodes}
+use Rattle.command_line.specs.Tasks.{Task, run, threads, audit, history, explain, open_calls, check, picture, from_strace, explore, schedule, format_text, greatest_seed, most_nodes, MayBeQuiet}
 use Rattle.command_line.specs.Words.{AsksFor, IsRefusal, IsShown}
 use Rattle.command_line.specs.declared.format.Format.{Format}
 use Rattle.command_line.specs.declared.format.Format.TheVariants.{Svg, Mermaid, Trace}
@@ -85,7 +85,7 @@ abbrev name_in : Option Values → Text
 name_in met = option_map_or (λ (values : Values). values.0) met []
 
 abbrev pub name_of : Task → Text
-name_of (run s a j o) = codes "run"
+name_of (run s a j o q) = codes "run"
 name_of (threads s n h j) = codes "threads"
 name_of (audit j) = codes "audit"
 name_of (history j) = codes "history"
@@ -98,7 +98,7 @@ name_of (explore s k n f) = codes "explore"
 name_of (schedule s n f) = codes "schedule"
 
 pub name_is : (p : Text × List Row) (task : Task) → IsMet (Some p) task → p.0 ≡ name_of task
-name_is p (run s a j o) met = ap name_in met
+name_is p (run s a j o q) met = ap name_in met.0
 name_is p (threads s n h j) met = ap name_in met.1
 name_is p (audit j) met = ap name_in met
 name_is p (history j) met = ap name_in met
@@ -150,7 +150,7 @@ explore_of rows = explore (path_in (codes "SCRIPT") rows) (number_in (codes "COU
 -- the task of the command of this name, with these values
 abbrev task_named : Text → List Row → Task
 task_named name rows =
-    cond (bytes_eq name (codes "run")) (run (path_in (codes "SCRIPT") rows) (first_of (codes "JOURNAL") rows) (first_of (codes "FILE") rows) (flag_in (codes "open") rows))
+    cond (bytes_eq name (codes "run")) (run (path_in (codes "SCRIPT") rows) (first_of (codes "JOURNAL") rows) (first_of (codes "FILE") rows) (flag_in (codes "open") rows) (flag_in (codes "quiet") rows))
     (cond (bytes_eq name (codes "threads")) (threads_of rows)
     (cond (bytes_eq name (codes "audit")) (audit (path_in (codes "JOURNAL") rows))
     (cond (bytes_eq name (codes "history")) (history (path_in (codes "JOURNAL") rows))
@@ -174,12 +174,13 @@ flag_there place v w flag same there = ap (λ (u : Option Values). is_given (tex
 
 -- the command and its values tell the task
 met_is : (p : Text × List Row) (task : Task) → IsMet (Some p) task → task_named p.0 p.1 ≡ task
-met_is p (run s a j o) met =
-    let script = ap (text_at 0) met in
-    let after = ap (value_at 1) met in
-    let file = ap (value_at 2) met in
-    let flag = flag_there 3 _ _ o met refl in
-    named p (run s a j o) met ∙ (λ i. run (script i) (after i) (file i) (flag i))
+met_is p (run s a j o q) met =
+    let script = ap (text_at 0) met.0 in
+    let after = ap (value_at 1) met.0 in
+    let file = ap (value_at 2) met.0 in
+    let open_flag = flag_there 3 _ _ o met.0 refl in
+    let quiet_flag = flag_there 4 _ _ q met.0 refl in
+    named p (run s a j o q) met ∙ (λ i. run (script i) (after i) (file i) (open_flag i) (quiet_flag i))
 met_is p (threads s n h j) met =
     let script = ap (text_at 0) met.1 in
     let number = number_there 1 _ _ 0 greatest_seed met.0 n met.1 refl met.2 in
@@ -219,7 +220,7 @@ unmet values is = cc
 
 -- where nothing is met, or a name that no task has, or a name without one of its values
 pub nothing_met : (task : Task) → IsMet None task → ⊥
-nothing_met (run s a j o) is = cc
+nothing_met (run s a j o q) is = unmet _ is.0
 nothing_met (threads s n h j) is = unmet _ is.1
 nothing_met (audit j) is = cc
 nothing_met (history j) is = cc
@@ -257,10 +258,34 @@ abbrev NoFlag : Text → List Row → Type 0
 NoFlag id rows = (flag : Bool) → one_of id rows ≡ Some (flag_text flag) → ⊥
 
 pub no_script : (rows : List Row) → first_of (codes "SCRIPT") rows ≡ None → Unmet (codes "run") rows
-no_script rows none task met = nowhere _ _ none (ap (value_at 0) (as_named (codes "run") rows task met))
+no_script rows none task met = nowhere _ _ none (ap (value_at 0) (as_named (codes "run") rows task met).0)
 
 pub no_run_flag : (rows : List Row) → NoFlag (codes "open") rows → Unmet (codes "run") rows
-no_run_flag rows none task met = none _ (ap (value_at 3) (as_named (codes "run") rows task met))
+no_run_flag rows none task met = none _ (ap (value_at 3) (as_named (codes "run") rows task met).0)
+
+pub no_quiet_flag : (rows : List Row) → NoFlag (codes "quiet") rows → Unmet (codes "run") rows
+no_quiet_flag rows none task met = none _ (ap (value_at 4) (as_named (codes "run") rows task met).0)
+
+-- nor where the listing is to be left away and no journal kept
+quiet_alone : (journal : Option Text) (quiet : Bool) → journal ≡ None → quiet ≡ true → MayBeQuiet journal quiet → ⊥
+quiet_alone journal false none is may = cc
+quiet_alone None true none is may = may
+quiet_alone (Some path) true none is may = cc
+
+pub not_quiet : (journal : Option Text) (quiet : Bool) → quiet ≡ false → MayBeQuiet journal quiet
+not_quiet journal false is = tt
+not_quiet journal true is = absurd (cc)
+
+pub quiet_with : (journal : Option (Bor Text)) (quiet : Bool) → is_some journal ≡ true → MayBeQuiet (option_map (λ file. file.now) journal) quiet
+quiet_with None quiet kept = absurd (cc)
+quiet_with (Some file) false kept = tt
+quiet_with (Some file) true kept = tt
+
+pub no_quiet_journal : (rows : List Row) → first_of (codes "FILE") rows ≡ None → one_of (codes "quiet") rows ≡ Some (flag_text true) → Unmet (codes "run") rows
+no_quiet_journal rows none is task met =
+    let same = as_named (codes "run") rows task met in
+    let flag : flag_in (codes "quiet") rows ≡ true = ap (λ (value : Option Text). is_given (unwrap_or value [])) is in
+    quiet_alone _ _ none flag same.1
 
 pub no_threads_script : (rows : List Row) → first_of (codes "SCRIPT") rows ≡ None → Unmet (codes "threads") rows
 no_threads_script rows none task met = nowhere _ _ none (ap (value_at 0) (as_named (codes "threads") rows task met).1)

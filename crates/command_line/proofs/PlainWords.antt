@@ -1,5 +1,5 @@
 -- What clap makes of plain words.
-use Rattle.std.proofs.Common.{arith, refl, sym, subst, codes, true, false, Bool, List, Some, None, [], ◌∷◌, ◌≡◌, ◌≢◌}
+use Rattle.std.proofs.Common.{arith, refl, sym, subst, codes, true, false, Bool, List, Some, None, [], ◌∷◌, ◌++◌, ◌≡◌, ◌≢◌}
 use Rattle.std.specs.Prelude.{decimal, slice_get}
 use Rattle.std.specs.List.{All}
 use Rattle.clap.specs.Words.{Text, is_simple, is_simple_and_free}
@@ -94,37 +94,69 @@ explain_asks program journal call p q =
 
 -- `run SCRIPT`, with what may stand behind it
 module _ (program script : Text) (p : IsPath script) where
-  run_asks : (listed : Bool) → AsksFor (program ∷ codes "run" ∷ script ∷ flag_words (codes "--open") listed) (run script None None listed)
+  run_asks : (listed : Bool) → AsksFor (program ∷ codes "run" ∷ script ∷ flag_words (codes "--open") listed ++ flag_words (codes "--quiet") false) (run script None None listed false)
   unfolding clap_on_literals
-  run_asks false = asks_by _ _ run_command program (script ∷ []) (run script None None false) (rw (p.no_dashes, p.no_minus, p.no_minus) refl) (rw (p.no_dashes, p.no_minus, p.no_minus) refl)
-  run_asks true = asks_by _ _ run_command program (script ∷ codes "--open" ∷ []) (run script None None true) (rw (p.no_dashes, p.no_minus, p.no_minus) refl) (rw (p.no_dashes, p.no_minus, p.no_minus) refl)
+  run_asks false =
+      asks_by _ _ run_command program (script ∷ []) (run script None None false false) (rw (p.no_dashes, p.no_minus, p.no_minus) refl)
+      (rw (p.no_dashes, p.no_minus, p.no_minus) refl, tt)
+  run_asks true =
+      asks_by _ _ run_command program (script ∷ codes "--open" ∷ []) (run script None None true false) (rw (p.no_dashes, p.no_minus, p.no_minus) refl)
+      (rw (p.no_dashes, p.no_minus, p.no_minus) refl, tt)
 
-  run_to_asks : (file : Text) → IsPath file → (listed : Bool) → AsksFor (program ∷ codes "run" ∷ script ∷ codes "--journal" ∷ file ∷ flag_words (codes "--open") listed) (run script None (Some file) listed)
+  run_to_asks : (file : Text) → IsPath file → (listed quiet : Bool)
+      → AsksFor (program ∷ codes "run" ∷ script ∷ codes "--journal" ∷ file ∷ flag_words (codes "--open") listed ++ flag_words (codes "--quiet") quiet) (run script None (Some file) listed quiet)
   unfolding clap_on_literals
-  run_to_asks file f false = asks_by _ _ run_command program (script ∷ codes "--journal" ∷ file ∷ []) (run script None (Some file) false) (rw (p.no_dashes, p.no_minus, p.no_minus, f.no_dashes, f.no_minus, f.no_minus) refl) (rw (p.no_dashes, p.no_minus, p.no_minus, f.no_dashes, f.no_minus, f.no_minus) refl)
-  run_to_asks file f true = asks_by _ _ run_command program (script ∷ codes "--journal" ∷ file ∷ codes "--open" ∷ []) (run script None (Some file) true) (rw (p.no_dashes, p.no_minus, p.no_minus, f.no_dashes, f.no_minus, f.no_minus) refl) (rw (p.no_dashes, p.no_minus, p.no_minus, f.no_dashes, f.no_minus, f.no_minus) refl)
+  run_to_asks file f false false =
+      asks_by _ _ run_command program (script ∷ codes "--journal" ∷ file ∷ []) (run script None (Some file) false false) (rw (p.no_dashes, p.no_minus, p.no_minus, f.no_dashes, f.no_minus, f.no_minus) refl)
+      (rw (p.no_dashes, p.no_minus, p.no_minus, f.no_dashes, f.no_minus, f.no_minus) refl, tt)
+  run_to_asks file f false true =
+      asks_by _ _ run_command program (script ∷ codes "--journal" ∷ file ∷ codes "--quiet" ∷ []) (run script None (Some file) false true) (rw (p.no_dashes, p.no_minus, p.no_minus, f.no_dashes, f.no_minus, f.no_minus) refl)
+      (rw (p.no_dashes, p.no_minus, p.no_minus, f.no_dashes, f.no_minus, f.no_minus) refl, tt)
+  run_to_asks file f true false =
+      asks_by _ _ run_command program (script ∷ codes "--journal" ∷ file ∷ codes "--open" ∷ []) (run script None (Some file) true false) (rw (p.no_dashes, p.no_minus, p.no_minus, f.no_dashes, f.no_minus, f.no_minus) refl)
+      (rw (p.no_dashes, p.no_minus, p.no_minus, f.no_dashes, f.no_minus, f.no_minus) refl, tt)
+  run_to_asks file f true true =
+      asks_by _ _ run_command program (script ∷ codes "--journal" ∷ file ∷ codes "--open" ∷ codes "--quiet" ∷ []) (run script None (Some file) true true) (rw (p.no_dashes, p.no_minus, p.no_minus, f.no_dashes, f.no_minus, f.no_minus) refl)
+      (rw (p.no_dashes, p.no_minus, p.no_minus, f.no_dashes, f.no_minus, f.no_minus) refl, tt)
 
-  run_after_asks : (after : Text) → IsPath after → (listed : Bool) → AsksFor (program ∷ codes "run" ∷ script ∷ codes "--after" ∷ after ∷ flag_words (codes "--open") listed) (run script (Some after) None listed)
+  run_after_asks : (after : Text) → IsPath after → (listed : Bool) → AsksFor (program ∷ codes "run" ∷ script ∷ codes "--after" ∷ after ∷ flag_words (codes "--open") listed ++ flag_words (codes "--quiet") false) (run script (Some after) None listed false)
   unfolding clap_on_literals
-  run_after_asks after a false = asks_by _ _ run_command program (script ∷ codes "--after" ∷ after ∷ []) (run script (Some after) None false) (rw (p.no_dashes, p.no_minus, p.no_minus, a.no_dashes, a.no_minus, a.no_minus) refl) (rw (p.no_dashes, p.no_minus, p.no_minus, a.no_dashes, a.no_minus, a.no_minus) refl)
-  run_after_asks after a true = asks_by _ _ run_command program (script ∷ codes "--after" ∷ after ∷ codes "--open" ∷ []) (run script (Some after) None true) (rw (p.no_dashes, p.no_minus, p.no_minus, a.no_dashes, a.no_minus, a.no_minus) refl) (rw (p.no_dashes, p.no_minus, p.no_minus, a.no_dashes, a.no_minus, a.no_minus) refl)
+  run_after_asks after a false =
+      asks_by _ _ run_command program (script ∷ codes "--after" ∷ after ∷ []) (run script (Some after) None false false) (rw (p.no_dashes, p.no_minus, p.no_minus, a.no_dashes, a.no_minus, a.no_minus) refl)
+      (rw (p.no_dashes, p.no_minus, p.no_minus, a.no_dashes, a.no_minus, a.no_minus) refl, tt)
+  run_after_asks after a true =
+      asks_by _ _ run_command program (script ∷ codes "--after" ∷ after ∷ codes "--open" ∷ []) (run script (Some after) None true false) (rw (p.no_dashes, p.no_minus, p.no_minus, a.no_dashes, a.no_minus, a.no_minus) refl)
+      (rw (p.no_dashes, p.no_minus, p.no_minus, a.no_dashes, a.no_minus, a.no_minus) refl, tt)
 
-  run_after_to_asks : (after file : Text) → IsPath after → IsPath file → (listed : Bool) → AsksFor (program ∷ codes "run" ∷ script ∷ codes "--after" ∷ after ∷ codes "--journal" ∷ file ∷ flag_words (codes "--open") listed) (run script (Some after) (Some file) listed)
+  run_after_to_asks : (after file : Text) → IsPath after → IsPath file → (listed quiet : Bool)
+      → AsksFor (program ∷ codes "run" ∷ script ∷ codes "--after" ∷ after ∷ codes "--journal" ∷ file ∷ flag_words (codes "--open") listed ++ flag_words (codes "--quiet") quiet) (run script (Some after) (Some file) listed quiet)
   unfolding clap_on_literals
-  run_after_to_asks after file a f false = asks_by _ _ run_command program (script ∷ codes "--after" ∷ after ∷ codes "--journal" ∷ file ∷ []) (run script (Some after) (Some file) false) (rw (p.no_dashes, p.no_minus, p.no_minus, a.no_dashes, a.no_minus, a.no_minus, f.no_dashes, f.no_minus, f.no_minus) refl) (rw (p.no_dashes, p.no_minus, p.no_minus, a.no_dashes, a.no_minus, a.no_minus, f.no_dashes, f.no_minus, f.no_minus) refl)
-  run_after_to_asks after file a f true = asks_by _ _ run_command program (script ∷ codes "--after" ∷ after ∷ codes "--journal" ∷ file ∷ codes "--open" ∷ []) (run script (Some after) (Some file) true) (rw (p.no_dashes, p.no_minus, p.no_minus, a.no_dashes, a.no_minus, a.no_minus, f.no_dashes, f.no_minus, f.no_minus) refl) (rw (p.no_dashes, p.no_minus, p.no_minus, a.no_dashes, a.no_minus, a.no_minus, f.no_dashes, f.no_minus, f.no_minus) refl)
+  run_after_to_asks after file a f false false =
+      asks_by _ _ run_command program (script ∷ codes "--after" ∷ after ∷ codes "--journal" ∷ file ∷ []) (run script (Some after) (Some file) false false) (rw (p.no_dashes, p.no_minus, p.no_minus, a.no_dashes, a.no_minus, a.no_minus, f.no_dashes, f.no_minus, f.no_minus) refl)
+      (rw (p.no_dashes, p.no_minus, p.no_minus, a.no_dashes, a.no_minus, a.no_minus, f.no_dashes, f.no_minus, f.no_minus) refl, tt)
+  run_after_to_asks after file a f false true =
+      asks_by _ _ run_command program (script ∷ codes "--after" ∷ after ∷ codes "--journal" ∷ file ∷ codes "--quiet" ∷ []) (run script (Some after) (Some file) false true) (rw (p.no_dashes, p.no_minus, p.no_minus, a.no_dashes, a.no_minus, a.no_minus, f.no_dashes, f.no_minus, f.no_minus) refl)
+      (rw (p.no_dashes, p.no_minus, p.no_minus, a.no_dashes, a.no_minus, a.no_minus, f.no_dashes, f.no_minus, f.no_minus) refl, tt)
+  run_after_to_asks after file a f true false =
+      asks_by _ _ run_command program (script ∷ codes "--after" ∷ after ∷ codes "--journal" ∷ file ∷ codes "--open" ∷ []) (run script (Some after) (Some file) true false) (rw (p.no_dashes, p.no_minus, p.no_minus, a.no_dashes, a.no_minus, a.no_minus, f.no_dashes, f.no_minus, f.no_minus) refl)
+      (rw (p.no_dashes, p.no_minus, p.no_minus, a.no_dashes, a.no_minus, a.no_minus, f.no_dashes, f.no_minus, f.no_minus) refl, tt)
+  run_after_to_asks after file a f true true =
+      asks_by _ _ run_command program (script ∷ codes "--after" ∷ after ∷ codes "--journal" ∷ file ∷ codes "--open" ∷ codes "--quiet" ∷ []) (run script (Some after) (Some file) true true) (rw (p.no_dashes, p.no_minus, p.no_minus, a.no_dashes, a.no_minus, a.no_minus, f.no_dashes, f.no_minus, f.no_minus) refl)
+      (rw (p.no_dashes, p.no_minus, p.no_minus, a.no_dashes, a.no_minus, a.no_minus, f.no_dashes, f.no_minus, f.no_minus) refl, tt)
 
 abbrev words_of : Text → Task → List Text
 words_of program task = program ∷ plain_words_of task
 
 plain_task : (program : Text) (task : Task) → All (λ path. slice_get path 0 ≢ Some 45) (paths_of task) → HasPlainWords task → AsksFor (words_of program task) task
-plain_task program (run script None None listed) plain within = run_asks program script (is_path script (plain 0 [] (omega arith))) listed
-plain_task program (run script None (Some file) listed) plain within =
-    run_to_asks program script (is_path script (plain 0 [] (omega arith))) file (is_path file (plain 1 [] (omega arith))) listed
-plain_task program (run script (Some after) None listed) plain within =
+plain_task program (run script None None listed false) plain within = run_asks program script (is_path script (plain 0 [] (omega arith))) listed
+plain_task program (run script None None listed true) plain within = absurd within
+plain_task program (run script None (Some file) listed quiet) plain within =
+    run_to_asks program script (is_path script (plain 0 [] (omega arith))) file (is_path file (plain 1 [] (omega arith))) listed quiet
+plain_task program (run script (Some after) None listed false) plain within =
     run_after_asks program script (is_path script (plain 0 [] (omega arith))) after (is_path after (plain 1 [] (omega arith))) listed
-plain_task program (run script (Some after) (Some file) listed) plain within =
-    run_after_to_asks program script (is_path script (plain 0 [] (omega arith))) after file (is_path after (plain 1 [] (omega arith))) (is_path file (plain 2 [] (omega arith))) listed
+plain_task program (run script (Some after) None listed true) plain within = absurd within
+plain_task program (run script (Some after) (Some file) listed quiet) plain within =
+    run_after_to_asks program script (is_path script (plain 0 [] (omega arith))) after file (is_path after (plain 1 [] (omega arith))) (is_path file (plain 2 [] (omega arith))) listed quiet
 plain_task program (threads script seed false None) plain within =
     threads_asks program script (decimal seed) seed (is_path script (plain 0 [] (omega arith))) (number_text 0 greatest_seed seed (omega arith) (omega arith) within) false
 plain_task program (threads script seed true None) plain within =

@@ -5,7 +5,7 @@ use Rattle.clap.specs.Words.{App, Row, Rule, Text, first_of, one_of, new_app, ne
 use Rattle.clap.specs.Simple.{on_top}
 use Rattle.clap.specs.declared.builder.action.ArgAction.TheVariants.{SetTrue}
 use Rattle.clap.specs.declared.builder.value_parser.ValueParser.TheVariants.{Signed}
-use Rattle.command_line.specs.Tasks.{Task, run, threads, audit, history, explain, open_calls, check, picture, from_strace, explore, schedule, format_text, greatest_seed, most_nodes}
+use Rattle.command_line.specs.Tasks.{Task, run, threads, audit, history, explain, open_calls, check, picture, from_strace, explore, schedule, format_text, greatest_seed, most_nodes, MayBeQuiet}
 
 -- a word that must be there: a path, or the name of a call
 abbrev pub path_rule : Text → Rule
@@ -59,7 +59,7 @@ abbrev pub nodes_rule : Rule
 nodes_rule = number_rule (codes "N") (codes "nodes") (codes "1") 1 most_nodes
 
 abbrev pub run_app : App
-run_app = with_rule (with_rule (with_rule (with_rule (new_app (codes "run")) (path_rule (codes "SCRIPT"))) after_rule) file_rule) (flag_rule (codes "open"))
+run_app = with_rule (with_rule (with_rule (with_rule (with_rule (new_app (codes "run")) (path_rule (codes "SCRIPT"))) after_rule) file_rule) (flag_rule (codes "open"))) (flag_rule (codes "quiet"))
 
 abbrev pub threads_app : App
 threads_app = with_rule (with_rule (with_rule (with_rule (new_app (codes "threads")) (path_rule (codes "SCRIPT"))) (seed_rule (codes "seed"))) (flag_rule (codes "stop-when-stuck"))) file_rule
@@ -125,7 +125,7 @@ flag_text false = codes "false"
 
 -- the paths, numbers and flags of the commands that have more than paths
 abbrev pub run_values_in : Option (Text × List Row) → Option (Text × List (Option Text))
-run_values_in = read_in (first_of (codes "SCRIPT") ∷ first_of (codes "JOURNAL") ∷ first_of (codes "FILE") ∷ one_of (codes "open") ∷ [])
+run_values_in = read_in (first_of (codes "SCRIPT") ∷ first_of (codes "JOURNAL") ∷ first_of (codes "FILE") ∷ one_of (codes "open") ∷ one_of (codes "quiet") ∷ [])
 
 abbrev pub threads_values_in : Option (Text × List Row) → Option (Text × List (Option Text))
 threads_values_in = read_in (first_of (codes "SCRIPT") ∷ one_of (codes "N") ∷ one_of (codes "stop-when-stuck") ∷ first_of (codes "FILE") ∷ [])
@@ -144,7 +144,8 @@ schedule_values_in = read_in (first_of (codes "SCRIPT") ∷ one_of (codes "N") �
 
 -- it is the command of the task, with its paths, its numbers, its flags, its format and the name of its call
 abbrev pub IsMet : Option (Text × List Row) → Task → Type 0
-IsMet met (run script after journal listed) = run_values_in met ≡ Some (codes "run", Some script ∷ after ∷ journal ∷ Some (flag_text listed) ∷ [])
+IsMet met (run script after journal listed quiet) =
+    (run_values_in met ≡ Some (codes "run", Some script ∷ after ∷ journal ∷ Some (flag_text listed) ∷ Some (flag_text quiet) ∷ [])) × MayBeQuiet journal quiet
 IsMet met (threads script seed stop journal) =
     (text : Text) × (threads_values_in met ≡ Some (codes "threads", Some script ∷ Some text ∷ Some (flag_text stop) ∷ journal ∷ [])) × IsNumber 0 greatest_seed text seed
 IsMet met (audit journal) = values_in (codes "JOURNAL" ∷ []) met ≡ Some (codes "audit", Some journal ∷ [])

@@ -53,6 +53,16 @@ pub(crate) fn open_argument<'a>(alloc: Global) -> Arg<'a>
         .help("List the calls without a reply behind the listing")
 }
 
+// Whether the listing is left away.
+pub(crate) fn quiet_argument<'a>(alloc: Global) -> Arg<'a>
+    ensures { rule_of result ≡ flag_rule (codes "quiet") }
+{
+    Arg::new(alloc, "quiet")
+        .long("quiet")
+        .action(ArgAction::SetTrue)
+        .help("Make no listing: what is kept of the run is FILE")
+}
+
 // Whether nodes and servers fail.
 pub(crate) fn failures_argument<'a>(alloc: Global) -> Arg<'a>
     ensures { rule_of result ≡ flag_rule (codes "failures") }

@@ -4,9 +4,9 @@ ghost use Rattle.command_line.specs.declared.format.Format.TheVariants.{Svg};
 ghost use Rattle.command_line.specs.Tasks.{Task, explore, from_strace, greatest_seed, picture, schedule, threads};
 ghost use Rattle.command_line.specs.Words.{AsksFor, IsPlain};
 
-/// The words `PROGRAM run SCRIPT`, with `--after JOURNAL`, `--journal FILE` and `--open` behind it, or some of
-/// them in this order, `PROGRAM threads SCRIPT --seed N`, with `--stop-when-stuck`, `--journal FILE`, both or none
-/// behind it, `PROGRAM audit JOURNAL`, `PROGRAM history JOURNAL`, `PROGRAM explain JOURNAL CALL`,
+/// The words `PROGRAM run SCRIPT`, with `--after JOURNAL`, `--journal FILE`, `--open` and `--quiet` behind it, or
+/// some of them in this order, `--quiet` where `--journal FILE` is one, `PROGRAM threads SCRIPT --seed N`, with
+/// `--stop-when-stuck`, `--journal FILE`, both or none behind it, `PROGRAM audit JOURNAL`, `PROGRAM history JOURNAL`, `PROGRAM explain JOURNAL CALL`,
 /// `PROGRAM open JOURNAL`, `PROGRAM check SCRIPT`, `PROGRAM picture JOURNAL`, with `--around CALL` or without,
 /// and `--from K --to L --format FORMAT` behind it, `PROGRAM from-strace RECORDING --nodes N`,
 /// `PROGRAM explore SCRIPT --seeds COUNT --first N` and `PROGRAM schedule SCRIPT --seed N`, with `--failures` or

@@ -17,15 +17,16 @@ use std::convert::AsStr;
 /// What the words of a command line ask for. Each text is a path, or the name of a call.
 #[derive(Clone, Copy, Debug, PartialEq, Eq)]
 pub enum Line<'a> {
-    /// `run SCRIPT [--after JOURNAL] [--journal FILE] [--open]`: to run each line of the script in order, in
-    /// a cluster that begins or behind the run of a journal, and print the listing, with the calls that have
-    /// no reply behind it, if that is asked for, and first to write the journal of the run to the file, if
-    /// there is one.
+    /// `run SCRIPT [--after JOURNAL] [--journal FILE] [--open] [--quiet]`: to run each line of the script in
+    /// order, in a cluster that begins or behind the run of a journal, and print the listing, with the calls
+    /// that have no reply behind it, if that is asked for, and first to write the journal of the run to the
+    /// file, if there is one. Where there is one, the listing may be left away.
     Run {
         script: &'a str,
         after: Option<&'a str>,
         journal: Option<&'a str>,
         open: bool,
+        quiet: bool,
     },
     /// `threads SCRIPT [--seed N] [--stop-when-stuck] [--journal FILE]`: to run the script on threads, with
     /// this seed or 1, until its end or, if that is asked for, until no open call can be answered any more,
@@ -127,6 +128,7 @@ fn complaint(matches: &ArgMatches<'_>) -> &'static str {
     match matches.subcommand() {
         Some(("picture", _)) =>
             "invalid value for '--format <FORMAT>': it is svg, mermaid or trace",
+        Some(("run", _)) => "the argument '--quiet' needs '--journal <FILE>'",
         _ => "no command is given",
     }
 }
@@ -159,11 +161,16 @@ fn run_in<'a>(values: &ArgMatches<'a>) -> Option<Line<'a>>
     let after = values.get_str("JOURNAL");
     let journal = values.get_str("FILE");
     let open = flag_in(values, "open")?;
+    let quiet = flag_in(values, "quiet")?;
+    if quiet && journal.is_none() {
+        return None;
+    }
     Some(Line::Run {
         script,
         after,
         journal,
         open,
+        quiet,
     })
 }
 

@@ -101,6 +101,10 @@ there, before the listing is printed. A run that fails before that leaves FILE a
 With --open the calls that have no reply are listed behind the listing, as 'lockreplay
 open' tells of them.
 
+With --journal FILE --quiet no listing is made, and the time and the memory for it are
+spared: nothing is printed, or with --open those calls alone. Which lines were refused is
+not told then.
+
 With --after JOURNAL the script goes on behind the run of JOURNAL, a file that --journal
 wrote. Its first line has to name the same cluster. Messages are counted on, 'settle'
 passes over those of JOURNAL, and the listing and FILE hold the whole run; 'refused' is
@@ -195,8 +199,8 @@ that name, the text is 'no call CALL' (exit status 1).";
 /// What stands under the options of `from-strace`.
 pub(crate) const STRACE_NOTES: &str = "\
 RECORDING is what this writes of a program and of the processes that it begins:
-  strace -f -e trace=fcntl,openat,open,creat,dup,dup2,dup3,close,clone,clone3,fork,\
-vfork,exit_group -o RECORDING PROGRAM
+  strace -f -e trace=fcntl,open,openat,openat2,creat,dup,dup2,dup3,close,close_range,\
+clone,clone3,fork,vfork,execve,execveat,exit_group -o RECORDING PROGRAM
 The text is a script, for 'lockreplay run', of the locks and descriptors of that
 program. The files that are locked and the processes are numbered. Each recorded process
 that no other began is placed on a node, of the N nodes in turn, and its children on its

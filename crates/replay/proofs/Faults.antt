@@ -1,5 +1,5 @@
 -- Lemmas on faults of commands.
-use Rattle.std.proofs.Common.{ℕ, List, Option, Some, None, inl, inr}
+use Rattle.std.proofs.Common.{Bool, ℕ, List, Option, Some, None, inl, inr}
 use Rattle.std.specs.Prelude.{⊤}
 use Rattle.cluster_core.specs.Journals.{JournalFields}
 use Rattle.command_line.specs.Tasks.{Task, run, threads, audit, history, explain, open_calls, check, picture, from_strace, explore, schedule}
@@ -81,23 +81,23 @@ recording-weaker Holds RanShort path JournalFull is = is
 recording-weaker Holds RanShort path OldJournal is = is
 recording-weaker Holds RanShort path (Faulty report) is = is
 
-explore-weaker : (Holds : Option (List ℕ) → Type 0) (RanShort : Type 0) (path : List ℕ) (fault : Fault) → IsExploreFault Holds RanShort path fault → IsExploreFault Holds ⊤ path fault
-explore-weaker Holds RanShort path (BadLine line) is = is
-explore-weaker Holds RanShort path (CannotRead named) is = is
-explore-weaker Holds RanShort path (CannotWrite named) is = is
-explore-weaker Holds RanShort path CannotWriteOutput is = is
-explore-weaker Holds RanShort path NoMemory is = inl tt
-explore-weaker Holds RanShort path JournalFull is = is
-explore-weaker Holds RanShort path OldJournal is = is
-explore-weaker Holds RanShort path (Faulty report) is = is
+explore-weaker : (failures : Bool) (Holds : Option (List ℕ) → Type 0) (RanShort : Type 0) (path : List ℕ) (fault : Fault) → IsExploreFault failures Holds RanShort path fault → IsExploreFault failures Holds ⊤ path fault
+explore-weaker failures Holds RanShort path (BadLine line) is = is
+explore-weaker failures Holds RanShort path (CannotRead named) is = is
+explore-weaker failures Holds RanShort path (CannotWrite named) is = is
+explore-weaker failures Holds RanShort path CannotWriteOutput is = is
+explore-weaker failures Holds RanShort path NoMemory is = inl tt
+explore-weaker failures Holds RanShort path JournalFull is = is
+explore-weaker failures Holds RanShort path OldJournal is = is
+explore-weaker failures Holds RanShort path (Faulty report) is = is
 
 going-weaker : (old : Files) (RanShort : Type 0) (script after : List ℕ) (fault : Fault) → IsGoingFault old RanShort script after fault → IsGoingFault old ⊤ script after fault
 going-weaker old RanShort script after fault (inl is) = inl (old-weaker (old after) RanShort after fault is)
 going-weaker old RanShort script after fault (inr is) = inr (is.0, is.1, is.2, behind-weaker is.0 (old script) RanShort script fault is.3)
 
 input-weaker : (old : Files) (RanShort : Type 0) (task : Task) (fault : Fault) → IsInputFault old RanShort task fault → IsInputFault old ⊤ task fault
-input-weaker old RanShort (run script None to with_open) fault is = script-weaker (old script) RanShort script fault is
-input-weaker old RanShort (run script (Some after) to with_open) fault is = going-weaker old RanShort script after fault is
+input-weaker old RanShort (run script None to with_open quiet) fault is = script-weaker (old script) RanShort script fault is
+input-weaker old RanShort (run script (Some after) to with_open quiet) fault is = going-weaker old RanShort script after fault is
 input-weaker old RanShort (threads script seed may_stop to) fault is = threads-weaker (old script) RanShort script fault is
 input-weaker old RanShort (audit journal) fault is = journal-weaker (old journal) RanShort journal fault is
 input-weaker old RanShort (history journal) fault is = journal-weaker (old journal) RanShort journal fault is
@@ -106,8 +106,8 @@ input-weaker old RanShort (open_calls journal) fault is = journal-weaker (old jo
 input-weaker old RanShort (check script) fault is = check-weaker (old script) RanShort script fault is
 input-weaker old RanShort (picture journal name from to format) fault is = journal-weaker (old journal) RanShort journal fault is
 input-weaker old RanShort (from_strace recording nodes) fault is = recording-weaker (old recording) RanShort recording fault is
-input-weaker old RanShort (explore script seeds first failures) fault is = explore-weaker (old script) RanShort script fault is
-input-weaker old RanShort (schedule script seed failures) fault is = explore-weaker (old script) RanShort script fault is
+input-weaker old RanShort (explore script seeds first failures) fault is = explore-weaker failures (old script) RanShort script fault is
+input-weaker old RanShort (schedule script seed failures) fault is = explore-weaker failures (old script) RanShort script fault is
 
 -- memory may be short before
 pub fault-weaker : (old new : Files) (RanShort : Type 0) (Refuses : List ℕ → Type 0) (task : Task) (fault : Fault) → IsFault old RanShort Refuses task new fault → IsFault old ⊤ Refuses task new fault
@@ -122,8 +122,8 @@ fault-weaker old new RanShort Refuses task (Faulty report) is = (input-weaker ol
 
 -- where memory may be short
 pub short-memory : (old : Files) (task : Task) → IsInputFault old ⊤ task NoMemory
-short-memory old (run script None to with_open) = inl tt
-short-memory old (run script (Some after) to with_open) = inl (inl tt)
+short-memory old (run script None to with_open quiet) = inl tt
+short-memory old (run script (Some after) to with_open quiet) = inl (inl tt)
 short-memory old (threads script seed may_stop to) = inl tt
 short-memory old (audit journal) = inl tt
 short-memory old (history journal) = inl tt

@@ -1,5 +1,5 @@
 -- Which files a command leaves as they were.
-use Rattle.std.proofs.Common.{◌≡◌, ℕ, Bool, List, Option, Some, None, subst}
+use Rattle.std.proofs.Common.{ℕ, Bool, List, Option, Some, None, subst}
 use Rattle.cluster_core.specs.Journals.{JournalFields}
 use Rattle.command_line.specs.Tasks.{Task, run, threads, audit, history, explain, open_calls, check, picture, from_strace, explore, schedule}
 use Rattle.replay.specs.declared.fault.Fault.{Fault}
@@ -11,8 +11,8 @@ use Rattle.replay.specs.Stores.{Files, SameFiles, SameOthers}
 
 -- where no file changed
 same-but : (old new : Files) (task : Task) → SameFiles old new → SameButJournal task old new
-same-but old new (run script after None with_open) same = same
-same-but old new (run script after (Some path) with_open) same = λ other file differs. same other file
+same-but old new (run script after None with_open quiet) same = same
+same-but old new (run script after (Some path) with_open quiet) same = λ other file differs. same other file
 same-but old new (threads script seed may_stop None) same = same
 same-but old new (threads script seed may_stop (Some path)) same = λ other file differs. same other file
 same-but old new (audit path) same = same
@@ -26,21 +26,21 @@ same-but old new (explore path seeds first failures) same = same
 same-but old new (schedule path seed failures) same = same
 
 -- where the journal was kept
-kept-run : (old new : Files) (script : List ℕ) (after to : Option (List ℕ)) (with_open : Bool) (text : List ℕ) → KeepsJournal old to text new → SameButJournal (run script after to with_open) old new
-kept-run old new script after None with_open text kept = kept
-kept-run old new script after (Some path) with_open text kept = kept.1
+kept-run : (old new : Files) (script : List ℕ) (after to : Option (List ℕ)) (with_open quiet : Bool) (text : List ℕ) → KeepsJournal old to text new → SameButJournal (run script after to with_open quiet) old new
+kept-run old new script after None with_open quiet text kept = kept
+kept-run old new script after (Some path) with_open quiet text kept = kept.1
 
-gone-on : (old new : Files) (script after : List ℕ) (to : Option (List ℕ)) (with_open : Bool) (j : JournalFields) (shown : Shown) → GoesOn old script j to with_open new shown → SameButJournal (run script (Some after) to with_open) old new
-gone-on old new script after to with_open j (Text text) is = kept-run old new script (Some after) to with_open _ is.1.3
-gone-on old new script after to with_open j (Wanting text) is = absurd is.1.2
-gone-on old new script after to with_open j (Partial text told) is = absurd is.1.2
-gone-on old new script after to with_open j Yes is = absurd is.1.2
-gone-on old new script after to with_open j (No position) is = same-but old new (run script (Some after) to with_open) is.1
+gone-on : (old new : Files) (script after : List ℕ) (to : Option (List ℕ)) (with_open quiet : Bool) (j : JournalFields) (shown : Shown) → GoesOn old script j to with_open quiet new shown → SameButJournal (run script (Some after) to with_open quiet) old new
+gone-on old new script after to with_open quiet j (Text text) is = kept-run old new script (Some after) to with_open quiet _ is.1.3
+gone-on old new script after to with_open quiet j (Wanting text) is = absurd is.1.2
+gone-on old new script after to with_open quiet j (Partial text told) is = absurd is.1.2
+gone-on old new script after to with_open quiet j Yes is = absurd is.1.2
+gone-on old new script after to with_open quiet j (No position) is = same-but old new (run script (Some after) to with_open quiet) is.1
 
 -- where it was done
 done-files : (old new : Files) (task : Task) (shown : Shown) → Does old task new shown → SameButJournal task old new
-done-files old new (run script None to with_open) shown is = kept-run old new script None to with_open _ is.3
-done-files old new (run script (Some after) to with_open) shown is = gone-on old new script after to with_open is.0 shown is.2
+done-files old new (run script None to with_open quiet) shown is = kept-run old new script None to with_open quiet _ is.3
+done-files old new (run script (Some after) to with_open quiet) shown is = gone-on old new script after to with_open quiet is.0 shown is.2
 done-files old new (threads script seed may_stop None) shown is = is.3
 done-files old new (threads script seed may_stop (Some path)) shown is = is.3.1
 done-files old new (audit path) shown is = is.3
@@ -55,10 +55,10 @@ done-files old new (schedule path seed failures) shown is = is.1
 
 -- where the journal could not be written
 unwritten : (old new : Files) (task : Task) (named : List ℕ) → HasJournalFor old task named → SameOthers old new named → SameButJournal task old new
-unwritten old new (run script None None with_open) named has others = absurd has
-unwritten old new (run script None (Some path) with_open) named has others = subst (λ (p : List ℕ). SameOthers old new p) has.0 others
-unwritten old new (run script (Some after) None with_open) named has others = absurd has
-unwritten old new (run script (Some after) (Some path) with_open) named has others = subst (λ (p : List ℕ). SameOthers old new p) has.0 others
+unwritten old new (run script None None with_open quiet) named has others = absurd has
+unwritten old new (run script None (Some path) with_open quiet) named has others = subst (λ (p : List ℕ). SameOthers old new p) has.0 others
+unwritten old new (run script (Some after) None with_open quiet) named has others = absurd has
+unwritten old new (run script (Some after) (Some path) with_open quiet) named has others = subst (λ (p : List ℕ). SameOthers old new p) has.0 others
 unwritten old new (threads script seed may_stop None) named has others = absurd has
 unwritten old new (threads script seed may_stop (Some path)) named has others = subst (λ (p : List ℕ). SameOthers old new p) has.0 others
 unwritten old new (audit path) named has others = absurd has

@@ -10,8 +10,8 @@ use Rattle.lockscript.specs.declared.error.ParseError.{ParseError}
 use Rattle.lockscript.specs.declared.error.ParseError.TheVariants.{BadLine}
 use Rattle.lockscript.specs.Readings.{HasOneReading}
 use Rattle.lockscript.specs.Scripts.{HasScript, IsRefused}
-use Rattle.lockscript.specs.Texts.{call_text}
-use Rattle.journal_text.proofs.Names.{apart-call}
+use Rattle.message_text.specs.Names.{call_text}
+use Rattle.message_text.proofs.NameTexts.{apart-call}
 use Rattle.stories.specs.Stories.{is_made, story_text}
 use Rattle.pictures.specs.Around.{around}
 use Rattle.replay.specs.Tellings.{HasNoCall, HasNothingOf, IsStoryOf, margin}

@@ -1,5 +1,5 @@
 -- What a command comes to.
-use Rattle.std.specs.Prelude.{◌≡◌, ℕ, ⊤, ◌⊎◌, Bool, List, ◌++◌, string_bytes, Option, Some, None}
+use Rattle.std.specs.Prelude.{◌≡◌, ℕ, ⊤, ◌⊎◌, Bool, true, false, List, [], ◌++◌, string_bytes, Option, Some, None}
 use Rattle.std.specs.Io.KnownBytes.{Appends}
 use Rattle.cluster_core.specs.Journals.{JournalFields, IsFirstWrong}
 use Rattle.cluster_core.specs.Runs.{IsRun}
@@ -10,14 +10,13 @@ use Rattle.replay.specs.declared.fault.Fault.{Fault}
 use Rattle.replay.specs.declared.fault.Fault.TheVariants.{CannotWrite, CannotWriteOutput}
 use Rattle.replay.specs.declared.shown.Shown.{Shown}
 use Rattle.replay.specs.declared.shown.Shown.TheVariants.{Text, Wanting, Partial, Yes, No}
-use Rattle.lockscript.specs.Scripts.{ScriptFields}
 use Rattle.replay.specs.Audits.{HasJournal, HasNewJournal, IsAudit, IsHistory}
 use Rattle.replay.specs.Faults.{IsBehindFault, IsCheckFault, IsJournalFault, IsOldFault, IsScriptFault, IsThreadsFault}
 use Rattle.replay.specs.Explorations.{IsExploreFault, IsExplored, IsScheduled}
 use Rattle.replay.specs.Outputs.{AppendsPart}
 use Rattle.player.specs.Played.{PlayedState}
 use Rattle.replay.specs.Recordings.{IsRecorded, IsRecordingFault}
-use Rattle.replay.specs.Scripts.{HasRun, HasRunBehind, HasScript, IsListing}
+use Rattle.replay.specs.Scripts.{HasRun, HasRunBehind, IsListing}
 use Rattle.replay.specs.Showing.{shown_status, shown_text}
 use Rattle.replay.specs.Statuses.{status_of}
 use Rattle.replay.specs.Threads.{IsTaken, IsTold, ShowsThreads, ThreadedFields}
@@ -34,32 +33,37 @@ abbrev pub IsReadFrom : Option (List ℕ) → JournalFields → Type 0
 IsReadFrom None j = ⊤
 IsReadFrom (Some path) j = WritesJournal (journal_text j.shape j.entries) j.shape j.entries
 
--- the text is the listing of a run, with the section of open calls behind it, if that is asked for
-abbrev pub IsRunText : PlayedState → Bool → List ℕ → Type 0
-IsRunText played with_open text = (listing : List ℕ) × IsListing played listing × (text ≡ listing ++ open_section with_open played.journal)
+-- the listing of a run, or nothing, where it is left away
+abbrev pub IsListingUnless : Bool → PlayedState → List ℕ → Type 0
+IsListingUnless false played text = IsListing played text
+IsListingUnless true played text = text ≡ []
 
--- what is shown of a run is its listing
-abbrev pub ShowsRun : PlayedState → Bool → Shown → Type 0
-ShowsRun played with_open (Wanting text) = ⊥
-ShowsRun played with_open (Partial text told) = ⊥
-ShowsRun played with_open Yes = ⊥
-ShowsRun played with_open (No position) = ⊥
-ShowsRun played with_open (Text text) = IsRunText played with_open (string_bytes text)
+-- the text is the listing of a run, unless it is left away, with the section of open calls behind it, if that is asked for
+abbrev pub IsRunText : PlayedState → Bool → Bool → List ℕ → Type 0
+IsRunText played with_open quiet text = (listing : List ℕ) × IsListingUnless quiet played listing × (text ≡ listing ++ open_section with_open played.journal)
 
--- the run of a journal went on by the script: what is shown is the listing of the whole, whose journal is kept
-abbrev pub WentOn : Files → List ℕ → JournalFields → Option (List ℕ) → Bool → Files → Shown → Type 0
-WentOn old script j to with_open new shown =
-    (played : PlayedState) × HasRunBehind (old script) j played × ShowsRun played with_open shown × KeepsJournal old to (journal_text played.journal.shape played.journal.entries) new × IsReadFrom to played.journal
+-- what is shown of a run is this text
+abbrev pub ShowsRun : PlayedState → Bool → Bool → Shown → Type 0
+ShowsRun played with_open quiet (Wanting text) = ⊥
+ShowsRun played with_open quiet (Partial text told) = ⊥
+ShowsRun played with_open quiet Yes = ⊥
+ShowsRun played with_open quiet (No position) = ⊥
+ShowsRun played with_open quiet (Text text) = IsRunText played with_open quiet (string_bytes text)
+
+-- the run of a journal went on by the script: what is shown is of the whole, whose journal is kept
+abbrev pub WentOn : Files → List ℕ → JournalFields → Option (List ℕ) → Bool → Bool → Files → Shown → Type 0
+WentOn old script j to with_open quiet new shown =
+    (played : PlayedState) × HasRunBehind (old script) j played × ShowsRun played with_open quiet shown × KeepsJournal old to (journal_text played.journal.shape played.journal.entries) new × IsReadFrom to played.journal
 
 -- what is shown where a script goes on behind a journal: the first wrong entry of one that is no run, and no file changes, else what it came to
-abbrev pub GoesOn : Files → List ℕ → JournalFields → Option (List ℕ) → Bool → Files → Shown → Type 0
-GoesOn old script j to with_open new (No position) = IsFirstWrong j.shape j.entries position × SameFiles old new
-GoesOn old script j to with_open new shown = IsRun j.shape j.entries × WentOn old script j to with_open new shown
+abbrev pub GoesOn : Files → List ℕ → JournalFields → Option (List ℕ) → Bool → Bool → Files → Shown → Type 0
+GoesOn old script j to with_open quiet new (No position) = IsFirstWrong j.shape j.entries position × SameFiles old new
+GoesOn old script j to with_open quiet new shown = IsRun j.shape j.entries × WentOn old script j to with_open quiet new shown
 
 -- what is shown of a task that is done, by the file that it reads, and the files that it leaves
 abbrev pub Does : Files → Task → Files → Shown → Type 0
-Does old (run script None to with_open) new shown = (played : PlayedState) × HasRun (old script) played × ShowsRun played with_open shown × KeepsJournal old to (journal_text played.journal.shape played.journal.entries) new × IsReadFrom to played.journal
-Does old (run script (Some after) to with_open) new shown = (j : JournalFields) × HasNewJournal (old after) j × GoesOn old script j to with_open new shown
+Does old (run script None to with_open quiet) new shown = (played : PlayedState) × HasRun (old script) played × ShowsRun played with_open quiet shown × KeepsJournal old to (journal_text played.journal.shape played.journal.entries) new × IsReadFrom to played.journal
+Does old (run script (Some after) to with_open quiet) new shown = (j : JournalFields) × HasNewJournal (old after) j × GoesOn old script j to with_open quiet new shown
 Does old (threads script seed may_stop to) new shown = (t : ThreadedFields) × IsTold (old script) may_stop t × ShowsThreads t shown × KeepsJournal old to t.journal new
 Does old (audit path) new shown = (j : JournalFields) × HasJournal (old path) j × IsAudit j shown × SameFiles old new
 Does old (history path) new shown = (j : JournalFields) × HasJournal (old path) j × IsHistory j shown × SameFiles old new
@@ -68,7 +72,7 @@ Does old (open_calls path) new shown = (j : JournalFields) × HasJournal (old pa
 Does old (check path) new shown = HasText (old path) (λ text. IsChecked text shown) × SameFiles old new
 Does old (picture path name from to format) new shown = (j : JournalFields) × HasJournal (old path) j × IsDrawn j name from to format shown × SameFiles old new
 Does old (from_strace path nodes) new shown = HasText (old path) (λ text. IsRecorded nodes shown) × SameFiles old new
-Does old (explore path seeds first failures) new shown = HasText (old path) (λ text. IsExplored failures seeds text shown) × SameFiles old new
+Does old (explore path seeds first failures) new shown = HasText (old path) (λ text. IsExplored failures first seeds text shown) × SameFiles old new
 Does old (schedule path seed failures) new shown = HasText (old path) (λ text. IsScheduled failures text shown) × SameFiles old new
 
 -- it is shown behind what a writer took, with its status, and told so beside
@@ -77,7 +81,7 @@ Shows IsDone old new IsToldBeside status = (shown : Shown) × IsDone shown × (s
 
 -- no file but the one of the journal that is asked for changed
 abbrev pub SameButJournal : Task → Files → Files → Type 0
-SameButJournal (run script after (Some path) with_open) old new = SameOthers old new path
+SameButJournal (run script after (Some path) with_open quiet) old new = SameOthers old new path
 SameButJournal (threads script seed may_stop (Some path)) old new = SameOthers old new path
 SameButJournal task old new = SameFiles old new
 
@@ -88,8 +92,8 @@ IsGoingFault old RanShort script after fault =
 
 -- the fault is in the file that the task reads, or memory is short where `RanShort` says it or for what the file holds
 abbrev pub IsInputFault : Files → Type 0 → Task → Fault → Type 0
-IsInputFault old RanShort (run script None to with_open) fault = IsScriptFault (old script) RanShort script fault
-IsInputFault old RanShort (run script (Some after) to with_open) fault = IsGoingFault old RanShort script after fault
+IsInputFault old RanShort (run script None to with_open quiet) fault = IsScriptFault (old script) RanShort script fault
+IsInputFault old RanShort (run script (Some after) to with_open quiet) fault = IsGoingFault old RanShort script after fault
 IsInputFault old RanShort (threads script seed may_stop to) fault = IsThreadsFault (old script) RanShort script fault
 IsInputFault old RanShort (audit path) fault = IsJournalFault (old path) RanShort path fault
 IsInputFault old RanShort (history path) fault = IsJournalFault (old path) RanShort path fault
@@ -98,13 +102,13 @@ IsInputFault old RanShort (open_calls path) fault = IsJournalFault (old path) Ra
 IsInputFault old RanShort (check path) fault = IsCheckFault (old path) RanShort path fault
 IsInputFault old RanShort (picture path name from to format) fault = IsJournalFault (old path) RanShort path fault
 IsInputFault old RanShort (from_strace path nodes) fault = IsRecordingFault (old path) RanShort path fault
-IsInputFault old RanShort (explore path seeds first failures) fault = IsExploreFault (old path) RanShort path fault
-IsInputFault old RanShort (schedule path seed failures) fault = IsExploreFault (old path) RanShort path fault
+IsInputFault old RanShort (explore path seeds first failures) fault = IsExploreFault failures (old path) RanShort path fault
+IsInputFault old RanShort (schedule path seed failures) fault = IsExploreFault failures (old path) RanShort path fault
 
 -- a run has a journal for the file of this path
 abbrev pub HasJournalFor : Files → Task → List ℕ → Type 0
-HasJournalFor old (run script None (Some path) with_open) named = (named ≡ path) × ((played : PlayedState) × HasRun (old script) played)
-HasJournalFor old (run script (Some after) (Some path) with_open) named = (named ≡ path) × ((j : JournalFields) × HasNewJournal (old after) j × ((played : PlayedState) × HasRunBehind (old script) j played))
+HasJournalFor old (run script None (Some path) with_open quiet) named = (named ≡ path) × ((played : PlayedState) × HasRun (old script) played)
+HasJournalFor old (run script (Some after) (Some path) with_open quiet) named = (named ≡ path) × ((j : JournalFields) × HasNewJournal (old after) j × ((played : PlayedState) × HasRunBehind (old script) j played))
 HasJournalFor old (threads script seed may_stop (Some path)) named = (named ≡ path) × IsTaken (old script)
 HasJournalFor old task named = ⊥
 

@@ -2,7 +2,7 @@
 use Rattle.std.specs.Prelude.{◌≡◌, ℕ, ◌⊎◌, Bool, true, false, List, string_bytes, Option}
 use Rattle.explorer.specs.declared.explored.Explored.{Explored}
 use Rattle.explorer.specs.Explores.{Explores}
-use Rattle.explorer.specs.Schedules.{IsScheduleOf, numbered}
+use Rattle.explorer.specs.Schedules.{HasFullSchedule, IsScheduleOf, numbered}
 use Rattle.explorer.specs.Texts.{script_text}
 use Rattle.lockscript.specs.declared.script_line.Command.{Command}
 use Rattle.lockscript.specs.Scripts.{ScriptFields}
@@ -28,29 +28,29 @@ IsScheduled failures text (Partial shown told) = ⊥
 IsScheduled failures text Yes = ⊥
 IsScheduled failures text (No position) = ⊥
 
--- what is shown of the outcomes of the script that a text writes, under so many schedules, where none breaks what is expected or one does
-abbrev pub ShowsOutcomes : Bool → ℕ → List ℕ → Bool → List ℕ → Type 0
-ShowsOutcomes failures seeds text breaks shown =
-    (s : ScriptFields) × IsForThreads text s × ((e : Explored) × Explores failures s text seeds e × (e.breaks ≡ breaks) × (shown ≡ string_bytes e.text))
+-- what is shown of the outcomes of the script that a text writes, under schedules of so many seeds from the first on, where none breaks what is expected or one does
+abbrev pub ShowsOutcomes : Bool → ℕ → ℕ → List ℕ → Bool → List ℕ → Type 0
+ShowsOutcomes failures first seeds text breaks shown =
+    (s : ScriptFields) × IsForThreads text s × ((e : Explored) × Explores failures s text first seeds e × (e.breaks ≡ breaks) × (shown ≡ string_bytes e.text))
 
-abbrev pub IsExplored : Bool → ℕ → List ℕ → Shown → Type 0
-IsExplored failures seeds text (Text shown) = ShowsOutcomes failures seeds text false (string_bytes shown)
-IsExplored failures seeds text (Wanting shown) = ShowsOutcomes failures seeds text true (string_bytes shown)
-IsExplored failures seeds text (Partial shown told) = ⊥
-IsExplored failures seeds text Yes = ⊥
-IsExplored failures seeds text (No position) = ⊥
+abbrev pub IsExplored : Bool → ℕ → ℕ → List ℕ → Shown → Type 0
+IsExplored failures first seeds text (Text shown) = ShowsOutcomes failures first seeds text false (string_bytes shown)
+IsExplored failures first seeds text (Wanting shown) = ShowsOutcomes failures first seeds text true (string_bytes shown)
+IsExplored failures first seeds text (Partial shown told) = ⊥
+IsExplored failures first seeds text Yes = ⊥
+IsExplored failures first seeds text (No position) = ⊥
 
--- why no schedule is shown of the script that a text writes: a bad line, or one that threads don't take; a full journal, or memory is short, of one that threads take
-abbrev pub IsExploreTextFault : List ℕ → Fault → Type 0
-IsExploreTextFault text (BadLine line) = IsBadOnThreads text line
-IsExploreTextFault text NoMemory = (s : ScriptFields) × IsForThreads text s
-IsExploreTextFault text JournalFull = (s : ScriptFields) × IsForThreads text s
-IsExploreTextFault text fault = ⊥
+-- why no schedule is shown of the script that a text writes: a bad line, or one that threads don't take; memory is short, of one that threads take; or a schedule of such a one fills the journal
+abbrev pub IsExploreTextFault : Bool → List ℕ → Fault → Type 0
+IsExploreTextFault failures text (BadLine line) = IsBadOnThreads text line
+IsExploreTextFault failures text NoMemory = (s : ScriptFields) × IsForThreads text s
+IsExploreTextFault failures text JournalFull = (s : ScriptFields) × IsForThreads text s × HasFullSchedule failures s
+IsExploreTextFault failures text fault = ⊥
 
 -- the same of a file: no text, or what is at fault in it; memory is short where `RanShort` says it, or for a script that threads take
-abbrev pub IsExploreFault : (Option (List ℕ) → Type 0) → Type 0 → List ℕ → Fault → Type 0
-IsExploreFault Holds RanShort path (CannotRead named) = (named.now ≡ path) × HasNoText Holds
-IsExploreFault Holds RanShort path (BadLine line) = HasText Holds (λ text. IsBadOnThreads text line)
-IsExploreFault Holds RanShort path NoMemory = RanShort ⊎ IsTaken Holds
-IsExploreFault Holds RanShort path JournalFull = IsTaken Holds
-IsExploreFault Holds RanShort path fault = ⊥
+abbrev pub IsExploreFault : Bool → (Option (List ℕ) → Type 0) → Type 0 → List ℕ → Fault → Type 0
+IsExploreFault failures Holds RanShort path (CannotRead named) = (named.now ≡ path) × HasNoText Holds
+IsExploreFault failures Holds RanShort path (BadLine line) = HasText Holds (λ text. IsBadOnThreads text line)
+IsExploreFault failures Holds RanShort path NoMemory = RanShort ⊎ IsTaken Holds
+IsExploreFault failures Holds RanShort path JournalFull = (s : ScriptFields) × HasText Holds (λ text. IsForThreads text s) × HasFullSchedule failures s
+IsExploreFault failures Holds RanShort path fault = ⊥

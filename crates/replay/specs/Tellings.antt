@@ -14,7 +14,7 @@ use Rattle.cluster_core.specs.Runs.{IsRun}
 use Rattle.diagnosis.specs.JournalReports.{BeginsAsJournal, IsJournalText}
 use Rattle.diagnosis.specs.Verdicts.{verdict_text}
 use Rattle.lockscript.specs.Scripts.{ScriptFields, IsScript}
-use Rattle.lockscript.specs.Texts.{call_text}
+use Rattle.message_text.specs.Names.{call_text}
 use Rattle.pictures.specs.declared.window.Window.{Window}
 use Rattle.pictures.specs.Around.{around}
 use Rattle.pictures.specs.Pictures.{picture_text}

@@ -9,7 +9,7 @@ use Rattle.cluster_core.specs.World.{WorldState, first_world}
 use Rattle.journal_text.specs.Journals.{journal_text}
 use Rattle.journal_text.specs.Readings.{WritesJournal}
 use Rattle.lockscript.specs.Scripts.{ScriptFields}
-use Rattle.lockscript.specs.Texts.{call_text}
+use Rattle.message_text.specs.Names.{call_text}
 use Rattle.lockscript.specs.ThreadLines.{IsForThreads}
 use Rattle.replay.specs.declared.shown.Shown.{Shown}
 use Rattle.replay.specs.declared.shown.Shown.TheVariants.{Text, Wanting, Partial, Yes, No}

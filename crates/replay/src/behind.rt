@@ -15,9 +15,10 @@ ghost use Rattle.replay.specs.Stores.{SameFiles};
 use crate::audit::{Audited, checked_new};
 use crate::fault::Fault;
 use crate::input::bytes_of;
-use crate::run::{listing_and_journal, listing_of};
+use crate::run::{text_and_journal, text_of};
 use crate::shown::Shown;
 use crate::store::Store;
+use crate::wanted::Wanted;
 use cluster_core::journal::Journal;
 use lockscript::script::Script;
 use messages::shape::Shape;
@@ -40,14 +41,14 @@ pub(crate) fn run_behind<'a, S: Store>(
     store: &mut S,
     path: &'a str,
     after: &'a str,
-    with_open: bool,
+    wanted: Wanted,
 ) -> Result<Shown, Fault<'a>>
-    ensures done { IfOk result (Does (S.holds store.old) (run path.now (Some after.now) None with_open) (S.holds store.new)) }
+    ensures done { IfOk result (Does (S.holds store.old) (run path.now (Some after.now) None wanted.open wanted.quiet) (S.holds store.new)) }
     ensures fault { IfErr result (λ fault. (fault ≢ CannotWriteOutput)
-        × IsFault (S.holds store.old) (S.ran_short store.new) (S.refuses store.new) (run path.now (Some after.now) None with_open) (S.holds store.new) fault) }
+        × IsFault (S.holds store.old) (S.ran_short store.new) (S.refuses store.new) (run path.now (Some after.now) None wanted.open wanted.quiet) (S.holds store.new) fault) }
 {
     match played_behind(alloc, store, path, after)? {
-        Behind::Run(played) => Ok(Shown::Text(listing_of(alloc, played, with_open)?)),
+        Behind::Run(played) => Ok(Shown::Text(text_of(alloc, played, wanted)?)),
         Behind::Wrong(position) => Ok(Shown::No(position)),
     }
 }
@@ -59,19 +60,19 @@ pub(crate) fn run_behind_with_journal<'a, S: Store>(
     path: &'a str,
     after: &'a str,
     file: &'a str,
-    with_open: bool,
+    wanted: Wanted,
 ) -> Result<Shown, Fault<'a>>
-    ensures done { IfOk result (Does (S.holds store.old) (run path.now (Some after.now) (Some file.now) with_open) (S.holds store.new)) }
+    ensures done { IfOk result (Does (S.holds store.old) (run path.now (Some after.now) (Some file.now) wanted.open wanted.quiet) (S.holds store.new)) }
     ensures fault { IfErr result (λ fault. (fault ≢ CannotWriteOutput)
-        × IsFault (S.holds store.old) (S.ran_short store.new) (S.refuses store.new) (run path.now (Some after.now) (Some file.now) with_open) (S.holds store.new) fault) }
+        × IsFault (S.holds store.old) (S.ran_short store.new) (S.refuses store.new) (run path.now (Some after.now) (Some file.now) wanted.open wanted.quiet) (S.holds store.new) fault) }
 {
     let played = match played_behind(alloc, store, path, after)? {
         Behind::Run(played) => played,
         Behind::Wrong(position) => return Ok(Shown::No(position)),
     };
-    let (listing, journal) = listing_and_journal(alloc, played, with_open)?;
+    let (text, journal) = text_and_journal(alloc, played, wanted)?;
     match store.write(file, journal.as_bytes()) {
-        Ok(()) => Ok(Shown::Text(listing)),
+        Ok(()) => Ok(Shown::Text(text)),
         Err(_) => Err(Fault::CannotWrite(file)),
     }
 }

@@ -42,7 +42,7 @@ fn scheduled_in<'a>(
     failures: bool,
 ) -> Result<Shown, Fault<'a>>
     ensures done { IfOk result (IsScheduled failures text.now) }
-    ensures fault { IfErr result (IsExploreTextFault text.now) }
+    ensures fault { IfErr result (IsExploreTextFault failures text.now) }
 {
     let script = Script::parse_for_threads(alloc, text)?;
     let made = schedule(alloc, &script, seed, failures)?;
@@ -78,8 +78,8 @@ fn explored_in<'a>(
     first: u32,
     failures: bool,
 ) -> Result<Shown, Fault<'a>>
-    ensures done { IfOk result (IsExplored failures seeds text.now) }
-    ensures fault { IfErr result (IsExploreTextFault text.now) }
+    ensures done { IfOk result (IsExplored failures first seeds text.now) }
+    ensures fault { IfErr result (IsExploreTextFault failures text.now) }
 {
     let script = Script::parse_for_threads(alloc, text)?;
     let explored = explore(alloc, text, &script, first, seeds, failures)?;

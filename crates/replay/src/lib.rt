@@ -23,4 +23,5 @@ pub mod shown;
 pub mod store;
 pub mod threaded;
 mod threads;
+mod wanted;
 pub mod words;

@@ -23,6 +23,7 @@ use crate::run::{run_script, run_with_journal};
 use crate::shown::Shown;
 use crate::store::Store;
 use crate::threads::play_on_threads;
+use crate::wanted::Wanted;
 use command_line::line::Line;
 use std::alloc::Global;
 use std::sync::Wait;
@@ -101,22 +102,22 @@ fn done<'a, R: Threads + Wait + Clock + Sync, S: Store, O: Output>(
 }
 
 // What is shown of a script that is run, once its journal is written, if a file for it is named, behind the
-// journal of another file, if one is named; with its open calls, if that is asked for.
+// journal of another file, if one is named.
 fn run_shown<'a, S: Store>(
     alloc: Global,
     store: &mut S,
     script: &'a str,
     after: Option<&'a str>,
     journal: Option<&'a str>,
-    with_open: bool,
+    wanted: Wanted,
 ) -> Result<Shown, Fault<'a>>
-    ensures done { IfOk result (Does (S.holds store.old) (run script.now (option_map (λ file. file.now) after.entry) (option_map (λ file. file.now) journal.entry) with_open) (S.holds store.new)) }
+    ensures done { IfOk result (Does (S.holds store.old) (run script.now (option_map (λ file. file.now) after.entry) (option_map (λ file. file.now) journal.entry) wanted.open wanted.quiet) (S.holds store.new)) }
     ensures fault { IfErr result (λ fault. (fault ≢ CannotWriteOutput)
-        × IsFault (S.holds store.old) (S.ran_short store.new) (S.refuses store.new) (run script.now (option_map (λ file. file.now) after.entry) (option_map (λ file. file.now) journal.entry) with_open) (S.holds store.new) fault) }
+        × IsFault (S.holds store.old) (S.ran_short store.new) (S.refuses store.new) (run script.now (option_map (λ file. file.now) after.entry) (option_map (λ file. file.now) journal.entry) wanted.open wanted.quiet) (S.holds store.new) fault) }
 {
     match after {
-        None => run_alone_shown(alloc, store, script, journal, with_open),
-        Some(after) => run_behind_shown(alloc, store, script, after, journal, with_open),
+        None => run_alone_shown(alloc, store, script, journal, wanted),
+        Some(after) => run_behind_shown(alloc, store, script, after, journal, wanted),
     }
 }
 
@@ -126,15 +127,15 @@ fn run_alone_shown<'a, S: Store>(
     store: &mut S,
     script: &'a str,
     journal: Option<&'a str>,
-    with_open: bool,
+    wanted: Wanted,
 ) -> Result<Shown, Fault<'a>>
-    ensures done { IfOk result (Does (S.holds store.old) (run script.now None (option_map (λ file. file.now) journal.entry) with_open) (S.holds store.new)) }
+    ensures done { IfOk result (Does (S.holds store.old) (run script.now None (option_map (λ file. file.now) journal.entry) wanted.open wanted.quiet) (S.holds store.new)) }
     ensures fault { IfErr result (λ fault. (fault ≢ CannotWriteOutput)
-        × IsFault (S.holds store.old) (S.ran_short store.new) (S.refuses store.new) (run script.now None (option_map (λ file. file.now) journal.entry) with_open) (S.holds store.new) fault) }
+        × IsFault (S.holds store.old) (S.ran_short store.new) (S.refuses store.new) (run script.now None (option_map (λ file. file.now) journal.entry) wanted.open wanted.quiet) (S.holds store.new) fault) }
 {
     match journal {
-        None => Ok(Shown::Text(run_script(alloc, store, script, with_open)?)),
-        Some(file) => Ok(Shown::Text(run_with_journal(alloc, store, script, file, with_open)?)),
+        None => Ok(Shown::Text(run_script(alloc, store, script, wanted)?)),
+        Some(file) => Ok(Shown::Text(run_with_journal(alloc, store, script, file, wanted)?)),
     }
 }
 
@@ -145,15 +146,15 @@ fn run_behind_shown<'a, S: Store>(
     script: &'a str,
     after: &'a str,
     journal: Option<&'a str>,
-    with_open: bool,
+    wanted: Wanted,
 ) -> Result<Shown, Fault<'a>>
-    ensures done { IfOk result (Does (S.holds store.old) (run script.now (Some after.now) (option_map (λ file. file.now) journal.entry) with_open) (S.holds store.new)) }
+    ensures done { IfOk result (Does (S.holds store.old) (run script.now (Some after.now) (option_map (λ file. file.now) journal.entry) wanted.open wanted.quiet) (S.holds store.new)) }
     ensures fault { IfErr result (λ fault. (fault ≢ CannotWriteOutput)
-        × IsFault (S.holds store.old) (S.ran_short store.new) (S.refuses store.new) (run script.now (Some after.now) (option_map (λ file. file.now) journal.entry) with_open) (S.holds store.new) fault) }
+        × IsFault (S.holds store.old) (S.ran_short store.new) (S.refuses store.new) (run script.now (Some after.now) (option_map (λ file. file.now) journal.entry) wanted.open wanted.quiet) (S.holds store.new) fault) }
 {
     match journal {
-        None => run_behind(alloc, store, script, after, with_open),
-        Some(file) => run_behind_with_journal(alloc, store, script, after, file, with_open),
+        None => run_behind(alloc, store, script, after, wanted),
+        Some(file) => run_behind_with_journal(alloc, store, script, after, file, wanted),
     }
 }
 
@@ -174,7 +175,8 @@ fn shown_of<'a, R: Threads + Wait + Clock + Sync, S: Store>(
             after,
             journal,
             open,
-        } => run_shown(alloc, store, script, after, journal, open),
+            quiet,
+        } => run_shown(alloc, store, script, after, journal, Wanted { open, quiet }),
         Line::Threads {
             script,
             seed,

@@ -9,6 +9,7 @@ use crate::fault::Fault;
 use crate::input::bytes_of;
 use crate::shown::Shown;
 use crate::store::Store;
+use recordings::error::RecordingError;
 use recordings::recording::script_of;
 use std::alloc::Global;
 
@@ -35,8 +36,11 @@ fn recorded_in<'a>(alloc: Global, text: &str, nodes: u8) -> Result<Shown, Fault<
     ensures done { IfOk result (IsRecorded nodes) }
     ensures fault { IfErr result (λ fault. fault ≡ NoMemory) }
 {
-    let Ok(made) = script_of(alloc, text, nodes) else {
-        return Err(Fault::NoMemory);
+    let made = match script_of(alloc, text, nodes) {
+        Ok(made) => made,
+        Err(RecordingError::NoMemory | RecordingError::Nodes | RecordingError::TooLong) => {
+            return Err(Fault::NoMemory);
+        }
     };
     if made.notes.is_empty() {
         Ok(Shown::Text(made.script))

@@ -1,5 +1,5 @@
 //! Running the script of a file.
-ghost use Rattle.std.specs.Prelude.{◌≡◌, ◌≢◌, List, None, Some, string_bytes, IfErr, IfOk};
+ghost use Rattle.std.specs.Prelude.{◌≡◌, ◌≢◌, List, None, Some, true, false, string_bytes, IfErr, IfOk};
 ghost use Rattle.cluster_core.specs.declared.held_lock.HeldLock.{HeldLock};
 ghost use Rattle.cluster_core.specs.declared.token_run.TokenRun.{TokenRun};
 ghost use Rattle.command_line.specs.Tasks.{run};
@@ -20,6 +20,7 @@ use crate::fault::Fault;
 use crate::input::bytes_of;
 use crate::listing::listing_begun;
 use crate::store::Store;
+use crate::wanted::Wanted;
 use cluster_core::journal::Journal;
 use intervals::span_map::NoMemory;
 use journal_text::journal::into_text;
@@ -31,20 +32,19 @@ use player::play::play;
 use player::played::Played;
 use std::alloc::Global;
 
-// The listing of what the script of a file comes to, with the calls without a reply behind it, if that is asked
-// for.
+// What is shown of what the script of a file comes to.
 pub(crate) fn run_script<'a, S: Store>(
     alloc: Global,
     store: &mut S,
     path: &'a str,
-    with_open: bool,
+    wanted: Wanted,
 ) -> Result<String, Fault<'a>>
-    ensures done { IfOk result (λ text. Does (S.holds store.old) (run path.now None None with_open) (S.holds store.new) (Text text)) }
+    ensures done { IfOk result (λ text. Does (S.holds store.old) (run path.now None None wanted.open wanted.quiet) (S.holds store.new) (Text text)) }
     ensures fault { IfErr result (λ fault. (fault ≢ CannotWriteOutput)
-        × IsFault (S.holds store.old) (S.ran_short store.new) (S.refuses store.new) (run path.now None None with_open) (S.holds store.new) fault) }
+        × IsFault (S.holds store.old) (S.ran_short store.new) (S.refuses store.new) (run path.now None None wanted.open wanted.quiet) (S.holds store.new) fault) }
 {
     let played = played_of(alloc, store, path)?;
-    Ok(listing_of(alloc, played, with_open)?)
+    Ok(text_of(alloc, played, wanted)?)
 }
 
 // The same, with the journal of the run written to a file. All that needs memory is done before.
@@ -53,16 +53,16 @@ pub(crate) fn run_with_journal<'a, S: Store>(
     store: &mut S,
     path: &'a str,
     file: &'a str,
-    with_open: bool,
+    wanted: Wanted,
 ) -> Result<String, Fault<'a>>
-    ensures done { IfOk result (λ text. Does (S.holds store.old) (run path.now None (Some file.now) with_open) (S.holds store.new) (Text text)) }
+    ensures done { IfOk result (λ text. Does (S.holds store.old) (run path.now None (Some file.now) wanted.open wanted.quiet) (S.holds store.new) (Text text)) }
     ensures fault { IfErr result (λ fault. (fault ≢ CannotWriteOutput)
-        × IsFault (S.holds store.old) (S.ran_short store.new) (S.refuses store.new) (run path.now None (Some file.now) with_open) (S.holds store.new) fault) }
+        × IsFault (S.holds store.old) (S.ran_short store.new) (S.refuses store.new) (run path.now None (Some file.now) wanted.open wanted.quiet) (S.holds store.new) fault) }
 {
     let played = played_of(alloc, store, path)?;
-    let (listing, journal) = listing_and_journal(alloc, played, with_open)?;
+    let (text, journal) = text_and_journal(alloc, played, wanted)?;
     match store.write(file, journal.as_bytes()) {
-        Ok(()) => Ok(listing),
+        Ok(()) => Ok(text),
         Err(_) => Err(Fault::CannotWrite(file)),
     }
 }
@@ -90,10 +90,38 @@ fn script_of<'a, S: Store>(alloc: Global, store: &mut S, path: &'a str) -> Resul
     }
 }
 
-// The listing of a run. What is no longer needed goes as soon as it can: the journal before the
-// history is written.
-pub(crate) fn listing_of(alloc: Global, played: Played, with_open: bool) -> Result<String, NoMemory>
-    ensures { IfOk result (λ text. IsRunText (state_of played) with_open (string_bytes text)) }
+// What is shown of a run.
+pub(crate) fn text_of(alloc: Global, played: Played, wanted: Wanted) -> Result<String, NoMemory>
+    ensures { IfOk result (λ text. IsRunText (state_of played) wanted.open wanted.quiet (string_bytes text)) }
+{
+    if wanted.quiet {
+        open_of(alloc, played, wanted.open)
+    } else {
+        listing_of(alloc, played, wanted.open)
+    }
+}
+
+// What is shown of a run, and its journal as text.
+pub(crate) fn text_and_journal(
+    alloc: Global,
+    played: Played,
+    wanted: Wanted,
+) -> Result<(String, String), NoMemory>
+    ensures shown { IfOk result (λ texts. IsRunText (state_of played) wanted.open wanted.quiet (string_bytes texts.0)) }
+    ensures journal { IfOk result (λ texts. string_bytes texts.1 ≡ journal_text played.journal.shape played.journal.entries) }
+    ensures read { IfOk result (λ texts. WritesJournal (journal_text played.journal.shape played.journal.entries) played.journal.shape played.journal.entries) }
+{
+    if wanted.quiet {
+        open_and_journal(alloc, played, wanted.open)
+    } else {
+        listing_and_journal(alloc, played, wanted.open)
+    }
+}
+
+// The listing of a run, with the calls without a reply behind it, if that is asked for. What is no longer needed
+// goes as soon as it can: the journal before the history is written.
+fn listing_of(alloc: Global, played: Played, with_open: bool) -> Result<String, NoMemory>
+    ensures { IfOk result (λ text. IsRunText (state_of played) with_open false (string_bytes text)) }
 {
     let (mut text, journal, history) = listing_of_played(alloc, played)?;
     let open = open_section(alloc, &journal, with_open)?;
@@ -103,13 +131,13 @@ pub(crate) fn listing_of(alloc: Global, played: Played, with_open: bool) -> Resu
     Ok(text)
 }
 
-// The listing of a run, and its journal as text.
-pub(crate) fn listing_and_journal(
+// The same, and the journal of the run as text.
+fn listing_and_journal(
     alloc: Global,
     played: Played,
     with_open: bool,
 ) -> Result<(String, String), NoMemory>
-    ensures listing { IfOk result (λ texts. IsRunText (state_of played) with_open (string_bytes texts.0)) }
+    ensures listing { IfOk result (λ texts. IsRunText (state_of played) with_open false (string_bytes texts.0)) }
     ensures journal { IfOk result (λ texts. string_bytes texts.1 ≡ journal_text played.journal.shape played.journal.entries) }
     ensures read { IfOk result (λ texts. WritesJournal (journal_text played.journal.shape played.journal.entries) played.journal.shape played.journal.entries) }
 {
@@ -120,6 +148,39 @@ pub(crate) fn listing_and_journal(
     push_history(&mut text, history.items())?;
     text.push_str(&open)?;
     Ok((text, printed))
+}
+
+// What is shown of a run without its listing: the calls without a reply, if that is asked for.
+fn open_of(alloc: Global, played: Played, with_open: bool) -> Result<String, NoMemory>
+    ensures { IfOk result (λ text. IsRunText (state_of played) with_open true (string_bytes text)) }
+{
+    let journal = journal_of(played);
+    open_section(alloc, &journal, with_open)
+}
+
+// The same, and the journal of the run as text.
+fn open_and_journal(
+    alloc: Global,
+    played: Played,
+    with_open: bool,
+) -> Result<(String, String), NoMemory>
+    ensures open { IfOk result (λ texts. IsRunText (state_of played) with_open true (string_bytes texts.0)) }
+    ensures journal { IfOk result (λ texts. string_bytes texts.1 ≡ journal_text played.journal.shape played.journal.entries) }
+    ensures read { IfOk result (λ texts. WritesJournal (journal_text played.journal.shape played.journal.entries) played.journal.shape played.journal.entries) }
+{
+    let journal = journal_of(played);
+    let text = open_section(alloc, &journal, with_open)?;
+    each_journal_is_read(&journal);
+    let printed = into_text(alloc, journal)?;
+    Ok((text, printed))
+}
+
+// The journal of a run. The world goes.
+fn journal_of(played: Played) -> Journal
+    ensures { result ≡ played.journal }
+{
+    let (journal, _world, _refused) = played.into_parts();
+    journal
 }
 
 // The calls without a reply, in a section of their own, if that is asked for.

@@ -9,7 +9,7 @@ use actors::thread_run::ThreadRun;
 use intervals::span_map::NoMemory;
 use journal_text::journal::print;
 use journal_text::laws::each_journal_is_read;
-use lockscript::names::push_call;
+use message_text::names::push_call;
 use model::call::CallId;
 use std::alloc::{AllocError, Global};
 use std::fmt::Write;

@@ -12,9 +12,11 @@ returns c =
     let argument-2 = c.after_argument.ensures in
     let argument-3 = c.file_argument.ensures in
     let argument-4 = c.open_argument.ensures in
+    let argument-5 = c.quiet_argument.ensures in
     let begins : app_of c.after_long_help.result ≡ new_app (codes "run") =
     ap app_of_fields c.after_long_help.ensures ∙ (ap app_of_fields c.about.ensures ∙ c.new.ensures.app) in
     let added-1 = c.in_ok-arg.ensures.shape (no_global c.script_argument.result (path_rule (codes "SCRIPT")) argument-1 refl) ∙ ap₂ with_rule begins argument-1 in
     let added-2 = c.in_ok-arg-2.ensures.shape (no_global c.after_argument.result after_rule argument-2 refl) ∙ ap₂ with_rule added-1 argument-2 in
     let added-3 = c.in_ok-arg-3.ensures.shape (no_global c.file_argument.result file_rule argument-3 refl) ∙ ap₂ with_rule added-2 argument-3 in
-    IfOk-weaker c.arg-4.result _ _ (λ r adds. adds.shape (no_global c.open_argument.result (flag_rule (codes "open")) argument-4 refl) ∙ ap₂ with_rule added-3 argument-4) c.arg-4.ensures
+    let added-4 = c.in_ok-arg-4.ensures.shape (no_global c.open_argument.result (flag_rule (codes "open")) argument-4 refl) ∙ ap₂ with_rule added-3 argument-4 in
+    IfOk-weaker c.arg-5.result _ _ (λ r adds. adds.shape (no_global c.quiet_argument.result (flag_rule (codes "quiet")) argument-5 refl) ∙ ap₂ with_rule added-4 argument-5) c.arg-5.ensures

@@ -7,9 +7,9 @@ returns-in-Ok-clause-done g c =
     let holds = g.S.Store.holds in
     let behind = rw c.in-Run.is at c.in_ok-played.ensures.behind in
     let others = others-after (holds c.args.store.now) (holds c.played_behind.new.store) (holds c.write.new.self) c.args.file.now c.played_behind.ensures.files c.write.ensures.others in
-    let text = c.as_bytes.ensures.value ∙ c.in_ok-listing.ensures.journal in
-    let kept = subst (λ (bytes : List ℕ). holds c.write.new.self c.args.file.now (Some bytes)) text c.in-Ok.ensures.bytes in
-    (behind.0, behind.1, (behind.2.0, (_, behind.2.1, c.in_ok-listing.ensures.listing, (kept, others), c.in_ok-listing.ensures.read)))
+    let written = c.as_bytes.ensures.value ∙ c.in_ok-text.ensures.journal in
+    let kept = subst (λ (bytes : List ℕ). holds c.write.new.self c.args.file.now (Some bytes)) written c.in-Ok.ensures.bytes in
+    (behind.0, behind.1, (behind.2.0, (_, behind.2.1, c.in_ok-text.ensures.shown, (kept, others), c.in_ok-text.ensures.read)))
 
 pub returns-clause-fault : goal.returns-clause-fault
 returns-clause-fault g c =

@@ -12,5 +12,5 @@ returns-in-Ok-clause-fault g c =
     let text = c.in-Ok.text.now in
     let held = subst (λ (bytes : List ℕ). old c.args.path.now (Some bytes)) (sym (c.in-Ok.ensures.cases.0 ∙ c.as_slice.ensures.value)) c.in_ok-bytes.ensures.bytes in
     let utf8 = subst IsUtf8 (sym c.in-Ok.ensures.cases.0) c.in-Ok.ensures.cases.1 in
-    IfErr-weaker c.scheduled_in.result (IsExploreTextFault text) _
-    (λ fault is. explore-fault old (holds c.bytes_of.new.store) (g.S.Store.ran_short c.bytes_of.new.store) _ (schedule c.args.path.now c.args.seed c.args.failures) c.args.path.now text fault held utf8 c.bytes_of.ensures.files (λ f input. input) is) c.scheduled_in.ensures.fault
+    IfErr-weaker c.scheduled_in.result (IsExploreTextFault c.args.failures text) _
+    (λ fault is. explore-fault c.args.failures old (holds c.bytes_of.new.store) (g.S.Store.ran_short c.bytes_of.new.store) _ (schedule c.args.path.now c.args.seed c.args.failures) c.args.path.now text fault held utf8 c.bytes_of.ensures.files (λ f input. input) is) c.scheduled_in.ensures.fault
