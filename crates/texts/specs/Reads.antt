@@ -8,6 +8,14 @@ abbrev pub Reads : {A : Type 0} → (A → List ℕ) → (A → Type 0) → List
 Reads text Fits bytes None = (x : _) → Fits x → bytes ≢ text x
 Reads text Fits bytes (Some x) = Fits x × (bytes ≡ text x)
 
+-- no `+` stands in front, and no zero but alone
+abbrev pub IsPlain : List ℕ → Type 0
+IsPlain bytes = (slice_index bytes 0 ≢ 43) × (slice_index bytes 0 ≡ 48 → length bytes ≡ 1)
+
+-- the same of a number that may have a `-` in front: then no zero stands behind it
+abbrev pub IsPlainSigned : List ℕ → Type 0
+IsPlainSigned bytes = IsPlain bytes × (slice_index bytes 0 ≡ 45 → slice_index bytes 1 ≢ 48)
+
 -- no byte is this one
 abbrev pub Lacks : ℕ → List ℕ → Type 0
 Lacks b bytes = (i : ℕ) → i < length bytes → slice_index bytes i ≢ b

@@ -1,28 +1,32 @@
 //! Numbers in texts.
-ghost use Rattle.std.specs.Prelude.{◌≤◌, ◌<◌, ◌^◌, decimal, FitsSigned};
+ghost use Rattle.std.specs.Prelude.{◌≤◌, ◌<◌, ◌^◌, decimal, FitsSigned, MatchBool};
 ghost use Rattle.std.specs.Fmt.{signed_decimal};
 ghost use Rattle.std.specs.Int.{w64};
 ghost use Rattle.texts.specs.OneField.{bounded_is_one_field, decimal_is_one_field, signed_is_one_field};
-ghost use Rattle.texts.specs.Reads.{Reads};
+ghost use Rattle.texts.specs.Reads.{IsPlain, IsPlainSigned, Reads};
 ghost use Rattle.std.proofs.Common.{arith};
 
 use crate::text::{Text, Word};
-use itoa::Buffer;
 use std::alloc::AllocError;
 use std::fmt::Write;
+
+// Whether the word has no `+` in front, and no zero in front of other digits.
+fn is_plain(word: &str) -> bool
+    ensures { MatchBool result (IsPlain word.now) (IsPlain word.now → ⊥) }
+{
+    match word.as_bytes().first().copied() {
+        Some(b'+') => false,
+        Some(b'0') => word.len() == 1,
+        _ => true,
+    }
+}
 
 // The number that the word writes: decimal, without leading zeros and without a leading `+`.
 fn natural_of(word: &str) -> Option<u64>
     ensures { Reads decimal (λ n. n < 2 ^ 64) word.now result }
 {
     match word.parse::<u64>() {
-        Ok(number) => {
-            if Buffer::new().format(number) == word {
-                Some(number)
-            } else {
-                None
-            }
-        }
+        Ok(number) => { if is_plain(word) { Some(number) } else { None } }
         Err(_) => None,
     }
 }
@@ -46,6 +50,16 @@ pub fn number_of(word: &str, least: u64, most: u64) -> Option<u64>
     }
 }
 
+// Whether the word is plain, or a `-` with a word behind it that does not begin with a zero.
+fn is_plain_signed(word: &str) -> bool
+    ensures { MatchBool result (IsPlainSigned word.now) (IsPlainSigned word.now → ⊥) }
+{
+    match word.as_bytes().get(1).copied() {
+        Some(b'0') => word.as_bytes().first().copied() != Some(b'-') && is_plain(word),
+        _ => is_plain(word),
+    }
+}
+
 /// The offset that the word writes: decimal, without leading zeros, without a leading `+`, with a
 /// leading `-` where it is negative.
 pub fn offset_of(word: &str) -> Option<i64>
@@ -53,7 +67,7 @@ pub fn offset_of(word: &str) -> Option<i64>
 {
     match word.parse::<i64>() {
         Ok(offset) => {
-            if Buffer::new().format(offset) == word {
+            if is_plain_signed(word) {
                 Some(offset)
             } else {
                 None

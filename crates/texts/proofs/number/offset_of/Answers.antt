@@ -1,18 +1,23 @@
-use Rattle.std.proofs.Common.{◌≡◌, w64, rules, ◌∙◌, sym, ap}
+use Rattle.std.proofs.Common.{w64, rules, ◌∙◌, sym, ap, subst, FitsSigned}
+use Rattle.std.proofs.lemmas.Int.{to_z-of_z}
 use Rattle.std.specs.Fmt.{signed_decimal}
 use Rattle.std.proofs.lemmas.Fmt.{parse-signed_decimal}
-use Rattle.std.proofs.lemmas.Int.{to_z-of_z}
-use Rattle.texts.proofs.Outcomes.{ok-same, err-not_ok}
+use Rattle.texts.proofs.Outcomes.{err-not_ok}
+use Rattle.texts.proofs.Plain.{plain_signed_numeral, signed_is_plain}
+use Rattle.texts.specs.Reads.{IsPlainSigned}
 use Rattle.texts.proofs.number.offset_of.Goals as goal
 
 pub returns-in-Err : goal.returns-in-Err
 returns-in-Err c = λ z fits e.
     err-not_ok c.parse.result _ z c.in-Err.is (parse-signed_decimal w64 z c.args.word.now c.parse.result fits (search rules) e c.parse.ensures.value.0)
 
-pub returns-else-eq : goal.returns-else-eq
-returns-else-eq c = λ z fits e.
-    let read = parse-signed_decimal w64 z c.args.word.now c.parse.result fits (search rules) e c.parse.ensures.value.0 in
-    let same : c.in-Ok.offset ≡ z = ok-same c.parse.result c.in-Ok.offset z c.in-Ok.is read in
-    let text : c.format.result.now ≡ c.args.word.now = c.format.ensures.text ∙ ap signed_decimal (to_z-of_z w64 c.in-Ok.offset (search rules) ∙ same) ∙ sym e in
-    let told = c.if-eq.ensures in
-    absurd (search rules)
+pub returns-then-is_plain_signed : goal.returns-then-is_plain_signed
+returns-then-is_plain_signed c =
+    let read = c.in-Ok.ensures.value.0 in
+    let value = to_z-of_z w64 c.in-Ok.offset (subst (FitsSigned w64) (sym read.1) read.0.1) ∙ read.1 in (
+      subst (FitsSigned w64) (sym value) read.0.1,
+      sym (ap signed_decimal value ∙ plain_signed_numeral c.args.word.now c.if-is_plain_signed.ensures read.0.0 read.0.1),
+    )
+
+pub returns-else-is_plain_signed : goal.returns-else-is_plain_signed
+returns-else-is_plain_signed c = λ z fits e. c.if-is_plain_signed.ensures (subst IsPlainSigned (sym e) (signed_is_plain z fits))
