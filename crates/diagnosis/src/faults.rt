@@ -27,6 +27,9 @@ impl<'a> Faults<'a> {
     /// What is wrong in a text that is to be a script. A line is bad where `Script::parse` would refuse it there,
     /// were the lines before it good; of a text with a bad line the first is the one that it names.
     /// No clause says what the columns and the reasons are: they are tested.
+    ///
+    /// # Errors
+    /// `AllocError` where a request for memory was refused.
     pub fn of(alloc: Global, text: &'a str) -> Result<Faults<'a>, AllocError>
         ensures told { IfOk result (λ faults. TellsBadLines text.entry.now faults.told.items faults.more) }
         ensures none { IfOk result (λ faults. (faults.told.items ≡ []) ↔ HasScript text.entry.now) }
@@ -50,6 +53,9 @@ impl<'a> Faults<'a> {
 
     /// What is told of them under the path of their text: a line `PATH:LINE:COLUMN: REASON` for each, and one
     /// for how many more bad lines there are, if there are any.
+    ///
+    /// # Errors
+    /// `AllocError` where a request for memory was refused.
     pub fn report(&self, alloc: Global, path: &str) -> Result<String, AllocError>
         ensures { IfOk result (λ report. string_bytes report ≡ report_text path.now self.now.told.items self.now.more) }
     {

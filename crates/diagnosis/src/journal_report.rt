@@ -3,8 +3,8 @@ ghost use Rattle.std.specs.Prelude.{◌≡◌, ◌↔◌, string_bytes, IfOk, Is
 ghost use Rattle.texts.specs.LineFeeds.{line_feeds};
 ghost use Rattle.diagnosis.specs.JournalReports.{BeginsAsJournal, IsJournalReport, ends_a_line, journal_reason, journal_report_text};
 
-use journal_text::error::JournalError;
 use journal_text::parse::measure;
+use lockscript::error::ParseError;
 use std::alloc::{AllocError, Global};
 use std::fmt::Write;
 use texts::text::after;
@@ -27,8 +27,8 @@ pub fn journal_report(alloc: Global, path: &str, text: &str) -> Result<Option<St
 {
     match measure(text) {
         Ok(_) => Ok(None),
-        Err(JournalError::BadLine(line)) => Ok(Some(report_of(alloc, path, text, line)?)),
-        Err(JournalError::NoMemory) => Err(AllocError),
+        Err(ParseError::BadLine(line)) => Ok(Some(report_of(alloc, path, text, line)?)),
+        Err(ParseError::NoMemory) => Err(AllocError),
     }
 }
 

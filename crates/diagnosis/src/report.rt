@@ -9,6 +9,9 @@ use std::alloc::{AllocError, Global};
 /// What is wrong in a text that is to be a script, under the path that it was read from: `None` where it is a
 /// script, and else a line `PATH:LINE:COLUMN: REASON` for each of the first hundred bad lines, and one for the
 /// rest. See `Faults::of`.
+///
+/// # Errors
+/// `AllocError` where a request for memory was refused.
 pub fn report(alloc: Global, path: &str, text: &str) -> Result<Option<String>, AllocError>
     ensures none { IfOk result (λ report. IsNone report ↔ HasScript text.now) }
     ensures report { IfOk result (IsReport path.now text.now) }

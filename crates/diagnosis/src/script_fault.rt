@@ -19,6 +19,9 @@ impl ScriptFault<'_> {
     ghost use Rattle.diagnosis.specs.Reports.{fault_line};
 
     /// Writes `PATH:LINE:COLUMN: REASON` and a line feed.
+    ///
+    /// # Errors
+    /// `AllocError` where a request for memory was refused.
     pub fn push_line(&self, path: &str, out: &mut String) -> Result<(), AllocError>
         ensures { OnOk result (string_bytes out.new ≡ string_bytes out.old ++ fault_line path.now self.now) }
     {

@@ -7,6 +7,9 @@ use std::alloc::{AllocError, Global};
 
 /// `script yes`, and then `threads yes` where threads take the script, or `threads no L` with the number of the
 /// first line that they don't take; each in a line of its own.
+///
+/// # Errors
+/// `AllocError` where a request for memory was refused.
 pub fn verdict(alloc: Global, script: &Script) -> Result<String, AllocError>
     ensures { IfOk result (λ text. string_bytes text ≡ verdict_text script.now.lines) }
 {

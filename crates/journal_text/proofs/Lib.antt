@@ -14,6 +14,6 @@ pub mod FeedlessEvents
 pub mod FeedlessLines
 pub mod Printed
 pub mod OneReading
-pub mod OldTexts
+pub mod FirstLines
 pub mod Limits
 pub mod Writes

@@ -4,8 +4,8 @@ use Rattle.std.specs.Prelude.{◌≢◌}
 use Rattle.std.proofs.lemmas.List.{length-map}
 use Rattle.messages.specs.Shapes.{IsShape, ShapeFields}
 use Rattle.texts.specs.LineFeeds.{BeginsWithLine}
-use Rattle.journal_text.specs.declared.error.JournalError.{JournalError}
-use Rattle.journal_text.specs.declared.error.JournalError.TheVariants.{NoMemory, BadLine}
+use Rattle.lockscript.specs.declared.error.ParseError.{ParseError}
+use Rattle.lockscript.specs.declared.error.ParseError.TheVariants.{NoMemory, BadLine}
 use Rattle.journal_text.specs.declared.lines.JournalLine.{JournalLine}
 use Rattle.journal_text.specs.declared.place.Phase.TheVariants.{Ended}
 use Rattle.journal_text.specs.declared.place.Place.{Place}
@@ -77,11 +77,11 @@ standing-counted text s rest taken p b a ends =
     ap (λ (x : Place). x.count) (sym a.here) ∙ counted-whole a.reading (ap (λ (x : Place). x.phase) a.here ∙ ends) ∙ ap (λ (x : BuilderFields). length x.entries) a.made
 
 -- a bad line refuses the text
-pub bad-refused : (text : List ℕ) (error : JournalError) → IsBadLine text error → IsRefused text error
+pub bad-refused : (text : List ℕ) (error : ParseError) → IsBadLine text error → IsRefused text error
 bad-refused text NoMemory bad = absurd bad
 bad-refused text (BadLine number) bad = bad
 
 -- where the text writes a journal, want of memory is all that can be told beside
-pub refused-later : (text : List ℕ) (s : ShapeFields) (count : ℕ) (error : JournalError) → HasLength text s count → (error ≢ NoMemory → IsBadLine text error) → IsRefused text error
+pub refused-later : (text : List ℕ) (s : ShapeFields) (count : ℕ) (error : ParseError) → HasLength text s count → (error ≢ NoMemory → IsBadLine text error) → IsRefused text error
 refused-later text s count NoMemory has bad = (s, (has.1.named, has.1.written))
 refused-later text s count (BadLine number) has bad = bad (λ e. absurd (cc))

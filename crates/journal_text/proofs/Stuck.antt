@@ -3,7 +3,7 @@ use Rattle.std.proofs.Common.{◌≡◌, List, ℕ, Option, Some, None, Result, 
 use Rattle.messages.specs.declared.version.Version.{Version}
 use Rattle.texts.specs.LineFeeds.{BeginsWithLine}
 use Rattle.texts.specs.Reads.{Reads}
-use Rattle.journal_text.specs.declared.error.JournalError.{JournalError}
+use Rattle.lockscript.specs.declared.error.ParseError.{ParseError}
 use Rattle.journal_text.specs.declared.lines.JournalLine.{JournalLine}
 use Rattle.journal_text.specs.declared.place.Place.{Place}
 use Rattle.journal_text.specs.Lines.{IsServedLine, line_text}
@@ -28,6 +28,6 @@ stands-next version p rest bytes after j q begins j_in text next = record {
 }
 
 -- the error that stands for what is not there
-pub refusal-is : {A : Type 0} (found : Option A) (bad error : JournalError) → ◌≡◌ {A = Result A JournalError} (Err error) (ok_or found bad) → found ≡ None → error ≡ bad
+pub refusal-is : {A : Type 0} (found : Option A) (bad error : ParseError) → ◌≡◌ {A = Result A ParseError} (Err error) (ok_or found bad) → found ≡ None → error ≡ bad
 refusal-is None bad error e none = cc
 refusal-is (Some x) bad error e none = absurd (cc)

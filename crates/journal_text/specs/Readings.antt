@@ -6,8 +6,8 @@ use Rattle.messages.specs.Entries.{EntryFields}
 use Rattle.messages.specs.Shapes.{IsShape, ShapeFields}
 use Rattle.messages.specs.declared.version.Version.TheVariants.{First}
 use Rattle.texts.specs.LineFeeds.{line_feed, line_feeds, BeginsWithLine}
-use Rattle.journal_text.specs.declared.error.JournalError.{JournalError}
-use Rattle.journal_text.specs.declared.error.JournalError.TheVariants.{NoMemory, BadLine}
+use Rattle.lockscript.specs.declared.error.ParseError.{ParseError}
+use Rattle.lockscript.specs.declared.error.ParseError.TheVariants.{NoMemory, BadLine}
 use Rattle.journal_text.specs.declared.named_entry.NamedEntry.{NamedEntry}
 use Rattle.journal_text.specs.declared.lines.JournalLine.{JournalLine}
 use Rattle.journal_text.specs.declared.lines.JournalLine.TheVariants.{Entry, Answer, Send, End}
@@ -63,6 +63,10 @@ pub record WritesJournal (text : List ℕ) (s : ShapeFields) (entries : List Ent
 abbrev pub HasLength : List ℕ → ShapeFields → ℕ → Type 0
 HasLength text s count = (entries : List EntryFields) × WritesJournal text s entries × (count ≡ length entries)
 
+-- the first line of the text is that of a journal of this shape
+abbrev pub BeginsAs : List ℕ → ShapeFields → Type 0
+BeginsAs text shape = (rest : List ℕ) × BeginsWithLine text (head_text shape) rest × IsShape shape
+
 -- the first line of the text is that of a journal of version 1
 pub record IsOld (text : List ℕ) : Type 0 where
   pub shape : ShapeFields
@@ -97,11 +101,11 @@ pub record IsFirstBad (text : List ℕ) (number : ℕ) : Type 0 where
   pub bad : IsBad lines rest
 
 -- the first bad line is told
-abbrev pub IsBadLine : List ℕ → JournalError → Type 0
+abbrev pub IsBadLine : List ℕ → ParseError → Type 0
 IsBadLine text NoMemory = ⊥
 IsBadLine text (BadLine number) = IsFirstBad text number
 
 -- why the text is no journal, or for what journal there was no memory
-abbrev pub IsRefused : List ℕ → JournalError → Type 0
+abbrev pub IsRefused : List ℕ → ParseError → Type 0
 IsRefused text NoMemory = HasJournal text
 IsRefused text (BadLine number) = IsFirstBad text number

@@ -6,22 +6,11 @@ ghost use Rattle.journal_text.specs.Events.{IsServedEvent, named_text};
 
 use crate::named_event::NamedEvent;
 use crate::operands::{CallFields, LearnFields, ProcessFields};
-use message_text::edition::{Edition, FirstEdition, SecondEdition};
+use message_text::edition::Edition;
 use message_text::message::message_in;
 use message_text::names::{host_of, server_of};
 use message_text::numbers::FileField;
-use messages::version::Version;
 use texts::text::{Text, split_field};
-
-/// The event that the text writes in a journal of this version, with the names in it.
-pub fn event_of(version: Version, text: &str) -> Option<NamedEvent<'_>>
-    ensures { Reads (named_text version) (IsServedEvent version) text.now result }
-{
-    match version {
-        Version::First => event_in::<FirstEdition>(text),
-        Version::Second => event_in::<SecondEdition>(text),
-    }
-}
 
 /// The event that the text writes in a journal of the version, with the names in it.
 pub(crate) fn event_in<V: Edition>(text: &str) -> Option<NamedEvent<'_>>

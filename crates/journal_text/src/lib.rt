@@ -2,7 +2,6 @@
 #![tactic(auto)]
 
 mod builder;
-pub mod error;
 pub mod events;
 mod fits;
 pub mod head;

@@ -1,14 +1,14 @@
 //! Reading whole journals.
 ghost use Rattle.std.specs.Prelude.{◌≡◌, ◌≢◌, ◌↔◌, [], List, length, IfErr, IfOk, IsTrue};
 ghost use Rattle.messages.specs.Entries.{EntryFields};
-ghost use Rattle.journal_text.specs.declared.error.JournalError.TheVariants.{NoMemory};
-ghost use Rattle.journal_text.specs.Readings.{HasLength, IsBadLine, IsOld, IsRefused, WritesJournal};
+ghost use Rattle.lockscript.specs.declared.error.ParseError.TheVariants.{NoMemory};
+ghost use Rattle.journal_text.specs.Readings.{BeginsAs, HasLength, IsBadLine, IsOld, IsRefused, WritesJournal};
 
 use crate::builder::Builder;
-use crate::error::JournalError;
 use crate::head::head_of;
 use crate::reader::Reader;
 use crate::sink::Sink;
+use lockscript::error::ParseError;
 use lockscript::lines::split_line;
 use messages::entry::Entry;
 use messages::shape::Shape;
@@ -26,7 +26,7 @@ use std::alloc::Global;
 /// `BadLine` with the number of the first line that may not stand there, counted from 1, or with the
 /// number after the last where the last line is missing; `NoMemory` where the text writes a journal
 /// and a request for memory was refused.
-pub fn parse(alloc: Global, text: &str) -> Result<(Shape, Vec<Entry>), JournalError>
+pub fn parse(alloc: Global, text: &str) -> Result<(Shape, Vec<Entry>), ParseError>
     ensures journal { IfOk result (λ made. WritesJournal text.now made.0 made.1.items) }
     ensures refused { IfErr result (IsRefused text.now) }
 {
@@ -34,6 +34,17 @@ pub fn parse(alloc: Global, text: &str) -> Result<(Shape, Vec<Entry>), JournalEr
     let mut entries = Vec::with_capacity(alloc, count as usize)?;
     let shape = read_each(alloc, text, &mut entries)?;
     Ok((shape, entries))
+}
+
+/// The shape of the cluster that the first line of the text names, whatever stands behind it.
+///
+/// # Errors
+/// `BadLine` with 1 where it names none.
+pub fn shape_of(text: &str) -> Result<Shape, ParseError>
+    ensures shape { IfOk result (BeginsAs text.now) }
+    ensures bad { IfErr result (IsBadLine text.now) }
+{
+    Reader::new(text).first_line()
 }
 
 /// Whether the first line of the text is that of a journal of version 1, whatever stands behind it.
@@ -54,7 +65,7 @@ pub fn is_old(text: &str) -> bool
 ///
 /// # Errors
 /// `BadLine`, as `parse` has it.
-pub fn measure(text: &str) -> Result<(Shape, u32), JournalError>
+pub fn measure(text: &str) -> Result<(Shape, u32), ParseError>
     ensures journal { IfOk result (λ found. HasLength text.now found.0 found.1) }
     ensures bad { IfErr result (IsBadLine text.now) }
 {
@@ -70,7 +81,7 @@ pub fn measure(text: &str) -> Result<(Shape, u32), JournalError>
 /// # Errors
 /// `BadLine`, as `parse` has it; `NoMemory` where a request for memory was refused: then nothing is
 /// said of the text.
-pub fn read_each<K: Sink>(alloc: Global, text: &str, sink: &mut K) -> Result<Shape, JournalError>
+pub fn read_each<K: Sink>(alloc: Global, text: &str, sink: &mut K) -> Result<Shape, ParseError>
     ensures journal { IfOk result (λ shape. (es : List EntryFields) × WritesJournal text.now shape es × (K.took sink.old shape [] → K.took sink.new shape es)) }
     ensures bad { IfErr result (λ error. error ≢ NoMemory → IsBadLine text.now error) }
 {

@@ -2,7 +2,7 @@
 ghost use Rattle.std.specs.Prelude.{◌≡◌, ◌+◌, ◌<◌, ◌^◌, [], true, false, Some, length, IfErr, IfOk, MatchOption};
 ghost use Rattle.messages.specs.Shapes.{IsShape};
 ghost use Rattle.texts.specs.LineFeeds.{line_feeds, BeginsWithLine};
-ghost use Rattle.journal_text.specs.declared.error.JournalError.TheVariants.{BadLine};
+ghost use Rattle.lockscript.specs.declared.error.ParseError.TheVariants.{BadLine};
 ghost use Rattle.journal_text.specs.declared.lines.JournalLine.{JournalLine as Line};
 ghost use Rattle.journal_text.specs.declared.place.Phase.TheVariants as phase;
 ghost use Rattle.journal_text.specs.Journals.{head_text};
@@ -10,10 +10,10 @@ ghost use Rattle.journal_text.specs.Lines.{IsServedLine, line_text};
 ghost use Rattle.journal_text.specs.Places.{IsMisplaced, IsStuck, StandsNext, next_place, start};
 ghost use Rattle.journal_text.specs.Readings.{IsBadLine};
 
-use crate::error::JournalError;
 use crate::head::head_of;
 use crate::lines::{JournalLine, line_of};
 use crate::place::Place;
+use lockscript::error::ParseError;
 use lockscript::lines::split_line;
 use messages::shape::Shape;
 use messages::version::Version;
@@ -44,16 +44,16 @@ impl<'a> Reader<'a> {
     ///
     /// # Errors
     /// `BadLine` with 1 where it names none.
-    pub(crate) fn first_line(&mut self) -> Result<Shape, JournalError>
+    pub(crate) fn first_line(&mut self) -> Result<Shape, ParseError>
         ensures begins { IfOk result (λ shape. BeginsWithLine self.old.rest.now (head_text shape) self.new.rest.now × (self.new.taken ≡ 1) × IsShape shape) }
         ensures place { self.new.place ≡ self.old.place }
         ensures bad { IfErr result (IsBadLine self.old.rest.now) }
     {
         let Some((line, rest)) = split_line(self.rest) else {
-            return Err(JournalError::BadLine(1));
+            return Err(ParseError::BadLine(1));
         };
         let Some(shape) = head_of(line) else {
-            return Err(JournalError::BadLine(1));
+            return Err(ParseError::BadLine(1));
         };
         self.rest = rest;
         self.taken = 1;
@@ -74,13 +74,13 @@ impl<'a> Reader<'a> {
     pub(crate) fn next_line(
         &mut self,
         version: Version,
-    ) -> Result<Option<JournalLine<'a>>, JournalError>
+    ) -> Result<Option<JournalLine<'a>>, ParseError>
         ensures line { IfOk result (λ found. MatchOption found
             ((self.new.rest.now ≡ []) × (self.new.place.phase ≡ phase.Ended) × (self.new.rest.now ≡ self.old.rest.now) × (self.new.place ≡ self.old.place))
             (λ line. StandsNext version self.old.place self.old.rest.now line self.new.place self.new.rest.now × (self.new.taken ≡ self.old.taken + 1))) }
         ensures stuck { IfErr result (λ error. (error ≡ BadLine (self.old.taken + 1)) × IsStuck version self.old.place self.old.rest.now) }
     {
-        let bad = JournalError::BadLine(self.taken + 1);
+        let bad = ParseError::BadLine(self.taken + 1);
         match split_line(self.rest) {
             Some((text, rest)) => {
                 let (line, place) = line_at(version, self.place, text).ok_or(bad)?;
@@ -102,7 +102,7 @@ impl<'a> Reader<'a> {
     ///
     /// # Errors
     /// As `next_line`.
-    pub(crate) fn pass_line(&mut self, version: Version) -> Result<bool, JournalError>
+    pub(crate) fn pass_line(&mut self, version: Version) -> Result<bool, ParseError>
         ensures passed { IfOk result (λ more. more ≡ true → (line : Line) × StandsNext version self.old.place self.old.rest.now line self.new.place self.new.rest.now × (self.new.taken ≡ self.old.taken + 1)) }
         ensures ended { IfOk result (λ more. more ≡ false → (self.new.rest.now ≡ []) × (self.new.place.phase ≡ phase.Ended) × (self.new.rest.now ≡ self.old.rest.now) × (self.new.place ≡ self.old.place)) }
         ensures stuck { IfErr result (λ error. (error ≡ BadLine (self.old.taken + 1)) × IsStuck version self.old.place self.old.rest.now) }

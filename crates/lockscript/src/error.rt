@@ -1,18 +1,18 @@
-//! Why a script is refused.
+//! Why a script or a journal is refused.
 ghost use Rattle.std.specs.Prelude.{◌≡◌};
 ghost use Rattle.lockscript.specs.declared.error.ParseError.TheVariants.{NoMemory};
 
 use std::alloc::{AllocError, AllocFailed};
 use thiserror::Error;
 
-/// Why a text is no script.
+/// Why a text is no script, or no journal.
 #[derive(Clone, Copy, Debug, PartialEq, Eq, Error)]
 pub enum ParseError {
     /// A request for memory was refused.
     #[error("no memory")]
     NoMemory,
-    /// The first line that may not stand there, by its number, from 1. Where no line is `cluster` and
-    /// none is bad, it is the line after the last.
+    /// The first line that may not stand there, by its number, from 1. Where none is bad, but a line is missing,
+    /// that of the cluster in a script or the last one of a journal, it is the line after the last.
     #[error("bad line {0}")]
     BadLine(u64),
 }

@@ -8,6 +8,9 @@ use std::alloc::AllocError;
 use std::fmt::Write;
 
 /// Writes a reply.
+///
+/// # Errors
+/// `AllocError` where a request for memory was refused.
 pub fn push_reply(out: &mut String, reply: &Reply) -> Result<(), AllocError>
     ensures { OnOk result (string_bytes out.new ≡ string_bytes out.old ++ reply_text reply.now) }
 {

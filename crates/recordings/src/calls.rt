@@ -66,6 +66,10 @@ fn mode_of(structure: &str) -> Option<Option<Mode>> {
 }
 
 /// The lock call that sets the lock of a `struct flock`.
+///
+/// # Errors
+/// `Whence` where its segment is not counted from the beginning of the file; `NotUnderstood` where a field is missing or
+/// can't be read.
 pub(crate) fn set_of(kind: Kind, waits: bool, structure: &str) -> Result<Asked, Reason> {
     let wish = match mode_of(structure).ok_or(Reason::NotUnderstood)? {
         Some(mode) if waits => Wish::Wait(mode),
@@ -78,6 +82,9 @@ pub(crate) fn set_of(kind: Kind, waits: bool, structure: &str) -> Result<Asked, 
 /// The lock call that asks what is in the way. `strace` writes what was answered, in the place of what was
 /// asked: where nothing was in the way the mode is taken to have been the one that fewer locks are in the
 /// way of, and else the one that more are in the way of.
+///
+/// # Errors
+/// As `set_of` has it.
 pub(crate) fn query_of(kind: Kind, structure: &str) -> Result<Asked, Reason> {
     let wish = match mode_of(structure).ok_or(Reason::NotUnderstood)? {
         Some(_) => Wish::Query(Mode::Write),
@@ -135,6 +142,10 @@ fn range_of(arguments: &str) -> Option<(u32, u32)> {
 }
 
 /// The path of an `open`, `openat`, `openat2` or `creat` with these arguments, and how it opens the file.
+///
+/// # Errors
+/// `Relative` where the path is relative to a descriptor, or is looked up below one; `NotUnderstood` where the path or the
+/// access can't be read.
 pub(crate) fn open_of<'a>(name: &str, arguments: &'a str) -> Result<(&'a str, Access), Reason> {
     let (directory, rest) = if name == "openat" || name == "openat2" {
         arguments.split_once(", ").ok_or(Reason::NotUnderstood)?

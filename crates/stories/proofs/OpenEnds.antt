@@ -17,7 +17,7 @@ use Rattle.stories.specs.declared.ending.Ending.{Ending}
 use Rattle.stories.specs.declared.made_call.MadeCall.{MadeCall}
 use Rattle.stories.specs.OpenCalls.{end_of, ends, is_open}
 use Rattle.stories.proofs.CallParts.{or_false}
-use Rattle.stories.specs.OpenIndexes.{EndsByEnding, IsOpenCall, KnowsEnds, OpenFields, earlier, end_in, ending_by, exit_on, failure_of, first_end, is_ending, open_with}
+use Rattle.stories.specs.OpenIndexes.{EndsByEnding, IsOpenCall, OpenFields, earlier, end_in, ending_by, exit_on, failure_of, first_end, is_ending, open_with}
 
 -- what is found among entries stands at the first position or behind it
 found_from : (test : EntryFields → Bool) (n : ℕ) (es : List EntryFields) → IfSome (find (λ (p : ℕ × EntryFields). test p.1) (enumerate_from n es)) (λ p. n ≤ p.0)
@@ -124,6 +124,10 @@ find_behind test position n (suc k) (e ∷ es) at =
     let here : nat_lt position n ≡ false = grind (arith, nat_tests) in
     ap (λ (c : Bool). cond (c && test e) (Some (n, e)) (find (λ (p : ℕ × EntryFields). nat_lt position p.0 && test p.1) (enumerate_from (n + 1) es))) here
     ∙ find_behind test position (n + 1) k es (omega (arith, at))
+
+-- the index has the first of the entries that is each ending; the first entry has this position
+abbrev pub KnowsEnds : EndsByEnding → ℕ → List EntryFields → Type 0
+KnowsEnds index position es = (ending : Ending) → end_in index ending ≡ find (λ (p : ℕ × EntryFields). is_ending ending p.1) (enumerate_from position es)
 
 -- the first end of a call in the index of the entries behind it is that of the call
 pub first_end-is : (made : MadeCall) (index : EndsByEnding) (k : ℕ) (es : List EntryFields) → made.position ≡ k → KnowsEnds index (k + 1) (drop k es) → first_end index made ≡ end_of made es

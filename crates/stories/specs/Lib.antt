@@ -1,6 +1,7 @@
 pub mod About
 pub mod Index
-pub mod Stories
+pub mod Lines
 pub mod Pending
 pub mod OpenCalls
 pub mod OpenIndexes
+pub mod Stories

@@ -1,7 +1,7 @@
 -- The calls without a reply.
 use Rattle.std.specs.Prelude.{ℕ, Bool, false, not, ◌&&◌, ◌==◌, nat_lt, List, ◌++◌, codes, decimal, filter, filter_map, find, flat_map, Option, Some, None}
 use Rattle.std.specs.List.{enumerate_from, list_any}
-use Rattle.std.specs.Option.{option_map_or}
+use Rattle.std.specs.Option.{option_and_then, option_map_or}
 use Rattle.model.specs.declared.call.CallId.{CallId}
 use Rattle.model.specs.declared.host.Host.{Host}
 use Rattle.model.specs.declared.op.Op.TheVariants.{Exit}
@@ -10,11 +10,12 @@ use Rattle.messages.specs.declared.event.Event.{Event}
 use Rattle.messages.specs.declared.event.Event.TheVariants.{Call, Declare}
 use Rattle.messages.specs.declared.version.Version.{Version}
 use Rattle.messages.specs.Entries.{EntryFields}
+use Rattle.messages.specs.Messages.{same_call}
 use Rattle.message_text.specs.Names.{call_text}
 use Rattle.stories.specs.declared.made_call.MadeCall.{MadeCall}
 use Rattle.stories.specs.About.{answers, part_of}
 use Rattle.stories.specs.Pending.{pending_told}
-use Rattle.stories.specs.Stories.{calling_text}
+use Rattle.stories.specs.Lines.{calling_text}
 
 -- the call that an event makes, which takes this name, at an entry at this position
 abbrev pub made_by : ℕ → Event → Option CallId → Option MadeCall
@@ -47,10 +48,22 @@ ends made e _ = false
 abbrev pub end_of : MadeCall → List EntryFields → Option (ℕ × EntryFields)
 end_of made entries = find (λ p. nat_lt made.position p.0 && ends made p.1 p.1.event) (enumerate_from 1 entries)
 
+-- the call of this name
+abbrev pub call_made : CallId → List EntryFields → Option MadeCall
+call_made call entries = find (λ made. same_call made.call call) (made_calls entries)
+
+-- the entry that ended it
+abbrev pub ended_by : CallId → List EntryFields → Option (ℕ × EntryFields)
+ended_by call entries = option_and_then (λ made. end_of made entries) (call_made call entries)
+
 -- how a call that is ended at this position by this event ended
+abbrev pub ended_text : ℕ → Event → List ℕ
+ended_text position (Declare node) = codes "gone since entry " ++ decimal position ++ codes "\n"
+ended_text position _ = codes "ended at entry " ++ decimal position ++ codes "\n"
+
+-- the line of that
 abbrev pub ended_told : ℕ → Event → List ℕ
-ended_told position (Declare node) = codes "  gone since entry " ++ decimal position ++ codes "\n"
-ended_told position _ = codes "  ended at entry " ++ decimal position ++ codes "\n"
+ended_told position event = codes "  " ++ ended_text position event
 
 -- how the call ended, or what it waits for
 abbrev pub state_told : Version → MadeCall → List EntryFields → Option (ℕ × EntryFields) → List ℕ

@@ -1,9 +1,9 @@
 -- What indexes know of entries, from which the calls without a reply are told.
-use Rattle.std.specs.Prelude.{◌≡◌, ℕ, Bool, false, nat_lt, ◌==◌, true, if◌then◌else◌, List, [], ◌∷◌, ◌++◌, ◌-◌, find, length, slice_get, Option, Some, None, option_map}
+use Rattle.std.specs.Prelude.{◌≡◌, ℕ, Bool, false, nat_lt, ◌==◌, true, if◌then◌else◌, List, [], ◌∷◌, ◌++◌, ◌-◌, length, slice_get, Option, Some, None, option_map}
 use Rattle.std.specs.Global.{Vec}
 use Rattle.std.specs.HashMap.{HashMap, get}
 use Rattle.std.specs.HashSet.{HashSet, contains}
-use Rattle.std.specs.List.{enumerate_from, list_any}
+use Rattle.std.specs.List.{list_any}
 use Rattle.std.specs.Option.{option_map_or}
 use Rattle.std.specs.declared.hash.FoldHasher.{FoldHasher}
 use Rattle.std.specs.declared.hash.BuildHasherDefault.{BuildHasherDefault}
@@ -61,10 +61,6 @@ EndsByEnding = HashMap Ending (ℕ × EntryFields) (BuildHasherDefault FoldHashe
 
 abbrev pub end_in : EndsByEnding → Ending → Option (ℕ × EntryFields)
 end_in ends ending = get derived.ghosts.eq ends ending
-
--- the index has the first of the entries that is each ending; the first entry has this position
-abbrev pub KnowsEnds : EndsByEnding → ℕ → List EntryFields → Type 0
-KnowsEnds ends position entries = (ending : Ending) → end_in ends ending ≡ find (λ p. is_ending ending p.1) (enumerate_from position entries)
 
 -- the first of them that ends the call
 abbrev pub first_end : EndsByEnding → MadeCall → Option (ℕ × EntryFields)

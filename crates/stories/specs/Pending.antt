@@ -1,17 +1,19 @@
 -- What a call without a reply waits for.
-use Rattle.std.specs.Prelude.{ℕ, Bool, true, false, not, if◌then◌else◌, List, [], ◌∷◌, ◌++◌, codes, decimal, filter, filter_map, flat_map, fold, Option, Some, None}
-use Rattle.std.specs.List.{last_or, list_any}
+use Rattle.std.specs.Prelude.{ℕ, Bool, not, if◌then◌else◌, List, [], ◌∷◌, ◌++◌, codes, decimal, filter, flat_map, fold}
+use Rattle.std.specs.List.{list_any}
 use Rattle.model.specs.declared.call.CallId.{CallId}
-use Rattle.model.specs.declared.lock_info.LockInfo.{LockInfo}
 use Rattle.messages.specs.declared.event.Event.{Event}
 use Rattle.messages.specs.declared.event.Event.TheVariants.{Deliver}
 use Rattle.messages.specs.declared.message.Message.{Message}
-use Rattle.messages.specs.declared.message.Message.TheVariants.{Conflict, Request}
+use Rattle.messages.specs.declared.message.Message.TheVariants.{Request, Grant, Revoke, Taken, Conflict}
 use Rattle.messages.specs.declared.version.Version.{Version}
+use Rattle.messages.specs.Entries.{EntryFields}
 use Rattle.messages.specs.Messages.{same_call, same_message}
 use Rattle.message_text.specs.Names.{lock_text}
+use Rattle.stories.specs.declared.standing.Standing.{Standing}
+use Rattle.stories.specs.declared.standing.Standing.TheVariants.{AtNode, Requested, AtServer, Behind}
 use Rattle.stories.specs.About.{PlacedFields, NumberedFields, delivers, is_about, sent_by}
-use Rattle.stories.specs.Stories.{addressed_text}
+use Rattle.stories.specs.Lines.{addressed_text}
 
 -- the message is one of those
 abbrev pub is_on_way : List NumberedFields → Message → Bool
@@ -33,35 +35,49 @@ under_way call part = fold (way_after call) [] part
 abbrev pub way_told : Version → NumberedFields → List ℕ
 way_told version m = codes "  message " ++ decimal m.number ++ codes " is under way to " ++ addressed_text version m.message
 
--- the lock in the way of the call that a message tells of
-abbrev pub lock_met : CallId → Message → Option LockInfo
-lock_met call (Conflict file number holder named lock) = if same_call named call then Some lock else None
-lock_met call _ = None
+-- where a call stands whose node asks a server for it
+abbrev pub asked : Standing → Standing
+asked AtNode = Requested
+asked before = before
 
--- the one that was told of last
-abbrev pub last_lock : CallId → List PlacedFields → Option LockInfo
-last_lock call part = last_or None (flat_map (λ p. filter_map (lock_met call) p.entry.sends) part)
+-- where one stands that the server of a file serves: what was in its way may be gone
+abbrev pub served : Standing → ℕ → Standing
+served (Behind lock) file = AtServer file
+served before file = before
 
--- the file to whose server a request for the call comes
-abbrev pub file_asked : CallId → Event → Option ℕ
-file_asked call (Deliver (Request file named urgency mode wanted)) = if same_call named call then Some file else None
-file_asked call _ = None
+-- where one stands behind a message about it: a lock in its way is told of, its node has taken a grant, a server is asked, or serves it
+abbrev pub after_word : Standing → Message → Standing
+after_word before (Conflict file number holder call lock) = Behind lock
+after_word before (Taken file number call) = AtNode
+after_word before (Request file call urgency mode wanted) = asked before
+after_word before (Grant file number call mode span) = served before file
+after_word before (Revoke file number holder call mode wanted) = served before file
+after_word before _ = before
 
--- the one to which a request came last
-abbrev pub last_file : CallId → List PlacedFields → Option ℕ
-last_file call part = last_or None (filter_map (λ p. file_asked call p.entry.event) part)
+-- behind one that is sent
+abbrev pub after_message : CallId → Standing → Message → Standing
+after_message call before message = if is_about call message then after_word before message else before
 
--- an entry sends a message about the call
-abbrev pub is_sent : CallId → List PlacedFields → Bool
-is_sent call part = list_any (λ p. list_any (is_about call) p.entry.sends) part
+-- behind an event, by which its request may come to the server of a file
+abbrev pub after_event : CallId → Standing → Event → Standing
+after_event call before (Deliver (Request file named urgency mode wanted)) = if same_call named call then AtServer file else before
+after_event call before _ = before
 
--- the line of what a call waits for: the last lock in its way, else the last server that it asked, else, where no message about it was sent, its node
-abbrev pub waits_told : CallId → Option LockInfo → Option ℕ → Bool → List ℕ
-waits_told call (Some lock) file sent = codes "  waits: behind " ++ lock_text lock ++ codes "\n"
-waits_told call None (Some file) sent = codes "  waits: at server " ++ decimal file ++ codes "\n"
-waits_told call None None true = []
-waits_told call None None false = codes "  waits: at node " ++ decimal call.node ++ codes ", for a lock or a call of its own\n"
+-- behind an entry
+abbrev pub after_entry : CallId → Standing → EntryFields → Standing
+after_entry call before e = fold (after_message call) (after_event call before e.event) e.sends
+
+-- behind the entries that belong to it
+abbrev pub standing_of : CallId → List PlacedFields → Standing
+standing_of call part = fold (λ before p. after_entry call before p.entry) AtNode part
+
+-- the line of what a call waits for that stands there; the message that is under way tells of a request
+abbrev pub waits_told : CallId → Standing → List ℕ
+waits_told call (Behind lock) = codes "  waits: behind " ++ lock_text lock ++ codes "\n"
+waits_told call (AtServer file) = codes "  waits: at server " ++ decimal file ++ codes "\n"
+waits_told call Requested = []
+waits_told call AtNode = codes "  waits: at node " ++ decimal call.node ++ codes ", for a lock or a call of its own\n"
 
 -- what a call waits for, of the entries that belong to it
 abbrev pub pending_told : Version → CallId → List PlacedFields → List ℕ
-pending_told version call part = flat_map (way_told version) (under_way call part) ++ waits_told call (last_lock call part) (last_file call part) (is_sent call part)
+pending_told version call part = flat_map (way_told version) (under_way call part) ++ waits_told call (standing_of call part)

@@ -2,10 +2,7 @@
 use Rattle.std.specs.Prelude.{ℕ, Bool, true, false, ◌&&◌, ◌==◌, if◌then◌else◌, List, [], ◌++◌, codes, decimal, filter_map, flat_map, slice_get, Option, Some, None}
 use Rattle.std.specs.List.{list_any}
 use Rattle.model.specs.declared.call.CallId.{CallId}
-use Rattle.model.specs.declared.op.Op.{Op}
 use Rattle.model.specs.declared.reply.Reply.{Reply}
-use Rattle.messages.specs.declared.actor.Actor.{Actor}
-use Rattle.messages.specs.declared.actor.Actor.TheVariants.{Node, Server}
 use Rattle.messages.specs.declared.event.Event.{Event}
 use Rattle.messages.specs.declared.event.Event.TheVariants.{Call, Deliver}
 use Rattle.messages.specs.declared.message.Message.{Message}
@@ -16,22 +13,11 @@ use Rattle.messages.specs.Messages.{addressee, same_call}
 use Rattle.cluster_core.specs.declared.item.Item.{Item}
 use Rattle.cluster_core.specs.declared.item.Item.TheVariants.{Answered, Gone}
 use Rattle.message_text.specs.Names.{call_text, lock_text}
-use Rattle.lockscript.specs.Texts.{op_text, reply_text}
-use Rattle.journal_text.specs.Texts.{event_text}
-use Rattle.message_text.specs.Texts.{message_text}
+use Rattle.lockscript.specs.Texts.{reply_text}
 use Rattle.stories.specs.About.{PlacedFields, NumberedFields, answers, makes, number_of, part_of, sent_about, sent_by}
-
-abbrev pub actor_text : Actor → List ℕ
-actor_text (Node node) = codes "node " ++ decimal node
-actor_text (Server file) = codes "server " ++ decimal file
-
--- that a process of a node makes a call
-abbrev pub calling_text : ℕ → ℕ → Op → List ℕ
-calling_text pid node op = codes "process " ++ decimal pid ++ codes " of node " ++ decimal node ++ codes " calls: " ++ op_text op
-
--- the event of an entry as journals write it
-abbrev pub plain_text : Version → EntryFields → List ℕ
-plain_text version e = event_text version e.event e.incarnation e.call
+use Rattle.stories.specs.Lines.{addressed_text, calling_text}
+use Rattle.stories.specs.OpenCalls.{ended_by, ended_text}
+pub use Rattle.stories.specs.Lines.{actor_text, plain_text}
 
 -- that the message comes that has this number, if it has one
 abbrev pub coming_text : Version → EntryFields → Message → Option ℕ → List ℕ
@@ -53,10 +39,6 @@ reply_told call (Some answer) = if same_call answer.0 call then codes "  reply: 
 abbrev pub lock_told : Message → List ℕ
 lock_told (Conflict file number holder call lock) = codes "  in the way: " ++ lock_text lock ++ codes "\n"
 lock_told _ = []
-
--- who takes a message, and the message, to the end of the line
-abbrev pub addressed_text : Version → Message → List ℕ
-addressed_text version m = actor_text (addressee m) ++ codes ": " ++ message_text version m ++ codes "\n"
 
 -- the lines of a message that is sent
 abbrev pub send_told : Version → NumberedFields → List ℕ
@@ -89,21 +71,20 @@ role_text true false = codes " (its call)"
 role_text false true = codes " (its reply)"
 role_text false false = codes " (between call and reply)"
 
--- the last line
-abbrev pub end_told : CallId → List PlacedFields → Option ℕ → List ℕ
-end_told call part None = codes "open: no reply\n"
-end_told call part (Some place) = codes "history: at entry " ++ decimal place ++ role_text (passes_at (makes call) part place) (passes_at (answers call) part place) ++ codes "\n"
+-- the last line: where the history has the call, else the entry that ended it, else that there is no reply
+abbrev pub end_told : CallId → List PlacedFields → Option (ℕ × EntryFields) → Option ℕ → List ℕ
+end_told call part end (Some place) = codes "history: at entry " ++ decimal place ++ role_text (passes_at (makes call) part place) (passes_at (answers call) part place) ++ codes "\n"
+end_told call part (Some end) None = ended_text end.0 end.1.event
+end_told call part None None = codes "open: no reply\n"
 
 -- an entry makes the call
 abbrev pub is_made : CallId → List EntryFields → Bool
 is_made call entries = list_any (makes call) entries
 
--- the story of a call, of the entries that belong to it
-abbrev pub part_text : Version → List Item → CallId → List PlacedFields → List ℕ
-part_text version history call part =
-    codes "call " ++ call_text call ++ codes "\n"
-    ++ flat_map (entry_told version call (sent_about call part)) part
-    ++ end_told call part (place_in call history)
+-- the lines of a call, of the entries that belong to it
+abbrev pub part_text : Version → CallId → List PlacedFields → List ℕ
+part_text version call part = codes "call " ++ call_text call ++ codes "\n" ++ flat_map (entry_told version call (sent_about call part)) part
 
+-- the story of a call
 abbrev pub story_text : Version → List EntryFields → List Item → CallId → List ℕ
-story_text version entries history call = part_text version history call (part_of call entries)
+story_text version entries history call = part_text version call (part_of call entries) ++ end_told call (part_of call entries) (ended_by call entries) (place_in call history)

@@ -36,8 +36,8 @@ pub(crate) fn is_about(message: &Message, call: &CallId) -> bool
     }
 }
 
-/// Whether a message that names the call is among these.
-pub(crate) fn is_any_about(messages: &[Message], call: &CallId) -> bool
+// Whether a message that names the call is among these.
+fn is_any_about(messages: &[Message], call: &CallId) -> bool
     ensures { result ≡ list_any (is_about call.now) messages.now }
 {
     messages.iter().any(|message| is_about(message, call))

@@ -1,10 +1,12 @@
 //! Lines that both texts have.
 ghost use Rattle.std.specs.Prelude.{◌≡◌, ◌++◌, string_bytes, OnOk};
-ghost use Rattle.stories.specs.Stories.{actor_text, addressed_text, calling_text};
+ghost use Rattle.stories.specs.Lines.{actor_text, addressed_text, calling_text};
+ghost use Rattle.stories.specs.OpenCalls.{ended_text};
 
 use lockscript::operations::Operation;
 use message_text::writing::push_message;
 use messages::actor::Actor;
+use messages::event::Event;
 use messages::message::Message;
 use messages::version::Version;
 use model::op::Op;
@@ -45,4 +47,14 @@ pub(crate) fn push_addressed(
     out.push_str(": ")?;
     push_message(out, version, message)?;
     out.push_str("\n")
+}
+
+/// Writes how a call ended that this event, of the entry at this position, ended, and the end of the line.
+pub(crate) fn push_ended(out: &mut String, position: u64, event: &Event) -> Result<(), AllocError>
+    ensures { OnOk result (string_bytes out.new ≡ string_bytes out.old ++ ended_text position event.now) }
+{
+    match event {
+        Event::Declare { .. } => writeln!(out, "gone since entry {position}"),
+        _ => writeln!(out, "ended at entry {position}"),
+    }
 }

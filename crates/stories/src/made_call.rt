@@ -1,7 +1,9 @@
 //! Calls that entries make.
 ghost use Rattle.std.specs.Prelude.{◌≡◌, IfSome};
-ghost use Rattle.stories.specs.OpenCalls.{made_by};
+ghost use Rattle.stories.specs.OpenCalls.{call_made, end_of, ends, made_by};
 
+use crate::end::End;
+use crate::ending::Ending;
 use messages::entry::Entry;
 use messages::event::Event;
 use model::call::CallId;
@@ -33,5 +35,48 @@ impl MadeCall {
             pid: *pid,
             op: *op,
         })
+    }
+
+    /// The call of this name that the entries make, of which the first has position 1.
+    pub(crate) fn named(entries: &[Entry], call: &CallId) -> Option<MadeCall>
+        ensures { result ≡ call_made call.now entries.now }
+    {
+        let mut position = 0u64;
+        for entry in entries {
+            position += 1;
+            if let Some(made) = MadeCall::of(position, entry)
+                && made.call == *call
+            {
+                return Some(made);
+            }
+        }
+        None
+    }
+
+    /// The first of the entries behind the call that ends it; the first entry has position 1.
+    pub(crate) fn end_in<'a>(&self, entries: &'a [Entry]) -> Option<End<'a>>
+        ensures { result ≡ end_of self.now entries.entry.now }
+    {
+        let mut position = 0u64;
+        for entry in entries {
+            position += 1;
+            if self.position < position && self.is_ended_by(entry) {
+                return Some(End::new(position, entry));
+            }
+        }
+        None
+    }
+
+    // Whether the entry is the exit of its process, or declares its node failed.
+    fn is_ended_by(&self, entry: &Entry) -> bool
+        ensures { result ≡ ends self.now entry.now entry.now.event }
+    {
+        match Ending::of(entry) {
+            Some(ending) => {
+                ending == Ending::exit_on(&self.call, self.pid)
+                    || ending == Ending::failure_of(&self.call)
+            }
+            None => false,
+        }
     }
 }

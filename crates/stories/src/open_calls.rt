@@ -5,7 +5,7 @@ ghost use Rattle.stories.specs.OpenIndexes.{IsOpenCall, open_with};
 
 use crate::answered_calls::AnsweredCalls;
 use crate::ends::{Ends, first_end, note_end};
-use crate::lines::push_calling;
+use crate::lines::{push_calling, push_ended};
 use crate::made_call::MadeCall;
 use crate::open_call::OpenCall;
 use crate::parts::Parts;
@@ -24,9 +24,9 @@ use std::fmt::Write;
 ///
 /// Under the line of a call stands where it ended, if a later entry is an exit of its process or declares
 /// its node failed. Else the messages about it that are under way: each that was sent and came at no entry
-/// behind that which sends it, as one that was lost; of equal ones the first. And then what it waits for:
-/// the lock in its way that was told of last, else the server to which its request came last, else, where
-/// no message about it was sent, its own node.
+/// behind that which sends it, as one that was lost; of equal ones the first. And then what it waits for, by
+/// what came last: the lock in its way that a conflict told of; the server to which its request came, or
+/// which took it up again since; its own node, where that has taken a grant for it, or asked no server yet.
 ///
 /// # Errors
 /// `AllocError` where a request for memory was refused.
@@ -111,7 +111,7 @@ fn push_state(
 {
     let made = call.made();
     match call.end() {
-        Some(end) => push_ended(out, end.position(), end.event()),
+        Some(end) => push_end(out, end.position(), end.event()),
         None => push_pending(out, alloc, version, &made.call, parts.of_call(&made.call)),
     }
 }
@@ -135,12 +135,10 @@ fn push_since(out: &mut String, call: &CallId, position: u64) -> Result<(), Allo
     write!(out, "{position}: ")
 }
 
-// Writes how a call ended that this event, of the entry at this position, ended.
-fn push_ended(out: &mut String, position: u64, event: &Event) -> Result<(), AllocError>
+// Writes the line of how a call ended that this event, of the entry at this position, ended.
+fn push_end(out: &mut String, position: u64, event: &Event) -> Result<(), AllocError>
     ensures { OnOk result (string_bytes out.new ≡ string_bytes out.old ++ ended_told position event.now) }
 {
-    match event {
-        Event::Declare { .. } => writeln!(out, "  gone since entry {position}"),
-        _ => writeln!(out, "  ended at entry {position}"),
-    }
+    out.push_str("  ")?;
+    push_ended(out, position, event)
 }

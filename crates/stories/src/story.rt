@@ -1,12 +1,15 @@
 //! The story of a call.
-ghost use Rattle.std.specs.Prelude.{◌≡◌, ◌++◌, codes, flat_map, is_some, string_bytes, IfOk, IfSome, OnOk};
+ghost use Rattle.std.specs.Prelude.{◌≡◌, ◌++◌, codes, decimal, flat_map, is_some, string_bytes, IfOk, IfSome, OnOk};
 ghost use Rattle.message_text.specs.Names.{call_text, lock_text};
 ghost use Rattle.lockscript.specs.Texts.{reply_text};
 ghost use Rattle.stories.specs.About.{answers, makes, sent_by};
+ghost use Rattle.stories.specs.OpenCalls.{ended_by};
 ghost use Rattle.stories.specs.Stories.{answered_at, coming_text, end_told, entry_told, happening_text, is_made, lock_told, part_text, passes_at, place_in, plain_text, reply_told, role_text, send_told, story_text};
 
 use crate::about::{answers, makes};
-use crate::lines::{push_actor, push_addressed, push_calling};
+use crate::end::End;
+use crate::lines::{push_actor, push_addressed, push_calling, push_ended};
+use crate::made_call::MadeCall;
 use crate::numbered_message::NumberedMessage;
 use crate::placed_entry::{PlacedEntry, part_of};
 use crate::sent_messages::SentMessages;
@@ -25,8 +28,9 @@ use std::alloc::{AllocError, Global};
 use std::fmt::Write;
 
 /// The story of the call, from the entries of a journal of this version, the first at position 1, and
-/// their history: its name, the lines of each entry that belongs to it, and where the history has it.
-/// `None` where no entry makes a call of that name.
+/// their history: its name, the lines of each entry that belongs to it, and where the history has it, or
+/// else which entry ended it, as the exit of its process or the failure of its node. `None` where no entry
+/// makes a call of that name.
 ///
 /// An entry belongs to the call where it makes the call or replies to it, or where a message that names
 /// the call comes there or is sent. Its lines are what happens, as in a journal or, where it is the call
@@ -52,7 +56,15 @@ pub fn story(
     }
     let part = part_of(alloc, entries, call)?;
     let mut out = String::new(alloc);
-    push_part(&mut out, alloc, version, history, call, part.as_slice())?;
+    push_part(&mut out, alloc, version, call, part.as_slice())?;
+    let end = ended_by(entries, call);
+    push_end(
+        &mut out,
+        call,
+        part.as_slice(),
+        &end,
+        place_in(history, call),
+    )?;
     Ok(Some(out))
 }
 
@@ -63,21 +75,19 @@ fn is_made(entries: &[Entry], call: &CallId) -> bool
     entries.iter().any(|entry| makes(entry, call))
 }
 
-// Writes the story of the call, of the entries that belong to it.
+// Writes the lines of the call, of the entries that belong to it.
 fn push_part(
     out: &mut String,
     alloc: Global,
     version: Version,
-    history: &[Item],
     call: &CallId,
     part: &[PlacedEntry<'_>],
 ) -> Result<(), AllocError>
-    ensures { OnOk result (string_bytes out.new ≡ string_bytes out.old ++ part_text version history.now call.now part.now) }
+    ensures { OnOk result (string_bytes out.new ≡ string_bytes out.old ++ part_text version call.now part.now) }
 {
     push_name(out, call)?;
     let sent = SentMessages::of(alloc, part, call)?;
-    push_entries(out, alloc, version, call, &sent, part)?;
-    push_end(out, call, part, place_in(history, call))
+    push_entries(out, alloc, version, call, &sent, part)
 }
 
 // Writes the first line.
@@ -274,18 +284,40 @@ fn answered_at(item: &Item, call: &CallId) -> Option<u32>
     }
 }
 
-// Writes the last line.
+// The entry that ended the call of this name.
+fn ended_by<'a>(entries: &'a [Entry], call: &CallId) -> Option<End<'a>>
+    ensures { result ≡ ended_by call.now entries.entry.now }
+{
+    let made = MadeCall::named(entries, call)?;
+    made.end_in(entries)
+}
+
+// Writes the last line: where the history has the call, else how it ended, else that there is no reply.
 fn push_end(
     out: &mut String,
     call: &CallId,
     part: &[PlacedEntry<'_>],
+    end: &Option<End<'_>>,
     place: Option<u32>,
 ) -> Result<(), AllocError>
-    ensures { OnOk result (string_bytes out.new ≡ string_bytes out.old ++ end_told call.now part.now place) }
+    ensures { OnOk result (string_bytes out.new ≡ string_bytes out.old ++ end_told call.now part.now end.now place) }
 {
-    let Some(place) = place else {
-        return out.push_str("open: no reply\n");
-    };
+    match (place, end) {
+        (Some(place), _) => push_place(out, call, part, place),
+        (None, Some(end)) => push_ended(out, end.position(), end.event()),
+        (None, None) => out.push_str("open: no reply\n"),
+    }
+}
+
+// Writes where the history has the call.
+fn push_place(
+    out: &mut String,
+    call: &CallId,
+    part: &[PlacedEntry<'_>],
+    place: u32,
+) -> Result<(), AllocError>
+    ensures { OnOk result (string_bytes out.new ≡ string_bytes out.old ++ codes "history: at entry " ++ decimal place ++ role_text (passes_at (makes call.now) part.now place) (passes_at (answers call.now) part.now place) ++ codes "\n") }
+{
     let is_call = is_made_at(part, call, place);
     let is_reply = is_answered_at(part, call, place);
     let role = role_word(is_call, is_reply);

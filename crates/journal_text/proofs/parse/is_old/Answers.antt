@@ -1,4 +1,4 @@
-use Rattle.journal_text.proofs.OldTexts.{old-no_head}
+use Rattle.journal_text.proofs.FirstLines.{old-no_head}
 use Rattle.journal_text.proofs.parse.is_old.Goals as goal
 
 pub returns-in_default-head_of : goal.returns-in_default-head_of

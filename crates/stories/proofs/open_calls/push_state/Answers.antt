@@ -3,7 +3,7 @@ use Rattle.stories.proofs.open_calls.push_state.Goals as goal
 
 pub returns-in-Some : goal.returns-in-Some
 returns-in-Some c =
-    told_where c.push_ended.result _ _ _ _ (ended-state c.args.version c.args.parts.now c.args.call.now c.in-Some.end.now c.position.result c.event.result.now c.requires c.in-Some.ensures c.position.ensures c.event.ensures) c.push_ended.ensures
+    told_where c.push_end.result _ _ _ _ (ended-state c.args.version c.args.parts.now c.args.call.now c.in-Some.end.now c.position.result c.event.result.now c.requires c.in-Some.ensures c.position.ensures c.event.ensures) c.push_end.ensures
 
 pub returns-in-None : goal.returns-in-None
 returns-in-None c =

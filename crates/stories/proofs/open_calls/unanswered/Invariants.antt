@@ -3,7 +3,8 @@ use Rattle.std.specs.Prelude.{filter_map}
 use Rattle.std.specs.List.{enumerate_from}
 use Rattle.messages.specs.Entries.{EntryFields}
 use Rattle.stories.specs.OpenCalls.{is_open, made_by}
-use Rattle.stories.specs.OpenIndexes.{IsOpenCall, KnowsEnds, OpenFields}
+use Rattle.stories.specs.OpenIndexes.{IsOpenCall, OpenFields}
+use Rattle.stories.proofs.OpenEnds.{KnowsEnds}
 use Rattle.stories.proofs.open_calls.unanswered.Given as goal
 
 abbrev pub invariant-loop-index : goal.invariant-loop-index
