@@ -3,7 +3,6 @@ use Rattle.std.proofs.Common.{◌≡◌, ℕ, ◌+◌, ◌<◌, ◌≤◌, ◌==
 use Rattle.std.specs.Prelude.{◌⊎◌, slice_get}
 use Rattle.std.specs.List.{enumerate_from}
 use Rattle.std.proofs.lemmas.Bool.{cases_eq, eq-eqb, ne_eqb}
-use Rattle.std.proofs.lemmas.Grind.{flat_map-append}
 use Rattle.std.proofs.lemmas.List.{append-nil, append_assoc}
 use Rattle.std.proofs.lemmas.List.Elements.{All-nil, All-push}
 use Rattle.std.proofs.lemmas.Option.{none-some, same_Some}
@@ -13,6 +12,7 @@ use Rattle.lockscript.specs.declared.script_line.Command.TheVariants.{Call, Deli
 use Rattle.lockscript.specs.Scripts.{IsCommand, LineFields}
 use Rattle.player.specs.Progress.{Progress, Does, End, RunsTo}
 use Rattle.player.proofs.Progresses.{turns_push}
+use Rattle.explorer.proofs.Walks.{calls-push}
 use Rattle.explorer.specs.Schedules.{calls_in, calls_of, line_of, may_stand, most_lines, numbered, op_of, Follows, IsNextCall, IsScheduleOf}
 
 -- the number of one line more
@@ -85,9 +85,6 @@ adds lines commands (Restart n) node pid next begins = begins-same (calls_of nod
 adds lines commands (Learn file n incarnation) node pid next begins = begins-same (calls_of node pid commands) (calls_in node pid lines) begins
 adds lines commands (FailServer file) node pid next begins = begins-same (calls_of node pid commands) (calls_in node pid lines) begins
 adds lines commands (StartServer file) node pid next begins = begins-same (calls_of node pid commands) (calls_in node pid lines) begins
-
-calls-push : (node pid : ℕ) (commands : List Command) (c : Command) → calls_of node pid (commands ++ c ∷ []) ≡ calls_of node pid commands ++ op_of node pid c
-calls-push node pid commands c = flat_map-append (op_of node pid) commands (c ∷ []) ∙ ap (λ (ops : List Op). calls_of node pid commands ++ ops) (append-nil (op_of node pid c))
 
 -- one command more
 pub schedule-on : (failures : Bool) (lines : List LineFields) (commands : List Command) (c : Command) → Follows failures lines commands c → IsScheduleOf failures lines commands → IsScheduleOf failures lines (commands ++ c ∷ [])

@@ -1,6 +1,6 @@
 -- Lines of texts, and what they say is expected.
 use Rattle.std.proofs.Common.{◌≡◌, ◌≢◌, ℕ, ◌==◌, Bool, true, false, List, [], ◌∷◌, ◌++◌, length, drop, Option, Some, None, MatchOption, Bor, refl, sym, ap, ◌∙◌, arith, cond, eqb}
-use Rattle.std.specs.Prelude.{zero, suc, ◌<◌, if◌then◌else◌, option_map}
+use Rattle.std.specs.Prelude.{zero, suc, ◌+◌, ◌-◌, ◌<◌, ◌≤◌, if◌then◌else◌, option_map}
 use Rattle.std.proofs.lemmas.Bool.{ne_eqb}
 use Rattle.std.proofs.lemmas.Bool.Decides.{Decides-eqb}
 use Rattle.std.proofs.lemmas.List.Sums.{sum_by-cons}
@@ -55,3 +55,17 @@ behind-nothing (suc n) = refl
 pub behind-none : (n : ℕ) (text : List ℕ) → 0 < n → split_feed text ≡ None → behind n (Some text) ≡ None
 behind-none zero text more none = absurd (omega (arith, more))
 behind-none (suc n) text more none = ap (λ (o : Option (List ℕ × List ℕ)). behind n (option_map (λ (p : List ℕ × List ℕ). p.1) o)) none ∙ behind-nothing n
+
+behind-more : (a b : ℕ) (o : Option (List ℕ)) → behind (a + b) o ≡ behind b (behind a o)
+behind-more zero b o = ap (λ (n : ℕ). behind n o) (let e : zero + b ≡ b = omega arith in e)
+behind-more (suc a) b None = behind-nothing (suc a + b) ∙ sym (behind-nothing b)
+behind-more (suc a) b (Some text) =
+    ap (λ (n : ℕ). behind n (Some text)) (let e : suc a + b ≡ suc (a + b) = omega arith in e)
+    ∙ behind-more a b (option_map (λ (p : List ℕ × List ℕ). p.1) (split_feed text))
+
+-- from what stands behind some lines on, those that are left are passed
+pub behind-on : (passed count : ℕ) (text rest : List ℕ) → behind passed (Some text) ≡ Some rest → passed ≤ count → behind (count - passed) (Some rest) ≡ behind count (Some text)
+behind-on passed count text rest is within =
+    ap (behind (count - passed)) (sym is)
+    ∙ sym (behind-more passed (count - passed) (Some text))
+    ∙ ap (λ (n : ℕ). behind n (Some text)) (let e : passed + (count - passed) ≡ count = omega (arith, within) in e)

@@ -1,6 +1,8 @@
 pub mod Answers
+pub mod ByProcess
 pub mod Expectations
 pub mod Explores
+pub mod Indexes
 pub mod Laws
 pub mod Outcomes
 pub mod Reports

@@ -1,5 +1,5 @@
 -- The text of outcomes.
-use Rattle.std.specs.Prelude.{ℕ, ◌+◌, ◌||◌, not, Bool, false, if◌then◌else◌, List, [], ◌∷◌, ◌++◌, codes, count_by, decimal, length, slice_get, unwrap_or, Option, Some, None}
+use Rattle.std.specs.Prelude.{ℕ, ◌+◌, ◌||◌, not, Bool, false, if◌then◌else◌, List, [], ◌∷◌, ◌++◌, codes, count_by, decimal, is_some, length, slice_get, unwrap_or, Option, Some, None}
 use Rattle.std.specs.List.{list_any}
 use Rattle.lockscript.specs.declared.script_line.Command.{Command}
 use Rattle.lockscript.specs.declared.script_line.Command.TheVariants.{Call}
@@ -66,9 +66,25 @@ abbrev pub blocks : List ℕ → List LineFields → List OutcomeParts → ℕ �
 blocks text lines outcomes seeds number [] = []
 blocks text lines outcomes seeds number (o ∷ os) = heading number (length o.seeds) seeds (first_of o.seeds) ++ told_lines text outcomes o.answers 0 lines ++ blocks text lines outcomes seeds (number + 1) os
 
--- how many outcomes, seeds, and outcomes that break what is expected
-abbrev pub counts : List OutcomeParts → ℕ → List ℕ
-counts outcomes seeds = codes "outcomes " ++ decimal (length outcomes) ++ codes ", seeds " ++ decimal seeds ++ codes ", breaking " ++ decimal (count_by (λ o. o.breaks) outcomes) ++ codes "\n"
+-- of how many lines it is said what is expected
+abbrev pub expected_count : List ℕ → List LineFields → ℕ
+expected_count text lines = count_by (λ l. is_some (expected text l)) lines
+
+-- how many outcomes, and seeds
+unfoldable pub totals : ℕ → ℕ → List ℕ
+totals outcomes seeds = codes "outcomes " ++ decimal outcomes ++ codes ", seeds " ++ decimal seeds
+
+-- of how many lines something is expected
+unfoldable pub expecting : ℕ → List ℕ
+expecting count = codes ", expected " ++ decimal count
+
+-- how many outcomes break that
+unfoldable pub breaking : ℕ → List ℕ
+breaking count = codes ", breaking " ++ decimal count ++ codes "\n"
+
+-- the last line
+unfoldable pub counts : ℕ → ℕ → ℕ → ℕ → List ℕ
+counts outcomes seeds expected broken = totals outcomes seeds ++ expecting expected ++ breaking broken
 
 abbrev pub report_text : List ℕ → List LineFields → List OutcomeParts → ℕ → List ℕ
-report_text text lines outcomes seeds = blocks text lines outcomes seeds 1 outcomes ++ counts outcomes seeds
+report_text text lines outcomes seeds = blocks text lines outcomes seeds 1 outcomes ++ counts (length outcomes) seeds (expected_count text lines) (count_by (λ o. o.breaks) outcomes)

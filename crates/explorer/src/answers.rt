@@ -1,18 +1,23 @@
 //! What the lines of a script come to in a schedule.
-ghost use Rattle.std.specs.Prelude.{◌≡◌, [], length, IfOk};
+ghost use Rattle.std.specs.Prelude.{◌≡◌, ◌++◌, [], ℕ, false, if◌then◌else◌, IfOk, OnOk};
+ghost use Rattle.std.specs.Option.{option_map_or};
 ghost use Rattle.player.specs.Parts.{state_of};
-ghost use Rattle.explorer.specs.Answers.{answer_behind, answers_behind, answers_in, call_answer, names, tries};
-ghost use Rattle.explorer.specs.Schedules.{calls_of, numbered};
+ghost use Rattle.explorer.specs.Answers.{answers_behind, answers_in, is_taken};
+ghost use Rattle.explorer.specs.ByProcess.{list_in};
+ghost use Rattle.explorer.specs.Indexes.{answer_by, answer_tried, next_try};
+ghost use Rattle.explorer.specs.Schedules.{op_of};
 
 use crate::answer::Answer;
-use crate::calls::{call_answer, names};
-use crate::follows::calls_of;
-use crate::tries::tries;
+use crate::by_process::{count, value_at};
+use crate::calls::{Calls, note_call};
+use crate::told::Told;
+use crate::tries::{Tries, tries};
 use lockscript::refused_line::RefusedLine;
 use lockscript::script_line::{Command, ScriptLine};
 use messages::entry::Entry;
 use player::played::Played;
 use std::alloc::{AllocError, Global};
+use std::collections::HashMap;
 
 /// What each line of the script comes to where these commands are the schedule and this came of them.
 ///
@@ -35,7 +40,8 @@ pub(crate) fn answers(
     )
 }
 
-// The same by the refused lines and the entries of the schedule.
+// The same by the refused lines and the entries of the schedule. Of each process the calls of the lines so far
+// are known, and which of them were taken.
 fn answers_by(
     alloc: Global,
     lines: &[ScriptLine],
@@ -45,58 +51,73 @@ fn answers_by(
 ) -> Result<Vec<Answer>, AllocError>
     ensures { IfOk result (λ answers. answers.items ≡ answers_behind [] lines.now commands.now refused.now entries.now) }
 {
+    let tries = tries(alloc, refused, commands)?;
+    let told = Told::of(alloc, entries)?;
+    let mut earlier = HashMap::new(alloc);
+    let mut taken = HashMap::new(alloc);
     let mut answers = Vec::new(alloc);
-    let mut earlier = Vec::new(alloc);
     for line in lines {
         let command = line.command();
-        let answer = answer_behind(
-            alloc,
-            earlier.as_slice(),
-            &command,
-            commands,
-            refused,
-            entries,
-        )?;
-        answers.push(answer)?;
-        earlier.push(command)?;
+        let tried = next_try(&tries, &earlier, &command);
+        answers.push(answer_by(&told, &taken, tried, &command))?;
+        note_call(&mut earlier, alloc, &command)?;
+        note_taken(&mut taken, alloc, tried, &command)?;
     }
     Ok(answers)
 }
 
-// What the line with this command comes to, behind these commands of the script.
-fn answer_behind(
-    alloc: Global,
-    earlier: &[Command],
-    command: &Command,
-    commands: &[Command],
-    refused: &[RefusedLine],
-    entries: &[Entry],
-) -> Result<Answer, AllocError>
-    ensures { IfOk result (λ answer. answer ≡ answer_behind earlier.now command.now commands.now refused.now entries.now) }
+// What became of the next call of the command's process behind those, if it is a call and was made.
+fn next_try(tries: &Tries, earlier: &Calls, command: &Command) -> Option<Option<u16>>
+    ensures { result ≡ next_try tries.now earlier.now command.now }
 {
     match command {
         Command::Call { node, pid, .. } => {
-            call_behind(alloc, earlier, *node, *pid, commands, refused, entries)
+            value_at(tries, *node, *pid, count(earlier, *node, *pid))
         }
-        _ => Ok(Answer::NotMade),
+        _ => None,
     }
 }
 
-// What the next call of the process comes to behind these commands of the script, by the refused lines and the
-// entries of the schedule.
-fn call_behind(
-    alloc: Global,
-    earlier: &[Command],
-    node: u8,
-    pid: u16,
-    commands: &[Command],
-    refused: &[RefusedLine],
-    entries: &[Entry],
-) -> Result<Answer, AllocError>
-    ensures { IfOk result (λ answer. answer ≡ call_answer (length (calls_of node pid earlier.now)) (tries refused.now node pid (numbered commands.now)) (names node pid entries.now) entries.now) }
+// What the command of a line comes to where that became of it, behind those that were taken.
+fn answer_by(
+    told: &Told<'_>,
+    taken: &Calls,
+    tried: Option<Option<u16>>,
+    command: &Command,
+) -> Answer
+    ensures { result ≡ answer_by told.now taken.now tried command.now }
 {
-    let made = calls_of(alloc, earlier, node, pid)?;
-    let tries = tries(alloc, refused, node, pid, commands)?;
-    let names = names(alloc, node, pid, entries)?;
-    Ok(call_answer(made.len(), tries.as_slice(), names.as_slice(), entries))
+    match command {
+        Command::Call { node, pid, .. } => {
+            let answer = told.answer(*node, *pid, count(taken, *node, *pid));
+            answer_tried(tried, answer)
+        }
+        _ => Answer::NotMade,
+    }
+}
+
+// What a call comes to where that became of it, and where it comes to this if it was taken.
+fn answer_tried(tried: Option<Option<u16>>, answer: Answer) -> Answer
+    ensures { result ≡ answer_tried tried answer }
+{
+    match tried {
+        None => Answer::NotMade,
+        Some(Some(code)) => Answer::Refused(code),
+        Some(None) => answer,
+    }
+}
+
+// The command comes last of the calls of its process that were taken, if that became of it.
+fn note_taken(
+    taken: &mut Calls,
+    alloc: Global,
+    tried: Option<Option<u16>>,
+    command: &Command,
+) -> Result<(), AllocError>
+    ensures { OnOk result ((node pid : ℕ) → list_in taken.new node pid ≡ list_in taken.old node pid ++ (if option_map_or is_taken tried false then op_of node pid command.now else [])) }
+{
+    match tried {
+        Some(None) => note_call(taken, alloc, command),
+        _ => Ok(()),
+    }
 }

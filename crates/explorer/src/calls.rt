@@ -1,120 +1,45 @@
-//! What calls of a process come to.
-ghost use Rattle.std.specs.Prelude.{◌≡◌, ◌++◌, if◌then◌else◌, [], option_to_list, take, IfOk, OnOk, Option};
-ghost use Rattle.explorer.specs.Answers.{call_answer, count_taken, is_call_by, named_answer, names, reply_answer, reply_in};
+//! The calls of processes.
+ghost use Rattle.std.specs.Prelude.{◌≡◌, ◌++◌, ℕ, IfOk, OnOk};
+ghost use Rattle.explorer.specs.ByProcess.{list_in};
+ghost use Rattle.explorer.specs.Indexes.{KnowsLines};
+ghost use Rattle.explorer.specs.Schedules.{op_of};
 
-use crate::answer::Answer;
-use messages::entry::Entry;
-use messages::event::Event;
-use model::call::CallId;
-use model::reply::Reply;
+use crate::by_process::{ByProcess, add};
+use lockscript::script_line::{Command, ScriptLine};
+use model::op::Op;
 use std::alloc::{AllocError, Global};
+use std::collections::HashMap;
 
-/// The names of the calls of the process in the entries, in their order.
+/// By a process: what its calls ask for, in their order.
+pub(crate) type Calls = ByProcess<Op>;
+
+/// The calls of the lines.
 ///
 /// # Errors
 /// `AllocError` where a request for memory was refused.
-pub(crate) fn names(
-    alloc: Global,
-    node: u8,
-    pid: u16,
-    entries: &[Entry],
-) -> Result<Vec<CallId>, AllocError>
-    ensures { IfOk result (λ named. named.items ≡ names node pid entries.now) }
+pub(crate) fn calls_in(alloc: Global, lines: &[ScriptLine]) -> Result<Calls, AllocError>
+    ensures { IfOk result (λ calls. KnowsLines calls lines.now) }
 {
-    let mut named = Vec::new(alloc);
-    for entry in entries {
-        add_name(&mut named, node, pid, entry)?;
+    let mut calls = HashMap::new(alloc);
+    for line in lines {
+        note_call(&mut calls, alloc, &line.command())?;
     }
-    Ok(named)
+    Ok(calls)
 }
 
-// The name of the entry's call comes last, if it is one of the process.
-fn add_name(named: &mut Vec<CallId>, node: u8, pid: u16, entry: &Entry) -> Result<(), AllocError>
-    ensures { OnOk result (named.new.items ≡ named.old.items ++ (if is_call_by node pid entry.now.event then option_to_list entry.now.call else [])) }
+/// The command comes last of the calls of its process, if it is a call.
+///
+/// # Errors
+/// `AllocError` where a request for memory was refused.
+pub(crate) fn note_call(
+    calls: &mut Calls,
+    alloc: Global,
+    command: &Command,
+) -> Result<(), AllocError>
+    ensures { OnOk result ((node pid : ℕ) → list_in calls.new node pid ≡ list_in calls.old node pid ++ op_of node pid command.now) }
 {
-    if is_call_by(node, pid, entry.event()) {
-        if let Some(call) = entry.call() {
-            named.push(call)?;
-        }
+    if let Command::Call { node, pid, op } = command {
+        add(calls, alloc, *node, *pid, *op)?;
     }
     Ok(())
-}
-
-// Whether the event is a call of the process.
-fn is_call_by(node: u8, pid: u16, event: &Event) -> bool
-    ensures { result ≡ is_call_by node pid event.now }
-{
-    match event {
-        Event::Call {
-            node: its_node,
-            pid: its_pid,
-            ..
-        } => *its_node == node && *its_pid == pid,
-        _ => false,
-    }
-}
-
-/// What the call of a process comes to before which so many others of it stand in a script, by what was tried
-/// in a schedule, the names that its calls took, and the entries.
-pub(crate) fn call_answer(
-    before: usize,
-    tries: &[Option<u16>],
-    named: &[CallId],
-    entries: &[Entry],
-) -> Answer
-    ensures { result ≡ call_answer before tries.now named.now entries.now }
-{
-    match tries.get(before) {
-        None => Answer::NotMade,
-        Some(Some(code)) => Answer::Refused(*code),
-        Some(None) => {
-            let taken = count_taken(&tries[..before]);
-            named_answer(named.get(taken).copied(), entries)
-        }
-    }
-}
-
-// How many of the calls were taken.
-fn count_taken(tries: &[Option<u16>]) -> usize
-    ensures { result ≡ count_taken tries.now }
-{
-    let mut taken = 0;
-    for tried in tries {
-        if tried.is_none() {
-            taken += 1;
-        }
-    }
-    taken
-}
-
-// What the call of this name comes to; without a name it is open.
-fn named_answer(name: Option<CallId>, entries: &[Entry]) -> Answer
-    ensures { result ≡ named_answer name entries.now }
-{
-    match name {
-        Some(call) => reply_answer(&call, entries),
-        None => Answer::Open,
-    }
-}
-
-// The first reply to the call; without one it is open.
-fn reply_answer(call: &CallId, entries: &[Entry]) -> Answer
-    ensures { result ≡ reply_answer call.now entries.now }
-{
-    for entry in entries {
-        if let Some(reply) = reply_in(call, &entry.reply()) {
-            return Answer::Replied(reply);
-        }
-    }
-    Answer::Open
-}
-
-// The reply, if it is to this call.
-fn reply_in(call: &CallId, reply: &Option<(CallId, Reply)>) -> Option<Reply>
-    ensures { result ≡ reply_in call.now reply.now }
-{
-    match reply {
-        Some((answered, reply)) if *answered == *call => Some(*reply),
-        _ => None,
-    }
 }

@@ -1,9 +1,10 @@
 //! What comments of a script expect of its calls.
-ghost use Rattle.std.specs.Prelude.{◌≡◌, option_map, slice_get, string_bytes, Some, None, IfOk, MatchOption};
+ghost use Rattle.std.specs.Prelude.{◌≡◌, option_map, slice_get, string_bytes, Some, IfOk};
 ghost use Rattle.explorer.specs.Answers.{answer_text};
-ghost use Rattle.explorer.specs.Expectations.{begins, behind, breaks, expected, is_broken, is_broken_at, split_feed, words_in, words_of};
+ghost use Rattle.explorer.specs.Expectations.{begins, breaks, expected, is_broken, is_broken_at, words_in, words_of};
 
 use crate::answer::{Answer, push_answer};
+use crate::reader::{Reader, split_feed};
 use lockscript::script_line::{Command, ScriptLine};
 use std::alloc::{AllocError, Global};
 use texts::text::after;
@@ -12,12 +13,13 @@ use texts::text::after;
 const EXPECT: &str = "# expect ";
 
 /// What is expected of a line of a script: the words behind `# expect `, where that begins the next line of the
-/// text behind a call.
-pub(crate) fn expected<'a>(text: &'a str, line: &ScriptLine) -> Option<&'a str>
-    ensures { option_map (λ words. words.now) result ≡ expected text.entry.now line.now }
+/// reader's text behind a call.
+pub(crate) fn expected<'a>(reader: &mut Reader<'a>, line: &ScriptLine) -> Option<&'a str>
+    ensures same { reader.new.text.now ≡ reader.old.text.now }
+    ensures words { option_map (λ words. words.now) result ≡ expected reader.old.text.now line.now }
 {
     match line.command() {
-        Command::Call { .. } => match behind(text, line.number()) {
+        Command::Call { .. } => match reader.pass(line.number()) {
             Some(rest) => words_in(rest),
             None => None,
         },
@@ -42,29 +44,6 @@ fn words_of<'a>(line: &'a str) -> Option<&'a str>
     after(line, EXPECT)
 }
 
-// What stands behind so many lines of a text.
-fn behind(text: &str, count: u32) -> Option<&str>
-    ensures { MatchOption result (behind count (Some text.now) ≡ None) (λ rest. behind count (Some text.now) ≡ Some rest.now) }
-{
-    let mut rest = text;
-    let mut left = count;
-    while left > 0 {
-        match split_feed(rest) {
-            Some((_, next)) => rest = next,
-            None => return None,
-        }
-        left -= 1;
-    }
-    Some(rest)
-}
-
-// The first line of a text, and what stands behind its line feed.
-fn split_feed(text: &str) -> Option<(&str, &str)>
-    ensures { MatchOption result (split_feed text.now ≡ None) (λ parts. split_feed text.now ≡ Some (parts.0.now, parts.1.now)) }
-{
-    text.split_once('\n')
-}
-
 /// Whether some answer to the lines of a script begins otherwise than the text expects.
 ///
 /// # Errors
@@ -77,9 +56,10 @@ pub(crate) fn breaks(
 ) -> Result<bool, AllocError>
     ensures { IfOk result (λ broken. broken ≡ breaks text.now lines.now answers.now) }
 {
+    let mut reader = Reader::new(text);
     let mut index = 0usize;
     for line in lines {
-        if breaks_at(alloc, text, line, answers, index)? {
+        if breaks_at(alloc, &mut reader, line, answers, index)? {
             return Ok(true);
         }
         index += 1;
@@ -90,14 +70,16 @@ pub(crate) fn breaks(
 // Whether the answer at the index begins otherwise than is expected of the line.
 fn breaks_at(
     alloc: Global,
-    text: &str,
+    reader: &mut Reader<'_>,
     line: &ScriptLine,
     answers: &[Answer],
     index: usize,
 ) -> Result<bool, AllocError>
-    ensures { IfOk result (λ broken. broken ≡ is_broken_at (expected text.now line.now) (slice_get answers.now index)) }
+    ensures same { reader.new.text.now ≡ reader.old.text.now }
+    ensures broken { IfOk result (λ broken. broken ≡ is_broken_at (expected reader.old.text.now line.now) (slice_get answers.now index)) }
 {
-    is_broken_at(alloc, expected(text, line), answers.get(index))
+    let words = expected(reader, line);
+    is_broken_at(alloc, words, answers.get(index))
 }
 
 // Whether there is an answer, and its text begins otherwise than is expected.

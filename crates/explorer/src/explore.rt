@@ -20,6 +20,7 @@ use crate::schedule::schedule;
 use crate::scheduled::Scheduled;
 use lockscript::script::Script;
 use player::play::PlayError;
+use player::watcher::Watcher;
 use std::alloc::{AllocError, Global};
 
 /// The distinct outcomes of a script, which the text writes, under the schedules of the seeds from `first` on,
@@ -29,23 +30,25 @@ use std::alloc::{AllocError, Global};
 ///
 /// Those that break what is expected come before the others, and of each kind the more frequent ones first. Of
 /// each the lines are told in which outcomes differ, and those that break what is expected: a comment line
-/// `# expect WORDS` right behind a call line, where the answer's text has to begin with the words.
+/// `# expect WORDS` right behind a call line, where the answer's text has to begin with the words. Of each seed that
+/// is done the watcher is told.
 ///
 /// # Errors
 /// `JournalFull` where a run needs more entries than a journal may have; `NoMemory` where a request for memory
 /// was refused.
-pub fn explore(
+pub fn explore<W: Watcher>(
     alloc: Global,
     text: &str,
     script: &Script,
     first: u32,
     count: u32,
     failures: bool,
+    watcher: &mut W,
 ) -> Result<Explored, PlayError>
     ensures explored { IfOk result (λ explored. Explores failures script.now text.now first count explored) }
     ensures full { IfErr result (λ error. error ≡ JournalFull → HasFullSchedule failures script.now) }
 {
-    let outcomes = outcomes(alloc, text, script, first, count, failures)?;
+    let outcomes = outcomes(alloc, text, script, first, count, failures, watcher)?;
     let ordered = ordered(outcomes)?;
     let outcomes = ordered.as_slice();
     Ok(Explored {
@@ -77,13 +80,14 @@ fn ordered(outcomes: Vec<Outcome>) -> Result<Vec<Outcome>, AllocError>
 }
 
 // The distinct outcomes under the schedules of the seeds, in the order of their first ones.
-fn outcomes(
+fn outcomes<W: Watcher>(
     alloc: Global,
     text: &str,
     script: &Script,
     first: u32,
     count: u32,
     failures: bool,
+    watcher: &mut W,
 ) -> Result<Vec<Outcome>, PlayError>
     ensures come { IfOk result (λ outcomes. All (IsOutcomeOf failures script.now text.now) outcomes.items) }
     ensures met { IfOk result (λ outcomes. AreMet failures script.now first count outcomes.items) }
@@ -91,10 +95,12 @@ fn outcomes(
     ensures full { IfErr result (λ error. error ≡ JournalFull → HasFullSchedule failures script.now) }
 {
     let mut outcomes = Vec::new(alloc);
+    watcher.begin("seeds", Some(u64::from(count)));
     for step in 0..count {
         let seed = first.wrapping_add(step);
         let answers = answers_of(alloc, script, seed, failures)?;
         add(&mut outcomes, alloc, text, script, answers, seed)?;
+        watcher.pass();
     }
     Ok(outcomes)
 }

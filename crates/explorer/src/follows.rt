@@ -1,119 +1,57 @@
 //! What may come next in a schedule.
-ghost use Rattle.std.specs.Prelude.{◌≡◌, ◌++◌, ◌||◌, true, FitsSigned, IfOk, IfSome, OnOk};
-ghost use Rattle.lockscript.specs.Scripts.{IsCommand};
+ghost use Rattle.std.specs.Prelude.{◌≡◌, ◌||◌, true, FitsSigned, IfSome, List};
+ghost use Rattle.lockscript.specs.declared.script_line.Command.{Command};
+ghost use Rattle.lockscript.specs.Scripts.{IsCommand, LineFields};
 ghost use Rattle.std.specs.Int.{w64};
 ghost use Rattle.lockscript.specs.Served.{IsDescriptor, IsServedOp};
-ghost use Rattle.explorer.specs.Schedules.{calls_in, calls_of, is_among, may_stand, op_of, same_change, Follows, IsNextCall};
+ghost use Rattle.explorer.specs.Indexes.{KnowsCalls, KnowsLines};
+ghost use Rattle.explorer.specs.Schedules.{is_among, may_stand, same_change, Follows, IsNextCall};
 
+use crate::by_process::{count, value_at};
+use crate::calls::Calls;
 use lockscript::script_line::{Command, ScriptLine};
 use messages::shape::MOST_FILES;
 use model::limits::{MOST_NODES, MOST_PROCESSES};
 use model::op::Op;
-use std::alloc::{AllocError, Global};
 
-/// What comes next in a schedule of these lines, behind the commands that were taken, where this is wanted: of
-/// a call the next one of its process. None where nothing may come that is wanted: the process has no call
-/// left, a wait is interrupted, or a failure or a start is none of the lines and failures are not asked for.
-///
-/// # Errors
-/// `AllocError` where a request for memory was refused.
+/// What comes next in a schedule of these lines, which have these calls, behind the commands that made those
+/// calls, where this is wanted: of a call the next one of its process. None where nothing may come that is
+/// wanted: the process has no call left, a wait is interrupted, or a failure or a start is none of the lines and
+/// failures are not asked for.
 pub(crate) fn following(
-    alloc: Global,
     failures: bool,
     lines: &[ScriptLine],
-    taken: &[Command],
+    calls: &Calls,
+    made: &Calls,
     wanted: Command,
-) -> Result<Option<Command>, AllocError>
-    ensures { IfOk result (λ next. IfSome next (Follows failures lines.now taken.now)) }
+) -> Option<Command>
+    requires { KnowsLines calls.now lines.now }
+    ensures { (taken : List Command) → KnowsCalls made.now taken → IfSome result (Follows failures lines.now taken) }
 {
-    let Some(command) = next_of(alloc, lines, taken, wanted)? else {
-        return Ok(None);
-    };
+    let command = next_of(calls, made, wanted)?;
     if is_in_limits(&command) && may_stand(failures, lines, &command) {
-        Ok(Some(command))
+        Some(command)
     } else {
-        Ok(None)
+        None
     }
 }
 
 // The next call of the process, where a call is wanted; else what is wanted.
-fn next_of(
-    alloc: Global,
-    lines: &[ScriptLine],
-    taken: &[Command],
-    wanted: Command,
-) -> Result<Option<Command>, AllocError>
-    ensures { IfOk result (λ next. IfSome next (IsNextCall lines.now taken.now)) }
+fn next_of(calls: &Calls, made: &Calls, wanted: Command) -> Option<Command>
+    ensures { (lines : List LineFields) (taken : List Command) → KnowsLines calls.now lines → KnowsCalls made.now taken → IfSome result (IsNextCall lines taken) }
 {
     match wanted {
-        Command::Call { node, pid, .. } => next_call(alloc, lines, taken, node, pid),
-        other => Ok(Some(other)),
+        Command::Call { node, pid, .. } => next_call(calls, made, node, pid),
+        other => Some(other),
     }
 }
 
-// The next call of the process behind what was taken, if it has one left.
-fn next_call(
-    alloc: Global,
-    lines: &[ScriptLine],
-    taken: &[Command],
-    node: u8,
-    pid: u16,
-) -> Result<Option<Command>, AllocError>
-    ensures { IfOk result (λ next. IfSome next (IsNextCall lines.now taken.now)) }
+// The next call of the process behind those that were made, if it has one left.
+fn next_call(calls: &Calls, made: &Calls, node: u8, pid: u16) -> Option<Command>
+    ensures { (lines : List LineFields) (taken : List Command) → KnowsLines calls.now lines → KnowsCalls made.now taken → IfSome result (IsNextCall lines taken) }
 {
-    let made = calls_of(alloc, taken, node, pid)?.len();
-    let all = calls_in(alloc, lines, node, pid)?;
-    match all.get(made) {
-        Some(op) => Ok(Some(Command::Call { node, pid, op: *op })),
-        None => Ok(None),
-    }
-}
-
-/// The calls of the process among the commands, in order.
-///
-/// # Errors
-/// `AllocError` where a request for memory was refused.
-pub(crate) fn calls_of(
-    alloc: Global,
-    commands: &[Command],
-    node: u8,
-    pid: u16,
-) -> Result<Vec<Op>, AllocError>
-    ensures { IfOk result (λ ops. ops.items ≡ calls_of node pid commands.now) }
-{
-    let mut ops = Vec::new(alloc);
-    for command in commands {
-        add_op(&mut ops, node, pid, command)?;
-    }
-    Ok(ops)
-}
-
-// The calls of the process in the lines.
-fn calls_in(alloc: Global, lines: &[ScriptLine], node: u8, pid: u16) -> Result<Vec<Op>, AllocError>
-    ensures { IfOk result (λ ops. ops.items ≡ calls_in node pid lines.now) }
-{
-    let mut ops = Vec::new(alloc);
-    for line in lines {
-        add_op(&mut ops, node, pid, &line.command())?;
-    }
-    Ok(ops)
-}
-
-// What the process asks for comes last, if the command is a call of it.
-fn add_op(ops: &mut Vec<Op>, node: u8, pid: u16, command: &Command) -> Result<(), AllocError>
-    ensures { OnOk result (ops.new.items ≡ ops.old.items ++ op_of node pid command.now) }
-{
-    if let Command::Call {
-        node: its_node,
-        pid: its_pid,
-        op,
-    } = command
-    {
-        if *its_node == node && *its_pid == pid {
-            ops.push(*op)?;
-        }
-    }
-    Ok(())
+    let op = value_at(calls, node, pid, count(made, node, pid))?;
+    Some(Command::Call { node, pid, op })
 }
 
 // Whether a schedule of these lines may have the command.

@@ -4,6 +4,7 @@
 
 pub mod answer;
 mod answers;
+mod by_process;
 mod calls;
 mod chance;
 mod chooser;
@@ -15,8 +16,10 @@ mod follows;
 pub mod laws;
 mod outcome;
 mod part;
+mod reader;
 mod report;
 pub mod schedule;
 pub mod scheduled;
 pub mod text;
+mod told;
 mod tries;

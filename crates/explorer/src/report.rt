@@ -1,11 +1,12 @@
 //! The text of outcomes.
 ghost use Rattle.std.specs.Prelude.{◌≡◌, ◌++◌, codes, count_by, option_map, slice_get, string_bytes, IfOk, OnOk};
 ghost use Rattle.explorer.specs.Expectations.{expected};
-ghost use Rattle.explorer.specs.Reports.{answer_part, blocks, call_part, counts, differs, ending, first_of, first_seed, heading, is_other, place, report_text, share, told, told_lines};
+ghost use Rattle.explorer.specs.Reports.{answer_part, blocks, breaking, call_part, counts, differs, ending, expected_count, expecting, first_of, first_seed, heading, is_other, place, report_text, share, told, told_lines, totals};
 
 use crate::answer::{Answer, push_answer};
 use crate::expectations::{expected, is_broken};
 use crate::outcome::Outcome;
+use crate::reader::Reader;
 use lockscript::operations::Operation;
 use lockscript::script_line::{Command, ScriptLine};
 use std::alloc::{AllocError, Global};
@@ -27,7 +28,9 @@ pub(crate) fn report(
 {
     let mut out = String::new(alloc);
     push_blocks(&mut out, alloc, text, lines, outcomes, seeds)?;
-    push_counts(&mut out, outcomes, seeds)?;
+    let expected = count_expected(text, lines);
+    let broken = count_breaking(outcomes);
+    push_counts(&mut out, outcomes.len(), seeds, expected, broken)?;
     Ok(out)
 }
 
@@ -113,9 +116,10 @@ fn push_lines(
 ) -> Result<(), AllocError>
     ensures { OnOk result (string_bytes out.new ≡ string_bytes out.old ++ told_lines text.now outcomes.now answers.now 0 lines.now) }
 {
+    let mut reader = Reader::new(text);
     let mut index = 0usize;
     for line in lines {
-        push_line(out, alloc, text, outcomes, answers, index, line)?;
+        push_line(out, alloc, &mut reader, outcomes, answers, index, line)?;
         index += 1;
     }
     Ok(())
@@ -125,15 +129,16 @@ fn push_lines(
 fn push_line(
     out: &mut String,
     alloc: Global,
-    text: &str,
+    reader: &mut Reader<'_>,
     outcomes: &[Outcome],
     answers: &[Answer],
     index: usize,
     line: &ScriptLine,
 ) -> Result<(), AllocError>
-    ensures { OnOk result (string_bytes out.new ≡ string_bytes out.old ++ told (expected text.now line.now) outcomes.now index line.now (slice_get answers.now index)) }
+    ensures same { reader.new.text.now ≡ reader.old.text.now }
+    ensures written { OnOk result (string_bytes out.new ≡ string_bytes out.old ++ told (expected reader.old.text.now line.now) outcomes.now index line.now (slice_get answers.now index)) }
 {
-    let words = expected(text, line);
+    let words = expected(reader, line);
     push_told(out, alloc, words, outcomes, index, line, answers.get(index))
 }
 
@@ -221,13 +226,58 @@ fn push_ending(out: &mut String, broken: bool, words: Option<&str>) -> Result<()
     }
 }
 
-// Writes how many outcomes there are, seeds, and outcomes that break what is expected.
-fn push_counts(out: &mut String, outcomes: &[Outcome], seeds: u32) -> Result<(), AllocError>
-    ensures { OnOk result (string_bytes out.new ≡ string_bytes out.old ++ counts outcomes.now seeds) }
+// Writes how many outcomes there are, seeds, lines of which something is expected, and outcomes that break that.
+#[tactic(auto, unfolding(crate::specs::Reports::counts))]
+fn push_counts(
+    out: &mut String,
+    outcomes: usize,
+    seeds: u32,
+    expected: usize,
+    broken: usize,
+) -> Result<(), AllocError>
+    ensures { OnOk result (string_bytes out.new ≡ string_bytes out.old ++ counts outcomes seeds expected broken) }
 {
-    let count = outcomes.len();
-    let breaking = count_breaking(outcomes);
-    writeln!(out, "outcomes {count}, seeds {seeds}, breaking {breaking}")
+    push_totals(out, outcomes, seeds)?;
+    push_expecting(out, expected)?;
+    push_breaking(out, broken)
+}
+
+// Writes how many outcomes there are, and seeds.
+#[tactic(auto, unfolding(crate::specs::Reports::totals))]
+fn push_totals(out: &mut String, outcomes: usize, seeds: u32) -> Result<(), AllocError>
+    ensures { OnOk result (string_bytes out.new ≡ string_bytes out.old ++ totals outcomes seeds) }
+{
+    write!(out, "outcomes {outcomes}, seeds {seeds}")
+}
+
+// Writes of how many lines something is expected.
+#[tactic(auto, unfolding(crate::specs::Reports::expecting))]
+fn push_expecting(out: &mut String, count: usize) -> Result<(), AllocError>
+    ensures { OnOk result (string_bytes out.new ≡ string_bytes out.old ++ expecting count) }
+{
+    write!(out, ", expected {count}")
+}
+
+// Writes how many outcomes break what is expected.
+#[tactic(auto, unfolding(crate::specs::Reports::breaking))]
+fn push_breaking(out: &mut String, count: usize) -> Result<(), AllocError>
+    ensures { OnOk result (string_bytes out.new ≡ string_bytes out.old ++ breaking count) }
+{
+    writeln!(out, ", breaking {count}")
+}
+
+// Of how many of the lines it is said what is expected.
+fn count_expected(text: &str, lines: &[ScriptLine]) -> usize
+    ensures { result ≡ expected_count text.now lines.now }
+{
+    let mut reader = Reader::new(text);
+    let mut count = 0;
+    for line in lines {
+        if expected(&mut reader, line).is_some() {
+            count += 1;
+        }
+    }
+    count
 }
 
 // How many outcomes break what is expected.

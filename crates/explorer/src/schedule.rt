@@ -1,14 +1,17 @@
 //! Making schedules.
-ghost use Rattle.std.specs.Prelude.{◌≡◌, ◌+◌, ◌≤◌, ◌∷◌, ◌++◌, [], length, IfErr, IfOk, IfSome, OnOk, Some};
+ghost use Rattle.std.specs.Prelude.{◌≡◌, ◌+◌, ◌≤◌, ◌∷◌, ◌++◌, [], List, length, IfErr, IfOk, IfSome, OnOk, Some};
 ghost use Rattle.cluster_core.specs.Histories.{HasOneHistory};
 ghost use Rattle.cluster_core.specs.Runs.{Leads};
 ghost use Rattle.cluster_core.specs.World.{first_world};
+ghost use Rattle.lockscript.specs.declared.script_line.Command.{Command};
 ghost use Rattle.player.specs.declared.play.PlayError.TheVariants.{JournalFull};
 ghost use Rattle.player.specs.Parts.{progress, state_of};
 ghost use Rattle.player.specs.Played.{played_of, ComesTo};
 ghost use Rattle.player.specs.Progress.{RunsTo};
+ghost use Rattle.explorer.specs.Indexes.{KnowsCalls, KnowsLines};
 ghost use Rattle.explorer.specs.Schedules.{most_lines, numbered, Follows, HasFullSchedule, IsFullFrom, IsScheduleOf};
 
+use crate::calls::{Calls, calls_in, note_call};
 use crate::chooser::Chooser;
 use crate::follows::following;
 use crate::scheduled::Scheduled;
@@ -19,6 +22,7 @@ use messages::shape::Shape;
 use player::play::PlayError;
 use player::player::Player;
 use std::alloc::{AllocError, Global};
+use std::collections::HashMap;
 
 /// The number of the first line of a schedule in its text, behind the `cluster` line.
 const FIRST_LINE: u32 = 2;
@@ -91,13 +95,15 @@ fn choose_lines(
     ensures runs { IfOk result (λ made. RunsTo (progress player) (numbered made.0.items) (Some (progress made.1))) }
     ensures full { IfErr result (λ error. error ≡ JournalFull → IsFullFrom failures lines.now (progress player)) }
 {
+    let calls = calls_in(alloc, lines)?;
+    let mut made = HashMap::new(alloc);
     let mut commands = Vec::new(alloc);
     for number in FIRST_LINE..line_limit(lines) {
-        let taken = commands.as_slice();
-        let next = next_line(alloc, failures, lines, taken, &mut chooser, player.run())?;
+        let next = next_line(failures, lines, &calls, &made, &mut chooser, player.run())?;
         match next {
             Some(command) => {
                 player.carry_out(alloc, number, command)?;
+                note_call(&mut made, alloc, &command)?;
                 add(&mut commands, command)?;
             }
             None => break,
@@ -115,19 +121,21 @@ fn add(commands: &mut Vec<Command>, command: Command) -> Result<(), AllocError>
     Ok(())
 }
 
-// What comes next in a schedule of the lines behind these commands, which led to this run.
+// What comes next in a schedule of the lines, which have these calls, behind commands that made those calls and
+// led to this run.
 fn next_line(
-    alloc: Global,
     failures: bool,
     lines: &[ScriptLine],
-    commands: &[Command],
+    calls: &Calls,
+    made: &Calls,
     chooser: &mut Chooser<'_>,
     run: &Run,
 ) -> Result<Option<Command>, AllocError>
-    ensures { IfOk result (λ next. IfSome next (Follows failures lines.now commands.now)) }
+    requires { KnowsLines calls.now lines.now }
+    ensures { IfOk result (λ next. (taken : List Command) → KnowsCalls made.now taken → IfSome next (Follows failures lines.now taken)) }
 {
     match chooser.next(run)? {
-        Some(wanted) => following(alloc, failures, lines, commands, wanted),
+        Some(wanted) => Ok(following(failures, lines, calls, made, wanted)),
         None => Ok(None),
     }
 }

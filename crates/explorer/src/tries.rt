@@ -1,73 +1,66 @@
 //! Which calls of a schedule were refused.
-ghost use Rattle.std.specs.Prelude.{◌≡◌, ◌++◌, IfOk, OnOk};
-ghost use Rattle.explorer.specs.Answers.{calls_by, refusal_of, tried, tries};
-ghost use Rattle.explorer.specs.Schedules.{line_of, numbered};
+ghost use Rattle.std.specs.Prelude.{◌≡◌, ◌++◌, ◌∷◌, [], ℕ, if◌then◌else◌, IfOk, OnOk};
+ghost use Rattle.explorer.specs.Answers.{calls_by};
+ghost use Rattle.explorer.specs.ByProcess.{list_in};
+ghost use Rattle.explorer.specs.Indexes.{KnowsRefusals, KnowsTries};
 
+use crate::by_process::{ByProcess, add};
 use lockscript::refused_line::RefusedLine;
 use lockscript::script_line::Command;
 use std::alloc::{AllocError, Global};
+use std::collections::HashMap;
 
-/// Of each call that a schedule makes of the process the number of its refusal, or none where it was taken.
+/// By a process: of each call that a schedule makes of it the number of its refusal, or none where it was taken.
+pub(crate) type Tries = ByProcess<Option<u16>>;
+
+// By the number of a line: the number of its refusal.
+type Refusals = HashMap<u64, u16>;
+
+/// What became of the calls that the commands make, where these lines of them were refused.
 ///
 /// # Errors
 /// `AllocError` where a request for memory was refused.
 pub(crate) fn tries(
     alloc: Global,
     refused: &[RefusedLine],
-    node: u8,
-    pid: u16,
     commands: &[Command],
-) -> Result<Vec<Option<u16>>, AllocError>
-    ensures { IfOk result (λ made. made.items ≡ tries refused.now node pid (numbered commands.now)) }
+) -> Result<Tries, AllocError>
+    ensures { IfOk result (λ made. KnowsTries made refused.now commands.now) }
 {
-    let mut made = Vec::new(alloc);
+    let refusals = refusals(alloc, refused)?;
+    let mut made = HashMap::new(alloc);
     let mut number = 1u64;
     for command in commands {
         number += 1;
-        add_try(&mut made, refused, node, pid, number, command)?;
+        let refusal = refusals.get(&number).copied();
+        add_try(&mut made, alloc, refusal, command)?;
     }
     Ok(made)
 }
 
-// What was tried by the line of this number comes last, if it is a call of the process.
+// The number of the refusal of each line, of equal lines the first.
+fn refusals(alloc: Global, refused: &[RefusedLine]) -> Result<Refusals, AllocError>
+    ensures { IfOk result (λ refusals. KnowsRefusals refusals refused.now) }
+{
+    let mut refusals = HashMap::new(alloc);
+    for index in (0..refused.len()).rev() {
+        let line = &refused[index];
+        refusals.insert(u64::from(line.line), line.code)?;
+    }
+    Ok(refusals)
+}
+
+// This became of the command: it comes last of what its process tried, if it is a call.
 fn add_try(
-    tries: &mut Vec<Option<u16>>,
-    refused: &[RefusedLine],
-    node: u8,
-    pid: u16,
-    number: u64,
+    tries: &mut Tries,
+    alloc: Global,
+    refusal: Option<u16>,
     command: &Command,
 ) -> Result<(), AllocError>
-    ensures { OnOk result (tries.new.items ≡ tries.old.items ++ tried refused.now node pid (line_of (number, command.now))) }
+    ensures { OnOk result ((node pid : ℕ) → list_in tries.new node pid ≡ list_in tries.old node pid ++ (if calls_by node pid command.now then refusal ∷ [] else [])) }
 {
-    if calls_by(node, pid, command) {
-        tries.push(refusal_of(refused, number))?;
+    if let Command::Call { node, pid, .. } = command {
+        add(tries, alloc, *node, *pid, refusal)?;
     }
     Ok(())
-}
-
-// Whether the line is a call of the process.
-fn calls_by(node: u8, pid: u16, command: &Command) -> bool
-    ensures { result ≡ calls_by node pid command.now }
-{
-    match command {
-        Command::Call {
-            node: its_node,
-            pid: its_pid,
-            ..
-        } => *its_node == node && *its_pid == pid,
-        _ => false,
-    }
-}
-
-// The number of the refusal of the line of this number, if it was refused.
-fn refusal_of(refused: &[RefusedLine], number: u64) -> Option<u16>
-    ensures { result ≡ refusal_of refused.now number }
-{
-    for line in refused {
-        if u64::from(line.line) == number {
-            return Some(line.code);
-        }
-    }
-    None
 }

@@ -6,3 +6,4 @@ pub mod play;
 pub mod played;
 pub mod player;
 mod settled;
+pub mod watcher;

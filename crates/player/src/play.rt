@@ -13,6 +13,7 @@ ghost use Rattle.player.specs.Progress.{RunsTo};
 
 use crate::played::Played;
 use crate::player::Player;
+use crate::watcher::Watcher;
 use cluster_core::journal::Journal;
 use lockscript::script::Script;
 use lockscript::script_line::ScriptLine;
@@ -48,12 +49,16 @@ impl<T: Drop> From<AllocFailed<T>> for PlayError {
 }
 
 /// Runs the lines of a script in order. A line whose event is refused, but for want of memory or of
-/// room in the journal, is listed and the run goes on.
+/// room in the journal, is listed and the run goes on. Of each line that is done the watcher is told.
 ///
 /// # Errors
 /// `JournalFull` where the run needs more entries than a journal may have; `NoMemory` where a
 /// request for memory was refused.
-pub fn play(alloc: Global, script: &Script) -> Result<Played, PlayError>
+pub fn play<W: Watcher>(
+    alloc: Global,
+    script: &Script,
+    watcher: &mut W,
+) -> Result<Played, PlayError>
     // It is what the lines come to, one after the other.
     ensures played { IfOk result (λ played. ComesTo script.now.shape script.now.lines (state_of played)) }
 
@@ -68,7 +73,7 @@ pub fn play(alloc: Global, script: &Script) -> Result<Played, PlayError>
 {
     let shape = script.shape();
     let player = Player::new(alloc, shape)?;
-    play_lines(alloc, shape, player, script.lines())
+    play_lines(alloc, shape, player, script.lines(), watcher)
 }
 
 /// Runs the lines of a script as `play` does, behind the run of a journal of the same shape, which is of
@@ -76,7 +81,12 @@ pub fn play(alloc: Global, script: &Script) -> Result<Played, PlayError>
 ///
 /// # Errors
 /// As at `play`.
-pub fn play_after(alloc: Global, script: &Script, journal: Journal) -> Result<Played, PlayError>
+pub fn play_after<W: Watcher>(
+    alloc: Global,
+    script: &Script,
+    journal: Journal,
+    watcher: &mut W,
+) -> Result<Played, PlayError>
     requires same_shape { script.now.shape ≡ journal.shape }
     requires new { journal.shape.version ≡ Second }
 
@@ -87,15 +97,16 @@ pub fn play_after(alloc: Global, script: &Script, journal: Journal) -> Result<Pl
     ensures full { IfErr result (λ error. error ≡ JournalFull → FillsBehind journal script.now.lines) }
 {
     let player = Player::after(alloc, journal)?;
-    play_lines(alloc, script.shape(), player, script.lines())
+    play_lines(alloc, script.shape(), player, script.lines(), watcher)
 }
 
 // Runs the lines in order from where the player stands, in a cluster of this shape.
-fn play_lines(
+fn play_lines<W: Watcher>(
     alloc: Global,
     shape: Shape,
     mut player: Player,
     lines: &[ScriptLine],
+    watcher: &mut W,
 ) -> Result<Played, PlayError>
     requires { Leads (first_world shape) (progress player).entries (progress player).world }
     ensures played { IfOk result (λ played. ComesFrom shape (progress player) lines.now (state_of played)) }
@@ -103,8 +114,10 @@ fn play_lines(
     ensures safe { IfOk result (λ played. IsSafe (world_state played.world)) }
     ensures full { IfErr result (λ error. error ≡ JournalFull → RunsTo (progress player) lines.now None) }
 {
+    watcher.begin("lines", Some(lines.len() as u64));
     for line in lines {
         player.take(alloc, line)?;
+        watcher.pass();
     }
     Ok(player.finish(shape))
 }

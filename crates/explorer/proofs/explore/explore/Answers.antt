@@ -5,7 +5,7 @@ use Rattle.explorer.proofs.MetOutcomes.{outcomes-ordered}
 use Rattle.explorer.proofs.explore.explore.Goals as goal
 
 pub returns-clause-explored : goal.returns-clause-explored
-returns-clause-explored c = record {
+returns-clause-explored g c = record {
   outcomes = c.in_ok-ordered.ordered.items;
   come = All-permutation (IsOutcomeOf c.args.failures c.args.script.now c.args.text.now) _ _ c.in_ok-ordered.ensures.same c.in_ok-outcomes.ensures.come;
   met =

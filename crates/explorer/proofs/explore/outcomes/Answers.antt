@@ -6,7 +6,7 @@ use Rattle.explorer.proofs.MetOutcomes.{outcomes-none}
 use Rattle.explorer.proofs.explore.outcomes.Goals as goal
 
 pub loop-step-init : goal.loop-step-init
-loop-step-init c =
+loop-step-init g c =
     let Comes = ComesIn c.args.failures c.args.script.now in
     record {
       come = rw c.new-outcomes.ensures.items (All-nil (IsOutcomeOf c.args.failures c.args.script.now c.args.text.now));
@@ -15,7 +15,7 @@ loop-step-init c =
     }
 
 pub loop-step-preserved : goal.loop-step-preserved
-loop-step-preserved c =
+loop-step-preserved g c =
     let met = c.loop-step.invariant.met in
     let answers = c.in_ok-answers.answers.items in
     let Comes = ComesIn c.args.failures c.args.script.now in

@@ -1,11 +1,15 @@
-use Rattle.std.proofs.Common.{refl, arith}
+use Rattle.std.proofs.Common.{◌∙◌, ◌++◌, List, refl, ap, sym, arith}
 use Rattle.std.proofs.lemmas.Result.{err_from_is_err_and}
+use Rattle.model.specs.declared.op.Op.{Op}
+use Rattle.explorer.specs.Schedules.{calls_of, op_of}
 use Rattle.explorer.proofs.Orders.{carried-on, few-more, schedule-none, schedule-on}
+use Rattle.explorer.proofs.Walks.{calls-push}
 use Rattle.explorer.proofs.schedule.choose_lines.Goals as goal
 
 pub loop-number-init : goal.loop-number-init
 loop-number-init c = record {
   runs = rw c.new-commands.ensures.items refl;
+  known = λ node pid. rw (c.new-made.ensures.empty, c.new-commands.ensures.items) refl;
   scheduled = rw c.new-commands.ensures.items (schedule-none c.args.failures c.args.lines.now);
   within = rw c.new-commands.ensures.items (omega arith);
   counted = rw c.new-commands.ensures.items (omega arith);
@@ -13,9 +17,16 @@ loop-number-init c = record {
 
 pub loop-number-preserved : goal.loop-number-preserved
 loop-number-preserved c =
-    let follows = rw (c.in-Some.is, c.as_slice-taken.ensures.value) at c.in_ok-next.ensures in
+    let commands = c.loop-number.commands.items in
+    let command = c.in-Some.command in
+    let follows = rw c.in-Some.is at (c.in_ok-next.ensures commands c.loop-number.invariant.known) in
     record {
       runs = rw c.in_ok-add-in-Some.ensures.items (carried-on _ _ _ _ _ _ c.loop-number.invariant.counted c.loop-number.invariant.runs c.in_ok-carry_out-in-Some.ensures.ok);
+      known = λ node pid.
+          c.in_ok-note_call-in-Some.ensures node pid
+          ∙ ap (λ (ops : List Op). ops ++ op_of node pid command) (c.loop-number.invariant.known node pid)
+          ∙ sym (calls-push node pid commands command)
+          ∙ sym (ap (calls_of node pid) c.in_ok-add-in-Some.ensures.items);
       scheduled = rw c.in_ok-add-in-Some.ensures.items (schedule-on _ _ _ _ follows c.loop-number.invariant.scheduled);
       within = omega (arith, c.loop-number.invariant.counted, c.loop-number-test.true, c.line_limit-number-end.ensures, c.in_ok-add-in-Some.ensures.len);
       counted = omega (arith, c.loop-number.invariant.counted, c.in_ok-add-in-Some.ensures.len);
@@ -23,6 +34,6 @@ loop-number-preserved c =
 
 pub returns-in_err-carry_out-in-Some-clause-full : goal.returns-in_err-carry_out-in-Some-clause-full
 returns-in_err-carry_out-in-Some-clause-full c =
-    let follows = rw (c.in-Some.is, c.as_slice-taken.ensures.value) at c.in_ok-next.ensures in
+    let follows = rw c.in-Some.is at (c.in_ok-next.ensures c.loop-number.commands.items c.loop-number.invariant.known) in
     let p = err_from_is_err_and c.from_residual-in_err-carry_out-in-Some.result c.from_residual-in_err-carry_out-in-Some.ensures.1 in
     rw (p.1, p.2) (λ e. (_, schedule-on _ _ _ _ follows c.loop-number.invariant.scheduled, few-more _ _ _ _ c.loop-number.invariant.counted c.loop-number-test.true c.line_limit-number-end.ensures, carried-on _ _ _ _ _ _ c.loop-number.invariant.counted c.loop-number.invariant.runs (c.in_err-carry_out-in-Some.ensures.full e)))

@@ -1,12 +1,14 @@
 use Rattle.std.proofs.Common.{◌≡◌, ◌+◌, ◌≤◌, Some, length}
 use Rattle.player.specs.Parts.{progress}
 use Rattle.player.specs.Progress.{RunsTo}
+use Rattle.explorer.specs.Indexes.{KnowsCalls}
 use Rattle.explorer.specs.Schedules.{most_lines, numbered, IsScheduleOf}
 use Rattle.explorer.proofs.schedule.choose_lines.Given as goal
 
 abbrev pub invariant-loop-number : goal.invariant-loop-number
 invariant-loop-number l = record {
   runs : RunsTo (progress l.fn.player) (numbered l.commands.items) (Some (progress l.player));
+  known : KnowsCalls l.made l.commands.items;
   scheduled : IsScheduleOf l.failures l.lines l.commands.items;
   within : length l.commands.items ≤ most_lines;
   counted : l.number ≡ 2 + length l.commands.items;

@@ -5,4 +5,4 @@ use Rattle.player.specs.Progress.{Progress}
 use Rattle.player.proofs.play.play.Goals as goal
 
 pub play_lines-requires : goal.play_lines-requires
-play_lines-requires c = subst (λ (p : Progress). Leads (first_world c.shape-shape.result) p.entries p.world) (sym c.in_ok-player.ensures.first) refl
+play_lines-requires g c = subst (λ (p : Progress). Leads (first_world c.shape-shape.result) p.entries p.world) (sym c.in_ok-player.ensures.first) refl

@@ -1,0 +1,7 @@
+use Rattle.std.proofs.Common.{◌≡◌, ◌++◌, ℕ, drop}
+use Rattle.explorer.specs.ByProcess.{list_in}
+use Rattle.explorer.specs.Schedules.{calls_in}
+use Rattle.explorer.proofs.calls.calls_in.Given as goal
+
+abbrev pub invariant-loop-line : goal.invariant-loop-line
+invariant-loop-line l = (node pid : ℕ) → list_in l.calls node pid ++ calls_in node pid (drop l.line-index l.lines) ≡ calls_in node pid l.lines
